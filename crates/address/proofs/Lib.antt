@@ -1,0 +1,5 @@
+pub mod Blank
+pub mod Bytes
+pub mod ForCallers
+pub mod Fragments
+pub mod Urls

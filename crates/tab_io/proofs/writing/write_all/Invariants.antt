@@ -1,0 +1,14 @@
+-- What is before the place is taken.
+use Rattle.std.proofs.Common.{◌-◌, ◌≤◌, length, take}
+use Rattle.std.specs.Io.KnownBytes.{Appends}
+use Rattle.tab_io.proofs.writing.write_all.Given as goal
+
+abbrev pub invariant-pieces : goal.invariant-pieces
+invariant-pieces g l = record {
+  within : l.at ≤ length l.bytes;
+  taken : Appends (g.K.Sink.taken l.initial.sink) (g.K.Sink.taken l.sink) (take l.at l.bytes);
+  later : g.K.Sink.faults l.initial.sink ≤ g.K.Sink.faults l.sink;
+}
+
+abbrev pub decreases-pieces : goal.decreases-pieces
+decreases-pieces g l = length l.bytes - l.at
