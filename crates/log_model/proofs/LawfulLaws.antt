@@ -1,0 +1,41 @@
+-- A lawful log and one more event that keeps the rules are a lawful log.
+use Rattle.std.proofs.Common.{◌≡◌, ℕ, ◌+◌, ◌<◌, Bool, true, false, ◌&&◌, List, [], ◌∷◌, ◌++◌, refl, sym, ap, ◌∙◌, subst, arith}
+use Rattle.std.specs.Prelude.{fold, IsTrue}
+use Rattle.std.proofs.lemmas.Bool.Decides.{nat_tests}
+use Rattle.log_model.specs.declared.row_kind.LogRow.{LogRow}
+use Rattle.log_model.specs.Seen.{Seen, nothing}
+use Rattle.log_model.specs.After.{after}
+use Rattle.log_model.specs.Logs.{seen_of}
+use Rattle.log_model.specs.Events.{events_of, have_number, AtEachEvent}
+use Rattle.log_model.specs.Lawful.{opens, IsLawful, IsLawfulEvent}
+use Rattle.log_model.proofs.Laws.{next_event, events_fold}
+use Rattle.log_model.proofs.EventLaws.{events_of-append, at_each_event_more, BeginsWith, events_of_begins}
+
+-- what opens a log still does once more events follow
+opens-append : (row : LogRow) (events more : List (List LogRow)) → BeginsWith row events → IsTrue (opens events) → IsTrue (opens (events ++ more))
+opens-append row events more begins opened = rw begins.is (rest row begins.rows begins.others more (rw begins.is at opened))
+  where
+    rest : (row : LogRow) (rows : List LogRow) (others more : List (List LogRow)) → IsTrue (opens ((row ∷ rows) ∷ others)) → IsTrue (opens (((row ∷ rows) ∷ others) ++ more))
+    rest row [] others more opened = opened
+    rest row (second ∷ rows) others more opened = opened
+
+opened_more : (log : List LogRow) (first : LogRow) (rows : List LogRow) → 0 < (seen_of log).events → have_number (seen_of log).events (first ∷ rows) ≡ true → IsTrue (opens (events_of log)) → IsTrue (opens (events_of (log ++ first ∷ rows)))
+unfolding seen_of
+opened_more [] first rows some number opened = absurd (omega arith)
+opened_more (row ∷ log) first rows some number opened =
+    let is : (seen_of (row ∷ log)).events ≡ next_event 0 (row ∷ log) = events_fold nothing (row ∷ log) in
+    let here : first.event ≡ (seen_of (row ∷ log)).events = grind (arith, nat_tests) in
+    rw (events_of-append 0 row log first rows (sym is ∙ sym here)) (opens-append row (events_of (row ∷ log)) (events_of (first ∷ rows)) (events_of_begins row log) opened)
+
+pub lawful_more : (log : List LogRow) (first : LogRow) (rows : List LogRow) → 0 < (seen_of log).events → IsLawful log → IsLawfulEvent (seen_of log) (first ∷ rows) → IsLawful (log ++ first ∷ rows)
+lawful_more log first rows some lawful event =
+    record {
+      opened = opened_more log first rows some event.numbered lawful.opened;
+      numbered = at_each_event_more _ log first rows some event.numbered lawful.numbered event.numbered;
+      formed = at_each_event_more _ log first rows some event.numbered lawful.formed event.formed;
+      once = at_each_event_more _ log first rows some event.numbered lawful.once event.once;
+      made = at_each_event_more _ log first rows some event.numbered lawful.made event.made;
+      applied = at_each_event_more _ log first rows some event.numbered lawful.applied event.applied;
+      updated = at_each_event_more _ log first rows some event.numbered lawful.updated event.updated;
+      settled = at_each_event_more _ log first rows some event.numbered lawful.settled event.settled;
+    }

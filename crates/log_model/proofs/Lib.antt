@@ -1,0 +1,4 @@
+pub mod Laws
+pub mod EventLaws
+pub mod Refl
+pub mod LawfulLaws

@@ -1,0 +1,10 @@
+pub mod Handlers
+pub mod History
+pub mod Views
+pub mod Outcomes
+pub mod Equal
+pub mod Seen
+pub mod After
+pub mod Logs
+pub mod Events
+pub mod Lawful
