@@ -1,0 +1,8 @@
+//! What a document process does with an order on its own: it works out the outcome.
+#![tactic(auto)]
+
+mod done;
+#[cfg(test)]
+mod tests;
+
+pub use done::{Done, work};
