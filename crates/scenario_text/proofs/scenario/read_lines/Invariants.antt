@@ -1,0 +1,14 @@
+use Rattle.std.proofs.Common.{◌≡◌, ◌≤◌, length}
+use Rattle.scenario_text.specs.Grammar.{read_pieces}
+use Rattle.scenario_text.specs.Pieces.{pieces}
+use Rattle.scenario_text.specs.declared.place.Place.TheVariants as places
+use Rattle.scenario_text.proofs.scenario.read_lines.Given as goal
+
+abbrev pub invariant-lines : goal.invariant-lines
+invariant-lines l = record {
+  small : l.number ≤ 65537;
+  rest : read_pieces l.number l.place (pieces 10 l.rest) ≡ read_pieces 1 places.Start (pieces 10 l.bytes);
+}
+
+abbrev pub decreases-lines : goal.decreases-lines
+decreases-lines l = length l.rest

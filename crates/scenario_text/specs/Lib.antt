@@ -1,0 +1,5 @@
+pub mod Pieces
+pub mod Words
+pub mod Reasons
+pub mod Gives
+pub mod Grammar

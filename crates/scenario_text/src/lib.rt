@@ -1,0 +1,22 @@
+//! A scenario: what a test driver asks of a tab, as text of one line a step.
+#![tactic(auto)]
+
+mod body;
+mod cut;
+mod error;
+mod fault;
+mod fields;
+mod heading;
+mod line;
+mod place;
+mod reason;
+mod scenario;
+mod word;
+
+pub use error::{Refusal, ScenarioError};
+pub use line::{Lines, ScenarioLine};
+pub use reason::Reason;
+pub use scenario::Scenario;
+
+#[cfg(test)]
+mod tests;

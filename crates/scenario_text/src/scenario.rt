@@ -1,0 +1,79 @@
+//! `Scenario`, the settings of a tab and what is asked of it.
+ghost use Rattle.std.specs.Prelude.{◌≡◌, ◌≤◌, IfOk};
+ghost use Rattle.scenario_text.specs.Grammar.{scenario_of, at_end, read_pieces, IsSpelled};
+ghost use Rattle.scenario_text.specs.Pieces.{pieces};
+ghost use Rattle.scenario_text.specs.Gives.{Reads};
+ghost use Rattle.scenario_text.specs.declared.place.Place.TheVariants as places;
+
+use crate::cut::cut;
+use crate::error::{Refusal, ScenarioError};
+use crate::heading::after_line;
+use crate::line::Lines;
+use crate::place::Place;
+use crate::reason::Reason;
+use log_model::Header;
+use std::alloc::Global;
+
+/// The settings under which a tab is opened, and the lines that are played then.
+#[derive(Drop)]
+pub struct Scenario {
+    pub header: Header,
+    pub lines: Lines,
+}
+
+fn refused(line: u32, reason: Reason) -> ScenarioError
+    ensures { result ≡ ScenarioError.Refused (record { line = line; reason = reason }) }
+{
+    ScenarioError::Refused(Refusal { line, reason })
+}
+
+/// What the lines give, where what stands after the last line feed has this number.
+#[tactic(auto, unfolding(crate::specs::Grammar::at_end))]
+fn at_end(number: u32, place: Place, rest: &[u8]) -> Result<Scenario, ScenarioError>
+    ensures { Reads result (at_end number place rest.now) }
+{
+    if !rest.is_empty() {
+        if number > 65_536 {
+            return Err(refused(number, Reason::TooMany));
+        }
+        return Err(refused(number, Reason::NoEnd));
+    }
+    match place {
+        Place::Body(header, lines) => Ok(Scenario { header, lines }),
+        Place::Start | Place::Heading => Err(refused(number, Reason::Header)),
+    }
+}
+
+/// What the lines of a text give.
+fn read_lines(alloc: Global, bytes: &[u8]) -> Result<Scenario, ScenarioError>
+    ensures { Reads result (read_pieces 1 places.Start (pieces 10 bytes.now)) }
+{
+    let mut place = Place::Start;
+    let mut rest = bytes;
+    let mut number: u32 = 1;
+    'lines: while let Some((line, after)) = cut(rest, b'\n') {
+        if number > 65_536 {
+            return Err(refused(number, Reason::TooMany));
+        }
+        place = match after_line(alloc, place, line) {
+            Ok(next) => next,
+            Err(e) => return Err(e.at(number)),
+        };
+        rest = after;
+        number += 1;
+    }
+    at_end(number, place, rest)
+}
+
+impl Scenario {
+    /// The scenario that bytes spell. `in_run` says whether it is for threads.
+    pub fn read(alloc: Global, bytes: &[u8], in_run: bool) -> Result<Scenario, ScenarioError>
+        ensures read { Reads result (scenario_of in_run bytes.now) }
+        ensures spelled { IfOk result (λ scenario. IsSpelled scenario) }
+    {
+        if bytes.len() > 4_194_304 {
+            return Err(refused(0, Reason::TooLong));
+        }
+        read_lines(alloc, bytes)
+    }
+}
