@@ -1,0 +1,12 @@
+//! Stored unload handlers: boxed closures, each beside its kind, by which it answers.
+#![tactic(auto)]
+
+mod add_error;
+mod ask;
+mod handler;
+mod handler_table;
+#[cfg(test)]
+mod tests;
+
+pub use add_error::AddError;
+pub use handler_table::HandlerTable;
