@@ -1,0 +1,130 @@
+-- What a world that stands for its log may do next.
+use Rattle.std.proofs.Common.{◌≡◌, ◌≢◌, ℕ, ◌+◌, ◌-◌, ◌<◌, ◌≤◌, Bool, true, false, not, ◌&&◌, ◌||◌, ◌==◌, List, [], ◌∷◌, ◌++◌, drop, length, map, Option, Some, None, refl, sym, ap, ◌∙◌, subst, arith, length-append}
+use Rattle.std.specs.Prelude.{count_by, fold, slice_get, slice_set, option_map, is_none}
+use Rattle.std.specs.List.{list_any}
+use Rattle.std.proofs.lemmas.List.{map-append, length-map, map-set}
+use Rattle.std.proofs.lemmas.List.Folds.{list_any-append}
+use Rattle.std.proofs.lemmas.Option.{slice_get-map}
+use Rattle.std.proofs.lemmas.Bool.{eq-eqb}
+use Rattle.std.proofs.lemmas.Bool.Decides.{nat_tests}
+use Rattle.tab_ids.specs.declared.DocId.{DocId}
+use Rattle.tab_ids.specs.declared.EntryId.{EntryId}
+use Rattle.tab_ids.specs.declared.ReqId.{ReqId}
+use Rattle.log_model.specs.declared.action.Action.{Action}
+use Rattle.log_model.specs.declared.action.Action.TheVariants as actions
+use Rattle.log_model.specs.declared.job.Job.{Job}
+use Rattle.log_model.specs.declared.job.Order.{Order}
+use Rattle.log_model.specs.declared.job.Task.{Task}
+use Rattle.log_model.specs.declared.job.Task.TheVariants as tasks
+use Rattle.log_model.specs.declared.made.Made.{Made}
+use Rattle.log_model.specs.declared.made.What.{What}
+use Rattle.log_model.specs.declared.made.What.TheVariants as whats
+use Rattle.log_model.specs.declared.made.Report.{Report}
+use Rattle.log_model.specs.declared.made.Report.TheVariants as reports
+use Rattle.log_model.specs.declared.outcome.Denial.TheVariants as denials
+use Rattle.log_model.specs.declared.outcome.Ending.{Ending}
+use Rattle.log_model.specs.declared.outcome.Ending.TheVariants as endings
+use Rattle.log_model.specs.declared.outcome.Outcome.TheVariants as outcomes
+use Rattle.log_model.specs.declared.request.Poke.{Poke}
+use Rattle.log_model.specs.declared.row.Row.{Row}
+use Rattle.log_model.specs.declared.row_kind.LogRow.{LogRow}
+use Rattle.log_model.specs.History.{History}
+use Rattle.log_model.specs.Views.{View, made_by, made_for, new_entry, new_address, after_made, after_task}
+use Rattle.log_model.specs.Seen.{Seen, Asked, Document}
+use Rattle.log_model.specs.After.{after}
+use Rattle.log_model.specs.Equal.{same_new_entry}
+use Rattle.log_model.specs.Lawful.{top, first_document, holds, is_open, is_settled_if_quiet, IsLawfulEvent}
+use Rattle.log_model.proofs.Refl.{nat_eq_refl, bytes_eq_refl, same_memo_refl, same_entry_refl}
+use Rattle.world_laws.specs.Single as single
+use Rattle.world_laws.specs.Single.{Single, asked_with, seen_with, first_process}
+use Rattle.world_laws.specs.Keeps.{IsPlain, EndsWith, Face, face_of_row, face_of_view, face_after_what, face_after, MayMake, MayReport, Leads, is_push, is_made_push, orders_of, pair_after, pair_after_task, due, IsUpdate, AreUpdates, is_poke_of, is_report_of, IsPush, ArePushes, places, open_from, tally, Keeps, IsWorld}
+use Rattle.std.specs.Prelude.{IsSomeAnd}
+use Rattle.std.proofs.lemmas.Option.{slice_get_within}
+use Rattle.world_laws.proofs.RefuseLaws.{number_of_open}
+use Rattle.world_laws.proofs.Plain.{length_of_ending}
+use Rattle.world.specs.Kept.{IsRoomy, IsKept}
+use Rattle.std.specs.Prelude.{take, Err}
+use Rattle.world.specs.declared.error.StepError.{StepError}
+use Rattle.world.specs.declared.error.StepError.TheVariants as errors
+use Rattle.world.specs.Steps.{MayTake, MayTakeWhat, Shuts, Takes, act_of, act_with}
+use Rattle.world_laws.proofs.Waits.{count_by_cons, count_by_push, tally_same, tally_other, open_from_append, open_from_ended, open_at}
+use Rattle.world_laws.proofs.SettledLaws.{settled_of_keeps, world_more, AreUpdates_more}
+
+pub is_roomy : (log : List LogRow) (t : Single) → IsWorld log t → length log ≤ 1000002 → IsRoomy t
+is_roomy log t world short =
+    let keeps = world.keeps in
+    record {
+      events = omega (arith, keeps.events);
+      rows = omega (arith, keeps.rows);
+      current = omega (arith, keeps.rows, length_of_ending t.history keeps.target keeps.history);
+      asked = omega (arith, keeps.asked);
+      sent = omega (arith, keeps.sent);
+      numbered = omega (arith, keeps.numbered);
+      index = omega (arith, keeps.index);
+    }
+
+pub is_running : (log : List LogRow) (t : Single) → IsWorld log t → t.view.running ≡ true
+is_running log t world = world.keeps.running
+
+-- a request that waits somewhere has a number from 1 to that of the last one
+is_numbered : (n : ℕ) (t : Single) (req : ReqId) → Keeps n t → 0 < places t req.0 → (0 < req.0) × (req.0 < length t.endings + 1)
+is_numbered n t req keeps some =
+    let before : places t req.0 ≡ open_from 1 t.endings req.0 = keeps.placed req.0 in
+    let positive : 0 < req.0 = number_of_open t.endings req.0 (omega (arith, before)) in
+    let at : slice_get t.endings (req.0 - 1) ≡ Some None = open_at 1 t.endings (req.0 - 1) req.0 (omega arith) (omega (arith, before)) in
+    let within : req.0 - 1 < length t.endings = slice_get_within t.endings (req.0 - 1) None at in
+    (positive, omega arith)
+
+pub is_asked : (log : List LogRow) (t : Single) → IsWorld log t → 0 < length t.input → IsSomeAnd (slice_get t.input 0) (λ (poke : Poke). (0 < poke.req.0) × (poke.req.0 < length t.endings + 1))
+is_asked log t world some = by_input t.input refl some
+  where
+    by_input : (input : List Poke) → t.input ≡ input → 0 < length input → IsSomeAnd (slice_get input 0) (λ (poke : Poke). (0 < poke.req.0) × (poke.req.0 < length t.endings + 1))
+    by_input [] e some = absurd (omega arith)
+    by_input (poke ∷ rest) e some =
+        let first : count_by (is_poke_of poke.req.0) t.input ≡ tally (poke.req.0 == poke.req.0) + count_by (is_poke_of poke.req.0) rest = ap (λ (l : List Poke). count_by (is_poke_of poke.req.0) l) e ∙ count_by_cons (is_poke_of poke.req.0) poke rest in
+        is_numbered (length log) t poke.req world.keeps (omega (arith, first, tally_same poke.req.0 poke.req.0 refl))
+
+pub is_order : (log : List LogRow) (t : Single) (order : Order) → IsWorld log t → length log ≤ 1000002 → t.in_hand ≡ Some order → (order.job.doc ≡ t.view.doc) × IsUpdate 2000000 order.job.task
+is_order log t order world short hand =
+    let orders : orders_of t ≡ order.job ∷ t.mail = rw hand refl in
+    let jobs : AreUpdates 2000000 (order.job ∷ t.mail) = subst (λ (l : List Job). AreUpdates 2000000 l) orders (AreUpdates_more (length log) 2000000 (orders_of t) (omega arith) world.keeps.updates) in
+    (jobs.0.0 ∙ sym world.keeps.document, jobs.0.3)
+
+pub is_report : (log : List LogRow) (t : Single) → IsWorld log t → 0 < length t.reports → IsSomeAnd (slice_get t.reports 0) (MayTake t)
+is_report log t world some = by_reports t.reports refl some
+  where
+    by_what : (made : Made) (rest : List Report) (what : What) → t.reports ≡ reports.Made made ∷ rest → MayMake t.view.initial (face_of_row world.keeps.target) what → MayTakeWhat t made what
+    by_what made rest (whats.Push entry memo address) e may =
+        let first : count_by (is_report_of made.req.0) t.reports ≡ tally (made.req.0 == made.req.0) + count_by (is_report_of made.req.0) rest = ap (λ (l : List Report). count_by (is_report_of made.req.0) l) e ∙ count_by_cons (is_report_of made.req.0) (reports.Made made) rest in
+        is_numbered (length log) t made.req world.keeps (omega (arith, first, tally_same made.req.0 made.req.0 refl))
+    by_what made rest (whats.Replace over entry memo address) e may =
+        let first : count_by (is_report_of made.req.0) t.reports ≡ tally (made.req.0 == made.req.0) + count_by (is_report_of made.req.0) rest = ap (λ (l : List Report). count_by (is_report_of made.req.0) l) e ∙ count_by_cons (is_report_of made.req.0) (reports.Made made) rest in
+        is_numbered (length log) t made.req world.keeps (omega (arith, first, tally_same made.req.0 made.req.0 refl))
+    by_what made rest _ e may = elim may [ ]
+
+    leads_from : (waiting : List Report) → t.reports ≡ waiting → Leads t.view.initial (face_of_row world.keeps.target) waiting (face_of_view t.view)
+    leads_from waiting e = subst (λ (l : List Report). Leads t.view.initial (face_of_row world.keeps.target) l (face_of_view t.view)) e world.keeps.leads
+
+    by_reports : (waiting : List Report) → t.reports ≡ waiting → 0 < length waiting → IsSomeAnd (slice_get waiting 0) (MayTake t)
+    by_reports [] e some = absurd (omega arith)
+    by_reports (reports.Made made ∷ rest) e some = by_what made rest made.what e (leads_from (reports.Made made ∷ rest) e).0.1
+    by_reports (reports.Done job outcome made ∷ rest) e some = tt
+    by_reports (reports.Died death ∷ rest) e some = absurd (leads_from (reports.Died death ∷ rest) e).0
+
+-- an act that fails, where there is a poke and room for its rows
+pub act_fails : (log new : List LogRow) (t next : Single) (error : StepError) → 0 < length t.input → length log < 1000000 → Shuts error → take (length log) new ≡ log → Takes log t (act_of t (slice_get t.input 0)) (Err error) new next
+act_fails log new t next error some room shuts kept = by_input t.input some
+  where
+    by_error : (what : Option What) (req : ReqId) (error : StepError) → Shuts error → Takes log t (act_with t req what) (Err error) new next
+    by_error None req errors.Closed shuts = elim shuts [ ]
+    by_error None req errors.LogFull shuts = elim shuts [ ]
+    by_error None req (errors.UrlOverflow o) shuts = (room, kept)
+    by_error None req errors.OutOfMemory shuts = (room, kept)
+    by_error (Some what) req errors.Closed shuts = elim shuts [ ]
+    by_error (Some what) req errors.LogFull shuts = elim shuts [ ]
+    by_error (Some what) req (errors.UrlOverflow o) shuts = (room, kept)
+    by_error (Some what) req errors.OutOfMemory shuts = (room, kept)
+
+    by_input : (input : List Poke) → 0 < length input → Takes log t (act_of t (slice_get input 0)) (Err error) new next
+    by_input [] some = absurd (omega arith)
+    by_input (poke ∷ rest) some = by_error (made_by t.view poke.action) poke.req error shuts

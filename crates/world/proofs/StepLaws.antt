@@ -1,0 +1,139 @@
+-- Whatever an event comes to keeps the world.
+use Rattle.std.proofs.Common.{◌≡◌, ◌≢◌, ℕ, ◌+◌, ◌-◌, ◌<◌, ◌≤◌, Bool, true, false, not, ◌&&◌, ◌||◌, ◌==◌, List, [], ◌∷◌, ◌++◌, drop, length, map, Option, Some, None, refl, sym, ap, ◌∙◌, subst, arith, length-append}
+use Rattle.std.specs.Prelude.{count_by, fold, slice_get, slice_set, option_map, is_none}
+use Rattle.std.specs.List.{list_any}
+use Rattle.std.proofs.lemmas.List.{map-append, length-map, map-set}
+use Rattle.std.proofs.lemmas.List.Folds.{list_any-append}
+use Rattle.std.proofs.lemmas.Option.{slice_get-map}
+use Rattle.std.proofs.lemmas.Bool.{eq-eqb}
+use Rattle.std.proofs.lemmas.Bool.Decides.{nat_tests}
+use Rattle.tab_ids.specs.declared.DocId.{DocId}
+use Rattle.tab_ids.specs.declared.EntryId.{EntryId}
+use Rattle.tab_ids.specs.declared.ReqId.{ReqId}
+use Rattle.log_model.specs.declared.action.Action.{Action}
+use Rattle.log_model.specs.declared.action.Action.TheVariants as actions
+use Rattle.log_model.specs.declared.job.Job.{Job}
+use Rattle.log_model.specs.declared.job.Order.{Order}
+use Rattle.log_model.specs.declared.job.Task.{Task}
+use Rattle.log_model.specs.declared.job.Task.TheVariants as tasks
+use Rattle.log_model.specs.declared.made.Made.{Made}
+use Rattle.log_model.specs.declared.made.What.{What}
+use Rattle.log_model.specs.declared.made.What.TheVariants as whats
+use Rattle.log_model.specs.declared.made.Report.{Report}
+use Rattle.log_model.specs.declared.made.Report.TheVariants as reports
+use Rattle.log_model.specs.declared.outcome.Denial.TheVariants as denials
+use Rattle.log_model.specs.declared.outcome.Ending.{Ending}
+use Rattle.log_model.specs.declared.outcome.Ending.TheVariants as endings
+use Rattle.log_model.specs.declared.outcome.Outcome.TheVariants as outcomes
+use Rattle.log_model.specs.declared.request.Poke.{Poke}
+use Rattle.log_model.specs.declared.row.Row.{Row}
+use Rattle.log_model.specs.declared.row_kind.LogRow.{LogRow}
+use Rattle.log_model.specs.History.{History}
+use Rattle.log_model.specs.Views.{View, made_by, made_for, new_entry, new_address, after_made, after_task}
+use Rattle.log_model.specs.Seen.{Seen, Asked, Document}
+use Rattle.log_model.specs.After.{after}
+use Rattle.log_model.specs.Equal.{same_new_entry}
+use Rattle.log_model.specs.Lawful.{top, first_document, holds, is_open, is_settled_if_quiet, IsLawfulEvent}
+use Rattle.log_model.proofs.Refl.{nat_eq_refl, bytes_eq_refl, same_memo_refl, same_entry_refl}
+use Rattle.world_laws.specs.Single as single
+use Rattle.world_laws.specs.Single.{Single, asked_with, seen_with, first_process}
+use Rattle.world_laws.specs.Keeps.{IsPlain, EndsWith, Face, face_of_row, face_of_view, face_after_what, face_after, MayMake, MayReport, Leads, is_push, is_made_push, orders_of, pair_after, pair_after_task, due, IsUpdate, AreUpdates, is_poke_of, is_report_of, IsPush, ArePushes, places, open_from, tally, Keeps, IsWorld}
+use Rattle.std.specs.Prelude.{take, Ok, Err, if◌then◌else◌}
+use Rattle.address.specs.declared.error.Overflowed.{Overflowed}
+use Rattle.proc_work.specs.Work as worked
+use Rattle.world_laws.proofs.PokeLaws.{poke_world}
+use Rattle.world_laws.proofs.ActLaws.{act_world}
+use Rattle.world_laws.proofs.RefuseLaws.{refuse_world}
+use Rattle.world_laws.proofs.BeginLaws.{begin_world}
+use Rattle.world_laws.proofs.FinishLaws.{finish_world}
+use Rattle.world_laws.proofs.DoneLaws.{done_world}
+use Rattle.world_laws.proofs.PushLaws.{push_world}
+use Rattle.world_laws.proofs.ReplaceLaws.{replace_world}
+use Rattle.world.specs.declared.event.Event.{Event}
+use Rattle.world.specs.declared.event.Event.TheVariants as events
+use Rattle.world.specs.declared.event.Reply.{Reply}
+use Rattle.world.specs.declared.error.StepError.{StepError}
+use Rattle.world.specs.declared.error.StepError.TheVariants as errors
+use Rattle.world.specs.Kept.{WorldState, IsKept, row_limit}
+use Rattle.world.specs.Steps.{Stepped, idle, logs, act_with, act_of, begin_of, finish_of, take_up, deliver_of, step_of, IsBuilt, StaysKept, Takes, Steps}
+use Rattle.world_laws.proofs.Waits.{count_by_cons, count_by_push, tally_same, tally_other, open_from_append, open_from_ended, open_at}
+use Rattle.world_laws.proofs.SettledLaws.{settled_of_keeps, world_more, AreUpdates_more}
+
+-- a list with a first element begins with it
+head_split : {A : Type 0} (xs : List A) (x : A) → slice_get xs 0 ≡ Some x → xs ≡ x ∷ drop 1 xs
+head_split [] x e = cc
+head_split (y ∷ ys) x e = let same : y ≡ x = cc in ap (λ z. z ∷ ys) same
+
+-- the one process alone does something
+of_process : (log : List LogRow) (here : Bool) (stepped : Stepped) (reply : Reply) → StaysKept log stepped → StaysKept log (if here then stepped else idle reply)
+of_process log true stepped reply kept = kept
+of_process log false stepped reply kept = tt
+
+act_stays : (log : List LogRow) (t : Single) (first : Option Poke) → slice_get t.input 0 ≡ first → IsWorld log t → StaysKept log (act_of t first)
+act_stays log t None at world = tt
+act_stays log t (Some poke) at world = by_made (made_by t.view poke.action) refl
+  where
+    by_made : (made : Option What) → made_by t.view poke.action ≡ made → StaysKept log (act_with t poke.req made)
+    by_made None made = (refuse_world log t poke (drop 1 t.input) (head_split t.input poke at) made world, omega arith)
+    by_made (Some what) made = (act_world log t poke (drop 1 t.input) what (head_split t.input poke at) made world, omega arith)
+
+begin_stays : (log : List LogRow) (t : Single) (hand : Option Order) (first : Option Job) → t.in_hand ≡ hand → slice_get t.mail 0 ≡ first → IsWorld log t → StaysKept log (begin_of t hand first)
+begin_stays log t (Some order) first hand at world = tt
+begin_stays log t None None hand at world = tt
+begin_stays log t None (Some job) hand at world = (begin_world log t job (drop 1 t.mail) (head_split t.mail job at) hand world, omega arith)
+
+finish_stays : (log : List LogRow) (t : Single) (done : worked.Done) (hand : Option Order) → t.in_hand ≡ hand → IsWorld log t → StaysKept log (finish_of t done hand)
+finish_stays log t done None hand world = tt
+finish_stays log t done (Some order) hand world =
+    of_process log (order.job.nr.0 == done.order.job.nr.0) _ _ (finish_world log t order hand world, omega arith)
+
+take_up_stays : (log : List LogRow) (t : Single) (made : Made) (what : What) → t.reports ≡ reports.Made made ∷ drop 1 t.reports → made.what ≡ what → IsWorld log t → StaysKept log (take_up t made what)
+take_up_stays log t made (whats.Push entry memo address) waiting what world =
+    (push_world log t made (drop 1 t.reports) entry memo address waiting what world, omega arith)
+take_up_stays log t made (whats.Replace over entry memo address) waiting what world =
+    (replace_world log t made (drop 1 t.reports) over entry memo address waiting what world, omega arith)
+take_up_stays log t made _ waiting what world = tt
+
+deliver_stays : (log : List LogRow) (t : Single) (first : Option Report) → slice_get t.reports 0 ≡ first → IsWorld log t → StaysKept log (deliver_of t first)
+deliver_stays log t None at world = tt
+deliver_stays log t (Some (reports.Made made)) at world =
+    take_up_stays log t made made.what (head_split t.reports (reports.Made made) at) refl world
+deliver_stays log t (Some (reports.Done job outcome made)) at world =
+    (done_world log t job outcome made (drop 1 t.reports) (head_split t.reports (reports.Done job outcome made) at) world, omega arith)
+deliver_stays log t (Some (reports.Died death)) at world = tt
+
+-- what the event comes to keeps the world
+pub step_stays : (log : List LogRow) (t : Single) (event : Event) → IsWorld log t → IsBuilt event → StaysKept log (step_of t event)
+step_stays log t (events.Poke nav action) world built = (poke_world log t action built.1 world, omega arith)
+step_stays log t (events.Act proc) world built = of_process log (proc.0 == 1) _ _ (act_stays log t (slice_get t.input 0) refl world)
+step_stays log t (events.Begin proc) world built = of_process log (proc.0 == 1) _ _ (begin_stays log t t.in_hand (slice_get t.mail 0) refl refl world)
+step_stays log t (events.Finish proc done) world built = of_process log (proc.0 == 1) _ _ (finish_stays log t done t.in_hand refl world)
+step_stays log t (events.Deliver proc) world built = of_process log (proc.0 == 1) _ _ (deliver_stays log t (slice_get t.reports 0) refl world)
+
+-- after a step that was answered the world is kept
+pub answered_kept : (log new : List LogRow) (t next : Single) (stepped : Stepped) (answer : Reply) → IsKept log t false → StaysKept log stepped → Takes log t stepped (Ok answer) new next → IsKept new next false
+answered_kept log new t next (idle reply) answer kept stays takes = rw (takes.1, takes.2) kept
+answered_kept log new t next (logs reply rows after) answer kept stays takes =
+    rw (takes.2, takes.3) (record {
+      lawful = stays.0.lawful;
+      short = omega (arith, length-append log rows, takes.0, stays.1);
+      stands = λ open_. stays.0;
+    })
+
+-- a log that is full stays, and so does the world
+pub full_kept : (log new : List LogRow) (t next : Single) (stepped : Stepped) → IsKept log t false → Takes log t stepped (Err errors.LogFull) new next → IsKept new next false
+full_kept log new t next (idle reply) kept takes = elim takes [ ]
+full_kept log new t next (logs reply rows after) kept takes = rw (takes.1, takes.2) kept
+
+-- a world that is closed keeps its log
+pub closed_kept : (log : List LogRow) (t next : Single) → IsKept log t false → IsKept log next true
+closed_kept log t next kept = record { lawful = kept.lawful; short = kept.short; stands = λ open_. cc }
+
+-- after an error that closes the world the rows before the event still stand in front
+pub overflow_front : (log new : List LogRow) (t next : Single) (stepped : Stepped) (overflowed : Overflowed) → Takes log t stepped (Err (errors.UrlOverflow overflowed)) new next → take (length log) new ≡ log
+overflow_front log new t next (idle reply) overflowed takes = elim takes [ ]
+overflow_front log new t next (logs reply rows after) overflowed takes = takes.1
+
+pub memory_front : (log new : List LogRow) (t next : Single) (stepped : Stepped) → Takes log t stepped (Err errors.OutOfMemory) new next → take (length log) new ≡ log
+memory_front log new t next (idle reply) takes = elim takes [ ]
+memory_front log new t next (logs reply rows after) takes = takes.1

@@ -1,0 +1,7 @@
+use Rattle.std.proofs.Common.{◌≡◌, false}
+use Rattle.world.proofs.Opens.{opened_kept}
+use Rattle.world.proofs.world.World.fresh.Goals as goal
+
+pub invariant_of-result : goal.invariant_of-result
+invariant_of-result c =
+    rw (c.in_ok-log.ensures, c.in_ok-state.ensures, c.in_ok-address.ensures) (opened_kept c.args.header.now.first)

@@ -1,0 +1,34 @@
+-- What a world keeps: its log is lawful, and while it isn't closed, its state is what the log has come to.
+-- This project's own.
+use Rattle.std.specs.Prelude.{◌≡◌, ℕ, ◌+◌, ◌<◌, ◌≤◌, Bool, false, List, length}
+use Rattle.log_model.specs.declared.row_kind.LogRow.{LogRow}
+use Rattle.log_model.specs.Lawful.{IsLawful}
+use Rattle.world_laws.specs.Single.{Single}
+use Rattle.world_laws.specs.Keeps.{IsWorld}
+
+-- the log with what it has come to, and whether an earlier step closed the world
+pub record WorldState : Type 0 where
+  pub log : List LogRow
+  pub single : Single
+  pub closed : Bool
+
+-- no event begins at this many rows or more
+abbrev pub row_limit : ℕ
+row_limit = 1000000
+
+-- what holds of every world
+pub record IsKept (log : List LogRow) (single : Single) (closed : Bool) : Type 0 where
+  pub lawful : IsLawful log
+  -- the longest event logs three rows
+  pub short : length log ≤ 1000002
+  pub stands : closed ≡ false → IsWorld log single
+
+-- the numbers of the state leave room for one more event
+pub record IsRoomy (t : Single) : Type 0 where
+  pub events : t.events < 2000000
+  pub rows : length t.history.rows < 2000000
+  pub current : t.history.current < 2000000
+  pub asked : length t.endings < 2000000
+  pub sent : t.jobs < 2000000
+  pub numbered : t.view.numbered < 2000000
+  pub index : t.view.index < 2000000

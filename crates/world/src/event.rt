@@ -1,0 +1,43 @@
+//! `Event`, what may happen in a tab, and `Reply`, what a step answers.
+use log_model::{Action, Order};
+use proc_work::Done;
+use tab_ids::{NavId, ProcId, ReqId};
+
+/// What may happen next.
+#[derive(Drop)]
+pub enum Event {
+    /// A request: the running document of a navigable is to act.
+    Poke { nav: NavId, action: Action },
+    /// A process lets its document act on the first poke of its input.
+    Act { proc: ProcId },
+    /// A process takes up the first order of its mail.
+    Begin { proc: ProcId },
+    /// A process has worked on the order in hand.
+    Finish { proc: ProcId, done: Done },
+    /// The coordinator takes the first report of a process.
+    Deliver { proc: ProcId },
+}
+
+/// What a step answers. `Busy`, `Stale` and `Empty` change nothing.
+#[derive(Drop)]
+pub enum Reply {
+    Accepted(ReqId),
+    Acted,
+    Took(Order),
+    /// An order is in hand.
+    Busy,
+    Finished,
+    /// The finished order isn't the one in hand.
+    Stale,
+    Delivered,
+    /// Nothing waits there.
+    Empty,
+}
+
+/// How many pokes, orders and reports wait in a process.
+#[derive(Clone, Copy, PartialEq, Eq, Debug)]
+pub struct Waiting {
+    pub input: u64,
+    pub mail: u64,
+    pub reports: u64,
+}

@@ -1,0 +1,242 @@
+//! `World`, one tab: a contract sees its log, what the log has come to, and whether it is closed.
+ghost use Rattle.std.specs.Prelude.{◌≡◌, ◌↔◌, ◌+◌, ◌<◌, ◌≤◌, ◌==◌, if◌then◌else◌, true, false, Ok, None, Some, IfOk, IfSome, OnErr, IsErrOf, length, [], ◌∷◌};
+ghost use Rattle.std.specs.Option.{option_copied};
+ghost use Rattle.log_model.specs.Lawful.{IsLawful};
+ghost use Rattle.log_model.specs.Logs.{seen_of, is_still, is_quiet};
+ghost use Rattle.world_laws.specs.Single.{opened, opening_row, seen_with};
+ghost use Rattle.world.specs.Kept.{row_limit};
+ghost use Rattle.world.specs.Steps.{waiting_of};
+ghost use Rattle.world_laws.specs.Keeps.{IsWorld};
+ghost use Rattle.world.specs.Steps.{Steps, Takes, step_of, IsBuilt};
+
+use crate::error::StepError;
+use crate::event::{Event, Reply, Waiting};
+use crate::state::{State, opened_at};
+use crate::steps::{take_act, take_begin, take_deliver, take_finish, take_poke};
+use address::OutOfMemory;
+use doc_view::View;
+use history_log::Log;
+use log_model::{Actor, Ending, Header, LogRow, Order, Row, RowKind};
+use std::alloc::Global;
+use std::marker::Model;
+use tab_ids::{DocId, EntryId, NavId, ProcId, StateId, Step};
+
+/// A tab with one document, in process 1.
+///
+/// Its state is kept beside the log: no step reads the log again.
+#[derive(Drop)]
+pub struct World {
+    log: Log,
+    state: State,
+    closed: bool,
+}
+
+impl Model for World {
+    ghost use Rattle.world.specs.Kept.{WorldState, IsKept};
+
+    ghost Value = { WorldState };
+
+    ghost view = { λ w. record { log = w.log; single = w.state; closed = w.closed } };
+
+    ghost invariant = { λ w. IsKept w.log w.state w.closed };
+}
+
+impl World {
+    /// A tab that was just opened at the header's address. Its sites and pages have no effect yet.
+    #[tactic(auto, using(crate::proofs::Opens::opened_kept))]
+    pub fn fresh(alloc: Global, header: &Header) -> Result<World, OutOfMemory>
+        ensures ok { IfOk result (λ world. world ≡ record { log = opening_row header.now.first ∷ []; single = opened header.now.first; closed = false }) }
+    {
+        let state = opened_at(alloc, &header.first)?;
+        let address = header.first.copy()?;
+        let log = Log::fresh(
+            alloc,
+            LogRow {
+                event: 0,
+                actor: Actor::Start,
+                row: RowKind::Opened {
+                    entry: EntryId { maker: 0, nr: 1 },
+                    state: StateId(1),
+                    doc: DocId(1),
+                    proc: ProcId(1),
+                    slot: None,
+                    address,
+                },
+            },
+        )?;
+        Ok(World {
+            log,
+            state,
+            closed: false,
+        })
+    }
+
+    /// Lets an event happen. The errors are tried in their order, after the answers that log nothing.
+    pub fn step(&mut self, event: Event) -> Result<Reply, StepError>
+        requires built { IsBuilt event }
+        ensures closed { IsErrOf result StepError.Closed ↔ (self.old.closed ≡ true) }
+        ensures shut { self.old.closed ≡ true → self.new ≡ self.old }
+        ensures steps { self.old.closed ≡ false → Steps self.old (step_of self.old.single event) result self.new }
+        ensures full { IsErrOf result StepError.LogFull → row_limit ≤ length self.new.log }
+        ensures lawful { IsLawful self.new.log }
+    {
+        if self.closed {
+            return Err(StepError::Closed);
+        }
+        let before = self.log.len();
+        match take(&mut self.log, &mut self.state, event) {
+            Ok(reply) => Ok(reply),
+            Err(StepError::LogFull) => Err(StepError::LogFull),
+            Err(StepError::Closed) => unreachable!(),
+            Err(StepError::UrlOverflow(overflowed)) => {
+                self.log.cut(before);
+                self.closed = true;
+                Err(StepError::UrlOverflow(overflowed))
+            }
+            Err(StepError::OutOfMemory) => {
+                self.log.cut(before);
+                self.closed = true;
+                Err(StepError::OutOfMemory)
+            }
+        }
+    }
+
+    /// The log: what happened, in order.
+    pub fn log(&self) -> &Log
+        ensures log { result.now ≡ self.now.log }
+        ensures lawful { IsLawful self.now.log }
+        ensures stands { self.now.closed ≡ false → IsWorld self.now.log self.now.single }
+    {
+        let _open = &self.closed;
+        &self.log
+    }
+
+    /// The log, once nothing more is to happen.
+    pub fn into_log(self) -> Log
+        ensures log { result ≡ self.log }
+        ensures lawful { IsLawful self.log }
+    {
+        let World {
+            log,
+            state: _,
+            closed: _,
+        } = self;
+        log
+    }
+
+    /// The view of the document that a poke of the navigable reaches.
+    pub fn view(&self, nav: NavId) -> Option<&View>
+        ensures { option_copied result ≡ (if nav.0 == 0 then Some self.now.single.view else None) }
+    {
+        if nav.0 == 0 {
+            Some(&self.state.view)
+        } else {
+            None
+        }
+    }
+
+    /// The order that a process has in hand.
+    pub fn in_hand(&self, proc: ProcId) -> Option<&Order>
+        ensures { option_copied result ≡ (if proc.0 == 1 then self.now.single.in_hand else None) }
+    {
+        if proc.0 == 1 {
+            self.state.in_hand.as_ref()
+        } else {
+            None
+        }
+    }
+
+    /// How many pokes, orders and reports wait in a process.
+    pub fn waiting(&self, proc: ProcId) -> Waiting
+        ensures { result ≡ waiting_of self.now.single proc }
+    {
+        if proc.0 == 1 {
+            Waiting {
+                input: self.state.input.len() as u64,
+                mail: self.state.mail.len() as u64,
+                reports: self.state.reports.len() as u64,
+            }
+        } else {
+            Waiting {
+                input: 0,
+                mail: 0,
+                reports: 0,
+            }
+        }
+    }
+
+    /// Whether nothing is in transit.
+    pub fn is_still(&self) -> bool
+        ensures value { result ≡ is_still (seen_with self.now.single) }
+        ensures short { length self.now.log ≤ 1000002 }
+    {
+        self.state.input.is_empty()
+            && self.state.mail.is_empty()
+            && self.state.in_hand.is_none()
+            && self.state.reports.is_empty()
+    }
+
+    /// Whether nothing is in transit and no prompt is up.
+    pub fn is_quiet(&self) -> bool
+        ensures { result ≡ is_quiet (seen_with self.now.single) }
+    {
+        self.is_still()
+    }
+
+    /// The session history entries, in the order of their steps.
+    pub fn rows(&self) -> &[Row]
+        ensures { result.now ≡ self.now.single.history.rows }
+    {
+        self.state.rows.as_slice()
+    }
+
+    /// The current step.
+    pub fn current(&self) -> Step
+        ensures { result.0 ≡ self.now.single.history.current }
+    {
+        Step(self.state.current)
+    }
+
+    /// How each request ended, in the order of acceptance.
+    pub fn endings(&self) -> &[Option<Ending>]
+        ensures { result.now ≡ self.now.single.endings }
+    {
+        self.state.endings.as_slice()
+    }
+}
+
+/// Takes an event, by its kind.
+fn take(log: &mut Log, state: &mut State, event: Event) -> Result<Reply, StepError>
+    requires world { IsWorld log.old state.old }
+    requires short { length log.old ≤ 1000002 }
+    requires built { IsBuilt event }
+    ensures { Takes log.old state.old (step_of state.old event) result log.new state.new }
+{
+    match event {
+        Event::Poke { nav: _, action } => take_poke(log, state, action),
+        Event::Act { proc } => {
+            if proc != ProcId(1) {
+                return Ok(Reply::Empty);
+            }
+            take_act(log, state)
+        }
+        Event::Begin { proc } => {
+            if proc != ProcId(1) {
+                return Ok(Reply::Empty);
+            }
+            take_begin(log, state)
+        }
+        Event::Finish { proc, done } => {
+            if proc != ProcId(1) {
+                return Ok(Reply::Stale);
+            }
+            take_finish(log, state, &done)
+        }
+        Event::Deliver { proc } => {
+            if proc != ProcId(1) {
+                return Ok(Reply::Empty);
+            }
+            take_deliver(log, state)
+        }
+    }
+}

@@ -1,0 +1,111 @@
+-- The event in which the process finishes the order in hand.
+use Rattle.std.proofs.Common.{◌≡◌, ◌≢◌, ℕ, ◌+◌, ◌-◌, ◌<◌, ◌≤◌, Bool, true, false, not, ◌&&◌, ◌||◌, ◌==◌, List, [], ◌∷◌, ◌++◌, drop, length, map, Option, Some, None, refl, sym, ap, ◌∙◌, subst, arith, length-append}
+use Rattle.std.specs.Prelude.{count_by, fold, slice_get, slice_set, option_map, is_none}
+use Rattle.std.specs.List.{list_any}
+use Rattle.std.proofs.lemmas.List.{map-append, length-map, map-set}
+use Rattle.std.proofs.lemmas.List.Folds.{list_any-append}
+use Rattle.std.proofs.lemmas.Option.{slice_get-map}
+use Rattle.std.proofs.lemmas.Bool.{eq-eqb}
+use Rattle.std.proofs.lemmas.Bool.Decides.{nat_tests}
+use Rattle.tab_ids.specs.declared.DocId.{DocId}
+use Rattle.tab_ids.specs.declared.EntryId.{EntryId}
+use Rattle.tab_ids.specs.declared.ReqId.{ReqId}
+use Rattle.log_model.specs.declared.action.Action.{Action}
+use Rattle.log_model.specs.declared.action.Action.TheVariants as actions
+use Rattle.log_model.specs.declared.job.Job.{Job}
+use Rattle.log_model.specs.declared.job.Order.{Order}
+use Rattle.log_model.specs.declared.job.Task.{Task}
+use Rattle.log_model.specs.declared.job.Task.TheVariants as tasks
+use Rattle.log_model.specs.declared.made.Made.{Made}
+use Rattle.log_model.specs.declared.made.What.{What}
+use Rattle.log_model.specs.declared.made.What.TheVariants as whats
+use Rattle.log_model.specs.declared.made.Report.{Report}
+use Rattle.log_model.specs.declared.made.Report.TheVariants as reports
+use Rattle.log_model.specs.declared.outcome.Denial.TheVariants as denials
+use Rattle.log_model.specs.declared.outcome.Ending.{Ending}
+use Rattle.log_model.specs.declared.outcome.Ending.TheVariants as endings
+use Rattle.log_model.specs.declared.outcome.Outcome.TheVariants as outcomes
+use Rattle.log_model.specs.declared.request.Poke.{Poke}
+use Rattle.log_model.specs.declared.row.Row.{Row}
+use Rattle.log_model.specs.declared.row_kind.LogRow.{LogRow}
+use Rattle.log_model.specs.History.{History}
+use Rattle.log_model.specs.Views.{View, made_by, made_for, new_entry, new_address, after_made, after_task}
+use Rattle.log_model.specs.Seen.{Seen, Asked, Document}
+use Rattle.log_model.specs.After.{after}
+use Rattle.log_model.specs.Equal.{same_new_entry}
+use Rattle.log_model.specs.Outcomes.{is_outcome_of}
+use Rattle.log_model.specs.Lawful.{top, first_document, holds, is_open, is_settled_if_quiet, IsLawfulEvent}
+use Rattle.log_model.proofs.Refl.{nat_eq_refl, bytes_eq_refl, same_memo_refl, same_entry_refl}
+use Rattle.world_laws.specs.Single as single
+use Rattle.world_laws.specs.Single.{Single, asked_with, seen_with, first_process}
+use Rattle.world_laws.specs.Keeps.{IsPlain, EndsWith, Face, face_of_row, face_of_view, face_after_what, face_after, MayMake, MayReport, Leads, is_push, is_made_push, orders_of, pair_after, pair_after_task, due, IsUpdate, AreUpdates, is_poke_of, is_report_of, IsPush, ArePushes, places, open_from, tally, Keeps, IsWorld}
+use Rattle.world_laws.proofs.ActLaws.{leads_append, no_push}
+use Rattle.world_laws.proofs.Waits.{count_by_cons, count_by_push, tally_same, tally_other, open_from_append, open_from_ended, open_at}
+use Rattle.world_laws.proofs.SettledLaws.{settled_of_keeps, world_more, AreUpdates_more}
+
+-- an update changes length and index alone
+update_stays : (n : ℕ) (view : View) (task : Task) → IsUpdate n task → ((after_task view task).doc ≡ view.doc) × ((after_task view task).running ≡ view.running) × ((after_task view task).initial ≡ view.initial) × (face_of_view (after_task view task) ≡ face_of_view view) × ((after_task view task).numbered ≡ view.numbered) × ((after_task view task).index ≤ n) × (((after_task view task).length, (after_task view task).index) ≡ pair_after_task (view.length, view.index) task)
+update_stays n view (tasks.Update long at) is = (refl, refl, refl, refl, refl, is.1, refl)
+update_stays n view _ is = elim is [ ]
+
+update_outcome : (n : ℕ) (task : Task) → IsUpdate n task → is_outcome_of task outcomes.Updated ≡ true
+update_outcome n (tasks.Update long at) is = refl
+update_outcome n _ is = elim is [ ]
+
+finish_comes : (n : ℕ) (t : Single) (order : Order) → t.in_hand ≡ Some order → order.job.doc ≡ first_document → fold after (seen_with t) (single.finish_rows t order.job) ≡ seen_with (single.finished t order.job)
+finish_comes n t order hand doc =
+    let here : (1 == order.job.doc.0) ≡ true = rw doc refl in rw (hand, here) refl
+
+finish_keeps : (n : ℕ) (t : Single) (order : Order) → t.in_hand ≡ Some order → Keeps n t → Keeps (n + 1) (single.finished t order.job)
+finish_keeps n t order hand keeps =
+    let orders : orders_of t ≡ order.job ∷ t.mail = rw hand refl in
+    let jobs : AreUpdates n (order.job ∷ t.mail) = subst (λ (l : List Job). AreUpdates n l) orders keeps.updates in
+    let same = update_stays n t.view order.job.task jobs.0.3 in
+    let report : Report = reports.Done order.job outcomes.Updated None in
+    record {
+      document = same.0 ∙ keeps.document;
+      running = same.1 ∙ keeps.running;
+      pokes = keeps.pokes;
+      target = keeps.target;
+      history = keeps.history;
+      initial = λ is. keeps.initial (sym same.2 ∙ is);
+      leads =
+          let more : Leads t.view.initial (face_of_row keeps.target) (t.reports ++ report ∷ []) (face_of_view t.view) = leads_append t.view.initial (face_of_row keeps.target) t.reports (face_of_view t.view) report keeps.leads tt in
+          subst (λ (f : Face). Leads (after_task t.view order.job.task).initial (face_of_row keeps.target) (t.reports ++ report ∷ []) f) (sym same.3) (subst (λ (b : Bool). Leads b (face_of_row keeps.target) (t.reports ++ report ∷ []) (face_of_view t.view)) (sym same.2) more);
+      updates = AreUpdates_more n (n + 1) t.mail (omega arith) jobs.1;
+      pair = λ none.
+          ap (λ (p : ℕ × ℕ). pair_after p t.mail) same.6 ∙ sym (ap (λ (l : List Job). pair_after (t.view.length, t.view.index) l) orders) ∙ keeps.pair (no_push t.reports report none).0;
+      told = keeps.told;
+      placed = λ r.
+          let before : count_by (is_poke_of r) t.input + count_by (is_report_of r) t.reports ≡ open_from 1 t.endings r = keeps.placed r in
+          let last : count_by (is_report_of r) (t.reports ++ report ∷ []) ≡ count_by (is_report_of r) t.reports + 0 = count_by_push (is_report_of r) t.reports report in
+          omega (arith, before, last);
+      some = omega arith;
+      events = omega (arith, keeps.events);
+      rows = omega (arith, keeps.rows);
+      asked = omega (arith, keeps.asked);
+      sent = omega (arith, keeps.sent);
+      numbered = omega (arith, keeps.numbered, same.4);
+      index = omega (arith, same.5);
+    }
+
+finish_lawful : (n : ℕ) (t : Single) (order : Order) → t.in_hand ≡ Some order → Keeps n t → IsLawfulEvent (seen_with t) (single.finish_rows t order.job)
+finish_lawful n t order hand keeps =
+    let orders : orders_of t ≡ order.job ∷ t.mail = rw hand refl in
+    let jobs : AreUpdates n (order.job ∷ t.mail) = subst (λ (l : List Job). AreUpdates n l) orders keeps.updates in
+    record {
+      numbered = rw (nat_eq_refl t.events) refl;
+      formed = rw hand (rw (nat_eq_refl order.job.nr.0, update_outcome n order.job.task jobs.0.3) refl);
+      once = refl;
+      made = refl;
+      applied = refl;
+      updated = refl;
+      settled = ap (λ (s : Seen). is_settled_if_quiet s) (finish_comes n t order hand jobs.0.0) ∙ settled_of_keeps (n + 1) (single.finished t order.job) (finish_keeps n t order hand keeps);
+    }
+
+-- finishing an order keeps the world
+pub finish_world : (log : List LogRow) (t : Single) (order : Order) → t.in_hand ≡ Some order → IsWorld log t → IsWorld (log ++ single.finish_rows t order.job) (single.finished t order.job)
+finish_world log t order hand world =
+    let orders : orders_of t ≡ order.job ∷ t.mail = rw hand refl in
+    let jobs : AreUpdates (length log) (order.job ∷ t.mail) = subst (λ (l : List Job). AreUpdates (length log) l) orders world.keeps.updates in
+    world_more log t (single.finished t order.job) _ _ world (finish_lawful _ t order hand world.keeps) (finish_comes (length log) t order hand jobs.0.0) (finish_keeps _ t order hand world.keeps)

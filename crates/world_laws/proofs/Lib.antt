@@ -1,0 +1,12 @@
+pub mod Plain
+pub mod Waits
+pub mod SettledLaws
+pub mod PokeLaws
+pub mod ActLaws
+pub mod RefuseLaws
+pub mod BeginLaws
+pub mod FinishLaws
+pub mod DoneLaws
+pub mod PushLaws
+pub mod ReplaceLaws
+pub mod OpenLaws
