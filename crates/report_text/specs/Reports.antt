@@ -1,0 +1,134 @@
+-- The report of a log, line by line.
+-- This project's own; the entries, the current step, length and index are the HTML Standard's, as the module on histories says.
+use Rattle.std.specs.Prelude.{◌≡◌, ℕ, ◌+◌, Bool, true, false, ◌&&◌, ◌||◌, ◌==◌, nat_lt, nat_le, List, [], ◌∷◌, ◌++◌, filter, flat_map, codes, decimal, Option, Some, None, if◌then◌else◌}
+use Rattle.std.specs.Option.{option_map_or}
+use Rattle.log_model.specs.declared.outcome.Cause.{Cause}
+use Rattle.log_model.specs.declared.outcome.Cause.TheVariants as causes
+use Rattle.log_model.specs.declared.outcome.Denial.{Denial}
+use Rattle.log_model.specs.declared.outcome.Denial.TheVariants as denials
+use Rattle.log_model.specs.declared.outcome.Ending.{Ending}
+use Rattle.log_model.specs.declared.outcome.Ending.TheVariants as endings
+use Rattle.log_model.specs.declared.row.Row.{Row}
+use Rattle.log_model.specs.declared.row_kind.LogRow.{LogRow}
+use Rattle.log_model.specs.History.{History, same_entry, history_length, history_index, target_entry}
+use Rattle.log_model.specs.Views.{View}
+use Rattle.log_model.specs.Seen.{Seen, Document, Asked}
+use Rattle.log_model.specs.Logs.{seen_of, is_quiet}
+use Rattle.log_model.specs.Lawful.{top, holds, runs}
+
+-- ---- words
+
+abbrev pub line_end : List ℕ
+line_end = 10 ∷ []
+
+-- a number after a space
+abbrev pub number_word : ℕ → List ℕ
+number_word n = codes " " ++ decimal n
+
+-- a memo after a space; `-` is none
+abbrev pub memo_word : Option (List ℕ) → List ℕ
+memo_word (Some memo) = codes " " ++ memo
+memo_word None = codes " -"
+
+-- a length and an index
+abbrev pub pair_words : ℕ → ℕ → List ℕ
+pair_words length index = codes " length" ++ number_word length ++ codes " index" ++ number_word index
+
+-- ---- lines
+
+abbrev pub quiet_line : Bool → List ℕ
+quiet_line true = codes "quiet yes" ++ line_end
+quiet_line false = codes "quiet no" ++ line_end
+
+-- the current step with length and index
+abbrev pub step_line : ℕ → ℕ → ℕ → List ℕ
+step_line step length index = codes "step" ++ number_word step ++ pair_words length index ++ line_end
+
+abbrev pub address_words : List ℕ → List ℕ
+address_words address = codes " " ++ address ++ line_end
+
+abbrev pub entry_line : Row → List ℕ
+entry_line row =
+    codes "entry" ++ number_word row.nav.0 ++ number_word row.step.0 ++ memo_word row.memo ++ address_words row.address
+
+-- a navigable whose document shows its target, and one that is on its way there
+abbrev pub runs_line : ℕ → ℕ → ℕ → ℕ → List ℕ
+runs_line nav step length index =
+    codes "nav" ++ number_word nav ++ codes " runs" ++ number_word step ++ (pair_words length index ++ line_end)
+
+abbrev pub moves_line : ℕ → ℕ → List ℕ
+moves_line nav step = codes "nav" ++ number_word nav ++ codes " moves" ++ number_word step ++ line_end
+
+abbrev pub denial_word : Denial → List ℕ
+denial_word denials.NoStep = codes "no-step"
+denial_word denials.NoNavigable = codes "no-navigable"
+denial_word denials.NotShown = codes "not-shown"
+denial_word denials.NoDocument = codes "no-document"
+denial_word denials.NavTaken = codes "nav-taken"
+denial_word denials.BadAddress = codes "address"
+
+abbrev pub cause_words : Cause → List ℕ
+cause_words causes.Stay = codes " stay"
+cause_words (causes.By req) = codes " by" ++ number_word req.0
+cause_words (causes.Destroyed req) = codes " destroyed" ++ number_word req.0
+cause_words (causes.Gone death) = codes " gone" ++ number_word death.0
+
+abbrev pub ending_words : Option Ending → List ℕ
+ending_words None = codes " open"
+ending_words (Some endings.Applied) = codes " applied"
+ending_words (Some (endings.Refused reason)) = codes " refused " ++ denial_word reason
+ending_words (Some (endings.Dropped cause)) = codes " dropped" ++ cause_words cause
+
+abbrev pub request_line : ℕ → Option Ending → List ℕ
+request_line nr ending = codes "request" ++ number_word nr ++ ending_words ending ++ line_end
+
+-- ---- the whole
+
+-- an entry of a lower navigable comes first, and of one navigable that of the lower step
+abbrev pub comes_before : Row → Row → Bool
+comes_before a b = nat_lt a.nav.0 b.nav.0 || (a.nav.0 == b.nav.0 && nat_le a.step.0 b.step.0)
+
+abbrev pub with_entry : Row → List Row → List Row
+with_entry row [] = row ∷ []
+with_entry row (first ∷ rows) =
+    if comes_before row first then row ∷ first ∷ rows else first ∷ with_entry row rows
+
+-- the entries by navigable, then by step
+abbrev pub by_navigable : List Row → List Row
+by_navigable [] = []
+by_navigable (row ∷ rows) = with_entry row (by_navigable rows)
+
+-- the view has the entry and the history's length and index
+abbrev pub is_at : Row → ℕ → ℕ → View → Bool
+is_at row length index view = same_entry view.entry row.entry && view.length == length && view.index == index
+
+-- exactly one document runs, and it is there
+abbrev pub one_is_at : Row → ℕ → ℕ → List Document → Bool
+one_is_at row length index (d ∷ []) = holds (is_at row length index) d.view
+one_is_at row length index _ = false
+
+-- the line of the top navigable, with its target
+abbrev pub top_line : Seen → Row → List ℕ
+top_line s target =
+    let long = history_length s.history.rows in
+    let at = history_index s.history.rows s.history.current in
+    if one_is_at target long at (filter (λ d. d.nav.0 == 0 && runs d) s.documents)
+    then runs_line 0 target.step.0 long at else moves_line 0 target.step.0
+
+-- the requests, numbered from here on
+abbrev pub request_lines : ℕ → List Asked → List ℕ
+request_lines nr [] = []
+request_lines nr (asked ∷ others) = request_line nr asked.ending ++ request_lines (nr + 1) others
+
+-- the report of what a log has come to
+abbrev pub report_with : Seen → List ℕ
+report_with s =
+    quiet_line (is_quiet s)
+    ++ step_line s.history.current (history_length s.history.rows) (history_index s.history.rows s.history.current)
+    ++ flat_map entry_line (by_navigable s.history.rows)
+    ++ option_map_or (top_line s) (target_entry s.history.rows top s.history.current) []
+    ++ request_lines 1 s.requests
+
+-- the report of a log
+unfoldable pub report_of : List LogRow → List ℕ
+report_of log = report_with (seen_of log)

@@ -1,0 +1,8 @@
+use Rattle.std.proofs.Common.{◌≡◌, ◌<◌, false, length}
+use Rattle.scenario_play.proofs.round.round.Given as goal
+
+abbrev pub invariant-loop-number : goal.invariant-loop-number
+invariant-loop-number l = record {
+  opened : l.world.closed ≡ false;
+  longer : length l.fn.world.log < length l.world.log;
+}

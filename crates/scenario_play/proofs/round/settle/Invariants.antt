@@ -1,0 +1,9 @@
+-- Each round logs something, and a log ends.
+use Rattle.std.proofs.Common.{◌≡◌, ◌-◌, false, length}
+use Rattle.scenario_play.proofs.round.settle.Given as goal
+
+abbrev pub invariant-rounds : goal.invariant-rounds
+invariant-rounds l = l.world.closed ≡ false
+
+abbrev pub decreases-rounds : goal.decreases-rounds
+decreases-rounds l = 1000010 - length l.world.log

@@ -1,0 +1,88 @@
+//! `play`, which makes the events of a scenario's lines.
+ghost use Rattle.std.specs.Prelude.{◌≡◌, All, false, None, IfErr, IfSome, IsSome, OnOk};
+ghost use Rattle.scenario_play.specs.Lines.{IsBuiltLine, IsBuiltRequest};
+ghost use Rattle.scenario_play.specs.Moves.{IsFault};
+
+use crate::round::{settle, step};
+use log_model::Request;
+use scenario_text::{Scenario, ScenarioLine};
+use world::{Event, StepError, World};
+
+/// A world after the lines of a scenario, and why not all of them were played, if so.
+#[derive(Drop)]
+pub struct Played {
+    pub world: Option<World>,
+    pub fault: Option<StepError>,
+}
+
+/// Plays the lines in order. The world is always given back.
+pub fn play(scenario: &Scenario, world: World) -> Played
+    requires open { world.closed ≡ false }
+    requires built { All IsBuiltLine scenario.now.lines }
+    ensures open { result.fault ≡ None → IfSome result.world (λ w. w.closed ≡ false) }
+    ensures faults { IfSome result.fault (λ e. IfSome result.world (λ w. IsFault w e)) }
+    ensures given { IsSome result.world }
+{
+    let mut world = world;
+    match play_lines(&mut world, scenario.lines.as_slice()) {
+        Ok(()) => Played {
+            world: Some(world),
+            fault: None,
+        },
+        Err(fault) => Played {
+            world: Some(world),
+            fault: Some(fault),
+        },
+    }
+}
+
+fn play_lines(world: &mut World, lines: &[ScenarioLine]) -> Result<(), StepError>
+    requires open { world.old.closed ≡ false }
+    requires built { All IsBuiltLine lines.now }
+    ensures open { OnOk result (world.new.closed ≡ false) }
+    ensures faults { IfErr result (IsFault world.new) }
+{
+    for line in lines {
+        play_line(world, line)?;
+    }
+    Ok(())
+}
+
+/// Plays one line. An answer that logs nothing is passed over.
+fn play_line(world: &mut World, line: &ScenarioLine) -> Result<(), StepError>
+    requires open { world.old.closed ≡ false }
+    requires built { IsBuiltLine line.now }
+    ensures open { OnOk result (world.new.closed ≡ false) }
+    ensures faults { IfErr result (IsFault world.new) }
+{
+    match line {
+        ScenarioLine::Ask(request) => ask(world, request),
+        ScenarioLine::Settle => settle(world),
+        ScenarioLine::Answer { .. }
+        | ScenarioLine::Evict
+        | ScenarioLine::Kill { .. }
+        | ScenarioLine::Act { .. }
+        | ScenarioLine::Begin { .. }
+        | ScenarioLine::Finish { .. }
+        | ScenarioLine::Deliver { .. } => unreachable!(),
+    }
+}
+
+/// Makes a request.
+fn ask(world: &mut World, request: &Request) -> Result<(), StepError>
+    requires open { world.old.closed ≡ false }
+    requires built { IsBuiltRequest request.now }
+    ensures open { OnOk result (world.new.closed ≡ false) }
+    ensures faults { IfErr result (IsFault world.new) }
+{
+    match request {
+        Request::Poke { nav, action } => {
+            let action = action.copy()?;
+            match step(world, Event::Poke { nav: *nav, action }) {
+                Ok(_) => Ok(()),
+                Err(error) => Err(error),
+            }
+        }
+        Request::Load { .. } | Request::Go { .. } | Request::Reload { .. } => unreachable!(),
+    }
+}

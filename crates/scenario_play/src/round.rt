@@ -1,0 +1,178 @@
+//! Rounds of steps of the processes and of the coordinator.
+ghost use Rattle.std.specs.Prelude.{◌≡◌, ◌<◌, ◌≤◌, ◌==◌, if◌then◌else◌, true, false, None, Some, IfErr, IfOk, OnOk, length};
+ghost use Rattle.log_model.specs.Logs.{is_still};
+ghost use Rattle.world_laws.specs.Single.{seen_with};
+ghost use Rattle.world.specs.Steps.{IsBuilt, Steps, step_of};
+ghost use Rattle.scenario_play.specs.Moves.{IsFault, MovesOn, MovesIf, has_poke, has_order, has_mail, has_report};
+
+use log_model::Order;
+use proc_work::work;
+use tab_ids::ProcId;
+use world::{Event, Reply, StepError, World};
+
+/// Goes in rounds until nothing is in transit.
+pub(crate) fn settle(world: &mut World) -> Result<(), StepError>
+    requires open { world.old.closed ≡ false }
+    ensures open { OnOk result (world.new.closed ≡ false) }
+    ensures faults { IfErr result (IsFault world.new) }
+    ensures still { OnOk result (is_still (seen_with world.new.single) ≡ true) }
+{
+    'rounds: while !world.is_still() {
+        round(world)?;
+    }
+    Ok(())
+}
+
+/// One round, through all processes that a scenario may name.
+fn round(world: &mut World) -> Result<(), StepError>
+    requires open { world.old.closed ≡ false }
+    requires busy { is_still (seen_with world.old.single) ≡ false }
+    ensures open { OnOk result (world.new.closed ≡ false) }
+    ensures faults { IfErr result (IsFault world.new) }
+    ensures longer { OnOk result (length world.old.log < length world.new.log) }
+{
+    first_turn(world)?;
+    for number in 2..17 {
+        turn(world, ProcId(number))?;
+    }
+    Ok(())
+}
+
+/// The turn of the document's process, where something waits in it.
+fn first_turn(world: &mut World) -> Result<(), StepError>
+    requires open { world.old.closed ≡ false }
+    requires busy { is_still (seen_with world.old.single) ≡ false }
+    ensures open { OnOk result (world.new.closed ≡ false) }
+    ensures faults { IfErr result (IsFault world.new) }
+    ensures longer { OnOk result (length world.old.log < length world.new.log) }
+{
+    act(world, ProcId(1))?;
+    work_on(world, ProcId(1))?;
+    deliver(world, ProcId(1))?;
+    Ok(())
+}
+
+/// The turn of a process: it acts, works on an order, and the coordinator takes a report of it.
+fn turn(world: &mut World, proc: ProcId) -> Result<(), StepError>
+    requires open { world.old.closed ≡ false }
+    ensures faults { IfErr result (IsFault world.new) }
+    ensures moves { OnOk result (MovesOn world.old world.new) }
+{
+    act(world, proc)?;
+    work_on(world, proc)?;
+    deliver(world, proc)?;
+    Ok(())
+}
+
+/// Lets a document of the process act, where a poke waits.
+fn act(world: &mut World, proc: ProcId) -> Result<(), StepError>
+    requires open { world.old.closed ≡ false }
+    ensures faults { IfErr result (IsFault world.new) }
+    ensures moves { OnOk result (MovesIf (has_poke world.old.single proc) world.old world.new) }
+{
+    match step(world, Event::Act { proc }) {
+        Ok(_) => return Ok(()),
+        Err(error) => return Err(error),
+    }
+}
+
+/// Lets the process finish the order in hand, or else take one up and finish it.
+fn work_on(world: &mut World, proc: ProcId) -> Result<(), StepError>
+    requires open { world.old.closed ≡ false }
+    ensures faults { IfErr result (IsFault world.new) }
+    ensures moves { OnOk result (MovesIf (has_order world.old.single proc) world.old world.new) }
+{
+    match in_hand(world, proc)? {
+        Some(order) => finish(world, proc, order),
+        None => begin(world, proc),
+    }
+}
+
+/// A copy of the order that a process has in hand.
+fn in_hand(world: &World, proc: ProcId) -> Result<Option<Order>, StepError>
+    ensures faults { IfErr result (IsFault world.now) }
+    ensures ok { IfOk result (λ order. order ≡ (if proc.0 == 1 then world.now.single.in_hand else None)) }
+{
+    match world.in_hand(proc) {
+        Some(order) => match order.copy() {
+            Ok(order) => Ok(Some(order)),
+            Err(_) => Err(StepError::OutOfMemory),
+        },
+        None => Ok(None),
+    }
+}
+
+/// Lets the process finish the order in hand.
+fn finish(world: &mut World, proc: ProcId, order: Order) -> Result<(), StepError>
+    requires open { world.old.closed ≡ false }
+    requires hand { (if proc.0 == 1 then world.old.single.in_hand else None) ≡ Some order }
+    ensures faults { IfErr result (IsFault world.new) }
+    ensures moves { OnOk result (MovesIf true world.old world.new) }
+{
+    let done = match work(order) {
+        Ok(done) => done,
+        Err(_) => return Err(StepError::OutOfMemory),
+    };
+    match step(world, Event::Finish { proc, done }) {
+        Ok(_) => return Ok(()),
+        Err(error) => return Err(error),
+    }
+}
+
+/// Lets the process take up the first order of its mail and finish it.
+fn begin(world: &mut World, proc: ProcId) -> Result<(), StepError>
+    requires open { world.old.closed ≡ false }
+    ensures faults { IfErr result (IsFault world.new) }
+    ensures moves { OnOk result (MovesIf (has_mail world.old.single proc) world.old world.new) }
+{
+    match step(world, Event::Begin { proc }) {
+        Ok(Reply::Took(order)) => finish_taken(world, proc, order),
+        Ok(_) => return Ok(()),
+        Err(error) => return Err(error),
+    }
+}
+
+/// Lets the process finish an order that it has taken up.
+fn finish_taken(world: &mut World, proc: ProcId, order: Order) -> Result<(), StepError>
+    requires open { world.old.closed ≡ false }
+    ensures faults { IfErr result (IsFault world.new) }
+    ensures moves { OnOk result (MovesOn world.old world.new) }
+{
+    let done = match work(order) {
+        Ok(done) => done,
+        Err(_) => return Err(StepError::OutOfMemory),
+    };
+    match step(world, Event::Finish { proc, done }) {
+        Ok(_) => return Ok(()),
+        Err(error) => return Err(error),
+    }
+}
+
+/// Lets the coordinator take a report of the process, where one waits.
+fn deliver(world: &mut World, proc: ProcId) -> Result<(), StepError>
+    requires open { world.old.closed ≡ false }
+    ensures faults { IfErr result (IsFault world.new) }
+    ensures moves { OnOk result (MovesIf (has_report world.old.single proc) world.old world.new) }
+{
+    let _stands = world.log();
+    match step(world, Event::Deliver { proc }) {
+        Ok(_) => return Ok(()),
+        Err(error) => return Err(error),
+    }
+}
+
+/// One step of an open world.
+pub(crate) fn step(world: &mut World, event: Event) -> Result<Reply, StepError>
+    requires open { world.old.closed ≡ false }
+    requires built { IsBuilt event }
+    ensures steps { Steps world.old (step_of world.old.single event) result world.new }
+    ensures faults { IfErr result (IsFault world.new) }
+{
+    match world.step(event) {
+        Ok(reply) => Ok(reply),
+        Err(StepError::Closed) => unreachable!(),
+        Err(StepError::LogFull) => Err(StepError::LogFull),
+        Err(StepError::UrlOverflow(overflowed)) => Err(StepError::UrlOverflow(overflowed)),
+        Err(StepError::OutOfMemory) => Err(StepError::OutOfMemory),
+    }
+}

@@ -1,0 +1,136 @@
+//! `play_call`, all that the program does with its words, a source and a sink.
+ghost use Rattle.std.specs.Prelude.{◌≡◌, ◌↔◌, false, None, IfSome, IsSome, map, string_bytes};
+ghost use Rattle.log_model.specs.Lawful.{IsLawful};
+ghost use Rattle.tab.specs.Words.{is_play};
+ghost use Rattle.scenario_play.specs.Moves.{IsFault};
+ghost use Rattle.tab.specs.Calls.{HasReadCause, HasWriteCause, IsPlayEnd, ReadsAs, SpellsAs};
+
+use crate::status::Status;
+use crate::words::asks_play;
+use address::Text;
+use history_log::Log;
+use report_text::report;
+use scenario_play::{Played, play};
+use scenario_text::{Reason, Refusal, Scenario, ScenarioError};
+use std::alloc::Global;
+use tab_io::{ReadAllError, Sink, Source, WriteFault, read_all, write_all};
+use world::{StepError, World};
+
+/// The most bytes that a scenario may have.
+const BYTE_LIMIT: usize = 4_194_304;
+
+/// How a call ended, and the log of the tab, where one was made and the status is `Done`, `LogFull` or `WriteFault`.
+#[derive(Drop)]
+pub struct Ended {
+    pub status: Status,
+    pub log: Option<Log>,
+}
+
+/// Does what the words ask: `play` reads a scenario to its end, plays it, and writes the report of the log.
+///
+/// Nothing is written unless all was read and played.
+pub fn play_call<S: Source, K: Sink>(
+    alloc: Global,
+    words: &[String],
+    source: &mut S,
+    sink: &mut K,
+) -> Ended
+    ensures usage { (result.status ≡ Status.Usage) ↔ (is_play (map (λ w. string_bytes w) words.now) ≡ false) }
+    ensures read { HasReadCause result.status (S.left source.old) (S.left source.new) (S.faults source.old) (S.faults source.new) }
+    ensures written { HasWriteCause result.status (K.taken sink.old) (K.taken sink.new) (K.faults sink.old) (K.faults sink.new) result.log }
+    ensures lawful { IfSome result.log IsLawful }
+{
+    if !asks_play(words) {
+        return failed(Status::Usage);
+    }
+    let scenario = match read_scenario(alloc, source) {
+        Ok(scenario) => scenario,
+        Err(status) => return failed(status),
+    };
+    let played = match World::fresh(alloc, &scenario.header) {
+        Ok(world) => play(&scenario, world),
+        Err(_) => return failed(Status::OutOfMemory),
+    };
+    tell(alloc, played, sink)
+}
+
+/// Reads the scenario; else the status says why there is none.
+fn read_scenario<S: Source>(alloc: Global, source: &mut S) -> Result<Scenario, Status>
+    ensures { ReadsAs result (S.left source.old) (S.left source.new) (S.faults source.old) (S.faults source.new) }
+{
+    match read_all(alloc, source, BYTE_LIMIT) {
+        Ok(text) => spelled(alloc, &text),
+        Err(ReadAllError::TooLong) => Err(Status::Scenario(Refusal {
+            line: 0,
+            reason: Reason::TooLong,
+        })),
+        Err(ReadAllError::ReadFault) => Err(Status::ReadFault),
+        Err(ReadAllError::OutOfMemory) => Err(Status::OutOfMemory),
+    }
+}
+
+/// The scenario that a text spells.
+fn spelled(alloc: Global, text: &Text) -> Result<Scenario, Status>
+    ensures { SpellsAs result text.now }
+{
+    match Scenario::read(alloc, text.bytes(), false) {
+        Ok(scenario) => Ok(scenario),
+        Err(ScenarioError::Refused(refusal)) => Err(Status::Scenario(refusal)),
+        Err(ScenarioError::UrlOverflow(overflowed)) => Err(Status::UrlOverflow(overflowed)),
+        Err(ScenarioError::OutOfMemory) => Err(Status::OutOfMemory),
+    }
+}
+
+/// Tells what was played: the report, or why not all was.
+fn tell<K: Sink>(alloc: Global, played: Played, sink: &mut K) -> Ended
+    requires given { IsSome played.world }
+    requires open { played.fault ≡ None → IfSome played.world (λ w. w.closed ≡ false) }
+    requires faults { IfSome played.fault (λ e. IfSome played.world (λ w. IsFault w e)) }
+    ensures kind { IsPlayEnd result.status }
+    ensures written { HasWriteCause result.status (K.taken sink.old) (K.taken sink.new) (K.faults sink.old) (K.faults sink.new) result.log }
+    ensures lawful { IfSome result.log IsLawful }
+{
+    let Played { world, fault } = played;
+    let Some(world) = world else { unreachable!() };
+    match fault {
+        None => write_report(alloc, world, sink),
+        Some(StepError::LogFull) => Ended {
+            status: Status::LogFull,
+            log: Some(world.into_log()),
+        },
+        Some(StepError::Closed) => unreachable!(),
+        Some(StepError::UrlOverflow(overflowed)) => failed(Status::UrlOverflow(overflowed)),
+        Some(StepError::OutOfMemory) => failed(Status::OutOfMemory),
+    }
+}
+
+/// Writes the report of a world's log.
+fn write_report<K: Sink>(alloc: Global, world: World, sink: &mut K) -> Ended
+    requires open { world.closed ≡ false }
+    ensures kind { IsPlayEnd result.status }
+    ensures written { HasWriteCause result.status (K.taken sink.old) (K.taken sink.new) (K.faults sink.old) (K.faults sink.new) result.log }
+    ensures lawful { IfSome result.log IsLawful }
+{
+    let text = match report(alloc, &world) {
+        Ok(text) => text,
+        Err(_) => return failed(Status::OutOfMemory),
+    };
+    match write_all(sink, text.bytes()) {
+        Ok(()) => Ended {
+            status: Status::Done,
+            log: Some(world.into_log()),
+        },
+        Err(WriteFault) => Ended {
+            status: Status::WriteFault,
+            log: Some(world.into_log()),
+        },
+    }
+}
+
+/// An end with no log.
+fn failed(status: Status) -> Ended
+    ensures status { result.status ≡ status }
+    ensures log { result.log ≡ None }
+{
+    Ended { status, log: None }
+}
