@@ -1,19 +1,14 @@
 -- The report of what a world keeps is the report of its log.
-use Rattle.std.proofs.Common.{◌≡◌, ℕ, ◌+◌, ◌-◌, ◌<◌, ◌≤◌, zero, suc, Bool, true, false, cond, ◌&&◌, ◌||◌, ◌==◌, List, [], ◌∷◌, ◌++◌, length, map, Option, Some, None, refl, sym, ap, ◌∙◌, arith, length-append}
-use Rattle.std.specs.Prelude.{nat_lt, nat_le, slice_get, flat_map, filter}
-use Rattle.std.specs.Option.{option_map_or}
+use Rattle.std.proofs.Common.{◌≡◌, ℕ, ◌+◌, ◌≤◌, Bool, true, false, ◌||◌, ◌==◌, List, [], ◌∷◌, ◌++◌, length, map, Option, Some, refl, ap, ◌∙◌, arith}
+use Rattle.std.specs.Prelude.{nat_lt, nat_le, slice_get}
 use Rattle.std.proofs.lemmas.Bool.Decides.{nat_tests}
 use Rattle.log_model.specs.declared.outcome.Ending.{Ending}
 use Rattle.log_model.specs.declared.row.Row.{Row}
 use Rattle.log_model.specs.declared.row_kind.LogRow.{LogRow}
-use Rattle.log_model.specs.History.{History, history_length, history_index, target_entry}
-use Rattle.log_model.specs.Seen.{Seen, Asked, Document}
-use Rattle.log_model.specs.Logs.{seen_of, is_quiet}
-use Rattle.log_model.specs.Lawful.{top, holds, runs}
-use Rattle.world_laws.specs.Single.{Single, asked_with, seen_with, document_with}
-use Rattle.world_laws.specs.Keeps.{IsPlain, EndsWith, Keeps, IsWorld}
-use Rattle.world_laws.proofs.Plain.{length_due, index_due, target_of_ending, length_of_ending}
-use Rattle.report_text.specs.Reports.{quiet_line, step_line, entry_line, runs_line, moves_line, request_line, comes_before, with_entry, by_navigable, is_at, one_is_at, top_line, request_lines, report_with, report_of}
+use Rattle.world_laws.specs.Single.{Single, asked_with, seen_with}
+use Rattle.world_laws.specs.Keeps.{IsPlain, Keeps, IsWorld}
+use Rattle.world_laws.proofs.Plain.{length_due, index_due, target_of_ending}
+use Rattle.report_text.specs.Reports.{request_line, comes_before, with_entry, by_navigable, top_line, request_lines, report_with, report_of}
 use Rattle.report_text.specs.Plain.{ending_lines, plain_top, plain_report}
 
 -- rows at consecutive steps are in order already

@@ -1,9 +1,7 @@
 -- The report of a world of one document, read from what it keeps.
 -- This project's own.
-use Rattle.std.specs.Prelude.{ℕ, ◌+◌, Bool, true, false, ◌==◌, List, [], ◌∷◌, ◌++◌, length, flat_map, slice_get, Option, Some, None, if◌then◌else◌}
-use Rattle.std.specs.Option.{option_map_or}
+use Rattle.std.specs.Prelude.{ℕ, ◌+◌, List, [], ◌∷◌, ◌++◌, length, flat_map, slice_get, Option, if◌then◌else◌}
 use Rattle.log_model.specs.declared.outcome.Ending.{Ending}
-use Rattle.log_model.specs.declared.row.Row.{Row}
 use Rattle.log_model.specs.Logs.{is_quiet}
 use Rattle.log_model.specs.Lawful.{holds}
 use Rattle.world_laws.specs.Single.{Single, seen_with}

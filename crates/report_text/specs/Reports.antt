@@ -1,6 +1,6 @@
 -- The report of a log, line by line.
 -- This project's own; the entries, the current step, length and index are the HTML Standard's, as the module on histories says.
-use Rattle.std.specs.Prelude.{◌≡◌, ℕ, ◌+◌, Bool, true, false, ◌&&◌, ◌||◌, ◌==◌, nat_lt, nat_le, List, [], ◌∷◌, ◌++◌, filter, flat_map, codes, decimal, Option, Some, None, if◌then◌else◌}
+use Rattle.std.specs.Prelude.{ℕ, ◌+◌, Bool, true, false, ◌&&◌, ◌||◌, ◌==◌, nat_lt, nat_le, List, [], ◌∷◌, ◌++◌, filter, flat_map, codes, decimal, Option, Some, None, if◌then◌else◌}
 use Rattle.std.specs.Option.{option_map_or}
 use Rattle.log_model.specs.declared.outcome.Cause.{Cause}
 use Rattle.log_model.specs.declared.outcome.Cause.TheVariants as causes
@@ -10,7 +10,7 @@ use Rattle.log_model.specs.declared.outcome.Ending.{Ending}
 use Rattle.log_model.specs.declared.outcome.Ending.TheVariants as endings
 use Rattle.log_model.specs.declared.row.Row.{Row}
 use Rattle.log_model.specs.declared.row_kind.LogRow.{LogRow}
-use Rattle.log_model.specs.History.{History, same_entry, history_length, history_index, target_entry}
+use Rattle.log_model.specs.History.{same_entry, history_length, history_index, target_entry}
 use Rattle.log_model.specs.Views.{View}
 use Rattle.log_model.specs.Seen.{Seen, Document, Asked}
 use Rattle.log_model.specs.Logs.{seen_of, is_quiet}

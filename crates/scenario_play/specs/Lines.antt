@@ -1,8 +1,6 @@
 -- The lines of a scenario that a tab of one document plays.
 -- This project's own.
 use Rattle.std.specs.Prelude.{◌≡◌, List, [], ◌∷◌}
-use Rattle.log_model.specs.declared.action.Action.{Action}
-use Rattle.log_model.specs.declared.action.Action.TheVariants as actions
 use Rattle.log_model.specs.declared.request.Request.{Request}
 use Rattle.log_model.specs.declared.request.Request.TheVariants as requests
 use Rattle.scenario_text.specs.declared.line.ScenarioLine.{ScenarioLine}

@@ -1,6 +1,6 @@
 -- How the steps of a round move a world on.
 -- This project's own.
-use Rattle.std.specs.Prelude.{◌≡◌, ℕ, ◌<◌, ◌≤◌, Bool, true, false, ◌==◌, not, ◌&&◌, ◌||◌, List, length, is_some, slice_get, if◌then◌else◌}
+use Rattle.std.specs.Prelude.{◌≡◌, ◌<◌, ◌≤◌, Bool, true, false, ◌==◌, not, ◌&&◌, ◌||◌, length, is_some, slice_get}
 use Rattle.tab_ids.specs.declared.ProcId.{ProcId}
 use Rattle.world_laws.specs.Single.{Single}
 use Rattle.world.specs.declared.error.StepError.{StepError}

@@ -1,9 +1,8 @@
 -- The ends of a call put together.
-use Rattle.std.proofs.Common.{◌≡◌, ℕ, ◌<◌, ◌≤◌, List, length, Option, Some, None, Result, Ok, Err, refl, arith}
-use Rattle.std.specs.Io.KnownBytes.{Appends, Consumes, IsAtEnd}
+use Rattle.std.proofs.Common.{ℕ, List, Option, Result, Ok, Err, refl}
+use Rattle.std.specs.Io.KnownBytes.{Consumes, IsAtEnd}
 use Rattle.log_model.specs.declared.row_kind.LogRow.{LogRow}
 use Rattle.scenario_text.specs.declared.scenario.Scenario.{Scenario}
-use Rattle.scenario_text.specs.Grammar.{scenario_of}
 use Rattle.scenario_text.specs.declared.reason.Reason.TheVariants.{TooLong}
 use Rattle.scenario_text.proofs.ForCallers.{scenario_of-too_long}
 use Rattle.std.proofs.Common.{false}

@@ -1,7 +1,6 @@
 -- The opening of a world.
 use Rattle.std.proofs.Common.{List, ℕ, [], ◌∷◌, false, arith}
 use Rattle.world_laws.specs.Single.{opening_row, opened}
-use Rattle.world_laws.specs.Keeps.{IsWorld}
 use Rattle.world_laws.proofs.OpenLaws.{opened_world}
 use Rattle.world.specs.Kept.{IsKept}
 

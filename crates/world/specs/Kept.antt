@@ -1,6 +1,6 @@
 -- What a world keeps: its log is lawful, and while it isn't closed, its state is what the log has come to.
 -- This project's own.
-use Rattle.std.specs.Prelude.{◌≡◌, ℕ, ◌+◌, ◌<◌, ◌≤◌, Bool, false, List, length}
+use Rattle.std.specs.Prelude.{◌≡◌, ℕ, ◌<◌, ◌≤◌, Bool, false, List, length}
 use Rattle.log_model.specs.declared.row_kind.LogRow.{LogRow}
 use Rattle.log_model.specs.Lawful.{IsLawful}
 use Rattle.world_laws.specs.Single.{Single}

@@ -1,12 +1,9 @@
 -- What a step of a world answers and does.
 -- This project's own.
-use Rattle.std.specs.Prelude.{◌≡◌, ℕ, ◌+◌, ◌<◌, ◌≤◌, Bool, true, false, ◌==◌, List, [], ◌∷◌, ◌++◌, take, length, slice_get, Option, Some, None, Result, Ok, Err, if◌then◌else◌}
-use Rattle.tab_ids.specs.declared.NavId.{NavId}
+use Rattle.std.specs.Prelude.{◌≡◌, ◌+◌, ◌<◌, ◌≤◌, true, false, ◌==◌, List, ◌++◌, take, length, slice_get, Option, Some, None, Result, Ok, Err, if◌then◌else◌}
 use Rattle.tab_ids.specs.declared.ReqId.{ReqId}
 use Rattle.tab_ids.specs.declared.ProcId.{ProcId}
 use Rattle.world.specs.declared.event.Waiting.{Waiting}
-use Rattle.address.specs.declared.error.Overflowed.{Overflowed}
-use Rattle.log_model.specs.declared.action.Action.{Action}
 use Rattle.log_model.specs.declared.job.Job.{Job}
 use Rattle.log_model.specs.declared.job.Order.{Order}
 use Rattle.log_model.specs.declared.made.Made.{Made}

@@ -1,44 +1,27 @@
 -- The event in which the document makes something of its first poke.
-use Rattle.std.proofs.Common.{◌≡◌, ◌≢◌, ℕ, ◌+◌, ◌-◌, ◌<◌, ◌≤◌, Bool, true, false, not, ◌&&◌, ◌||◌, ◌==◌, List, [], ◌∷◌, ◌++◌, drop, length, map, Option, Some, None, refl, sym, ap, ◌∙◌, subst, arith, length-append}
-use Rattle.std.specs.Prelude.{count_by, fold, slice_get, slice_set, option_map, is_none}
+use Rattle.std.proofs.Common.{◌≡◌, ℕ, ◌+◌, ◌≤◌, Bool, true, false, not, ◌&&◌, ◌||◌, ◌==◌, List, [], ◌∷◌, ◌++◌, drop, Option, Some, None, refl, sym, ap, ◌∙◌, subst, arith}
+use Rattle.std.specs.Prelude.{count_by, fold, slice_get, option_map}
 use Rattle.std.specs.List.{list_any}
-use Rattle.std.proofs.lemmas.List.{map-append, length-map, map-set}
-use Rattle.std.proofs.lemmas.List.Folds.{list_any-append}
-use Rattle.std.proofs.lemmas.Option.{slice_get-map}
-use Rattle.std.proofs.lemmas.Bool.{eq-eqb}
-use Rattle.std.proofs.lemmas.Bool.Decides.{nat_tests}
 use Rattle.tab_ids.specs.declared.DocId.{DocId}
-use Rattle.tab_ids.specs.declared.EntryId.{EntryId}
 use Rattle.tab_ids.specs.declared.ReqId.{ReqId}
 use Rattle.log_model.specs.declared.action.Action.{Action}
 use Rattle.log_model.specs.declared.action.Action.TheVariants as actions
-use Rattle.log_model.specs.declared.job.Job.{Job}
-use Rattle.log_model.specs.declared.job.Order.{Order}
-use Rattle.log_model.specs.declared.job.Task.{Task}
-use Rattle.log_model.specs.declared.job.Task.TheVariants as tasks
-use Rattle.log_model.specs.declared.made.Made.{Made}
 use Rattle.log_model.specs.declared.made.What.{What}
 use Rattle.log_model.specs.declared.made.What.TheVariants as whats
 use Rattle.log_model.specs.declared.made.Report.{Report}
 use Rattle.log_model.specs.declared.made.Report.TheVariants as reports
-use Rattle.log_model.specs.declared.outcome.Denial.TheVariants as denials
-use Rattle.log_model.specs.declared.outcome.Ending.{Ending}
-use Rattle.log_model.specs.declared.outcome.Ending.TheVariants as endings
-use Rattle.log_model.specs.declared.outcome.Outcome.TheVariants as outcomes
 use Rattle.log_model.specs.declared.request.Poke.{Poke}
-use Rattle.log_model.specs.declared.row.Row.{Row}
 use Rattle.log_model.specs.declared.row_kind.LogRow.{LogRow}
-use Rattle.log_model.specs.History.{History}
-use Rattle.log_model.specs.Views.{View, made_by, made_for, new_entry, new_address, after_made, after_task}
-use Rattle.log_model.specs.Seen.{Seen, Asked, Document, document_of}
+use Rattle.log_model.specs.Views.{View, made_by, made_for, new_entry, new_address, after_made}
+use Rattle.log_model.specs.Seen.{Seen, Document, document_of}
 use Rattle.log_model.specs.After.{after}
 use Rattle.log_model.specs.Equal.{same_new_entry}
-use Rattle.log_model.specs.Lawful.{top, first_document, holds, is_open, is_settled_if_quiet, IsLawfulEvent}
+use Rattle.log_model.specs.Lawful.{first_document, holds, is_settled_if_quiet, IsLawfulEvent}
 use Rattle.log_model.proofs.Refl.{nat_eq_refl, bytes_eq_refl, same_memo_refl, same_entry_refl}
 use Rattle.world_laws.specs.Single as single
 use Rattle.world_laws.specs.Single.{Single, asked_with, seen_with, first_process}
-use Rattle.world_laws.specs.Keeps.{IsPlain, EndsWith, Face, face_of_row, face_of_view, face_after_what, face_after, MayMake, MayReport, Leads, is_push, is_made_push, orders_of, pair_after, pair_after_task, due, IsUpdate, AreUpdates, is_poke_of, is_report_of, IsPush, ArePushes, places, open_from, tally, Keeps, IsWorld}
-use Rattle.world_laws.proofs.Waits.{count_by_cons, count_by_push, tally_same, tally_other, open_from_append, open_from_ended, open_at}
+use Rattle.world_laws.specs.Keeps.{Face, face_of_row, face_of_view, face_after_what, face_after, MayMake, MayReport, Leads, is_made_push, orders_of, pair_after, due, is_poke_of, is_report_of, IsPush, ArePushes, open_from, tally, Keeps, IsWorld}
+use Rattle.world_laws.proofs.Waits.{count_by_cons, count_by_push}
 use Rattle.world_laws.proofs.SettledLaws.{settled_of_keeps, world_more, AreUpdates_more}
 
 -- what a document makes of a push: a push, or a replace of its own entry where it is initial

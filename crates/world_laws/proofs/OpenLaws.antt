@@ -1,12 +1,10 @@
 -- The world as a tab was opened.
-use Rattle.std.proofs.Common.{◌≡◌, ℕ, ◌+◌, Bool, true, false, List, [], ◌∷◌, length, Option, Some, None, refl, arith}
-use Rattle.std.specs.Prelude.{fold}
-use Rattle.log_model.specs.declared.row_kind.LogRow.{LogRow}
+use Rattle.std.proofs.Common.{ℕ, List, [], ◌∷◌, None, refl, arith}
 use Rattle.log_model.specs.Logs.{seen_of}
 use Rattle.log_model.specs.Events.{events_of, each_event, after_opening, AtEachEvent}
-use Rattle.log_model.specs.Lawful.{is_settled_if_quiet, opens, IsLawful}
-use Rattle.world_laws.specs.Single.{Single, seen_with, opened, opening_row, replaced_row_with}
-use Rattle.world_laws.specs.Keeps.{open_from, Keeps, IsWorld}
+use Rattle.log_model.specs.Lawful.{IsLawful}
+use Rattle.world_laws.specs.Single.{opened, opening_row, replaced_row_with}
+use Rattle.world_laws.specs.Keeps.{Keeps, IsWorld}
 use Rattle.world_laws.proofs.SettledLaws.{settled_of_keeps}
 
 opened_keeps : (address : List ℕ) → Keeps 1 (opened address)

@@ -1,11 +1,9 @@
 -- The history of one navigable at consecutive steps: its used steps, length, index and target, and what a push and a replace do to them.
-use Rattle.std.proofs.Common.{◌≡◌, ℕ, ◌+◌, ◌-◌, ◌<◌, ◌≤◌, zero, suc, Bool, true, false, not, cond, ◌&&◌, ◌==◌, List, [], ◌∷◌, ◌++◌, length, map, Option, Some, None, refl, sym, ap, ◌∙◌, arith, length-append, append_assoc, add-one}
-use Rattle.std.specs.Prelude.{fold, filter, find, max, nat_le, nat_lt, IfSome}
-use Rattle.std.proofs.lemmas.Bool.{and_left, and_right, cond-true, cond-false}
+use Rattle.std.proofs.Common.{◌≡◌, ℕ, ◌+◌, ◌<◌, ◌≤◌, zero, suc, true, false, ◌&&◌, List, [], ◌∷◌, ◌++◌, length, map, Option, Some, None, refl, sym, ap, ◌∙◌, arith, length-append}
+use Rattle.std.specs.Prelude.{fold, filter, max, nat_le, nat_lt, IfSome}
 use Rattle.std.proofs.lemmas.Bool.Decides.{nat_tests}
 use Rattle.log_model.specs.declared.row.Row.{Row}
-use Rattle.log_model.specs.declared.change.Change.TheVariants as changes
-use Rattle.log_model.specs.History.{History, is_of, has_row, owner_of, with_step, used_steps, used_step_at, history_length, history_index, later_row, target_entry, is_anchored, tidied_once, tidied_times, tidied, cleared, applied, pushed}
+use Rattle.log_model.specs.History.{History, is_of, owner_of, with_step, used_steps, used_step_at, history_length, history_index, later_row, target_entry, is_anchored, tidied_times, tidied, cleared}
 use Rattle.log_model.specs.Lawful.{top}
 use Rattle.world_laws.specs.Keeps.{IsPlain, EndsWith}
 

@@ -1,17 +1,16 @@
 -- The event in which a poke is accepted.
-use Rattle.std.proofs.Common.{◌≡◌, ℕ, ◌+◌, ◌-◌, ◌<◌, ◌≤◌, Bool, true, false, not, ◌&&◌, ◌==◌, List, [], ◌∷◌, ◌++◌, length, map, Option, Some, None, refl, sym, ap, ◌∙◌, arith, length-append}
+use Rattle.std.proofs.Common.{◌≡◌, ℕ, ◌+◌, ◌==◌, List, [], ◌∷◌, ◌++◌, length, None, refl, ap, ◌∙◌, arith, length-append}
 use Rattle.std.specs.Prelude.{count_by, fold}
 use Rattle.std.proofs.lemmas.List.{map-append, length-map}
 use Rattle.log_model.specs.declared.action.Action.{Action}
 use Rattle.log_model.specs.declared.request.Poke.{Poke}
-use Rattle.log_model.specs.declared.outcome.Ending.{Ending}
 use Rattle.log_model.specs.declared.row_kind.LogRow.{LogRow}
-use Rattle.log_model.specs.Seen.{Seen, Asked}
+use Rattle.log_model.specs.Seen.{Seen}
 use Rattle.log_model.specs.After.{after}
 use Rattle.log_model.specs.Lawful.{first_document, is_settled_if_quiet, IsLawfulEvent}
 use Rattle.log_model.proofs.Refl.{nat_eq_refl}
-use Rattle.world_laws.specs.Single.{Single, asked_with, seen_with, poke_rows, poked, next_request, first_process}
-use Rattle.world_laws.specs.Keeps.{IsPush, ArePushes, is_poke_of, is_report_of, places, open_from, tally, orders_of, Keeps, IsWorld}
+use Rattle.world_laws.specs.Single.{Single, asked_with, seen_with, poke_rows, poked, next_request}
+use Rattle.world_laws.specs.Keeps.{IsPush, ArePushes, is_poke_of, is_report_of, open_from, tally, orders_of, Keeps, IsWorld}
 use Rattle.world_laws.proofs.Waits.{count_by_push, open_from_append}
 use Rattle.world_laws.proofs.SettledLaws.{settled_of_keeps, world_more, AreUpdates_more}
 

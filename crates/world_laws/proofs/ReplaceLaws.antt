@@ -1,49 +1,31 @@
 -- The event in which the coordinator takes up a replace, which an initial document makes: its one entry gives way.
-use Rattle.std.proofs.Common.{◌≡◌, ◌≢◌, ℕ, ◌+◌, ◌-◌, ◌<◌, ◌≤◌, Bool, true, false, not, ◌&&◌, ◌||◌, ◌==◌, List, [], ◌∷◌, ◌++◌, drop, length, map, Option, Some, None, refl, sym, ap, ◌∙◌, subst, arith, length-append, length-set, append_assoc}
-use Rattle.std.specs.Prelude.{count_by, fold, slice_get, slice_set, option_map, is_none}
+use Rattle.std.proofs.Common.{◌≡◌, ℕ, ◌+◌, ◌-◌, ◌<◌, Bool, true, false, ◌&&◌, ◌||◌, ◌==◌, List, [], ◌∷◌, ◌++◌, drop, length, map, Option, Some, None, refl, sym, ap, ◌∙◌, subst, arith, length-set}
+use Rattle.std.specs.Prelude.{count_by, fold, slice_get}
 use Rattle.std.specs.List.{list_any}
-use Rattle.std.proofs.lemmas.List.{map-append, length-map, map-set}
-use Rattle.std.proofs.lemmas.List.Sums.{fold-append}
-use Rattle.std.proofs.lemmas.Option.{slice_get-map}
-use Rattle.std.proofs.lemmas.Bool.{eq-eqb}
-use Rattle.std.proofs.lemmas.Bool.Decides.{nat_tests}
-use Rattle.tab_ids.specs.declared.DocId.{DocId}
 use Rattle.tab_ids.specs.declared.EntryId.{EntryId}
 use Rattle.tab_ids.specs.declared.ReqId.{ReqId}
-use Rattle.log_model.specs.declared.action.Action.{Action}
-use Rattle.log_model.specs.declared.action.Action.TheVariants as actions
-use Rattle.log_model.specs.declared.job.Job.{Job}
-use Rattle.log_model.specs.declared.job.Order.{Order}
-use Rattle.log_model.specs.declared.job.Task.{Task}
-use Rattle.log_model.specs.declared.job.Task.TheVariants as tasks
 use Rattle.log_model.specs.declared.made.Made.{Made}
 use Rattle.log_model.specs.declared.made.What.{What}
 use Rattle.log_model.specs.declared.made.What.TheVariants as whats
 use Rattle.log_model.specs.declared.made.Report.{Report}
 use Rattle.log_model.specs.declared.made.Report.TheVariants as reports
-use Rattle.log_model.specs.declared.outcome.Denial.TheVariants as denials
-use Rattle.log_model.specs.declared.outcome.Ending.{Ending}
 use Rattle.log_model.specs.declared.outcome.Ending.TheVariants as endings
-use Rattle.log_model.specs.declared.outcome.Outcome.TheVariants as outcomes
-use Rattle.log_model.specs.declared.request.Poke.{Poke}
 use Rattle.tab_ids.specs.declared.Step.{Step}
 use Rattle.log_model.specs.declared.row.Row.{Row}
 use Rattle.log_model.specs.declared.row_kind.LogRow.{LogRow}
 use Rattle.log_model.specs.declared.change.Change.TheVariants as changes
-use Rattle.log_model.specs.History.{History, same_entry, is_of, replaced_row, tidied, applied}
-use Rattle.log_model.specs.Views.{View, made_by, made_for, new_entry, new_address, after_made, after_task}
-use Rattle.log_model.specs.Seen.{Seen, Asked, Document, document_of}
+use Rattle.log_model.specs.History.{same_entry, is_of, replaced_row, tidied, applied}
+use Rattle.log_model.specs.Seen.{Seen}
 use Rattle.log_model.specs.After.{after}
-use Rattle.log_model.specs.Equal.{same_new_entry}
-use Rattle.log_model.specs.Lawful.{top, first_document, holds, is_open, is_settled_if_quiet, IsLawfulEvent}
+use Rattle.log_model.specs.Lawful.{top, is_settled_if_quiet, IsLawfulEvent}
 use Rattle.log_model.proofs.Refl.{nat_eq_refl, bytes_eq_refl, same_memo_refl, same_entry_refl}
 use Rattle.world_laws.specs.Single as single
 use Rattle.world_laws.specs.Single.{Single, asked_with, seen_with, first_process}
-use Rattle.world_laws.specs.Keeps.{IsPlain, EndsWith, Face, face_of_row, face_of_view, face_after_what, face_after, MayMake, MayReport, Leads, is_push, is_made_push, orders_of, pair_after, pair_after_task, due, IsUpdate, AreUpdates, is_poke_of, is_report_of, IsPush, ArePushes, places, open_from, tally, Keeps, IsWorld}
+use Rattle.world_laws.specs.Keeps.{IsPlain, face_of_row, face_of_view, face_after_what, MayMake, Leads, is_push, is_made_push, orders_of, due, is_poke_of, is_report_of, places, open_from, tally, Keeps, IsWorld}
 use Rattle.world_laws.proofs.Plain.{tidied-plain, length_of_ending}
 use Rattle.world_laws.proofs.RefuseLaws.{open_request, ended_comes, placed_ended}
-use Rattle.world_laws.proofs.Waits.{count_by_cons, count_by_push, tally_same, tally_other, open_from_append, open_from_ended, open_at}
-use Rattle.world_laws.proofs.SettledLaws.{due_pair_of, settled_of_keeps, world_more, AreUpdates_more}
+use Rattle.world_laws.proofs.Waits.{count_by_cons, tally_same}
+use Rattle.world_laws.proofs.SettledLaws.{settled_of_keeps, world_more, AreUpdates_more}
 
 -- the only row of an initial document's history
 one_row : (n : ℕ) (t : Single) → t.view.initial ≡ true → (keeps : Keeps n t) → IsPlain 0 (keeps.target ∷ [])

@@ -1,8 +1,6 @@
 -- What the state keeps makes a quiet log settled.
-use Rattle.std.proofs.Common.{◌≡◌, ℕ, ◌+◌, ◌-◌, ◌<◌, ◌≤◌, Bool, true, false, not, ◌&&◌, ◌==◌, List, [], ◌∷◌, ◌++◌, length, map, Option, Some, None, refl, sym, ap, ◌∙◌, arith, zero, suc, length-append}
-use Rattle.std.specs.Prelude.{is_none, is_some, count_by, fold, option_map, option_to_list, bytes_eq}
-use Rattle.std.specs.List.{list_all, list_any}
-use Rattle.std.proofs.lemmas.Bool.{eq-eqb}
+use Rattle.std.proofs.Common.{◌≡◌, ℕ, ◌+◌, ◌≤◌, Bool, true, false, ◌==◌, List, [], ◌∷◌, ◌++◌, length, Option, Some, None, refl, sym, ap, ◌∙◌, arith, length-append}
+use Rattle.std.specs.Prelude.{fold}
 use Rattle.std.proofs.lemmas.Bool.Decides.{nat_tests}
 use Rattle.log_model.specs.declared.job.Job.{Job}
 use Rattle.log_model.specs.declared.job.Order.{Order}
@@ -12,18 +10,15 @@ use Rattle.log_model.specs.declared.made.Report.{Report}
 use Rattle.log_model.specs.declared.request.Poke.{Poke}
 use Rattle.log_model.specs.declared.row.Row.{Row}
 use Rattle.log_model.specs.declared.row_kind.LogRow.{LogRow}
-use Rattle.log_model.specs.History.{History, same_entry, target_entry, history_length, history_index}
-use Rattle.log_model.specs.Views.{View}
-use Rattle.log_model.specs.Seen.{Seen, Asked}
+use Rattle.log_model.specs.Seen.{Seen}
 use Rattle.log_model.specs.After.{after}
-use Rattle.log_model.specs.Logs.{seen_of, is_idle, is_still, is_quiet}
-use Rattle.log_model.specs.Equal.{same_memo}
-use Rattle.log_model.specs.Lawful.{top, holds, implies, shows, due_pair, is_settled, is_settled_if_quiet, IsLawful, IsLawfulEvent}
+use Rattle.log_model.specs.Logs.{is_quiet}
+use Rattle.log_model.specs.Lawful.{implies, shows, due_pair, is_settled, is_settled_if_quiet, IsLawfulEvent}
 use Rattle.log_model.proofs.Refl.{nat_eq_refl, bytes_eq_refl, same_memo_refl, same_entry_refl}
 use Rattle.log_model.proofs.Laws.{seen_of_append}
 use Rattle.log_model.proofs.LawfulLaws.{lawful_more}
-use Rattle.world_laws.specs.Single.{Single, asked_with, seen_with}
-use Rattle.world_laws.specs.Keeps.{IsPlain, EndsWith, Face, face_of_row, face_of_view, Leads, orders_of, pair_after, due, places, open_from, AreUpdates, IsUpdate, Keeps, IsWorld}
+use Rattle.world_laws.specs.Single.{Single, seen_with}
+use Rattle.world_laws.specs.Keeps.{EndsWith, Face, face_of_row, face_of_view, due, open_from, AreUpdates, IsUpdate, Keeps, IsWorld}
 use Rattle.world_laws.proofs.Plain.{length_due, index_due, target_of_ending}
 use Rattle.world_laws.proofs.Waits.{all_ended}
 

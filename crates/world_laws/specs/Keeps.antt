@@ -1,16 +1,14 @@
 -- What a world of one document keeps from event to event.
 -- This project's own.
-use Rattle.std.specs.Prelude.{◌≡◌, ℕ, ◌+◌, ◌≤◌, ◌<◌, Bool, true, false, not, ◌&&◌, ◌==◌, List, [], ◌∷◌, ◌++◌, length, fold, count_by, map, slice_get, option_to_list, option_map, Option, Some, None, is_none}
+use Rattle.std.specs.Prelude.{◌≡◌, ℕ, ◌+◌, ◌≤◌, ◌<◌, Bool, true, false, ◌&&◌, ◌==◌, List, [], ◌∷◌, ◌++◌, length, fold, count_by, option_to_list, option_map, Option, Some, None, is_none}
 use Rattle.std.specs.List.{list_any}
 use Rattle.tab_ids.specs.declared.EntryId.{EntryId}
-use Rattle.tab_ids.specs.declared.ReqId.{ReqId}
 use Rattle.log_model.specs.declared.action.Action.{Action}
 use Rattle.log_model.specs.declared.action.Action.TheVariants as actions
 use Rattle.log_model.specs.declared.job.Job.{Job}
 use Rattle.log_model.specs.declared.job.Order.{Order}
 use Rattle.log_model.specs.declared.job.Task.{Task}
 use Rattle.log_model.specs.declared.job.Task.TheVariants as tasks
-use Rattle.log_model.specs.declared.made.Made.{Made}
 use Rattle.log_model.specs.declared.made.What.{What}
 use Rattle.log_model.specs.declared.made.What.TheVariants as whats
 use Rattle.log_model.specs.declared.made.Report.{Report}
@@ -22,7 +20,7 @@ use Rattle.log_model.specs.declared.row_kind.LogRow.{LogRow}
 use Rattle.log_model.specs.History.{History}
 use Rattle.log_model.specs.Views.{View}
 use Rattle.log_model.specs.Logs.{seen_of}
-use Rattle.log_model.specs.Lawful.{IsLawful, holds, first_document}
+use Rattle.log_model.specs.Lawful.{IsLawful, first_document}
 use Rattle.world_laws.specs.Single.{Single, seen_with, first_process}
 
 -- ---- the history: the top's entries alone, at the steps 0, 1, 2 and so on

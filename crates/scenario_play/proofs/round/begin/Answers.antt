@@ -1,4 +1,3 @@
-use Rattle.std.proofs.Common.{◌≡◌}
 use Rattle.scenario_play.specs.Moves.{MovesOn, MovesIf, has_mail}
 use Rattle.scenario_play.proofs.StepMoves.{begin_moves, begun_moves, on_ok}
 use Rattle.scenario_play.proofs.round.begin.Goals as goal

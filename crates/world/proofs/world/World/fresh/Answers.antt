@@ -1,4 +1,3 @@
-use Rattle.std.proofs.Common.{◌≡◌, false}
 use Rattle.world.proofs.Opens.{opened_kept}
 use Rattle.world.proofs.world.World.fresh.Goals as goal
 

@@ -1,8 +1,6 @@
 -- The world's invariant holds of what a step leaves: what an event comes to keeps the world, and an error cuts its rows off.
-use Rattle.std.proofs.Common.{◌≡◌, ◌∙◌, true, false, refl, ap, length, take}
-use Rattle.std.specs.Prelude.{List, ℕ}
-use Rattle.log_model.specs.Lawful.{IsLawful}
-use Rattle.log_model.specs.declared.row_kind.LogRow.{LogRow}
+use Rattle.std.proofs.Common.{◌≡◌, ◌∙◌, false, refl, ap, length, take}
+use Rattle.std.specs.Prelude.{ℕ}
 use Rattle.world.specs.Kept.{IsKept}
 use Rattle.world.proofs.StepLaws.{step_stays, answered_kept, full_kept, closed_kept, overflow_front, memory_front}
 use Rattle.world.proofs.world.World.step.Goals as goal
