@@ -1,5 +1,5 @@
 //! `HandlerTable`, which a contract sees as the list of its handlers' kinds, by slot.
-ghost use Rattle.std.specs.Prelude.{◌≡◌, ◌≤◌, ◌↔◌, [], ◌∷◌, ◌++◌, length, map, slice_get, option_map, Err, IfOk, OnOk, OnErr, IsErrOf};
+ghost use Rattle.std.specs.Prelude.{◌≡◌, ◌≤◌, ◌↔◌, [], ◌∷◌, ◌++◌, length, map, slice_get, option_map, Err, IfOk, IfSome, OnOk, OnErr, IsErrOf};
 ghost use Rattle.std.specs.Option.{option_copied};
 ghost use Rattle.handler_table.specs.Answers.{AnswersBy, answer_at};
 
@@ -96,3 +96,14 @@ fn crosses_threads(table: &HandlerTable) {
 
 /// Takes what may be sent and shared.
 fn needs_send_and_sync<T: Send + Sync>(_value: &T) {}
+
+/// A caller: a handler that always prompts is kept, and prompts. The check refuses a closure of another kind here.
+#[allow(dead_code)]
+fn asks_a_prompting_handler(alloc: Global, leaving: Leaving) -> Option<Verdict>
+    ensures { IfSome result (λ verdict. verdict ≡ Verdict.Prompt) }
+{
+    let mut table = HandlerTable::new(alloc);
+    let ask: Ask = Box::new(alloc, |_: Leaving| Verdict::Prompt).ok()?;
+    table.add(HandlerKind::Always, ask).ok()?;
+    Some(table.ask(0, leaving))
+}
