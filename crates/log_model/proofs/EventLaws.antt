@@ -1,8 +1,6 @@
 -- A rule that holds of a log and of one more event holds of the longer log.
-use Rattle.std.proofs.Common.{◌≡◌, ◌≢◌, ℕ, ◌+◌, Bool, true, false, cond, ◌&&◌, ◌==◌, List, [], ◌∷◌, ◌++◌, refl, sym, ap, ◌∙◌, subst, arith, append_assoc, append-nil, ◌<◌}
-use Rattle.std.specs.Prelude.{fold, IsTrue}
-use Rattle.std.specs.List.{list_all}
-use Rattle.std.proofs.lemmas.Bool.{and_left, and_right, and_parts, cond-true, cond-false}
+use Rattle.std.proofs.Common.{◌≡◌, ◌≢◌, ℕ, ◌+◌, Bool, true, false, cond, ◌&&◌, ◌==◌, List, [], ◌∷◌, ◌++◌, refl, sym, ap, ◌∙◌, arith, ◌<◌}
+use Rattle.std.specs.Prelude.{fold}
 use Rattle.std.proofs.lemmas.Bool.Decides.{nat_tests}
 use Rattle.std.proofs.lemmas.List.Sums.{fold-append}
 use Rattle.log_model.specs.declared.row_kind.LogRow.{LogRow}
@@ -10,7 +8,7 @@ use Rattle.log_model.specs.Seen.{Seen, nothing}
 use Rattle.log_model.specs.After.{after}
 use Rattle.log_model.specs.Logs.{seen_of}
 use Rattle.log_model.specs.Events.{with_row, events_of, each_event, after_opening, AtEachEvent, have_number}
-use Rattle.log_model.proofs.Laws.{seen_of_append, next_event, events_fold}
+use Rattle.log_model.proofs.Laws.{next_event, events_fold}
 
 -- the rows of a list of events
 abbrev pub flat : List (List LogRow) → List LogRow

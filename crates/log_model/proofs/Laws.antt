@@ -1,9 +1,9 @@
 -- What a row more, or several, do to what a log has come to.
-use Rattle.std.proofs.Common.{◌≡◌, ℕ, ◌+◌, List, [], ◌∷◌, ◌++◌, refl, sym, ap, ◌∙◌}
+use Rattle.std.proofs.Common.{◌≡◌, ℕ, ◌+◌, List, [], ◌∷◌, ◌++◌, refl}
 use Rattle.std.specs.Prelude.{fold}
 use Rattle.std.proofs.lemmas.List.Sums.{fold-append}
 use Rattle.log_model.specs.declared.row_kind.LogRow.{LogRow}
-use Rattle.log_model.specs.Seen.{Seen, nothing}
+use Rattle.log_model.specs.Seen.{Seen}
 use Rattle.log_model.specs.After.{after}
 use Rattle.log_model.specs.Logs.{seen_of}
 

@@ -1,4 +1,5 @@
 pub mod Laws
 pub mod EventLaws
 pub mod Refl
-pub mod LawfulLaws
+pub mod LegalLaws
+pub mod ShownLaws

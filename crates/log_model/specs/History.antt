@@ -1,12 +1,11 @@
 -- The session history of a traversable and its child navigables, and how a change changes it.
 -- HTML Standard, "Session history entries", "Nested histories", "Updating the traversable" and "Low-level operations on session history".
-use Rattle.std.specs.Prelude.{ℕ, zero, suc, ◌+◌, min, max, Bool, true, false, not, ◌&&◌, ◌==◌, IsTrue, nat_lt, nat_le, List, [], ◌∷◌, ◌++◌, length, map, filter, fold, find, Option, Some, None, option_and_then, if◌then◌else◌}
+use Rattle.std.specs.Prelude.{ℕ, zero, suc, ◌+◌, min, max, Bool, true, not, ◌&&◌, ◌==◌, IsTrue, nat_lt, nat_le, List, [], ◌∷◌, ◌++◌, length, map, filter, fold, find, Option, Some, None, option_and_then, if◌then◌else◌}
 use Rattle.std.specs.List.{list_any}
 use Rattle.std.specs.Option.{option_map_or}
 use Rattle.tab_ids.specs.declared.NavId.{NavId}
 use Rattle.tab_ids.specs.declared.StateId.{StateId}
 use Rattle.tab_ids.specs.declared.EntryId.{EntryId}
-use Rattle.tab_ids.specs.declared.Step.{Step}
 use Rattle.address.specs.Addresses.{blank_text}
 use Rattle.log_model.specs.declared.row.Row.{Row}
 use Rattle.log_model.specs.declared.change.Change.{Change}

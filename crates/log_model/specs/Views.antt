@@ -1,7 +1,7 @@
 -- What a document shows of itself, what it makes of an action, and what an order does to it.
 -- HTML Standard, "The History interface" ("shared history push/replace state steps", "URL and history update steps"), "Navigating to a fragment", "Updating the document".
 -- This project's own: the guess of length and index on a push, and that a push in an initial about:blank document is a replace.
-use Rattle.std.specs.Prelude.{ℕ, ◌+◌, Bool, true, false, not, ◌&&◌, ◌||◌, List, bytes_eq, Option, Some, None, option_map, option_and_then, Result, Ok, Err, if◌then◌else◌}
+use Rattle.std.specs.Prelude.{ℕ, ◌+◌, Bool, true, false, not, ◌&&◌, ◌||◌, List, bytes_eq, Option, Some, None, option_map, option_and_then, if◌then◌else◌}
 use Rattle.std.specs.Result.{result_ok}
 use Rattle.tab_ids.specs.declared.DocId.{DocId}
 use Rattle.tab_ids.specs.declared.EntryId.{EntryId}
