@@ -2,9 +2,9 @@
 -- This project's own.
 use Rattle.std.specs.Prelude.{ℕ, ◌+◌, List, [], ◌∷◌, ◌++◌, length, flat_map, slice_get, Option, if◌then◌else◌}
 use Rattle.log_model.specs.declared.outcome.Ending.{Ending}
-use Rattle.log_model.specs.Logs.{is_quiet}
-use Rattle.log_model.specs.Lawful.{holds}
-use Rattle.world_laws.specs.Single.{Single, seen_with}
+use Rattle.log_model.specs.Logs.{is_idle}
+use Rattle.log_model.specs.Equal.{holds}
+use Rattle.world_laws.specs.Single.{Single, desk_with}
 use Rattle.report_text.specs.Reports.{quiet_line, step_line, entry_line, runs_line, moves_line, request_line, is_at}
 
 -- the requests, numbered from here on
@@ -21,7 +21,7 @@ plain_top t =
 
 abbrev pub plain_report : Single → List ℕ
 plain_report t =
-    quiet_line (is_quiet (seen_with t))
+    quiet_line (is_idle (desk_with t))
     ++ step_line t.history.current (length t.history.rows) t.history.current
     ++ flat_map entry_line t.history.rows
     ++ plain_top t

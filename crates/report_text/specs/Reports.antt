@@ -14,7 +14,9 @@ use Rattle.log_model.specs.History.{same_entry, history_length, history_index, t
 use Rattle.log_model.specs.Views.{View}
 use Rattle.log_model.specs.Seen.{Seen, Document, Asked}
 use Rattle.log_model.specs.Logs.{seen_of, is_quiet}
-use Rattle.log_model.specs.Lawful.{top, holds, runs}
+use Rattle.log_model.specs.Equal.{holds}
+use Rattle.log_model.specs.Places.{top}
+use Rattle.log_model.specs.Formed.{running_documents}
 
 -- ---- words
 
@@ -112,7 +114,7 @@ abbrev pub top_line : Seen → Row → List ℕ
 top_line s target =
     let long = history_length s.history.rows in
     let at = history_index s.history.rows s.history.current in
-    if one_is_at target long at (filter (λ d. d.nav.0 == 0 && runs d) s.documents)
+    if one_is_at target long at (running_documents s top)
     then runs_line 0 target.step.0 long at else moves_line 0 target.step.0
 
 -- the requests, numbered from here on

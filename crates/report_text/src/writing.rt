@@ -1,7 +1,7 @@
 //! `report`, the report of a world's log.
 ghost use Rattle.std.specs.Prelude.{◌≡◌, ◌++◌, false, IfOk, IfSome, OnOk, flat_map, length, slice_get};
 ghost use Rattle.std.specs.Option.{option_copied};
-ghost use Rattle.log_model.specs.Lawful.{holds};
+ghost use Rattle.log_model.specs.Equal.{holds};
 ghost use Rattle.report_text.specs.Reports as spec;
 ghost use Rattle.report_text.specs.Plain.{ending_lines, plain_top, plain_report};
 

@@ -6,4 +6,4 @@ use Rattle.world.specs.Kept.{IsKept}
 
 pub opened_kept : (address : List ℕ) → IsKept (opening_row address ∷ []) (opened address) false
 opened_kept address =
-    record { lawful = (opened_world address).lawful; short = omega arith; stands = λ open_. opened_world address }
+    record { legal = (opened_world address).legal; short = omega arith; stands = λ open_. opened_world address }

@@ -16,7 +16,7 @@ use Rattle.world_laws.specs.Single.{Single}
 use Rattle.world_laws.specs.Keeps.{face_of_row, face_of_view, MayMake, Leads, orders_of, IsUpdate, AreUpdates, is_poke_of, is_report_of, places, open_from, tally, Keeps, IsWorld}
 use Rattle.std.specs.Prelude.{IsSomeAnd}
 use Rattle.std.proofs.lemmas.Option.{slice_get_within}
-use Rattle.world_laws.proofs.RefuseLaws.{number_of_open}
+use Rattle.world_laws.proofs.Kept.{number_of_open}
 use Rattle.world_laws.proofs.Plain.{length_of_ending}
 use Rattle.world.specs.Kept.{IsRoomy}
 use Rattle.std.specs.Prelude.{take, Err}
@@ -83,7 +83,7 @@ is_report log t world some = by_reports t.reports refl some
 
     by_reports : (waiting : List Report) → t.reports ≡ waiting → 0 < length waiting → IsSomeAnd (slice_get waiting 0) (MayTake t)
     by_reports [] e some = absurd (omega arith)
-    by_reports (reports.Made made ∷ rest) e some = by_what made rest made.what e (leads_from (reports.Made made ∷ rest) e).0.1
+    by_reports (reports.Made made ∷ rest) e some = by_what made rest made.what e (leads_from (reports.Made made ∷ rest) e).0.2
     by_reports (reports.Done job outcome made ∷ rest) e some = tt
     by_reports (reports.Died death ∷ rest) e some = absurd (leads_from (reports.Died death ∷ rest) e).0
 

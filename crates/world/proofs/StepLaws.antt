@@ -88,7 +88,7 @@ pub answered_kept : (log new : List LogRow) (t next : Single) (stepped : Stepped
 answered_kept log new t next (idle reply) answer kept stays takes = rw (takes.1, takes.2) kept
 answered_kept log new t next (logs reply rows after) answer kept stays takes =
     rw (takes.2, takes.3) (record {
-      lawful = stays.0.lawful;
+      legal = stays.0.legal;
       short = omega (arith, length-append log rows, takes.0, stays.1);
       stands = λ open_. stays.0;
     })
@@ -100,7 +100,7 @@ full_kept log new t next (logs reply rows after) kept takes = rw (takes.1, takes
 
 -- a world that is closed keeps its log
 pub closed_kept : (log : List LogRow) (t next : Single) → IsKept log t false → IsKept log next true
-closed_kept log t next kept = record { lawful = kept.lawful; short = kept.short; stands = λ open_. cc }
+closed_kept log t next kept = record { legal = kept.legal; short = kept.short; stands = λ open_. cc }
 
 -- after an error that closes the world the rows before the event still stand in front
 pub overflow_front : (log new : List LogRow) (t next : Single) (stepped : Stepped) (overflowed : Overflowed) → Takes log t stepped (Err (errors.UrlOverflow overflowed)) new next → take (length log) new ≡ log

@@ -1,8 +1,8 @@
--- What a world keeps: its log is lawful, and while it isn't closed, its state is what the log has come to.
+-- What a world keeps: its log is legal, and while it isn't closed, its state is what the log has come to.
 -- This project's own.
 use Rattle.std.specs.Prelude.{◌≡◌, ℕ, ◌<◌, ◌≤◌, Bool, false, List, length}
 use Rattle.log_model.specs.declared.row_kind.LogRow.{LogRow}
-use Rattle.log_model.specs.Lawful.{IsLawful}
+use Rattle.log_model.specs.Legal.{IsLegal}
 use Rattle.world_laws.specs.Single.{Single}
 use Rattle.world_laws.specs.Keeps.{IsWorld}
 
@@ -18,7 +18,7 @@ row_limit = 1000000
 
 -- what holds of every world
 pub record IsKept (log : List LogRow) (single : Single) (closed : Bool) : Type 0 where
-  pub lawful : IsLawful log
+  pub legal : IsLegal log
   -- the longest event logs three rows
   pub short : length log ≤ 1000002
   pub stands : closed ≡ false → IsWorld log single

@@ -7,7 +7,7 @@ ghost use Rattle.world.specs.Kept.{IsRoomy};
 ghost use Rattle.world.specs.Steps.{Delivers, TakesOff, MayTake, MayTakeWhat};
 ghost use Rattle.log_model.specs.declared.job.Task.TheVariants as tasks;
 ghost use Rattle.log_model.specs.declared.job.Why.TheVariants as whys;
-ghost use Rattle.log_model.specs.Lawful.{first_document};
+ghost use Rattle.world_laws.specs.Single.{first_document};
 
 use crate::state::State;
 use address::{Address, OutOfMemory, Text};

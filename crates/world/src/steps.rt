@@ -2,7 +2,7 @@
 ghost use Rattle.std.specs.Prelude.{◌≡◌, ◌≤◌, ◌==◌, length, slice_get};
 ghost use Rattle.world_laws.specs.Keeps.{IsWorld, IsPush};
 ghost use Rattle.world.specs.declared.event.Event.TheVariants as events;
-ghost use Rattle.log_model.specs.Lawful.{holds};
+ghost use Rattle.log_model.specs.Equal.{holds};
 ghost use Rattle.world.specs.Steps.{Takes, step_of, act_of, begin_of, finish_of, deliver_of};
 
 use crate::acting::act;

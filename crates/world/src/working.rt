@@ -2,7 +2,7 @@
 ghost use Rattle.std.specs.Prelude.{◌≡◌, ◌<◌, ◌+◌, ◌++◌, ◌∷◌, [], OnOk, OnErr, IfOk, take, length, true, None, Some, slice_get, IsSomeAnd};
 ghost use Rattle.world_laws.specs.Keeps.{IsUpdate};
 ghost use Rattle.world_laws.specs.Single.{begin_rows, begun, finish_rows, finished};
-ghost use Rattle.log_model.specs.Lawful.{first_document};
+ghost use Rattle.world_laws.specs.Single.{first_document};
 ghost use Rattle.world.specs.Kept.{IsRoomy};
 
 use crate::state::State;

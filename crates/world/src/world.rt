@@ -1,9 +1,9 @@
 //! `World`, one tab: a contract sees its log, what the log has come to, and whether it is closed.
 ghost use Rattle.std.specs.Prelude.{◌≡◌, ◌↔◌, ◌+◌, ◌<◌, ◌≤◌, ◌==◌, if◌then◌else◌, true, false, Ok, None, Some, IfOk, IfSome, OnErr, IsErrOf, length, [], ◌∷◌};
 ghost use Rattle.std.specs.Option.{option_copied};
-ghost use Rattle.log_model.specs.Lawful.{IsLawful};
-ghost use Rattle.log_model.specs.Logs.{seen_of, is_still, is_quiet};
-ghost use Rattle.world_laws.specs.Single.{opened, opening_row, seen_with};
+ghost use Rattle.log_model.specs.Legal.{IsLegal};
+ghost use Rattle.log_model.specs.Logs.{seen_of, is_still, is_quiet, is_idle};
+ghost use Rattle.world_laws.specs.Single.{opened, opening_row, desk_with};
 ghost use Rattle.world.specs.Kept.{row_limit};
 ghost use Rattle.world.specs.Steps.{waiting_of};
 ghost use Rattle.world_laws.specs.Keeps.{IsWorld};
@@ -78,7 +78,7 @@ impl World {
         ensures shut { self.old.closed ≡ true → self.new ≡ self.old }
         ensures steps { self.old.closed ≡ false → Steps self.old (step_of self.old.single event) result self.new }
         ensures full { IsErrOf result StepError.LogFull → row_limit ≤ length self.new.log }
-        ensures lawful { IsLawful self.new.log }
+        ensures legal { IsLegal self.new.log }
     {
         if self.closed {
             return Err(StepError::Closed);
@@ -104,7 +104,7 @@ impl World {
     /// The log: what happened, in order.
     pub fn log(&self) -> &Log
         ensures log { result.now ≡ self.now.log }
-        ensures lawful { IsLawful self.now.log }
+        ensures legal { IsLegal self.now.log }
         ensures stands { self.now.closed ≡ false → IsWorld self.now.log self.now.single }
     {
         let _open = &self.closed;
@@ -114,7 +114,7 @@ impl World {
     /// The log, once nothing more is to happen.
     pub fn into_log(self) -> Log
         ensures log { result ≡ self.log }
-        ensures lawful { IsLawful self.log }
+        ensures legal { IsLegal self.log }
     {
         let World {
             log,
@@ -166,8 +166,10 @@ impl World {
     }
 
     /// Whether nothing is in transit.
+    #[tactic(auto, using(world_laws::proofs::SettledLaws::still_is))]
     pub fn is_still(&self) -> bool
-        ensures value { result ≡ is_still (seen_with self.now.single) }
+        ensures still { self.now.closed ≡ false → result ≡ is_still (seen_of self.now.log) }
+        ensures value { result ≡ is_idle (desk_with self.now.single) }
         ensures short { length self.now.log ≤ 1000002 }
     {
         self.state.input.is_empty()
@@ -177,9 +179,12 @@ impl World {
     }
 
     /// Whether nothing is in transit and no prompt is up.
+    #[tactic(auto, using(world_laws::proofs::SettledLaws::quiet_is))]
     pub fn is_quiet(&self) -> bool
-        ensures { result ≡ is_quiet (seen_with self.now.single) }
+        ensures quiet { self.now.closed ≡ false → result ≡ is_quiet (seen_of self.now.log) }
+        ensures value { result ≡ is_idle (desk_with self.now.single) }
     {
+        let _open = &self.closed;
         self.is_still()
     }
 

@@ -2,23 +2,27 @@
 use Rattle.std.proofs.Common.{◌≡◌, ℕ, ◌+◌, List, ◌∷◌, ◌++◌, Some, None, refl, sym, ap, ◌∙◌, subst, arith}
 use Rattle.std.specs.Prelude.{fold, slice_get}
 use Rattle.log_model.specs.declared.job.Job.{Job}
+use Rattle.log_model.specs.declared.row.Row.{Row}
 use Rattle.log_model.specs.declared.row_kind.LogRow.{LogRow}
 use Rattle.log_model.specs.Seen.{Seen}
 use Rattle.log_model.specs.After.{after}
-use Rattle.log_model.specs.Lawful.{is_settled_if_quiet, IsLawfulEvent}
+use Rattle.log_model.specs.Formed.{is_numbered}
+use Rattle.log_model.specs.Settled.{is_settled_if_quiet}
+use Rattle.log_model.specs.Legal.{is_formed, is_once, is_caused, is_queued, is_ordered, is_checked, ends_settled, IsLegalEvent}
 use Rattle.log_model.proofs.Refl.{nat_eq_refl, same_bool_refl}
 use Rattle.world_laws.specs.Single as single
-use Rattle.world_laws.specs.Single.{Single, asked_with, seen_with, first_process}
-use Rattle.world_laws.specs.Keeps.{orders_of, pair_after, AreUpdates, Keeps, IsWorld}
+use Rattle.world_laws.specs.Single.{Single, Past, seen_with}
+use Rattle.world_laws.specs.Keeps.{orders_of, pair_after, AreUpdates, Keeps, KeepsPast, IsWorld}
+use Rattle.world_laws.proofs.AfterLaws.{after_taken}
 use Rattle.world_laws.proofs.SettledLaws.{settled_of_keeps, world_more, AreUpdates_more}
 
 -- what is taken up stays among the orders to be finished
 orders_begun : (t : Single) (job : Job) (rest : List Job) → t.mail ≡ job ∷ rest → t.in_hand ≡ None → orders_of (single.begun t job) ≡ orders_of t
 orders_begun t job rest mail hand = rw (mail, hand) refl
 
-begin_comes : (t : Single) (job : Job) (rest : List Job) → t.mail ≡ job ∷ rest → fold after (seen_with t) (single.begin_rows t job) ≡ seen_with (single.begun t job)
-begin_comes t job rest mail =
-    let first : slice_get t.mail 0 ≡ Some job = ap (λ (l : List Job). slice_get l 0) mail in rw first refl
+-- the first order of the mail
+first_order : (t : Single) (job : Job) (rest : List Job) → t.mail ≡ job ∷ rest → slice_get t.mail 0 ≡ Some job
+first_order t job rest mail = ap (λ (l : List Job). slice_get l 0) mail
 
 begin_keeps : (n : ℕ) (t : Single) (job : Job) (rest : List Job) → t.mail ≡ job ∷ rest → t.in_hand ≡ None → Keeps n t → Keeps (n + 1) (single.begun t job)
 begin_keeps n t job rest mail hand keeps =
@@ -44,22 +48,37 @@ begin_keeps n t job rest mail hand keeps =
       index = omega (arith, keeps.index);
     }
 
-begin_lawful : (n : ℕ) (t : Single) (job : Job) (rest : List Job) → t.mail ≡ job ∷ rest → t.in_hand ≡ None → Keeps n t → IsLawfulEvent (seen_with t) (single.begin_rows t job)
-begin_lawful n t job rest mail hand keeps =
+begin_kept : (p : Past) (t : Single) (job : Job) (target : Row) → KeepsPast p t target → KeepsPast (single.past_quiet p) (single.begun t job) target
+begin_kept p t job target kept =
+    record {
+      plain = kept.plain;
+      endings = kept.endings;
+      pokes = kept.pokes;
+      reports = kept.reports;
+      given = kept.given;
+      numbered = kept.numbered;
+      epoch = kept.epoch;
+      state = kept.state;
+    }
+
+begin_legal : (n : ℕ) (p : Past) (t : Single) (job : Job) (rest : List Job) → t.mail ≡ job ∷ rest → t.in_hand ≡ None → (keeps : Keeps n t) → KeepsPast p t keeps.target → IsLegalEvent (seen_with p t) (single.begin_rows t job)
+unfolding is_numbered is_formed is_once is_caused is_queued is_ordered is_checked ends_settled begin_keeps
+begin_legal n p t job rest mail hand keeps kept =
     let jobs : AreUpdates n (job ∷ rest) = subst (λ (l : List Job). AreUpdates n l) (let e : orders_of t ≡ job ∷ rest = rw (mail, hand) refl in e) keeps.updates in
+    let first = first_order t job rest mail in
     record {
       numbered = rw (nat_eq_refl t.events) refl;
-      formed =
-          let first : slice_get t.mail 0 ≡ Some job = ap (λ (l : List Job). slice_get l 0) mail in
-          rw (hand, first) (rw (nat_eq_refl job.nr.0, jobs.0.0, jobs.0.2) (rw (same_bool_refl t.view.dirty) refl));
+      formed = rw (hand, first) (rw (nat_eq_refl job.nr.0, jobs.0.0, jobs.0.2) (rw (same_bool_refl t.view.dirty) refl));
       once = refl;
-      made = refl;
-      applied = refl;
-      updated = refl;
-      settled = ap (λ (s : Seen). is_settled_if_quiet s) (begin_comes t job rest mail) ∙ settled_of_keeps (n + 1) (single.begun t job) (begin_keeps n t job rest mail hand keeps);
+      caused = refl;
+      queued = refl;
+      ordered = refl;
+      checked = refl;
+      settled = ap (λ (s : Seen). is_settled_if_quiet s) (after_taken p t job first) ∙ settled_of_keeps (n + 1) (single.past_quiet p) (single.begun t job) (begin_keeps n t job rest mail hand keeps) (begin_kept p t job keeps.target kept);
     }
 
 -- taking up an order keeps the world
 pub begin_world : (log : List LogRow) (t : Single) (job : Job) (rest : List Job) → t.mail ≡ job ∷ rest → t.in_hand ≡ None → IsWorld log t → IsWorld (log ++ single.begin_rows t job) (single.begun t job)
+unfolding begin_keeps
 begin_world log t job rest mail hand world =
-    world_more log t (single.begun t job) _ _ world (begin_lawful _ t job rest mail hand world.keeps) (begin_comes t job rest mail) (begin_keeps _ t job rest mail hand world.keeps)
+    world_more log t (single.begun t job) (single.past_quiet world.past) _ _ world (begin_legal _ world.past t job rest mail hand world.keeps world.kept) (after_taken world.past t job (first_order t job rest mail)) (begin_keeps _ t job rest mail hand world.keeps) (begin_kept world.past t job world.keeps.target world.kept)

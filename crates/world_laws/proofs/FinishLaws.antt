@@ -1,6 +1,7 @@
 -- The event in which the process finishes the order in hand.
-use Rattle.std.proofs.Common.{◌≡◌, ℕ, ◌+◌, ◌≤◌, Bool, true, ◌==◌, List, [], ◌∷◌, ◌++◌, length, Some, None, refl, sym, ap, ◌∙◌, subst, arith}
+use Rattle.std.proofs.Common.{◌≡◌, ℕ, ◌+◌, ◌≤◌, Bool, true, ◌==◌, List, [], ◌∷◌, ◌++◌, length, Option, Some, None, refl, sym, ap, ◌∙◌, subst, arith}
 use Rattle.std.specs.Prelude.{count_by, fold}
+use Rattle.tab_ids.specs.declared.Epoch.{Epoch}
 use Rattle.log_model.specs.declared.job.Job.{Job}
 use Rattle.log_model.specs.declared.job.Order.{Order}
 use Rattle.log_model.specs.declared.job.Task.{Task}
@@ -8,18 +9,23 @@ use Rattle.log_model.specs.declared.job.Task.TheVariants as tasks
 use Rattle.log_model.specs.declared.made.Report.{Report}
 use Rattle.log_model.specs.declared.made.Report.TheVariants as reports
 use Rattle.log_model.specs.declared.outcome.Outcome.TheVariants as outcomes
+use Rattle.log_model.specs.declared.row.Row.{Row}
 use Rattle.log_model.specs.declared.row_kind.LogRow.{LogRow}
 use Rattle.log_model.specs.Views.{View, after_task}
 use Rattle.log_model.specs.Seen.{Seen}
 use Rattle.log_model.specs.After.{after}
-use Rattle.log_model.specs.Outcomes.{is_outcome_of}
-use Rattle.log_model.specs.Lawful.{first_document, is_settled_if_quiet, IsLawfulEvent}
+use Rattle.log_model.specs.Formed.{is_numbered}
+use Rattle.log_model.specs.Settled.{is_settled_if_quiet}
+use Rattle.log_model.specs.Legal.{is_formed, is_once, is_caused, is_queued, is_ordered, is_checked, ends_settled, IsLegalEvent}
 use Rattle.log_model.proofs.Refl.{nat_eq_refl}
 use Rattle.world_laws.specs.Single as single
-use Rattle.world_laws.specs.Single.{Single, asked_with, seen_with, first_process}
-use Rattle.world_laws.specs.Keeps.{Face, face_of_row, face_of_view, Leads, orders_of, pair_after, pair_after_task, IsUpdate, AreUpdates, is_poke_of, is_report_of, open_from, Keeps, IsWorld}
-use Rattle.world_laws.proofs.ActLaws.{leads_append, no_push}
+use Rattle.world_laws.specs.Single.{Single, Past, seen_with, first_document}
+use Rattle.world_laws.specs.Keeps.{Face, face_of_row, face_of_view, Leads, orders_of, pair_after, pair_after_task, IsUpdate, AreUpdates, IsTelling, AreNumbered, is_poke_of, is_report_of, open_from, Keeps, KeepsPast, IsWorld}
 use Rattle.world_laws.proofs.Waits.{count_by_push}
+use Rattle.world_laws.proofs.Asks.{reports_more}
+use Rattle.world_laws.proofs.AfterLaws.{after_finished}
+use Rattle.world_laws.proofs.ActLaws.{leads_append, no_push}
+use Rattle.world_laws.proofs.Kept.{update_of, numbered_done}
 use Rattle.world_laws.proofs.SettledLaws.{settled_of_keeps, world_more, AreUpdates_more}
 
 -- an update changes length and index alone
@@ -27,13 +33,9 @@ update_stays : (n : ℕ) (view : View) (task : Task) → IsUpdate n task → ((a
 update_stays n view (tasks.Update long at) is = (refl, refl, refl, refl, refl, is.1, refl)
 update_stays n view _ is = elim is [ ]
 
-update_outcome : (n : ℕ) (task : Task) → IsUpdate n task → is_outcome_of task outcomes.Updated ≡ true
-update_outcome n (tasks.Update long at) is = refl
-update_outcome n _ is = elim is [ ]
-
-finish_comes : (n : ℕ) (t : Single) (order : Order) → t.in_hand ≡ Some order → order.job.doc ≡ first_document → fold after (seen_with t) (single.finish_rows t order.job) ≡ seen_with (single.finished t order.job)
-finish_comes n t order hand doc =
-    let here : (1 == order.job.doc.0) ≡ true = rw doc refl in rw (hand, here) refl
+telling : (n : ℕ) (task : Task) → IsUpdate n task → IsTelling task
+telling n (tasks.Update long at) is = tt
+telling n _ is = elim is [ ]
 
 finish_keeps : (n : ℕ) (t : Single) (order : Order) → t.in_hand ≡ Some order → Keeps n t → Keeps (n + 1) (single.finished t order.job)
 finish_keeps n t order hand keeps =
@@ -49,7 +51,7 @@ finish_keeps n t order hand keeps =
       history = keeps.history;
       initial = λ is. keeps.initial (sym same.2 ∙ is);
       leads =
-          let more : Leads t.view.initial (face_of_row keeps.target) (t.reports ++ report ∷ []) (face_of_view t.view) = leads_append t.view.initial (face_of_row keeps.target) t.reports (face_of_view t.view) report keeps.leads tt in
+          let more : Leads t.view.initial (face_of_row keeps.target) (t.reports ++ report ∷ []) (face_of_view t.view) = leads_append t.view.initial (face_of_row keeps.target) t.reports (face_of_view t.view) report keeps.leads (refl, refl, telling n order.job.task jobs.0.3) in
           subst (λ (f : Face). Leads (after_task t.view order.job.task).initial (face_of_row keeps.target) (t.reports ++ report ∷ []) f) (sym same.3) (subst (λ (b : Bool). Leads b (face_of_row keeps.target) (t.reports ++ report ∷ []) (face_of_view t.view)) (sym same.2) more);
       updates = AreUpdates_more n (n + 1) t.mail (omega arith) jobs.1;
       pair = λ none.
@@ -68,23 +70,54 @@ finish_keeps n t order hand keeps =
       index = omega (arith, same.5);
     }
 
-finish_lawful : (n : ℕ) (t : Single) (order : Order) → t.in_hand ≡ Some order → Keeps n t → IsLawfulEvent (seen_with t) (single.finish_rows t order.job)
-finish_lawful n t order hand keeps =
+-- an update changes neither the epoch nor the number of entries
+epoch_stays : (n : ℕ) (view : View) (task : Task) → IsUpdate n task → (after_task view task).epoch ≡ view.epoch
+epoch_stays n view (tasks.Update long at) is = refl
+epoch_stays n view _ is = elim is [ ]
+
+finish_kept : (n : ℕ) (p : Past) (t : Single) (order : Order) → t.in_hand ≡ Some order → Keeps n t → (target : Row) → KeepsPast p t target → KeepsPast (single.past_finished p order.job) (single.finished t order.job) target
+finish_kept n p t order hand keeps target kept =
     let orders : orders_of t ≡ order.job ∷ t.mail = rw hand refl in
     let jobs : AreUpdates n (order.job ∷ t.mail) = subst (λ (l : List Job). AreUpdates n l) orders keeps.updates in
+    let report : Report = reports.Done order.job outcomes.Updated None in
+    let same : (after_task t.view order.job.task).numbered ≡ t.view.numbered = (update_stays n t.view order.job.task jobs.0.3).4 in
+    record {
+      plain = kept.plain;
+      endings = kept.endings;
+      pokes = kept.pokes;
+      reports = reports_more p.requests t.reports report kept.reports tt;
+      given = kept.given;
+      numbered = subst (λ (k : ℕ). AreNumbered p.last_applied (t.reports ++ report ∷ []) k) (sym same) (numbered_done p.last_applied t.reports t.view.numbered order.job outcomes.Updated None kept.numbered);
+      epoch = epoch_stays n t.view order.job.task jobs.0.3 ∙ kept.epoch;
+      state = kept.state;
+    }
+
+finish_comes : (n : ℕ) (p : Past) (t : Single) (order : Order) → t.in_hand ≡ Some order → Keeps n t → fold after (seen_with p t) (single.finish_rows t order.job) ≡ seen_with (single.past_finished p order.job) (single.finished t order.job)
+finish_comes n p t order hand keeps =
+    let orders : orders_of t ≡ order.job ∷ t.mail = rw hand refl in
+    let jobs : AreUpdates n (order.job ∷ t.mail) = subst (λ (l : List Job). AreUpdates n l) orders keeps.updates in
+    let update = update_of n order.job.task jobs.0.3 in
+    after_finished p t order update.0 update.1 hand jobs.0.0 update.2
+
+finish_legal : (n : ℕ) (p : Past) (t : Single) (order : Order) → t.in_hand ≡ Some order → (keeps : Keeps n t) → KeepsPast p t keeps.target → IsLegalEvent (seen_with p t) (single.finish_rows t order.job)
+unfolding is_numbered is_formed is_once is_caused is_queued is_ordered is_checked ends_settled finish_keeps
+finish_legal n p t order hand keeps kept =
+    let orders : orders_of t ≡ order.job ∷ t.mail = rw hand refl in
+    let jobs : AreUpdates n (order.job ∷ t.mail) = subst (λ (l : List Job). AreUpdates n l) orders keeps.updates in
+    let update = update_of n order.job.task jobs.0.3 in
     record {
       numbered = rw (nat_eq_refl t.events) refl;
-      formed = rw hand (rw (nat_eq_refl order.job.nr.0, update_outcome n order.job.task jobs.0.3) refl);
+      formed = rw hand (rw (nat_eq_refl order.job.nr.0, update.2) refl);
       once = refl;
-      made = refl;
-      applied = refl;
-      updated = refl;
-      settled = ap (λ (s : Seen). is_settled_if_quiet s) (finish_comes n t order hand jobs.0.0) ∙ settled_of_keeps (n + 1) (single.finished t order.job) (finish_keeps n t order hand keeps);
+      caused = refl;
+      queued = refl;
+      ordered = refl;
+      checked = refl;
+      settled = ap (λ (s : Seen). is_settled_if_quiet s) (finish_comes n p t order hand keeps) ∙ settled_of_keeps (n + 1) (single.past_finished p order.job) (single.finished t order.job) (finish_keeps n t order hand keeps) (finish_kept n p t order hand keeps keeps.target kept);
     }
 
 -- finishing an order keeps the world
 pub finish_world : (log : List LogRow) (t : Single) (order : Order) → t.in_hand ≡ Some order → IsWorld log t → IsWorld (log ++ single.finish_rows t order.job) (single.finished t order.job)
+unfolding finish_keeps
 finish_world log t order hand world =
-    let orders : orders_of t ≡ order.job ∷ t.mail = rw hand refl in
-    let jobs : AreUpdates (length log) (order.job ∷ t.mail) = subst (λ (l : List Job). AreUpdates (length log) l) orders world.keeps.updates in
-    world_more log t (single.finished t order.job) _ _ world (finish_lawful _ t order hand world.keeps) (finish_comes (length log) t order hand jobs.0.0) (finish_keeps _ t order hand world.keeps)
+    world_more log t (single.finished t order.job) (single.past_finished world.past order.job) _ _ world (finish_legal _ world.past t order hand world.keeps world.kept) (finish_comes (length log) world.past t order hand world.keeps) (finish_keeps _ t order hand world.keeps) (finish_kept _ world.past t order hand world.keeps world.keeps.target world.kept)

@@ -1,10 +1,14 @@
 pub mod Plain
 pub mod Waits
+pub mod Asks
+pub mod Rows
 pub mod SettledLaws
+pub mod AfterLaws
 pub mod PokeLaws
+pub mod Kept
+pub mod BeginLaws
 pub mod ActLaws
 pub mod RefuseLaws
-pub mod BeginLaws
 pub mod FinishLaws
 pub mod DoneLaws
 pub mod PushLaws

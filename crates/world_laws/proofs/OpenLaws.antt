@@ -1,10 +1,11 @@
--- The world as a tab was opened.
-use Rattle.std.proofs.Common.{ℕ, List, [], ◌∷◌, None, refl, arith}
+-- A world that was just opened.
+use Rattle.std.proofs.Common.{◌≡◌, ℕ, true, List, [], ◌∷◌, Option, Some, None, refl, arith}
+use Rattle.log_model.specs.Seen.{Seen}
+use Rattle.log_model.specs.Events.{AtEachEvent, events_of, after_opening, each_event}
 use Rattle.log_model.specs.Logs.{seen_of}
-use Rattle.log_model.specs.Events.{events_of, each_event, after_opening, AtEachEvent}
-use Rattle.log_model.specs.Lawful.{IsLawful}
-use Rattle.world_laws.specs.Single.{opened, opening_row, replaced_row_with}
-use Rattle.world_laws.specs.Keeps.{Keeps, IsWorld}
+use Rattle.log_model.specs.Legal.{opens, IsLegal}
+use Rattle.world_laws.specs.Single.{Single, opened, opening_row, past_opened, replaced_row_with}
+use Rattle.world_laws.specs.Keeps.{Keeps, KeepsPast, IsWorld}
 use Rattle.world_laws.proofs.SettledLaws.{settled_of_keeps}
 
 opened_keeps : (address : List ℕ) → Keeps 1 (opened address)
@@ -30,20 +31,35 @@ opened_keeps address =
       index = omega arith;
     }
 
-opened_lawful : (address : List ℕ) → IsLawful (opening_row address ∷ [])
-unfolding events_of AtEachEvent after_opening each_event
-opened_lawful address =
+opened_kept : (address : List ℕ) → KeepsPast (past_opened address) (opened address) (replaced_row_with (opened address) (record { maker = 0; nr = 1 }) None address)
+opened_kept address =
     record {
-      opened = settled_of_keeps 1 (opened address) (opened_keeps address);
+      plain = tt;
+      endings = refl;
+      pokes = tt;
+      reports = tt;
+      given = refl;
+      numbered = omega arith;
+      epoch = refl;
+      state = refl;
+    }
+
+opened_legal : (address : List ℕ) → IsLegal (opening_row address ∷ [])
+unfolding events_of AtEachEvent after_opening each_event opens opened_keeps
+opened_legal address =
+    record {
+      opened = settled_of_keeps 1 (past_opened address) (opened address) (opened_keeps address) (opened_kept address);
       numbered = refl;
       formed = refl;
       once = refl;
-      made = refl;
-      applied = refl;
-      updated = refl;
+      caused = refl;
+      queued = refl;
+      ordered = refl;
+      checked = refl;
       settled = refl;
     }
 
 pub opened_world : (address : List ℕ) → IsWorld (opening_row address ∷ []) (opened address)
-unfolding seen_of
-opened_world address = record { tied = refl; lawful = opened_lawful address; keeps = opened_keeps address }
+unfolding seen_of opened_keeps
+opened_world address =
+    record { past = past_opened address; tied = refl; legal = opened_legal address; keeps = opened_keeps address; kept = opened_kept address }

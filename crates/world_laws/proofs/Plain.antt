@@ -3,8 +3,8 @@ use Rattle.std.proofs.Common.{◌≡◌, ℕ, ◌+◌, ◌<◌, ◌≤◌, zero,
 use Rattle.std.specs.Prelude.{fold, filter, max, nat_le, nat_lt, IfSome}
 use Rattle.std.proofs.lemmas.Bool.Decides.{nat_tests}
 use Rattle.log_model.specs.declared.row.Row.{Row}
-use Rattle.log_model.specs.History.{History, is_of, owner_of, with_step, used_steps, used_step_at, history_length, history_index, later_row, target_entry, is_anchored, tidied_times, tidied, cleared}
-use Rattle.log_model.specs.Lawful.{top}
+use Rattle.log_model.specs.History.{History, is_of, has_row, owner_of, with_step, used_steps, used_step_at, history_length, history_index, later_row, target_entry, is_anchored, tidied_times, tidied, cleared}
+use Rattle.log_model.specs.Places.{top}
 use Rattle.world_laws.specs.Keeps.{IsPlain, EndsWith}
 
 -- ---- one more row
@@ -152,3 +152,12 @@ pushed-plain history target new ends nav owner step =
       plain = IsPlain-append 0 history.rows new ends.plain nav owner (omega arith);
       current = sym all;
     }
+
+-- the top has a row
+pub has_top : (history : History) (target : Row) → EndsWith history target → has_row top history.rows ≡ true
+has_top history target ends = by_rows ends.front history.rows ends.rows ends.plain
+  where
+    by_rows : (front rows : List Row) → rows ≡ front ++ target ∷ [] → IsPlain 0 rows → has_row top rows ≡ true
+    by_rows [] [] e plain = cc
+    by_rows (row ∷ front) [] e plain = cc
+    by_rows front (row ∷ rows) e plain = rw plain.0.0 refl

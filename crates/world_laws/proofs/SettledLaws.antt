@@ -1,34 +1,49 @@
 -- What the state keeps makes a quiet log settled.
-use Rattle.std.proofs.Common.{◌≡◌, ℕ, ◌+◌, ◌≤◌, Bool, true, false, ◌==◌, List, [], ◌∷◌, ◌++◌, length, Option, Some, None, refl, sym, ap, ◌∙◌, arith, length-append}
-use Rattle.std.specs.Prelude.{fold}
+use Rattle.std.proofs.Common.{◌≡◌, ℕ, ◌+◌, ◌≤◌, Bool, true, false, not, ◌&&◌, ◌||◌, ◌==◌, List, [], ◌∷◌, ◌++◌, length, map, Option, Some, None, refl, sym, ap, ◌∙◌, subst, arith, length-append}
+use Rattle.std.specs.Prelude.{fold, is_some, is_none}
+use Rattle.std.proofs.lemmas.Bool.{and_parts, false≢true}
+use Rattle.std.specs.List.{list_all}
 use Rattle.std.proofs.lemmas.Bool.Decides.{nat_tests}
 use Rattle.log_model.specs.declared.job.Job.{Job}
 use Rattle.log_model.specs.declared.job.Order.{Order}
 use Rattle.log_model.specs.declared.job.Task.{Task}
 use Rattle.log_model.specs.declared.job.Task.TheVariants as tasks
+use Rattle.log_model.specs.declared.outcome.Ending.{Ending}
 use Rattle.log_model.specs.declared.made.Report.{Report}
 use Rattle.log_model.specs.declared.request.Poke.{Poke}
 use Rattle.log_model.specs.declared.row.Row.{Row}
 use Rattle.log_model.specs.declared.row_kind.LogRow.{LogRow}
-use Rattle.log_model.specs.Seen.{Seen}
+use Rattle.log_model.specs.Seen.{Seen, Asked}
+use Rattle.log_model.specs.Places.{top, is_shown, all_stand, pair_at}
 use Rattle.log_model.specs.After.{after}
-use Rattle.log_model.specs.Logs.{is_quiet}
-use Rattle.log_model.specs.Lawful.{implies, shows, due_pair, is_settled, is_settled_if_quiet, IsLawfulEvent}
-use Rattle.log_model.proofs.Refl.{nat_eq_refl, bytes_eq_refl, same_memo_refl, same_entry_refl}
+use Rattle.log_model.specs.Logs.{seen_of, is_quiet, is_still, is_idle, is_prompt_up}
+use Rattle.log_model.specs.Settled.{shows, is_settled, is_settled_if_quiet}
+use Rattle.log_model.specs.Legal.{IsLegalEvent}
+use Rattle.log_model.proofs.Refl.{nat_eq_refl, bytes_eq_refl, same_memo_refl, same_entry_refl, same_pair_refl}
 use Rattle.log_model.proofs.Laws.{seen_of_append}
-use Rattle.log_model.proofs.LawfulLaws.{lawful_more}
-use Rattle.world_laws.specs.Single.{Single, seen_with}
-use Rattle.world_laws.specs.Keeps.{EndsWith, Face, face_of_row, face_of_view, due, open_from, AreUpdates, IsUpdate, Keeps, IsWorld}
+use Rattle.log_model.proofs.LegalLaws.{legal_more}
+use Rattle.world_laws.specs.Single.{Single, Past, seen_with, desk_with}
+use Rattle.world_laws.specs.Keeps.{EndsWith, Face, face_of_row, face_of_view, due, open_from, AreUpdates, IsUpdate, ArePlain, Keeps, KeepsPast, IsWorld}
 use Rattle.world_laws.proofs.Plain.{length_due, index_due, target_of_ending}
 use Rattle.world_laws.proofs.Waits.{all_ended}
 
--- the due pair is the number of rows and the current step
-pub due_pair_of : (t : Single) (target : Row) → EndsWith t.history target → due_pair (seen_with t) ≡ due t
-due_pair_of t target ends = rw (length_due t.history target ends, index_due t.history target ends) refl
+-- the top is shown at any step
+pub shown_top : (rows : List Row) (step : ℕ) → is_shown rows step top ≡ true
+shown_top [] step = refl
+shown_top (row ∷ rows) step = refl
+
+-- the length and index of the history are the number of rows and the current step
+pub pair_of_ending : (p : Past) (t : Single) (target : Row) → EndsWith t.history target → pair_at (seen_with p t) t.history.current ≡ due t
+pair_of_ending p t target ends = rw (length_due t.history target ends, index_due t.history target ends) refl
+
+-- all stand at the current step
+pub all_stand_with : (p : Past) (t : Single) (target : Row) → EndsWith t.history target → p.given ≡ target.entry → all_stand (seen_with p t) t.history.current ≡ true
+all_stand_with p t target ends given =
+    rw (shown_top t.history.rows t.history.current, target_of_ending t.history target ends, given) (rw (same_entry_refl target.entry) refl)
 
 -- a view with the target's face and the due pair shows it
-shows_it : (t : Single) (target : Row) → EndsWith t.history target → face_of_row target ≡ face_of_view t.view → (t.view.length, t.view.index) ≡ due t → shows (seen_with t) target t.view ≡ true
-shows_it t target ends face pair =
+shows_it : (p : Past) (t : Single) (target : Row) → EndsWith t.history target → face_of_row target ≡ face_of_view t.view → (t.view.length, t.view.index) ≡ due t → shows (seen_with p t) target t.view ≡ true
+shows_it p t target ends face pair =
     let entry : t.view.entry ≡ target.entry = sym (ap (λ (f : Face). f.entry) face) in
     let address : t.view.address ≡ target.address = sym (ap (λ (f : Face). f.address) face) in
     let memo : t.view.memo ≡ target.memo = sym (ap (λ (f : Face). f.memo) face) in
@@ -36,48 +51,68 @@ shows_it t target ends face pair =
     let at : t.view.index ≡ t.history.current = ap (λ (p : ℕ × ℕ). p.1) pair in
     rw (entry, address, memo, long, at, length_due t.history target ends, index_due t.history target ends, same_entry_refl target.entry, bytes_eq_refl target.address, same_memo_refl target.memo, nat_eq_refl (length t.history.rows)) (nat_eq_refl t.history.current)
 
-quiet_settled : (n : ℕ) (t : Single) → Keeps n t → t.input ≡ [] → t.mail ≡ [] → t.in_hand ≡ None → t.reports ≡ [] → is_settled (seen_with t) ≡ true
-quiet_settled n t keeps input mail in_hand reports =
+-- what holds of the endings holds of the requests
+ended_requests : (asked : List Asked) (endings : List (Option Ending)) → map (λ (q : Asked). q.ending) asked ≡ endings → list_all (λ (ending : Option Ending). is_some ending) endings ≡ true → list_all (λ (q : Asked). is_some q.ending) asked ≡ true
+ended_requests asked endings same all = through asked ∙ ap (λ (l : List (Option Ending)). list_all (λ (ending : Option Ending). is_some ending) l) same ∙ all
+  where
+    through : (asked : List Asked) → list_all (λ (q : Asked). is_some q.ending) asked ≡ list_all (λ (ending : Option Ending). is_some ending) (map (λ (q : Asked). q.ending) asked)
+    through [] = refl
+    through (q ∷ asked) = ap (λ (b : Bool). is_some q.ending && b) (through asked)
+
+quiet_settled : (n : ℕ) (p : Past) (t : Single) → (keeps : Keeps n t) → KeepsPast p t keeps.target → t.input ≡ [] → t.mail ≡ [] → t.in_hand ≡ None → t.reports ≡ [] → is_settled (seen_with p t) ≡ true
+quiet_settled n p t keeps kept input mail in_hand reports =
     let ended : (r : ℕ) → open_from 1 t.endings r ≡ 0 = λ r. sym (keeps.placed r) ∙ rw (input, reports) refl in
     let face : face_of_row keeps.target ≡ face_of_view t.view = rw reports at keeps.leads in
     let pair : (t.view.length, t.view.index) ≡ due t = rw (in_hand, mail) at (keeps.pair (rw reports refl)) in
-    rw (all_ended 1 t.endings ended, target_of_ending t.history keeps.target keeps.history) (shows_it t keeps.target keeps.history face pair)
+    let all = ended_requests p.requests t.endings kept.endings (all_ended 1 t.endings ended) in
+    let stand = all_stand_with p t keeps.target keeps.history kept.given in
+    let shown = shows_it p t keeps.target keeps.history face pair in
+    rw (all, stand) (rw (shown_top t.history.rows t.history.current, target_of_ending t.history keeps.target keeps.history, keeps.running, kept.given) (rw (same_entry_refl keeps.target.entry, kept.state, nat_eq_refl t.state.0, shown) refl))
+
+-- a list of no length is empty
+empty_of : {A : Type 0} (l : List A) → (length l == 0) ≡ true → l ≡ []
+empty_of [] e = refl
+empty_of (x ∷ l) e = absurd (let no_ : (length (x ∷ l) == 0) ≡ false = grind (arith, nat_tests) in false≢true (sym no_ ∙ e))
+
+-- nothing where there is not something
+none_of : {A : Type 0} (o : Option A) → is_none o ≡ true → o ≡ None
+none_of None e = refl
+none_of (Some a) e = cc
+
+-- what is settled where it is quiet is settled if quiet
+settled_if : (s : Seen) → (is_quiet s ≡ true → is_settled s ≡ true) → is_settled_if_quiet s ≡ true
+settled_if s settles = by_quiet (is_quiet s) refl
+  where
+    by_quiet : (b : Bool) → is_quiet s ≡ b → is_settled_if_quiet s ≡ true
+    by_quiet true e = rw e (settles e)
+    by_quiet false e = rw e refl
 
 -- a world that keeps this is settled where it is quiet
-pub settled_of_keeps : (n : ℕ) (t : Single) → Keeps n t → is_settled_if_quiet (seen_with t) ≡ true
-settled_of_keeps n t keeps = by_input t.input refl
-  where
-    busy : is_quiet (seen_with t) ≡ false → is_settled_if_quiet (seen_with t) ≡ true
-    busy e = ap (λ (b : Bool). implies b (is_settled (seen_with t))) e
-
-    by_reports : (reports : List Report) → t.input ≡ [] → t.mail ≡ [] → t.in_hand ≡ None → t.reports ≡ reports → is_settled_if_quiet (seen_with t) ≡ true
-    by_reports [] input mail in_hand e =
-        let quiet : is_quiet (seen_with t) ≡ true = rw (input, mail, in_hand, e) refl in
-        ap (λ (b : Bool). implies b (is_settled (seen_with t))) quiet ∙ quiet_settled n t keeps input mail in_hand e
-    by_reports (r ∷ rs) input mail in_hand e =
-        busy (let long : (length (r ∷ rs) == 0) ≡ false = grind (arith, nat_tests) in rw (input, mail, in_hand, e, long) refl)
-
-    by_hand : (hand : Option Order) → t.input ≡ [] → t.mail ≡ [] → t.in_hand ≡ hand → is_settled_if_quiet (seen_with t) ≡ true
-    by_hand None input mail e = by_reports t.reports input mail e refl
-    by_hand (Some order) input mail e = busy (rw (input, mail, e) refl)
-
-    by_mail : (mail : List Job) → t.input ≡ [] → t.mail ≡ mail → is_settled_if_quiet (seen_with t) ≡ true
-    by_mail [] input e = by_hand t.in_hand input e refl
-    by_mail (j ∷ js) input e =
-        busy (let long : (length (j ∷ js) == 0) ≡ false = grind (arith, nat_tests) in rw (input, e, long) refl)
-
-    by_input : (input : List Poke) → t.input ≡ input → is_settled_if_quiet (seen_with t) ≡ true
-    by_input [] e = by_mail t.mail e refl
-    by_input (p ∷ ps) e = busy (let long : (length (p ∷ ps) == 0) ≡ false = grind (arith, nat_tests) in rw (e, long) refl)
+pub settled_of_keeps : (n : ℕ) (p : Past) (t : Single) → (keeps : Keeps n t) → KeepsPast p t keeps.target → is_settled_if_quiet (seen_with p t) ≡ true
+settled_of_keeps n p t keeps kept =
+    settled_if (seen_with p t) (λ quiet.
+      let still = (and_parts (is_still (seen_with p t)) _ quiet).0 in
+      let idle = (and_parts (is_idle (desk_with t)) true still).0 in
+      let third = and_parts _ (length t.reports == 0) idle in
+      let second = and_parts _ (is_none t.in_hand) third.0 in
+      let first = and_parts (length t.input == 0) (length t.mail == 0) second.0 in
+      quiet_settled n p t keeps kept (empty_of t.input first.0) (empty_of t.mail first.1) (none_of t.in_hand second.1) (empty_of t.reports third.1))
 
 -- one more event of a world
-pub world_more : (log : List LogRow) (t next : Single) (first : LogRow) (rows : List LogRow) → IsWorld log t → IsLawfulEvent (seen_with t) (first ∷ rows) → fold after (seen_with t) (first ∷ rows) ≡ seen_with next → Keeps (length log + length (first ∷ rows)) next → IsWorld (log ++ first ∷ rows) next
-world_more log t next first rows world event comes keeps =
+pub world_more : (log : List LogRow) (t next : Single) (past : Past) (first : LogRow) (rows : List LogRow) → (world : IsWorld log t) → IsLegalEvent (seen_with world.past t) (first ∷ rows) → fold after (seen_with world.past t) (first ∷ rows) ≡ seen_with past next → (keeps : Keeps (length log + length (first ∷ rows)) next) → KeepsPast past next keeps.target → IsWorld (log ++ first ∷ rows) next
+world_more log t next past first rows world event comes keeps kept =
+    let long : length (log ++ first ∷ rows) ≡ length log + length (first ∷ rows) = length-append log (first ∷ rows) in
+    let both = transported long keeps kept in
     record {
+      past = past;
       tied = seen_of_append log (first ∷ rows) ∙ ap (λ (s : Seen). fold after s (first ∷ rows)) world.tied ∙ comes;
-      lawful = lawful_more log first rows (rw world.tied world.keeps.some) world.lawful (rw world.tied event);
-      keeps = rw (length-append log (first ∷ rows)) keeps;
+      legal = legal_more log first rows (rw world.tied world.keeps.some) world.legal (rw world.tied event);
+      keeps = both.0;
+      kept = both.1;
     }
+  where
+    transported : {n m : ℕ} → m ≡ n → (keeps : Keeps n next) → KeepsPast past next keeps.target → (k : Keeps m next) × KeepsPast past next k.target
+    transported {n} {m} same keeps kept = subst (λ (i : ℕ). (k : Keeps i next) × KeepsPast past next k.target) (sym same) (keeps, kept)
 
 -- the bound of updates may grow
 IsUpdate_more : (n m : ℕ) (task : Task) → n ≤ m → IsUpdate n task → IsUpdate m task
@@ -88,3 +123,26 @@ pub AreUpdates_more : (n m : ℕ) (jobs : List Job) → n ≤ m → AreUpdates n
 AreUpdates_more n m [] more are = tt
 AreUpdates_more n m (job ∷ jobs) more are =
     ((are.0.0, are.0.1, are.0.2, IsUpdate_more n m job.task more are.0.3), AreUpdates_more n m jobs more are.1)
+
+-- ---- still and quiet
+
+and_true : (b : Bool) → (b && true) ≡ b
+and_true true = refl
+and_true false = refl
+
+-- no prompt is up
+none_prompted : (asked : List Asked) → ArePlain asked → list_all (λ (q : Asked). not (is_prompt_up q)) asked ≡ true
+none_prompted [] plain = refl
+none_prompted (q ∷ asked) plain = rw plain.0.unprompted (none_prompted asked plain.1)
+
+-- nothing is in transit in the log where nothing waits in the one process
+pub still_is : (log : List LogRow) (t : Single) → IsWorld log t → is_still (seen_of log) ≡ is_idle (desk_with t)
+still_is log t world = ap (λ (s : Seen). is_still s) world.tied ∙ and_true (is_idle (desk_with t))
+
+-- and it is quiet there
+pub quiet_is : (log : List LogRow) (t : Single) → IsWorld log t → is_quiet (seen_of log) ≡ is_idle (desk_with t)
+quiet_is log t world =
+    ap (λ (s : Seen). is_quiet s) world.tied
+    ∙ ap (λ (b : Bool). is_still (seen_with world.past t) && b) (none_prompted world.past.requests world.kept.plain)
+    ∙ and_true (is_still (seen_with world.past t))
+    ∙ and_true (is_idle (desk_with t))

@@ -1,5 +1,5 @@
 -- Which requests are open, and where they wait.
-use Rattle.std.proofs.Common.{◌≡◌, ◌≢◌, ℕ, ◌+◌, ◌<◌, Bool, true, false, cond, ◌&&◌, ◌==◌, List, [], ◌∷◌, ◌++◌, length, map, Option, Some, None, refl, ap, ◌∙◌, arith, zero, suc}
+use Rattle.std.proofs.Common.{◌≡◌, ◌≢◌, ℕ, ◌+◌, ◌<◌, ◌≤◌, Bool, true, false, cond, ◌&&◌, ◌==◌, List, [], ◌∷◌, ◌++◌, length, map, Option, Some, None, refl, ap, ◌∙◌, arith, zero, suc}
 use Rattle.std.specs.Prelude.{slice_get, slice_set, is_none, is_some, count_by}
 use Rattle.std.specs.List.{list_all}
 use Rattle.std.proofs.lemmas.Bool.{eq-eqb}
@@ -7,7 +7,6 @@ use Rattle.std.proofs.lemmas.Bool.Decides.{nat_tests}
 use Rattle.std.proofs.lemmas.List.Sums.{sum_by-cons, sum_by-append}
 use Rattle.log_model.specs.declared.outcome.Ending.{Ending}
 use Rattle.log_model.specs.Seen.{Asked}
-use Rattle.world_laws.specs.Single.{asked_with}
 use Rattle.world_laws.specs.Keeps.{open_from, tally}
 
 -- ---- counting
@@ -86,9 +85,21 @@ open_from_ended nr (first ∷ endings) (suc i) r ending q at some =
     let rest : 0 < open_from (nr + 1) endings r = omega (arith, tally_other_and nr r (is_none first) (omega arith)) in
     omega (arith, open_from_ended (nr + 1) endings i r ending q (omega arith) rest)
 
+-- at most one request has a number
+pub open_from_few : (nr : ℕ) (endings : List (Option Ending)) (r : ℕ) → open_from nr endings r ≤ 1
+open_from_few nr [] r = omega arith
+open_from_few nr (ending ∷ endings) r = by_number (nr == r) refl (is_none ending) (open_from_few (nr + 1) endings r)
+  where
+    by_number : (same : Bool) → (nr == r) ≡ same → (open_ : Bool) → open_from (nr + 1) endings r ≤ 1 → tally ((nr == r) && open_) + open_from (nr + 1) endings r ≤ 1
+    by_number true e true few =
+        let at : nr ≡ r = grind (arith, nat_tests) in
+        rw e (omega (arith, open_from_below (nr + 1) endings r (omega arith)))
+    by_number true e false few = rw e (omega (arith, few))
+    by_number false e open_ few = rw e (omega (arith, few))
+
 -- ---- where none is open, all have ended
 
-pub all_ended : (nr : ℕ) (endings : List (Option Ending)) → ((r : ℕ) → open_from nr endings r ≡ 0) → list_all (λ (q : Asked). is_some q.ending) (map asked_with endings) ≡ true
+pub all_ended : (nr : ℕ) (endings : List (Option Ending)) → ((r : ℕ) → open_from nr endings r ≡ 0) → list_all (λ (ending : Option Ending). is_some ending) endings ≡ true
 all_ended nr [] closed = refl
 all_ended nr (None ∷ endings) closed =
     let here : tally ((nr == nr) && true) + open_from (nr + 1) endings nr ≡ 0 = closed nr in

@@ -1,6 +1,6 @@
 -- What a world of one document keeps from event to event.
 -- This project's own.
-use Rattle.std.specs.Prelude.{◌≡◌, ℕ, ◌+◌, ◌≤◌, ◌<◌, Bool, true, false, ◌&&◌, ◌==◌, List, [], ◌∷◌, ◌++◌, length, fold, count_by, option_to_list, option_map, Option, Some, None, is_none}
+use Rattle.std.specs.Prelude.{◌≡◌, ℕ, ◌+◌, ◌≤◌, ◌<◌, Bool, true, false, ◌&&◌, ◌==◌, List, [], ◌∷◌, ◌++◌, length, map, fold, count_by, option_to_list, option_map, Option, Some, None, is_none}
 use Rattle.std.specs.List.{list_any}
 use Rattle.tab_ids.specs.declared.EntryId.{EntryId}
 use Rattle.log_model.specs.declared.action.Action.{Action}
@@ -20,8 +20,17 @@ use Rattle.log_model.specs.declared.row_kind.LogRow.{LogRow}
 use Rattle.log_model.specs.History.{History}
 use Rattle.log_model.specs.Views.{View}
 use Rattle.log_model.specs.Logs.{seen_of}
-use Rattle.log_model.specs.Lawful.{IsLawful, first_document}
-use Rattle.world_laws.specs.Single.{Single, seen_with, first_process}
+use Rattle.log_model.specs.declared.outcome.Outcome.{Outcome}
+use Rattle.log_model.specs.declared.outcome.Outcome.TheVariants as outcomes
+use Rattle.log_model.specs.declared.made.Made.{Made}
+use Rattle.log_model.specs.declared.request.Request.{Request}
+use Rattle.log_model.specs.declared.request.Request.TheVariants as requests
+use Rattle.log_model.specs.Places.{top}
+use Rattle.log_model.specs.Seen.{Asked}
+use Rattle.log_model.specs.AfterRequests.{on_request}
+use Rattle.log_model.specs.Seen.{request_in}
+use Rattle.log_model.specs.Legal.{IsLegal}
+use Rattle.world_laws.specs.Single.{Single, Past, seen_with, first_process, first_document, first_epoch}
 
 -- ---- the history: the top's entries alone, at the steps 0, 1, 2 and so on
 
@@ -65,12 +74,20 @@ face_after face _ = face
 -- an initial document makes replaces of its own entry, another one pushes of entries that it numbers
 abbrev pub MayMake : Bool → Face → What → Type 0
 MayMake initial face (whats.Push entry memo address) = (initial ≡ false) × (entry.maker ≡ 1)
-MayMake initial face (whats.Replace over entry memo address) = (initial ≡ true) × (over ≡ face.entry)
+MayMake initial face (whats.Replace over entry memo address) =
+    (initial ≡ true) × (entry.maker ≡ 1) × (over ≡ face.entry)
 MayMake initial face _ = ⊥
 
+-- the order tells length and index
+abbrev pub IsTelling : Task → Type 0
+IsTelling (tasks.Update length index) = Unit {0}
+IsTelling _ = ⊥
+
 abbrev pub MayReport : Bool → Face → Report → Type 0
-MayReport initial face (reports.Made made) = (made.doc ≡ first_document) × MayMake initial face made.what
-MayReport initial face (reports.Done job outcome made) = Unit {0}
+MayReport initial face (reports.Made made) =
+    (made.doc ≡ first_document) × (made.epoch ≡ first_epoch) × MayMake initial face made.what
+MayReport initial face (reports.Done job outcome made) =
+    (outcome ≡ outcomes.Updated) × (made ≡ None) × IsTelling job.task
 MayReport initial face (reports.Died death) = ⊥
 
 abbrev pub Leads : Bool → Face → List Report → Face → Type 0
@@ -147,6 +164,85 @@ abbrev pub open_from : ℕ → List (Option Ending) → ℕ → ℕ
 open_from nr [] r = 0
 open_from nr (ending ∷ endings) r = tally (nr == r && is_none ending) + open_from (nr + 1) endings r
 
+-- ---- what was asked
+
+-- a push in the top
+abbrev pub AsksPush : Request → Type 0
+AsksPush (requests.Poke nav action) = (nav ≡ top) × IsPush action
+AsksPush _ = ⊥
+
+-- the request is a push that pokes the one document; it is no step of the queue, and no document is asked for it
+pub record IsPlainAsk (q : Asked) : Type 0 where
+  pub what : AsksPush q.what
+  pub doc : q.doc ≡ Some first_document
+  pub unstarted : q.is_started ≡ false
+  pub unasked : q.asks ≡ []
+  pub unprompted : q.prompted ≡ None
+  pub unanswered : q.answered ≡ None
+  pub found : q.is_not_found ≡ false
+
+abbrev pub ArePlain : List Asked → Type 0
+ArePlain [] = Unit {0}
+ArePlain (q ∷ asked) = IsPlainAsk q × ArePlain asked
+
+-- a poke that waits is of a request of which nothing was made
+pub record IsPokeFor (asked : List Asked) (poke : Poke) : Type 0 where
+  pub asking : Asked
+  pub at : request_in asked poke.req ≡ Some asking
+  pub what : asking.what ≡ requests.Poke top poke.action
+  pub unmade : asking.made ≡ None
+
+abbrev pub ArePokesFor : List Asked → List Poke → Type 0
+ArePokesFor asked [] = Unit {0}
+ArePokesFor asked (poke ∷ pokes) = IsPokeFor asked poke × ArePokesFor asked pokes
+
+-- a report of what was made is of a request of which this was made
+pub record IsMadeFor (asked : List Asked) (made : Made) : Type 0 where
+  pub asking : Asked
+  pub at : request_in asked made.req ≡ Some asking
+  pub what : asking.made ≡ Some made
+
+abbrev pub IsReportFor : List Asked → Report → Type 0
+IsReportFor asked (reports.Made made) = IsMadeFor asked made
+IsReportFor asked (reports.Done job outcome made) = Unit {0}
+IsReportFor asked (reports.Died death) = Unit {0}
+
+abbrev pub AreReportsFor : List Asked → List Report → Type 0
+AreReportsFor asked [] = Unit {0}
+AreReportsFor asked (report ∷ waiting) = IsReportFor asked report × AreReportsFor asked waiting
+
+-- ---- the entries of reports that wait are numbered in order
+
+-- the entry that was made has a number above the bound
+abbrev pub IsAbove : ℕ → What → Type 0
+IsAbove bound (whats.Push entry memo address) = bound < entry.nr
+IsAbove bound (whats.Replace over entry memo address) = bound < entry.nr
+IsAbove bound _ = ⊥
+
+-- the number of the entry that was made
+abbrev pub number_made : What → ℕ
+number_made (whats.Push entry memo address) = entry.nr
+number_made (whats.Replace over entry memo address) = entry.nr
+number_made _ = 0
+
+-- each entry has a number above those before, and none is above the last that the document numbered
+abbrev pub AreNumbered : ℕ → List Report → ℕ → Type 0
+AreNumbered bound [] end = bound ≤ end
+AreNumbered bound (reports.Made made ∷ waiting) end =
+    IsAbove bound made.what × AreNumbered (number_made made.what) waiting end
+AreNumbered bound (_ ∷ waiting) end = AreNumbered bound waiting end
+
+-- what is kept beside the state
+pub record KeepsPast (p : Past) (t : Single) (target : Row) : Type 0 where
+  pub plain : ArePlain p.requests
+  pub endings : map (λ (q : Asked). q.ending) p.requests ≡ t.endings
+  pub pokes : ArePokesFor p.requests t.input
+  pub reports : AreReportsFor p.requests t.reports
+  pub given : p.given ≡ target.entry
+  pub numbered : AreNumbered p.last_applied t.reports t.view.numbered
+  pub epoch : t.view.epoch ≡ first_epoch
+  pub state : target.state ≡ t.state
+
 -- ---- the whole
 
 -- what the state keeps, where the log has so many rows
@@ -172,8 +268,10 @@ pub record Keeps (n : ℕ) (t : Single) : Type 0 where
   pub numbered : t.view.numbered ≤ n
   pub index : t.view.index ≤ n
 
--- the state is what the lawful log has come to
+-- the state is what the legal log has come to
 pub record IsWorld (log : List LogRow) (t : Single) : Type 0 where
-  pub tied : seen_of log ≡ seen_with t
-  pub lawful : IsLawful log
+  pub past : Past
+  pub tied : seen_of log ≡ seen_with past t
+  pub legal : IsLegal log
   pub keeps : Keeps (length log) t
+  pub kept : KeepsPast past t keeps.target

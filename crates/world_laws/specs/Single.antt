@@ -1,12 +1,17 @@
 -- What a log of one document in one process has come to, as the state that a world keeps, and how each kind of event changes it.
 -- This project's own.
-use Rattle.std.specs.Prelude.{ℕ, ◌+◌, ◌-◌, true, List, [], ◌∷◌, ◌++◌, drop, map, length, slice_set, Option, Some, None}
+use Rattle.std.specs.Prelude.{ℕ, ◌+◌, ◌-◌, true, false, List, [], ◌∷◌, ◌++◌, drop, map, length, slice_set, bytes_eq, Option, Some, None, if◌then◌else◌}
 use Rattle.tab_ids.specs.declared.ReqId.{ReqId}
+use Rattle.tab_ids.specs.declared.DocId.{DocId}
+use Rattle.tab_ids.specs.declared.Epoch.{Epoch}
 use Rattle.tab_ids.specs.declared.ProcId.{ProcId}
 use Rattle.tab_ids.specs.declared.EntryId.{EntryId}
 use Rattle.tab_ids.specs.declared.StateId.{StateId}
 use Rattle.log_model.specs.declared.action.Action.{Action}
+use Rattle.address.specs.Addresses.{blank_text}
+use Rattle.log_model.specs.declared.change.Change.{Change}
 use Rattle.log_model.specs.declared.change.Change.TheVariants as changes
+use Rattle.log_model.specs.declared.made.Made.{Made}
 use Rattle.log_model.specs.declared.job.Job.{Job}
 use Rattle.log_model.specs.declared.job.Order.{Order}
 use Rattle.log_model.specs.declared.job.Task.TheVariants as tasks
@@ -28,9 +33,16 @@ use Rattle.log_model.specs.declared.row_kind.RowKind.{RowKind}
 use Rattle.log_model.specs.declared.row_kind.RowKind.TheVariants as rows
 use Rattle.log_model.specs.History.{History}
 use Rattle.log_model.specs.Views.{View, opening_view, made_for, after_made, after_task}
-use Rattle.log_model.specs.Seen.{Seen, Document, Desk, Asked}
-use Rattle.log_model.specs.After.{opening_history}
-use Rattle.log_model.specs.Lawful.{top, first_document}
+use Rattle.log_model.specs.Opening.{opening_history}
+use Rattle.log_model.specs.Seen.{Seen, Document, Desk, Asked, Place, awake}
+use Rattle.log_model.specs.Places.{top}
+use Rattle.log_model.specs.AfterRequests.{on_request, entries_taken}
+use Rattle.log_model.specs.After.{new_request}
+use Rattle.log_model.specs.After as log_after
+
+-- the first document
+abbrev pub first_document : DocId
+first_document = record { 0 = 1 }
 
 -- the process of the one document
 abbrev pub first_process : ProcId
@@ -50,13 +62,24 @@ pub record Single : Type 0 where
   pub endings : List (Option Ending)
   pub jobs : ℕ
 
--- a request of an ending
-abbrev pub asked_with : Option Ending → Asked
-asked_with ending = record { ending = ending }
+-- the epoch under which the first document runs
+abbrev pub first_epoch : Epoch
+first_epoch = record { 0 = 1 }
+
+-- what a log has come to beside the state that a world keeps: what was asked, and which entries were given and applied
+pub record Past : Type 0 where
+  pub requests : List Asked
+  -- the entry that the top was given last, and all that it was ever given
+  pub given : EntryId
+  pub ever_given : List EntryId
+  -- the number of the document's entry that was applied last; 0 at first
+  pub last_applied : ℕ
+  pub initial_states : List StateId
+  pub just_finished : Option Job
 
 -- the one document, as the log has it
-abbrev pub document_with : Single → Document
-document_with t =
+abbrev pub document_with : Past → Single → Document
+document_with p t =
     record {
       nr = first_document;
       nav = top;
@@ -66,6 +89,12 @@ document_with t =
       slot = None;
       view = Some t.view;
       told = t.told;
+      is_ready = true;
+      is_fresh = true;
+      is_discarded = false;
+      dead_by = None;
+      is_known_dead = false;
+      last_applied = p.last_applied;
     }
 
 -- the desk of its process
@@ -77,18 +106,54 @@ desk_with t =
       mail = t.mail;
       in_hand = t.in_hand;
       reports = t.reports;
+      killed = [];
+      known = 0;
+    }
+
+-- the place of the top: awake on the first document
+abbrev pub place_with : Past → Place
+place_with p =
+    record {
+      nav = top;
+      above = [];
+      owners = [];
+      status = awake first_document;
+      epoch = first_epoch;
+      given = Some p.given;
+      why = whys.Start;
+      last = Some first_document;
+      last_job = None;
+      is_delivered = true;
+      was_activated = true;
+      added_by = None;
+      taken_by = None;
+      is_pending = false;
+      is_unmet = false;
+      ever_given = p.ever_given;
+      ever_awake = first_document ∷ [];
     }
 
 -- what the log has come to
-abbrev pub seen_with : Single → Seen
-seen_with t =
+abbrev pub seen_with : Past → Single → Seen
+seen_with p t =
     record {
       events = t.events;
       history = t.history;
-      documents = document_with t ∷ [];
+      documents = document_with p t ∷ [];
       desks = desk_with t ∷ [];
-      requests = map asked_with t.endings;
+      requests = p.requests;
       jobs = t.jobs;
+      places = place_with p ∷ [];
+      kept = [];
+      joined = [];
+      parked = [];
+      states = 1;
+      entries = 1;
+      deaths = 0;
+      initial_states = p.initial_states;
+      just_finished = p.just_finished;
+      last_step = None;
+      has_stood = true;
     }
 
 -- ---- the opening
@@ -286,4 +351,72 @@ replace_applied t req entry memo address =
       history = record t.history { rows = replaced_row_with t entry memo address ∷ [] };
       reports = drop 1 t.reports;
       endings = ended t.endings req endings.Applied;
+    }
+
+-- ---- what each row adds to the past
+
+-- a poke is accepted
+abbrev pub past_poked : Past → ReqId → Action → Past
+past_poked p req action =
+    record p {
+      requests = p.requests ++ new_request req (Some first_document) (requests.Poke top action) ∷ [];
+      just_finished = None;
+    }
+
+-- something is made of a poke
+abbrev pub past_made : Past → Made → Past
+past_made p made =
+    record p {
+      requests = on_request made.req (λ q. record q { made = Some made }) p.requests;
+      just_finished = None;
+    }
+
+-- a poke is refused
+abbrev pub past_refused : Past → ReqId → Past
+past_refused p req =
+    record p {
+      requests = log_after.ended p.requests req (endings.Refused denials.BadAddress);
+      just_finished = None;
+    }
+
+-- an order is taken up, or a report is delivered
+abbrev pub past_quiet : Past → Past
+past_quiet p = record p { just_finished = None }
+
+-- an order is finished
+abbrev pub past_finished : Past → Job → Past
+past_finished p job = record p { just_finished = Some job }
+
+-- the requests once a change is applied for one
+abbrev pub requests_applied : List Asked → History → ReqId → Change → List Asked
+requests_applied asked history req change =
+    on_request req (λ q. record q { took = entries_taken history change })
+    (on_request req (λ q. record q { change = Some change }) (log_after.ended asked req endings.Applied))
+
+-- a new entry of the document is applied
+abbrev pub past_applied : Past → History → ReqId → Change → EntryId → Past
+past_applied p history req change entry =
+    record {
+      requests = requests_applied p.requests history req change;
+      given = entry;
+      ever_given = entry ∷ p.ever_given;
+      last_applied = entry.nr;
+      initial_states = p.initial_states;
+      just_finished = None;
+    }
+
+-- an order is sent for a request
+abbrev pub past_sent : Past → ReqId → Past
+past_sent p req = record p { requests = on_request req (λ q. q) p.requests; just_finished = None }
+
+-- the past as the tab was opened
+abbrev pub past_opened : List ℕ → Past
+past_opened address =
+    record {
+      requests = [];
+      given = first_entry;
+      ever_given = first_entry ∷ [];
+      last_applied = 0;
+      initial_states = if bytes_eq address blank_text then first_state ∷ [] else [];
+      just_finished = None;
     }

@@ -1,4 +1,4 @@
-//! What a world of one document keeps from event to event, and that each of its events is lawful: definitions and lemmas alone.
+//! What a world of one document keeps from event to event, and that each of its events is legal: definitions and lemmas alone.
 #![tactic(auto)]
 
 /// Holds the crate's place: all that it gives stands in its definitions and lemmas.

@@ -25,25 +25,25 @@ invariant_of-self-in-Err-OutOfMemory c =
     let cut : c.cut-in-Err-OutOfMemory.new.self ≡ c.self.inside.log = c.cut-in-Err-OutOfMemory.ensures ∙ ap (λ (n : ℕ). take n c.take.new.log) c.len-before.ensures ∙ front in
     rw cut (closed_kept c.self.inside.log c.self.inside.state c.take.new.state kept)
 
-pub returns-in-Ok-clause-lawful : goal.returns-in-Ok-clause-lawful
-returns-in-Ok-clause-lawful c =
+pub returns-in-Ok-clause-legal : goal.returns-in-Ok-clause-legal
+returns-in-Ok-clause-legal c =
     let kept : IsKept c.self.inside.log c.self.inside.state false = rw c.if-self.false at c.self.invariant in
     let stays = step_stays c.self.inside.log c.self.inside.state c.args.event (kept.stands refl) c.requires.built in
-    (answered_kept _ _ _ _ _ _ kept stays (c.in-Ok.ensures)).lawful
+    (answered_kept _ _ _ _ _ _ kept stays (c.in-Ok.ensures)).legal
 
-pub returns-in-Err-LogFull-clause-lawful : goal.returns-in-Err-LogFull-clause-lawful
-returns-in-Err-LogFull-clause-lawful c =
+pub returns-in-Err-LogFull-clause-legal : goal.returns-in-Err-LogFull-clause-legal
+returns-in-Err-LogFull-clause-legal c =
     let kept : IsKept c.self.inside.log c.self.inside.state false = rw c.if-self.false at c.self.invariant in
-    (full_kept _ _ _ _ _ kept (rw c.in-Err-LogFull.field-0-is at (c.in-Err-LogFull.ensures))).lawful
+    (full_kept _ _ _ _ _ kept (rw c.in-Err-LogFull.field-0-is at (c.in-Err-LogFull.ensures))).legal
 
-pub returns-in-Err-UrlOverflow-clause-lawful : goal.returns-in-Err-UrlOverflow-clause-lawful
-returns-in-Err-UrlOverflow-clause-lawful c =
+pub returns-in-Err-UrlOverflow-clause-legal : goal.returns-in-Err-UrlOverflow-clause-legal
+returns-in-Err-UrlOverflow-clause-legal c =
     let front : take (length c.self.inside.log) c.take.new.log ≡ c.self.inside.log = overflow_front _ _ _ _ _ c.in-Err-UrlOverflow.overflowed (rw c.in-Err-UrlOverflow.field-0-is at (c.in-Err-UrlOverflow.ensures)) in
     let cut : c.cut.new.self ≡ c.self.inside.log = c.cut.ensures ∙ ap (λ (n : ℕ). take n c.take.new.log) c.len-before.ensures ∙ front in
-    rw cut c.self.invariant.lawful
+    rw cut c.self.invariant.legal
 
-pub returns-in-Err-OutOfMemory-clause-lawful : goal.returns-in-Err-OutOfMemory-clause-lawful
-returns-in-Err-OutOfMemory-clause-lawful c =
+pub returns-in-Err-OutOfMemory-clause-legal : goal.returns-in-Err-OutOfMemory-clause-legal
+returns-in-Err-OutOfMemory-clause-legal c =
     let front : take (length c.self.inside.log) c.take.new.log ≡ c.self.inside.log = memory_front _ _ _ _ _ (rw c.in-Err-OutOfMemory.field-0-is at (c.in-Err-OutOfMemory.ensures)) in
     let cut : c.cut-in-Err-OutOfMemory.new.self ≡ c.self.inside.log = c.cut-in-Err-OutOfMemory.ensures ∙ ap (λ (n : ℕ). take n c.take.new.log) c.len-before.ensures ∙ front in
-    rw cut c.self.invariant.lawful
+    rw cut c.self.invariant.legal
