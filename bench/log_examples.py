@@ -1,0 +1,617 @@
+"""Writes the generated lemmas of crates/log_examples: logs, each proved legal, or refuted by the field that fails.
+
+    python3 bench/log_examples.py [MODEL]
+
+MODEL is the folder of the plain model of the engine and of its checker (default ../shared/model, from the top of the
+repository). The model plays each scenario; the checker has to call the log legal, and each broken one illegal. Then
+`rt fmt` in crates/log_examples lays the files out, and `rt check` there proves them.
+
+    python3 bench/log_examples.py --random FIRST COUNT ROWS FOLDER [MODEL]
+
+writes lemmas on COUNT random logs of at most ROWS rows, half of them broken by one edit, into FOLDER (the proofs/ of a
+copy of the crate): that all tests of a legal log hold exactly where the checker says legal. FOLDER/logs.txt has the logs.
+"""
+import os
+import random
+import re
+import sys
+
+import log_rows
+
+TOP = os.path.dirname(os.path.dirname(os.path.abspath(__file__)))
+
+# scenarios by topic: name, what happens, the lines
+SCENARIOS = [
+    ('Pushes', [
+        ('opened_only', 'A tab that was only opened.',
+         'session 1|open http://a.test/'),
+        ('poke_that_waits', 'A push that its document has not made yet.',
+         'session 1|open http://a.test/|push 0 s /1'),
+        ('one_push', 'One push, and the update of length and index after it.',
+         'session 1|open http://a.test/|push 0 s /1|settle'),
+        ('three_pushes', 'Three pushes, one after the other.',
+         'session 1|open http://a.test/|push 0 s1 /1|push 0 s2 /2|push 0 s3 /3|settle'),
+        ('replace_and_fragment', 'A replace, and a fragment that is a push.',
+         'session 1|open http://a.test/|replace 0 m|fragment 0 x|settle'),
+        ('push_after_a_death', 'A push where the document is dead is refused.',
+         'session 1|open http://a.test/|push 0 s /1|settle|kill 1|settle|push 0 t /2|settle'),
+        ('push_beside_a_frame', 'A push of the top beside a frame.',
+         'session 1|open http://a.test/|frame 0 1|settle|push 0 s /1|settle'),
+        ('push_in_an_initial_document', 'A push in an initial about:blank document is a replace.',
+         'session 1|open about:blank|push 0 s|settle|push 0 t #x|settle'),
+        ('push_to_another_origin', 'A push to another origin is refused.',
+         'session 1|open http://a.test/|push 0 s http://b.test/|push 0 s ../1|settle'),
+    ]),
+    ('Traversals', [
+        ('back_after_three_pushes', 'Back by one after three pushes.',
+         'session 1|open http://a.test/|push 0 s1 /1|push 0 s2 /2|push 0 s3 /3|settle|go -1|settle'),
+        ('push_after_going_back', 'A push after going back clears the forward session history.',
+         'session 1|open http://a.test/|push 0 s1 /1|push 0 s2 /2|push 0 s3 /3|settle|go -2|settle|push 0 s4 /4|settle'),
+        ('beyond_the_end', 'A traversal beyond the last used step is refused.',
+         'session 1|open http://a.test/|go 5'),
+        ('forward_at_the_end', 'A traversal forward at the last used step is refused.',
+         'session 1|open http://a.test/|go 1'),
+        ('document_goes_back', 'A document goes back by itself.',
+         'session 1|open http://a.test/|push 0 s /1|settle|docgo 0 -1|settle'),
+        ('push_under_an_old_epoch', 'A push under the epoch before a traversal is dropped by it.',
+         'session 1|open http://a.test/|push 0 s /1|settle|go -1|begin 1|push 0 t /2|settle'),
+        ('two_traversals_in_the_queue', 'Two traversals: the second begins where the first has ended.',
+         'session 1|open http://a.test/|push 0 s /1|settle|push 0 s /2|settle|go -1|go -1|settle'),
+        ('push_beside_a_running_traversal', 'A push in a navigable that a running traversal has not moved is applied before it.',
+         'session 1|open http://a.test/|frame 0 1|frame 0 2|settle|load 1 auto http://a.test/f1|load 2 auto http://a.test/g|settle|load 1 auto http://a.test/f2|settle|push 2 s /h|go -1|act 1|deliver 1|settle'),
+        ('goal_cleared_by_a_push', 'A push clears the goal of a running traversal, which then ends at the step before.',
+         'session 1|open http://a.test/|frame 0 1|frame 0 2|settle|load 1 auto http://a.test/f1|load 2 auto http://a.test/g|settle|load 1 auto http://a.test/f2|settle|go -1|settle|push 2 s /h|go 1|act 1|deliver 1|settle'),
+        ('held_back_push', 'A push in a navigable that a running traversal has moved waits for it.',
+         'session 1|open http://a.test/|frame 0 1|settle|load 1 auto http://a.test/f|settle|fragment 0 x|settle|push 1 t /f2|settle|go -2|begin 1|finish 1|push 0 s /2|act 1|deliver 1|deliver 1|settle'),
+        ('held_back_push_and_removal', 'A held back push, and a frame that is removed with it.',
+         'session 1|site http://b.test 2|open http://a.test/|frame 0 1|settle|load 1 auto http://a.test/p0|settle|frame 1 2|settle|load 2 auto http://b.test/p0|push 1 s|settle|load 2 auto http://a.test/p0|settle|go -2|begin 2|finish 2|deliver 2|push 2 s|remove 1 2|settle'),
+    ]),
+    ('Loads', [
+        ('later_load', 'A later load takes the place of the first, and one during a traversal is dropped.',
+         'session 1|open http://a.test/|load 0 auto http://a.test/1|load 0 auto http://a.test/2|settle|go -1|load 0 auto http://a.test/3|settle'),
+        ('no_document_kept', 'A load and back, where no document is kept.',
+         'session 1|keep 0|open http://a.test/|load 0 auto http://a.test/1|settle|go -1|settle'),
+        ('two_processes', 'A load into another process, and back.',
+         'session 1|site http://b.test 2|open http://a.test/|load 0 auto http://b.test/|settle|go -1|settle'),
+        ('push_over_a_kept_document', 'A push clears the state of a kept document, which is discarded.',
+         'session 1|open http://a.test/|load 0 auto http://a.test/p1|settle|go -1|settle|push 0 s|settle'),
+        ('load_ended_by_a_traversal', 'A traversal that moves the navigable ends its load.',
+         'session 1|site http://b.test 2|open http://a.test/|load 0 auto http://a.test/p1|settle|load 0 auto http://b.test/p0|go -1|begin 1|finish 1|deliver 1|settle'),
+        ('load_ended_by_a_reload', 'A reload of the navigable ends its load.',
+         'session 1|site http://b.test 2|open http://a.test/|load 0 auto http://b.test/p0|reload 0|settle'),
+        ('evicted_documents', 'Kept documents that are too many, and one that is evicted.',
+         'session 1|keep 1|open http://a.test/|load 0 auto http://a.test/1|settle|load 0 auto http://a.test/2|settle|go -2|settle|evict|evict|settle'),
+        ('fragment_load', 'A load that is a fragment navigation.',
+         'session 1|open http://a.test/|load 0 auto http://a.test/#x|settle'),
+        ('load_of_no_navigable', 'A load and a reload of a navigable that is not there.',
+         'session 1|open http://a.test/|load 5 auto http://a.test/1|reload 5|settle'),
+    ]),
+    ('Frames', [
+        ('frame_loads_and_fragment', 'Loads of a frame, a fragment of the top, and back four times.',
+         'session 1|open http://a.test/|frame 0 1|settle|load 1 auto http://a.test/f1|settle|load 1 auto http://a.test/f2|settle|load 1 auto http://a.test/f3|settle|load 0 auto http://a.test/#x|settle|go -1|settle|go -1|settle|go -1|settle|go -1|settle'),
+        ('removed_frame', 'A frame is loaded twice and removed; its steps go with it.',
+         'session 1|open http://a.test/|frame 0 1|settle|load 1 auto http://a.test/f1|settle|load 1 auto http://a.test/f2|settle|remove 0 1|settle'),
+        ('frame_replaced', 'A load of a new frame is a replace, and a bad address is refused.',
+         'session 1|open http://a.test/|frame 0 1|settle|load 1 auto http://a.test/f|settle|load 1 auto http://a.test/f|settle|replace 1 s http://b.test/|settle'),
+        ('taken_number', 'A frame number that is taken.',
+         'session 1|open http://a.test/|frame 0 1|settle|frame 0 1|settle'),
+        ('push_of_a_removed_frame', 'A push of a frame that was removed is dropped.',
+         'session 1|open http://a.test/|frame 0 1|settle|remove 0 1|push 1 s|settle'),
+        ('load_of_a_new_frame', 'A load of a frame whose first document was never shown is dropped.',
+         'session 1|open http://a.test/|frame 0 1|act 1|deliver 1|begin 1|finish 1|deliver 1|load 1 auto http://a.test/f|settle'),
+        ('removal_and_push', 'A removal and a push that are taken up together.',
+         'session 1|open http://a.test/|frame 0 1|settle|load 1 auto http://a.test/f|settle|load 1 auto http://a.test/f2|settle|fragment 0 x|settle|go -2|settle|go 2|begin 1|finish 1|deliver 1|remove 0 1|push 0 s /y|act 1|act 1|deliver 1|deliver 1|settle'),
+        ('removal_and_push_of_two_processes', 'The same, in two processes.',
+         'session 1|site http://b.test 2|open http://a.test/|frame 0 1|settle|load 1 auto http://b.test/f|settle|load 1 auto http://b.test/g|settle|push 0 s|settle|go -2|settle|go 2|begin 1|finish 1|deliver 1|begin 1|finish 1|deliver 1|remove 0 1|push 0 t|act 1|act 1|deliver 1|deliver 1|settle'),
+        ('current_step_without_entry', 'A replace tidies away the entries of the current step.',
+         'session 1|open http://a.test/|frame 0 1|settle|load 1 auto http://a.test/f|settle|load 1 auto http://a.test/g|settle|load 0 replace http://a.test/x|settle'),
+        ('load_while_frames_are_moved', 'A load while a traversal moves another navigable.',
+         'session 1|site http://b.test 2|open http://a.test/|frame 0 1|settle|load 1 auto http://b.test/f|settle|push 0 s|settle|load 1 auto http://b.test/g|settle|go -2|begin 1|finish 1|deliver 1|load 0 auto http://a.test/p1|settle'),
+    ]),
+    ('Reloads', [
+        ('kept_frame_document_at_a_reload', 'A kept document of a frame outlives the reload of its parent.',
+         'session 1|open http://a.test/|frame 0 1|settle|load 1 auto http://a.test/f|settle|load 1 auto http://a.test/f2|settle|reload 0|settle|go -1|settle'),
+        ('kept_frame_document_at_an_eviction', "A kept document of a frame goes with its parent's.",
+         'session 1|keep 1|site http://b.test 2|open http://a.test/|frame 0 1|settle|load 1 auto http://b.test/f|settle|load 0 auto http://b.test/p0|settle|evict|settle|go -1|settle'),
+        ('reload_of_a_hidden_frame', 'A reload of a frame that is not shown.',
+         'session 1|open http://a.test/|frame 0 1|settle|load 0 auto http://a.test/1|settle|reload 1|settle|reload 0|settle'),
+    ]),
+    ('Prompts', [
+        ('stay', 'The user stays on a page with unsaved edits.',
+         'session 1|page http://a.test/1 0|open http://a.test/|load 0 auto http://a.test/1|settle|edit 0|settle|go -1|settle|answer 3 stay'),
+        ('leave', 'The user leaves a page with unsaved edits.',
+         'session 1|page http://a.test/1 0|open http://a.test/|load 0 auto http://a.test/1|settle|edit 0|settle|go -1|settle|answer 3 leave|settle'),
+        ('one_prompt_for_two', 'Two documents want a prompt, and the user is asked once.',
+         'session 1|page http://a.test/1 1|page http://a.test/f 1|open http://a.test/|load 0 auto http://a.test/1|settle|frame 0 1|settle|load 1 auto http://a.test/f|settle|go -1|settle|answer 4 leave|settle'),
+        ('load_behind_a_prompt', 'A load of a frame that was added while a prompt is up.',
+         'session 1|page http://a.test/p1 1|open http://a.test/|load 0 auto http://a.test/p1|settle|frame 0 1|go -1|act 1|deliver 1|begin 1|finish 1|begin 1|finish 1|deliver 1|deliver 1|load 1 auto http://a.test/p2|settle|answer 3 stay|settle'),
+        ('question_settled_by_a_discard', 'A question is settled as its document is discarded.',
+         'session 1|site http://b.test 2|page http://b.test/p0 1|page about:blank 1|open http://a.test/|frame 0 1|settle|frame 1 3|settle|load 3 auto http://b.test/p0|settle|answer 3 leave|settle|load 1 auto http://b.test/p0|remove 0 1|act 1|begin 2|finish 2|deliver 2|deliver 1|settle'),
+        ('wish_of_a_discarded_document', 'A document that wanted a prompt is discarded before the user is asked.',
+         'session 1|site http://c.test 3|page http://a.test/p0 0|page http://c.test/p1 1|open http://a.test/|frame 0 1|settle|load 1 auto http://b.test/p0|frame 0 3|settle|load 3 auto http://b.test/p0|settle|load 3 auto http://a.test/p0|settle|answer 5 leave|load 1 auto http://c.test/p1|settle|go -2|remove 0 2|remove 0 1|act 1|settle'),
+        ('load_behind_an_answer', 'A load of a page with unsaved edits.',
+         'session 1|page http://a.test/1 0|open http://a.test/|load 0 auto http://a.test/1|settle|edit 0|settle|load 0 auto http://a.test/2|settle|answer 3 leave|settle'),
+    ]),
+    ('Deaths', [
+        ('void_order', 'An order to a dead incarnation is void.',
+         'session 1|open http://a.test/|push 0 s /1|act 1|kill 1|deliver 1|begin 1|settle'),
+        ('one_of_two_processes_dies', 'A death in one of two processes.',
+         'session 1|site http://b.test 2|open http://a.test/|frame 0 1|settle|load 1 auto http://b.test/f|settle|load 1 auto http://b.test/g|settle|kill 1|settle'),
+        ('reload_after_a_death', 'A lost navigable is reloaded.',
+         'session 1|site http://b.test 2|open http://a.test/|frame 0 1|settle|load 1 auto http://b.test/f|settle|load 1 auto http://b.test/g|settle|kill 1|settle|go -1|settle|reload 0|settle'),
+        ('questions_of_the_dead', 'A death settles questions, and drops a reload and a load.',
+         'session 1|page about:blank 1|open http://a.test/|frame 0 2|settle|frame 2 3|settle|reload 3|kill 1|load 3 auto http://b.test/p0|settle'),
+        ('load_below_a_lost_navigable', 'A death above a loading frame drops its load.',
+         'session 1|site http://b.test 2|open http://a.test/|frame 0 1|settle|load 1 auto http://b.test/f|kill 1|deliver 1|settle'),
+        ('reload_whose_target_changes', 'A reload is ready while the target has changed.',
+         'session 1|site http://b.test 2|open http://a.test/|frame 0 1|settle|load 1 auto http://b.test/f|settle|load 1 auto http://b.test/g|settle|reload 1|kill 1|deliver 1|begin 2|finish 2|deliver 2|begin 2|finish 2|deliver 2|begin 2|finish 2|deliver 2|go -1|settle|reload 0|settle|go 1|settle'),
+        ('poke_of_a_dead_document', 'A death takes a poke that waits.',
+         'session 1|open http://a.test/|push 0 s /1|kill 1|settle'),
+    ]),
+    ('Session', [
+        ('whole_session', 'A session with sites, frames, a dirty page and a death.',
+         'session 1|keep 3|site http://shop.test 2|site http://ads.test 3|page http://shop.test/cart 0|open http://news.test/|load 0 auto http://news.test/1|settle|load 0 auto http://news.test/2|settle|frame 0 1|settle|load 1 auto http://ads.test/a|settle|load 0 auto http://news.test/2#top|settle|load 0 auto http://news.test/3|settle|go -1|settle|go 1|settle|load 0 auto http://shop.test/|settle|load 0 auto http://shop.test/p1|settle|load 0 auto http://shop.test/p2|settle|load 0 auto http://shop.test/cart|settle|edit 0|settle|load 0 auto http://news.test/4|settle|answer 14 stay|settle|kill 2|settle|reload 0|settle|load 0 auto http://shop.test/done|settle|go -2|settle'),
+    ]),
+]
+
+# broken logs by the field that fails: name, what is wrong, the scenario, the edits
+BROKEN = [
+    ('opened', [
+        ('another_first_entry', 'The first entry has another number.', 'one_push',
+         [('change', '0 start opened', 'e0.1', 'e0.2')]),
+        ('no_opening', 'The opening row is left out.', 'one_push', [('leave_out', '0 start opened')]),
+        ('opening_with_a_request', 'The opening event has a second row.', 'opened_only',
+         [('insert', '0 start opened', '0 ui accepted r1 - go 1')]),
+    ]),
+    ('numbered', [
+        ('gap', 'An event is left out, and its number is missing.', 'three_pushes', [('gap', '4 p1 ')]),
+        ('two_actors', 'A row of an event has another actor.', 'one_push', [('change', '3 co applied', '3 co', '3 ui')]),
+    ]),
+    ('formed', [
+        ('taken_out_of_order', 'An order is taken before the first one of the mail.', 'one_prompt_for_two',
+         [('change', ' taken p1 j11', 'j11', 'j12')]),
+        ('another_outcome', 'An update ends as an activation.', 'one_push', [('change', ' finished p1 j1', 'updated', 'activated')]),
+        ('void_order_taken_live', 'An order to a dead incarnation is taken live.', 'void_order',
+         [('change', ' taken p1 j1', 'void', 'live clean')]),
+        ('dirty_document_taken_clean', 'A document with unsaved edits is noted as clean.', 'leave',
+         [('change', ' taken p1 j4', 'dirty', 'clean')]),
+        ('delivered_without_report', 'A report is delivered that no process made.', 'one_push',
+         [('insert', '6 co delivered', '7 co delivered p1')]),
+        ('another_document_evicted', 'Another document than the longest kept one is evicted.', 'evicted_documents',
+         [('change', ' evicted s3', 's3', 's2')]),
+        ('edit_made_and_not_applied', 'An edit is made, and not applied in its event.', 'leave', [('leave_out', ' applied r2 edit')]),
+        ('answered_twice', 'A prompt is answered twice.', 'leave', [('insert', '23 co applied r3', '24 ui answered r3 leave')]),
+        ('poke_of_another_document', 'A poke names another document than the one that runs.', 'push_beside_a_frame',
+         [('change', ' accepted r2 d1', 'd1', 'd2')]),
+        ('delivered_by_the_user', 'A report is delivered by the user.', 'one_push', [('change', '6 co delivered', '6 co', '6 ui')]),
+        ('poke_kept_by_the_dead', 'A death leaves a poke in the input.', 'poke_of_a_dead_document', [('leave_out', ' dropped r1')]),
+        ('fragment_that_makes_nothing', 'A fragment order of a running document makes nothing.', 'fragment_load', [('leave_out', ' made p1 r1')]),
+        ('another_death_number', 'A death has another number than the next.', 'void_order', [('change', ' killed p1', 'x1', 'x2')]),
+    ]),
+    ('once', [
+        ('two_outcomes', 'A request is applied twice.', 'one_push', [('double', '3 co applied r1')]),
+        ('made_another_address', 'A document makes another address than its reference spells.', 'one_push',
+         [('change', ' made p1 r1', '/1', '/2')]),
+        ('applied_another_address', 'The applied push has another address than the document made.', 'one_push',
+         [('change', ' applied r1', '/1', '/2')]),
+        ('another_goal', 'A traversal begins with another goal.', 'back_after_three_pushes',
+         [('change', ' started r4 2', '4 2', '4 1')]),
+        ('push_for_a_replace', 'A load of an initial document pushes.', 'frame_replaced',
+         [('change', ' applied r2 replace', 'replace n1 e0.2 e0.3', 'push n1 e0.3')]),
+        ('another_request_number', 'A request has another number than the next.', 'beyond_the_end',
+         [('change', ' accepted r1', 'r1', 'r2')]),
+        ('reload_that_did_not_begin', 'A reload is applied that never began.', 'load_ended_by_a_reload',
+         [('leave_out', ' started r2')]),
+        ('another_document_state', 'A frame is added with another document state than the next.', 'taken_number',
+         [('change', ' applied r1', 's2', 's3')]),
+        ('begins_twice', 'A traversal begins twice.', 'back_after_three_pushes', [('double', ' started r4')]),
+        ('fragment_load_with_a_document', 'A load that is a fragment navigation begins as one with a new document.', 'fragment_load',
+         [('change', ' sent j1', 'sent j1 p1 0 d1 r1 fragment r1 auto http://a.test/#x', 'started r1')]),
+        ('two_loads_of_one_navigable', 'A load begins and the earlier one goes on.', 'later_load', [('leave_out', ' dropped r1')]),
+    ]),
+    ('caused', [
+        ('dropped_by_a_request_that_ended', 'A load is dropped by a request that has ended.', 'later_load',
+         [('change', ' dropped r4 by', 'by r3', 'by r2')]),
+        ('dropped_by_another_death', 'A load is dropped for a death that never was.', 'load_below_a_lost_navigable',
+         [('change', ' dropped r2', 'x1', 'x2')]),
+        ('refused_for_another_reason', 'A frame is refused for another reason.', 'taken_number',
+         [('change', ' refused r2', 'nav-taken', 'no-navigable')]),
+        ('stay_that_was_not_answered', 'A traversal is dropped for a stay that the user did not answer.', 'stay',
+         [('change', ' answered r3', 'stay', 'leave')]),
+        ('stay_without_a_drop', 'The user stays, and the traversal is not dropped.', 'stay', [('leave_out', ' dropped r3')]),
+        ('refused_without_reason', 'A traversal is refused though there is a step.', 'document_goes_back',
+         [('change', '9 co started', 'started r2 0', 'refused r2 no-step')]),
+        ('poke_refused_without_reason', 'A poke is refused though its document runs.', 'poke_that_waits',
+         [('change', ' accepted r1', 'r1 d1', 'r1 -'), ('insert', ' accepted r1', '1 ui refused r1 no-document')]),
+        ('load_that_is_not_refused', 'A load of a navigable that is not there is not refused.', 'load_of_no_navigable', [('leave_out', ' refused r1')]),
+        ('destroyed_by_another_request', 'A push is dropped for a removal that was none.', 'push_of_a_removed_frame',
+         [('change', ' dropped r3', 'destroyed r2', 'destroyed r1')]),
+        ('dropped_by_itself', 'A load of a new frame is dropped by itself.', 'load_of_a_new_frame', [('change', ' dropped r2', 'by r1', 'by r2')]),
+    ]),
+    ('queued', [
+        ('traversal_applied_early', 'A traversal is applied before all navigables stand.', 'push_beside_a_running_traversal',
+         [('move', ' applied r7 traverse', '64 co delivered')]),
+        ('old_epoch_applied', 'A push under an old epoch is applied.', 'push_under_an_old_epoch',
+         [('change', '12 co dropped r3', 'dropped r3 by r2', 'applied r3 push n0 e1.2 s1 t http://a.test/2')]),
+        ('push_waits_for_the_traversal', 'A push that may jump the queue waits for the traversal.', 'push_beside_a_running_traversal',
+         [('move', ' applied r6 push', ' applied r7 traverse')]),
+        ('held_back_push_applied_early', 'A held back push is applied before its traversal.', 'held_back_push',
+         [('move', ' applied r6', ' co delivered p1', 'last before', ' applied r5 traverse')]),
+        ('begins_out_of_turn', 'A traversal begins before the one before it has ended.', 'two_traversals_in_the_queue',
+         [('move', ' started r4', ' accepted r4')]),
+        ('load_applied_during_a_traversal', 'A load is applied while a traversal is under way.', 'load_ended_by_a_traversal',
+         [('change', ' dropped r2', 'dropped r2 by r3', 'applied r2 push n0 e0.3 s3 - http://b.test/p0')]),
+    ]),
+    ('ordered', [
+        ('update_sent_twice', 'An update is sent again.', 'one_push',
+         [('insert', '3 co sent j1', '3 co sent j2 p1 0 d1 r1 update 2 1')]),
+        ('another_length', 'An update has another length.', 'one_push', [('change', ' sent j1', 'update 2', 'update 3')]),
+        ('order_for_a_dead_document', 'A dead document is shown.', 'push_after_a_death',
+         [('insert', '8 co delivered', '8 co sent j2 p1 1 d1 x1 activate e1.1 2 2 1 s http://a.test/1')]),
+        ('old_epoch_sent', 'A document is shown under an epoch that was.', 'leave', [('change', ' sent j6', 'e0.1 3', 'e0.1 2')]),
+        ('made_twice', 'A document is made twice.', 'later_load',
+         [('insert', '1 ui sent j1', '1 ui sent j2 p1 0 d3 r1 populate n0 s2 plain http://a.test/1')]),
+        ('handler_not_asked', 'A document with a handler is left unasked.', 'leave', [('leave_out', ' sent j4')]),
+        ('eviction_without_discard', 'A document is evicted, and not discarded.', 'evicted_documents', [('leave_out', ' sent j12')]),
+        ('another_incarnation', 'An order goes to an incarnation that is not known.', 'one_push',
+         [('change', ' sent j1', 'p1 0', 'p1 1')]),
+        ('shown_too_late', 'An order shows another entry than the target.', 'document_goes_back',
+         [('change', ' sent j2', 'activate e0.1', 'activate e1.1')]),
+        ('frozen_without_leaving', 'A document is frozen that nothing is shown instead of.', 'one_push',
+         [('change', ' sent j1', 'update 2 1', 'freeze')]),
+        ('discarded_without_cause', 'A document is discarded that is needed.', 'one_push', [('change', ' sent j1', 'update 2 1', 'discard')]),
+        ('another_handler_slot', 'A document is asked at another slot than its own.', 'leave', [('change', ' sent j4', 'ask 0', 'ask 1')]),
+        ('another_leave_cause', 'A document is asked for another cause.', 'leave', [('change', ' sent j4', 'traverse', 'reload')]),
+        ('asked_out_of_order', 'The frame is asked before the top.', 'one_prompt_for_two', [('move', ' sent j9', ' sent j10')]),
+        ('shown_before_it_is_made', 'A document is shown before it is made.', 'taken_number', [('move', ' sent j2', ' sent j1')]),
+        ('initial_document_made_plain', 'An initial about:blank document is made as a plain one.', 'taken_number',
+         [('change', ' sent j1', 'initial', 'plain')]),
+        ('another_fragment', 'A fragment order has another address than its load.', 'fragment_load', [('change', ' sent j1', '#x', '#y')]),
+    ]),
+    ('checked', [
+        ('frozen_before_the_answer', 'A document is frozen before the user has answered.', 'leave',
+         [('move', ' sent j5', ' prompted r3')]),
+        ('prompt_left_out', 'A document wants a prompt, and the user is not asked.', 'leave', [('leave_out', ' prompted r3')]),
+        ('prompt_for_the_higher_number', 'The user is asked for another document than the lowest-numbered.', 'one_prompt_for_two',
+         [('change', ' prompted r4', 'd2', 'd4')]),
+        ('made_before_the_answer', 'A document is made before the user has answered.', 'load_behind_an_answer',
+         [('move', 'populate n0 s3', ' prompted r3')]),
+    ]),
+    ('settled', [
+        ('update_forgotten', 'A push without the update of the frame beside it.', 'push_beside_a_frame',
+         [('leave_out', '18 co delivered'), ('leave_out', ' finished p1 j4'), ('leave_out', ' taken p1 j4'), ('leave_out', ' sent j4')]),
+        ('update_after_a_guess_forgotten', 'A held back push and a removal without the update after them.', 'removal_and_push',
+         [('leave_out', '76 co delivered'), ('leave_out', ' finished p1 j20'), ('leave_out', ' taken p1 j20'), ('leave_out', ' sent j20')]),
+        ('traversal_forgotten', 'A traversal without an outcome.', 'beyond_the_end', [('leave_out', ' refused r1')]),
+        ('frame_forgotten', 'A new frame whose document is never made.', 'taken_number',
+         [('keep_to', ' applied r1 frame')]),
+    ]),
+]
+
+# logs in which a load ends too late: name, what is wrong, the scenario, the edits
+LATE = [
+    ('load_outlives_a_traversal', 'A load outlives the traversal that moves its navigable.', 'load_ended_by_a_traversal', [('leave_out', ' dropped r2')]),
+    ('load_outlives_a_reload', 'A load outlives the reload of its navigable.', 'load_ended_by_a_reload', [('leave_out', ' dropped r1')]),
+]
+
+# logs that don't suit other settings than their own: name, what is wrong, the scenario, the field that fails, the settings' change
+UNSUITED = [
+    ('another_first_address', 'The tab opens at another address.', 'opened_only', 'opened', ('first', 'http://b.test/')),
+    ('another_process', 'A document is made in another process than its site says.', 'two_processes', 'placed', ('sites', {'http://b.test': 3})),
+    ('another_handler', 'A document has another handler than its page says.', 'leave', 'placed', ('pages', {'http://a.test/1': 1})),
+    ('discarded_too_early', 'A kept document is discarded though more may be kept.', 'evicted_documents', 'placed', ('keep', 2)),
+    ('too_many_kept', 'More documents are kept than may be.', 'evicted_documents', 'kept', ('keep', 0)),
+]
+
+# logs that the checker calls legal, and the definitions don't: a reload that is applied has to have begun
+BEYOND_THE_CHECKER = {'reload_that_did_not_begin'}
+FIELDS = ['opened', 'numbered', 'formed', 'once', 'caused', 'queued', 'ordered', 'checked', 'settled']
+
+
+# ---- the model
+
+class Model:
+    """The plain model and its checker, of a folder."""
+
+    def __init__(self, folder):
+        sys.path.insert(0, folder)
+        import fuzz_check
+        import logcheck
+        import logtext
+        import scenario
+        import tab
+        from engine import World
+        self.fuzz, self.check, self.logtext, self.scenario, self.tab, self.World = fuzz_check, logcheck, logtext, scenario, tab, World
+
+    def play(self, text):
+        """The lines of the log of a scenario."""
+        read = self.scenario.read(text.encode())
+        world = self.World(read.header)
+        for line in read.lines:
+            self.tab.play_line(world, line)
+        return [self.logtext.row_line(row) for row in world.log]
+
+    def rows(self, lines):
+        return self.check.read_log('\n'.join(lines))
+
+    def verdict(self, lines):
+        """None where the log is legal, else the number of the checker's clause."""
+        found, _ = self.check.check(self.rows(lines))
+        return None if found is None else found[1]
+
+
+# ---- edits of a log
+
+def renumbered(lines):
+    """The events numbered without a gap."""
+    out, last, number = [], None, -1
+    for line in lines:
+        event, rest = line.split(' ', 1)
+        if event != last:
+            last, number = event, number + 1
+        out.append('%d %s' % (number, rest))
+    return out
+
+
+def find(lines, where):
+    for i, line in enumerate(lines):
+        if where in ' ' + line or line.startswith(where):
+            return i
+    raise SystemExit('no row with %r' % where)
+
+
+def moved(lines, i, j):
+    """Row i after row j, in the event of row j."""
+    row = lines[i].split(' ')
+    row[:2] = lines[j].split(' ')[:2]
+    rest = lines[:i] + lines[i + 1:]
+    at = j if i < j else j + 1
+    return renumbered(rest[:at] + [' '.join(row)] + rest[at:])
+
+
+def edited(lines, edits):
+    for edit in edits:
+        kind, i = edit[0], find(lines, edit[1])
+        if kind == 'change':
+            if edit[2] not in lines[i]:
+                raise SystemExit('no %r in %r' % (edit[2], lines[i]))
+            lines = lines[:i] + [lines[i].replace(edit[2], edit[3], 1)] + lines[i + 1:]
+        elif kind == 'leave_out':
+            lines = renumbered(lines[:i] + lines[i + 1:])
+        elif kind == 'gap':
+            event = lines[i].split(' ')[0]
+            lines = [line for line in lines if line.split(' ')[0] != event]
+        elif kind == 'double':
+            lines = lines[:i + 1] + lines[i:]
+        elif kind == 'insert':
+            lines = lines[:i + 1] + [edit[2]] + lines[i + 1:]
+        elif kind == 'keep_to':
+            lines = lines[:i + 1]
+        elif kind == 'move' and len(edit) == 5:
+            end = find(lines, edit[4])
+            lines = moved(lines, i, max(k for k in range(end) if edit[2] in lines[k] and lines[k].split(' ')[0] != lines[end].split(' ')[0]))
+        elif kind == 'move':
+            lines = moved(lines, i, find(lines, edit[2]))
+    return lines
+
+
+# ---- lemma files
+
+def is_used(name, body):
+    """The name stands in the text, outside of quoted texts and comments."""
+    plain = re.sub(r'"[^"]*"|^--.*$', ' ', body, flags=re.M)
+    return re.search(r'(?<![\w.])%s(?![\w.])' % re.escape(name.strip('◌')), plain) is not None
+
+
+def imports(body):
+    """The imports that the text uses."""
+    out = []
+    for line in log_rows.HEAD.splitlines():
+        names = re.fullmatch(r'(use .*\.)\{(.*)\}', line)
+        if names is None:
+            if ' %s.' % line.split(' ')[-1] in body or '(%s.' % line.split(' ')[-1] in body:
+                out.append(line)
+            continue
+        used = [name for name in names[2].split(', ') if is_used(name, body)]
+        if used:
+            out.append('%s{%s}' % (names[1], ', '.join(used)))
+    return '\n'.join(out) + '\n'
+
+
+def log_of(name, sentence, rows):
+    return '-- %s\nabbrev pub %s : List LogRow\n%s =\n    %s\n\n' % (sentence, name, name, log_rows.terms(rows))
+
+
+def setting(header):
+    """The settings as a term."""
+    sites = ' ∷ '.join(['record { origin = codes "%s"; proc = p %d }' % site for site in header.sites.items()] + ['[]'])
+    pages = ' ∷ '.join(['record { base = codes "%s"; slot = %d }' % page for page in header.pages.items()] + ['[]'])
+    return 'record { keep = %d; sites = %s; pages = %s; first = codes "%s" }' % (header.keep, sites, pages, header.first)
+
+
+def header_of(name, header):
+    return 'abbrev pub %s_header : Header\n%s_header = %s\n\n' % (name, name, setting(header))
+
+
+def legal_lemma(name, sentence, rows, header):
+    fields = '; '.join('%s = refl' % field for field in FIELDS)
+    lemmas = [
+        ('is_legal', 'IsLegal %s' % name, 'record { %s }' % fields),
+        ('ends_loads', 'LoadsEndInTime %s' % name, 'refl'),
+        ('suits', 'Suits %s_header %s' % (name, name), 'record { opened = refl; placed = refl; kept = refl }'),
+    ]
+    return log_of(name, sentence, rows) + header_of(name, header) + '\n'.join(
+        'pub %s_%s : %s\n%s\n%s_%s = %s\n' % (name, what, claim, log_rows.UNFOLDING, name, what, proof) for what, claim, proof in lemmas)
+
+
+def broken_lemma(name, sentence, rows, claim, fact, header=None):
+    return log_of(name, sentence, rows) + (header_of(name, header) if header else '') + 'pub %s_is_refused : %s → ⊥\n%s\n%s_is_refused holds = false≢true %s\n' % (
+        name, claim, log_rows.UNFOLDING, name, fact)
+
+
+def module(folder, name, title, lemmas):
+    body = '\n'.join(lemmas)
+    with open(os.path.join(folder, name + '.antt'), 'w') as file:
+        file.write('-- %s\n%s\n%s' % (title, imports(body), body))
+    return name
+
+
+def gate(model):
+    folder = os.path.join(TOP, 'crates', 'log_examples', 'proofs')
+    names, played, texts, legal, broken = [], {}, {}, 0, 0
+    for topic, scenarios in SCENARIOS:
+        lemmas = []
+        for name, sentence, text in scenarios:
+            lines = played[name] = model.play(text.replace('|', '\n') + '\n')
+            if model.verdict(lines) is not None:
+                raise SystemExit('%s: the checker finds clause %s' % (name, model.verdict(lines)))
+            header, _ = model.check.read_scenario(text.replace('|', '\n'))
+            lemmas.append(legal_lemma(name, sentence, model.rows(lines), header))
+            texts[name] = text
+            legal += 1
+        names.append(module(folder, topic, 'Legal logs: %s.' % topic.lower(), lemmas))
+    for field, examples in BROKEN:
+        lemmas = []
+        for name, sentence, scenario, edits in examples:
+            lines = edited(played[scenario], edits)
+            if (model.verdict(lines) is None) != (name in BEYOND_THE_CHECKER):
+                raise SystemExit('%s: the checker judges otherwise' % name)
+            lemmas.append(broken_lemma(name, sentence, model.rows(lines), 'IsLegal %s' % name, 'holds.' + field))
+            broken += 1
+        names.append(module(folder, 'Not' + field.capitalize(), 'Broken logs, each refused by the field `%s`.' % field, lemmas))
+    late = [broken_lemma(name, sentence, model.rows(edited(played[scenario], edits)), 'LoadsEndInTime ' + name, 'holds')
+            for name, sentence, scenario, edits in LATE]
+    names.append(module(folder, 'NotEnding', 'Logs in which a load ends too late.', late))
+    unsuited = []
+    for name, sentence, scenario, field, (part, value) in UNSUITED:
+        header, _ = model.check.read_scenario(texts[scenario].replace('|', '\n'))
+        setattr(header, part, value)
+        rows = model.rows(played[scenario])
+        if not model.check.suits(rows, header):
+            raise SystemExit('%s: the checker finds that it suits' % name)
+        unsuited.append(broken_lemma(name, sentence, rows, 'Suits %s_header %s' % (name, name), 'holds.' + field, header))
+    names.append(module(folder, 'NotSuited', 'Logs that do not suit other settings than their own.', unsuited))
+    with open(os.path.join(folder, 'Lib.antt'), 'w') as file:
+        file.write(''.join('pub mod %s\n' % name for name in names))
+    print('%d legal logs, %d broken ones, %d in which a load ends late, %d that do not suit' % (legal, broken, len(late), len(unsuited)))
+
+
+# ---- random logs
+
+PROFILES = ['v1', 'nokill', 'mixed', 'hard1', 'hardk1', 'pct1', 'burst1', 'park1', 'prompt1', 'relo1']
+WORDS = [('leave', 'prompt'), ('live', 'void'), ('clean', 'dirty'), ('initial', 'plain'), ('stay', 'leave'), ('freeze', 'discard'),
+         ('load', 'traverse'), ('traverse', 'reload'), ('no-step', 'no-navigable'), ('not-shown', 'no-document'), ('no-document', 'address'),
+         ('by', 'destroyed'), ('by', 'gone'), ('destroyed', 'by'), ('gone', 'by'), ('activated', 'updated'), ('auto', 'push'),
+         ('auto', 'replace'), ('push', 'auto'), ('push', 'replace'), ('-', 's'), ('s', '-'), ('-', '0'), ('0', '-')]
+
+
+def another_word(rng, word):
+    """Another word for a word of a row, or None."""
+    ways = [to for of, to in WORDS if word == of]
+    if re.fullmatch(r'[nsdpjrx]?\d+', word):
+        kind, number = re.fullmatch(r'([nsdpjrx]?)(\d+)', word).groups()
+        ways.append('%s%d' % (kind, max(0, int(number) + rng.choice([-1, 1, 1, 2]))))
+    if re.fullmatch(r'e\d+\.\d+', word):
+        maker, number = map(int, word[1:].split('.'))
+        ways.append(rng.choice(['e%d.%d' % (maker + 1, number), 'e%d.%d' % (max(0, maker - 1), number), 'e%d.%d' % (maker, number + 1), 'e%d.%d' % (maker, max(0, number - 1))]))
+    if word.startswith('http'):
+        ways.append(rng.choice(['http://a.test/', 'http://a.test/p1', word.split('#')[0] + '#f0', word + 'x']))
+    ways = [way for way in ways if way != word]
+    return rng.choice(ways) if ways else None
+
+
+def random_edit(rng, lines):
+    """One row changed, left out, doubled or moved, or an event left out or doubled."""
+    i, kind = rng.randrange(1, len(lines)), rng.random()
+    if kind < 0.22:
+        return 'left out: ' + lines[i], renumbered(lines[:i] + lines[i + 1:])
+    if kind < 0.34:
+        return 'doubled: ' + lines[i], lines[:i + 1] + lines[i:]
+    if kind < 0.46:
+        j = max(1, min(len(lines) - 1, i + rng.choice([-3, -2, -1, 1, 2, 3])))
+        rest = lines[:i] + lines[i + 1:]
+        row = lines[i].split(' ')
+        if rng.random() < 0.7:
+            row[:2] = rest[j - 1].split(' ')[:2]
+        return 'moved by %d: %s' % (j - i, lines[i]), renumbered(rest[:j] + [' '.join(row)] + rest[j:])
+    if kind < 0.52:
+        event = lines[i].split(' ')[0]
+        group = [line for line in lines if line.split(' ')[0] == event]
+        at = lines.index(group[0])
+        if rng.random() < 0.6:
+            return 'event left out: ' + group[0], renumbered(lines[:at] + lines[at + len(group):])
+        again = [re.sub(r'^\d+', '999999', line) for line in group]
+        return 'event doubled: ' + group[0], renumbered(lines[:at + len(group)] + again + lines[at + len(group):])
+    words = lines[i].split(' ')
+    ways = [(k, to) for k in range(2, len(words)) for to in [another_word(rng, words[k])] if to is not None]
+    if not ways:
+        return random_edit(rng, lines)
+    k, words[k] = rng.choice(ways)
+    row = ' '.join(words)
+    return 'changed: %s -> %s' % (lines[i], row), lines[:i] + [row] + lines[i + 1:]
+
+
+def random_logs(model, first, count, most):
+    """Pairs of a log and what was done to it."""
+    rng, seed, out = random.Random(first), first * 1000, []
+    while len(out) < count:
+        seed += 1
+        text = model.fuzz.make_text(seed, PROFILES[seed % len(PROFILES)])
+        if not text.startswith('session 1\n'):
+            continue
+        try:
+            lines = model.play(text)
+        except Exception:
+            continue
+        if len(lines) > most:
+            event = lines[rng.randint(most // 2, most)].split(' ')[0]
+            lines = [line for line in lines if int(line.split(' ')[0]) < int(event)]
+        if len(lines) < 8:
+            continue
+        what = 'as played'
+        if rng.random() < 0.5:
+            what, lines = random_edit(rng, lines)
+            try:
+                model.rows(lines)
+            except model.check.BadLine:
+                continue
+        out.append((seed, what, lines))
+    return out
+
+
+def at_random(model, first, count, most, folder):
+    for name in os.listdir(folder):
+        if name.endswith('.antt'):
+            os.remove(os.path.join(folder, name))
+    logs, names, legal = random_logs(model, first, count, most), [], 0
+    with open(os.path.join(folder, 'logs.txt'), 'w') as file:
+        for k, (seed, what, lines) in enumerate(logs):
+            file.write('log_%d seed %d, %s, checker: %s\n%s\n\n' % (k, seed, what, model.verdict(lines) or 'legal', '\n'.join(lines)))
+    for start in range(0, count, 25):
+        body = ''
+        for k, (seed, what, lines) in enumerate(logs[start:start + 25], start):
+            is_legal = model.verdict(lines) is None
+            legal += is_legal
+            body += 'abbrev log_%d : List LogRow\nlog_%d =\n    %s\n\n' % (k, k, log_rows.terms(model.rows(lines)))
+            body += 'log_%d_agrees : list_all (λ (holds : Bool). holds) (verdicts_of (events_of log_%d)) ≡ %s\n%s\nlog_%d_agrees = refl\n\n' % (
+                k, k, 'true' if is_legal else 'false', log_rows.UNFOLDING, k)
+        name = 'Random%d' % (start // 25)
+        with open(os.path.join(folder, name + '.antt'), 'w') as file:
+            file.write('-- Random logs.\n%suse Rattle.std.specs.List.{list_all}\nuse Rattle.log_examples.specs.Verdicts.{verdicts_of}\n\n%s' % (imports(body), body))
+        names.append(name)
+    with open(os.path.join(folder, 'Lib.antt'), 'w') as file:
+        file.write(''.join('mod %s\n' % name for name in names))
+    print('%d logs, %d rows, %d edited, %d legal' % (
+        count, sum(len(lines) for _, _, lines in logs), sum(what != 'as played' for _, what, _ in logs), legal))
+
+
+def main(words):
+    if words[:1] == ['--random']:
+        first, count, most = map(int, words[1:4])
+        at_random(Model(words[5] if len(words) > 5 else os.path.join(TOP, '..', 'shared', 'model')), first, count, most, words[4])
+    else:
+        gate(Model(words[0] if words else os.path.join(TOP, '..', 'shared', 'model')))
+
+
+if __name__ == '__main__':
+    main(sys.argv[1:])
