@@ -20,7 +20,7 @@ same_text_itself (Some a) = (bytes_eq-Decides a a).1 refl
 number_itself : (n : ℕ) → (n == n) ≡ true
 number_itself n = (Decides-eqb n n).1 refl
 
-same_action_itself : (action : Action) → same_action action action ≡ true
+pub same_action_itself : (action : Action) → same_action action action ≡ true
 same_action_itself (actions.Push memo reference) = rw (same_text_itself memo, same_text_itself reference) refl
 same_action_itself (actions.Replace memo reference) = rw (same_text_itself memo, same_text_itself reference) refl
 same_action_itself (actions.Fragment text) = (bytes_eq-Decides text text).1 refl
