@@ -1,5 +1,6 @@
 -- One stage after another: what was played of a scenario is put together.
-use Rattle.std.proofs.Common.{◌≡◌, ◌≢◌, ℕ, zero, suc, ◌+◌, ◌-◌, ◌≤◌, ◌<◌, Bool, true, false, List, [], ◌∷◌, ◌++◌, length, Result, Ok, Err, refl, sym, ap, ◌∙◌, subst, arith, append_assoc, append-nil, add-one, zero-add, length-append, take, drop}
+use Rattle.std.proofs.Common.{◌≡◌, ◌≢◌, ℕ, zero, suc, ◌+◌, ◌-◌, ◌≤◌, ◌<◌, Bool, true, false, List, [], ◌∷◌, ◌++◌, length, Result, Ok, Err, refl, sym, ap, ◌∙◌, subst, arith, append_assoc, append-nil, add-one, zero-add, length-append, take, drop, get_or, take-suc, drop-cons, eq-or-lt_of_le, inl, inr, IsErr}
+use Rattle.std.proofs.lemmas.List.{take-append-drop}
 use Rattle.std.specs.Prelude.{fold}
 use Rattle.log_model.specs.declared.row_kind.LogRow.{LogRow}
 use Rattle.log_model.specs.Seen.{Seen}
@@ -11,7 +12,7 @@ use Rattle.log_model.proofs.EventLaws.{flat, flat-events_of}
 use Rattle.scenario_text.specs.declared.line.ScenarioLine.{ScenarioLine}
 use Rattle.scenario_text.specs.declared.line.ScenarioLine.TheVariants as lines
 use Rattle.scenario_text.specs.declared.scenario.Scenario.{Scenario}
-use Rattle.scenario_text.specs.Follows.{Course, goes, strays, stops, Stage, and_then, is_passed, is_event, does, does_all, a_round, rounds, settles, plays_line, plays, course_of, Follows, IsCutShort}
+use Rattle.scenario_text.specs.Follows.{Course, goes, strays, stops, Stage, and_then, is_passed, is_event, does, does_all, turn_of, turns_to, a_round, rounds, settles, plays_line, plays, course_of, Follows, IsCutShort}
 use Rattle.scenario_text.proofs.FollowLaws.{does_all-append, plays-append, plays_one, events_more}
 use Rattle.scenario_play.specs.Courses.{Leads, Cuts, Plays, PlaysRounds}
 
@@ -67,10 +68,6 @@ pub cuts_first : (f g : Stage) (a b : List LogRow) → Cuts f a b → Cuts (both
 cuts_first f g a b first =
     record { events = first.events; more = first.more; cuts = ap (λ (course : Course). and_then course g) first.cuts }
 
-pub plays_then : {T E : Type 0} (f g : Stage) (a b c : List LogRow) (result : Result T E) → Leads f a b → Plays g b result c → Plays (both f g) a result c
-plays_then f g a b c (Ok x) first second = leads_then f g a b c first second
-plays_then f g a b c (Err e) first second = cuts_then f g a b c first second
-
 -- the same stage in other words
 pub leads_as : (f g : Stage) (a b : List LogRow) → ((s : Seen) (events : List (List LogRow)) → g s events ≡ f s events) → Leads f a b → Leads g a b
 leads_as f g a b same leads =
@@ -80,9 +77,10 @@ pub cuts_as : (f g : Stage) (a b : List LogRow) → ((s : Seen) (events : List (
 cuts_as f g a b same cuts =
     record { events = cuts.events; more = cuts.more; cuts = same (seen_of a) cuts.events ∙ cuts.cuts }
 
-pub plays_as : {T E : Type 0} (f g : Stage) (a b : List LogRow) (result : Result T E) → ((s : Seen) (events : List (List LogRow)) → g s events ≡ f s events) → Plays f a result b → Plays g a result b
-plays_as f g a b (Ok x) same played = leads_as f g a b same played
-plays_as f g a b (Err e) same played = cuts_as f g a b same played
+-- an error that is handed on
+pub failed : {T E : Type 0} (stage : Stage) (a b : List LogRow) (result : Result T E) → IsErr result → Cuts stage a b → Plays stage a result b
+failed stage a b (Ok x) err cuts = cc
+failed stage a b (Err e) err cuts = cuts
 
 -- ---- lines of events
 
@@ -94,26 +92,59 @@ pub all_leads : (line : ScenarioLine) (more : List ScenarioLine) (a b c : List L
 unfolding does_all
 all_leads line more a b c first second = leads_then (does line) (does_all more) a b c first second
 
-pub all_then : {T E : Type 0} (line : ScenarioLine) (more : List ScenarioLine) (a b c : List LogRow) (result : Result T E) → Leads (does line) a b → Plays (does_all more) b result c → Plays (does_all (line ∷ more)) a result c
+pub all_cuts : (line : ScenarioLine) (more : List ScenarioLine) (a b c : List LogRow) → Leads (does line) a b → Cuts (does_all more) b c → Cuts (does_all (line ∷ more)) a c
 unfolding does_all
-all_then line more a b c result first second = plays_then (does line) (does_all more) a b c result first second
+all_cuts line more a b c first second = cuts_then (does line) (does_all more) a b c first second
 
 pub all_cut : (line : ScenarioLine) (more : List ScenarioLine) (a b : List LogRow) → Cuts (does line) a b → Cuts (does_all (line ∷ more)) a b
 unfolding does_all
 all_cut line more a b first = cuts_first (does line) (does_all more) a b first
+
+pub all_then : {T E : Type 0} (line : ScenarioLine) (more : List ScenarioLine) (a b c : List LogRow) (result : Result T E) → Leads (does line) a b → Plays (does_all more) b result c → Plays (does_all (line ∷ more)) a result c
+all_then line more a b c (Ok x) first second = all_leads line more a b c first second
+all_then line more a b c (Err e) first second = all_cuts line more a b c first second
 
 -- one line at the end
 pub all_last : {T E : Type 0} (line : ScenarioLine) (a b : List LogRow) (result : Result T E) → Plays (does line) a result b → Plays (does_all (line ∷ [])) a result b
 all_last line a b (Ok x) played = all_leads line [] a b b played (all_done b)
 all_last line a b (Err e) played = all_cut line [] a b played
 
-pub all_append : {T E : Type 0} (xs ys : List ScenarioLine) (a b c : List LogRow) (result : Result T E) → Leads (does_all xs) a b → Plays (does_all ys) b result c → Plays (does_all (xs ++ ys)) a result c
-all_append xs ys a b c result first second =
-    plays_as (both (does_all xs) (does_all ys)) (does_all (xs ++ ys)) a c result (does_all-append xs ys) (plays_then (does_all xs) (does_all ys) a b c result first second)
+pub all_appended : (xs ys : List ScenarioLine) (a b c : List LogRow) → Leads (does_all xs) a b → Leads (does_all ys) b c → Leads (does_all (xs ++ ys)) a c
+all_appended xs ys a b c first second =
+    leads_as (both (does_all xs) (does_all ys)) (does_all (xs ++ ys)) a c (does_all-append xs ys) (leads_then (does_all xs) (does_all ys) a b c first second)
+
+pub all_appended_cut : (xs ys : List ScenarioLine) (a b c : List LogRow) → Leads (does_all xs) a b → Cuts (does_all ys) b c → Cuts (does_all (xs ++ ys)) a c
+all_appended_cut xs ys a b c first second =
+    cuts_as (both (does_all xs) (does_all ys)) (does_all (xs ++ ys)) a c (does_all-append xs ys) (cuts_then (does_all xs) (does_all ys) a b c first second)
 
 pub all_cut_front : (xs ys : List ScenarioLine) (a b : List LogRow) → Cuts (does_all xs) a b → Cuts (does_all (xs ++ ys)) a b
 all_cut_front xs ys a b first =
     cuts_as (both (does_all xs) (does_all ys)) (does_all (xs ++ ys)) a b (does_all-append xs ys) (cuts_first (does_all xs) (does_all ys) a b first)
+
+-- ---- the turns of a round
+
+-- the turns up to a process, and its own
+pub turn_more : (number : ℕ) (a b c : List LogRow) → 1 ≤ number → Leads (does_all (turns_to (number - 1))) a b → Leads (does_all (turn_of (record { 0 = number }))) b c → Leads (does_all (turns_to (number + 1 - 1))) a c
+turn_more zero a b c some first second = absurd (omega (arith, some))
+turn_more (suc n) a b c some first second =
+    let before : Leads (does_all (turns_to n)) a b = subst (λ (k : ℕ). Leads (does_all (turns_to k)) a b) (let e : suc n - 1 ≡ n = omega arith in e) first in
+    subst (λ (k : ℕ). Leads (does_all (turns_to k)) a c) (let e : suc n ≡ suc n + 1 - 1 = omega arith in e) (all_appended (turns_to n) (turn_of (record { 0 = suc n })) a b c before second)
+
+-- what is cut short at a turn is so whatever turns follow
+pub later_turns : (last number : ℕ) (a b : List LogRow) → number ≤ last → Cuts (does_all (turns_to number)) a b → Cuts (does_all (turns_to last)) a b
+later_turns zero number a b within cuts =
+    subst (λ (k : ℕ). Cuts (does_all (turns_to k)) a b) (let e : number ≡ 0 = omega (arith, within) in e) cuts
+later_turns (suc last) number a b within cuts =
+    elim (eq-or-lt_of_le within) [
+      | inl same ↦ subst (λ (k : ℕ). Cuts (does_all (turns_to k)) a b) same cuts
+      | inr below ↦ all_cut_front (turns_to last) (turn_of (record { 0 = suc last })) a b (later_turns last number a b (omega (arith, below)) cuts)
+    ]
+
+pub turn_cut : (number : ℕ) (a b c : List LogRow) → 1 ≤ number → number ≤ 16 → Leads (does_all (turns_to (number - 1))) a b → Cuts (does_all (turn_of (record { 0 = number }))) b c → Cuts a_round a c
+turn_cut zero a b c some within first second = absurd (omega (arith, some))
+turn_cut (suc n) a b c some within first second =
+    let before : Leads (does_all (turns_to n)) a b = subst (λ (k : ℕ). Leads (does_all (turns_to k)) a b) (let e : suc n - 1 ≡ n = omega arith in e) first in
+    later_turns 16 (suc n) a c within (all_appended_cut (turns_to n) (turn_of (record { 0 = suc n })) a b c before second)
 
 -- ---- rounds
 
@@ -201,6 +232,23 @@ pub plays_cut : (before : List ScenarioLine) (line : ScenarioLine) (others : Lis
 unfolding plays
 plays_cut before line others a b c first second =
     cuts_as (both (plays before) (plays (line ∷ others))) (plays (before ++ line ∷ others)) a c (plays-append before (line ∷ others)) (cuts_then (plays before) (plays (line ∷ others)) a b c first (cuts_first (plays_line line) (plays others) b c second))
+
+-- the lines up to one, and that one
+pub lines_more : (ls : List ScenarioLine) (i : ℕ) (line : ScenarioLine) → i < length ls → line ≡ get_or ls i line → take (i + 1) ls ≡ take i ls ++ line ∷ []
+lines_more ls i line within is =
+    ap (λ (k : ℕ). take k ls) (add-one i) ∙ take-suc ls i line within ∙ ap (λ (l : ScenarioLine). take i ls ++ l ∷ []) (sym is)
+
+lines_whole : (ls : List ScenarioLine) (i : ℕ) (line : ScenarioLine) → i < length ls → line ≡ get_or ls i line → take i ls ++ line ∷ drop (suc i) ls ≡ ls
+lines_whole ls i line within is =
+    ap (λ (l : ScenarioLine). take i ls ++ l ∷ drop (suc i) ls) is ∙ ap (λ (d : List ScenarioLine). take i ls ++ d) (sym (drop-cons ls i line within)) ∙ take-append-drop i ls
+
+pub line_leads : (ls : List ScenarioLine) (i : ℕ) (line : ScenarioLine) (a b c : List LogRow) → i < length ls → line ≡ get_or ls i line → Leads (plays (take i ls)) a b → Leads (plays_line line) b c → Leads (plays (take (i + 1) ls)) a c
+line_leads ls i line a b c within is first second =
+    subst (λ (l : List ScenarioLine). Leads (plays l) a c) (sym (lines_more ls i line within is)) (plays_more (take i ls) line a b c first second)
+
+pub line_cut : (ls : List ScenarioLine) (i : ℕ) (line : ScenarioLine) (a b c : List LogRow) → i < length ls → line ≡ get_or ls i line → Leads (plays (take i ls)) a b → Cuts (plays_line line) b c → Cuts (plays ls) a c
+line_cut ls i line a b c within is first second =
+    subst (λ (l : List ScenarioLine). Cuts (plays l) a c) (lines_whole ls i line within is) (plays_cut (take i ls) line (drop (suc i) ls) a b c first second)
 
 -- ---- a log that has its opening alone
 

@@ -1,6 +1,6 @@
 -- A step of a world is the event of its line, or the line is passed over, or there is an error where the event was due.
 use Rattle.std.proofs.Common.{◌≡◌, ℕ, ◌+◌, ◌<◌, Bool, true, false, ◌&&◌, ◌||◌, ◌==◌, List, [], ◌∷◌, ◌++◌, length, map, Option, Some, None, Result, Ok, Err, refl, sym, ap, ◌∙◌, subst, arith, append-nil}
-use Rattle.std.specs.Prelude.{slice_get, is_some, is_none, if◌then◌else◌}
+use Rattle.std.specs.Prelude.{IsSome, slice_get, is_some, is_none, if◌then◌else◌}
 use Rattle.std.proofs.lemmas.Bool.{eq-eqb}
 use Rattle.std.proofs.lemmas.Bool.Decides.{nat_tests}
 use Rattle.std.proofs.lemmas.Option.{slice_get_within}
@@ -40,8 +40,8 @@ use Rattle.world.proofs.Ready.{is_report}
 use Rattle.world_laws.specs.Single.{Single, seen_with, desk_with, logged}
 use Rattle.world_laws.specs.Keeps.{IsWorld}
 use Rattle.proc_work.specs.Work as worked
-use Rattle.scenario_play.specs.Courses.{Leads, Cuts, Plays, line_of, IsOfHand}
-use Rattle.scenario_play.proofs.LeadLaws.{leads_none, leads_event, cuts_here}
+use Rattle.scenario_play.specs.Courses.{Leads, Cuts, Plays, line_of, order_of, IsOfHand}
+use Rattle.scenario_play.proofs.LeadLaws.{leads_none, leads_event, cuts_here, all_done, all_leads, all_cuts, all_then, all_cut, all_last, all_appended, all_appended_cut, all_cut_front}
 
 number_itself : (n : ℕ) → (n == n) ≡ true
 number_itself n = eq-eqb n n refl
@@ -201,3 +201,95 @@ finish_has_none log proc hand = leads_none (lines.Finish proc) log (rw hand refl
 
 pub finish_is_due : (log : List LogRow) (proc : ProcId) (order : Order) → in_hand_of log proc ≡ Some order → Cuts (does (lines.Finish proc)) log log
 finish_is_due log proc order hand = cuts_here (lines.Finish proc) log (rw hand refl)
+
+-- ---- an order is taken up
+
+pub took_is : (reply : Reply) (order : Order) → order_of reply ≡ Some order → reply ≡ replies.Took order
+took_is (replies.Took o) order e = let same : o ≡ order = cc in ap (λ (x : Order). replies.Took x) same
+took_is _ order e = cc
+
+-- the order that was taken up is in hand
+pub taken_in_hand : (old new : WorldState) (proc : ProcId) (reply : Reply) (order : Order) → IsWorld new.log new.single → Steps old (step_of old.single (events.Begin proc)) (Ok reply) new → order_of reply ≡ Some order → in_hand_of new.log proc ≡ Some order
+taken_in_hand old new proc reply order world steps taken =
+    hand_of_world new.log new.single proc world ∙ by_here (proc.0 == 1) old.single.in_hand (slice_get old.single.mail 0) steps
+  where
+    is : reply ≡ replies.Took order
+    is = took_is reply order taken
+
+    by_here : (here : Bool) (hand : Option Order) (first : Option Job) → Steps old (if here then begin_of old.single hand first else idle replies.Empty) (Ok reply) new → (if here then new.single.in_hand else None) ≡ Some order
+    by_here false hand first steps = let e : replies.Took order ≡ replies.Empty = sym is ∙ steps.0 in cc
+    by_here true (Some o) first steps = let e : replies.Took order ≡ replies.Busy = sym is ∙ steps.0 in cc
+    by_here true None None steps = let e : replies.Took order ≡ replies.Empty = sym is ∙ steps.0 in cc
+    by_here true None (Some job) steps =
+        let e : replies.Took order ≡ replies.Took (record { job = job; dirty = old.single.view.dirty }) = sym is ∙ steps.1 in
+        let same : order ≡ record { job = job; dirty = old.single.view.dirty } = cc in
+        ap (λ (w : WorldState). w.single.in_hand) steps.2 ∙ ap Some (sym same)
+
+-- where none was, nothing happened
+pub none_taken : (old new : WorldState) (proc : ProcId) (reply : Reply) → Steps old (step_of old.single (events.Begin proc)) (Ok reply) new → order_of reply ≡ None → new ≡ old
+none_taken old new proc reply steps taken = by_here (proc.0 == 1) old.single.in_hand (slice_get old.single.mail 0) steps
+  where
+    by_here : (here : Bool) (hand : Option Order) (first : Option Job) → Steps old (if here then begin_of old.single hand first else idle replies.Empty) (Ok reply) new → new ≡ old
+    by_here false hand first steps = steps.1
+    by_here true (Some o) first steps = steps.1
+    by_here true None None steps = steps.1
+    by_here true None (Some job) steps =
+        let some : order_of reply ≡ Some (record { job = job; dirty = old.single.view.dirty }) = ap order_of steps.1 in cc
+
+-- ---- the work of a turn
+
+-- a process that took up an order finishes it
+pub works : {T E : Type 0} (proc : ProcId) (a b c : List LogRow) (result : Result T E) → Leads (does (lines.Begin proc)) a b → Plays (does (lines.Finish proc)) b result c → Plays (does_all (lines.Begin proc ∷ lines.Finish proc ∷ [])) a result c
+works proc a b c result first second =
+    all_then (lines.Begin proc) (lines.Finish proc ∷ []) a b c result first (all_last (lines.Finish proc) b c result second)
+
+-- one with an order in hand finishes that
+pub works_on : {T E : Type 0} (proc : ProcId) (order : Order) (a b : List LogRow) (result : Result T E) → in_hand_of a proc ≡ Some order → Plays (does (lines.Finish proc)) a result b → Plays (does_all (lines.Begin proc ∷ lines.Finish proc ∷ [])) a result b
+works_on proc order a b result hand second = works proc a a b result (begin_is_busy a proc order hand) second
+
+-- and there was none to take up
+pub no_work : (proc : ProcId) (a b : List LogRow) → Leads (does (lines.Begin proc)) a b → in_hand_of b proc ≡ None → Leads (does_all (lines.Begin proc ∷ lines.Finish proc ∷ [])) a b
+no_work proc a b first hand =
+    all_leads (lines.Begin proc) (lines.Finish proc ∷ []) a b b first (all_leads (lines.Finish proc) [] b b b (finish_has_none b proc hand) (all_done b))
+
+-- the order in hand couldn't be copied
+pub no_copy : (log : List LogRow) (proc : ProcId) → IsSome (in_hand_of log proc) → Cuts (does_all (lines.Begin proc ∷ lines.Finish proc ∷ [])) log log
+no_copy log proc some = by_hand (in_hand_of log proc) refl some
+  where
+    by_hand : (hand : Option Order) → in_hand_of log proc ≡ hand → IsSome hand → Cuts (does_all (lines.Begin proc ∷ lines.Finish proc ∷ [])) log log
+    by_hand None e some = cc
+    by_hand (Some order) e some =
+        all_cuts (lines.Begin proc) (lines.Finish proc ∷ []) log log log (begin_is_busy log proc order e) (all_cut (lines.Finish proc) [] log log (finish_is_due log proc order e))
+
+-- ---- a turn
+
+-- a process acts, works, and a report of it is delivered
+pub turn_leads : (proc : ProcId) (a b c d : List LogRow) → Leads (does (lines.Act proc)) a b → Leads (does_all (lines.Begin proc ∷ lines.Finish proc ∷ [])) b c → Leads (does (lines.Deliver proc)) c d → Leads (does_all (turn_of proc)) a d
+turn_leads proc a b c d act work deliver =
+    all_leads (lines.Act proc) _ a b d act (all_appended (lines.Begin proc ∷ lines.Finish proc ∷ []) (lines.Deliver proc ∷ []) b c d work (all_leads (lines.Deliver proc) [] c d d deliver (all_done d)))
+
+pub turn_cut_late : (proc : ProcId) (a b c d : List LogRow) → Leads (does (lines.Act proc)) a b → Leads (does_all (lines.Begin proc ∷ lines.Finish proc ∷ [])) b c → Cuts (does (lines.Deliver proc)) c d → Cuts (does_all (turn_of proc)) a d
+turn_cut_late proc a b c d act work deliver =
+    all_cuts (lines.Act proc) _ a b d act (all_appended_cut (lines.Begin proc ∷ lines.Finish proc ∷ []) (lines.Deliver proc ∷ []) b c d work (all_cut (lines.Deliver proc) [] c d deliver))
+
+pub turn_cut_at_work : (proc : ProcId) (a b c : List LogRow) → Leads (does (lines.Act proc)) a b → Cuts (does_all (lines.Begin proc ∷ lines.Finish proc ∷ [])) b c → Cuts (does_all (turn_of proc)) a c
+turn_cut_at_work proc a b c act work =
+    all_cuts (lines.Act proc) _ a b c act (all_cut_front (lines.Begin proc ∷ lines.Finish proc ∷ []) (lines.Deliver proc ∷ []) b c work)
+
+-- nothing waits in the process
+idle_parts : (a b c d : Bool) → (a && b && c && d) ≡ true → (a ≡ true) × (b ≡ true) × (c ≡ true) × (d ≡ true)
+idle_parts true true true true e = (refl, refl, refl, refl)
+idle_parts true true true false e = cc
+idle_parts true true false d e = cc
+idle_parts true false c d e = cc
+idle_parts false b c d e = cc
+
+or_true : (b : Bool) → (b || true) ≡ true
+or_true true = refl
+or_true false = refl
+
+pub turn_is_idle : (log : List LogRow) (proc : ProcId) → is_idle (desk_of (seen_of log) proc) ≡ true → Leads (does_all (turn_of proc)) log log
+turn_is_idle log proc waits_none =
+    let desk : Desk = desk_of (seen_of log) proc in
+    let parts = idle_parts (length desk.input == 0) (length desk.mail == 0) (is_none desk.in_hand) (length desk.reports == 0) waits_none in
+    turn_leads proc log log log log (leads_none (lines.Act proc) log parts.0) (all_leads (lines.Begin proc) (lines.Finish proc ∷ []) log log log (leads_none (lines.Begin proc) log (rw parts.1 (or_true (is_some desk.in_hand)))) (all_leads (lines.Finish proc) [] log log log (leads_none (lines.Finish proc) log parts.2) (all_done log))) (leads_none (lines.Deliver proc) log parts.3)

@@ -1,7 +1,8 @@
 -- How the log of a world goes on along a scenario: what was played of it, and where an event that was due is missing.
 -- This project's own.
-use Rattle.std.specs.Prelude.{◌≡◌, ◌+◌, ◌≤◌, ℕ, List, ◌++◌, length, Option, Some, Result, Ok, Err}
+use Rattle.std.specs.Prelude.{◌≡◌, ◌+◌, ◌≤◌, ℕ, List, ◌++◌, length, Option, Some, None, Result, Ok, Err}
 use Rattle.tab_ids.specs.declared.ProcId.{ProcId}
+use Rattle.log_model.specs.declared.job.Order.{Order}
 use Rattle.log_model.specs.declared.request.Request.TheVariants as requests
 use Rattle.log_model.specs.declared.row_kind.LogRow.{LogRow}
 use Rattle.log_model.specs.Events.{events_of}
@@ -11,6 +12,8 @@ use Rattle.scenario_text.specs.declared.line.ScenarioLine.TheVariants as lines
 use Rattle.scenario_text.specs.Follows.{Stage, goes, stops, rounds}
 use Rattle.world.specs.declared.event.Event.{Event}
 use Rattle.world.specs.declared.event.Event.TheVariants as events
+use Rattle.world.specs.declared.event.Reply.{Reply}
+use Rattle.world.specs.declared.event.Reply.TheVariants as replies
 
 -- the stage is played: the events that the new log has more are its events
 pub record Leads (stage : Stage) (old new : List LogRow) : Type 0 where
@@ -52,3 +55,8 @@ IsOfHand log (events.Act proc) = Unit {0}
 IsOfHand log (events.Begin proc) = Unit {0}
 IsOfHand log (events.Finish proc done) = in_hand_of log proc ≡ Some done.order
 IsOfHand log (events.Deliver proc) = Unit {0}
+
+-- the order that a process took up
+abbrev pub order_of : Reply → Option Order
+order_of (replies.Took order) = Some order
+order_of _ = None
