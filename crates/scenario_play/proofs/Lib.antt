@@ -1,2 +1,4 @@
 pub mod StepMoves
 pub mod Spelled
+pub mod LeadLaws
+pub mod StepPlays

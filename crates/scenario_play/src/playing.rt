@@ -1,5 +1,8 @@
 //! `play`, which makes the events of a scenario's lines.
-ghost use Rattle.std.specs.Prelude.{◌≡◌, All, false, None, IfErr, IfSome, IsSome, OnOk};
+ghost use Rattle.std.specs.Prelude.{◌≡◌, All, false, None, IfErr, IfSome, IsSome, OnOk, length};
+ghost use Rattle.scenario_text.specs.declared.line.ScenarioLine.TheVariants as lines;
+ghost use Rattle.scenario_text.specs.Follows.{Follows, IsCutShort, does, plays, plays_line};
+ghost use Rattle.scenario_play.specs.Courses.{Plays};
 ghost use Rattle.scenario_play.specs.Lines.{IsBuiltLine, IsBuiltRequest};
 ghost use Rattle.scenario_play.specs.Moves.{IsFault};
 
@@ -15,11 +18,16 @@ pub struct Played {
     pub fault: Option<StepError>,
 }
 
-/// Plays the lines in order. The world is always given back.
+/// Plays the lines in order, in a tab that was just opened. The world is always given back.
+///
+/// Where there is a fault, its log ends before the event that failed.
 pub fn play(scenario: &Scenario, world: World) -> Played
     requires open { world.closed ≡ false }
+    requires opened { length world.log ≡ 1 }
     requires built { All IsBuiltLine scenario.now.lines }
+    ensures follows { result.fault ≡ None → IfSome result.world (λ w. Follows w.log scenario.now) }
     ensures open { result.fault ≡ None → IfSome result.world (λ w. w.closed ≡ false) }
+    ensures cut { IsSome result.fault → IfSome result.world (λ w. IsCutShort w.log scenario.now) }
     ensures faults { IfSome result.fault (λ e. IfSome result.world (λ w. IsFault w e)) }
     ensures given { IsSome result.world }
 {
@@ -41,6 +49,7 @@ fn play_lines(world: &mut World, lines: &[ScenarioLine]) -> Result<(), StepError
     requires built { All IsBuiltLine lines.now }
     ensures open { OnOk result (world.new.closed ≡ false) }
     ensures faults { IfErr result (IsFault world.new) }
+    ensures plays { Plays (plays lines.now) world.old.log result world.new.log }
 {
     for line in lines {
         play_line(world, line)?;
@@ -54,6 +63,7 @@ fn play_line(world: &mut World, line: &ScenarioLine) -> Result<(), StepError>
     requires built { IsBuiltLine line.now }
     ensures open { OnOk result (world.new.closed ≡ false) }
     ensures faults { IfErr result (IsFault world.new) }
+    ensures plays { Plays (plays_line line.now) world.old.log result world.new.log }
 {
     match line {
         ScenarioLine::Ask(request) => ask(world, request),
@@ -74,6 +84,7 @@ fn ask(world: &mut World, request: &Request) -> Result<(), StepError>
     requires built { IsBuiltRequest request.now }
     ensures open { OnOk result (world.new.closed ≡ false) }
     ensures faults { IfErr result (IsFault world.new) }
+    ensures plays { Plays (does (lines.Ask request.now)) world.old.log result world.new.log }
 {
     match request {
         Request::Poke { nav, action } => {

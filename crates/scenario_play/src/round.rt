@@ -1,8 +1,12 @@
 //! Rounds of steps of the processes and of the coordinator.
-ghost use Rattle.std.specs.Prelude.{◌≡◌, ◌<◌, ◌≤◌, ◌==◌, if◌then◌else◌, true, false, None, Some, IfErr, IfOk, OnOk, length};
-ghost use Rattle.log_model.specs.Logs.{is_still};
+ghost use Rattle.std.specs.Prelude.{◌≡◌, ◌<◌, ◌≤◌, ◌==◌, if◌then◌else◌, ◌∷◌, [], true, false, None, Some, IfErr, IfOk, IsErr, IsSome, OnOk, length};
+ghost use Rattle.log_model.specs.Logs.{seen_of, is_still, is_idle, in_hand_of};
+ghost use Rattle.log_model.specs.Seen.{desk_of};
+ghost use Rattle.scenario_text.specs.declared.line.ScenarioLine.TheVariants as lines;
+ghost use Rattle.scenario_text.specs.Follows.{a_round, does, does_all, settles, turn_of};
 ghost use Rattle.world_laws.specs.Single.{seen_with};
 ghost use Rattle.world.specs.Steps.{IsBuilt, Steps, step_of};
+ghost use Rattle.scenario_play.specs.Courses.{IsOfHand, Plays, line_of, order_of};
 ghost use Rattle.scenario_play.specs.Moves.{IsFault, MovesOn, MovesIf, has_poke, has_order, has_mail, has_report};
 
 use log_model::Order;
@@ -16,11 +20,23 @@ pub(crate) fn settle(world: &mut World) -> Result<(), StepError>
     ensures open { OnOk result (world.new.closed ≡ false) }
     ensures faults { IfErr result (IsFault world.new) }
     ensures still { OnOk result (is_still (seen_with world.new.single) ≡ true) }
+    ensures plays { Plays settles world.old.log result world.new.log }
 {
-    'rounds: while !world.is_still() {
+    'rounds: while !is_still(world) {
         round(world)?;
     }
     Ok(())
+}
+
+/// Whether nothing is in transit.
+fn is_still(world: &World) -> bool
+    requires open { world.now.closed ≡ false }
+    ensures value { result ≡ is_still (seen_with world.now.single) }
+    ensures log { result ≡ is_still (seen_of world.now.log) }
+    ensures short { length world.now.log ≤ 1000002 }
+{
+    let _stands = world.log();
+    world.is_still()
 }
 
 /// One round, through all processes that a scenario may name.
@@ -30,6 +46,7 @@ fn round(world: &mut World) -> Result<(), StepError>
     ensures open { OnOk result (world.new.closed ≡ false) }
     ensures faults { IfErr result (IsFault world.new) }
     ensures longer { OnOk result (length world.old.log < length world.new.log) }
+    ensures plays { Plays a_round world.old.log result world.new.log }
 {
     first_turn(world)?;
     for number in 2..17 {
@@ -45,6 +62,7 @@ fn first_turn(world: &mut World) -> Result<(), StepError>
     ensures open { OnOk result (world.new.closed ≡ false) }
     ensures faults { IfErr result (IsFault world.new) }
     ensures longer { OnOk result (length world.old.log < length world.new.log) }
+    ensures plays { Plays (does_all (turn_of (record { 0 = 1 }))) world.old.log result world.new.log }
 {
     act(world, ProcId(1))?;
     work_on(world, ProcId(1))?;
@@ -57,14 +75,10 @@ fn turn(world: &mut World, proc: ProcId) -> Result<(), StepError>
     requires open { world.old.closed ≡ false }
     ensures faults { IfErr result (IsFault world.new) }
     ensures moves { OnOk result (MovesOn world.old world.new) }
+    ensures plays { Plays (does_all (turn_of proc)) world.old.log result world.new.log }
 {
     // Where nothing waits, each of the steps would only say so.
-    let waiting = world.waiting(proc);
-    if waiting.input == 0
-        && waiting.mail == 0
-        && waiting.reports == 0
-        && world.in_hand(proc).is_none()
-    {
+    if is_idle(world, proc) {
         return Ok(());
     }
     act(world, proc)?;
@@ -73,11 +87,25 @@ fn turn(world: &mut World, proc: ProcId) -> Result<(), StepError>
     Ok(())
 }
 
+/// Whether nothing waits in a process.
+fn is_idle(world: &World, proc: ProcId) -> bool
+    requires open { world.now.closed ≡ false }
+    ensures { result ≡ is_idle (desk_of (seen_of world.now.log) proc) }
+{
+    let _stands = world.log();
+    let waiting = world.waiting(proc);
+    waiting.input == 0
+        && waiting.mail == 0
+        && world.in_hand(proc).is_none()
+        && waiting.reports == 0
+}
+
 /// Lets a document of the process act, where a poke waits.
 fn act(world: &mut World, proc: ProcId) -> Result<(), StepError>
     requires open { world.old.closed ≡ false }
     ensures faults { IfErr result (IsFault world.new) }
     ensures moves { OnOk result (MovesIf (has_poke world.old.single proc) world.old world.new) }
+    ensures plays { Plays (does (lines.Act proc)) world.old.log result world.new.log }
 {
     match step(world, Event::Act { proc }) {
         Ok(_) => return Ok(()),
@@ -90,6 +118,7 @@ fn work_on(world: &mut World, proc: ProcId) -> Result<(), StepError>
     requires open { world.old.closed ≡ false }
     ensures faults { IfErr result (IsFault world.new) }
     ensures moves { OnOk result (MovesIf (has_order world.old.single proc) world.old world.new) }
+    ensures plays { Plays (does_all (lines.Begin proc ∷ lines.Finish proc ∷ [])) world.old.log result world.new.log }
 {
     match in_hand(world, proc)? {
         Some(order) => finish(world, proc, order),
@@ -99,9 +128,13 @@ fn work_on(world: &mut World, proc: ProcId) -> Result<(), StepError>
 
 /// A copy of the order that a process has in hand.
 fn in_hand(world: &World, proc: ProcId) -> Result<Option<Order>, StepError>
+    requires open { world.now.closed ≡ false }
     ensures faults { IfErr result (IsFault world.now) }
     ensures ok { IfOk result (λ order. order ≡ (if proc.0 == 1 then world.now.single.in_hand else None)) }
+    ensures log { IfOk result (λ order. order ≡ in_hand_of world.now.log proc) }
+    ensures some { IsErr result → IsSome (in_hand_of world.now.log proc) }
 {
+    let _stands = world.log();
     match world.in_hand(proc) {
         Some(order) => match order.copy() {
             Ok(order) => Ok(Some(order)),
@@ -114,10 +147,12 @@ fn in_hand(world: &World, proc: ProcId) -> Result<Option<Order>, StepError>
 /// Lets the process finish the order in hand.
 fn finish(world: &mut World, proc: ProcId, order: Order) -> Result<(), StepError>
     requires open { world.old.closed ≡ false }
-    requires hand { (if proc.0 == 1 then world.old.single.in_hand else None) ≡ Some order }
+    requires hand { in_hand_of world.old.log proc ≡ Some order }
     ensures faults { IfErr result (IsFault world.new) }
     ensures moves { OnOk result (MovesIf true world.old world.new) }
+    ensures plays { Plays (does (lines.Finish proc)) world.old.log result world.new.log }
 {
+    let _stands = world.log();
     let done = match work(order) {
         Ok(done) => done,
         Err(_) => return Err(StepError::OutOfMemory),
@@ -131,29 +166,32 @@ fn finish(world: &mut World, proc: ProcId, order: Order) -> Result<(), StepError
 /// Lets the process take up the first order of its mail and finish it.
 fn begin(world: &mut World, proc: ProcId) -> Result<(), StepError>
     requires open { world.old.closed ≡ false }
+    requires free { in_hand_of world.old.log proc ≡ None }
     ensures faults { IfErr result (IsFault world.new) }
     ensures moves { OnOk result (MovesIf (has_mail world.old.single proc) world.old world.new) }
+    ensures plays { Plays (does_all (lines.Begin proc ∷ lines.Finish proc ∷ [])) world.old.log result world.new.log }
 {
-    match step(world, Event::Begin { proc }) {
-        Ok(Reply::Took(order)) => finish_taken(world, proc, order),
-        Ok(_) => return Ok(()),
-        Err(error) => return Err(error),
+    let reply = step(world, Event::Begin { proc })?;
+    let _stands = world.log();
+    match taken(reply) {
+        Some(order) => finish(world, proc, order),
+        None => Ok(()),
     }
 }
 
-/// Lets the process finish an order that it has taken up.
-fn finish_taken(world: &mut World, proc: ProcId, order: Order) -> Result<(), StepError>
-    requires open { world.old.closed ≡ false }
-    ensures faults { IfErr result (IsFault world.new) }
-    ensures moves { OnOk result (MovesOn world.old world.new) }
+/// The order that a process took up, if it did.
+fn taken(reply: Reply) -> Option<Order>
+    ensures { result ≡ order_of reply }
 {
-    let done = match work(order) {
-        Ok(done) => done,
-        Err(_) => return Err(StepError::OutOfMemory),
-    };
-    match step(world, Event::Finish { proc, done }) {
-        Ok(_) => return Ok(()),
-        Err(error) => return Err(error),
+    match reply {
+        Reply::Took(order) => Some(order),
+        Reply::Accepted(_)
+        | Reply::Acted
+        | Reply::Busy
+        | Reply::Finished
+        | Reply::Stale
+        | Reply::Delivered
+        | Reply::Empty => None,
     }
 }
 
@@ -162,6 +200,7 @@ fn deliver(world: &mut World, proc: ProcId) -> Result<(), StepError>
     requires open { world.old.closed ≡ false }
     ensures faults { IfErr result (IsFault world.new) }
     ensures moves { OnOk result (MovesIf (has_report world.old.single proc) world.old world.new) }
+    ensures plays { Plays (does (lines.Deliver proc)) world.old.log result world.new.log }
 {
     let _stands = world.log();
     match step(world, Event::Deliver { proc }) {
@@ -174,9 +213,12 @@ fn deliver(world: &mut World, proc: ProcId) -> Result<(), StepError>
 pub(crate) fn step(world: &mut World, event: Event) -> Result<Reply, StepError>
     requires open { world.old.closed ≡ false }
     requires built { IsBuilt event }
+    requires hand { IsOfHand world.old.log event }
     ensures steps { Steps world.old (step_of world.old.single event) result world.new }
     ensures faults { IfErr result (IsFault world.new) }
+    ensures plays { Plays (does (line_of event)) world.old.log result world.new.log }
 {
+    let _stands = world.log();
     match world.step(event) {
         Ok(reply) => Ok(reply),
         Err(StepError::Closed) => unreachable!(),

@@ -1,3 +1,6 @@
 pub mod PieceLaws
 pub mod LineLaws
 pub mod ForCallers
+pub mod FollowLaws
+pub mod FollowExamples
+pub mod SameRequest

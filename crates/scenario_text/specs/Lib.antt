@@ -3,3 +3,4 @@ pub mod Words
 pub mod Reasons
 pub mod Gives
 pub mod Grammar
+pub mod Follows

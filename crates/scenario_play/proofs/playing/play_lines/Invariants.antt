@@ -1,5 +1,10 @@
-use Rattle.std.proofs.Common.{◌≡◌, false}
+use Rattle.std.proofs.Common.{◌≡◌, false, take}
+use Rattle.scenario_text.specs.Follows.{plays}
+use Rattle.scenario_play.specs.Courses.{Leads}
 use Rattle.scenario_play.proofs.playing.play_lines.Given as goal
 
 abbrev pub invariant-loop-line : goal.invariant-loop-line
-invariant-loop-line l = l.world.closed ≡ false
+invariant-loop-line l = record {
+  opened : l.world.closed ≡ false;
+  played : Leads (plays (take l.line-index l.lines)) l.fn.world.log l.world.log;
+}
