@@ -18,8 +18,8 @@ use Rattle.world.specs.declared.event.Reply.{Reply}
 use Rattle.world.specs.Kept.{WorldState}
 use Rattle.proc_work.specs.Work as worked
 use Rattle.log_model.specs.declared.row_kind.LogRow.{LogRow}
-use Rattle.log_model.specs.Logs.{is_still}
-use Rattle.world_laws.specs.Single.{seen_with, finish_rows, finished}
+use Rattle.log_model.specs.Logs.{is_idle}
+use Rattle.world_laws.specs.Single.{desk_with, finish_rows, finished}
 use Rattle.world_laws.specs.Keeps.{IsWorld}
 use Rattle.world.proofs.Ready.{is_report}
 use Rattle.std.proofs.lemmas.Bool.{eq-eqb}
@@ -127,7 +127,7 @@ deliver_moves old new proc reply open_ world steps = by_first (proc.0 == 1) (sli
         by_report report may steps
 
 -- where something waits, and neither a poke nor an order does, a report does
-busy_report : (t : Single) (proc : ProcId) → proc.0 ≡ 1 → is_still (seen_with t) ≡ false → has_poke t proc ≡ false → has_order t proc ≡ false → has_report t proc ≡ true
+busy_report : (t : Single) (proc : ProcId) → proc.0 ≡ 1 → is_idle (desk_with t) ≡ false → has_poke t proc ≡ false → has_order t proc ≡ false → has_report t proc ≡ true
 busy_report t proc one busy poke order = by_input t.input refl
   where
     here : (proc.0 == 1) ≡ true
@@ -135,7 +135,7 @@ busy_report t proc one busy poke order = by_input t.input refl
 
     by_reports : (waiting : List Report) → t.input ≡ [] → t.mail ≡ [] → t.in_hand ≡ None → t.reports ≡ waiting → has_report t proc ≡ true
     by_reports [] input mail hand e =
-        let still : is_still (seen_with t) ≡ true = rw (input, mail, hand, e) refl in cc
+        let still : is_idle (desk_with t) ≡ true = rw (input, mail, hand, e) refl in cc
     by_reports (r ∷ rs) input mail hand e = rw (here, e) refl
 
     by_mail : (mail : List Job) → t.input ≡ [] → t.in_hand ≡ None → t.mail ≡ mail → has_report t proc ≡ true
@@ -151,7 +151,7 @@ busy_report t proc one busy poke order = by_input t.input refl
     by_input (p ∷ ps) e = let some : has_poke t proc ≡ true = rw (here, e) refl in cc
 
 -- a turn of the document's process, where something waits in it
-pub turn_moves : (old first second new : WorldState) (proc : ProcId) → proc.0 ≡ 1 → is_still (seen_with old.single) ≡ false → MovesIf (has_poke old.single proc) old first → MovesIf (has_order first.single proc) first second → MovesIf (has_report second.single proc) second new → length old.log < length new.log
+pub turn_moves : (old first second new : WorldState) (proc : ProcId) → proc.0 ≡ 1 → is_idle (desk_with old.single) ≡ false → MovesIf (has_poke old.single proc) old first → MovesIf (has_order first.single proc) first second → MovesIf (has_report second.single proc) second new → length old.log < length new.log
 turn_moves old first second new proc one busy poke order report = by_poke (has_poke old.single proc) refl
   where
     by_order : first ≡ old → has_poke old.single proc ≡ false → (due : Bool) → has_order first.single proc ≡ due → length old.log < length new.log

@@ -37,7 +37,7 @@ use Rattle.world.specs.declared.event.Reply.TheVariants as replies
 use Rattle.world.specs.Kept.{WorldState}
 use Rattle.world.specs.Steps.{Stepped, idle, logs, act_with, act_of, begin_of, finish_of, take_up, deliver_of, step_of, IsBuilt, MayTake, MayTakeWhat, Steps}
 use Rattle.world.proofs.Ready.{is_report}
-use Rattle.world_laws.specs.Single.{Single, seen_with, desk_with, logged}
+use Rattle.world_laws.specs.Single.{Single, Past, seen_with, desk_with, logged}
 use Rattle.world_laws.specs.Keeps.{IsWorld}
 use Rattle.proc_work.specs.Work as worked
 use Rattle.scenario_play.specs.Courses.{Leads, Cuts, Plays, line_of, order_of, IsOfHand}
@@ -108,43 +108,43 @@ one_waits : {A : Type 0} (xs : List A) (x : A) → slice_get xs 0 ≡ Some x →
 one_waits [] x at = cc
 one_waits (y ∷ ys) x at = grind (arith, nat_tests)
 
-poke_matches : (t : Single) (nav : NavId) (action : Action) → nav.0 ≡ 0 → Matches (seen_with t) (lines.Ask (requests.Poke nav action)) (step_of t (events.Poke nav action))
-poke_matches t nav action top =
+poke_matches : (p : Past) (t : Single) (nav : NavId) (action : Action) → nav.0 ≡ 0 → Matches (seen_with p t) (lines.Ask (requests.Poke nav action)) (step_of t (events.Poke nav action))
+poke_matches p t nav action top =
     let there : (0 == nav.0) ≡ true = rw top refl in
     (refl, rw (there, same_action_itself action) refl, rw (number_itself t.events) refl)
 
-act_matches : (t : Single) (proc : ProcId) → Matches (seen_with t) (lines.Act proc) (step_of t (events.Act proc))
-act_matches t proc = by_here (proc.0 == 1) refl
+act_matches : (p : Past) (t : Single) (proc : ProcId) → Matches (seen_with p t) (lines.Act proc) (step_of t (events.Act proc))
+act_matches p t proc = by_here (proc.0 == 1) refl
   where
-    by_made : (1 == proc.0) ≡ true → (req : ReqId) (made : Option What) → (length t.input == 0) ≡ false → Matches (seen_with t) (lines.Act proc) (act_with t req made)
+    by_made : (1 == proc.0) ≡ true → (req : ReqId) (made : Option What) → (length t.input == 0) ≡ false → Matches (seen_with p t) (lines.Act proc) (act_with t req made)
     by_made there req None some = (rw there some, rw there refl, rw (number_itself t.events) refl)
     by_made there req (Some what) some = (rw there some, rw there refl, rw (number_itself t.events) refl)
 
-    by_first : (1 == proc.0) ≡ true → (first : Option Poke) → slice_get t.input 0 ≡ first → Matches (seen_with t) (lines.Act proc) (act_of t first)
+    by_first : (1 == proc.0) ≡ true → (first : Option Poke) → slice_get t.input 0 ≡ first → Matches (seen_with p t) (lines.Act proc) (act_of t first)
     by_first there None at = rw there (none_waits t.input at)
     by_first there (Some poke) at = by_made there poke.req (made_by t.view poke.action) (one_waits t.input poke at)
 
-    by_here : (b : Bool) → (proc.0 == 1) ≡ b → Matches (seen_with t) (lines.Act proc) (if b then act_of t (slice_get t.input 0) else idle replies.Empty)
+    by_here : (b : Bool) → (proc.0 == 1) ≡ b → Matches (seen_with p t) (lines.Act proc) (if b then act_of t (slice_get t.input 0) else idle replies.Empty)
     by_here false e = rw (one_first proc.0 ∙ e) refl
     by_here true e = by_first (one_first proc.0 ∙ e) (slice_get t.input 0) refl
 
-begin_matches : (t : Single) (proc : ProcId) → Matches (seen_with t) (lines.Begin proc) (step_of t (events.Begin proc))
-begin_matches t proc = by_here (proc.0 == 1) refl
+begin_matches : (p : Past) (t : Single) (proc : ProcId) → Matches (seen_with p t) (lines.Begin proc) (step_of t (events.Begin proc))
+begin_matches p t proc = by_here (proc.0 == 1) refl
   where
-    by_first : (1 == proc.0) ≡ true → (hand : Option Order) → t.in_hand ≡ hand → (first : Option Job) → slice_get t.mail 0 ≡ first → Matches (seen_with t) (lines.Begin proc) (begin_of t hand first)
+    by_first : (1 == proc.0) ≡ true → (hand : Option Order) → t.in_hand ≡ hand → (first : Option Job) → slice_get t.mail 0 ≡ first → Matches (seen_with p t) (lines.Begin proc) (begin_of t hand first)
     by_first there (Some order) hand first at = rw (there, hand) refl
     by_first there None hand None at = rw (there, hand) (none_waits t.mail at)
     by_first there None hand (Some job) at =
         (rw (there, hand) (one_waits t.mail job at), rw there refl, rw (number_itself t.events) refl)
 
-    by_here : (b : Bool) → (proc.0 == 1) ≡ b → Matches (seen_with t) (lines.Begin proc) (if b then begin_of t t.in_hand (slice_get t.mail 0) else idle replies.Empty)
+    by_here : (b : Bool) → (proc.0 == 1) ≡ b → Matches (seen_with p t) (lines.Begin proc) (if b then begin_of t t.in_hand (slice_get t.mail 0) else idle replies.Empty)
     by_here false e = rw (one_first proc.0 ∙ e) refl
     by_here true e = by_first (one_first proc.0 ∙ e) t.in_hand refl (slice_get t.mail 0) refl
 
-finish_matches : (t : Single) (proc : ProcId) (done : worked.Done) → (if proc.0 == 1 then t.in_hand else None) ≡ Some done.order → Matches (seen_with t) (lines.Finish proc) (step_of t (events.Finish proc done))
-finish_matches t proc done hand = by_here (proc.0 == 1) refl t.in_hand refl hand
+finish_matches : (p : Past) (t : Single) (proc : ProcId) (done : worked.Done) → (if proc.0 == 1 then t.in_hand else None) ≡ Some done.order → Matches (seen_with p t) (lines.Finish proc) (step_of t (events.Finish proc done))
+finish_matches p t proc done hand = by_here (proc.0 == 1) refl t.in_hand refl hand
   where
-    by_here : (b : Bool) → (proc.0 == 1) ≡ b → (in_hand : Option Order) → t.in_hand ≡ in_hand → (if b then in_hand else None) ≡ Some done.order → Matches (seen_with t) (lines.Finish proc) (if b then finish_of t done in_hand else idle replies.Stale)
+    by_here : (b : Bool) → (proc.0 == 1) ≡ b → (in_hand : Option Order) → t.in_hand ≡ in_hand → (if b then in_hand else None) ≡ Some done.order → Matches (seen_with p t) (lines.Finish proc) (if b then finish_of t done in_hand else idle replies.Stale)
     by_here false e in_hand is hand = cc
     by_here true e None is hand = cc
     by_here true e (Some order) is hand =
@@ -153,42 +153,42 @@ finish_matches t proc done hand = by_here (proc.0 == 1) refl t.in_hand refl hand
         let there : (1 == proc.0) ≡ true = one_first proc.0 ∙ e in
         rw test (rw (there, is) refl, rw there refl, rw (number_itself t.events) refl)
 
-deliver_matches : (log : List LogRow) (t : Single) (proc : ProcId) → IsWorld log t → Matches (seen_with t) (lines.Deliver proc) (step_of t (events.Deliver proc))
-deliver_matches log t proc world = by_here (proc.0 == 1) refl
+deliver_matches : (log : List LogRow) (p : Past) (t : Single) (proc : ProcId) → IsWorld log t → Matches (seen_with p t) (lines.Deliver proc) (step_of t (events.Deliver proc))
+deliver_matches log p t proc world = by_here (proc.0 == 1) refl
   where
-    by_what : (1 == proc.0) ≡ true → (length t.reports == 0) ≡ false → (made : Made) (what : What) → MayTakeWhat t made what → Matches (seen_with t) (lines.Deliver proc) (take_up t made what)
+    by_what : (1 == proc.0) ≡ true → (length t.reports == 0) ≡ false → (made : Made) (what : What) → MayTakeWhat t made what → Matches (seen_with p t) (lines.Deliver proc) (take_up t made what)
     by_what there some made (whats.Push entry memo address) may = (rw there some, rw there refl, rw (number_itself t.events) refl)
     by_what there some made (whats.Replace over entry memo address) may = (rw there some, rw there refl, rw (number_itself t.events) refl)
     by_what there some made _ may = elim may [ ]
 
-    by_report : (1 == proc.0) ≡ true → (length t.reports == 0) ≡ false → (report : Report) → MayTake t report → Matches (seen_with t) (lines.Deliver proc) (deliver_of t (Some report))
+    by_report : (1 == proc.0) ≡ true → (length t.reports == 0) ≡ false → (report : Report) → MayTake t report → Matches (seen_with p t) (lines.Deliver proc) (deliver_of t (Some report))
     by_report there some (reports.Made made) may = by_what there some made made.what may
     by_report there some (reports.Done job outcome made) may = (rw there some, rw there refl, rw (number_itself t.events) refl)
     by_report there some (reports.Died death) may = elim may [ ]
 
-    by_first : (1 == proc.0) ≡ true → (first : Option Report) → slice_get t.reports 0 ≡ first → Matches (seen_with t) (lines.Deliver proc) (deliver_of t first)
+    by_first : (1 == proc.0) ≡ true → (first : Option Report) → slice_get t.reports 0 ≡ first → Matches (seen_with p t) (lines.Deliver proc) (deliver_of t first)
     by_first there None at = rw there (none_waits t.reports at)
     by_first there (Some report) at =
         let some : 0 < length t.reports = omega (arith, slice_get_within t.reports 0 report at) in
         let may : MayTake t report = rw at at (is_report log t world some) in
         by_report there (one_waits t.reports report at) report may
 
-    by_here : (b : Bool) → (proc.0 == 1) ≡ b → Matches (seen_with t) (lines.Deliver proc) (if b then deliver_of t (slice_get t.reports 0) else idle replies.Empty)
+    by_here : (b : Bool) → (proc.0 == 1) ≡ b → Matches (seen_with p t) (lines.Deliver proc) (if b then deliver_of t (slice_get t.reports 0) else idle replies.Empty)
     by_here false e = rw (one_first proc.0 ∙ e) refl
     by_here true e = by_first (one_first proc.0 ∙ e) (slice_get t.reports 0) refl
 
-step_matches : (log : List LogRow) (t : Single) (event : Event) → IsWorld log t → IsBuilt event → IsOfHand log event → Matches (seen_with t) (line_of event) (step_of t event)
-step_matches log t (events.Poke nav action) world built hand = poke_matches t nav action built.0
-step_matches log t (events.Act proc) world built hand = act_matches t proc
-step_matches log t (events.Begin proc) world built hand = begin_matches t proc
-step_matches log t (events.Finish proc done) world built hand =
-    finish_matches t proc done (sym (hand_of_world log t proc world) ∙ hand)
-step_matches log t (events.Deliver proc) world built hand = deliver_matches log t proc world
+step_matches : (log : List LogRow) (p : Past) (t : Single) (event : Event) → IsWorld log t → IsBuilt event → IsOfHand log event → Matches (seen_with p t) (line_of event) (step_of t event)
+step_matches log p t (events.Poke nav action) world built hand = poke_matches p t nav action built.0
+step_matches log p t (events.Act proc) world built hand = act_matches p t proc
+step_matches log p t (events.Begin proc) world built hand = begin_matches p t proc
+step_matches log p t (events.Finish proc done) world built hand =
+    finish_matches p t proc done (sym (hand_of_world log t proc world) ∙ hand)
+step_matches log p t (events.Deliver proc) world built hand = deliver_matches log p t proc world
 
 -- a step of an open world plays the line of its event
 pub step_plays : (old new : WorldState) (event : Event) (result : Result Reply StepError) → IsWorld old.log old.single → IsBuilt event → IsOfHand old.log event → Steps old (step_of old.single event) result new → Plays (does (line_of event)) old.log result new.log
 step_plays old new event result world built hand steps =
-    let matches : Matches (seen_of old.log) (line_of event) (step_of old.single event) = rw world.tied (step_matches old.log old.single event world built hand) in
+    let matches : Matches (seen_of old.log) (line_of event) (step_of old.single event) = rw world.tied (step_matches old.log world.past old.single event world built hand) in
     matched_plays (line_of event) old new (step_of old.single event) result (some_events old.log old.single world) matches steps
 
 -- ---- lines that are passed over, or due

@@ -4,7 +4,7 @@ ghost use Rattle.log_model.specs.Logs.{seen_of, is_still, is_idle, in_hand_of};
 ghost use Rattle.log_model.specs.Seen.{desk_of};
 ghost use Rattle.scenario_text.specs.declared.line.ScenarioLine.TheVariants as lines;
 ghost use Rattle.scenario_text.specs.Follows.{a_round, does, does_all, settles, turn_of};
-ghost use Rattle.world_laws.specs.Single.{seen_with};
+ghost use Rattle.world_laws.specs.Single.{desk_with};
 ghost use Rattle.world.specs.Steps.{IsBuilt, Steps, step_of};
 ghost use Rattle.scenario_play.specs.Courses.{IsOfHand, Plays, line_of, order_of};
 ghost use Rattle.scenario_play.specs.Moves.{IsFault, MovesOn, MovesIf, has_poke, has_order, has_mail, has_report};
@@ -19,7 +19,7 @@ pub(crate) fn settle(world: &mut World) -> Result<(), StepError>
     requires open { world.old.closed ≡ false }
     ensures open { OnOk result (world.new.closed ≡ false) }
     ensures faults { IfErr result (IsFault world.new) }
-    ensures still { OnOk result (is_still (seen_with world.new.single) ≡ true) }
+    ensures still { OnOk result (is_idle (desk_with world.new.single) ≡ true) }
     ensures plays { Plays settles world.old.log result world.new.log }
 {
     'rounds: while !is_still(world) {
@@ -31,7 +31,7 @@ pub(crate) fn settle(world: &mut World) -> Result<(), StepError>
 /// Whether nothing is in transit.
 fn is_still(world: &World) -> bool
     requires open { world.now.closed ≡ false }
-    ensures value { result ≡ is_still (seen_with world.now.single) }
+    ensures value { result ≡ is_idle (desk_with world.now.single) }
     ensures log { result ≡ is_still (seen_of world.now.log) }
     ensures short { length world.now.log ≤ 1000002 }
 {
@@ -42,7 +42,7 @@ fn is_still(world: &World) -> bool
 /// One round, through all processes that a scenario may name.
 fn round(world: &mut World) -> Result<(), StepError>
     requires open { world.old.closed ≡ false }
-    requires busy { is_still (seen_with world.old.single) ≡ false }
+    requires busy { is_idle (desk_with world.old.single) ≡ false }
     ensures open { OnOk result (world.new.closed ≡ false) }
     ensures faults { IfErr result (IsFault world.new) }
     ensures longer { OnOk result (length world.old.log < length world.new.log) }
@@ -58,7 +58,7 @@ fn round(world: &mut World) -> Result<(), StepError>
 /// The turn of the document's process, where something waits in it.
 fn first_turn(world: &mut World) -> Result<(), StepError>
     requires open { world.old.closed ≡ false }
-    requires busy { is_still (seen_with world.old.single) ≡ false }
+    requires busy { is_idle (desk_with world.old.single) ≡ false }
     ensures open { OnOk result (world.new.closed ≡ false) }
     ensures faults { IfErr result (IsFault world.new) }
     ensures longer { OnOk result (length world.old.log < length world.new.log) }

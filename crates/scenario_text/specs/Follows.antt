@@ -1,12 +1,9 @@
 -- When a log follows a scenario: its events are those that the lines ask for, in order, and there are no others.
 -- This project's own.
 use Rattle.std.specs.Prelude.{◌≡◌, ◌⊎◌, ℕ, zero, suc, ◌+◌, Bool, true, false, not, ◌&&◌, ◌||◌, ◌==◌, List, [], ◌∷◌, ◌++◌, fold, length, bytes_eq, Option, Some, None, is_none, is_some, if◌then◌else◌}
-use Rattle.std.specs.Ordering.{int_eq}
 use Rattle.tab_ids.specs.declared.ProcId.{ProcId}
 use Rattle.log_model.specs.declared.action.Action.{Action}
 use Rattle.log_model.specs.declared.action.Action.TheVariants as actions
-use Rattle.log_model.specs.declared.request.Mode.{Mode}
-use Rattle.log_model.specs.declared.request.Mode.TheVariants as modes
 use Rattle.log_model.specs.declared.request.Request.{Request}
 use Rattle.log_model.specs.declared.request.Request.TheVariants as requests
 use Rattle.log_model.specs.declared.row_kind.Actor.{Actor}
@@ -14,9 +11,10 @@ use Rattle.log_model.specs.declared.row_kind.Actor.TheVariants as actors
 use Rattle.log_model.specs.declared.row_kind.LogRow.{LogRow}
 use Rattle.log_model.specs.declared.row_kind.RowKind.{RowKind}
 use Rattle.log_model.specs.declared.row_kind.RowKind.TheVariants as rows
-use Rattle.log_model.specs.Seen.{Seen, nothing, desk_of}
+use Rattle.log_model.specs.Equal.{holds, same_memo, same_delta, same_mode}
+use Rattle.log_model.specs.Seen.{Seen, nothing, desk_of, request_of}
 use Rattle.log_model.specs.After.{after}
-use Rattle.log_model.specs.Logs.{seen_of, is_still}
+use Rattle.log_model.specs.Logs.{seen_of, is_still, is_prompt_up}
 use Rattle.log_model.specs.Events.{events_of}
 use Rattle.scenario_text.specs.declared.line.ScenarioLine.{ScenarioLine}
 use Rattle.scenario_text.specs.declared.line.ScenarioLine.TheVariants as lines
@@ -24,31 +22,19 @@ use Rattle.scenario_text.specs.declared.scenario.Scenario.{Scenario}
 
 -- ---- the request of a line is the one that was accepted
 
-abbrev pub same_mode : Mode → Mode → Bool
-same_mode modes.Auto modes.Auto = true
-same_mode modes.Push modes.Push = true
-same_mode modes.Replace modes.Replace = true
-same_mode _ _ = false
-
--- two texts that may be missing are the same
-abbrev pub same_text : Option (List ℕ) → Option (List ℕ) → Bool
-same_text None None = true
-same_text (Some a) (Some b) = bytes_eq a b
-same_text _ _ = false
-
 abbrev pub same_action : Action → Action → Bool
-same_action (actions.Push m r) (actions.Push m' r') = same_text m m' && same_text r r'
-same_action (actions.Replace m r) (actions.Replace m' r') = same_text m m' && same_text r r'
+same_action (actions.Push m r) (actions.Push m' r') = same_memo m m' && same_memo r r'
+same_action (actions.Replace m r) (actions.Replace m' r') = same_memo m m' && same_memo r r'
 same_action (actions.Fragment t) (actions.Fragment t') = bytes_eq t t'
 same_action (actions.AddFrame n) (actions.AddFrame n') = n.0 == n'.0
 same_action (actions.RemoveFrame n) (actions.RemoveFrame n') = n.0 == n'.0
-same_action (actions.Go d) (actions.Go d') = int_eq d d'
+same_action (actions.Go d) (actions.Go d') = same_delta d d'
 same_action actions.Edit actions.Edit = true
 same_action _ _ = false
 
 abbrev pub same_request : Request → Request → Bool
 same_request (requests.Load n m a) (requests.Load n' m' a') = n.0 == n'.0 && (same_mode m m' && bytes_eq a a')
-same_request (requests.Go d) (requests.Go d') = int_eq d d'
+same_request (requests.Go d) (requests.Go d') = same_delta d d'
 same_request (requests.Reload n) (requests.Reload n') = n.0 == n'.0
 same_request (requests.Poke n a) (requests.Poke n' a') = n.0 == n'.0 && same_action a a'
 same_request _ _ = false
@@ -98,12 +84,11 @@ abbrev pub is_event : ScenarioLine → List LogRow → Bool
 is_event line [] = false
 is_event line (row ∷ rows) = is_actor line row.actor && is_own line row.row
 
--- nothing waits for the line: its event would answer without logging, so the line is passed over
--- To be completed where a log tells of prompts and of kept documents: an answer is passed over where no prompt of its request is up, and `evict` where no document is kept. No log has either yet.
+-- nothing waits for the line: its event would answer without logging, so the line is passed over. A document acts on a poke, a process takes up an order unless one is in hand, and finishes the one in hand; a report is delivered; a prompt is answered while it is up; the document kept longest is evicted
 abbrev pub is_passed : Seen → ScenarioLine → Bool
 is_passed s (lines.Ask request) = false
-is_passed s (lines.Answer req stay) = true
-is_passed s lines.Evict = true
+is_passed s (lines.Answer req stay) = not (holds is_prompt_up (request_of s req))
+is_passed s lines.Evict = length s.kept == 0
 is_passed s (lines.Kill proc) = false
 is_passed s (lines.Act proc) = length (desk_of s proc).input == 0
 is_passed s (lines.Begin proc) = is_some (desk_of s proc).in_hand || length (desk_of s proc).mail == 0
