@@ -116,9 +116,9 @@ told_none bytes left rest refusal told reads =
     elim reads.enough [
       | inl whole ↦ ap (λ (l : List ℕ). scenario_of false l) (told_whole bytes reads.bytes left rest told reads.came whole) ∙ reads.spells_none
       | inr long ↦
-        scenario_of-too_long false bytes (omega (arith, long, told_long bytes reads.bytes left rest told reads.came))
-        ∙ sym (scenario_of-too_long false reads.bytes long)
-        ∙ reads.spells_none
+          scenario_of-too_long false bytes (omega (arith, long, told_long bytes reads.bytes left rest told reads.came))
+          ∙ sym (scenario_of-too_long false reads.bytes long)
+          ∙ reads.spells_none
     ]
 
 told_scenario : (bytes : List ℕ) (left rest : Option (List ℕ)) (IsSuch : Scenario → Type 0) → left ≡ Some bytes → (reads : ReadsSuch left rest IsSuch) → scenario_of false bytes ≡ Ok reads.scenario

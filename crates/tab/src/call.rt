@@ -138,12 +138,7 @@ fn tell<K: Sink>(alloc: Global, scenario: &Scenario, played: Played, sink: &mut 
 }
 
 /// Writes the report of a world's log.
-fn write_report<K: Sink>(
-    alloc: Global,
-    scenario: &Scenario,
-    world: World,
-    sink: &mut K,
-) -> Ended
+fn write_report<K: Sink>(alloc: Global, scenario: &Scenario, world: World, sink: &mut K) -> Ended
     requires open { world.closed ≡ false }
     requires follows { Follows world.log scenario.now }
     ensures kind { IsPlayEnd result.status }
