@@ -94,10 +94,7 @@ fn is_idle(world: &World, proc: ProcId) -> bool
 {
     let _stands = world.log();
     let waiting = world.waiting(proc);
-    waiting.input == 0
-        && waiting.mail == 0
-        && world.in_hand(proc).is_none()
-        && waiting.reports == 0
+    waiting.input == 0 && waiting.mail == 0 && world.in_hand(proc).is_none() && waiting.reports == 0
 }
 
 /// Lets a document of the process act, where a poke waits.

@@ -28,13 +28,13 @@ and_then_nothing strays = refl
 and_then_nothing stops = refl
 
 -- what went on to the end went on half way
-record GoesBy (c : Course) (f : Stage) (t : Seen) (rest : List (List LogRow)) : Type 0 where
+pub record GoesBy (c : Course) (f : Stage) (t : Seen) (rest : List (List LogRow)) : Type 0 where
   pub state : Seen
   pub events : List (List LogRow)
   pub first : c ≡ goes state events
   pub second : f state events ≡ goes t rest
 
-goes_by : (c : Course) (f : Stage) (t : Seen) (rest : List (List LogRow)) → and_then c f ≡ goes t rest → GoesBy c f t rest
+pub goes_by : (c : Course) (f : Stage) (t : Seen) (rest : List (List LogRow)) → and_then c f ≡ goes t rest → GoesBy c f t rest
 goes_by (goes s events) f t rest e = record { state = s; events = events; first = refl; second = e }
 goes_by strays f t rest e = cc
 goes_by stops f t rest e = cc

@@ -1,29 +1,42 @@
 -- How a call of the program ends: what was read and written, the log, and why.
 -- This project's own.
-use Rattle.std.specs.Prelude.{◌≡◌, ℕ, ◌<◌, ◌≤◌, false, List, take, length, Option, Result, Ok, Err, IsSomeAnd}
+use Rattle.std.specs.Prelude.{◌≡◌, ◌⊎◌, ℕ, ◌<◌, ◌≤◌, true, false, List, take, length, Option, Some, None, Result, Ok, Err, IfSome, IsSomeAnd}
 use Rattle.std.specs.Io.KnownBytes.{Appends, Consumes, IsAtEnd}
 use Rattle.log_model.specs.declared.row_kind.LogRow.{LogRow}
 use Rattle.scenario_text.specs.declared.error.Refusal.{Refusal}
 use Rattle.scenario_text.specs.declared.scenario.Scenario.{Scenario}
 use Rattle.scenario_text.specs.Grammar.{scenario_of}
+use Rattle.scenario_text.specs.Follows.{Follows, IsCutShort, FollowsUpTo}
+use Rattle.world.specs.Kept.{row_limit}
 use Rattle.report_text.specs.Reports.{report_of}
 use Rattle.tab_io.specs.Causes.{Rose}
 use Rattle.tab.specs.declared.status.Status.{Status}
 use Rattle.tab.specs.declared.status.Status.TheVariants as statuses
+use Rattle.tab.specs.Words.{is_play}
 
 -- the most bytes that a scenario may have
 abbrev pub byte_limit : ℕ
 byte_limit = 4194304
 
--- all bytes of the source were read, and they spell a scenario
-abbrev pub ReadsScenario : Option (List ℕ) → Option (List ℕ) → Type 0
-ReadsScenario left rest =
-    (bytes : List ℕ) × (scenario : Scenario) × Consumes left rest bytes × IsAtEnd rest × (scenario_of false bytes ≡ Ok scenario)
+-- the bytes read are all of the source and spell a scenario, and that scenario is such
+pub record ReadsSuch (left rest : Option (List ℕ)) (IsSuch : Scenario → Type 0) : Type 0 where
+  pub bytes : List ℕ
+  pub scenario : Scenario
+  pub came : Consumes left rest bytes
+  pub whole : IsAtEnd rest
+  pub spells : scenario_of false bytes ≡ Ok scenario
+  pub such : IsSuch scenario
 
--- the bytes read are no scenario: all of the source, or more than the limit of it
-abbrev pub ReadsNone : Option (List ℕ) → Option (List ℕ) → Refusal → Type 0
-ReadsNone left rest refusal =
-    (bytes : List ℕ) × Consumes left rest bytes × (scenario_of false bytes ≡ Err refusal)
+-- the bytes read are all of the source and spell a scenario
+abbrev pub ReadsScenario : Option (List ℕ) → Option (List ℕ) → Type 0
+ReadsScenario left rest = ReadsSuch left rest (λ scenario. Unit {0})
+
+-- the bytes read are all of the source, or more than a scenario may have, and they are no scenario
+pub record ReadsNone (left rest : Option (List ℕ)) (refusal : Refusal) : Type 0 where
+  pub bytes : List ℕ
+  pub came : Consumes left rest bytes
+  pub enough : IsAtEnd rest ⊎ (byte_limit < length bytes)
+  pub spells_none : scenario_of false bytes ≡ Err refusal
 
 -- what was written is the report of the log
 abbrev pub WritesReport : Option (List ℕ) → Option (List ℕ) → Option (List LogRow) → Type 0
@@ -53,9 +66,60 @@ HasWriteCause (statuses.Scenario refusal) before after old now log = after ≡ b
 HasWriteCause statuses.ReadFault before after old now log = after ≡ before
 HasWriteCause statuses.WriteFault before after old now log = Rose old now × WritesPart before after log
 HasWriteCause statuses.OutOfMemory before after old now log = after ≡ before
-HasWriteCause statuses.LogFull before after old now log =
-    (after ≡ before) × IsSomeAnd log (λ rows. 1000000 ≤ length rows)
+HasWriteCause statuses.LogFull before after old now log = after ≡ before
 HasWriteCause (statuses.UrlOverflow overflowed) before after old now log = after ≡ before
+
+-- how the log follows the scenario that was played: to the end; or, in a log that is full, up to an event that was due; or up to a moment
+abbrev pub FollowsAs : Status → Option (List LogRow) → Scenario → Type 0
+FollowsAs statuses.Done log scenario = IsSomeAnd log (λ rows. Follows rows scenario)
+FollowsAs statuses.Usage log scenario = IfSome log (λ rows. FollowsUpTo rows scenario)
+FollowsAs (statuses.Scenario refusal) log scenario = IfSome log (λ rows. FollowsUpTo rows scenario)
+FollowsAs statuses.ReadFault log scenario = IfSome log (λ rows. FollowsUpTo rows scenario)
+FollowsAs statuses.WriteFault log scenario = IsSomeAnd log (λ rows. Follows rows scenario)
+FollowsAs statuses.OutOfMemory log scenario = IfSome log (λ rows. FollowsUpTo rows scenario)
+FollowsAs statuses.LogFull log scenario =
+    IsSomeAnd log (λ rows. IsCutShort rows scenario × (row_limit ≤ length rows))
+FollowsAs (statuses.UrlOverflow overflowed) log scenario = IfSome log (λ rows. FollowsUpTo rows scenario)
+
+-- what each status says of the log and of the scenario that was read: the log follows it; where none was read, there is no log
+abbrev pub FollowsRead : Status → Option (List ℕ) → Option (List ℕ) → Option (List LogRow) → Type 0
+FollowsRead statuses.Done left rest log = ReadsSuch left rest (FollowsAs statuses.Done log)
+FollowsRead statuses.Usage left rest log = log ≡ None
+FollowsRead (statuses.Scenario refusal) left rest log = log ≡ None
+FollowsRead statuses.ReadFault left rest log = log ≡ None
+FollowsRead statuses.WriteFault left rest log = ReadsSuch left rest (FollowsAs statuses.WriteFault log)
+FollowsRead statuses.OutOfMemory left rest log =
+    IfSome log (λ rows. ReadsSuch left rest (λ scenario. FollowsUpTo rows scenario))
+FollowsRead statuses.LogFull left rest log = ReadsSuch left rest (FollowsAs statuses.LogFull log)
+FollowsRead (statuses.UrlOverflow overflowed) left rest log =
+    IfSome log (λ rows. ReadsSuch left rest (λ scenario. FollowsUpTo rows scenario))
+
+-- ---- what has no cause doesn't come
+
+-- neither want of memory nor an overflow of `url`
+abbrev pub IsDecided : Status → Type 0
+IsDecided statuses.Done = Unit {0}
+IsDecided statuses.Usage = Unit {0}
+IsDecided (statuses.Scenario refusal) = Unit {0}
+IsDecided statuses.ReadFault = Unit {0}
+IsDecided statuses.WriteFault = Unit {0}
+IsDecided statuses.OutOfMemory = ⊥
+IsDecided statuses.LogFull = Unit {0}
+IsDecided (statuses.UrlOverflow overflowed) = ⊥
+
+-- the words are the program's, the source tells its bytes, its count of faults didn't rise, and there was memory
+pub record IsHeard (words : List (List ℕ)) (bytes : List ℕ) (left : Option (List ℕ)) (before now : ℕ) (status : Status) : Type 0 where
+  pub asks : is_play words ≡ true
+  pub told : left ≡ Some bytes
+  pub read : ¬ (Rose before now)
+  pub decided : IsDecided status
+
+-- and the sink's count didn't rise, and the log has room wherever an event of the scenario is due
+pub record IsUnhindered (scenario : Scenario) (before now : ℕ) (log : Option (List LogRow)) : Type 0 where
+  pub written : ¬ (Rose before now)
+  pub room : IfSome log (λ rows. IsCutShort rows scenario → length rows < row_limit)
+
+-- ---- the parts of a call
 
 -- what a call may end with once the scenario was read
 abbrev pub IsPlayEnd : Status → Type 0
@@ -81,8 +145,7 @@ IsReadEnd (statuses.UrlOverflow overflowed) = Unit {0}
 
 -- a scenario that was read, or a status with its cause
 abbrev pub ReadsAs : Result Scenario Status → Option (List ℕ) → Option (List ℕ) → ℕ → ℕ → Type 0
-ReadsAs (Ok scenario) left rest before now =
-    (bytes : List ℕ) × Consumes left rest bytes × IsAtEnd rest × (scenario_of false bytes ≡ Ok scenario)
+ReadsAs (Ok scenario) left rest before now = ReadsSuch left rest (λ other. other ≡ scenario)
 ReadsAs (Err status) left rest before now = HasReadCause status left rest before now × IsReadEnd status
 
 -- the scenario that bytes spell, or a status that says why there is none

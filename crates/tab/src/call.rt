@@ -1,9 +1,11 @@
 //! `play_call`, all that the program does with its words, a source and a sink.
-ghost use Rattle.std.specs.Prelude.{◌≡◌, ◌↔◌, false, None, IfSome, IsSome, map, string_bytes};
+ghost use Rattle.std.specs.Prelude.{◌≡◌, ◌↔◌, ℕ, false, List, None, Ok, Err, IfSome, IsSome, map, string_bytes};
 ghost use Rattle.log_model.specs.Lawful.{IsLawful};
 ghost use Rattle.tab.specs.Words.{is_play};
 ghost use Rattle.scenario_play.specs.Moves.{IsFault};
-ghost use Rattle.tab.specs.Calls.{HasReadCause, HasWriteCause, IsPlayEnd, ReadsAs, SpellsAs};
+ghost use Rattle.scenario_text.specs.Follows.{Follows, IsCutShort};
+ghost use Rattle.scenario_text.specs.Grammar.{scenario_of};
+ghost use Rattle.tab.specs.Calls.{FollowsAs, FollowsRead, HasReadCause, HasWriteCause, IsHeard, IsPlayEnd, IsUnhindered, ReadsAs, SpellsAs};
 
 use crate::status::Status;
 use crate::words::asks_play;
@@ -37,6 +39,34 @@ pub fn play_call<S: Source, K: Sink>(
 ) -> Ended
     ensures usage { (result.status ≡ Status.Usage) ↔ (is_play (map (λ w. string_bytes w) words.now) ≡ false) }
     ensures read { HasReadCause result.status (S.left source.old) (S.left source.new) (S.faults source.old) (S.faults source.new) }
+    ensures follows { FollowsRead result.status (S.left source.old) (S.left source.new) result.log }
+    ensures written { HasWriteCause result.status (K.taken sink.old) (K.taken sink.new) (K.faults sink.old) (K.faults sink.new) result.log }
+    ensures lawful { IfSome result.log IsLawful }
+
+    // Where nothing is in the way, the call is done, or refuses what is no scenario.
+    ensures done { (bytes : List ℕ) → (scenario : Scenario)
+        → IsHeard (map (λ w. string_bytes w) words.now) bytes (S.left source.old) (S.faults source.old) (S.faults source.new) result.status
+        → scenario_of false bytes ≡ Ok scenario
+        → IsUnhindered scenario (K.faults sink.old) (K.faults sink.new) result.log
+        → result.status ≡ Status.Done }
+    ensures refused { (bytes : List ℕ) → (refusal : Refusal)
+        → IsHeard (map (λ w. string_bytes w) words.now) bytes (S.left source.old) (S.faults source.old) (S.faults source.new) result.status
+        → scenario_of false bytes ≡ Err refusal
+        → result.status ≡ Status.Scenario refusal }
+{
+    carry_out(alloc, words, source, sink)
+}
+
+/// The same; what it says of a call that nothing hinders follows from the rest.
+fn carry_out<S: Source, K: Sink>(
+    alloc: Global,
+    words: &[String],
+    source: &mut S,
+    sink: &mut K,
+) -> Ended
+    ensures usage { (result.status ≡ Status.Usage) ↔ (is_play (map (λ w. string_bytes w) words.now) ≡ false) }
+    ensures read { HasReadCause result.status (S.left source.old) (S.left source.new) (S.faults source.old) (S.faults source.new) }
+    ensures follows { FollowsRead result.status (S.left source.old) (S.left source.new) result.log }
     ensures written { HasWriteCause result.status (K.taken sink.old) (K.taken sink.new) (K.faults sink.old) (K.faults sink.new) result.log }
     ensures lawful { IfSome result.log IsLawful }
 {
@@ -51,7 +81,7 @@ pub fn play_call<S: Source, K: Sink>(
         Ok(world) => play(&scenario, world),
         Err(_) => return failed(Status::OutOfMemory),
     };
-    tell(alloc, played, sink)
+    tell(alloc, &scenario, played, sink)
 }
 
 /// Reads the scenario; else the status says why there is none.
@@ -82,18 +112,21 @@ fn spelled(alloc: Global, text: &Text) -> Result<Scenario, Status>
 }
 
 /// Tells what was played: the report, or why not all was.
-fn tell<K: Sink>(alloc: Global, played: Played, sink: &mut K) -> Ended
+fn tell<K: Sink>(alloc: Global, scenario: &Scenario, played: Played, sink: &mut K) -> Ended
     requires given { IsSome played.world }
     requires open { played.fault ≡ None → IfSome played.world (λ w. w.closed ≡ false) }
+    requires follows { played.fault ≡ None → IfSome played.world (λ w. Follows w.log scenario.now) }
+    requires cut { IsSome played.fault → IfSome played.world (λ w. IsCutShort w.log scenario.now) }
     requires faults { IfSome played.fault (λ e. IfSome played.world (λ w. IsFault w e)) }
     ensures kind { IsPlayEnd result.status }
+    ensures follows { FollowsAs result.status result.log scenario.now }
     ensures written { HasWriteCause result.status (K.taken sink.old) (K.taken sink.new) (K.faults sink.old) (K.faults sink.new) result.log }
     ensures lawful { IfSome result.log IsLawful }
 {
     let Played { world, fault } = played;
     let Some(world) = world else { unreachable!() };
     match fault {
-        None => write_report(alloc, world, sink),
+        None => write_report(alloc, scenario, world, sink),
         Some(StepError::LogFull) => Ended {
             status: Status::LogFull,
             log: Some(world.into_log()),
@@ -105,9 +138,11 @@ fn tell<K: Sink>(alloc: Global, played: Played, sink: &mut K) -> Ended
 }
 
 /// Writes the report of a world's log.
-fn write_report<K: Sink>(alloc: Global, world: World, sink: &mut K) -> Ended
+fn write_report<K: Sink>(alloc: Global, scenario: &Scenario, world: World, sink: &mut K) -> Ended
     requires open { world.closed ≡ false }
+    requires follows { Follows world.log scenario.now }
     ensures kind { IsPlayEnd result.status }
+    ensures follows { FollowsAs result.status result.log scenario.now }
     ensures written { HasWriteCause result.status (K.taken sink.old) (K.taken sink.new) (K.faults sink.old) (K.faults sink.new) result.log }
     ensures lawful { IfSome result.log IsLawful }
 {

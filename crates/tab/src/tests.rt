@@ -102,6 +102,76 @@ fn words_and_faults_end_a_call(rt: HostRuntime) -> Result<(), &'static str> {
     Ok(())
 }
 
+// One push that settles, of 49 bytes, and its report, of 137 bytes. A call moves 16 of them.
+const PUSH: &str = "session 1\nopen http://a.test/\npush 0 s /1\nsettle\n";
+
+const PUSH_REPORT: &str =
+    "quiet yes\nstep 1 length 2 index 1\nentry 0 0 - http://a.test/\nentry 0 1 s http://a.test/1\nnav 0 runs 1 length 2 index 1\nrequest 1 applied\n";
+
+#[test]
+fn a_source_that_fails_at_any_call_is_a_read_fault(rt: HostRuntime) -> Result<(), &'static str> {
+    // Four calls bring bytes and a fifth tells the end; there is no sixth.
+    for call in 1..6 {
+        let (ended, written) = run(&rt, "play", PUSH.as_bytes(), Some(call), None)?;
+        assert_eq!(rt; ended.status, Status::ReadFault, "call {call}");
+        assert!(rt; ended.log.is_none(), "call {call}");
+        assert!(rt; written.is_empty(), "call {call}");
+    }
+    let (ended, written) = run(&rt, "play", PUSH.as_bytes(), Some(6), None)?;
+    assert_eq!(rt; ended.status, Status::Done);
+    assert_eq!(rt; written.as_slice(), PUSH_REPORT.as_bytes());
+    Ok(())
+}
+
+#[test]
+fn a_sink_that_fails_at_any_call_has_the_part_before_it(
+    rt: HostRuntime,
+) -> Result<(), &'static str> {
+    // Nine calls take the report; there is no tenth.
+    for call in 1..10 {
+        let (ended, written) = run(&rt, "play", PUSH.as_bytes(), None, Some(call))?;
+        let part = 16 * (call as usize - 1);
+        assert_eq!(rt; ended.status, Status::WriteFault, "call {call}");
+        assert!(rt; ended.log.is_some(), "call {call}");
+        assert_eq!(rt;
+            written.as_slice(),
+            &PUSH_REPORT.as_bytes()[..part],
+            "call {call}"
+        );
+    }
+    let (ended, written) = run(&rt, "play", PUSH.as_bytes(), None, Some(10))?;
+    assert_eq!(rt; ended.status, Status::Done);
+    assert!(rt; ended.log.is_some());
+    assert_eq!(rt; written.as_slice(), PUSH_REPORT.as_bytes());
+    Ok(())
+}
+
+#[test]
+fn a_log_has_the_rows_of_the_lines_and_of_the_rounds(rt: HostRuntime) -> Result<(), &'static str> {
+    // The scenario after its first two lines, and the number of rows of the log.
+    let cases = [
+        ("", 1),
+        ("settle\n", 1),
+        ("push 0 s /1\n", 2),
+        ("push 0 s /1\nsettle\n", 9),
+        ("push 0 s /1\nsettle\nsettle\n", 9),
+        ("push 0 s /1\npush 0 s /2\npush 0 s /3\nsettle\n", 25),
+        ("push 0 s http://b.test/\nsettle\n", 3),
+    ];
+    for (lines, rows) in cases {
+        let mut input = Vec::new(rt.alloc());
+        for part in ["session 1\nopen http://a.test/\n", lines] {
+            input
+                .extend_from_slice(part.as_bytes())
+                .map_err(|_| "memory")?;
+        }
+        let (ended, _) = run(&rt, "play", input.as_slice(), None, None)?;
+        let log = ended.log.ok_or("no log")?;
+        assert_eq!(rt; log.len(), rows, "{lines}");
+    }
+    Ok(())
+}
+
 #[test]
 fn each_status_has_its_line(rt: HostRuntime) -> Result<(), &'static str> {
     let refusal = Refusal {
