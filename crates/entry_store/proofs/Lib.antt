@@ -1,0 +1,5 @@
+pub mod StepsLeft
+pub mod Sweeping
+pub mod Visiting
+pub mod Reading
+pub mod Placing

@@ -1,0 +1,4 @@
+pub mod Kept
+pub mod Nested
+pub mod Reading
+pub mod Store

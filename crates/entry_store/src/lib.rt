@@ -1,0 +1,15 @@
+//! A tab's session history in nested lists. So far: which rows a change leaves.
+#![tactic(auto)]
+
+mod cut;
+mod error;
+mod live;
+mod nest;
+mod nested;
+mod place;
+mod plan;
+mod readers;
+mod steps;
+mod sweep;
+
+pub use error::StoreError;
