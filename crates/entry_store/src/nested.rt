@@ -1,6 +1,5 @@
 //! `Nested`, the lists of an `EntryStore` and what it keeps beside them.
 use crate::nest::Nest;
-use address::Address;
 use indexmap::IndexSet;
 use std::collections::BTreeSet;
 use tab_ids::{NavId, Step};
@@ -14,6 +13,4 @@ pub struct Nested {
     pub added: IndexSet<NavId>,
     /// The used steps.
     pub used: BTreeSet<u32>,
-    /// The address about:blank, of which a new frame's entry gets a copy.
-    pub blank: Address,
 }

@@ -1,6 +1,8 @@
 -- The elements of a list, seen by the tests that they pass, and what a filter keeps of them.
-use Rattle.std.proofs.Common.{◌≡◌, ℕ, Bool, true, false, not, ◌&&◌, ◌||◌, cond, List, [], ◌∷◌, ◌++◌, refl, ap, sym, ◌∙◌, filter, ◌⊎◌, inl, inr}
+use Rattle.std.proofs.Common.{◌≡◌, ℕ, Bool, true, false, not, ◌&&◌, ◌||◌, cond, List, [], ◌∷◌, ◌++◌, refl, ap, sym, ◌∙◌, filter, ◌⊎◌, inl, inr, find, Option, Some, None, subst}
 use Rattle.std.specs.List.{list_any}
+use Rattle.std.specs.Option.{option_map_or}
+use Rattle.std.proofs.lemmas.Option.{none-some}
 use Rattle.std.proofs.lemmas.Bool.{false≢true, true≢false, or_cases, and_parts, and_from, cases_Bool, not-true}
 
 -- the list has the element: whatever test it passes, an element passes
@@ -87,3 +89,44 @@ filter-filter p q (x ∷ xs) =
       | true ↦ ap (λ r. cond (p x) (x ∷ r) r) (filter-filter p q xs)
       | false ↦ filter-filter p q xs
     ]
+
+-- ---- a search
+
+pub find-filter : {A : Type 0} (p q : A → Bool) (xs : List A) → find p (filter q xs) ≡ find (λ x. p x && q x) xs
+find-filter p q [] = refl
+find-filter {A} p q (x ∷ xs) = by_tests (find-filter p q xs) (p x) refl (q x) refl
+  where
+    by_tests : find p (filter q xs) ≡ find (λ y. p y && q y) xs → (a : Bool) → p x ≡ a → (b : Bool) → q x ≡ b → find p (filter q (x ∷ xs)) ≡ find (λ y. p y && q y) (x ∷ xs)
+    by_tests rest true passes true kept = rw kept (rw passes refl)
+    by_tests rest true passes false gone = rw (gone, passes) rest
+    by_tests rest false fails true kept = rw kept (rw fails rest)
+    by_tests rest false fails false gone = rw (gone, fails) rest
+
+-- what it finds passes, and is in the list
+pub record IsFound {A : Type 0} (test : A → Bool) (xs : List A) (x : A) : Type 0 where
+  pub passes : test x ≡ true
+  pub is_in : IsIn xs x
+
+pub some_same : {A : Type 0} (x y : A) → Some x ≡ Some y → x ≡ y
+some_same x y same = ap (λ o. option_map_or (λ z. z) o x) same
+
+pub found : {A : Type 0} (test : A → Bool) (xs : List A) (x : A) → find test xs ≡ Some x → IsFound test xs x
+found test [] x is = absurd (none-some x is)
+found {A} test (y ∷ xs) x is = by_test (found test xs x) (test y) refl
+  where
+    by_test : (find test xs ≡ Some x → IsFound test xs x) → (b : Bool) → test y ≡ b → IsFound test (y ∷ xs) x
+    by_test rest true passes =
+      let same : y ≡ x = some_same y x (sym (ap (λ b. cond b (Some y) (find test xs)) passes) ∙ is) in
+      record { passes = ap test (sym same) ∙ passes; is_in = subst (λ z. IsIn (y ∷ xs) z) same (IsIn-head xs y) }
+    by_test rest false fails =
+      let there = rest (sym (ap (λ b. cond b (Some y) (find test xs)) fails) ∙ is) in
+      record { passes = there.passes; is_in = IsIn-tail xs y x there.is_in }
+
+-- where it finds none, none passes
+pub found_none : {A : Type 0} (test : A → Bool) (xs : List A) → find test xs ≡ None → list_any test xs ≡ false
+found_none test [] none = refl
+found_none {A} test (x ∷ xs) none = by_test (found_none test xs) (test x) refl
+  where
+    by_test : (find test xs ≡ None → list_any test xs ≡ false) → (b : Bool) → test x ≡ b → list_any test (x ∷ xs) ≡ false
+    by_test rest true passes = absurd (none-some x (sym none ∙ ap (λ b. cond b (Some x) (find test xs)) passes))
+    by_test rest false fails = or_none (test x) (list_any test xs) fails (rest (sym (ap (λ b. cond b (Some x) (find test xs)) fails) ∙ none))
