@@ -1,5 +1,5 @@
 -- A push in the lists: what is left is what the definition leaves, and the entry's place among the rows is of no matter.
-use Rattle.std.proofs.Common.{◌≡◌, ◌≢◌, ℕ, Bool, true, false, not, ◌&&◌, ◌||◌, cond, List, [], ◌∷◌, ◌++◌, refl, ap, sym, ◌∙◌, ◌+◌, ◌<◌, ◌≤◌, arith, filter, find, ◌⊎◌, inl, inr, Option, Some, None, subst}
+use Rattle.std.proofs.Common.{◌≡◌, ◌≢◌, ℕ, Bool, true, false, not, ◌&&◌, ◌||◌, cond, List, [], ◌∷◌, ◌++◌, refl, ap, sym, ◌∙◌, ◌+◌, ◌<◌, ◌≤◌, arith, filter, find, ◌⊎◌, inl, inr, Option, Some, None, subst, length}
 use Rattle.std.specs.Prelude.{nat_le, option_and_then}
 use Rattle.std.specs.List.{list_any}
 use Rattle.std.specs.Option.{option_map, option_map_or}
@@ -22,8 +22,12 @@ use Rattle.history_laws.proofs.Joining.{IsLike}
 use Rattle.history_laws.proofs.Push.{up_to, cleared-up_to, cleared-part, IsSound-pushed}
 use Rattle.entry_store.specs.declared.cut.Cut.{Cut}
 use Rattle.entry_store.specs.declared.cut.Cut.TheVariants.{Forward}
-use Rattle.entry_store.specs.Nested.{outlives, has, is_held_by, stays, AreHeld}
-use Rattle.entry_store.specs.Kept.{PutsRow, IsKept}
+use Rattle.log_model.specs.declared.change.Change.TheVariants.{Push}
+use Rattle.entry_store.specs.declared.nest.Nest.{Nest}
+use Rattle.entry_store.specs.declared.nested.Nested.{Nested}
+use Rattle.entry_store.specs.Store.{MayTake}
+use Rattle.entry_store.specs.Nested.{rows_of, outlives, has, is_held_by, stays, AreHeld}
+use Rattle.entry_store.specs.Kept.{history_in, PutsRow, IsKept, IsPushPlan}
 use Rattle.entry_store.proofs.Left.{stays-tidied}
 
 -- where none passes, no element does
@@ -180,3 +184,50 @@ module _ (history : History) (sound : IsSound history) (entry : EntryId) (entry_
             ∙ or_none _ _ (lt-leb 4294967295 (history.current + 1) (omega (arith, room)))
               (list_any-none (λ (r : Row). nat_le 4294967295 r.step.0) (cleared history) (λ r there. none_passes (λ (x : Row). nat_le 4294967295 x.step.0) history.rows kept.below r (cleared-part history r there)));
         }
+
+-- the same, of a plan for these lists
+module _ (lists : Nested) (kept : IsKept (history_in lists) lists.used.keys) (room : lists.current.0 < 4294967294) (nav : NavId) (entry : EntryId) (state : StateId) (address : List ℕ) (memo : Option (List ℕ)) (may : MayTake (history_in lists) (Push nav entry state address memo)) (at : ℕ) (row : Row) (states : List StateId) (beside : List ℕ) (plan : IsPushPlan lists nav entry state address memo at row states beside) (put swept : List Row) (puts : PutsRow (rows_of lists.nests.items) row put) (swept_is : swept ≡ filter (stays (Forward lists.current entry) states) put) where
+  place_is : Place (history_in lists) kept.sound entry may.0 states plan.held nav plan.owner
+  place_is = place (history_in lists) kept.sound entry may.0 states plan.held nav plan.owner plan.found
+
+  puts_is : PutsRow (rows_of lists.nests.items) (pushed_row lists.current.0 plan.owner nav entry state address memo) put
+  puts_is = subst (λ (r : Row). PutsRow (rows_of lists.nests.items) r put) plan.is puts
+
+  pub planned_fits : has_row nav (cleared (history_in lists)) ≡ true
+  planned_fits = push_fits (history_in lists) kept.sound entry may.0 states plan.held lists.used.keys kept room nav state address memo may.1 plan.owner place_is put swept puts_is swept_is
+
+  pub planned_same : SameHistory (with_rows (history_in lists) swept (lists.current.0 + 1)) (pushed (history_in lists) nav entry state address memo)
+  planned_same = push_same (history_in lists) kept.sound entry may.0 states plan.held lists.used.keys kept room nav state address memo may.1 plan.owner place_is put swept puts_is swept_is
+
+  pub planned_kept : IsKept (with_rows (history_in lists) swept (lists.current.0 + 1)) beside
+  planned_kept = push_kept (history_in lists) kept.sound entry may.0 states plan.held lists.used.keys kept room nav state address memo may.1 plan.owner place_is put swept puts_is swept_is beside plan.steps
+
+-- a plan, made of what was found in the lists
+module _ (lists : Nested) (nav : NavId) (entry : EntryId) (one two : List Nest) (one_is : one ≡ lists.nests.items) (two_is : two ≡ lists.nests.items) (left : List StateId) (held : AreHeld left (filter (outlives (Forward lists.current entry)) (rows_of one))) where
+  left_held : AreHeld left (filter (outlives (Forward lists.current entry)) (rows_of lists.nests.items))
+  left_held = subst (λ (nests : List Nest). AreHeld left (filter (outlives (Forward lists.current entry)) (rows_of nests))) one_is held
+
+  pub planned_none : IsSound (history_in lists) → list_any (is_entry entry) (rows_of lists.nests.items) ≡ false
+    → None ≡ option_map (λ (r : Row). r.owner) (find (λ r. is_of nav r && stays (Forward lists.current entry) left r) (rows_of two))
+    → has_row nav (cleared (history_in lists)) ≡ false
+  planned_none sound entry_is_new none =
+      none_left (history_in lists) sound entry entry_is_new left left_held nav
+        (subst (λ (nests : List Nest). None ≡ option_map (λ (r : Row). r.owner) (find (λ r. is_of nav r && stays (Forward lists.current entry) left r) (rows_of nests))) two_is none)
+
+  pub planned : (state : StateId) (address : List ℕ) (memo : Option (List ℕ)) (at : ℕ) (row : Row) (owner : Option StateId) (states : List StateId) (steps beside : List ℕ)
+    → steps ≡ used_steps (filter (stays (Forward lists.current entry) left) (rows_of one))
+    → at < length two
+    → Some owner ≡ option_map (λ (r : Row). r.owner) (find (λ r. is_of nav r && stays (Forward lists.current entry) left r) (rows_of two))
+    → row ≡ pushed_row lists.current.0 owner nav entry state address memo
+    → states ≡ left
+    → beside ≡ with_step (lists.current.0 + 1) steps
+    → IsPushPlan lists nav entry state address memo at row states beside
+  planned state address memo at row owner states steps beside steps_are within found_is is same beside_is =
+      subst (λ (s : List StateId). IsPushPlan lists nav entry state address memo at row s beside) (sym same) (record {
+        owner = owner;
+        within = subst (λ (nests : List Nest). at < length nests) two_is within;
+        held = left_held;
+        found = subst (λ (nests : List Nest). Some owner ≡ option_map (λ (r : Row). r.owner) (find (λ r. is_of nav r && stays (Forward lists.current entry) left r) (rows_of nests))) two_is found_is;
+        is = is;
+        steps = beside_is ∙ ap (with_step (lists.current.0 + 1)) (steps_are ∙ ap (λ (nests : List Nest). used_steps (filter (stays (Forward lists.current entry) left) (rows_of nests))) one_is);
+      })

@@ -1,13 +1,17 @@
 -- What an `EntryStore` stands for, and what it keeps.
 -- This project's own.
-use Rattle.std.specs.Prelude.{◌≡◌, ◌≢◌, ℕ, true, false, nat_le, List, ◌∷◌, ◌++◌}
+use Rattle.std.specs.Prelude.{◌≡◌, ◌≢◌, ◌<◌, ◌+◌, ◌&&◌, ℕ, true, false, nat_le, List, ◌∷◌, ◌++◌, length, filter, find, Option, Some}
 use Rattle.std.specs.List.{list_any}
+use Rattle.std.specs.Option.{option_map}
 use Rattle.tab_ids.specs.declared.NavId.{NavId}
+use Rattle.tab_ids.specs.declared.StateId.{StateId}
+use Rattle.tab_ids.specs.declared.EntryId.{EntryId}
 use Rattle.log_model.specs.declared.row.Row.{Row}
-use Rattle.log_model.specs.History.{History, has_nav, has_row, used_steps}
+use Rattle.log_model.specs.History.{History, is_of, has_nav, has_row, used_steps, with_step}
 use Rattle.log_model.specs.Soundness.{IsSound}
 use Rattle.entry_store.specs.declared.nested.Nested.{Nested}
-use Rattle.entry_store.specs.Nested.{rows_of}
+use Rattle.entry_store.specs.declared.cut.Cut.TheVariants.{Forward}
+use Rattle.entry_store.specs.Nested.{rows_of, outlives, stays, AreHeld}
 
 -- the history that the lists stand for: their rows one after the other
 abbrev pub history_in : Nested → History
@@ -31,3 +35,13 @@ pub record IsKept (history : History) (beside : List ℕ) : Type 0 where
   pub used : beside ≡ used_steps history.rows
   -- no row stands at the last step that there is
   pub below : list_any (λ (row : Row). nat_le 4294967295 row.step.0) history.rows ≡ false
+
+-- a push that is sure of its place: the list that it goes to, the new row, and the document states and the used steps that it leaves
+pub record IsPushPlan (lists : Nested) (nav : NavId) (entry : EntryId) (state : StateId) (address : List ℕ) (memo : Option (List ℕ)) (place : ℕ) (row : Row) (states : List StateId) (beside : List ℕ) : Type 0 where
+  pub owner : Option StateId
+  pub within : place < length lists.nests.items
+  pub held : AreHeld states (filter (outlives (Forward lists.current entry)) (rows_of lists.nests.items))
+  -- the owner is that of the navigable's first row that stays
+  pub found : Some owner ≡ option_map (λ (r : Row). r.owner) (find (λ r. is_of nav r && stays (Forward lists.current entry) states r) (rows_of lists.nests.items))
+  pub is : row ≡ record { owner = owner; nav = nav; entry = entry; step = record { 0 = lists.current.0 + 1 }; state = state; address = address; memo = memo }
+  pub steps : beside ≡ with_step (lists.current.0 + 1) (used_steps (filter (stays (Forward lists.current entry) states) (rows_of lists.nests.items)))

@@ -8,6 +8,7 @@ mod nest;
 mod nested;
 mod place;
 mod plan;
+mod push;
 mod readers;
 mod steps;
 mod sweep;
