@@ -5,3 +5,7 @@ pub mod Reading
 pub mod Placing
 pub mod Left
 pub mod PushLaw
+pub mod Keeping
+pub mod RemoveLaw
+pub mod MoveLaw
+pub mod AddLaw

@@ -14,7 +14,7 @@ use Rattle.log_model.specs.declared.row.Row.{Row}
 use Rattle.log_model.specs.History.{History, same_entry, is_of, has_nav, has_row, has_state, owner_of, cleared, pushed, used_steps, with_step}
 use Rattle.log_model.specs.Order.{ordered, SameHistory}
 use Rattle.log_model.specs.Soundness.{is_entry, is_in_state, holds, IsSound}
-use Rattle.history_laws.proofs.Members.{or_right, or_none, IsIn, IsIn-filter, IsIn-filter_passes, witness, filter-same, find-filter, found, found_none, some_same, list_any-none}
+use Rattle.history_laws.proofs.Members.{or_right, or_none, IsIn, IsIn-filter, IsIn-filter_passes, witness, filter-same, find-filter, found, found_none, some_same, list_any-none, none_passes}
 use Rattle.history_laws.proofs.Ordered.{ordered-insert}
 use Rattle.history_laws.proofs.UsedSteps.{used_steps-insert}
 use Rattle.history_laws.proofs.OneMore.{AddsRow, AddsRow-insert}
@@ -29,14 +29,6 @@ use Rattle.entry_store.specs.Store.{MayTake}
 use Rattle.entry_store.specs.Nested.{rows_of, outlives, has, is_held_by, stays, AreHeld}
 use Rattle.entry_store.specs.Kept.{history_in, PutsRow, IsKept, IsPushPlan}
 use Rattle.entry_store.proofs.Left.{stays-tidied}
-
--- where none passes, no element does
-pub none_passes : {A : Type 0} (test : A → Bool) (xs : List A) → list_any test xs ≡ false → (x : A) → IsIn xs x → test x ≡ false
-none_passes test xs none x there =
-    elim (cases_Bool (test x)) [
-      | inl passes ↦ absurd (false≢true (sym none ∙ there test passes))
-      | inr fails ↦ fails
-    ]
 
 or_false : (b : Bool) → (b || false) ≡ b
 or_false true = refl

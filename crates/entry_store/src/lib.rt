@@ -1,15 +1,18 @@
 //! A tab's session history in nested lists. So far: which rows a change leaves.
 #![tactic(auto)]
 
+mod add;
 mod cut;
 mod error;
 mod live;
+mod move_on;
 mod nest;
 mod nested;
 mod place;
 mod plan;
 mod push;
 mod readers;
+mod remove;
 mod steps;
 mod sweep;
 

@@ -42,6 +42,14 @@ pub list_any-none : {A : Type 0} (test : A → Bool) (xs : List A) → ((x : A) 
 list_any-none test [] none = refl
 list_any-none test (x ∷ xs) none = or_none (test x) (list_any test xs) (none x (IsIn-head xs x)) (list_any-none test xs (λ y there. none y (IsIn-tail xs x y there)))
 
+-- where none passes, no element does
+pub none_passes : {A : Type 0} (test : A → Bool) (xs : List A) → list_any test xs ≡ false → (x : A) → IsIn xs x → test x ≡ false
+none_passes test xs none x there =
+    elim (cases_Bool (test x)) [
+      | inl passes ↦ absurd (false≢true (sym none ∙ there test passes))
+      | inr fails ↦ fails
+    ]
+
 -- where the elements that pass one test pass another
 pub list_any-weaker : {A : Type 0} (p q : A → Bool) (xs : List A) → ((x : A) → IsIn xs x → p x ≡ true → q x ≡ true) → list_any p xs ≡ true → list_any q xs ≡ true
 list_any-weaker p q xs weaker any = let w = witness p xs any in w.is_in q (weaker w.it w.is_in w.passes)
