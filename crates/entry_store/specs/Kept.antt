@@ -1,16 +1,18 @@
 -- What an `EntryStore` stands for, and what it keeps.
 -- This project's own.
-use Rattle.std.specs.Prelude.{◌≡◌, ◌≢◌, ◌<◌, ◌+◌, ◌&&◌, ℕ, true, false, nat_le, List, ◌∷◌, ◌++◌, length, filter, find, Option, Some}
+use Rattle.std.specs.Prelude.{◌≡◌, ◌≢◌, ◌<◌, ◌+◌, ◌&&◌, ℕ, true, false, nat_le, List, ◌∷◌, ◌++◌, length, filter, find, fold, [], Option, Some, None}
 use Rattle.std.specs.List.{list_any}
 use Rattle.std.specs.Option.{option_map}
 use Rattle.tab_ids.specs.declared.NavId.{NavId}
 use Rattle.tab_ids.specs.declared.StateId.{StateId}
 use Rattle.tab_ids.specs.declared.EntryId.{EntryId}
+use Rattle.address.specs.Addresses.{blank_text}
 use Rattle.log_model.specs.declared.row.Row.{Row}
 use Rattle.log_model.specs.History.{History, is_of, has_nav, has_row, used_steps, with_step}
 use Rattle.log_model.specs.Soundness.{IsSound}
 use Rattle.entry_store.specs.declared.nested.Nested.{Nested}
 use Rattle.entry_store.specs.declared.cut.Cut.TheVariants.{Forward}
+use Rattle.entry_store.specs.Reading.{first_of}
 use Rattle.entry_store.specs.Nested.{rows_of, outlives, stays, AreHeld}
 
 -- the history that the lists stand for: their rows one after the other
@@ -45,3 +47,11 @@ pub record IsPushPlan (lists : Nested) (nav : NavId) (entry : EntryId) (state : 
   pub found : Some owner ≡ option_map (λ (r : Row). r.owner) (find (λ r. is_of nav r && stays (Forward lists.current entry) states r) (rows_of lists.nests.items))
   pub is : row ≡ record { owner = owner; nav = nav; entry = entry; step = record { 0 = lists.current.0 + 1 }; state = state; address = address; memo = memo }
   pub steps : beside ≡ with_step (lists.current.0 + 1) (used_steps (filter (stays (Forward lists.current entry) states) (rows_of lists.nests.items)))
+
+-- a new frame's list: its one row stands at the first step of its owner's rows
+pub record IsFramePlan (history : History) (owner : StateId) (nav : NavId) (entry : EntryId) (state : StateId) (rows : List Row) : Type 0 where
+  pub step : ℕ
+  pub first : fold (first_of owner) None history.rows ≡ Some step
+  pub is_child : nav.0 ≢ 0
+  pub is_new : has_nav history.added nav ≡ false
+  pub are : rows ≡ record { owner = Some owner; nav = nav; entry = entry; step = record { 0 = step }; state = state; address = blank_text; memo = None } ∷ []

@@ -1,11 +1,11 @@
 //! A new frame in the lists.
-ghost use Rattle.std.specs.Prelude.{◌≡◌, ◌∷◌, [], ◌++◌, fold, None, Some, IfOk, IfErr, OnOk, OnErr};
+ghost use Rattle.std.specs.Prelude.{◌≡◌, ◌∷◌, [], ◌++◌, false, fold, None, Some, IfOk, IfErr, OnOk, OnErr};
 ghost use Rattle.address.specs.Addresses.{blank_text};
 ghost use Rattle.log_model.specs.History.{Fits, applied, has_nav};
 ghost use Rattle.log_model.specs.Order.{SameHistory};
 ghost use Rattle.log_model.specs.declared.change.Change.TheVariants.{AddFrame};
 ghost use Rattle.entry_store.specs.Store.{MayTake, IsRefused};
-ghost use Rattle.entry_store.specs.Kept.{history_in, IsKept};
+ghost use Rattle.entry_store.specs.Kept.{history_in, IsKept, IsFramePlan};
 ghost use Rattle.entry_store.specs.Nested.{rows_of};
 ghost use Rattle.entry_store.specs.Reading.{first_of, lower_step};
 
@@ -34,22 +34,69 @@ pub fn add_in(
     ensures refused { IfErr result (IsRefused (history_in lists.old) (AddFrame owner nav entry state)) }
     ensures err { OnErr result (history_in lists.new ≡ history_in lists.old) }
 {
-    let step = match first_step_in(&lists.nests, owner) {
-        Some(step) => step,
-        None => return Err(StoreError::NoEntry),
-    };
-    if nav.0 == 0 {
-        return Err(StoreError::NavTaken);
+    let nest = frame_plan(lists, owner, nav, entry, state)?;
+    put_frame(&mut lists.nests, &mut lists.added, nest, nav)?;
+    Ok(())
+}
+
+// The new frame's list; the lists stay as they are.
+fn frame_plan(
+    lists: &Nested,
+    owner: StateId,
+    nav: NavId,
+    entry: EntryId,
+    state: StateId,
+) -> Result<Nest, StoreError>
+    ensures ok { IfOk result (λ nest. IsFramePlan (history_in lists.now) owner nav entry state nest.rows.items) }
+    ensures refused { IfErr result (IsRefused (history_in lists.now) (AddFrame owner nav entry state)) }
+{
+    match first_step_in(&lists.nests, owner) {
+        None => Err(StoreError::NoEntry),
+        Some(step) => {
+            if nav.0 == 0 {
+                return Err(StoreError::NavTaken);
+            }
+            if was_added_in(&lists.added, nav) {
+                return Err(StoreError::NavTaken);
+            }
+            let alloc = *lists.nests.allocator();
+            let nest = frame_nest(alloc, owner, nav, entry, Step(step), state)?;
+            Ok(nest)
+        }
     }
-    if was_added_in(&lists.added, nav) {
-        return Err(StoreError::NavTaken);
+}
+
+// Puts a frame's list behind the others and notes its number; without memory both stay.
+fn put_frame(
+    nests: &mut Vec<Nest>,
+    added: &mut IndexSet<NavId>,
+    nest: Nest,
+    nav: NavId,
+) -> Result<(), OutOfMemory>
+    requires new { has_nav added.old.keys nav ≡ false }
+    ensures rows { OnOk result (rows_of nests.new.items ≡ rows_of nests.old.items ++ nest.rows.items) }
+    ensures added { OnOk result (added.new.keys ≡ added.old.keys ++ nav ∷ []) }
+    ensures err { OnErr result (nests.new.items ≡ nests.old.items) }
+    ensures err_added { OnErr result (added.new.keys ≡ added.old.keys) }
+{
+    put_nest(nests, nest)?;
+    match note_added(added, nav) {
+        Ok(()) => Ok(()),
+        Err(e) => {
+            nests.pop();
+            Err(e)
+        }
     }
-    let nest = frame_nest(*lists.nests.allocator(), owner, nav, entry, Step(step), state)?;
-    put_nest(&mut lists.nests, nest)?;
-    if lists.added.insert(nav).is_err() {
-        lists.nests.pop();
-        return Err(StoreError::OutOfMemory);
-    }
+}
+
+// Notes that a child navigable has the number.
+#[tactic(auto, using(crate::proofs::AddLaw::added_by_key))]
+fn note_added(added: &mut IndexSet<NavId>, nav: NavId) -> Result<(), OutOfMemory>
+    requires new { has_nav added.old.keys nav ≡ false }
+    ensures ok { OnOk result (added.new.keys ≡ added.old.keys ++ nav ∷ []) }
+    ensures err { OnErr result (added.new.keys ≡ added.old.keys) }
+{
+    added.insert(nav)?;
     Ok(())
 }
 
