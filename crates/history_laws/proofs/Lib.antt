@@ -8,3 +8,4 @@ pub mod Joining
 pub mod Push
 pub mod AddFrame
 pub mod RemoveFrame
+pub mod Replace
