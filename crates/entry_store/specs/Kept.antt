@@ -1,6 +1,6 @@
 -- What an `EntryStore` stands for, and what it keeps.
 -- This project's own.
-use Rattle.std.specs.Prelude.{◌≡◌, ◌≢◌, ◌<◌, ◌+◌, ◌&&◌, ℕ, true, false, nat_le, List, ◌∷◌, ◌++◌, length, filter, find, fold, [], Option, Some, None}
+use Rattle.std.specs.Prelude.{◌≡◌, ◌≢◌, ◌<◌, ◌+◌, ◌&&◌, ℕ, true, false, nat_le, List, ◌∷◌, ◌++◌, length, slice_get, filter, find, fold, [], Option, Some, None}
 use Rattle.std.specs.List.{list_any}
 use Rattle.std.specs.Option.{option_map}
 use Rattle.tab_ids.specs.declared.NavId.{NavId}
@@ -11,7 +11,8 @@ use Rattle.log_model.specs.declared.row.Row.{Row}
 use Rattle.log_model.specs.History.{History, is_of, has_nav, has_row, used_steps, with_step}
 use Rattle.log_model.specs.Soundness.{IsSound}
 use Rattle.entry_store.specs.declared.nested.Nested.{Nested}
-use Rattle.entry_store.specs.declared.cut.Cut.TheVariants.{Forward}
+use Rattle.entry_store.specs.declared.cut.Cut.TheVariants.{Forward, Nothing}
+use Rattle.entry_store.specs.Places.{rows_at, rows_before, rows_after}
 use Rattle.entry_store.specs.Reading.{first_of}
 use Rattle.entry_store.specs.Nested.{rows_of, outlives, stays, AreHeld}
 
@@ -55,3 +56,17 @@ pub record IsFramePlan (history : History) (owner : StateId) (nav : NavId) (entr
   pub is_child : nav.0 ≢ 0
   pub is_new : has_nav history.added nav ≡ false
   pub are : rows ≡ record { owner = Some owner; nav = nav; entry = entry; step = record { 0 = step }; state = state; address = blank_text; memo = None } ∷ []
+
+-- the lists with one row in the place of another, and then without the rows that hang on nothing any more
+pub record IsPutOver (old : Nested) (place at : ℕ) (row : Row) (new : Nested) : Type 0 where
+  pub was : Row
+  pub there : slice_get (rows_at old.nests.items place) at ≡ Some was
+  pub of_old : rows_of old.nests.items ≡ rows_before old.nests.items place at ++ was ∷ rows_after old.nests.items place at
+  pub put : List Row
+  pub put_is : put ≡ rows_before old.nests.items place at ++ row ∷ rows_after old.nests.items place at
+  pub states : List StateId
+  pub held : AreHeld states (filter (outlives Nothing) put)
+  pub swept : rows_of new.nests.items ≡ filter (stays Nothing states) put
+  pub steps : new.used.keys ≡ used_steps (filter (stays Nothing states) put)
+  pub current : new.current ≡ old.current
+  pub added : new.added.keys ≡ old.added.keys

@@ -1,4 +1,5 @@
 pub mod Kept
 pub mod Nested
+pub mod Places
 pub mod Reading
 pub mod Store

@@ -13,7 +13,9 @@ mod plan;
 mod push;
 mod readers;
 mod remove;
+mod replace;
 mod steps;
+mod swap;
 mod sweep;
 
 pub use error::StoreError;

@@ -72,15 +72,15 @@ fn push_plan(
         None => Err(StoreError::NoNavigable),
         Some((place, owner)) => {
             let step = Step(lists.current.0 + 1);
-            let row = pushed_row(owner, nav, entry, step, state, address, memo)?;
+            let row = entry_row(owner, nav, entry, step, state, address, memo)?;
             left.note(step)?;
             Ok(PushPlan { place, row, left })
         }
     }
 }
 
-// The new entry.
-fn pushed_row(
+/// An entry's row.
+pub fn entry_row(
     owner: Option<StateId>,
     nav: NavId,
     entry: EntryId,
