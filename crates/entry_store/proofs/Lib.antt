@@ -9,3 +9,4 @@ pub mod Keeping
 pub mod RemoveLaw
 pub mod MoveLaw
 pub mod AddLaw
+pub mod ReplaceLaw
