@@ -10,3 +10,5 @@ pub mod RemoveLaw
 pub mod MoveLaw
 pub mod AddLaw
 pub mod ReplaceLaw
+pub mod StepBounds
+pub mod InOrder

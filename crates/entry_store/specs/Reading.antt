@@ -1,6 +1,8 @@
 -- What one step along the rows makes of an answer, for each reader of the lists.
 -- This project's own.
 use Rattle.std.specs.Prelude.{◌≡◌, ℕ, Bool, max, min, ◌&&◌, ◌==◌, nat_le, List, [], ◌∷◌, Option, Some, None, if◌then◌else◌}
+use Rattle.std.specs.Ordering.{nat_cmp, ordering_then}
+use Rattle.std.specs.BTreeMap.{insert_entry}
 use Rattle.tab_ids.specs.declared.NavId.{NavId}
 use Rattle.tab_ids.specs.declared.StateId.{StateId}
 use Rattle.log_model.specs.declared.row.Row.{Row}
@@ -27,3 +29,7 @@ first_of state best row = if is_in_state state row then lower_step best row.step
 -- the numbers so far of the navigables whose entries hang on the document state
 abbrev pub child_of : StateId → List ℕ → Row → List ℕ
 child_of state numbers row = if is_owned_by state row then with_step row.nav.0 numbers else numbers
+
+-- the rows so far under navigable and step, with one more in its place
+abbrev pub placed_row : List ((ℕ × ℕ) × Row) → Row → List ((ℕ × ℕ) × Row)
+placed_row rows row = insert_entry (λ one other. ordering_then (nat_cmp one.0 other.0) (nat_cmp one.1 other.1)) rows (row.nav.0, row.step.0) row

@@ -2,8 +2,10 @@
 #![tactic(auto)]
 
 mod add;
+mod counting;
 mod cut;
 mod error;
+mod listing;
 mod live;
 mod move_on;
 mod nest;
