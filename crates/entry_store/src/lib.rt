@@ -10,6 +10,7 @@ mod live;
 mod move_on;
 mod nest;
 mod nested;
+mod opening;
 mod place;
 mod plan;
 mod push;

@@ -9,3 +9,4 @@ pub mod Push
 pub mod AddFrame
 pub mod RemoveFrame
 pub mod Replace
+pub mod Opening
