@@ -1,3 +1,4 @@
+pub mod Held
 pub mod Kept
 pub mod Nested
 pub mod Places

@@ -2,8 +2,10 @@
 #![tactic(auto)]
 
 mod add;
+mod change;
 mod counting;
 mod cut;
+mod entry_store;
 mod error;
 mod listing;
 mod live;
@@ -18,7 +20,10 @@ mod readers;
 mod remove;
 mod replace;
 mod steps;
+mod store;
 mod swap;
 mod sweep;
 
+pub use entry_store::EntryStore;
 pub use error::StoreError;
+pub use store::Store;
