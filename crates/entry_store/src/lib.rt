@@ -27,3 +27,6 @@ mod sweep;
 pub use entry_store::EntryStore;
 pub use error::StoreError;
 pub use store::Store;
+
+#[cfg(test)]
+mod tests;
