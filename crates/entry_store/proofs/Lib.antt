@@ -1,0 +1,14 @@
+pub mod StepsLeft
+pub mod Sweeping
+pub mod Visiting
+pub mod Reading
+pub mod Placing
+pub mod Left
+pub mod PushLaw
+pub mod Keeping
+pub mod RemoveLaw
+pub mod MoveLaw
+pub mod AddLaw
+pub mod ReplaceLaw
+pub mod StepBounds
+pub mod InOrder

@@ -1,0 +1,6 @@
+pub mod Held
+pub mod Kept
+pub mod Nested
+pub mod Places
+pub mod Reading
+pub mod Store

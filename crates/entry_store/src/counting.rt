@@ -1,0 +1,35 @@
+//! The history object's length and index, counted along the used steps.
+ghost use Rattle.std.specs.Prelude.{◌≡◌, ◌<◌, filter, length, nat_lt};
+ghost use Rattle.log_model.specs.History.{history_length, history_index};
+ghost use Rattle.entry_store.specs.Kept.{history_in, IsKept};
+
+use crate::nested::Nested;
+use crate::readers::used_step_in;
+use std::collections::BTreeSet;
+use tab_ids::Step;
+
+/// The history object's length, and its index at a step.
+pub fn length_index_in(lists: &Nested, s: Step) -> (u32, u32)
+    requires kept { IsKept (history_in lists.now) lists.now.used.keys }
+    ensures length { result.0 ≡ history_length (history_in lists.now).rows }
+    ensures index { result.1 ≡ history_index (history_in lists.now).rows s.0 }
+{
+    let at = used_step_in(&lists.nests, s);
+    let index = count_before(&lists.used, at.0);
+    (as_count(lists.used.len()), as_count(index))
+}
+
+// A number of steps.
+fn as_count(n: usize) -> u32
+    requires { n < 4294967296 }
+    ensures { result ≡ n }
+{
+    n as u32
+}
+
+// How many used steps stand before one.
+fn count_before(used: &BTreeSet<u32>, at: u32) -> usize
+    ensures { result ≡ length (filter (λ step. nat_lt step at) used.now.keys) }
+{
+    used.iter().filter(|step| **step < at).count()
+}

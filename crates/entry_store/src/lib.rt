@@ -1,0 +1,32 @@
+//! A tab's session history in nested lists. So far: which rows a change leaves.
+#![tactic(auto)]
+
+mod add;
+mod change;
+mod counting;
+mod cut;
+mod entry_store;
+mod error;
+mod listing;
+mod live;
+mod move_on;
+mod nest;
+mod nested;
+mod opening;
+mod place;
+mod plan;
+mod push;
+mod readers;
+mod remove;
+mod replace;
+mod steps;
+mod store;
+mod swap;
+mod sweep;
+
+pub use entry_store::EntryStore;
+pub use error::StoreError;
+pub use store::Store;
+
+#[cfg(test)]
+mod tests;

@@ -1,0 +1,105 @@
+//! A push in the lists.
+ghost use Rattle.std.specs.Prelude.{◌≡◌, ◌<◌, IfOk, IfErr, OnOk, OnErr};
+ghost use Rattle.log_model.specs.History.{Fits, applied};
+ghost use Rattle.log_model.specs.Order.{SameHistory};
+ghost use Rattle.log_model.specs.declared.change.Change.TheVariants.{Push};
+ghost use Rattle.entry_store.specs.Store.{MayTake, IsRefused};
+ghost use Rattle.entry_store.specs.Kept.{history_in, IsKept, IsPushPlan};
+
+use crate::cut::Cut;
+use crate::error::StoreError;
+use crate::nested::Nested;
+use crate::place::{place_of, put_row};
+use crate::plan::{Plan, plan_of};
+use crate::sweep::sweep;
+use address::{Address, OutOfMemory, Text};
+use log_model::{Row, copy_memo};
+use tab_ids::{EntryId, NavId, StateId, Step};
+
+/// A push that is sure of its place and its memory, but for that of the list it goes to.
+#[derive(Drop)]
+struct PushPlan {
+    place: usize,
+    row: Row,
+    left: Plan,
+}
+
+/// Clears the forward session history and adds an entry a step after the current one.
+pub fn push_in(
+    lists: &mut Nested,
+    nav: NavId,
+    entry: EntryId,
+    state: StateId,
+    address: &Address,
+    memo: &Option<Text>,
+) -> Result<(), StoreError>
+    requires kept { IsKept (history_in lists.old) lists.old.used.keys }
+    requires may { MayTake (history_in lists.old) (Push nav entry state address.now memo.now) }
+    requires room { lists.old.current.0 < 4294967294 }
+    ensures kept { IsKept (history_in lists.new) lists.new.used.keys }
+    ensures fits { OnOk result (Fits (history_in lists.old) (Push nav entry state address.now memo.now)) }
+    ensures ok { OnOk result (SameHistory (history_in lists.new) (applied (history_in lists.old) (Push nav entry state address.now memo.now))) }
+    ensures refused { IfErr result (IsRefused (history_in lists.old) (Push nav entry state address.now memo.now)) }
+    ensures err { OnErr result (history_in lists.new ≡ history_in lists.old) }
+{
+    let plan = push_plan(lists, nav, entry, state, address, memo)?;
+    put_row(&mut lists.nests, plan.place, plan.row)?;
+    let cut = Cut::Forward(lists.current, entry);
+    sweep(&mut lists.nests, &cut, &plan.left.states);
+    lists.current = Step(lists.current.0 + 1);
+    lists.used = plan.left.steps;
+    Ok(())
+}
+
+// What the push will do; the lists stay as they are.
+fn push_plan(
+    lists: &Nested,
+    nav: NavId,
+    entry: EntryId,
+    state: StateId,
+    address: &Address,
+    memo: &Option<Text>,
+) -> Result<PushPlan, StoreError>
+    requires kept { IsKept (history_in lists.now) lists.now.used.keys }
+    requires may { MayTake (history_in lists.now) (Push nav entry state address.now memo.now) }
+    requires room { lists.now.current.0 < 4294967294 }
+    ensures ok { IfOk result (λ p. IsPushPlan lists.now nav entry state address.now memo.now p.place p.row p.left.states.keys p.left.steps.keys) }
+    ensures refused { IfErr result (IsRefused (history_in lists.now) (Push nav entry state address.now memo.now)) }
+{
+    let cut = Cut::Forward(lists.current, entry);
+    let mut left = plan_of(*lists.nests.allocator(), &lists.nests, &cut)?;
+    match place_of(&lists.nests, &cut, &left.states, nav) {
+        None => Err(StoreError::NoNavigable),
+        Some((place, owner)) => {
+            let step = Step(lists.current.0 + 1);
+            let row = entry_row(owner, nav, entry, step, state, address, memo)?;
+            left.note(step)?;
+            Ok(PushPlan { place, row, left })
+        }
+    }
+}
+
+/// An entry's row.
+pub fn entry_row(
+    owner: Option<StateId>,
+    nav: NavId,
+    entry: EntryId,
+    step: Step,
+    state: StateId,
+    address: &Address,
+    memo: &Option<Text>,
+) -> Result<Row, OutOfMemory>
+    ensures { IfOk result (λ row. row ≡ record { owner = owner; nav = nav; entry = entry; step = step; state = state; address = address.now; memo = memo.now }) }
+{
+    let address = address.copy()?;
+    let memo = copy_memo(memo)?;
+    Ok(Row {
+        owner,
+        nav,
+        entry,
+        step,
+        state,
+        address,
+        memo,
+    })
+}

@@ -1,0 +1,12 @@
+pub mod Members
+pub mod Tidying
+pub mod Rooted
+pub mod OneMore
+pub mod Ordered
+pub mod UsedSteps
+pub mod Joining
+pub mod Push
+pub mod AddFrame
+pub mod RemoveFrame
+pub mod Replace
+pub mod Opening
