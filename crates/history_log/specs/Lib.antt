@@ -1,0 +1,3 @@
+pub mod Endings
+pub mod Prompts
+pub mod Mails

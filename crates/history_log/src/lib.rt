@@ -1,7 +1,10 @@
 //! The log of a tab: a list of rows that grows at its end.
 #![tactic(auto)]
 
+mod ending;
 mod log;
+mod mail_count;
+mod prompt_reader;
 #[cfg(test)]
 mod tests;
 

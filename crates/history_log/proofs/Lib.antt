@@ -1,0 +1,3 @@
+pub mod DeskLaws
+pub mod MailLaws
+pub mod PromptLaws
