@@ -1,3 +1,5 @@
 pub mod PieceLaws
 pub mod LineLaws
+pub mod DigitLaws
 pub mod ForCallers
+pub mod Spelled
