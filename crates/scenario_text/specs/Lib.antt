@@ -6,3 +6,4 @@ pub mod Reasons
 pub mod Gives
 pub mod Plays
 pub mod Grammar
+pub mod Printed

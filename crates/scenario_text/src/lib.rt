@@ -11,9 +11,11 @@ mod heading;
 mod line;
 mod number;
 mod place;
+mod printing;
 mod reason;
 mod scenario;
 mod word;
+mod words;
 
 pub use built::Built;
 pub use error::{Refusal, ScenarioError};

@@ -2,6 +2,7 @@
 ghost use Rattle.std.specs.Prelude.{◌≡◌, ◌≤◌, IfOk};
 ghost use Rattle.scenario_text.specs.Grammar.{scenario_of, at_end, read_pieces, IsSpelled};
 ghost use Rattle.scenario_text.specs.Pieces.{pieces};
+ghost use Rattle.scenario_text.specs.Printed.{text_of};
 ghost use Rattle.scenario_text.specs.Gives.{Reads};
 ghost use Rattle.scenario_text.specs.declared.place.Place.TheVariants as places;
 
@@ -11,7 +12,9 @@ use crate::error::{Refusal, ScenarioError};
 use crate::heading::after_line;
 use crate::line::Lines;
 use crate::place::Place;
+use crate::printing::{put_header, put_lines};
 use crate::reason::Reason;
+use address::{OutOfMemory, Text};
 use log_model::Header;
 use std::alloc::Global;
 
@@ -83,5 +86,18 @@ impl Scenario {
             return Err(refused(0, Reason::TooLong));
         }
         read_lines(alloc, built, bytes)
+    }
+
+    /// The text that spells the scenario; `keep` always has its line.
+    #[tactic(auto, unfolding(crate::specs::Printed::text_of))]
+    pub fn print(&self, alloc: Global) -> Result<Text, OutOfMemory>
+        requires { IsSpelled self.now }
+        ensures { IfOk result (λ text. text ≡ text_of self.now) }
+    {
+        let mut out = Vec::new(alloc);
+        put_header(alloc, &mut out, &self.header)?;
+        put_lines(alloc, &mut out, self.lines.as_slice())?;
+        let text = Text::of(alloc, &out)?;
+        Ok(text)
     }
 }

@@ -336,3 +336,17 @@ fn a_reason_has_its_word(rt: HostRuntime) {
         assert_eq!(rt; reason.text(), word);
     }
 }
+
+#[test]
+fn a_scenario_is_printed_line_by_line(rt: HostRuntime) -> Result<(), Fail> {
+    let bytes =
+        b"# a page\nsession 1\nopen HTTP://a.test:80\n\npush 0 s /1\npush 4095 -\nreplace 10 # -\nfragment 0 x\ngo -10\ngo 999\nact 1\nbegin 9\nfinish 10\ndeliver 16\nsettle\n";
+    let printed =
+        b"session 1\nkeep 3\nopen http://a.test/\npush 0 s /1\npush 4095 -\nreplace 10 # -\nfragment 0 x\ngo -10\ngo 999\nact 1\nbegin 9\nfinish 10\ndeliver 16\nsettle\n";
+    let Ok(scenario) = Scenario::read(rt.alloc(), bytes.as_slice(), false, Built::Document) else {
+        return Err("the bytes are a scenario")?;
+    };
+    let text = scenario.print(rt.alloc()).ok().ok_or("memory")?;
+    assert_eq!(rt; text.bytes(), printed.as_slice());
+    Ok(())
+}
