@@ -1,3 +1,6 @@
 pub mod DeskLaws
 pub mod MailLaws
 pub mod PromptLaws
+pub mod OwnerLaws
+pub mod Cuts
+pub mod LeftLaws

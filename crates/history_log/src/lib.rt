@@ -2,8 +2,13 @@
 #![tactic(auto)]
 
 mod ending;
+mod idle;
+mod left;
 mod log;
 mod mail_count;
+mod named;
+mod order_reader;
+mod owner;
 mod prompt_reader;
 #[cfg(test)]
 mod tests;

@@ -3,12 +3,15 @@ ghost use Rattle.std.specs.Prelude.{◌≡◌, ◌<◌, [], ◌∷◌, ◌++◌,
 ghost use Rattle.std.specs.Option.{option_copied};
 ghost use Rattle.log_model.specs.Equal.{holds};
 ghost use Rattle.log_model.specs.Seen.{request_of};
-ghost use Rattle.log_model.specs.Logs.{seen_of, mail_of, is_prompt_up};
+ghost use Rattle.log_model.specs.Logs.{seen_of, mail_of, is_prompt_up, is_still};
 ghost use Rattle.history_log.specs.Endings.{outcome_row};
 ghost use Rattle.history_log.specs.Mails as mails;
 
 use crate::ending::ends;
+use crate::idle::is_idle;
 use crate::mail_count::{MailCount, sent_by};
+use crate::named::next_named;
+use crate::owner::opens_once;
 use crate::prompt_reader::PromptReader;
 use address::OutOfMemory;
 use log_model::{Jobs, LogRow};
@@ -136,5 +139,23 @@ impl Log {
             count.note(proc, &row.row);
         }
         count
+    }
+
+    /// Whether nothing is in transit: no order, poke or report waits in any process.
+    ///
+    /// It goes through the log, once for each process that a row names, and takes no memory.
+    pub fn still(&self) -> bool
+        ensures { result ≡ is_still (seen_of self.now) }
+    {
+        let rows = self.rows.as_slice();
+        let once = opens_once(rows);
+        let mut from: u64 = 0;
+        'processes: while let Some(proc) = next_named(from, rows) {
+            if !is_idle(rows, proc, once) {
+                return false;
+            }
+            from = u64::from(proc.0) + 1;
+        }
+        true
     }
 }
