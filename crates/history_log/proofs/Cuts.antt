@@ -29,3 +29,7 @@ with_item {A} xs i P G within some go = by_found (slice_get xs i) refl some
 -- what holds of the item holds of what is there
 pub of_item : {A : Type 0} (xs : List A) (i : ℕ) (P : A → Type 0) (x : A) → i < length xs → x ≡ get_or xs i x → P x → IfSome (slice_get xs i) P
 of_item {A} xs i P x within is holds = rw (get_at xs i x within is) holds
+
+-- what holds of what is there holds of the item
+pub at_item : {A : Type 0} (xs : List A) (i : ℕ) (P : A → Type 0) (x : A) → i < length xs → x ≡ get_or xs i x → IfSome (slice_get xs i) P → P x
+at_item {A} xs i P x within is some = rw (get_at xs i x within is) at some

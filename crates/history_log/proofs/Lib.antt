@@ -4,3 +4,5 @@ pub mod PromptLaws
 pub mod OwnerLaws
 pub mod Cuts
 pub mod LeftLaws
+pub mod OrderLaws
+pub mod ReadLaws

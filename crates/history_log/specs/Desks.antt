@@ -1,13 +1,13 @@
 -- What a reader of the rows keeps of a process: whether an order is in hand, and how many reports wait.
 -- This project's own.
-use Rattle.std.specs.Prelude.{ℕ, ◌+◌, ◌-◌, Bool, true, false, not, ◌&&◌, ◌==◌, nat_lt, Option, Some, None, if◌then◌else◌}
+use Rattle.std.specs.Prelude.{ℕ, ◌+◌, ◌-◌, Bool, true, false, not, ◌&&◌, ◌==◌, nat_lt, Option, Some, None, is_some, if◌then◌else◌}
 use Rattle.tab_ids.specs.declared.ProcId.{ProcId}
 use Rattle.log_model.specs.declared.made.What.{What}
 use Rattle.log_model.specs.declared.made.What.TheVariants as whats
 use Rattle.log_model.specs.declared.row_kind.LogRow.{LogRow}
 use Rattle.log_model.specs.declared.row_kind.RowKind.{RowKind}
 use Rattle.log_model.specs.declared.row_kind.RowKind.TheVariants as rows
-use Rattle.log_model.specs.Seen.{Seen}
+use Rattle.log_model.specs.Seen.{Seen, desk_of}
 use Rattle.log_model.specs.After.{follows_finished}
 use Rattle.history_log.specs.declared.mail_count.MailCount.{MailCount}
 use Rattle.history_log.specs.declared.order_reader.OrderReader.{OrderReader}
@@ -51,3 +51,8 @@ joins_order p s row = is_made_by p row.row && follows_finished s row
 abbrev pub finisher : RowKind → Option ProcId
 finisher (rows.Finished proc job outcome) = Some proc
 finisher _ = None
+
+-- an order of that process is in hand
+abbrev pub finishes_of : Seen → Option ProcId → Bool
+finishes_of s None = false
+finishes_of s (Some proc) = is_some (desk_of s proc).in_hand

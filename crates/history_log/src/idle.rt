@@ -1,5 +1,5 @@
 //! Whether nothing waits in a process, read along the rows of a log.
-ghost use Rattle.std.specs.Prelude.{◌≡◌, ◌+◌, ◌-◌, ◌<◌, ◌^◌, ◌≤◌, true, false, is_some, length, take, drop, slice_get, IfSome};
+ghost use Rattle.std.specs.Prelude.{◌≡◌, ◌+◌, ◌-◌, ◌<◌, ◌^◌, ◌≤◌, true, false, is_some, length, take, drop, slice_get, IfSome, if◌then◌else◌};
 ghost use Rattle.log_model.specs.Seen.{desk_of};
 ghost use Rattle.log_model.specs.Logs as logs;
 ghost use Rattle.log_model.specs.Logs.{seen_of};
@@ -58,28 +58,39 @@ fn finisher(row: &RowKind) -> Option<ProcId>
     }
 }
 
+/// Whether the row at an index finishes an order; `held` says whether `proc` has one in hand then.
+fn finishes(rows: &[LogRow], i: usize, proc: ProcId, held: bool) -> bool
+    requires here { i < length rows.now }
+    requires held { is_some (desk_of (seen_of (take i rows.now)) proc).in_hand ≡ held }
+    ensures { IfSome (slice_get rows.now i) (λ row. result ≡ spec.finishes_of (seen_of (take i rows.now)) (spec.finisher row.row)) }
+{
+    let Some(other) = finisher(&rows[i].row) else {
+        return false;
+    };
+    if other == proc {
+        return held;
+    }
+    read_orders(&rows[..i], other).holds
+}
+
 /// Whether what the process makes in a row joins the report of the order before it.
 fn joins_order(rows: &[LogRow], k: usize, proc: ProcId, held: bool) -> bool
     requires here { k < length rows.now }
     requires held { is_some (desk_of (seen_of (take (k - 1) rows.now)) proc).in_hand ≡ held }
     ensures { IfSome (slice_get rows.now k) (λ row. result ≡ spec.joins_order proc (seen_of (take k rows.now)) row) }
 {
-    if k == 0 || !is_made_by(proc, &rows[k].row) {
+    let row = &rows[k];
+    if k == 0 {
         return false;
     }
-    if rows[k - 1].event != rows[k].event {
+    if !is_made_by(proc, &row.row) {
         return false;
     }
-    match finisher(&rows[k - 1].row) {
-        Some(other) => {
-            if other == proc {
-                held
-            } else {
-                read_orders(&rows[..k - 1], other).holds
-            }
-        }
-        None => false,
+    let prev = &rows[k - 1];
+    if prev.event != row.event {
+        return false;
     }
+    finishes(rows, k - 1, proc, held)
 }
 
 /// Whether what was made of a poke is reported.
@@ -145,6 +156,14 @@ fn reports_after(proc: ProcId, joins: bool, holds: bool, reports: usize, row: &R
     }
 }
 
+/// From which row on no row drops a request, after one more row at an index.
+fn last_drop_after(last_drop: usize, k: usize, row: &RowKind) -> usize
+    requires { k + 1 < 2 ^ 64 }
+    ensures { result ≡ (if lefts.is_drop row.now then k + 1 else last_drop) }
+{
+    if is_drop(row) { k + 1 } else { last_drop }
+}
+
 /// Whether nothing waits in the process.
 pub fn is_idle(rows: &[LogRow], proc: ProcId, opens_once: bool) -> bool
     requires { opens_once ≡ true → have_opening (drop 1 rows.now) ≡ false }
@@ -158,9 +177,7 @@ pub fn is_idle(rows: &[LogRow], proc: ProcId, opens_once: bool) -> bool
     for k in 0..rows.len() {
         let row = &rows[k];
         let joins = joins_order(rows, k, proc, held);
-        if is_drop(&row.row) {
-            last_drop = k + 1;
-        }
+        last_drop = last_drop_after(last_drop, k, &row.row);
         head = head_after(&rows[..k + 1], row, head, proc, opens_once, last_drop, joins);
         reports = reports_after(proc, joins, orders.holds, reports, &row.row);
         held = orders.holds;
