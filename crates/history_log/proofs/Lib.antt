@@ -6,3 +6,5 @@ pub mod Cuts
 pub mod LeftLaws
 pub mod OrderLaws
 pub mod ReadLaws
+pub mod NameLaws
+pub mod StillLaws

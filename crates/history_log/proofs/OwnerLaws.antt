@@ -136,7 +136,7 @@ own_delivered ds (Some (reports.Died death)) doc =
     own-map (λ (d : Document). cond (is_dead_by death d) (record d { is_known_dead = true }) d) (λ d. stays_where (is_dead_by death d) (λ (x : Document). record x { is_known_dead = true }) d (refl, refl)) ds doc
 
 -- the process after one more row
-own_after : (s : Seen) (kind : RowKind) (doc : DocId) → own (documents_after s kind) doc ≡ owner_after doc (own s.documents doc) kind
+pub own_after : (s : Seen) (kind : RowKind) (doc : DocId) → own (documents_after s kind) doc ≡ owner_after doc (own s.documents doc) kind
 own_after s (rows.Opened entry state d proc slot address) doc = own-one (opening_document entry state d proc slot address) doc
 own_after s (rows.Applied req change) doc = own-map (λ (d : Document). applied_to change (told_after_change d change)) (both_stay change) s.documents doc
 own_after s (rows.Sent job) doc = own_sent s job job.task doc

@@ -10,7 +10,7 @@ ghost use Rattle.history_log.specs.Mails as mails;
 use crate::ending::ends;
 use crate::idle::is_idle;
 use crate::mail_count::{MailCount, sent_by};
-use crate::named::next_named;
+use crate::named::{next_named, number_after};
 use crate::owner::opens_once;
 use crate::prompt_reader::PromptReader;
 use address::OutOfMemory;
@@ -154,7 +154,7 @@ impl Log {
             if !is_idle(rows, proc, once) {
                 return false;
             }
-            from = u64::from(proc.0) + 1;
+            from = number_after(proc);
         }
         true
     }

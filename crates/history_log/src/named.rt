@@ -1,5 +1,5 @@
 //! The processes that the rows of a log name.
-ghost use Rattle.std.specs.Prelude.{◌≡◌};
+ghost use Rattle.std.specs.Prelude.{◌≡◌, ◌+◌, ◌≤◌};
 ghost use Rattle.history_log.specs.Names as spec;
 
 use log_model::{Actor, LogRow, RowKind};
@@ -71,4 +71,12 @@ pub fn next_named(from: u64, rows: &[LogRow]) -> Option<ProcId>
         best = lower(from, best, named_by(row.actor, &row.row));
     }
     best
+}
+
+/// The number after a process's.
+pub fn number_after(proc: ProcId) -> u64
+    ensures after { result ≡ proc.0 + 1 }
+    ensures few { result ≤ 4294967296 }
+{
+    u64::from(proc.0) + 1
 }
