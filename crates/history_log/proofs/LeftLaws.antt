@@ -1,5 +1,5 @@
 -- The pokes that are left in the input of a process.
-use Rattle.std.proofs.Common.{◌≡◌, ℕ, ◌+◌, ◌<◌, ◌≤◌, zero, suc, Bool, true, false, cond, not, ◌&&◌, ◌||◌, ◌==◌, List, [], ◌∷◌, ◌++◌, length, get_or, take, drop, Option, Some, None, refl, ap, sym, subst, ◌∙◌, arith, append-nil, append_assoc, length-append}
+use Rattle.std.proofs.Common.{◌≡◌, ℕ, ◌+◌, ◌<◌, ◌≤◌, zero, suc, Bool, true, false, cond, not, ◌&&◌, ◌||◌, ◌==◌, List, [], ◌∷◌, ◌++◌, length, get_or, take, drop, Option, Some, None, refl, ap, sym, ◌∙◌, arith, append-nil, append_assoc}
 use Rattle.std.specs.Prelude.{filter, slice_get, IfSome}
 use Rattle.std.specs.List.{list_any}
 use Rattle.std.proofs.lemmas.Bool.Decides.{nat_tests}
@@ -82,7 +82,7 @@ kept_on : (poke : Option Poke) (later : List LogRow) (row : LogRow) → is_drop 
 kept_on None later row other = refl
 kept_on (Some poke) later row other =
     let same : is_dropped_by poke.req (later ++ row ∷ []) ≡ is_dropped_by poke.req later =
-        list_any-append (λ (r : LogRow). drops poke.req r.row) later (row ∷ []) ∙ rw (drops_is poke.req row.row other) (or_false (is_dropped_by poke.req later)) in
+    list_any-append (λ (r : LogRow). drops poke.req r.row) later (row ∷ []) ∙ rw (drops_is poke.req row.row other) (or_false (is_dropped_by poke.req later)) in
     rw same refl
 
 -- a row that drops nothing adds its poke, if it has one
@@ -105,7 +105,7 @@ kept_drop : (poke : Option Poke) (later : List LogRow) (event : ℕ) (row : LogR
 kept_drop None later event row req cause is = refl
 kept_drop (Some poke) later event row req cause is =
     let longer : is_dropped_by poke.req (later ++ row ∷ []) ≡ (is_dropped_by poke.req later || ((req.0 == poke.req.0) || false)) =
-        list_any-append (λ (r : LogRow). drops poke.req r.row) later (row ∷ []) ∙ rw is refl in
+    list_any-append (λ (r : LogRow). drops poke.req r.row) later (row ∷ []) ∙ rw is refl in
     rw longer (by_tests (is_dropped_by poke.req later) (poke.req.0 == req.0) refl)
   where
     by_tests : (d e : Bool) → (poke.req.0 == req.0) ≡ e → cond (d || ((req.0 == poke.req.0) || false)) [] (poke ∷ []) ≡ without req (cond d [] (poke ∷ []))
@@ -244,8 +244,8 @@ poke_left p before (rows.Evicted state) req d later is = absurd cc
 pub left_test : (p : ProcId) (log : List LogRow) (i : ℕ) (row : LogRow) (req : ReqId) (doc : DocId) (owner : Option ProcId) (b : Bool) → i < length log → row ≡ get_or log i row → poke_face (get_or log i row).row ≡ Some (req, doc) → owner ≡ owner_of (take i log) doc → b ≡ is_its p req owner (drop (i + 1) log) → IfSome (slice_get log i) (λ row. b ≡ is_kept (poked_by p (take i log) row.row) (drop (i + 1) log))
 left_test p log i row req doc owner b within is face its test =
     of_item log i (λ r. b ≡ is_kept (poked_by p (take i log) r.row) (drop (i + 1) log)) row within is (
-      let at : poke_face row.row ≡ Some (req, doc) = ap (λ (r : LogRow). poke_face r.row) is ∙ face in
-      test ∙ ap (λ (o : Option ProcId). is_its p req o (drop (i + 1) log)) its ∙ sym (poke_left p (take i log) row.row req doc (drop (i + 1) log) at)
+    let at : poke_face row.row ≡ Some (req, doc) = ap (λ (r : LogRow). poke_face r.row) is ∙ face in
+    test ∙ ap (λ (o : Option ProcId). is_its p req o (drop (i + 1) log)) its ∙ sym (poke_left p (take i log) row.row req doc (drop (i + 1) log) at)
     )
 
 pub not_true : (b : Bool) → not b ≡ true → b ≡ false

@@ -8,3 +8,4 @@ pub mod OrderLaws
 pub mod ReadLaws
 pub mod NameLaws
 pub mod StillLaws
+pub mod QuietLaws

@@ -1,7 +1,6 @@
 -- Where no row names a process nothing waits in it; and which process is named next.
-use Rattle.std.proofs.Common.{◌≡◌, ◌≢◌, ℕ, ◌+◌, ◌<◌, ◌≤◌, Bool, true, false, cond, ◌&&◌, ◌||◌, ◌==◌, List, [], ◌∷◌, ◌++◌, length, drop, Option, Some, None, refl, ap, sym, subst, ◌∙◌, arith, append-nil, append_assoc}
+use Rattle.std.proofs.Common.{◌≡◌, ◌≢◌, ℕ, ◌<◌, ◌≤◌, Bool, true, false, cond, ◌&&◌, ◌||◌, ◌==◌, List, [], ◌∷◌, ◌++◌, length, Option, Some, None, refl, ap, ◌∙◌, arith, append-nil, append_assoc}
 use Rattle.std.specs.Prelude.{fold, nat_lt, nat_le, option_map}
-use Rattle.std.specs.List.{list_any}
 use Rattle.std.specs.Option.{option_map_or}
 use Rattle.std.proofs.lemmas.Bool.Decides.{nat_tests}
 use Rattle.std.proofs.lemmas.List.Folds.{list_any-append}
@@ -21,9 +20,9 @@ use Rattle.log_model.specs.declared.row_kind.RowKind.TheVariants as rows
 use Rattle.log_model.specs.Seen.{Seen, Desk, Document, nothing, desk_of, document_of, empty_desk}
 use Rattle.log_model.specs.After.{after, follows_finished}
 use Rattle.log_model.specs.Logs.{seen_of}
-use Rattle.history_log.specs.Names.{process_of, named_by, is_number, names, is_named, lower, next_named}
+use Rattle.history_log.specs.Names.{named_by, is_number, names, is_named, lower, next_named}
 use Rattle.history_log.specs.Owners.{placed_by_task, first_place, owner_after}
-use Rattle.history_log.proofs.DeskLaws.{mine, desk_after, desk_of-after, with_poke, desk_poked}
+use Rattle.history_log.proofs.DeskLaws.{desk_after, desk_of-after, with_poke}
 use Rattle.history_log.proofs.OwnerLaws.{own, own_after}
 
 or_first : (b c : Bool) → (b || c) ≡ false → b ≡ false
@@ -142,14 +141,18 @@ lowest_more from done row (Some best) (Some proc) is low = by_test (nat_le from 
   where
     other : (n m : ℕ) → n ≢ m → (n == m) ≡ false
     other n m apart = grind (arith, nat_tests)
+
     apart_ : (q : ℕ) → (nat_le from proc.0 && nat_lt proc.0 best.0) ≡ false → from ≤ q → q < best.0 → (proc.0 == q) ≡ false
     apart_ q out from_ below = grind (arith, nat_tests)
+
     first : (b c : Bool) → (b && c) ≡ true → b ≡ true
     first true c e = refl
     first false c e = absurd cc
+
     second : (b c : Bool) → (b && c) ≡ true → c ≡ true
     second true c e = e
     second false c e = absurd cc
+
     by_test : (b : Bool) → (nat_le from proc.0 && nat_lt proc.0 best.0) ≡ b → IsLowest from (cond b (Some proc) (Some best)) (done ++ row ∷ [])
     by_test true at =
         let one : nat_le from proc.0 ≡ true = first (nat_le from proc.0) (nat_lt proc.0 best.0) at in

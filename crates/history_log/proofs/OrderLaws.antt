@@ -1,10 +1,9 @@
 -- The order in hand of a process, by the rows so far.
-use Rattle.std.proofs.Common.{◌≡◌, ℕ, ◌+◌, ◌<◌, ◌≤◌, Bool, true, false, cond, ◌&&◌, ◌==◌, List, [], ◌∷◌, ◌++◌, length, drop, Option, Some, None, refl, ap, sym, subst, ◌∙◌, arith, append_assoc, length-drop}
+use Rattle.std.proofs.Common.{◌≡◌, ℕ, ◌<◌, ◌≤◌, Bool, true, false, cond, ◌&&◌, ◌==◌, List, [], ◌∷◌, ◌++◌, length, drop, Option, Some, None, refl, ap, sym, subst, ◌∙◌, arith, length-drop}
 use Rattle.std.specs.Prelude.{fold, is_some, nat_lt, option_map, slice_get}
 use Rattle.std.specs.Option.{option_map_or}
 use Rattle.std.proofs.lemmas.Bool.Decides.{nat_tests}
 use Rattle.std.proofs.lemmas.Grind.{common_steps}
-use Rattle.std.proofs.lemmas.List.Elements.{filter_map-append}
 use Rattle.tab_ids.specs.declared.ProcId.{ProcId}
 use Rattle.log_model.specs.declared.job.Job.{Job}
 use Rattle.log_model.specs.declared.job.Order.{Order}
@@ -21,7 +20,7 @@ use Rattle.log_model.specs.Logs.{seen_of}
 use Rattle.history_log.specs.declared.mail_count.MailCount.{MailCount}
 use Rattle.history_log.specs.declared.order_reader.OrderReader.{OrderReader}
 use Rattle.history_log.specs.Desks.{holds_after, order_after, no_order}
-use Rattle.history_log.specs.Mails.{sent_by, sent_to}
+use Rattle.history_log.specs.Mails.{sent_to}
 use Rattle.history_log.proofs.DeskLaws.{mine, desk_after, desk_of-after, with_poke, desk_poked, desk_served, desk_sent}
 use Rattle.history_log.proofs.MailLaws.{IsMail, mail-desk_after, next_mail_is}
 
@@ -107,10 +106,10 @@ pub orders_more : (s : Seen) (p : ProcId) (row : LogRow) (o : OrderReader) (befo
 orders_more s p row o before are =
     let at : desk_of (after s row) p ≡ desk_after s p (follows_finished s row) row.actor row.row (desk_of s p) = desk_of-after s p row.event row.actor row.row in
     subst (λ (d : Desk). IsOrders d (order_after p o row.row) (before ++ sent_to p (row ∷ []))) (sym at) (
-      record {
-        mail = rw (mail-desk_after s p (follows_finished s row) row.actor row.row (desk_of s p)) (next_mail_is p row.event row.actor row.row (desk_of s p).mail o.mail before are.mail);
-        holds = holds_more s p (follows_finished s row) row.actor row.row (desk_of s p) o before are;
-      }
+    record {
+      mail = rw (mail-desk_after s p (follows_finished s row) row.actor row.row (desk_of s p)) (next_mail_is p row.event row.actor row.row (desk_of s p).mail o.mail before are.mail);
+      holds = holds_more s p (follows_finished s row) row.actor row.row (desk_of s p) o before are;
+    }
     )
 
 abbrev pub ordered_on : ProcId → OrderReader → List LogRow → OrderReader

@@ -1,5 +1,5 @@
 -- The process of a document, by the rows so far.
-use Rattle.std.proofs.Common.{◌≡◌, ℕ, ◌+◌, ◌≤◌, ◌<◌, zero, suc, Bool, true, false, cond, ◌||◌, ◌==◌, List, [], ◌∷◌, ◌++◌, length, get_or, take, drop, map, Option, Some, None, refl, ap, sym, ◌∙◌, arith, add-one}
+use Rattle.std.proofs.Common.{◌≡◌, ℕ, ◌+◌, ◌<◌, zero, suc, Bool, true, false, cond, ◌||◌, ◌==◌, List, [], ◌∷◌, ◌++◌, length, get_or, take, drop, map, Option, Some, None, refl, ap, sym, ◌∙◌, add-one}
 use Rattle.std.specs.Prelude.{fold, find, option_map}
 use Rattle.std.specs.List.{list_any}
 use Rattle.tab_ids.specs.declared.DocId.{DocId}
@@ -19,7 +19,7 @@ use Rattle.log_model.specs.declared.row_kind.RowKind.{RowKind}
 use Rattle.log_model.specs.declared.row_kind.RowKind.TheVariants as rows
 use Rattle.log_model.specs.Seen.{Seen, Document, nothing, desk_of}
 use Rattle.log_model.specs.After.{after}
-use Rattle.log_model.specs.AfterDocuments.{opening_document, on_document, told_by, told_after_change, with_applied, applied_to, new_document, documents_sent, task_in_hand, view_finished, documents_finished, slot_finished, documents_delivered, documents_killed, documents_after}
+use Rattle.log_model.specs.AfterDocuments.{opening_document, on_document, told_by, told_after_change, with_applied, applied_to, new_document, documents_sent, task_in_hand, view_finished, documents_finished, slot_finished, documents_delivered, documents_after}
 use Rattle.log_model.specs.AfterPlaces.{is_dead_by}
 use Rattle.log_model.specs.Views.{View, after_made}
 use Rattle.std.specs.Prelude.{slice_get, is_none, is_some, ◌&&◌}
@@ -223,6 +223,7 @@ owned_stays doc p (row ∷ log) closed =
     first : (b c : Bool) → (b || c) ≡ false → b ≡ false
     first true c e = cc
     first false c e = refl
+
     second : (b c : Bool) → (b || c) ≡ false → c ≡ false
     second true c e = absurd cc
     second false c e = e

@@ -57,7 +57,7 @@ length_set (x ∷ xs) zero y = refl
 length_set (x ∷ xs) (suc n) y = ap suc (length_set xs n y)
 
 -- the request's number fits its place
-in_place : (asked : List Asked) (r : ReqId) (n : ℕ) → r.0 ≡ n + 1 → request_in asked r ≡ slice_get asked n
+pub in_place : (asked : List Asked) (r : ReqId) (n : ℕ) → r.0 ≡ n + 1 → request_in asked r ≡ slice_get asked n
 in_place asked r n at =
     let some : (r.0 == 0) ≡ false = grind (arith, nat_tests) in
     let place : r.0 - 1 ≡ n = omega (arith, at) in
@@ -71,7 +71,7 @@ changed_else : (asked : List Asked) (m n : ℕ) (f : Asked → Asked) (found : O
 changed_else asked m n f None other = refl
 changed_else asked m n f (Some q) other = set_else asked m n (f q) other
 
-on_request_same : (asked : List Asked) (r : ReqId) (n : ℕ) (f : Asked → Asked) → r.0 ≡ n + 1 → slice_get (on_request r f asked) n ≡ option_map f (slice_get asked n)
+pub on_request_same : (asked : List Asked) (r : ReqId) (n : ℕ) (f : Asked → Asked) → r.0 ≡ n + 1 → slice_get (on_request r f asked) n ≡ option_map f (slice_get asked n)
 on_request_same asked r n f at =
     let place : r.0 - 1 ≡ n = omega (arith, at) in
     rw (in_place asked r n at, place) (changed_there asked n f (slice_get asked n) refl)
@@ -268,7 +268,7 @@ read_at asked req n left (Some q) at is = rw (in_place asked req n at, is) (sym 
 abbrev pub read_on : ReqId → PromptReader → List LogRow → PromptReader
 read_on req p rows = fold (λ (p : PromptReader) (row : LogRow). prompt_after req p row.row) p rows
 
-read_fold : (req : ReqId) (n : ℕ) (rows : List LogRow) (s : Seen) (p : PromptReader) → req.0 ≡ n + 1 → p ≡ reader_of n s.requests → read_on req p rows ≡ reader_of n (fold after s rows).requests
+pub read_fold : (req : ReqId) (n : ℕ) (rows : List LogRow) (s : Seen) (p : PromptReader) → req.0 ≡ n + 1 → p ≡ reader_of n s.requests → read_on req p rows ≡ reader_of n (fold after s rows).requests
 read_fold req n [] s p at is = is
 read_fold req n (row ∷ rows) s p at is =
     read_fold req n rows (after s row) (prompt_after req p row.row) at (ap (λ (q : PromptReader). prompt_after req q row.row) is ∙ sym (row_law s req n row.row at))

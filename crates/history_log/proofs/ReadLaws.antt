@@ -1,7 +1,6 @@
 -- What a reader keeps of a process is what waits in it.
-use Rattle.std.proofs.Common.{◌≡◌, ℕ, ◌+◌, ◌-◌, ◌<◌, ◌≤◌, zero, suc, Bool, true, false, cond, not, ◌&&◌, ◌==◌, List, [], ◌∷◌, ◌++◌, length, get_or, take, drop, Option, Some, None, refl, ap, sym, subst, ◌∙◌, arith, append-nil, length-append, length-drop}
+use Rattle.std.proofs.Common.{◌≡◌, ℕ, ◌+◌, ◌-◌, ◌<◌, ◌≤◌, suc, Bool, true, false, cond, not, ◌&&◌, ◌==◌, List, [], ◌∷◌, ◌++◌, length, get_or, take, drop, Option, Some, None, refl, ap, sym, ◌∙◌, arith, append-nil, length-append, length-drop}
 use Rattle.std.specs.Prelude.{is_some, option_map, slice_get, IfSome}
-use Rattle.std.specs.List.{list_any}
 use Rattle.std.specs.Option.{option_map_or}
 use Rattle.std.proofs.lemmas.Bool.Decides.{nat_tests}
 use Rattle.std.proofs.lemmas.Grind.{common_steps}
@@ -12,7 +11,6 @@ use Rattle.tab_ids.specs.declared.DocId.{DocId}
 use Rattle.tab_ids.specs.declared.ReqId.{ReqId}
 use Rattle.tab_ids.specs.declared.ProcId.{ProcId}
 use Rattle.log_model.specs.declared.action.Action.{Action}
-use Rattle.log_model.specs.declared.job.Job.{Job}
 use Rattle.log_model.specs.declared.job.Order.{Order}
 use Rattle.log_model.specs.declared.made.Made.{Made}
 use Rattle.log_model.specs.declared.made.What.{What}
@@ -29,16 +27,16 @@ use Rattle.log_model.specs.declared.row_kind.Actor.TheVariants as actors
 use Rattle.log_model.specs.declared.row_kind.LogRow.{LogRow}
 use Rattle.log_model.specs.declared.row_kind.RowKind.{RowKind}
 use Rattle.log_model.specs.declared.row_kind.RowKind.TheVariants as rows
-use Rattle.log_model.specs.Seen.{Seen, Desk, Document, nothing, desk_of, document_of}
-use Rattle.log_model.specs.After.{after, finished_by, follows_finished, reports_made, reports_joined, desk_made, desks_made, desk_taken, desk_finished, desk_delivered, desk_killed}
-use Rattle.log_model.specs.Logs.{seen_of, is_idle}
+use Rattle.log_model.specs.Seen.{Seen, Desk, Document, desk_of, document_of}
+use Rattle.log_model.specs.After.{finished_by, follows_finished, reports_made, reports_joined, desks_made, desk_taken, desk_finished, desk_delivered, desk_killed}
+use Rattle.log_model.specs.Logs.{seen_of}
 use Rattle.log_model.proofs.Laws.{seen_of_append}
 use Rattle.history_log.specs.declared.order_reader.OrderReader.{OrderReader}
 use Rattle.history_log.specs.Desks.{is_reported, reports_after, joins_order, finisher, finishes_of, order_after, no_order}
-use Rattle.history_log.specs.Lefts.{is_drop, have_drop, opens, is_process, is_made_by, serves, its_poke, poke_of, poked_by, left_from, HaveNoneLeft, IsFirstLeft}
+use Rattle.history_log.specs.Lefts.{is_drop, have_drop, opens, is_made_by, serves, its_poke, poke_of, poked_by, left_from}
 use Rattle.history_log.specs.Mails.{sent_by, sent_to}
 use Rattle.history_log.specs.Owners.{owner_of}
-use Rattle.history_log.proofs.Cuts.{take_more, with_item, of_item}
+use Rattle.history_log.proofs.Cuts.{take_more, of_item}
 use Rattle.history_log.proofs.DeskLaws.{mine, desk_after, desk_of-after, with_poke, desk_poked, desk_served, desk_sent}
 use Rattle.history_log.proofs.LeftLaws.{listed, without, left_more, left_dropped, left_none}
 use Rattle.history_log.proofs.OrderLaws.{IsOrders, orders_more, no_orders}
@@ -166,11 +164,11 @@ poke_input s p done req doc action desk its = rw (← its) (by_found (document_o
     by_found : (found : Option Document) → document_of s doc ≡ found → (option_map_or (λ d. with_poke p req doc action d desk) (document_of s doc) desk).input ≡ desk.input ++ listed (its_poke p req doc action (own s.documents doc))
     by_found None at = rw at (sym (append-nil desk.input))
     by_found (Some d) at = rw at (
-      elim (d.proc.0 == p.0) as (λ b. (cond b (desk_poked req doc action desk) desk).input ≡ desk.input ++ listed (cond b (Some (record { req = req; doc = doc; action = action })) None)) [
-        | true ↦ refl
-        | false ↦ sym (append-nil desk.input)
-      ]
-    )
+        elim (d.proc.0 == p.0) as (λ b. (cond b (desk_poked req doc action desk) desk).input ≡ desk.input ++ listed (cond b (Some (record { req = req; doc = doc; action = action })) None)) [
+          | true ↦ refl
+          | false ↦ sym (append-nil desk.input)
+        ]
+        )
 
 accepted_input : (s : Seen) (p : ProcId) (done : List LogRow) (joins : Bool) (actor : Actor) (req : ReqId) (doc : Option DocId) (what : Request) (desk : Desk) → ((d : DocId) → own s.documents d ≡ owner_of done d) → (desk_after s p joins actor (rows.Accepted req doc what) desk).input ≡ desk.input ++ listed (poke_of p done req doc what)
 accepted_input s p done joins actor req None what desk its = sym (append-nil desk.input)
@@ -371,15 +369,15 @@ joins_first p log k row within at first =
 pub joins_unmade : (p : ProcId) (log : List LogRow) (k : ℕ) (row : LogRow) (b : Bool) → k < length log → row ≡ get_or log k row → b ≡ is_made_by p row.row → b ≡ false → IfSome (slice_get log k) (λ (r : LogRow). false ≡ joins_order p (seen_of (take k log)) r)
 joins_unmade p log k row b within at made none =
     of_item log k (λ (r : LogRow). false ≡ joins_order p (seen_of (take k log)) r) row within at (
-      let here : is_made_by p row.row ≡ false = sym made ∙ none in rw here refl
+    let here : is_made_by p row.row ≡ false = sym made ∙ none in rw here refl
     )
 
 -- what is made joins by the row before it
 pub joins_made : (p : ProcId) (log : List LogRow) (k : ℕ) (row prev : LogRow) (b c : Bool) → k < length log → 0 < k → row ≡ get_or log k row → prev ≡ get_or log (k - 1) prev → b ≡ is_made_by p row.row → b ≡ true → c ≡ ((prev.event == row.event) && finishes_of (seen_of (take (k - 1) log)) (finisher prev.row)) → IfSome (slice_get log k) (λ (r : LogRow). c ≡ joins_order p (seen_of (take k log)) r)
 joins_made p log k row prev b c within some at before made is test =
     of_item log k (λ (r : LogRow). c ≡ joins_order p (seen_of (take k log)) r) row within at (
-      let here : is_made_by p row.row ≡ true = sym made ∙ is in
-      let up : k - 1 + 1 ≡ k = omega (arith, some) in
-      let cut : take k log ≡ take (k - 1) log ++ prev ∷ [] = ap (λ (n : ℕ). take n log) (sym up) ∙ take_more log (k - 1) prev (omega (arith, within, some)) before in
-      rw (here, cut) (test ∙ sym (follows_is (take (k - 1) log) prev row))
+    let here : is_made_by p row.row ≡ true = sym made ∙ is in
+    let up : k - 1 + 1 ≡ k = omega (arith, some) in
+    let cut : take k log ≡ take (k - 1) log ++ prev ∷ [] = ap (λ (n : ℕ). take n log) (sym up) ∙ take_more log (k - 1) prev (omega (arith, within, some)) before in
+    rw (here, cut) (test ∙ sym (follows_is (take (k - 1) log) prev row))
     )

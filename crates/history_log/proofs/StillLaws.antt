@@ -1,8 +1,7 @@
 -- Nothing is in transit where nothing waits in any process.
-use Rattle.std.proofs.Common.{◌≡◌, ◌≢◌, ℕ, ◌+◌, ◌<◌, ◌≤◌, Bool, true, false, cond, ◌&&◌, ◌||◌, ◌==◌, List, [], ◌∷◌, ◌++◌, map, Option, Some, None, refl, ap, sym, subst, ◌∙◌, arith}
+use Rattle.std.proofs.Common.{◌≡◌, ℕ, ◌+◌, ◌<◌, ◌≤◌, Bool, true, false, ◌&&◌, ◌||◌, ◌==◌, List, [], ◌∷◌, map, Option, Some, None, refl, ap, sym, subst, ◌∙◌, arith}
 use Rattle.std.specs.Prelude.{fold, nat_lt}
 use Rattle.std.specs.List.{list_any, list_all}
-use Rattle.std.specs.Option.{option_map_or}
 use Rattle.std.proofs.lemmas.Bool.Decides.{nat_tests}
 use Rattle.tab_ids.specs.declared.DocId.{DocId}
 use Rattle.tab_ids.specs.declared.ProcId.{ProcId}
@@ -124,6 +123,7 @@ absent x q (desk ∷ desks) at none =
     first : (b c : Bool) → (b || c) ≡ false → b ≡ false
     first true c e = cc
     first false c e = refl
+
     second : (b c : Bool) → (b || c) ≡ false → c ≡ false
     second true c e = absurd cc
     second false c e = e
@@ -145,6 +145,7 @@ one_busy (desk ∷ desks) q busy = by_test (desk.proc.0 == q.0) refl (λ rest. o
     and_false : (b c : Bool) → c ≡ false → (b && c) ≡ false
     and_false true c e = e
     and_false false c e = refl
+
     by_test : (b : Bool) → (desk.proc.0 == q.0) ≡ b → (is_idle (desk_in desks q) ≡ false → list_all is_idle desks ≡ false) → (is_idle desk && list_all is_idle desks) ≡ false
     by_test true here rest = let one : is_idle desk ≡ false = rw here at busy in rw one refl
     by_test false other rest = let others : is_idle (desk_in desks q) ≡ false = rw other at busy in and_false (is_idle desk) (list_all is_idle desks) (rest others)

@@ -9,7 +9,6 @@ use Rattle.log_model.specs.declared.row_kind.RowKind.{RowKind}
 use Rattle.log_model.specs.declared.row_kind.RowKind.TheVariants as rows
 use Rattle.log_model.specs.Seen.{Seen, desk_of}
 use Rattle.log_model.specs.After.{follows_finished}
-use Rattle.history_log.specs.declared.mail_count.MailCount.{MailCount}
 use Rattle.history_log.specs.declared.order_reader.OrderReader.{OrderReader}
 use Rattle.history_log.specs.Mails.{mail_after, no_mail}
 use Rattle.history_log.specs.Lefts.{is_made_by}

@@ -1,6 +1,6 @@
 -- What each row says of one request's prompt: what a reader of the rows keeps, without memory.
 -- This project's own.
-use Rattle.std.specs.Prelude.{◌-◌, Bool, true, false, not, ◌&&◌, ◌==◌, if◌then◌else◌}
+use Rattle.std.specs.Prelude.{◌-◌, Bool, true, false, not, ◌&&◌, ◌==◌, Option, Some, None, if◌then◌else◌}
 use Rattle.tab_ids.specs.declared.ReqId.{ReqId}
 use Rattle.log_model.specs.declared.row_kind.RowKind.{RowKind}
 use Rattle.log_model.specs.declared.row_kind.RowKind.TheVariants as rows
@@ -27,3 +27,8 @@ no_prompt req = record { left = req.0; is_prompted = false; is_answered = false;
 -- the prompt is up
 abbrev pub reads_up : PromptReader → Bool
 reads_up p = p.is_prompted && (not p.is_answered && not p.is_dropped)
+
+-- the request that a row asks the user about
+abbrev pub prompted_by : RowKind → Option ReqId
+prompted_by (rows.Prompted r doc) = Some r
+prompted_by _ = None

@@ -137,11 +137,7 @@ fn reports_after(proc: ProcId, joins: bool, holds: bool, reports: usize, row: &R
             }
         }
         RowKind::Killed { proc: other, .. } => {
-            if *other == proc {
-                reports + 1
-            } else {
-                reports
-            }
+            if *other == proc { reports + 1 } else { reports }
         }
         RowKind::Accepted { .. }
         | RowKind::Started { .. }
@@ -178,7 +174,15 @@ pub fn is_idle(rows: &[LogRow], proc: ProcId, opens_once: bool) -> bool
         let row = &rows[k];
         let joins = joins_order(rows, k, proc, held);
         last_drop = last_drop_after(last_drop, k, &row.row);
-        head = head_after(&rows[..k + 1], row, head, proc, opens_once, last_drop, joins);
+        head = head_after(
+            &rows[..k + 1],
+            row,
+            head,
+            proc,
+            opens_once,
+            last_drop,
+            joins,
+        );
         reports = reports_after(proc, joins, orders.holds, reports, &row.row);
         held = orders.holds;
         orders.note(proc, &row.row);

@@ -1,9 +1,10 @@
 //! `Log`, which a contract sees as the list of its rows.
-ghost use Rattle.std.specs.Prelude.{◌≡◌, ◌<◌, [], ◌∷◌, ◌++◌, length, take, drop, slice_get, Some, IfOk, OnOk, OnErr};
+ghost use Rattle.std.specs.Prelude.{◌≡◌, not, ◌<◌, [], ◌∷◌, ◌++◌, length, take, drop, slice_get, Some, IfOk, OnOk, OnErr};
+ghost use Rattle.std.specs.List.{list_all};
 ghost use Rattle.std.specs.Option.{option_copied};
 ghost use Rattle.log_model.specs.Equal.{holds};
 ghost use Rattle.log_model.specs.Seen.{request_of};
-ghost use Rattle.log_model.specs.Logs.{seen_of, mail_of, is_prompt_up, is_still};
+ghost use Rattle.log_model.specs.Logs.{seen_of, mail_of, is_prompt_up, is_still, is_quiet};
 ghost use Rattle.history_log.specs.Endings.{outcome_row};
 ghost use Rattle.history_log.specs.Mails as mails;
 
@@ -12,7 +13,7 @@ use crate::idle::is_idle;
 use crate::mail_count::{MailCount, sent_by};
 use crate::named::{next_named, number_after};
 use crate::owner::opens_once;
-use crate::prompt_reader::PromptReader;
+use crate::prompt_reader::{PromptReader, prompted_by};
 use address::OutOfMemory;
 use log_model::{Jobs, LogRow};
 use std::alloc::Global;
@@ -155,6 +156,28 @@ impl Log {
                 return false;
             }
             from = number_after(proc);
+        }
+        true
+    }
+
+    /// Whether nothing is in transit and no prompt is up.
+    ///
+    /// It goes through the log, once for each process and for each prompt, and takes no memory.
+    pub fn quiet(&self) -> bool
+        ensures { result ≡ is_quiet (seen_of self.now) }
+    {
+        self.still() && self.no_prompt_up()
+    }
+
+    fn no_prompt_up(&self) -> bool
+        ensures { result ≡ list_all (λ q. not (is_prompt_up q)) (seen_of self.now).requests }
+    {
+        for row in self.rows.as_slice() {
+            if let Some(req) = prompted_by(&row.row) {
+                if self.prompt_up(req) {
+                    return false;
+                }
+            }
         }
         true
     }

@@ -47,27 +47,19 @@ fn holds_after(proc: ProcId, holds: bool, is_waiting: bool, row: &RowKind) -> bo
 {
     match row {
         RowKind::Opened { .. } => false,
-        RowKind::Taken { proc: taker, live, .. } => {
+        RowKind::Taken {
+            proc: taker,
+            live,
+            ..
+        } => {
             if *taker == proc {
                 *live && is_waiting
             } else {
                 holds
             }
         }
-        RowKind::Finished { proc: other, .. } => {
-            if *other == proc {
-                false
-            } else {
-                holds
-            }
-        }
-        RowKind::Killed { proc: other, .. } => {
-            if *other == proc {
-                false
-            } else {
-                holds
-            }
-        }
+        RowKind::Finished { proc: other, .. } => { if *other == proc { false } else { holds } }
+        RowKind::Killed { proc: other, .. } => { if *other == proc { false } else { holds } }
         RowKind::Accepted { .. }
         | RowKind::Started { .. }
         | RowKind::Applied { .. }

@@ -10,13 +10,7 @@ fn placed_by_task(doc: DocId, job: &Job) -> Option<ProcId>
     ensures { result ≡ spec.placed_by_task doc job.now job.now.task }
 {
     match &job.task {
-        Task::Populate { .. } => {
-            if job.doc == doc {
-                Some(job.proc)
-            } else {
-                None
-            }
-        }
+        Task::Populate { .. } => { if job.doc == doc { Some(job.proc) } else { None } }
         Task::Activate { .. }
         | Task::Update { .. }
         | Task::Freeze
@@ -31,13 +25,11 @@ fn owner_after(doc: DocId, owner: Option<ProcId>, row: &RowKind) -> Option<ProcI
     ensures { result ≡ spec.owner_after doc owner row.now }
 {
     match row {
-        RowKind::Opened { doc: opened, proc, .. } => {
-            if *opened == doc {
-                Some(*proc)
-            } else {
-                None
-            }
-        }
+        RowKind::Opened {
+            doc: opened,
+            proc,
+            ..
+        } => { if *opened == doc { Some(*proc) } else { None } }
         RowKind::Sent { job } => match owner {
             Some(proc) => Some(proc),
             None => placed_by_task(doc, job),

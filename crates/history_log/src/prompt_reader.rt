@@ -1,5 +1,6 @@
 //! `PromptReader`, what the rows of a log say of one request's prompt.
 ghost use Rattle.std.specs.Prelude.{◌≡◌};
+ghost use Rattle.history_log.specs.Prompts as spec;
 ghost use Rattle.history_log.specs.Prompts.{prompt_after, no_prompt, reads_up};
 
 use log_model::RowKind;
@@ -76,5 +77,28 @@ impl PromptReader {
         ensures { result ≡ reads_up self.now }
     {
         self.is_prompted && !self.is_answered && !self.is_dropped
+    }
+}
+
+/// The request that a row asks the user about.
+pub fn prompted_by(row: &RowKind) -> Option<ReqId>
+    ensures { result ≡ spec.prompted_by row.now }
+{
+    match row {
+        RowKind::Prompted { req, .. } => Some(*req),
+        RowKind::Opened { .. }
+        | RowKind::Accepted { .. }
+        | RowKind::Started { .. }
+        | RowKind::Applied { .. }
+        | RowKind::Refused { .. }
+        | RowKind::Dropped { .. }
+        | RowKind::Answered { .. }
+        | RowKind::Sent { .. }
+        | RowKind::Taken { .. }
+        | RowKind::Finished { .. }
+        | RowKind::Made { .. }
+        | RowKind::Delivered { .. }
+        | RowKind::Killed { .. }
+        | RowKind::Evicted { .. } => None,
     }
 }

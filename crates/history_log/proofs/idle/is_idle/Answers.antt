@@ -1,4 +1,4 @@
-use Rattle.std.proofs.Common.{◌≡◌, ◌≤◌, ◌∙◌, ◌+◌, ◌<◌, refl, sym, ap, arith, get_or, take, length}
+use Rattle.std.proofs.Common.{◌≡◌, ◌≤◌, ◌+◌, arith, get_or, take, length}
 use Rattle.std.proofs.lemmas.Grind.{common_steps}
 use Rattle.log_model.specs.declared.row_kind.LogRow.{LogRow}
 use Rattle.log_model.specs.Logs.{seen_of}
@@ -28,6 +28,6 @@ loop-k-preserved c =
     let long : length (take (c.loop-k.k + 1) c.args.rows.now) ≤ c.loop-k.k + 1 = grind (arith, common_steps) in
     let head : c.head_after-head.result ≤ c.loop-k.k + 1 = omega (arith, long, c.head_after-head.ensures.within) in
     let more = read_more c.args.proc c.args.rows.now c.loop-k.k row c.loop-k.orders c.loop-k.held c.joins_order-joins.result c.loop-k.reports c.loop-k.head c.loop-k.last_drop c.head_after-head.result c.last_drop_after-last_drop.result c.loop-k-test.true at read join
-        (record { opened = c.head_after-head.ensures.opened; served = c.head_after-head.ensures.served; stays = c.head_after-head.ensures.stays })
-        drops.0 gone sent few head drops.1 in
+    (record { opened = c.head_after-head.ensures.opened; served = c.head_after-head.ensures.served; stays = c.head_after-head.ensures.stays })
+    drops.0 gone sent few head drops.1 in
     rw (c.note.ensures.note, c.reports_after-reports.ensures.after) more

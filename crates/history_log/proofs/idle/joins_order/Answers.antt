@@ -1,10 +1,9 @@
-use Rattle.std.proofs.Common.{◌≡◌, ◌∙◌, ◌==◌, ◌-◌, ◌<◌, Bool, true, false, refl, sym, ap, not, arith, take, length}
+use Rattle.std.proofs.Common.{◌≡◌, ◌==◌, ◌-◌, ◌<◌, true, false, refl, arith, take, length}
 use Rattle.std.proofs.lemmas.Bool.Decides.{nat_tests}
 use Rattle.log_model.specs.declared.row_kind.LogRow.{LogRow}
 use Rattle.log_model.specs.Logs.{seen_of}
 use Rattle.history_log.specs.Desks.{finishes_of, finisher}
 use Rattle.history_log.proofs.Cuts.{at_item}
-use Rattle.history_log.proofs.LeftLaws.{not_true, not_false}
 use Rattle.history_log.proofs.ReadLaws.{joins_first, joins_unmade, joins_made}
 use Rattle.history_log.proofs.idle.joins_order.Goals as goal
 

@@ -1,4 +1,4 @@
-use Rattle.std.proofs.Common.{◌≡◌, ◌∙◌, sym, arith}
+use Rattle.std.proofs.Common.{◌∙◌, sym}
 use Rattle.history_log.proofs.LeftLaws.{left_first_at, left_skip_at, left_none}
 use Rattle.history_log.proofs.left.first_left.Goals as goal
 

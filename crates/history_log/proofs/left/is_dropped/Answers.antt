@@ -1,4 +1,4 @@
-use Rattle.std.proofs.Common.{◌≡◌, ◌≤◌, ◌∙◌, sym, arith}
+use Rattle.std.proofs.Common.{◌∙◌, sym, arith}
 use Rattle.history_log.proofs.LeftLaws.{none_dropped_past}
 use Rattle.history_log.proofs.left.is_dropped.Goals as goal
 

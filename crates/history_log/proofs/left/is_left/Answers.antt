@@ -1,4 +1,4 @@
-use Rattle.std.proofs.Common.{◌≡◌, ◌∙◌, Bool, ◌==◌, true, false, refl, sym, ap, not, arith}
+use Rattle.std.proofs.Common.{◌≡◌, ◌∙◌, ◌==◌, true, false, refl, sym, ap, not}
 use Rattle.history_log.proofs.LeftLaws.{left_test, not_true, not_false}
 use Rattle.history_log.proofs.OwnerLaws.{opening_take}
 use Rattle.history_log.proofs.left.is_left.Goals as goal

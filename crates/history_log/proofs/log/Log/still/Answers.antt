@@ -1,8 +1,4 @@
-use Rattle.std.proofs.Common.{◌≡◌, ◌≤◌, ◌<◌, ◌+◌, ◌∙◌, sym, arith, true, false, not}
-use Rattle.log_model.specs.Seen.{desk_of}
-use Rattle.log_model.specs.Logs as logs
-use Rattle.log_model.specs.Logs.{seen_of}
-use Rattle.history_log.proofs.LeftLaws.{not_true, not_false}
+use Rattle.std.proofs.Common.{◌∙◌, sym, arith}
 use Rattle.history_log.proofs.StillLaws.{idle_more, still_found, busy_found}
 use Rattle.history_log.proofs.log.Log.still.Goals as goal
 
