@@ -1,7 +1,9 @@
 pub mod PieceLaws
 pub mod LineLaws
+pub mod DigitLaws
 pub mod ForCallers
 pub mod FollowLaws
 pub mod MomentLaws
 pub mod FollowExamples
 pub mod SameRequest
+pub mod Spelled

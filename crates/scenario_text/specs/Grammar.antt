@@ -3,9 +3,11 @@
 use Rattle.std.specs.Prelude.{◌≡◌, ℕ, ◌+◌, ◌==◌, ◌&&◌, not, Bool, true, false, nat_lt, nat_le, List, [], ◌∷◌, ◌++◌, length, codes, bytes_eq, Option, Some, None, Result, Ok, Err, if◌then◌else◌}
 use Rattle.std.specs.List.{list_all}
 use Rattle.tab_ids.specs.declared.NavId.{NavId}
+use Rattle.tab_ids.specs.declared.ProcId.{ProcId}
 use Rattle.address.specs.Addresses.{Fault, address_of}
 use Rattle.log_model.specs.declared.action.Action.TheVariants as actions
 use Rattle.log_model.specs.declared.request.Request.TheVariants as requests
+use Rattle.scenario_text.specs.declared.built.Built.{Built}
 use Rattle.scenario_text.specs.declared.error.Refusal.{Refusal}
 use Rattle.scenario_text.specs.declared.line.ScenarioLine.{ScenarioLine}
 use Rattle.scenario_text.specs.declared.line.ScenarioLine.TheVariants as lines
@@ -17,20 +19,21 @@ use Rattle.scenario_text.specs.declared.scenario.Scenario.{Scenario}
 use Rattle.scenario_text.specs.declared.word.Word.{Word}
 use Rattle.scenario_text.specs.declared.word.Word.TheVariants as kinds
 use Rattle.scenario_text.specs.Pieces.{pieces}
+use Rattle.scenario_text.specs.Chain.{◌>>=◌}
+use Rattle.scenario_text.specs.Numbers.{number_of, delta_of}
+use Rattle.scenario_text.specs.Plays.{plays}
 use Rattle.scenario_text.specs.Words as words
 use Rattle.scenario_text.specs.Words.{words_of, split_words}
-
--- one reading after another: the first that fails decides
-infixl 10 ◌>>=◌
-abbrev pub ◌>>=◌ : {A B E : Type 0} → Result A E → (A → Result B E) → Result B E
-(Ok x) >>= f = f x
-(Err e) >>= f = Err e
 
 -- ---- fields
 
 -- NAV: the number of a navigable
 abbrev pub nav_of : List ℕ → Result NavId Reason
-nav_of word = if bytes_eq word (codes "0") then Ok (record { 0 = 0 }) else Err Unbuilt
+nav_of word = number_of 0 4095 word >>= λ number. Ok (record { 0 = number })
+
+-- P: the number of a process
+abbrev pub proc_of : List ℕ → Result ProcId Reason
+proc_of word = number_of 1 16 word >>= λ number. Ok (record { 0 = number })
 
 -- MEMO: 1 to 64 bytes; `-` is no memo
 abbrev pub memo_of : List ℕ → Result (Option (List ℕ)) Reason
@@ -38,9 +41,9 @@ memo_of word =
     if bytes_eq word (codes "-") then Ok None
     else (if nat_lt 0 (length word) && nat_le (length word) 64 then Ok (Some word) else Err Unbuilt)
 
--- REF: 1 to 2,048 bytes
-abbrev pub reference_of : List ℕ → Result (List ℕ) Reason
-reference_of word = if nat_lt 0 (length word) && nat_le (length word) 2048 then Ok word else Err Unbuilt
+-- REF and TEXT: 1 to 2,048 bytes
+abbrev pub text_of : List ℕ → Result (List ℕ) Reason
+text_of word = if nat_lt 0 (length word) && nat_le (length word) 2048 then Ok word else Err Unbuilt
 
 -- the written address, or the reason for a word that spells none
 abbrev pub address_or : Result (List ℕ) Fault → Result (List ℕ) Reason
@@ -53,20 +56,77 @@ address_field word = address_or (address_of word)
 
 -- ---- lines after `open`
 
+-- `go DELTA`
+unfoldable pub go_line : words.Fields → Result ScenarioLine Reason
+go_line (words.one delta) = do
+  delta ← delta_of delta
+  Ok (lines.Ask (requests.Go delta))
+go_line words.zero = Err Unbuilt
+go_line (words.two a b) = Err Unbuilt
+go_line (words.three a b c) = Err Unbuilt
+go_line words.more = Err Unbuilt
+
+-- NAV MEMO or NAV MEMO REF
+unfoldable pub entry_fields : words.Fields → Result (NavId × Option (List ℕ) × Option (List ℕ)) Reason
+entry_fields (words.two nav memo) = do
+  nav ← nav_of nav
+  memo ← memo_of memo
+  Ok (nav, memo, None)
+entry_fields (words.three nav memo reference) = do
+  nav ← nav_of nav
+  memo ← memo_of memo
+  reference ← text_of reference
+  Ok (nav, memo, Some reference)
+entry_fields words.zero = Err Unbuilt
+entry_fields (words.one a) = Err Unbuilt
+entry_fields words.more = Err Unbuilt
+
 -- `push NAV MEMO` or `push NAV MEMO REF`
 unfoldable pub push_line : words.Fields → Result ScenarioLine Reason
-push_line (words.two nav memo) = do
+push_line fields = do
+  entry ← entry_fields fields
+  Ok (lines.Ask (requests.Poke entry.0 (actions.Push entry.1 entry.2)))
+
+-- `replace NAV MEMO` or `replace NAV MEMO REF`
+unfoldable pub replace_line : words.Fields → Result ScenarioLine Reason
+replace_line fields = do
+  entry ← entry_fields fields
+  Ok (lines.Ask (requests.Poke entry.0 (actions.Replace entry.1 entry.2)))
+
+-- `fragment NAV TEXT`
+unfoldable pub fragment_line : words.Fields → Result ScenarioLine Reason
+fragment_line (words.two nav text) = do
   nav ← nav_of nav
-  memo ← memo_of memo
-  Ok (lines.Ask (requests.Poke nav (actions.Push memo None)))
-push_line (words.three nav memo reference) = do
-  nav ← nav_of nav
-  memo ← memo_of memo
-  reference ← reference_of reference
-  Ok (lines.Ask (requests.Poke nav (actions.Push memo (Some reference))))
-push_line words.zero = Err Unbuilt
-push_line (words.one a) = Err Unbuilt
-push_line words.more = Err Unbuilt
+  text ← text_of text
+  Ok (lines.Ask (requests.Poke nav (actions.Fragment text)))
+fragment_line words.zero = Err Unbuilt
+fragment_line (words.one a) = Err Unbuilt
+fragment_line (words.three a b c) = Err Unbuilt
+fragment_line words.more = Err Unbuilt
+
+-- P alone
+unfoldable pub proc_field : words.Fields → Result ProcId Reason
+proc_field (words.one proc) = proc_of proc
+proc_field words.zero = Err Unbuilt
+proc_field (words.two a b) = Err Unbuilt
+proc_field (words.three a b c) = Err Unbuilt
+proc_field words.more = Err Unbuilt
+
+-- `act P`
+unfoldable pub act_line : words.Fields → Result ScenarioLine Reason
+act_line fields = proc_field fields >>= λ proc. Ok (lines.Act proc)
+
+-- `begin P`
+unfoldable pub begin_line : words.Fields → Result ScenarioLine Reason
+begin_line fields = proc_field fields >>= λ proc. Ok (lines.Begin proc)
+
+-- `finish P`
+unfoldable pub finish_line : words.Fields → Result ScenarioLine Reason
+finish_line fields = proc_field fields >>= λ proc. Ok (lines.Finish proc)
+
+-- `deliver P`
+unfoldable pub deliver_line : words.Fields → Result ScenarioLine Reason
+deliver_line fields = proc_field fields >>= λ proc. Ok (lines.Deliver proc)
 
 -- `settle`
 unfoldable pub settle_line : words.Fields → Result ScenarioLine Reason
@@ -79,18 +139,37 @@ settle_line words.more = Err Unbuilt
 -- the first word of a line after `open`
 abbrev pub word_of : List ℕ → Option Word
 word_of word =
-    if bytes_eq word (codes "push") then Some kinds.Push
-    else (if bytes_eq word (codes "settle") then Some kinds.Settle else None)
+    if bytes_eq word (codes "go") then Some kinds.Go
+    else (if bytes_eq word (codes "push") then Some kinds.Push
+    else (if bytes_eq word (codes "replace") then Some kinds.Replace
+    else (if bytes_eq word (codes "fragment") then Some kinds.Fragment
+    else (if bytes_eq word (codes "act") then Some kinds.Act
+    else (if bytes_eq word (codes "begin") then Some kinds.Begin
+    else (if bytes_eq word (codes "finish") then Some kinds.Finish
+    else (if bytes_eq word (codes "deliver") then Some kinds.Deliver
+    else (if bytes_eq word (codes "settle") then Some kinds.Settle
+    else None))))))))
 
 -- the line that a first word and those after it spell
 abbrev pub line_of : Option Word → words.Fields → Result ScenarioLine Reason
+line_of (Some kinds.Go) fields = go_line fields
 line_of (Some kinds.Push) fields = push_line fields
+line_of (Some kinds.Replace) fields = replace_line fields
+line_of (Some kinds.Fragment) fields = fragment_line fields
+line_of (Some kinds.Act) fields = act_line fields
+line_of (Some kinds.Begin) fields = begin_line fields
+line_of (Some kinds.Finish) fields = finish_line fields
+line_of (Some kinds.Deliver) fields = deliver_line fields
 line_of (Some kinds.Settle) fields = settle_line fields
 line_of None fields = Err Unbuilt
 
 -- a line after `open`
 unfoldable pub body_line : List ℕ → Result ScenarioLine Reason
 body_line line = let split = split_words (words_of line) in line_of (word_of split.0) split.1
+
+-- a line after `open`, one that the caller can play
+unfoldable pub played_line : Built → List ℕ → Result ScenarioLine Reason
+played_line built line = body_line line >>= λ spelled. if plays built spelled then Ok spelled else Err Unbuilt
 
 -- ---- lines up to `open`
 
@@ -122,18 +201,18 @@ is_passed_over [] = true
 is_passed_over (b ∷ bytes) = b == 35
 
 -- a line that isn't passed over: the first is the version
-unfoldable pub after_counted : Place → List ℕ → Result Place Reason
-after_counted places.Start line = if bytes_eq line (codes "session 1") then Ok places.Heading else Err Unbuilt
-after_counted places.Heading line = heading_line line
-after_counted (places.Body header before) line = do
-  last ← body_line line
+unfoldable pub after_counted : Built → Place → List ℕ → Result Place Reason
+after_counted built places.Start line = if bytes_eq line (codes "session 1") then Ok places.Heading else Err Unbuilt
+after_counted built places.Heading line = heading_line line
+after_counted built (places.Body header before) line = do
+  last ← played_line built line
   Ok (places.Body header (before ++ last ∷ []))
 
 -- how far the lines have come after one more
-unfoldable pub after_line : Place → List ℕ → Result Place Reason
-after_line place line =
+unfoldable pub after_line : Built → Place → List ℕ → Result Place Reason
+after_line built place line =
     if not (list_all is_plain line) then Err Unbuilt
-    else (if is_passed_over line then Ok place else after_counted place line)
+    else (if is_passed_over line then Ok place else after_counted built place line)
 
 -- a line's fault
 abbrev pub faulty : {X : Type 0} → ℕ → Reason → Result X Refusal
@@ -157,19 +236,19 @@ at_end number place rest =
     else faulty number (if nat_lt 65536 number then TooMany else NoEnd)
 
 -- the lines from one with a number on, which stand at a place
-unfoldable pub read_pieces : ℕ → Place → List (List ℕ) → Result Scenario Refusal
-read_pieces number place [] = at_end number place []
-read_pieces number place (line ∷ others) =
+unfoldable pub read_pieces : Built → ℕ → Place → List (List ℕ) → Result Scenario Refusal
+read_pieces built number place [] = at_end number place []
+read_pieces built number place (line ∷ others) =
     if length others == 0 then at_end number place line
     else (if nat_lt 65536 number then faulty number TooMany
-    else (at_line number (after_line place line) >>= λ next. read_pieces (number + 1) next others))
+    else (at_line number (after_line built place line) >>= λ next. read_pieces built (number + 1) next others))
 
 -- the scenario that bytes spell, or the first faulty line and its first reason
-unfoldable pub scenario_of : Bool → List ℕ → Result Scenario Refusal
-scenario_of in_run bytes =
+unfoldable pub scenario_of : Bool → Built → List ℕ → Result Scenario Refusal
+scenario_of in_run built bytes =
     if nat_lt 4194304 (length bytes) then faulty 0 TooLong
-    else read_pieces 1 places.Start (pieces 10 bytes)
+    else read_pieces built 1 places.Start (pieces 10 bytes)
 
--- some bytes spell the scenario
+-- some bytes spell the scenario, for some caller
 abbrev pub IsSpelled : Scenario → Type 0
-IsSpelled scenario = (bytes : List ℕ) × (scenario_of false bytes ≡ Ok scenario)
+IsSpelled scenario = (built : Built) × (bytes : List ℕ) × (scenario_of false built bytes ≡ Ok scenario)

@@ -4,7 +4,8 @@ ghost use Rattle.std.specs.List.{list_all};
 ghost use Rattle.scenario_text.specs.Grammar as spec;
 ghost use Rattle.scenario_text.specs.Gives.{GivesLine};
 
-use crate::body::body_line;
+use crate::body::played_line;
+use crate::built::Built;
 use crate::fault::LineError;
 use crate::fields::{Fields, words};
 use crate::line::Lines;
@@ -56,8 +57,8 @@ fn heading_line(alloc: Global, line: &[u8]) -> Result<Place, LineError>
 
 /// The place after a line that isn't passed over.
 #[tactic(auto, unfolding(crate::specs::Grammar::after_counted))]
-fn after_counted(alloc: Global, place: Place, line: &[u8]) -> Result<Place, LineError>
-    ensures { GivesLine result (spec.after_counted place line.now) }
+fn after_counted(alloc: Global, built: Built, place: Place, line: &[u8]) -> Result<Place, LineError>
+    ensures { GivesLine result (spec.after_counted built place line.now) }
 {
     match place {
         Place::Start => {
@@ -69,7 +70,7 @@ fn after_counted(alloc: Global, place: Place, line: &[u8]) -> Result<Place, Line
         }
         Place::Heading => heading_line(alloc, line),
         Place::Body(header, mut lines) => {
-            let line = body_line(alloc, line)?;
+            let line = played_line(alloc, built, line)?;
             lines.push(line)?;
             Ok(Place::Body(header, lines))
         }
@@ -95,8 +96,13 @@ fn is_passed_over(line: &[u8]) -> bool
 
 /// The place after a line.
 #[tactic(auto, unfolding(crate::specs::Grammar::after_line))]
-pub fn after_line(alloc: Global, place: Place, line: &[u8]) -> Result<Place, LineError>
-    ensures { GivesLine result (spec.after_line place line.now) }
+pub fn after_line(
+    alloc: Global,
+    built: Built,
+    place: Place,
+    line: &[u8],
+) -> Result<Place, LineError>
+    ensures { GivesLine result (spec.after_line built place line.now) }
 {
     if !is_plain(line) {
         return Err(LineError::Faulty(Reason::Unbuilt));
@@ -104,5 +110,5 @@ pub fn after_line(alloc: Global, place: Place, line: &[u8]) -> Result<Place, Lin
     if is_passed_over(line) {
         return Ok(place);
     }
-    after_counted(alloc, place, line)
+    after_counted(alloc, built, place, line)
 }

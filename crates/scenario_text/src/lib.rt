@@ -2,17 +2,22 @@
 #![tactic(auto)]
 
 mod body;
+mod built;
 mod cut;
 mod error;
 mod fault;
 mod fields;
 mod heading;
 mod line;
+mod number;
 mod place;
+mod printing;
 mod reason;
 mod scenario;
 mod word;
+mod words;
 
+pub use built::Built;
 pub use error::{Refusal, ScenarioError};
 pub use line::{Lines, ScenarioLine};
 pub use reason::Reason;

@@ -2,15 +2,19 @@
 ghost use Rattle.std.specs.Prelude.{◌≡◌, ◌≤◌, IfOk};
 ghost use Rattle.scenario_text.specs.Grammar.{scenario_of, at_end, read_pieces, IsSpelled};
 ghost use Rattle.scenario_text.specs.Pieces.{pieces};
+ghost use Rattle.scenario_text.specs.Printed.{text_of};
 ghost use Rattle.scenario_text.specs.Gives.{Reads};
 ghost use Rattle.scenario_text.specs.declared.place.Place.TheVariants as places;
 
+use crate::built::Built;
 use crate::cut::cut;
 use crate::error::{Refusal, ScenarioError};
 use crate::heading::after_line;
 use crate::line::Lines;
 use crate::place::Place;
+use crate::printing::{put_header, put_lines};
 use crate::reason::Reason;
+use address::{OutOfMemory, Text};
 use log_model::Header;
 use std::alloc::Global;
 
@@ -45,8 +49,8 @@ fn at_end(number: u32, place: Place, rest: &[u8]) -> Result<Scenario, ScenarioEr
 }
 
 /// What the lines of a text give.
-fn read_lines(alloc: Global, bytes: &[u8]) -> Result<Scenario, ScenarioError>
-    ensures { Reads result (read_pieces 1 places.Start (pieces 10 bytes.now)) }
+fn read_lines(alloc: Global, built: Built, bytes: &[u8]) -> Result<Scenario, ScenarioError>
+    ensures { Reads result (read_pieces built 1 places.Start (pieces 10 bytes.now)) }
 {
     let mut place = Place::Start;
     let mut rest = bytes;
@@ -55,7 +59,7 @@ fn read_lines(alloc: Global, bytes: &[u8]) -> Result<Scenario, ScenarioError>
         if number > 65_536 {
             return Err(refused(number, Reason::TooMany));
         }
-        place = match after_line(alloc, place, line) {
+        place = match after_line(alloc, built, place, line) {
             Ok(next) => next,
             Err(e) => return Err(e.at(number)),
         };
@@ -66,14 +70,34 @@ fn read_lines(alloc: Global, bytes: &[u8]) -> Result<Scenario, ScenarioError>
 }
 
 impl Scenario {
-    /// The scenario that bytes spell. `in_run` says whether it is for threads.
-    pub fn read(alloc: Global, bytes: &[u8], in_run: bool) -> Result<Scenario, ScenarioError>
-        ensures read { Reads result (scenario_of in_run bytes.now) }
+    /// The scenario that bytes spell.
+    ///
+    /// `in_run` says whether it is for threads, `built` which lines the caller can play.
+    pub fn read(
+        alloc: Global,
+        bytes: &[u8],
+        in_run: bool,
+        built: Built,
+    ) -> Result<Scenario, ScenarioError>
+        ensures read { Reads result (scenario_of in_run built bytes.now) }
         ensures spelled { IfOk result (λ scenario. IsSpelled scenario) }
     {
         if bytes.len() > 4_194_304 {
             return Err(refused(0, Reason::TooLong));
         }
-        read_lines(alloc, bytes)
+        read_lines(alloc, built, bytes)
+    }
+
+    /// The text that spells the scenario; `keep` always has its line.
+    #[tactic(auto, unfolding(crate::specs::Printed::text_of))]
+    pub fn print(&self, alloc: Global) -> Result<Text, OutOfMemory>
+        requires { IsSpelled self.now }
+        ensures { IfOk result (λ text. text ≡ text_of self.now) }
+    {
+        let mut out = Vec::new(alloc);
+        put_header(alloc, &mut out, &self.header)?;
+        put_lines(alloc, &mut out, self.lines.as_slice())?;
+        let text = Text::of(alloc, &out)?;
+        Ok(text)
     }
 }

@@ -5,7 +5,14 @@ ghost use Rattle.scenario_text.specs.Grammar.{word_of};
 /// The first word of a line after `open`.
 #[derive(Clone, Copy)]
 pub enum Word {
+    Go,
     Push,
+    Replace,
+    Fragment,
+    Act,
+    Begin,
+    Finish,
+    Deliver,
     Settle,
 }
 
@@ -14,8 +21,22 @@ impl Word {
     pub fn of(bytes: &[u8]) -> Option<Word>
         ensures { result ≡ word_of bytes.now }
     {
-        if bytes == b"push".as_slice() {
+        if bytes == b"go".as_slice() {
+            Some(Word::Go)
+        } else if bytes == b"push".as_slice() {
             Some(Word::Push)
+        } else if bytes == b"replace".as_slice() {
+            Some(Word::Replace)
+        } else if bytes == b"fragment".as_slice() {
+            Some(Word::Fragment)
+        } else if bytes == b"act".as_slice() {
+            Some(Word::Act)
+        } else if bytes == b"begin".as_slice() {
+            Some(Word::Begin)
+        } else if bytes == b"finish".as_slice() {
+            Some(Word::Finish)
+        } else if bytes == b"deliver".as_slice() {
+            Some(Word::Deliver)
         } else if bytes == b"settle".as_slice() {
             Some(Word::Settle)
         } else {

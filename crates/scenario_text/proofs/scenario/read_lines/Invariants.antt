@@ -7,7 +7,7 @@ use Rattle.scenario_text.proofs.scenario.read_lines.Given as goal
 abbrev pub invariant-lines : goal.invariant-lines
 invariant-lines l = record {
   small : l.number ≤ 65537;
-  rest : read_pieces l.number l.place (pieces 10 l.rest) ≡ read_pieces 1 places.Start (pieces 10 l.bytes);
+  rest : read_pieces l.built l.number l.place (pieces 10 l.rest) ≡ read_pieces l.built 1 places.Start (pieces 10 l.bytes);
 }
 
 abbrev pub decreases-lines : goal.decreases-lines

@@ -1,0 +1,9 @@
+-- One reading after another.
+-- This project's own.
+use Rattle.std.specs.Prelude.{Result, Ok, Err}
+
+-- the first that fails decides
+infixl 10 ◌>>=◌
+abbrev pub ◌>>=◌ : {A B E : Type 0} → Result A E → (A → Result B E) → Result B E
+(Ok x) >>= f = f x
+(Err e) >>= f = Err e
