@@ -1,9 +1,10 @@
 //! `play_call`, all that the program does with its words, a source and a sink.
 ghost use Rattle.std.specs.Prelude.{◌≡◌, ◌↔◌, ℕ, false, List, None, Ok, Err, IfSome, IsSome, map, string_bytes};
-ghost use Rattle.log_model.specs.Lawful.{IsLawful};
+ghost use Rattle.log_model.specs.Legal.{IsLegal};
 ghost use Rattle.tab.specs.Words.{is_play};
 ghost use Rattle.scenario_play.specs.Moves.{IsFault};
 ghost use Rattle.scenario_text.specs.Follows.{Follows, IsCutShort};
+ghost use Rattle.scenario_text.specs.declared.built.Built.TheVariants as builts;
 ghost use Rattle.scenario_text.specs.Grammar.{scenario_of};
 ghost use Rattle.tab.specs.Calls.{FollowsAs, FollowsRead, HasReadCause, HasWriteCause, IsHeard, IsPlayEnd, IsUnhindered, ReadsAs, SpellsAs};
 
@@ -13,7 +14,7 @@ use address::Text;
 use history_log::Log;
 use report_text::report;
 use scenario_play::{Played, play};
-use scenario_text::{Reason, Refusal, Scenario, ScenarioError};
+use scenario_text::{Built, Reason, Refusal, Scenario, ScenarioError};
 use std::alloc::Global;
 use tab_io::{ReadAllError, Sink, Source, WriteFault, read_all, write_all};
 use world::{StepError, World};
@@ -41,17 +42,17 @@ pub fn play_call<S: Source, K: Sink>(
     ensures read { HasReadCause result.status (S.left source.old) (S.left source.new) (S.faults source.old) (S.faults source.new) }
     ensures follows { FollowsRead result.status (S.left source.old) (S.left source.new) result.log }
     ensures written { HasWriteCause result.status (K.taken sink.old) (K.taken sink.new) (K.faults sink.old) (K.faults sink.new) result.log }
-    ensures lawful { IfSome result.log IsLawful }
+    ensures legal { IfSome result.log IsLegal }
 
     // Where nothing is in the way, the call is done, or refuses what is no scenario.
     ensures done { (bytes : List ℕ) → (scenario : Scenario)
         → IsHeard (map (λ w. string_bytes w) words.now) bytes (S.left source.old) (S.faults source.old) (S.faults source.new) result.status
-        → scenario_of false bytes ≡ Ok scenario
+        → scenario_of false builts.Pushes bytes ≡ Ok scenario
         → IsUnhindered scenario (K.faults sink.old) (K.faults sink.new) result.log
         → result.status ≡ Status.Done }
     ensures refused { (bytes : List ℕ) → (refusal : Refusal)
         → IsHeard (map (λ w. string_bytes w) words.now) bytes (S.left source.old) (S.faults source.old) (S.faults source.new) result.status
-        → scenario_of false bytes ≡ Err refusal
+        → scenario_of false builts.Pushes bytes ≡ Err refusal
         → result.status ≡ Status.Scenario refusal }
 {
     carry_out(alloc, words, source, sink)
@@ -68,7 +69,7 @@ fn carry_out<S: Source, K: Sink>(
     ensures read { HasReadCause result.status (S.left source.old) (S.left source.new) (S.faults source.old) (S.faults source.new) }
     ensures follows { FollowsRead result.status (S.left source.old) (S.left source.new) result.log }
     ensures written { HasWriteCause result.status (K.taken sink.old) (K.taken sink.new) (K.faults sink.old) (K.faults sink.new) result.log }
-    ensures lawful { IfSome result.log IsLawful }
+    ensures legal { IfSome result.log IsLegal }
 {
     if !asks_play(words) {
         return failed(Status::Usage);
@@ -103,7 +104,7 @@ fn read_scenario<S: Source>(alloc: Global, source: &mut S) -> Result<Scenario, S
 fn spelled(alloc: Global, text: &Text) -> Result<Scenario, Status>
     ensures { SpellsAs result text.now }
 {
-    match Scenario::read(alloc, text.bytes(), false) {
+    match Scenario::read(alloc, text.bytes(), false, Built::Pushes) {
         Ok(scenario) => Ok(scenario),
         Err(ScenarioError::Refused(refusal)) => Err(Status::Scenario(refusal)),
         Err(ScenarioError::UrlOverflow(overflowed)) => Err(Status::UrlOverflow(overflowed)),
@@ -121,7 +122,7 @@ fn tell<K: Sink>(alloc: Global, scenario: &Scenario, played: Played, sink: &mut 
     ensures kind { IsPlayEnd result.status }
     ensures follows { FollowsAs result.status result.log scenario.now }
     ensures written { HasWriteCause result.status (K.taken sink.old) (K.taken sink.new) (K.faults sink.old) (K.faults sink.new) result.log }
-    ensures lawful { IfSome result.log IsLawful }
+    ensures legal { IfSome result.log IsLegal }
 {
     let Played { world, fault } = played;
     let Some(world) = world else { unreachable!() };
@@ -144,7 +145,7 @@ fn write_report<K: Sink>(alloc: Global, scenario: &Scenario, world: World, sink:
     ensures kind { IsPlayEnd result.status }
     ensures follows { FollowsAs result.status result.log scenario.now }
     ensures written { HasWriteCause result.status (K.taken sink.old) (K.taken sink.new) (K.faults sink.old) (K.faults sink.new) result.log }
-    ensures lawful { IfSome result.log IsLawful }
+    ensures legal { IfSome result.log IsLegal }
 {
     let text = match report(alloc, &world) {
         Ok(text) => text,
