@@ -1,18 +1,15 @@
 -- One stage after another: what was played of a scenario is put together.
-use Rattle.std.proofs.Common.{◌≡◌, ◌≢◌, ℕ, zero, suc, ◌+◌, ◌-◌, ◌≤◌, ◌<◌, Bool, true, false, List, [], ◌∷◌, ◌++◌, length, Result, Ok, Err, refl, sym, ap, ◌∙◌, subst, arith, append_assoc, append-nil, add-one, zero-add, length-append, take, drop, get_or, take-suc, drop-cons, eq-or-lt_of_le, inl, inr, IsErr}
+use Rattle.std.proofs.Common.{◌≡◌, ℕ, zero, suc, ◌+◌, ◌-◌, ◌≤◌, ◌<◌, true, false, List, [], ◌∷◌, ◌++◌, length, Result, Ok, Err, refl, sym, ap, ◌∙◌, subst, arith, append_assoc, append-nil, add-one, zero-add, length-append, take, drop, get_or, take-suc, drop-cons, eq-or-lt_of_le, inl, inr, IsErr}
 use Rattle.std.proofs.lemmas.List.{take-append-drop}
-use Rattle.std.specs.Prelude.{fold}
 use Rattle.log_model.specs.declared.row_kind.LogRow.{LogRow}
 use Rattle.log_model.specs.Seen.{Seen}
-use Rattle.log_model.specs.After.{after}
 use Rattle.log_model.specs.Logs.{seen_of, is_still}
 use Rattle.log_model.specs.Events.{events_of, have_number}
 use Rattle.log_model.proofs.Laws.{seen_of_append}
 use Rattle.log_model.proofs.EventLaws.{flat, flat-events_of}
 use Rattle.scenario_text.specs.declared.line.ScenarioLine.{ScenarioLine}
-use Rattle.scenario_text.specs.declared.line.ScenarioLine.TheVariants as lines
 use Rattle.scenario_text.specs.declared.scenario.Scenario.{Scenario}
-use Rattle.scenario_text.specs.Follows.{Course, goes, strays, stops, Stage, and_then, is_passed, is_event, does, does_all, turn_of, turns_to, a_round, rounds, settles, plays_line, plays, course_of, Follows, IsCutShort}
+use Rattle.scenario_text.specs.Follows.{Course, goes, Stage, and_then, is_passed, is_event, does, does_all, turn_of, turns_to, a_round, rounds, settles, plays_line, plays, course_of, Follows, IsCutShort}
 use Rattle.scenario_text.proofs.FollowLaws.{does_all-append, plays-append, plays_one, events_more}
 use Rattle.scenario_play.specs.Courses.{Leads, Cuts, Plays, PlaysRounds}
 

@@ -1,8 +1,5 @@
 -- Logs that follow their scenarios, and logs that don't, by computing.
 use Rattle.std.proofs.Common.{◌≡◌, ℕ, ◌+◌, true, false, List, [], ◌∷◌, ◌++◌, Some, None, codes, refl}
-use Rattle.std.specs.Prelude.{◌==◌}
-use Rattle.tab_ids.specs.declared.EntryId.{EntryId}
-use Rattle.tab_ids.specs.declared.ReqId.{ReqId}
 use Rattle.log_model.specs.declared.action.Action.TheVariants as actions
 use Rattle.log_model.specs.declared.change.Change.TheVariants as changes
 use Rattle.log_model.specs.declared.job.Task.TheVariants as tasks
@@ -20,7 +17,7 @@ use Rattle.log_model.specs.Logs.{seen_of}
 use Rattle.log_model.specs.Events.{events_of}
 use Rattle.scenario_text.specs.declared.line.ScenarioLine.{ScenarioLine}
 use Rattle.scenario_text.specs.declared.line.ScenarioLine.TheVariants as lines
-use Rattle.scenario_text.specs.Follows.{Course, goes, stops, strays, does, does_all, rounds, plays, course_of}
+use Rattle.scenario_text.specs.Follows.{goes, stops, strays, does, does_all, rounds, plays, course_of}
 
 -- ---- the rows of pushes in one document
 

@@ -1,5 +1,5 @@
 -- A log that follows a scenario follows it up to each of its moments.
-use Rattle.std.proofs.Common.{◌≡◌, ◌⊎◌, ℕ, zero, suc, ◌+◌, ◌<◌, ◌≤◌, Bool, true, false, List, [], ◌∷◌, ◌++◌, length, refl, sym, ap, ◌∙◌, subst, arith, length-append, inl, inr, append-nil, le_of_suc-le-suc}
+use Rattle.std.proofs.Common.{◌≡◌, ◌⊎◌, ℕ, zero, suc, ◌+◌, ◌<◌, Bool, true, false, List, [], ◌∷◌, ◌++◌, length, refl, sym, ap, ◌∙◌, subst, arith, inl, inr}
 use Rattle.std.specs.Prelude.{fold, if◌then◌else◌}
 use Rattle.std.proofs.lemmas.List.Sums.{fold-append}
 use Rattle.log_model.specs.declared.row_kind.LogRow.{LogRow}
@@ -11,8 +11,8 @@ use Rattle.log_model.proofs.EventLaws.{flat, flat-events_of}
 use Rattle.scenario_text.specs.declared.line.ScenarioLine.{ScenarioLine}
 use Rattle.scenario_text.specs.declared.line.ScenarioLine.TheVariants as lines
 use Rattle.scenario_text.specs.declared.scenario.Scenario.{Scenario}
-use Rattle.scenario_text.specs.Follows.{Course, goes, strays, stops, Stage, and_then, is_passed, is_event, takes, does, does_all, turns_to, a_round, rounds, settles, plays_line, plays, course_of, Follows, IsCutShort, FollowsUpTo}
-use Rattle.scenario_text.proofs.FollowLaws.{GoesBy, goes_by, IsLasting, does-later, does_all-later, rounds-later, settles-later, plays_line-later, plays-later}
+use Rattle.scenario_text.specs.Follows.{Course, goes, strays, stops, Stage, and_then, is_passed, is_event, takes, does, does_all, turns_to, a_round, rounds, settles, plays_line, plays, course_of, Follows, FollowsUpTo}
+use Rattle.scenario_text.proofs.FollowLaws.{GoesBy, goes_by, IsLasting, does-later, does_all-later, plays_line-later, plays-later}
 
 -- it goes on, or an event is missing
 abbrev IsUpTo : Course → Type 0
@@ -141,10 +141,10 @@ rounds_moments (suc n) (suc m) s events later t rest enough e =
         elim (does_all_slower (turns_to 16) s events s' mid is) [
           | inl fewer ↦ others s' mid (omega (arith, fewer, enough)) next
           | inr same ↦
-            let idle : a_round s (events ++ later) ≡ goes s (events ++ later) = long ∙ ap (λ (x : Seen). goes x (mid ++ later)) same.0 ∙ ap (λ (x : List (List LogRow)). goes s (x ++ later)) same.1 in
-            let never : rounds m s (events ++ later) ≡ strays = idle_rounds m s (events ++ later) busy idle in
-            let ends : rounds m s (events ++ later) ≡ goes t rest = ap (λ (x : List (List LogRow)). rounds m s (x ++ later)) (sym same.1) ∙ ap (λ (x : Seen). rounds m x (mid ++ later)) (sym same.0) ∙ next in
-            absurd (no_end never ends)
+              let idle : a_round s (events ++ later) ≡ goes s (events ++ later) = long ∙ ap (λ (x : Seen). goes x (mid ++ later)) same.0 ∙ ap (λ (x : List (List LogRow)). goes s (x ++ later)) same.1 in
+              let never : rounds m s (events ++ later) ≡ strays = idle_rounds m s (events ++ later) busy idle in
+              let ends : rounds m s (events ++ later) ≡ goes t rest = ap (λ (x : List (List LogRow)). rounds m s (x ++ later)) (sym same.1) ∙ ap (λ (x : Seen). rounds m x (mid ++ later)) (sym same.0) ∙ next in
+              absurd (no_end never ends)
         ]
       where
         no_end : {c : Course} → c ≡ strays → c ≡ goes t rest → ⊥

@@ -1,4 +1,4 @@
-use Rattle.std.proofs.Common.{◌≡◌, List, subst, take, arith}
+use Rattle.std.proofs.Common.{List, subst}
 use Rattle.std.proofs.lemmas.List.{take_all}
 use Rattle.scenario_text.specs.declared.line.ScenarioLine.{ScenarioLine}
 use Rattle.scenario_text.specs.Follows.{plays}

@@ -1,13 +1,13 @@
-use Rattle.std.proofs.Common.{◌≡◌, ◌∙◌, [], ◌∷◌, None, Some, true, sym, ap}
+use Rattle.std.proofs.Common.{◌≡◌, ◌∙◌, [], ◌∷◌, true, sym, ap}
 use Rattle.log_model.specs.Logs.{in_hand_of}
 use Rattle.scenario_text.specs.declared.line.ScenarioLine.TheVariants as lines
 use Rattle.scenario_text.specs.Follows.{does_all}
 use Rattle.world.specs.Kept.{WorldState}
 use Rattle.world.specs.declared.event.Reply.TheVariants as replies
-use Rattle.scenario_play.specs.Moves.{MovesOn, MovesIf, has_mail}
+use Rattle.scenario_play.specs.Moves.{MovesIf, has_mail}
 use Rattle.scenario_play.proofs.LeadLaws.{all_cut, failed}
 use Rattle.scenario_play.proofs.StepMoves.{begin_moves, begun_moves, on_ok}
-use Rattle.scenario_play.proofs.StepPlays.{took_is, taken_in_hand, none_taken, works, no_work}
+use Rattle.scenario_play.proofs.StepPlays.{took_is, none_taken, works, no_work}
 use Rattle.scenario_play.proofs.round.begin.Goals as goal
 
 pub returns-in_err-reply-clause-plays : goal.returns-in_err-reply-clause-plays

@@ -1,4 +1,4 @@
-use Rattle.std.proofs.Common.{◌≡◌, false, Ok, Err}
+use Rattle.std.proofs.Common.{Ok, Err}
 use Rattle.world.specs.declared.error.StepError.TheVariants as errors
 use Rattle.scenario_play.proofs.StepPlays.{step_plays}
 use Rattle.scenario_play.proofs.round.step.Goals as goal
