@@ -77,7 +77,7 @@ with_row-any test row (first ∷ rows) =
     or_moves false true c = refl
     or_moves false false c = refl
 
-ordered-any : (test : Row → Bool) (rows : List Row) → list_any test (ordered rows) ≡ list_any test rows
+pub ordered-any : (test : Row → Bool) (rows : List Row) → list_any test (ordered rows) ≡ list_any test rows
 ordered-any test [] = refl
 ordered-any test (row ∷ rows) = with_row-any test row (ordered rows) ∙ ap (λ b. test row || b) (ordered-any test rows)
 

@@ -12,3 +12,4 @@ pub mod AddLaw
 pub mod ReplaceLaw
 pub mod StepBounds
 pub mod InOrder
+pub mod Asking

@@ -163,7 +163,7 @@ fn answer(alloc: Global, store: &EntryStore) -> Result<String, Fail> {
     let current = store.current();
     let (length, index) = store.length_index(current);
     let mut said = format!(in alloc; "{} {} {}", current.0, length, index)?;
-    let rows = store.rows().map_err(|_| "memory")?;
+    let rows = store.rows()?;
     for row in rows.as_slice() {
         let star = store.target(row.nav, current) == Some(row.entry);
         let text = row_text(alloc, row, star)?;
@@ -228,14 +228,17 @@ fn take(store: &mut EntryStore, change: &Change) -> Result<Result<(), StoreError
 fn is_new(store: &EntryStore, entry: EntryId) -> bool
     ensures { result ≡ true → list_any (is_entry entry) (history_held store.now).rows ≡ false }
 {
-    store.row(entry).is_none()
+    match store.row(entry) {
+        Some(_) => false,
+        None => true,
+    }
 }
 
 // Whether the document state is no row's of another navigable.
 fn is_free_for(store: &EntryStore, nav: NavId, state: StateId) -> Result<bool, Fail>
     ensures { IfOk result (λ free. free ≡ true → IsStateOf nav state (history_held store.now).rows) }
 {
-    let rows = store.rows().map_err(|_| "memory")?;
+    let rows = store.rows()?;
     Ok(!is_of_another(rows.as_slice(), nav, state))
 }
 
@@ -249,7 +252,7 @@ fn is_of_another(rows: &[Row], nav: NavId, state: StateId) -> bool
 fn is_reached(store: &EntryStore, goal: Step) -> Result<bool, Fail>
     ensures { IfOk result (λ reached. reached ≡ true → goal.0 ≤ greatest_step (history_held store.now).rows) }
 {
-    let rows = store.rows().map_err(|_| "memory")?;
+    let rows = store.rows()?;
     Ok(is_past(rows.as_slice(), goal))
 }
 
