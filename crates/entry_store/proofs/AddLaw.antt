@@ -1,9 +1,8 @@
 -- A new frame in the lists: one more list, with one row at the first step of its owner.
-use Rattle.std.proofs.Common.{◌≡◌, ◌≢◌, ℕ, ◌≤◌, ◌<◌, Bool, true, false, not, ◌&&◌, ◌||◌, cond, List, [], ◌∷◌, ◌++◌, refl, ap, sym, ◌∙◌, filter, fold, map, min, arith, Option, Some, None, inl, inr, ◌⊎◌, subst}
+use Rattle.std.proofs.Common.{◌≡◌, ◌≢◌, ℕ, ◌<◌, Bool, true, false, not, ◌||◌, cond, List, [], ◌∷◌, ◌++◌, refl, ap, sym, ◌∙◌, filter, fold, map, min, arith, Option, Some, None, inl, inr, ◌⊎◌, subst}
 use Rattle.std.specs.Prelude.{nat_le}
 use Rattle.std.specs.List.{list_any}
-use Rattle.std.specs.Option.{is_some}
-use Rattle.std.proofs.lemmas.Bool.{cases_Bool, or_cases, false≢true, and_from, and_parts, ne_eqb, eqb-true, eq-eqb, cases_order, lt-ltb, le-ltb}
+use Rattle.std.proofs.lemmas.Bool.{cases_Bool, or_cases, false≢true, and_from, ne_eqb, eqb-true, eq-eqb, cases_order, lt-ltb, le-ltb}
 use Rattle.std.proofs.lemmas.List.Folds.{list_any-append}
 use Rattle.std.proofs.lemmas.Option.{none-some}
 use Rattle.tab_ids.specs.declared.NavId.{NavId}
@@ -43,9 +42,9 @@ first_step-found state (row ∷ rows) step is = by_test (first_step-found state 
   where
     by_test : (fold (first_of state) None rows ≡ Some step → first_step state rows ≡ step) → (b : Bool) → is_in_state state row ≡ b → first_step state (row ∷ rows) ≡ step
     by_test rest true here =
-      rw here (some_same (fold min row.step.0 (steps_in state rows)) step (sym (least_from state row.step.0 rows) ∙ sym (ap (λ b. fold (first_of state) (cond b (Some row.step.0) None) rows) here) ∙ is))
+        rw here (some_same (fold min row.step.0 (steps_in state rows)) step (sym (least_from state row.step.0 rows) ∙ sym (ap (λ b. fold (first_of state) (cond b (Some row.step.0) None) rows) here) ∙ is))
     by_test rest false past =
-      rw past (rest (sym (ap (λ b. fold (first_of state) (cond b (Some row.step.0) None) rows) past) ∙ is))
+        rw past (rest (sym (ap (λ b. fold (first_of state) (cond b (Some row.step.0) None) rows) past) ∙ is))
 
 -- where there is one, a row has the document state
 pub first_step-none : (state : StateId) (rows : List Row) → fold (first_of state) None rows ≡ None → has_state state rows ≡ false
@@ -54,9 +53,9 @@ first_step-none state (row ∷ rows) none = by_test (first_step-none state rows)
   where
     by_test : (fold (first_of state) None rows ≡ None → has_state state rows ≡ false) → (b : Bool) → is_in_state state row ≡ b → has_state state (row ∷ rows) ≡ false
     by_test rest true here =
-      absurd (none-some (fold min row.step.0 (steps_in state rows)) (sym none ∙ ap (λ b. fold (first_of state) (cond b (Some row.step.0) None) rows) here ∙ least_from state row.step.0 rows))
+        absurd (none-some (fold min row.step.0 (steps_in state rows)) (sym none ∙ ap (λ b. fold (first_of state) (cond b (Some row.step.0) None) rows) here ∙ least_from state row.step.0 rows))
     by_test rest false past =
-      or_none (is_in_state state row) (has_state state rows) past (rest (sym (ap (λ b. fold (first_of state) (cond b (Some row.step.0) None) rows) past) ∙ none))
+        or_none (is_in_state state row) (has_state state rows) past (rest (sym (ap (λ b. fold (first_of state) (cond b (Some row.step.0) None) rows) past) ∙ none))
 
 pub first_step-some : (state : StateId) (rows : List Row) (step : ℕ) → fold (first_of state) None rows ≡ Some step → has_state state rows ≡ true
 first_step-some state [] step is = absurd (none-some step is)
@@ -65,7 +64,7 @@ first_step-some state (row ∷ rows) step is = by_test (first_step-some state ro
     by_test : (fold (first_of state) None rows ≡ Some step → has_state state rows ≡ true) → (b : Bool) → is_in_state state row ≡ b → has_state state (row ∷ rows) ≡ true
     by_test rest true here = ap (λ b. b || has_state state rows) here
     by_test rest false past =
-      or_right (is_in_state state row) (has_state state rows) (rest (sym (ap (λ b. fold (first_of state) (cond b (Some row.step.0) None) rows) past) ∙ is))
+        or_right (is_in_state state row) (has_state state rows) (rest (sym (ap (λ b. fold (first_of state) (cond b (Some row.step.0) None) rows) past) ∙ is))
 
 -- it is the step of a row
 abbrev pub is_at : ℕ → Row → Bool
@@ -78,10 +77,10 @@ lower_is (Some best) step m is =
     elim (cases_order best step) [
       | inl equal ↦ inr (omega (arith, same, equal))
       | inr apart ↦
-        elim apart [
-          | inl lower ↦ let is_best : best ≡ m = omega (arith, same, lower) in inl (ap (λ (n : ℕ). Some n) is_best)
-          | inr higher ↦ inr (omega (arith, same, higher))
-        ]
+          elim apart [
+            | inl lower ↦ let is_best : best ≡ m = omega (arith, same, lower) in inl (ap (λ (n : ℕ). Some n) is_best)
+            | inr higher ↦ inr (omega (arith, same, higher))
+          ]
     ]
 
 first_there : (state : StateId) (best : Option ℕ) (rows : List Row) (m : ℕ) → fold (first_of state) best rows ≡ Some m → (best ≡ Some m) ⊎ (list_any (is_at m) rows ≡ true)
@@ -95,10 +94,10 @@ first_there state best (row ∷ rows) m is =
     by_test : (b : Bool) → is_in_state state row ≡ b → first_of state best row ≡ Some m → (best ≡ Some m) ⊎ (list_any (is_at m) (row ∷ rows) ≡ true)
     by_test false past here = inl (sym (ap (λ b. cond b (lower_step best row.step.0) best) past) ∙ here)
     by_test true is_one here =
-      elim (lower_is best row.step.0 m (sym (ap (λ b. cond b (lower_step best row.step.0) best) is_one) ∙ here)) [
-        | inl before ↦ inl before
-        | inr mine ↦ inr (ap (λ b. b || list_any (is_at m) rows) (eq-eqb row.step.0 m mine))
-      ]
+        elim (lower_is best row.step.0 m (sym (ap (λ b. cond b (lower_step best row.step.0) best) is_one) ∙ here)) [
+          | inl before ↦ inl before
+          | inr mine ↦ inr (ap (λ b. b || list_any (is_at m) rows) (eq-eqb row.step.0 m mine))
+        ]
 
 pub first_step-is_at : (state : StateId) (rows : List Row) (m : ℕ) → fold (first_of state) None rows ≡ Some m → list_any (is_at m) rows ≡ true
 first_step-is_at state rows m is =
@@ -130,10 +129,10 @@ with_step-twice step (first ∷ steps) =
     elim (cases_order step first) [
       | inl same ↦ ap (with_step step) (there same) ∙ refl
       | inr apart ↦
-        elim apart [
-          | inl lower ↦ ap (with_step step) (here lower) ∙ again ∙ sym (here lower)
-          | inr higher ↦ ap (with_step step) (past higher steps) ∙ past higher (with_step step steps) ∙ ap (λ rest. first ∷ rest) (with_step-twice step steps) ∙ sym (past higher steps)
-        ]
+          elim apart [
+            | inl lower ↦ ap (with_step step) (here lower) ∙ again ∙ sym (here lower)
+            | inr higher ↦ ap (with_step step) (past higher steps) ∙ past higher (with_step step steps) ∙ ap (λ rest. first ∷ rest) (with_step-twice step steps) ∙ sym (past higher steps)
+          ]
     ]
   where
     there : step ≡ first → with_step step (first ∷ steps) ≡ first ∷ steps
@@ -183,32 +182,32 @@ module _ (history : History) (used : List ℕ) (kept : IsKept history used) (own
 
   pub framed_same : SameHistory (record { rows = rows; current = history.current; added = added }) (applied history (AddFrame owner nav entry state))
   framed_same = record {
-      rows = ap ordered (rows_are ∙ ap (λ n. history.rows ++ frame_row owner nav entry n state ∷ []) (sym (first_step-found owner history.rows step is)));
-      current = refl;
-      added = added_is;
-    }
+    rows = ap ordered (rows_are ∙ ap (λ n. history.rows ++ frame_row owner nav entry n state ∷ []) (sym (first_step-found owner history.rows step is)));
+    current = refl;
+    added = added_is;
+  }
 
   has_nav-more : (child : NavId) → has_nav added child ≡ (has_nav history.added child || (lib.Dec.eqb nav.0 child.0 || false))
   has_nav-more child = ap (λ (navs : List NavId). has_nav navs child) added_is ∙ list_any-append (λ (n : NavId). lib.Dec.eqb n.0 child.0) history.added (nav ∷ [])
 
   pub framed_kept : IsKept (record { rows = rows; current = history.current; added = added }) used
   framed_kept = record {
-      sound =
+    sound =
         IsSound-framed history.rows row rows adds owner refl (first_step-some owner history.rows step is) nav_is_new is_child may.1
-          history.current history.current history.added added kept.sound may.0;
-      added = λ child has child_is.
+        history.current history.current history.added added kept.sound may.0;
+    added = λ child has child_is.
         has_nav-more child ∙
         elim (or_cases (is_of child row) (has_row child history.rows) (sym (adds.any (is_of child)) ∙ has)) [
           | inl here ↦ or_right (has_nav history.added child) (lib.Dec.eqb nav.0 child.0 || false) (ap (λ b. b || false) here)
           | inr there ↦ ap (λ b. b || (lib.Dec.eqb nav.0 child.0 || false)) (kept.added child there child_is)
         ];
-      used = kept.used ∙ sym (ap used_steps rows_are ∙ used_steps-push history.rows row ∙ used_step-there history.rows step (first_step-is_at owner history.rows step is));
-      below =
+    used = kept.used ∙ sym (ap used_steps rows_are ∙ used_steps-push history.rows row ∙ used_step-there history.rows step (first_step-is_at owner history.rows step is));
+    below =
         adds.any (λ (r : Row). nat_le 4294967295 r.step.0)
         ∙ or_none _ _ below_too kept.below;
-    }
+  }
     where
       below_too : nat_le 4294967295 step ≡ false
       below_too =
-        let w = witness (is_at step) history.rows (first_step-is_at owner history.rows step is) in
-        ap (λ n. nat_le 4294967295 n) (sym (eqb-true w.it.step.0 step w.passes)) ∙ none_passes (λ (r : Row). nat_le 4294967295 r.step.0) history.rows kept.below w.it w.is_in
+          let w = witness (is_at step) history.rows (first_step-is_at owner history.rows step is) in
+          ap (λ n. nat_le 4294967295 n) (sym (eqb-true w.it.step.0 step w.passes)) ∙ none_passes (λ (r : Row). nat_le 4294967295 r.step.0) history.rows kept.below w.it w.is_in

@@ -1,5 +1,5 @@
 -- What a caller finds out by asking a store for its rows.
-use Rattle.std.proofs.Common.{◌≡◌, ℕ, ◌≤◌, Bool, true, false, not, ◌&&◌, List, [], ◌∷◌, refl, ap, sym, ◌∙◌, fold, map, arith, ◌⊎◌, inl, inr}
+use Rattle.std.proofs.Common.{◌≡◌, ℕ, ◌≤◌, Bool, true, false, not, ◌&&◌, List, [], ◌∷◌, ap, sym, ◌∙◌, fold, map, arith, inl, inr}
 use Rattle.std.specs.Prelude.{max, nat_le}
 use Rattle.std.specs.List.{list_any}
 use Rattle.std.proofs.lemmas.Bool.{cases_Bool, or_cases, false≢true, not-true, and_parts, and_from, eqb-true, leb-true}

@@ -1,11 +1,8 @@
 -- The rows, sorted under navigable and step, are those of the order; the children's numbers, each once.
-use Rattle.std.proofs.Common.{◌≡◌, ◌≢◌, ℕ, suc, ◌+◌, ◌<◌, ◌≤◌, Bool, true, false, not, ◌&&◌, ◌||◌, cond, List, [], ◌∷◌, ◌++◌, map, fold, refl, ap, sym, ◌∙◌, arith, ◌⊎◌, inl, inr, append_assoc, subst}
-use Rattle.std.specs.Prelude.{nat_lt}
+use Rattle.std.proofs.Common.{◌≡◌, ℕ, ◌≤◌, Bool, true, false, ◌||◌, cond, List, [], ◌∷◌, ◌++◌, map, fold, refl, ap, sym, ◌∙◌, arith, inl, inr, append_assoc, subst}
 use Rattle.std.specs.List.{list_any, count_by}
-use Rattle.std.specs.Ordering.{nat_cmp, ordering_then}
 use Rattle.std.specs.declared.cmp.Ordering.TheVariants.{Less, Equal, Greater}
 use Rattle.std.specs.Cmp.{nat_cmp_is}
-use Rattle.std.specs.BTreeMap.{insert_entry}
 use Rattle.std.specs.Map.{values_of}
 use Rattle.std.proofs.lemmas.List.{append-nil}
 use Rattle.std.proofs.lemmas.List.Sums.{sum_by-cons, sum_by-append}
@@ -13,14 +10,14 @@ use Rattle.std.proofs.lemmas.Bool.{cases_Bool, cases_order, lt-ltb, le-ltb, eq-e
 use Rattle.tab_ids.specs.declared.StateId.{StateId}
 use Rattle.tab_ids.specs.declared.NavId.{NavId}
 use Rattle.log_model.specs.declared.row.Row.{Row}
-use Rattle.log_model.specs.History.{is_of, with_step}
+use Rattle.log_model.specs.History.{with_step}
 use Rattle.log_model.specs.Order.{is_before, with_row, ordered}
 use Rattle.log_model.specs.Soundness.{is_owned_by, stands_at}
-use Rattle.history_laws.proofs.Members.{IsIn, IsIn-head, IsIn-tail, none_passes}
+use Rattle.history_laws.proofs.Members.{IsIn, IsIn-head, IsIn-tail}
 use Rattle.history_laws.proofs.Ordered.{AreApart, ordered-push}
 use Rattle.history_laws.proofs.UsedSteps.{with_step-with_step}
 use Rattle.history_laws.proofs.Replace.{list_any-zero}
-use Rattle.entry_store.specs.Store.{child_numbers, children_of}
+use Rattle.entry_store.specs.Store.{child_numbers}
 use Rattle.entry_store.specs.Reading.{child_of, placed_row}
 
 -- ---- the rows
@@ -39,24 +36,24 @@ placed row [] apart = refl
 placed row (first ∷ rows) apart =
     elim (cases_order row.nav.0 first.nav.0) [
       | inl same ↦
-        elim (cases_order row.step.0 first.step.0) [
-          | inl equal ↦ absurd (apart first (IsIn-head rows first) (sym same) (sym equal))
-          | inr steps ↦
-            elim steps [
-              | inl lower ↦
-                rw (← nat_cmp_is row.nav.0 first.nav.0 Equal same, ← nat_cmp_is row.step.0 first.step.0 Less lower, le-ltb row.nav.0 first.nav.0 (omega (arith, same)), eq-eqb row.nav.0 first.nav.0 same, lt-ltb row.step.0 first.step.0 lower) refl
-              | inr higher ↦
-                rw (← nat_cmp_is row.nav.0 first.nav.0 Equal same, ← nat_cmp_is row.step.0 first.step.0 Greater higher, le-ltb row.nav.0 first.nav.0 (omega (arith, same)), eq-eqb row.nav.0 first.nav.0 same, le-ltb row.step.0 first.step.0 (omega (arith, higher)))
-                  (ap (λ rest. ((first.nav.0, first.step.0), first) ∷ rest) (placed row rows (λ other there. apart other (IsIn-tail rows first other there))))
-            ]
-        ]
+          elim (cases_order row.step.0 first.step.0) [
+            | inl equal ↦ absurd (apart first (IsIn-head rows first) (sym same) (sym equal))
+            | inr steps ↦
+                elim steps [
+                  | inl lower ↦
+                      rw (← nat_cmp_is row.nav.0 first.nav.0 Equal same, ← nat_cmp_is row.step.0 first.step.0 Less lower, le-ltb row.nav.0 first.nav.0 (omega (arith, same)), eq-eqb row.nav.0 first.nav.0 same, lt-ltb row.step.0 first.step.0 lower) refl
+                  | inr higher ↦
+                      rw (← nat_cmp_is row.nav.0 first.nav.0 Equal same, ← nat_cmp_is row.step.0 first.step.0 Greater higher, le-ltb row.nav.0 first.nav.0 (omega (arith, same)), eq-eqb row.nav.0 first.nav.0 same, le-ltb row.step.0 first.step.0 (omega (arith, higher)))
+                      (ap (λ rest. ((first.nav.0, first.step.0), first) ∷ rest) (placed row rows (λ other there. apart other (IsIn-tail rows first other there))))
+                ]
+          ]
       | inr navs ↦
-        elim navs [
-          | inl lower ↦ rw (← nat_cmp_is row.nav.0 first.nav.0 Less lower, lt-ltb row.nav.0 first.nav.0 lower) refl
-          | inr higher ↦
-            rw (← nat_cmp_is row.nav.0 first.nav.0 Greater higher, le-ltb row.nav.0 first.nav.0 (omega (arith, higher)), ne_eqb row.nav.0 first.nav.0 (λ same. omega (arith, same, higher)))
-              (ap (λ rest. ((first.nav.0, first.step.0), first) ∷ rest) (placed row rows (λ other there. apart other (IsIn-tail rows first other there))))
-        ]
+          elim navs [
+            | inl lower ↦ rw (← nat_cmp_is row.nav.0 first.nav.0 Less lower, lt-ltb row.nav.0 first.nav.0 lower) refl
+            | inr higher ↦
+                rw (← nat_cmp_is row.nav.0 first.nav.0 Greater higher, le-ltb row.nav.0 first.nav.0 (omega (arith, higher)), ne_eqb row.nav.0 first.nav.0 (λ same. omega (arith, same, higher)))
+                (ap (λ rest. ((first.nav.0, first.step.0), first) ∷ rest) (placed row rows (λ other there. apart other (IsIn-tail rows first other there))))
+          ]
     ]
 
 -- the order keeps the rows
@@ -66,9 +63,9 @@ with_row-any test row (first ∷ rows) =
     elim (cases_Bool (is_before row first)) [
       | inl before ↦ ap (λ b. list_any test (cond b (row ∷ first ∷ rows) (first ∷ with_row row rows))) before
       | inr past ↦
-        ap (λ b. list_any test (cond b (row ∷ first ∷ rows) (first ∷ with_row row rows))) past
-        ∙ ap (λ b. test first || b) (with_row-any test row rows)
-        ∙ or_moves (test first) (test row) (list_any test rows)
+          ap (λ b. list_any test (cond b (row ∷ first ∷ rows) (first ∷ with_row row rows))) past
+          ∙ ap (λ b. test first || b) (with_row-any test row rows)
+          ∙ or_moves (test first) (test row) (list_any test rows)
     ]
   where
     or_moves : (a b c : Bool) → (a || (b || c)) ≡ (b || (a || c))
@@ -113,20 +110,20 @@ child_numbers-push state (first ∷ rows) row = by_tests (child_numbers-push sta
   where
     by_tests : child_numbers state (rows ++ row ∷ []) ≡ child_of state (child_numbers state rows) row → (a : Bool) → is_owned_by state first ≡ a → (b : Bool) → is_owned_by state row ≡ b → child_numbers state ((first ∷ rows) ++ row ∷ []) ≡ child_of state (child_numbers state (first ∷ rows)) row
     by_tests rest true owned true too =
-      ap (λ b. cond b (with_step first.nav.0 (child_numbers state (rows ++ row ∷ []))) (child_numbers state (rows ++ row ∷ []))) owned
-      ∙ ap (with_step first.nav.0) (rest ∙ ap (λ b. cond b (with_step row.nav.0 (child_numbers state rows)) (child_numbers state rows)) too)
-      ∙ with_step-with_step first.nav.0 row.nav.0 (child_numbers state rows)
-      ∙ sym (ap (λ b. cond b (with_step row.nav.0 (child_numbers state (first ∷ rows))) (child_numbers state (first ∷ rows))) too
+        ap (λ b. cond b (with_step first.nav.0 (child_numbers state (rows ++ row ∷ []))) (child_numbers state (rows ++ row ∷ []))) owned
+        ∙ ap (with_step first.nav.0) (rest ∙ ap (λ b. cond b (with_step row.nav.0 (child_numbers state rows)) (child_numbers state rows)) too)
+        ∙ with_step-with_step first.nav.0 row.nav.0 (child_numbers state rows)
+        ∙ sym (ap (λ b. cond b (with_step row.nav.0 (child_numbers state (first ∷ rows))) (child_numbers state (first ∷ rows))) too
         ∙ ap (λ b. with_step row.nav.0 (cond b (with_step first.nav.0 (child_numbers state rows)) (child_numbers state rows))) owned)
     by_tests rest true owned false not_too =
-      ap (λ b. cond b (with_step first.nav.0 (child_numbers state (rows ++ row ∷ []))) (child_numbers state (rows ++ row ∷ []))) owned
-      ∙ ap (with_step first.nav.0) (rest ∙ ap (λ b. cond b (with_step row.nav.0 (child_numbers state rows)) (child_numbers state rows)) not_too)
-      ∙ sym (ap (λ b. cond b (with_step row.nav.0 (child_numbers state (first ∷ rows))) (child_numbers state (first ∷ rows))) not_too
+        ap (λ b. cond b (with_step first.nav.0 (child_numbers state (rows ++ row ∷ []))) (child_numbers state (rows ++ row ∷ []))) owned
+        ∙ ap (with_step first.nav.0) (rest ∙ ap (λ b. cond b (with_step row.nav.0 (child_numbers state rows)) (child_numbers state rows)) not_too)
+        ∙ sym (ap (λ b. cond b (with_step row.nav.0 (child_numbers state (first ∷ rows))) (child_numbers state (first ∷ rows))) not_too
         ∙ ap (λ b. cond b (with_step first.nav.0 (child_numbers state rows)) (child_numbers state rows)) owned)
     by_tests rest false other b too =
-      ap (λ b. cond b (with_step first.nav.0 (child_numbers state (rows ++ row ∷ []))) (child_numbers state (rows ++ row ∷ []))) other
-      ∙ rest
-      ∙ ap (λ numbers. child_of state numbers row) (sym (ap (λ b. cond b (with_step first.nav.0 (child_numbers state rows)) (child_numbers state rows)) other))
+        ap (λ b. cond b (with_step first.nav.0 (child_numbers state (rows ++ row ∷ []))) (child_numbers state (rows ++ row ∷ []))) other
+        ∙ rest
+        ∙ ap (λ numbers. child_of state numbers row) (sym (ap (λ b. cond b (with_step first.nav.0 (child_numbers state rows)) (child_numbers state rows)) other))
 
 children_from : (state : StateId) (done rest : List Row) → fold (child_of state) (child_numbers state done) rest ≡ child_numbers state (done ++ rest)
 children_from state done [] = ap (child_numbers state) (sym (append-nil done))

@@ -1,6 +1,5 @@
 -- What is left after a cut is what tidying leaves.
-use Rattle.std.proofs.Common.{◌≡◌, true, Bool, List, [], ◌∷◌, refl, ap, sym, ◌∙◌, filter}
-use Rattle.std.specs.List.{list_any}
+use Rattle.std.proofs.Common.{◌≡◌, List, [], ◌∷◌, refl, ap, sym, ◌∙◌, filter}
 use Rattle.tab_ids.specs.declared.StateId.{StateId}
 use Rattle.log_model.specs.declared.row.Row.{Row}
 use Rattle.log_model.specs.History.{tidied}

@@ -1,5 +1,5 @@
 -- One list among the lists, and a row put into it.
-use Rattle.std.proofs.Common.{◌≡◌, ℕ, suc, ◌+◌, ◌<◌, ◌≤◌, List, [], ◌∷◌, ◌++◌, length, refl, ap, sym, ◌∙◌, arith, take, drop, set, get_or, add-one, drop-cons, append_assoc, Some}
+use Rattle.std.proofs.Common.{◌≡◌, ℕ, suc, ◌+◌, ◌<◌, List, [], ◌∷◌, ◌++◌, length, ap, sym, ◌∙◌, arith, take, drop, set, get_or, add-one, drop-cons, append_assoc, Some}
 use Rattle.std.specs.Prelude.{slice_get}
 use Rattle.std.proofs.lemmas.List.{take-append-drop, take-set, drop-set, drop-set-lt, set_split, get_or-set_same, length-set}
 use Rattle.std.proofs.lemmas.Option.{slice_get-get_or}
@@ -46,10 +46,10 @@ row_put nests i old new row within is put =
       back = after;
       was = rows_of-split nests i old within ∙ ap (λ rows. before ++ (rows ++ after)) (sym mine) ∙ sym (append_assoc before old.rows.items after);
       is =
-        rows_of-set nests i new within
-        ∙ ap (λ rows. before ++ (rows ++ after)) put
-        ∙ ap (λ rows. before ++ rows) (append_assoc old.rows.items (row ∷ []) after)
-        ∙ sym (append_assoc before old.rows.items (row ∷ after));
+          rows_of-set nests i new within
+          ∙ ap (λ rows. before ++ (rows ++ after)) put
+          ∙ ap (λ rows. before ++ rows) (append_assoc old.rows.items (row ∷ []) after)
+          ∙ sym (append_assoc before old.rows.items (row ∷ after));
     }
 
 -- what holds anyway holds at an error
@@ -84,22 +84,22 @@ module _ (nests : List Nest) (place at : ℕ) (old new : Nest) (row was : Row) (
 
   pub swapped : SwapsRow nests place at row was (set nests place new)
   swapped = record {
-      there = ap (λ rows. slice_get rows at) here ∙ slice_get-get_or old.rows.items at was in_old ∙ ap (λ (r : Row). Some r) (sym was_is);
-      of_old =
+    there = ap (λ rows. slice_get rows at) here ∙ slice_get-get_or old.rows.items at was in_old ∙ ap (λ (r : Row). Some r) (sym was_is);
+    of_old =
         rows_of-split nests place old within
         ∙ cut_at was (get_or nests place old).rows.items
-          (ap (λ (nest : Nest). nest.rows.items) (sym is) ∙ sym (take-append-drop at old.rows.items) ∙ ap (λ rest. take at old.rows.items ++ rest) (drop-cons old.rows.items at was in_old ∙ ap (λ r. r ∷ drop (suc at) old.rows.items) (sym was_is)));
-      of_new = rows_of-set nests place new within ∙ cut_at row new.rows.items (put ∙ set_split old.rows.items at row in_old);
-      still = record {
-        in_lists = within_new;
-        in_list = omega (arith, in_old, ap (length {A = Row}) (new_here ∙ put), length-set old.rows.items at row);
-      };
-      before =
+        (ap (λ (nest : Nest). nest.rows.items) (sym is) ∙ sym (take-append-drop at old.rows.items) ∙ ap (λ rest. take at old.rows.items ++ rest) (drop-cons old.rows.items at was in_old ∙ ap (λ r. r ∷ drop (suc at) old.rows.items) (sym was_is)));
+    of_new = rows_of-set nests place new within ∙ cut_at row new.rows.items (put ∙ set_split old.rows.items at row in_old);
+    still = record {
+      in_lists = within_new;
+      in_list = omega (arith, in_old, ap (length {A = Row}) (new_here ∙ put), length-set old.rows.items at row);
+    };
+    before =
         ap (λ (some : List Nest). rows_of some ++ take at (rows_at (set nests place new) place)) (take-set nests place new)
         ∙ ap (λ (mine : List Row). rows_of (take place nests) ++ take at mine) (new_here ∙ put)
         ∙ ap (λ (mine : List Row). rows_of (take place nests) ++ mine) (take-set old.rows.items at row ∙ ap (take at) (sym here));
-      after =
+    after =
         ap (λ (some : List Nest). drop (at + 1) (rows_at (set nests place new) place) ++ rows_of some) (drop-set-lt (place + 1) nests place new (omega arith))
         ∙ ap (λ (mine : List Row). drop (at + 1) mine ++ rows_of (drop (place + 1) nests)) (new_here ∙ put)
         ∙ ap (λ (mine : List Row). mine ++ rows_of (drop (place + 1) nests)) (drop-set-lt (at + 1) old.rows.items at row (omega arith) ∙ ap (drop (at + 1)) (sym here));
-    }
+  }

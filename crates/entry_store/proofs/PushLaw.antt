@@ -1,9 +1,9 @@
 -- A push in the lists: what is left is what the definition leaves, and the entry's place among the rows is of no matter.
-use Rattle.std.proofs.Common.{◌≡◌, ◌≢◌, ℕ, Bool, true, false, not, ◌&&◌, ◌||◌, cond, List, [], ◌∷◌, ◌++◌, refl, ap, sym, ◌∙◌, ◌+◌, ◌<◌, ◌≤◌, arith, filter, find, ◌⊎◌, inl, inr, Option, Some, None, subst, length}
+use Rattle.std.proofs.Common.{◌≡◌, ℕ, Bool, true, false, ◌&&◌, ◌||◌, cond, List, [], ◌∷◌, ◌++◌, refl, ap, sym, ◌∙◌, ◌+◌, ◌<◌, arith, filter, find, inl, inr, Option, Some, None, subst, length}
 use Rattle.std.specs.Prelude.{nat_le, option_and_then}
 use Rattle.std.specs.List.{list_any}
 use Rattle.std.specs.Option.{option_map, option_map_or}
-use Rattle.std.proofs.lemmas.Bool.{cases_Bool, or_cases, false≢true, true≢false, and_parts, and_from, eqb-true, eq-eqb, le-leb, leb-true, lt-leb}
+use Rattle.std.proofs.lemmas.Bool.{cases_Bool, or_cases, false≢true, and_parts, and_from, eqb-true, eq-eqb, lt-leb}
 use Rattle.std.proofs.lemmas.List.Elements.{filter-append}
 use Rattle.std.proofs.lemmas.List.Folds.{list_any-append}
 use Rattle.std.proofs.lemmas.Option.{none-some}
@@ -11,14 +11,13 @@ use Rattle.tab_ids.specs.declared.NavId.{NavId}
 use Rattle.tab_ids.specs.declared.StateId.{StateId}
 use Rattle.tab_ids.specs.declared.EntryId.{EntryId}
 use Rattle.log_model.specs.declared.row.Row.{Row}
-use Rattle.log_model.specs.History.{History, same_entry, is_of, has_nav, has_row, has_state, owner_of, cleared, pushed, used_steps, with_step}
+use Rattle.log_model.specs.History.{History, same_entry, is_of, has_row, owner_of, cleared, pushed, used_steps, with_step}
 use Rattle.log_model.specs.Order.{ordered, SameHistory}
-use Rattle.log_model.specs.Soundness.{is_entry, is_in_state, holds, IsSound}
-use Rattle.history_laws.proofs.Members.{or_right, or_none, IsIn, IsIn-filter, IsIn-filter_passes, witness, filter-same, find-filter, found, found_none, some_same, list_any-none, none_passes}
+use Rattle.log_model.specs.Soundness.{is_entry, holds, IsSound}
+use Rattle.history_laws.proofs.Members.{or_right, or_none, IsIn, witness, filter-same, find-filter, found, found_none, some_same, list_any-none, none_passes}
 use Rattle.history_laws.proofs.Ordered.{ordered-insert}
 use Rattle.history_laws.proofs.UsedSteps.{used_steps-insert}
 use Rattle.history_laws.proofs.OneMore.{AddsRow, AddsRow-insert}
-use Rattle.history_laws.proofs.Joining.{IsLike}
 use Rattle.history_laws.proofs.Push.{up_to, cleared-up_to, cleared-part, IsSound-pushed}
 use Rattle.entry_store.specs.declared.cut.Cut.{Cut}
 use Rattle.entry_store.specs.declared.cut.Cut.TheVariants.{Forward}
@@ -112,8 +111,8 @@ module _ (history : History) (sound : IsSound history) (entry : EntryId) (entry_
     pushed-stays nav owner state address memo p =
         let held_is = (and_parts (outlives cut_of p.it) (is_held_by states p.it) p.stays).1 in
         and_from _ _
-          (or_right (nat_le (history.current + 1) history.current) (same_entry entry entry) (and_from _ _ (eq-eqb entry.maker entry.maker refl) (eq-eqb entry.nr entry.nr refl)))
-          (ap (λ (o : Option StateId). option_map_or (has states) o true) p.owner_is ∙ held_is)
+        (or_right (nat_le (history.current + 1) history.current) (same_entry entry entry) (and_from _ _ (eq-eqb entry.maker entry.maker refl) (eq-eqb entry.nr entry.nr refl)))
+        (ap (λ (o : Option StateId). option_map_or (has states) o true) p.owner_is ∙ held_is)
 
     module _ (used : List ℕ) (kept : IsKept history used) (room : history.current < 4294967294) (nav : NavId) (state : StateId) (address : List ℕ) (memo : Option (List ℕ)) (mine : (other : NavId) → holds other state history.rows ≡ true → other.0 ≡ nav.0) (owner : Option StateId) (p : Place nav owner) (put swept : List Row) (puts : PutsRow history.rows (pushed_row history.current owner nav entry state address memo) put) (swept_is : swept ≡ filter (stays cut_of states) put) where
       abbrev row : Row
@@ -141,41 +140,41 @@ module _ (history : History) (sound : IsSound history) (entry : EntryId) (entry_
 
       pub push_same : SameHistory (with_rows history swept (history.current + 1)) (pushed history nav entry state address memo)
       push_same = record {
-          rows =
+        rows =
             ap ordered swept_split
             ∙ ordered-insert front back row (λ other there navs steps. omega (arith, steps, cleared-up_to history other (in_cleared other there)))
             ∙ ap (λ rows. ordered (rows ++ row ∷ [])) cleared_is
             ∙ ap (λ (o : Option StateId). ordered (cleared history ++ pushed_row history.current o nav entry state address memo ∷ [])) (sym p.owner_of_is);
-          current = refl;
-          added = refl;
-        }
+        current = refl;
+        added = refl;
+      }
         where
           in_cleared : (other : Row) → IsIn back other → IsIn (cleared history) other
           in_cleared other there test passes =
-            sym (ap (list_any test) cleared_is) ∙ list_any-append test front back ∙ or_right (list_any test front) (list_any test back) (there test passes)
+              sym (ap (list_any test) cleared_is) ∙ list_any-append test front back ∙ or_right (list_any test front) (list_any test back) (there test passes)
 
       pub push_kept : (beside : List ℕ) → beside ≡ with_step (history.current + 1) (used_steps (filter (stays cut_of states) history.rows)) → IsKept (with_rows history swept (history.current + 1)) beside
       push_kept beside is = record {
-          sound =
+        sound =
             IsSound-pushed history row swept (history.current + 1) history.added sound adds
-              (record { it = p.it; is_in = p.is_in; nav = sym p.is_of; owner = p.owner_is })
-              (omega arith) entry_is_new mine;
-          added = λ child has is_child.
+            (record { it = p.it; is_in = p.is_in; nav = sym p.is_of; owner = p.owner_is })
+            (omega arith) entry_is_new mine;
+        added = λ child has is_child.
             elim (or_cases (is_of child row) (has_row child (cleared history)) (sym (adds.any (is_of child)) ∙ has)) [
               | inl here ↦ kept.added child (cleared-part history p.it p.is_in (is_of child) (eq-eqb p.it.nav.0 child.0 (p.is_of ∙ eqb-true nav.0 child.0 here))) is_child
               | inr there ↦
-                let w = witness (is_of child) (cleared history) there in
-                kept.added child (cleared-part history w.it w.is_in (is_of child) w.passes) is_child
+                  let w = witness (is_of child) (cleared history) there in
+                  kept.added child (cleared-part history w.it w.is_in (is_of child) w.passes) is_child
             ];
-          used =
+        used =
             is ∙ ap (λ rows. with_step (history.current + 1) (used_steps rows)) (stays-cleared ∙ sym cleared_is)
             ∙ sym (used_steps-insert front back row)
             ∙ ap used_steps (sym swept_split);
-          below =
+        below =
             adds.any (λ (r : Row). nat_le 4294967295 r.step.0)
             ∙ or_none _ _ (lt-leb 4294967295 (history.current + 1) (omega (arith, room)))
-              (list_any-none (λ (r : Row). nat_le 4294967295 r.step.0) (cleared history) (λ r there. none_passes (λ (x : Row). nat_le 4294967295 x.step.0) history.rows kept.below r (cleared-part history r there)));
-        }
+            (list_any-none (λ (r : Row). nat_le 4294967295 r.step.0) (cleared history) (λ r there. none_passes (λ (x : Row). nat_le 4294967295 x.step.0) history.rows kept.below r (cleared-part history r there)));
+      }
 
 -- the same, of a plan for these lists
 module _ (lists : Nested) (kept : IsKept (history_in lists) lists.used.keys) (room : lists.current.0 < 4294967294) (nav : NavId) (entry : EntryId) (state : StateId) (address : List ℕ) (memo : Option (List ℕ)) (may : MayTake (history_in lists) (Push nav entry state address memo)) (at : ℕ) (row : Row) (states : List StateId) (beside : List ℕ) (plan : IsPushPlan lists nav entry state address memo at row states beside) (put swept : List Row) (puts : PutsRow (rows_of lists.nests.items) row put) (swept_is : swept ≡ filter (stays (Forward lists.current entry) states) put) where
@@ -200,20 +199,20 @@ module _ (lists : Nested) (nav : NavId) (entry : EntryId) (one two : List Nest) 
   left_held = subst (λ (nests : List Nest). AreHeld left (filter (outlives (Forward lists.current entry)) (rows_of nests))) one_is held
 
   pub planned_none : IsSound (history_in lists) → list_any (is_entry entry) (rows_of lists.nests.items) ≡ false
-    → None ≡ option_map (λ (r : Row). r.owner) (find (λ r. is_of nav r && stays (Forward lists.current entry) left r) (rows_of two))
-    → has_row nav (cleared (history_in lists)) ≡ false
+      → None ≡ option_map (λ (r : Row). r.owner) (find (λ r. is_of nav r && stays (Forward lists.current entry) left r) (rows_of two))
+      → has_row nav (cleared (history_in lists)) ≡ false
   planned_none sound entry_is_new none =
       none_left (history_in lists) sound entry entry_is_new left left_held nav
-        (subst (λ (nests : List Nest). None ≡ option_map (λ (r : Row). r.owner) (find (λ r. is_of nav r && stays (Forward lists.current entry) left r) (rows_of nests))) two_is none)
+      (subst (λ (nests : List Nest). None ≡ option_map (λ (r : Row). r.owner) (find (λ r. is_of nav r && stays (Forward lists.current entry) left r) (rows_of nests))) two_is none)
 
   pub planned : (state : StateId) (address : List ℕ) (memo : Option (List ℕ)) (at : ℕ) (row : Row) (owner : Option StateId) (states : List StateId) (steps beside : List ℕ)
-    → steps ≡ used_steps (filter (stays (Forward lists.current entry) left) (rows_of one))
-    → at < length two
-    → Some owner ≡ option_map (λ (r : Row). r.owner) (find (λ r. is_of nav r && stays (Forward lists.current entry) left r) (rows_of two))
-    → row ≡ pushed_row lists.current.0 owner nav entry state address memo
-    → states ≡ left
-    → beside ≡ with_step (lists.current.0 + 1) steps
-    → IsPushPlan lists nav entry state address memo at row states beside
+      → steps ≡ used_steps (filter (stays (Forward lists.current entry) left) (rows_of one))
+      → at < length two
+      → Some owner ≡ option_map (λ (r : Row). r.owner) (find (λ r. is_of nav r && stays (Forward lists.current entry) left r) (rows_of two))
+      → row ≡ pushed_row lists.current.0 owner nav entry state address memo
+      → states ≡ left
+      → beside ≡ with_step (lists.current.0 + 1) steps
+      → IsPushPlan lists nav entry state address memo at row states beside
   planned state address memo at row owner states steps beside steps_are within found_is is same beside_is =
       subst (λ (s : List StateId). IsPushPlan lists nav entry state address memo at row s beside) (sym same) (record {
         owner = owner;

@@ -1,5 +1,5 @@
 -- What a reader finds, list by list, is what it finds in all rows.
-use Rattle.std.proofs.Common.{◌≡◌, ℕ, suc, ◌+◌, ◌<◌, ◌≤◌, Bool, true, false, ◌&&◌, ◌||◌, cond, List, [], ◌∷◌, ◌++◌, length, refl, ap, sym, ◌∙◌, filter, fold, map, arith, ◌⊎◌, inl, inr, Option, Some, None, take, drop, get_or, add-one, drop-cons}
+use Rattle.std.proofs.Common.{◌≡◌, ℕ, ◌+◌, ◌<◌, ◌≤◌, Bool, true, false, ◌&&◌, ◌||◌, List, [], ◌∷◌, ◌++◌, length, refl, ap, sym, ◌∙◌, filter, fold, map, inl, inr, Option, Some, None, take, drop, get_or, add-one, drop-cons}
 use Rattle.std.specs.Prelude.{max, nat_le, find}
 use Rattle.std.specs.List.{list_any}
 use Rattle.std.specs.Option.{option_or}
@@ -33,9 +33,9 @@ module _ (p : Row → Bool) (nests : List Nest) (i : ℕ) (item : Nest) (within 
   pub found_later : list_any p item.rows.items ≡ false → list_any p (rows_of (drop i nests)) ≡ list_any p (rows_of nests) → list_any p (rows_of (drop (i + 1) nests)) ≡ list_any p (rows_of nests)
   found_later none rest =
       sym (
-        ap (list_any p) (rows_of-drop nests i item within)
-        ∙ list_any-append p (get_or nests i item).rows.items (rows_of (drop (i + 1) nests))
-        ∙ ap (λ b. b || list_any p (rows_of (drop (i + 1) nests))) (ap (λ (nest : Nest). list_any p nest.rows.items) (sym is) ∙ none)
+      ap (list_any p) (rows_of-drop nests i item within)
+      ∙ list_any-append p (get_or nests i item).rows.items (rows_of (drop (i + 1) nests))
+      ∙ ap (λ b. b || list_any p (rows_of (drop (i + 1) nests))) (ap (λ (nest : Nest). list_any p nest.rows.items) (sym is) ∙ none)
       )
       ∙ rest
 
@@ -48,8 +48,8 @@ module _ (p : Row → Bool) (nests : List Nest) (i : ℕ) (item : Nest) (within 
   pub first_later : find p item.rows.items ≡ None → find p (rows_of (drop i nests)) ≡ find p (rows_of nests) → find p (rows_of (drop (i + 1) nests)) ≡ find p (rows_of nests)
   first_later none rest =
       sym (
-        find_rest p nests i item within
-        ∙ ap (λ found. option_or found (find p (rows_of (drop (i + 1) nests)))) (ap (λ (nest : Nest). find p nest.rows.items) (sym is) ∙ none)
+      find_rest p nests i item within
+      ∙ ap (λ found. option_or found (find p (rows_of (drop (i + 1) nests)))) (ap (λ (nest : Nest). find p nest.rows.items) (sym is) ∙ none)
       )
       ∙ rest
 

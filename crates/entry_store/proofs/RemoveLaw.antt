@@ -1,5 +1,5 @@
 -- The removal of a frame from the lists: what is left is what the definition leaves.
-use Rattle.std.proofs.Common.{◌≡◌, ◌≢◌, ℕ, Bool, true, false, not, ◌&&◌, ◌||◌, List, refl, ap, sym, ◌∙◌, filter, subst}
+use Rattle.std.proofs.Common.{◌≡◌, ◌≢◌, ℕ, true, not, List, refl, ap, sym, ◌∙◌, filter, subst}
 use Rattle.std.specs.List.{list_any}
 use Rattle.std.proofs.lemmas.Bool.{and_from, ne_eqb}
 use Rattle.tab_ids.specs.declared.NavId.{NavId}
@@ -9,7 +9,7 @@ use Rattle.log_model.specs.declared.change.Change.TheVariants.{RemoveFrame}
 use Rattle.log_model.specs.History.{History, Fits, is_of, has_row, applied, tidied, used_steps, used_step_at}
 use Rattle.log_model.specs.Order.{ordered, SameHistory}
 use Rattle.log_model.specs.Soundness.{IsSound}
-use Rattle.history_laws.proofs.Members.{IsIn, IsIn-filter}
+use Rattle.history_laws.proofs.Members.{IsIn-filter}
 use Rattle.history_laws.proofs.Tidying.{IsIn-tidied}
 use Rattle.history_laws.proofs.RemoveFrame.{IsSound-removed}
 use Rattle.entry_store.specs.declared.cut.Cut.TheVariants.{Navigable}
@@ -34,14 +34,14 @@ module _ (lists : Nested) (kept : IsKept (history_in lists) lists.used.keys) (na
 
   pub removed_same : SameHistory (record { rows = swept; current = current; added = lists.added.keys }) (applied (history_in lists) (RemoveFrame nav))
   removed_same = record {
-      rows = ap ordered swept_tidied;
-      current = current_is ∙ ap (λ rows. used_step_at rows lists.current.0) swept_tidied;
-      added = refl;
-    }
+    rows = ap ordered swept_tidied;
+    current = current_is ∙ ap (λ rows. used_step_at rows lists.current.0) swept_tidied;
+    added = refl;
+  }
 
   pub removed_kept : IsKept (record { rows = swept; current = current; added = lists.added.keys }) steps
   removed_kept =
       IsKept-part (history_in lists) lists.used.keys kept swept current steps
-        (λ row there. IsIn-filter (λ r. not (is_of nav r)) (rows_of lists.nests.items) row (IsIn-tidied left row (λ test passes. sym (ap (list_any test) swept_tidied) ∙ there test passes)))
-        (subst (λ (rows : List Row). IsSound (record { rows = rows; current = current; added = lists.added.keys })) (sym swept_tidied) (IsSound-removed (history_in lists) nav current lists.added.keys kept.sound is_child))
-        (steps_are ∙ ap (λ (nests : List Nest). used_steps (filter (stays (Navigable nav) states) (rows_of nests))) one_is ∙ ap used_steps (sym swept_is))
+      (λ row there. IsIn-filter (λ r. not (is_of nav r)) (rows_of lists.nests.items) row (IsIn-tidied left row (λ test passes. sym (ap (list_any test) swept_tidied) ∙ there test passes)))
+      (subst (λ (rows : List Row). IsSound (record { rows = rows; current = current; added = lists.added.keys })) (sym swept_tidied) (IsSound-removed (history_in lists) nav current lists.added.keys kept.sound is_child))
+      (steps_are ∙ ap (λ (nests : List Nest). used_steps (filter (stays (Navigable nav) states) (rows_of nests))) one_is ∙ ap used_steps (sym swept_is))

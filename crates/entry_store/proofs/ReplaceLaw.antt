@@ -1,18 +1,18 @@
 -- A replace in the lists: what is left is what the definition leaves.
-use Rattle.std.proofs.Common.{◌≡◌, ◌≢◌, ℕ, Bool, true, false, ◌&&◌, ◌||◌, cond, List, [], ◌∷◌, ◌++◌, refl, ap, sym, ◌∙◌, filter, map, Option, Some, None, subst, inl, inr, ◌⊎◌}
+use Rattle.std.proofs.Common.{◌≡◌, ℕ, Bool, true, false, ◌||◌, List, [], ◌∷◌, ◌++◌, refl, ap, sym, ◌∙◌, filter, Option, None, subst}
 use Rattle.std.specs.Prelude.{nat_le, slice_get}
 use Rattle.std.specs.List.{list_any}
-use Rattle.std.proofs.lemmas.Bool.{or_cases, or_parts, and_parts, eqb-true, eq-eqb}
+use Rattle.std.proofs.lemmas.Bool.{and_parts, eqb-true}
 use Rattle.tab_ids.specs.declared.NavId.{NavId}
 use Rattle.tab_ids.specs.declared.StateId.{StateId}
 use Rattle.tab_ids.specs.declared.EntryId.{EntryId}
 use Rattle.log_model.specs.declared.row.Row.{Row}
 use Rattle.log_model.specs.declared.change.Change.TheVariants.{Replace}
-use Rattle.log_model.specs.History.{History, same_entry, is_of, has_nav, has_row, applied, tidied, used_steps, replaced_row}
+use Rattle.log_model.specs.History.{same_entry, is_of, has_nav, applied, tidied, used_steps}
 use Rattle.log_model.specs.Order.{ordered, SameHistory}
 use Rattle.log_model.specs.Soundness.{is_entry, holds, IsSound}
 use Rattle.tab_ids.specs.declared.Step.{Step}
-use Rattle.history_laws.proofs.Members.{or_right, or_none, IsIn, witness, some_same, list_any-none, none_passes}
+use Rattle.history_laws.proofs.Members.{IsIn, witness, some_same, list_any-none, none_passes}
 use Rattle.history_laws.proofs.Tidying.{IsIn-tidied}
 use Rattle.history_laws.proofs.OneMore.{AddsRow, AddsRow-insert, AddsRow-push}
 use Rattle.history_laws.proofs.Replace.{replaced_whole, replaced_part, IsSound-replaced, replaced-split}
@@ -20,7 +20,7 @@ use Rattle.entry_store.specs.declared.cut.Cut.TheVariants.{Nothing}
 use Rattle.entry_store.specs.declared.nest.Nest.{Nest}
 use Rattle.entry_store.specs.declared.nested.Nested.{Nested}
 use Rattle.entry_store.specs.Nested.{rows_of, outlives, stays, AreHeld}
-use Rattle.entry_store.specs.Places.{rows_at, rows_before, rows_after, is_navs_entry, IsPlaceOf}
+use Rattle.entry_store.specs.Places.{rows_at, rows_before, rows_after, IsPlaceOf}
 use Rattle.entry_store.specs.Store.{MayTake}
 use Rattle.entry_store.specs.Kept.{history_in, IsKept, IsPutOver}
 use Rattle.entry_store.proofs.Left.{stays-tidied_part, outlives_nothing}
@@ -71,20 +71,20 @@ module _ (lists : Nested) (kept : IsKept (history_in lists) lists.used.keys) (na
   swept_tidied =
       over_is.swept ∙ ap (filter (stays Nothing over_is.states)) over_is.put_is
       ∙ stays-tidied_part (rows_of lists.nests.items ++ row ∷ [])
-        (replaced_whole (history_in lists) kept.sound front back found.it row was nav_of owner_of step_of entry_new mine)
-        (front ++ row ∷ back) part Nothing over_is.states held
+      (replaced_whole (history_in lists) kept.sound front back found.it row was nav_of owner_of step_of entry_new mine)
+      (front ++ row ∷ back) part Nothing over_is.states held
       ∙ ap tidied (outlives_nothing (front ++ row ∷ back))
 
   pub replaced_same : SameHistory (history_in new) (applied (history_in lists) (Replace nav over entry state address memo))
   replaced_same = record {
-      rows =
+    rows =
         ap ordered swept_tidied
         ∙ ap (λ (r : Row). ordered (tidied (front ++ r ∷ back)))
-          (row_is ∙ ap (λ (o : Option StateId). replacing_row o nav entry step state address memo) found.owner_is ∙ ap (λ (n : ℕ). replacing_row found.it.owner nav entry n state address memo) found.step_is)
+        (row_is ∙ ap (λ (o : Option StateId). replacing_row o nav entry step state address memo) found.owner_is ∙ ap (λ (n : ℕ). replacing_row found.it.owner nav entry n state address memo) found.step_is)
         ∙ ap (λ rows. ordered (tidied rows)) (sym (replaced-split (history_in lists) kept.sound front back found.it (replacing_row None nav entry 0 state address memo) over was both.0 both.1));
-      current = ap (λ (s : Step). s.0) over_is.current;
-      added = over_is.added;
-    }
+    current = ap (λ (s : Step). s.0) over_is.current;
+    added = over_is.added;
+  }
 
   in_whole : (test : Row → Bool) → test row ≡ test found.it → list_any test (rows_of lists.nests.items ++ row ∷ []) ≡ list_any test (rows_of lists.nests.items)
   in_whole test same =
@@ -102,15 +102,15 @@ module _ (lists : Nested) (kept : IsKept (history_in lists) lists.used.keys) (na
 
   pub replaced_kept : IsKept (history_in new) new.used.keys
   replaced_kept = record {
-      sound =
+    sound =
         subst (λ (rows : List Row). IsSound (record { rows = rows; current = new.current.0; added = new.added.keys })) (sym swept_tidied)
-          (IsSound-replaced (history_in lists) kept.sound front back found.it row was nav_of owner_of step_of entry_new mine new.current.0 new.added.keys);
-      added = λ child has is_child.
+        (IsSound-replaced (history_in lists) kept.sound front back found.it row was nav_of owner_of step_of entry_new mine new.current.0 new.added.keys);
+    added = λ child has is_child.
         let w = witness (is_of child) (rows_of new.nests.items) has in
         ap (λ (navs : List NavId). has_nav navs child) over_is.added
         ∙ kept.added child (sym (in_whole (is_of child) (ap (λ n. lib.Dec.eqb n child.0) nav_of)) ∙ in_old w.it w.is_in (is_of child) w.passes) is_child;
-      used = over_is.steps ∙ ap used_steps (sym over_is.swept);
-      below = list_any-none (λ (r : Row). nat_le 4294967295 r.step.0) (rows_of new.nests.items) (λ r there.
+    used = over_is.steps ∙ ap used_steps (sym over_is.swept);
+    below = list_any-none (λ (r : Row). nat_le 4294967295 r.step.0) (rows_of new.nests.items) (λ r there.
         none_passes (λ (x : Row). nat_le 4294967295 x.step.0) (rows_of lists.nests.items ++ row ∷ [])
-          (in_whole (λ (x : Row). nat_le 4294967295 x.step.0) (ap (λ n. nat_le 4294967295 n) step_of) ∙ kept.below) r (in_old r there));
-    }
+        (in_whole (λ (x : Row). nat_le 4294967295 x.step.0) (ap (λ n. nat_le 4294967295 n) step_of) ∙ kept.below) r (in_old r there));
+  }

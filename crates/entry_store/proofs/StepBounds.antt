@@ -1,6 +1,6 @@
 -- How many used steps there can be: none stands at the last step that there is.
-use Rattle.std.proofs.Common.{◌≡◌, ℕ, suc, ◌+◌, ◌<◌, ◌≤◌, Bool, true, false, List, [], ◌∷◌, length, filter, refl, ap, sym, ◌∙◌, arith, ◌⊎◌, inl, inr, cond}
-use Rattle.std.specs.Prelude.{nat_le, nat_lt}
+use Rattle.std.proofs.Common.{◌≡◌, ℕ, suc, ◌+◌, ◌<◌, ◌≤◌, Bool, true, false, List, [], ◌∷◌, length, filter, ap, arith, inl, inr, cond}
+use Rattle.std.specs.Prelude.{nat_le}
 use Rattle.std.specs.List.{list_any}
 use Rattle.std.proofs.lemmas.Bool.{cases_order, lt-ltb, le-ltb, eq-eqb, ne_eqb, or_parts, leb-false}
 use Rattle.log_model.specs.declared.row.Row.{Row}
@@ -22,11 +22,11 @@ with_step-ascends low high step (first ∷ steps) above below within =
     elim (cases_order step first) [
       | inl same ↦ rw (le-ltb step first (omega (arith, same)), eq-eqb step first same) within
       | inr apart ↦
-        elim apart [
-          | inl lower ↦ rw (lt-ltb step first lower) (above, below, (omega (arith, lower), within.1, within.2))
-          | inr higher ↦
-            rw (le-ltb step first (omega (arith, higher)), ne_eqb step first (λ same. omega (arith, same, higher))) (within.0, within.1, with_step-ascends (suc first) high step steps (omega (arith, higher)) below within.2)
-        ]
+          elim apart [
+            | inl lower ↦ rw (lt-ltb step first lower) (above, below, (omega (arith, lower), within.1, within.2))
+            | inr higher ↦
+                rw (le-ltb step first (omega (arith, higher)), ne_eqb step first (λ same. omega (arith, same, higher))) (within.0, within.1, with_step-ascends (suc first) high step steps (omega (arith, higher)) below within.2)
+          ]
     ]
 
 used_steps-ascend : (high : ℕ) (rows : List Row) → list_any (λ (row : Row). nat_le high row.step.0) rows ≡ false → Ascends 0 high (used_steps rows)

@@ -1,12 +1,10 @@
 -- The used steps of the rows that stay.
-use Rattle.std.proofs.Common.{◌≡◌, ℕ, ◌+◌, ◌<◌, Bool, true, false, cond, List, [], ◌∷◌, ◌++◌, refl, ap, sym, ◌∙◌, filter, fold, arith, ◌⊎◌, inl, inr}
+use Rattle.std.proofs.Common.{◌≡◌, ℕ, List, [], ◌∷◌, refl, ap, ◌∙◌, filter, fold, arith, inl, inr}
 use Rattle.std.specs.Ordering.{nat_cmp}
 use Rattle.std.specs.declared.cmp.Ordering.TheVariants.{Less, Equal, Greater}
 use Rattle.std.specs.Cmp.{nat_cmp_is}
 use Rattle.std.specs.BTreeSet.{insert_key}
 use Rattle.std.proofs.lemmas.Bool.{cases_Bool, cases_order, lt-ltb, le-ltb, eq-eqb, ne_eqb}
-use Rattle.std.proofs.lemmas.List.{append-nil}
-use Rattle.std.proofs.lemmas.Grind.{common_steps}
 use Rattle.tab_ids.specs.declared.StateId.{StateId}
 use Rattle.log_model.specs.declared.row.Row.{Row}
 use Rattle.log_model.specs.History.{with_step, used_steps}
@@ -21,11 +19,11 @@ insert_key-with_step (first ∷ steps) step =
     elim (cases_order step first) [
       | inl same ↦ rw (← nat_cmp_is step first Equal same, le-ltb step first (omega (arith, same)), eq-eqb step first same) refl
       | inr apart ↦
-        elim apart [
-          | inl lower ↦ rw (← nat_cmp_is step first Less lower, lt-ltb step first lower) refl
-          | inr higher ↦
-            rw (← nat_cmp_is step first Greater higher, le-ltb step first (omega (arith, higher)), ne_eqb step first (λ same. omega (arith, same, higher))) (ap (λ rest. first ∷ rest) (insert_key-with_step steps step))
-        ]
+          elim apart [
+            | inl lower ↦ rw (← nat_cmp_is step first Less lower, lt-ltb step first lower) refl
+            | inr higher ↦
+                rw (← nat_cmp_is step first Greater higher, le-ltb step first (omega (arith, higher)), ne_eqb step first (λ same. omega (arith, same, higher))) (ap (λ rest. first ∷ rest) (insert_key-with_step steps step))
+          ]
     ]
 
 pub ruleset one_step = (insert_key-with_step)

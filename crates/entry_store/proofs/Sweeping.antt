@@ -1,5 +1,5 @@
 -- Taking rows out of each list.
-use Rattle.std.proofs.Common.{◌≡◌, ℕ, suc, ◌+◌, ◌<◌, Bool, true, false, not, cond, List, [], ◌∷◌, ◌++◌, length, refl, ap, sym, ◌∙◌, filter, arith, ◌⊎◌, inl, inr, map, take, drop, set, get_or, add-one, drop-cons}
+use Rattle.std.proofs.Common.{◌≡◌, ℕ, suc, ◌+◌, ◌<◌, Bool, false, not, List, [], ◌∷◌, ◌++◌, length, refl, ap, sym, ◌∙◌, filter, arith, inl, inr, take, drop, set, get_or, add-one, drop-cons}
 use Rattle.std.proofs.Math.Seq.{take-suc, take-suc-set}
 use Rattle.std.proofs.lemmas.List.{append-nil, drop-set-lt}
 use Rattle.std.proofs.lemmas.List.Concat.{flat_map-append}
@@ -44,11 +44,11 @@ module _ (p : Row → Bool) (was now : List Nest) (i : ℕ) (old new : Nest) (wi
   swept_more swept mine =
       let f : Nest → List Row = λ nest. nest.rows.items in
       rw add-one (
-        ap rows_of (take-suc-set now i new within)
-        ∙ flat_map-append f (take i now) (new ∷ [])
-        ∙ ap (λ rows. rows ++ rows_of (new ∷ [])) swept
-        ∙ ap (λ rows. filter p (rows_of (take i was)) ++ rows) (append-nil new.rows.items ∙ mine ∙ ap (λ (nest : Nest). filter p nest.rows.items) here.0 ∙ ap (filter p) (sym (append-nil (get_or was i old).rows.items)))
-        ∙ sym (filter-append p (rows_of (take i was)) (rows_of (get_or was i old ∷ [])))
-        ∙ ap (filter p) (sym (flat_map-append f (take i was) (get_or was i old ∷ [])))
-        ∙ ap (λ nests. filter p (rows_of nests)) (sym (take-suc was i old (omega (arith, within, long))))
+      ap rows_of (take-suc-set now i new within)
+      ∙ flat_map-append f (take i now) (new ∷ [])
+      ∙ ap (λ rows. rows ++ rows_of (new ∷ [])) swept
+      ∙ ap (λ rows. filter p (rows_of (take i was)) ++ rows) (append-nil new.rows.items ∙ mine ∙ ap (λ (nest : Nest). filter p nest.rows.items) here.0 ∙ ap (filter p) (sym (append-nil (get_or was i old).rows.items)))
+      ∙ sym (filter-append p (rows_of (take i was)) (rows_of (get_or was i old ∷ [])))
+      ∙ ap (filter p) (sym (flat_map-append f (take i was) (get_or was i old ∷ [])))
+      ∙ ap (λ nests. filter p (rows_of nests)) (sym (take-suc was i old (omega (arith, within, long))))
       )

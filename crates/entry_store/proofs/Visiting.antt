@@ -1,15 +1,15 @@
 -- A pass along the rows, which takes in the document states that stay: it ends, and with exactly those.
-use Rattle.std.proofs.Common.{◌≡◌, ◌≢◌, ℕ, ◌+◌, ◌<◌, ◌≤◌, Bool, true, false, not, ◌&&◌, ◌||◌, cond, List, [], ◌∷◌, ◌++◌, length, refl, ap, sym, ◌∙◌, filter, fold, arith, ◌⊎◌, inl, inr, Option, Some, None, length-append}
+use Rattle.std.proofs.Common.{◌≡◌, ◌<◌, ◌≤◌, Bool, true, false, not, ◌&&◌, ◌||◌, cond, List, [], ◌∷◌, ◌++◌, length, refl, ap, sym, ◌∙◌, filter, fold, arith, inl, inr, Option, Some, None, length-append}
 use Rattle.std.specs.List.{list_any, count_by}
 use Rattle.std.specs.Option.{option_map_or}
-use Rattle.std.proofs.lemmas.Bool.{cases_Bool, or_cases, or_parts, true≢false, false≢true, not-true, and_parts, and_from, eqb-true, eq-eqb}
+use Rattle.std.proofs.lemmas.Bool.{cases_Bool, or_cases, false≢true, not-true, and_parts, and_from, eqb-true, eq-eqb}
 use Rattle.std.proofs.lemmas.List.Sums.{sum_by-cons}
 use Rattle.std.proofs.lemmas.List.Folds.{list_any-append}
 use Rattle.tab_ids.specs.declared.StateId.{StateId}
 use Rattle.log_model.specs.declared.row.Row.{Row}
 use Rattle.log_model.specs.History.{has_state}
 use Rattle.log_model.specs.Soundness.{is_in_state}
-use Rattle.history_laws.proofs.Members.{or_right, or_none, IsIn, IsIn-head, IsIn-tail, IsIn-filter, IsIn-filter_passes, IsIn-into_filter, witness, list_any-weaker, list_any-none}
+use Rattle.history_laws.proofs.Members.{or_right, or_none, IsIn, IsIn-head, IsIn-tail, IsIn-filter, IsIn-filter_passes, IsIn-into_filter, witness, list_any-none}
 use Rattle.history_laws.proofs.Tidying.{state_same}
 use Rattle.entry_store.specs.declared.cut.Cut.{Cut}
 use Rattle.entry_store.specs.Nested.{outlives, has, is_held_by, stays, visit, AreHeld, AreSupported, missing}
@@ -44,10 +44,10 @@ visited cut states row =
     elim (cases_Bool (stays cut states row)) [
       | inr goes ↦ same (rw goes refl) (λ it_stays. absurd (false≢true (sym goes ∙ it_stays)))
       | inl it_stays ↦
-        elim (cases_Bool (has states row.state)) [
-          | inl there ↦ same (rw (it_stays, there) refl) (λ _. there)
-          | inr new ↦ grown (rw (it_stays, new) refl) it_stays new
-        ]
+          elim (cases_Bool (has states row.state)) [
+            | inl there ↦ same (rw (it_stays, there) refl) (λ _. there)
+            | inr new ↦ grown (rw (it_stays, new) refl) it_stays new
+          ]
     ]
 
 -- ---- a pass gets longer and has less to find, or changes nothing
@@ -85,7 +85,7 @@ lacks-kept states more row lacks =
 missing-new : (states : List StateId) (row : Row) (rows : List Row) → has states row.state ≡ false → IsIn rows row → missing (states ++ row.state ∷ []) rows < missing states rows
 missing-new states row rows new there =
     count_by-fewer (λ (r : Row). not (has (states ++ row.state ∷ []) r.state)) (λ (r : Row). not (has states r.state)) rows (lacks-kept states row.state)
-      (there (λ (r : Row). not (has states r.state) && not (not (has (states ++ row.state ∷ []) r.state))) (and_from _ _ (ap not new) (ap (λ b. not (not b)) (has-new states row.state))))
+    (there (λ (r : Row). not (has states r.state) && not (not (has (states ++ row.state ∷ []) r.state))) (and_from _ _ (ap not new) (ap (λ b. not (not b)) (has-new states row.state))))
 
 pub data Passed (cut : Cut) (rows : List Row) (states result : List StateId) : Type 0 where
   same : result ≡ states → Passed cut rows states result
@@ -102,8 +102,8 @@ passed cut rows (row ∷ rest) states part =
     elim (visited cut states row) [
       | same is _ ↦ rw is (passed cut rows rest states (λ r there. part r (IsIn-tail rest row r there)))
       | grown is it_stays new ↦
-        let next = states ++ row.state ∷ [] in
-        rw is (grown_then cut rows states next (fold (visit cut) next rest)
+          let next = states ++ row.state ∷ [] in
+          rw is (grown_then cut rows states next (fold (visit cut) next rest)
           (omega (arith, length-append states (row.state ∷ [])))
           (missing-new states row rows new (part row (IsIn-head rest row)))
           (passed cut rows rest next (λ r there. part r (IsIn-tail rest row r there))))
@@ -121,9 +121,9 @@ none_left cut [] states ends = refl
 none_left cut (row ∷ rest) states ends =
     elim (visited cut states row) [
       | same is there ↦
-        or_none _ _ (not_both (stays cut states row) (has states row.state) there) (none_left cut rest states (ap (λ next. fold (visit cut) next rest) (sym is) ∙ ends))
+          or_none _ _ (not_both (stays cut states row) (has states row.state) there) (none_left cut rest states (ap (λ next. fold (visit cut) next rest) (sym is) ∙ ends))
       | grown is it_stays new ↦
-        absurd (no_shorter cut rest states row.state _ (passed cut rest rest (states ++ row.state ∷ []) (λ r there. there)) (ap (λ next. fold (visit cut) next rest) (sym is) ∙ ends))
+          absurd (no_shorter cut rest states row.state _ (passed cut rest rest (states ++ row.state ∷ []) (λ r there. there)) (ap (λ next. fold (visit cut) next rest) (sym is) ∙ ends))
     ]
   where
     not_both : (a b : Bool) → (a ≡ true → b ≡ true) → (a && not b) ≡ false
@@ -145,21 +145,21 @@ module _ (cut : Cut) (rows : List Row) where
 
       by_cases : stays cut states row ≡ true → has (states ++ row.state ∷ []) state ≡ true → has_state state (filter (is_held_by (states ++ row.state ∷ [])) (filter (outlives cut) rows)) ≡ true
       by_cases it_stays any =
-        elim (or_cases (has states state) (lib.Dec.eqb state.0 row.state.0 || false) (sym (has-push states row.state state) ∙ any)) [
-          | inl before ↦
-            let w = witness (is_in_state state) (filter (is_held_by states) (filter (outlives cut) rows)) (supported state before) in
-            let outlived = IsIn-filter (is_held_by states) (filter (outlives cut) rows) w.it w.is_in in
-            let held = IsIn-filter_passes (is_held_by states) (filter (outlives cut) rows) w.it w.is_in in
-            IsIn-into_filter (is_held_by (states ++ row.state ∷ [])) (filter (outlives cut) rows) w.it outlived (held-kept states row.state w.it held) (is_in_state state) w.passes
-          | inr here ↦
-            elim (or_cases (lib.Dec.eqb state.0 row.state.0) false here) [
-              | inl equal ↦
-                let both = and_parts (outlives cut row) (is_held_by states row) it_stays in
-                let outlived = IsIn-into_filter (outlives cut) rows row there both.0 in
-                IsIn-into_filter (is_held_by (states ++ row.state ∷ [])) (filter (outlives cut) rows) row outlived (held-kept states row.state row both.1) (is_in_state state) (eq-eqb row.state.0 state.0 (sym (eqb-true state.0 row.state.0 equal)))
-              | inr never ↦ absurd (false≢true never)
-            ]
-        ]
+          elim (or_cases (has states state) (lib.Dec.eqb state.0 row.state.0 || false) (sym (has-push states row.state state) ∙ any)) [
+            | inl before ↦
+                let w = witness (is_in_state state) (filter (is_held_by states) (filter (outlives cut) rows)) (supported state before) in
+                let outlived = IsIn-filter (is_held_by states) (filter (outlives cut) rows) w.it w.is_in in
+                let held = IsIn-filter_passes (is_held_by states) (filter (outlives cut) rows) w.it w.is_in in
+                IsIn-into_filter (is_held_by (states ++ row.state ∷ [])) (filter (outlives cut) rows) w.it outlived (held-kept states row.state w.it held) (is_in_state state) w.passes
+            | inr here ↦
+                elim (or_cases (lib.Dec.eqb state.0 row.state.0) false here) [
+                  | inl equal ↦
+                      let both = and_parts (outlives cut row) (is_held_by states row) it_stays in
+                      let outlived = IsIn-into_filter (outlives cut) rows row there both.0 in
+                      IsIn-into_filter (is_held_by (states ++ row.state ∷ [])) (filter (outlives cut) rows) row outlived (held-kept states row.state row both.1) (is_in_state state) (eq-eqb row.state.0 state.0 (sym (eqb-true state.0 row.state.0 equal)))
+                  | inr never ↦ absurd (false≢true never)
+                ]
+          ]
 
   pub supported-pass : (rest : List Row) (states : List StateId) → ((row : Row) → IsIn rest row → IsIn rows row) → AreSupported states (filter (outlives cut) rows) → AreSupported (fold (visit cut) states rest) (filter (outlives cut) rows)
   supported-pass [] states part supported = supported
@@ -176,16 +176,16 @@ module _ (cut : Cut) (rows : List Row) where
     where
       not_held : has states state ≡ false → (row : Row) → IsIn (filter (is_held_by states) (filter (outlives cut) rows)) row → is_in_state state row ≡ false
       not_held none row kept =
-        elim (cases_Bool (is_in_state state row)) [
-          | inr isnt ↦ isnt
-          | inl is ↦
-            let outlived = IsIn-filter (is_held_by states) (filter (outlives cut) rows) row kept in
-            let held = IsIn-filter_passes (is_held_by states) (filter (outlives cut) rows) row kept in
-            let there = IsIn-filter (outlives cut) rows row outlived in
-            let it_stays = and_from (outlives cut row) (is_held_by states row) (IsIn-filter_passes (outlives cut) rows row outlived) held in
-            let lacks : has states row.state ≡ false = rw (state_same row.state state (eqb-true row.state.0 state.0 is)) none in
-            absurd (false≢true (sym (none_left cut rows states ends) ∙ there (λ r. stays cut states r && not (has states r.state)) (and_from _ _ it_stays (ap not lacks))))
-        ]
+          elim (cases_Bool (is_in_state state row)) [
+            | inr isnt ↦ isnt
+            | inl is ↦
+                let outlived = IsIn-filter (is_held_by states) (filter (outlives cut) rows) row kept in
+                let held = IsIn-filter_passes (is_held_by states) (filter (outlives cut) rows) row kept in
+                let there = IsIn-filter (outlives cut) rows row outlived in
+                let it_stays = and_from (outlives cut row) (is_held_by states row) (IsIn-filter_passes (outlives cut) rows row outlived) held in
+                let lacks : has states row.state ≡ false = rw (state_same row.state state (eqb-true row.state.0 state.0 is)) none in
+                absurd (false≢true (sym (none_left cut rows states ends) ∙ there (λ r. stays cut states r && not (has states r.state)) (and_from _ _ it_stays (ap not lacks))))
+          ]
 
 -- ---- a round of the loop
 

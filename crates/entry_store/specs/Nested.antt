@@ -1,13 +1,11 @@
 -- The lists that `EntryStore` keeps, the rows that they hold, and how one pass along them finds the document states that stay.
 -- This project's own.
-use Rattle.std.specs.Prelude.{◌≡◌, ℕ, Bool, true, false, not, ◌&&◌, ◌||◌, ◌==◌, nat_le, List, [], ◌∷◌, ◌++◌, filter, count_by, if◌then◌else◌}
+use Rattle.std.specs.Prelude.{◌≡◌, ℕ, Bool, true, not, ◌&&◌, ◌||◌, ◌==◌, nat_le, List, [], ◌∷◌, ◌++◌, filter, count_by, if◌then◌else◌}
 use Rattle.std.specs.List.{list_any, flat_map}
 use Rattle.std.specs.Option.{option_map_or}
-use Rattle.tab_ids.specs.declared.NavId.{NavId}
 use Rattle.tab_ids.specs.declared.StateId.{StateId}
-use Rattle.tab_ids.specs.declared.EntryId.{EntryId}
 use Rattle.log_model.specs.declared.row.Row.{Row}
-use Rattle.log_model.specs.History.{same_entry, is_of, has_state, with_step, used_steps}
+use Rattle.log_model.specs.History.{same_entry, is_of, has_state, with_step}
 use Rattle.entry_store.specs.declared.nest.Nest.{Nest}
 use Rattle.entry_store.specs.declared.cut.Cut.{Cut}
 use Rattle.entry_store.specs.declared.cut.Cut.TheVariants.{Forward, Navigable, Nothing}

@@ -1,6 +1,6 @@
 -- What one step along the rows makes of an answer, for each reader of the lists.
 -- This project's own.
-use Rattle.std.specs.Prelude.{◌≡◌, ℕ, Bool, max, min, ◌&&◌, ◌==◌, nat_le, List, [], ◌∷◌, Option, Some, None, if◌then◌else◌}
+use Rattle.std.specs.Prelude.{ℕ, max, min, ◌&&◌, nat_le, List, Option, Some, None, if◌then◌else◌}
 use Rattle.std.specs.Ordering.{nat_cmp, ordering_then}
 use Rattle.std.specs.BTreeMap.{insert_entry}
 use Rattle.tab_ids.specs.declared.NavId.{NavId}

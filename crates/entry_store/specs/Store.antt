@@ -4,7 +4,6 @@ use Rattle.std.specs.Prelude.{◌≡◌, ◌≤◌, ℕ, Bool, true, false, not,
 use Rattle.std.specs.List.{list_any}
 use Rattle.tab_ids.specs.declared.NavId.{NavId}
 use Rattle.tab_ids.specs.declared.StateId.{StateId}
-use Rattle.tab_ids.specs.declared.EntryId.{EntryId}
 use Rattle.log_model.specs.declared.row.Row.{Row}
 use Rattle.log_model.specs.declared.change.Change.{Change}
 use Rattle.log_model.specs.declared.change.Change.TheVariants.{Push, Replace, AddFrame, RemoveFrame, Traverse, Reload, Edit}

@@ -40,7 +40,9 @@ impl Store for EntryStore {
     ghost use Rattle.entry_store.specs.Held.{history_held};
 
     ghost history = { history_held };
+
     ghost sound = { λ store. store.is_kept.sound };
+
     ghost added = { λ store. store.is_kept.added };
 
     fn apply(&mut self, change: &Change) -> Result<(), StoreError> {

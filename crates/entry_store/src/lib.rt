@@ -1,4 +1,4 @@
-//! A tab's session history in nested lists. So far: which rows a change leaves.
+//! A tab's session history with its frames: the trait `Store`, which a contract sees as the history that it holds, and `EntryStore`, which keeps it in lists nested by document state.
 #![tactic(auto)]
 
 mod add;

@@ -41,7 +41,8 @@ fn staying_row<'a>(
 ) -> Option<&'a Row>
     ensures { option_copied result ≡ find (λ row. is_of nav row && stays cut.now states.now.keys row) rows.now }
 {
-    rows.iter().find(|row| row.nav == nav && is_staying(cut, states, row))
+    rows.iter()
+        .find(|row| row.nav == nav && is_staying(cut, states, row))
 }
 
 /// Puts a row at the end of a list; without memory the lists stay.

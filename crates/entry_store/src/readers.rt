@@ -105,12 +105,7 @@ pub fn target_in(nests: &[Nest], nav: NavId, s: Step) -> Option<EntryId>
 }
 
 // The target, where it is in these rows or was before them.
-fn later_in<'a>(
-    rows: &'a [Row],
-    nav: NavId,
-    s: Step,
-    before: Option<&'a Row>,
-) -> Option<&'a Row>
+fn later_in<'a>(rows: &'a [Row], nav: NavId, s: Step, before: Option<&'a Row>) -> Option<&'a Row>
     ensures { option_copied result ≡ fold (later_of nav s.0) (option_copied before.entry) rows.now }
 {
     let mut best = before;

@@ -64,5 +64,6 @@ pub trait Store {
 
     // The history is sound, and each child with a row was added.
     ghost sound: { (store : Self) → IsSound (history store) };
+
     ghost added: { (store : Self) (nav : NavId) → has_row nav (history store).rows ≡ true → nav.0 ≢ 0 → has_nav (history store).added nav ≡ true };
 }

@@ -67,7 +67,10 @@ fn a_push_keeps_its_address_and_memo(rt: HostRuntime) -> Result<(), Fail> {
     assert_eq!(rt; store.children(StateId(1))?.len(), 0);
     let row = store.row(EntryId { maker: 1, nr: 1 }).ok_or("no row")?;
     assert_eq!(rt; row.address.text(), b"http://a.test/1".as_slice());
-    assert_eq!(rt; row.memo.as_ref().map(|memo| memo.bytes()), Some(b"s1".as_slice()));
+    assert_eq!(rt;
+        row.memo.as_ref().map(|memo| memo.bytes()),
+        Some(b"s1".as_slice())
+    );
     assert!(rt; store.row(EntryId { maker: 1, nr: 2 }).is_none());
     Ok(())
 }
@@ -77,11 +80,17 @@ fn a_removed_frame_takes_its_steps_along(rt: HostRuntime) -> Result<(), Fail> {
     let mut store = fresh(rt.alloc())?;
     let said = play(rt.alloc(), &mut store, "f112 p13")?;
     assert_eq!(rt; said.as_str(), "1 2 1; 0:0 1 1 -*; 1:0 2 2 1; 1:1 3 3 1*");
-    assert_eq!(rt; store.children(StateId(1))?.as_slice(), [NavId(1)].as_slice());
+    assert_eq!(rt;
+        store.children(StateId(1))?.as_slice(),
+        [NavId(1)].as_slice()
+    );
     assert!(rt; store.was_added(NavId(1)));
     assert!(rt; store.has_state(StateId(3)));
     assert_eq!(rt; store.used_at(Step(7)), Step(1));
-    assert_eq!(rt; take(&mut store, &Change::RemoveFrame { nav: NavId(1) })?, Ok(()));
+    assert_eq!(rt;
+        take(&mut store, &Change::RemoveFrame { nav: NavId(1) })?,
+        Ok(())
+    );
     assert_eq!(rt; store.rows()?.len(), 1);
     assert_eq!(rt; store.current(), Step(0));
     assert_eq!(rt; store.length_index(Step(0)), (1, 0));
@@ -117,7 +126,11 @@ fn play(alloc: Global, store: &mut EntryStore, changes: &str) -> Result<String, 
 fn change_of(alloc: Global, words: &[u8], nr: u32) -> Result<Change, Fail> {
     let address = Address::read(alloc, b"http://a.test/").map_err(|_| "address")?;
     let entry = EntryId { maker: 0, nr };
-    let (first, second, third) = (digit(words.get(1)), digit(words.get(2)), digit(words.get(3)));
+    let (first, second, third) = (
+        digit(words.get(1)),
+        digit(words.get(2)),
+        digit(words.get(3)),
+    );
     match words.first() {
         Some(b'p') => Ok(Change::Push {
             nav: NavId(first),
@@ -176,10 +189,16 @@ fn row_text(alloc: Global, row: &Row, star: bool) -> Result<String, AllocError> 
     let star = if star { "*" } else { "" };
     match row.owner {
         Some(owner) => {
-            format!(in alloc; "; {}:{} {} {} {}{}", row.nav.0, row.step.0, row.entry.nr, row.state.0, owner.0, star)
+            format!(in alloc;
+                "; {}:{} {} {} {}{}",
+                row.nav.0, row.step.0, row.entry.nr, row.state.0, owner.0, star
+            )
         }
         None => {
-            format!(in alloc; "; {}:{} {} {} -{}", row.nav.0, row.step.0, row.entry.nr, row.state.0, star)
+            format!(in alloc;
+                "; {}:{} {} {} -{}",
+                row.nav.0, row.step.0, row.entry.nr, row.state.0, star
+            )
         }
     }
 }
@@ -191,7 +210,10 @@ fn take(store: &mut EntryStore, change: &Change) -> Result<Result<(), StoreError
     }
     match change {
         Change::Push {
-            nav, entry, state, ..
+            nav,
+            entry,
+            state,
+            ..
         } => {
             if !is_new(store, *entry) || !is_free_for(store, *nav, *state)? {
                 return Err("the entry or the state is another's".into());
@@ -199,7 +221,10 @@ fn take(store: &mut EntryStore, change: &Change) -> Result<Result<(), StoreError
             Ok(store.apply(change))
         }
         Change::Replace {
-            nav, entry, state, ..
+            nav,
+            entry,
+            state,
+            ..
         } => {
             if !is_new(store, *entry) || !is_free_for(store, *nav, *state)? {
                 return Err("the entry or the state is another's".into());

@@ -1,9 +1,9 @@
 -- The elements of a list, seen by the tests that they pass, and what a filter keeps of them.
-use Rattle.std.proofs.Common.{◌≡◌, ℕ, Bool, true, false, not, ◌&&◌, ◌||◌, cond, List, [], ◌∷◌, ◌++◌, refl, ap, sym, ◌∙◌, filter, ◌⊎◌, inl, inr, find, Option, Some, None, subst}
+use Rattle.std.proofs.Common.{◌≡◌, Bool, true, false, not, ◌&&◌, ◌||◌, cond, List, [], ◌∷◌, refl, ap, sym, ◌∙◌, filter, inl, inr, find, Some, None, subst}
 use Rattle.std.specs.List.{list_any}
 use Rattle.std.specs.Option.{option_map_or}
 use Rattle.std.proofs.lemmas.Option.{none-some}
-use Rattle.std.proofs.lemmas.Bool.{false≢true, true≢false, or_cases, and_parts, and_from, cases_Bool, not-true}
+use Rattle.std.proofs.lemmas.Bool.{false≢true, or_cases, and_parts, and_from, cases_Bool, not-true}
 
 -- the list has the element: whatever test it passes, an element passes
 abbrev pub IsIn : {A : Type 0} → List A → A → Type 0
@@ -124,11 +124,11 @@ found {A} test (y ∷ xs) x is = by_test (found test xs x) (test y) refl
   where
     by_test : (find test xs ≡ Some x → IsFound test xs x) → (b : Bool) → test y ≡ b → IsFound test (y ∷ xs) x
     by_test rest true passes =
-      let same : y ≡ x = some_same y x (sym (ap (λ b. cond b (Some y) (find test xs)) passes) ∙ is) in
-      record { passes = ap test (sym same) ∙ passes; is_in = subst (λ z. IsIn (y ∷ xs) z) same (IsIn-head xs y) }
+        let same : y ≡ x = some_same y x (sym (ap (λ b. cond b (Some y) (find test xs)) passes) ∙ is) in
+        record { passes = ap test (sym same) ∙ passes; is_in = subst (λ z. IsIn (y ∷ xs) z) same (IsIn-head xs y) }
     by_test rest false fails =
-      let there = rest (sym (ap (λ b. cond b (Some y) (find test xs)) fails) ∙ is) in
-      record { passes = there.passes; is_in = IsIn-tail xs y x there.is_in }
+        let there = rest (sym (ap (λ b. cond b (Some y) (find test xs)) fails) ∙ is) in
+        record { passes = there.passes; is_in = IsIn-tail xs y x there.is_in }
 
 -- where it finds none, none passes
 pub found_none : {A : Type 0} (test : A → Bool) (xs : List A) → find test xs ≡ None → list_any test xs ≡ false

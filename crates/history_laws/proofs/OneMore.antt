@@ -1,18 +1,10 @@
 -- One more row: what it does to the tests of a list, and that a history stays sound where a navigable gets one.
-use Rattle.std.proofs.Common.{◌≡◌, ◌≢◌, ℕ, zero, suc, ◌+◌, ◌<◌, ◌≤◌, Bool, true, false, not, ◌&&◌, ◌||◌, cond, List, [], ◌∷◌, ◌++◌, refl, ap, sym, ◌∙◌, filter, arith, ◌⊎◌, inl, inr, Option, Some, None}
+use Rattle.std.proofs.Common.{◌≡◌, ℕ, ◌+◌, Bool, true, false, ◌||◌, cond, List, [], ◌∷◌, ◌++◌, refl, ap, sym, ◌∙◌, arith}
 use Rattle.std.specs.List.{list_any, count_by}
-use Rattle.std.specs.Option.{option_map_or, is_none}
-use Rattle.std.proofs.lemmas.Bool.{cases_Bool, or_cases, or_parts, true≢false, false≢true, not-true, and_parts, and_from, eqb-true, eq-eqb}
+use Rattle.std.proofs.lemmas.Bool.{or_parts}
 use Rattle.std.proofs.lemmas.List.Sums.{sum_by-cons, sum_by-append}
 use Rattle.std.proofs.lemmas.List.Folds.{list_any-append}
-use Rattle.tab_ids.specs.declared.NavId.{NavId}
-use Rattle.tab_ids.specs.declared.StateId.{StateId}
-use Rattle.tab_ids.specs.declared.EntryId.{EntryId}
 use Rattle.log_model.specs.declared.row.Row.{Row}
-use Rattle.log_model.specs.History.{History, same_entry, is_of, has_row, has_state}
-use Rattle.log_model.specs.Soundness.{is_entry, stands_at, is_in_state, is_owned_by, holds, hangs_on, is_free, IsRooted, IsSound, LeadsToTop}
-use Rattle.history_laws.proofs.Members.{or_right, IsIn, witness, Witness}
-use Rattle.history_laws.proofs.Tidying.{nav_same, state_same}
 
 -- the new list has one more row, somewhere
 pub record AddsRow (rows : List Row) (row : Row) (new : List Row) : Type 0 where
@@ -27,19 +19,19 @@ or_moves false false c = refl
 
 pub AddsRow-insert : (front back : List Row) (row : Row) → AddsRow (front ++ back) row (front ++ row ∷ back)
 AddsRow-insert front back row = record {
-    any = λ test. list_any-append test front (row ∷ back) ∙ or_moves (list_any test front) (test row) (list_any test back) ∙ ap (λ b. test row || b) (sym (list_any-append test front back));
-    count = λ test.
+  any = λ test. list_any-append test front (row ∷ back) ∙ or_moves (list_any test front) (test row) (list_any test back) ∙ ap (λ b. test row || b) (sym (list_any-append test front back));
+  count = λ test.
       let f : Row → ℕ = λ r. cond (test r) 1 0 in
       omega (arith, sum_by-append f front (row ∷ back), sum_by-cons f row back, sum_by-append f front back);
-  }
+}
 
 pub AddsRow-push : (rows : List Row) (row : Row) → AddsRow rows row (rows ++ row ∷ [])
 AddsRow-push rows row = record {
-    any = λ test. list_any-append test rows (row ∷ []) ∙ or_last (list_any test rows) (test row);
-    count = λ test.
+  any = λ test. list_any-append test rows (row ∷ []) ∙ or_last (list_any test rows) (test row);
+  count = λ test.
       let f : Row → ℕ = λ r. cond (test r) 1 0 in
       omega (arith, sum_by-append f rows (row ∷ []), sum_by-cons f row []);
-  }
+}
   where
     or_last : (a b : Bool) → (a || (b || false)) ≡ (b || a)
     or_last true true = refl

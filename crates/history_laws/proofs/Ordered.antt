@@ -1,7 +1,6 @@
 -- The order of rows: a row has one place in it, from wherever it comes.
-use Rattle.std.proofs.Common.{◌≡◌, ◌≢◌, ℕ, ◌+◌, ◌<◌, ◌≤◌, Bool, true, false, not, ◌&&◌, ◌||◌, cond, List, [], ◌∷◌, ◌++◌, refl, ap, sym, ◌∙◌, arith, ◌⊎◌, inl, inr}
-use Rattle.std.specs.List.{list_any}
-use Rattle.std.proofs.lemmas.Bool.{cases_Bool, or_cases, true≢false, false≢true, and_parts, and_from, eqb-true, eq-eqb, cases_order, lt-ltb, ltb-true, le-ltb, ne_eqb}
+use Rattle.std.proofs.Common.{◌≡◌, ◌≢◌, ◌<◌, true, false, not, List, [], ◌∷◌, ◌++◌, refl, ap, sym, ◌∙◌, arith, inl, inr}
+use Rattle.std.proofs.lemmas.Bool.{cases_Bool, false≢true, and_from, eq-eqb, lt-ltb}
 use Rattle.std.proofs.lemmas.Bool.Decides.{nat_tests}
 use Rattle.log_model.specs.declared.row.Row.{Row}
 use Rattle.log_model.specs.Order.{is_before, with_row, ordered}
@@ -40,10 +39,10 @@ one_here one other row rows one_row other_row =
   where
     behind : is_before other one ≡ false
     behind =
-      elim (cases_Bool (is_before other one)) [
-        | inl before ↦ absurd (false≢true (sym other_row ∙ is_before-trans other one row before one_row))
-        | inr isnt ↦ isnt
-      ]
+        elim (cases_Bool (is_before other one)) [
+          | inl before ↦ absurd (false≢true (sym other_row ∙ is_before-trans other one row before one_row))
+          | inr isnt ↦ isnt
+        ]
 
 pub with_row-with_row : (one other : Row) (rows : List Row) → AreApart one other → with_row one (with_row other rows) ≡ with_row other (with_row one rows)
 with_row-with_row one other [] apart =
@@ -54,23 +53,23 @@ with_row-with_row one other [] apart =
 with_row-with_row one other (row ∷ rows) apart =
     elim (cases_Bool (is_before one row)) [
       | inl one_row ↦
-        elim (cases_Bool (is_before other row)) [
-          | inl other_row ↦
-            elim (cases_Bool (is_before one other)) [
-              | inl before ↦ both_here one other row rows one_row other_row before (is_before-apart one other apart ∙ ap not before)
-              | inr behind ↦ sym (both_here other one row rows other_row one_row (is_before-apart one other apart ∙ ap not behind) behind)
-            ]
-          | inr other_past ↦ one_here one other row rows one_row other_past
-        ]
+          elim (cases_Bool (is_before other row)) [
+            | inl other_row ↦
+                elim (cases_Bool (is_before one other)) [
+                  | inl before ↦ both_here one other row rows one_row other_row before (is_before-apart one other apart ∙ ap not before)
+                  | inr behind ↦ sym (both_here other one row rows other_row one_row (is_before-apart one other apart ∙ ap not behind) behind)
+                ]
+            | inr other_past ↦ one_here one other row rows one_row other_past
+          ]
       | inr one_past ↦
-        elim (cases_Bool (is_before other row)) [
-          | inl other_row ↦ sym (one_here other one row rows other_row one_past)
-          | inr other_past ↦
-            ap (with_row one) (put_past other row rows other_past)
-            ∙ put_past one row (with_row other rows) one_past
-            ∙ ap (λ rest. row ∷ rest) (with_row-with_row one other rows apart)
-            ∙ sym (ap (with_row other) (put_past one row rows one_past) ∙ put_past other row (with_row one rows) other_past)
-        ]
+          elim (cases_Bool (is_before other row)) [
+            | inl other_row ↦ sym (one_here other one row rows other_row one_past)
+            | inr other_past ↦
+                ap (with_row one) (put_past other row rows other_past)
+                ∙ put_past one row (with_row other rows) one_past
+                ∙ ap (λ rest. row ∷ rest) (with_row-with_row one other rows apart)
+                ∙ sym (ap (with_row other) (put_past one row rows one_past) ∙ put_past other row (with_row one rows) other_past)
+          ]
     ]
 
 -- a row at the end, and a row anywhere

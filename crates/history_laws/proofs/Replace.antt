@@ -1,20 +1,19 @@
 -- What a replace does to a history: it stays sound.
-use Rattle.std.proofs.Common.{◌≡◌, ◌≢◌, ℕ, zero, suc, ◌+◌, ◌<◌, ◌≤◌, Bool, true, false, not, ◌&&◌, ◌||◌, cond, List, [], ◌∷◌, ◌++◌, refl, ap, sym, ◌∙◌, map, arith, ◌⊎◌, inl, inr, Option, Some, None, subst}
+use Rattle.std.proofs.Common.{◌≡◌, ℕ, Bool, true, false, ◌&&◌, ◌||◌, cond, List, [], ◌∷◌, ◌++◌, refl, ap, sym, ◌∙◌, map, arith, subst}
 use Rattle.std.specs.List.{list_any, count_by}
-use Rattle.std.proofs.lemmas.Bool.{cases_Bool, or_cases, or_parts, false≢true, and_parts, and_from, eqb-true, eq-eqb}
+use Rattle.std.proofs.lemmas.Bool.{or_parts, and_from}
 use Rattle.std.proofs.lemmas.List.Sums.{sum_by-cons}
 use Rattle.std.proofs.lemmas.List.{map-append}
 use Rattle.std.proofs.lemmas.List.Folds.{list_any-append}
 use Rattle.tab_ids.specs.declared.NavId.{NavId}
-use Rattle.tab_ids.specs.declared.StateId.{StateId}
 use Rattle.tab_ids.specs.declared.EntryId.{EntryId}
 use Rattle.log_model.specs.declared.row.Row.{Row}
-use Rattle.log_model.specs.History.{History, same_entry, is_of, has_state, tidied, replaced_row}
-use Rattle.log_model.specs.Soundness.{is_entry, stands_at, is_in_state, holds, IsRooted, IsSound}
-use Rattle.history_laws.proofs.Members.{or_right, IsIn, IsIn-head, IsIn-tail, witness, list_any-none, none_passes}
+use Rattle.log_model.specs.History.{History, same_entry, is_of, tidied, replaced_row}
+use Rattle.log_model.specs.Soundness.{is_entry, stands_at, holds, IsRooted, IsSound}
+use Rattle.history_laws.proofs.Members.{or_right, IsIn, IsIn-head, IsIn-tail, none_passes}
 use Rattle.history_laws.proofs.Rooted.{IsSound-tidied}
-use Rattle.history_laws.proofs.OneMore.{AddsRow, AddsRow-insert, AddsRow-push, count_by-none}
-use Rattle.history_laws.proofs.Joining.{IsLike, Joins-added, IsRooted-joined, one_at_most, entry_same}
+use Rattle.history_laws.proofs.OneMore.{AddsRow, AddsRow-insert, AddsRow-push}
+use Rattle.history_laws.proofs.Joining.{Joins-added, IsRooted-joined, one_at_most, entry_same}
 
 -- no one is counted, so none passes
 pub list_any-zero : {A : Type 0} (test : A → Bool) (xs : List A) → count_by test xs ≡ 0 → list_any test xs ≡ false
@@ -56,8 +55,8 @@ module _ (history : History) (sound : IsSound history) (front back : List Row) (
   pub replaced_whole : IsRooted whole
   replaced_whole =
       IsRooted-joined history.rows new.nav new.state whole
-        (Joins-added history.rows new whole whole_adds (record { it = old; is_in = there; nav = nav_same; owner = owner_same }))
-        sound.rooted sound.anchored mine
+      (Joins-added history.rows new whole whole_adds (record { it = old; is_in = there; nav = nav_same; owner = owner_same }))
+      sound.rooted sound.anchored mine
 
   or_part : (a b c : Bool) → (a || b) ≡ true → (a || (c || b)) ≡ true
   or_part true b c any = refl
@@ -75,15 +74,15 @@ module _ (history : History) (sound : IsSound history) (front back : List Row) (
   pub IsSound-replaced : (current : ℕ) (added : List NavId) → IsSound (record { rows = tidied put; current = current; added = added })
   IsSound-replaced current added =
       IsSound-tidied whole replaced_whole put replaced_part current added
-        (λ entry. one_at_most rest new put new_adds (is_entry entry)
-          (omega (arith, sound.entries entry, old_adds.count (is_entry entry)))
-          (λ is. (or_parts (is_entry entry old) (list_any (is_entry entry) rest) (sym (old_adds.any (is_entry entry)) ∙ subst (λ (e : EntryId). list_any (is_entry e) history.rows ≡ false) (entry_same new.entry entry is) entry_is_new)).1))
-        (λ nav step. omega (arith, sound.steps nav step, old_adds.count (stands_at nav step), new_adds.count (stands_at nav step), ap {B = ℕ} (λ b. cond b 1 0) (stands_same nav step)))
-        (λ nav zero_is. new_adds.any (stands_at nav 0) ∙ ap (λ b. b || list_any (stands_at nav 0) rest) (stands_same nav 0) ∙ sym (old_adds.any (stands_at nav 0)) ∙ sound.top_row nav zero_is)
+      (λ entry. one_at_most rest new put new_adds (is_entry entry)
+      (omega (arith, sound.entries entry, old_adds.count (is_entry entry)))
+      (λ is. (or_parts (is_entry entry old) (list_any (is_entry entry) rest) (sym (old_adds.any (is_entry entry)) ∙ subst (λ (e : EntryId). list_any (is_entry e) history.rows ≡ false) (entry_same new.entry entry is) entry_is_new)).1))
+      (λ nav step. omega (arith, sound.steps nav step, old_adds.count (stands_at nav step), new_adds.count (stands_at nav step), ap {B = ℕ} (λ b. cond b 1 0) (stands_same nav step)))
+      (λ nav zero_is. new_adds.any (stands_at nav 0) ∙ ap (λ b. b || list_any (stands_at nav 0) rest) (stands_same nav 0) ∙ sym (old_adds.any (stands_at nav 0)) ∙ sound.top_row nav zero_is)
 
 -- the definition changes that row alone
 pub replaced-split : (history : History) → IsSound history → (front back : List Row) (old new : Row) (over : EntryId) → history.rows ≡ front ++ old ∷ back → same_entry old.entry over ≡ true → is_of new.nav old ≡ true
-  → map (replaced_row over new) history.rows ≡ front ++ record new { owner = old.owner; step = old.step } ∷ back
+    → map (replaced_row over new) history.rows ≡ front ++ record new { owner = old.owner; step = old.step } ∷ back
 replaced-split history sound front back old new over was same mine =
     ap (map (replaced_row over new)) was ∙ map-append (replaced_row over new) front (old ∷ back)
     ∙ ap (λ rows. rows ++ map (replaced_row over new) (old ∷ back)) (map-same (replaced_row over new) front (λ row is_in. stays row (λ test passes. in_front test row is_in passes)))

@@ -1,17 +1,17 @@
 -- Soundness through tidying.
-use Rattle.std.proofs.Common.{◌≡◌, ◌≢◌, ℕ, zero, suc, ◌+◌, ◌<◌, ◌≤◌, Bool, true, false, not, ◌&&◌, ◌||◌, cond, List, [], ◌∷◌, ◌++◌, refl, ap, sym, ◌∙◌, filter, arith, ◌⊎◌, inl, inr, Option, Some, None}
+use Rattle.std.proofs.Common.{◌≡◌, ℕ, ◌≤◌, Bool, true, false, not, ◌&&◌, ◌||◌, cond, List, [], ◌∷◌, refl, ap, sym, ◌∙◌, filter, arith, inl, inr, Option, Some, None}
 use Rattle.std.specs.List.{list_any, count_by}
-use Rattle.std.specs.Option.{option_map_or, is_none}
-use Rattle.std.proofs.lemmas.Bool.{cases_Bool, or_cases, true≢false, false≢true, not-true, and_parts, and_from, eqb-true, eq-eqb}
+use Rattle.std.specs.Option.{option_map_or}
+use Rattle.std.proofs.lemmas.Bool.{cases_Bool, or_cases, false≢true, not-true, and_parts, and_from, eqb-true, eq-eqb}
 use Rattle.std.proofs.lemmas.List.Sums.{sum_by-cons}
 use Rattle.tab_ids.specs.declared.NavId.{NavId}
 use Rattle.tab_ids.specs.declared.StateId.{StateId}
 use Rattle.tab_ids.specs.declared.EntryId.{EntryId}
 use Rattle.log_model.specs.declared.row.Row.{Row}
-use Rattle.log_model.specs.History.{History, is_of, has_row, has_state, is_anchored, tidied}
-use Rattle.log_model.specs.Soundness.{is_entry, stands_at, is_in_state, is_owned_by, holds, hangs_on, is_free, IsRooted, IsSound, LeadsToTop}
-use Rattle.history_laws.proofs.Members.{or_right, IsIn, witness, Witness}
-use Rattle.history_laws.proofs.Tidying.{nav_same, state_same, held, hung, free, IsIn-tidied, IsIn-into_tidied, tidied-anchored, tidied-filter}
+use Rattle.log_model.specs.History.{is_of, has_row, has_state, is_anchored, tidied}
+use Rattle.log_model.specs.Soundness.{is_entry, stands_at, is_in_state, is_owned_by, holds, hangs_on, IsRooted, IsSound, LeadsToTop}
+use Rattle.history_laws.proofs.Members.{or_right, IsIn, witness}
+use Rattle.history_laws.proofs.Tidying.{nav_same, state_same, hung, free, IsIn-tidied, IsIn-into_tidied, tidied-anchored, tidied-filter}
 
 -- a filter has no more of a kind
 pub count_by-filter : {A : Type 0} (p q : A → Bool) (xs : List A) → count_by p (filter q xs) ≤ count_by p xs
@@ -56,25 +56,25 @@ module _ (whole : List Row) (rooted : IsRooted whole) (rows : List Row) (part : 
 
       there_below : (child parent : NavId) (owner : StateId) → hangs_on child owner whole ≡ true → holds parent owner whole ≡ true → passes_where_rows (tidied rows) test parent ≡ true → passes_where_rows (tidied rows) test child ≡ true
       there_below child parent owner hangs held_by above =
-        elim (cases_Bool (has_row child (tidied rows))) [
-          | inl has_child ↦ or_right (not (has_row child (tidied rows))) (test child) (below has_child)
-          | inr none ↦ rw none refl
-        ]
+          elim (cases_Bool (has_row child (tidied rows))) [
+            | inl has_child ↦ or_right (not (has_row child (tidied rows))) (test child) (below has_child)
+            | inr none ↦ rw none refl
+          ]
         where
           below : has_row child (tidied rows) ≡ true → test child ≡ true
           below has_child =
-            let w = witness (is_of child) (tidied rows) has_child in
-            let hangs_left = hangs_by w.it w.is_in (eqb-true w.it.nav.0 child.0 w.passes) in
-            let v = witness (is_in_state owner) (tidied rows) (tidied-has_owner child owner hangs_left) in
-            let holds_at : holds v.it.nav owner whole ≡ true = kept_part v.it v.is_in (λ r. is_of v.it.nav r && is_in_state owner r) (and_from _ _ (eq-eqb v.it.nav.0 v.it.nav.0 refl) v.passes) in
-            let is_parent = nav_same v.it.nav parent (rooted.states owner v.it.nav parent holds_at held_by) in
-            let of_parent : is_of parent v.it ≡ true = eq-eqb v.it.nav.0 parent.0 (ap (λ (n : NavId). n.0) is_parent) in
-            let has_parent : has_row parent (tidied rows) ≡ true = v.is_in (is_of parent) of_parent in
-            let holds_left : holds parent owner (tidied rows) ≡ true = v.is_in (λ r. is_of parent r && is_in_state owner r) (and_from _ _ of_parent v.passes) in
-            elim (or_cases (not (has_row parent (tidied rows))) (test parent) above) [
-              | inl gone ↦ absurd (false≢true (sym (not-true (has_row parent (tidied rows)) gone) ∙ has_parent))
-              | inr passes ↦ step child parent owner hangs_left holds_left passes
-            ]
+              let w = witness (is_of child) (tidied rows) has_child in
+              let hangs_left = hangs_by w.it w.is_in (eqb-true w.it.nav.0 child.0 w.passes) in
+              let v = witness (is_in_state owner) (tidied rows) (tidied-has_owner child owner hangs_left) in
+              let holds_at : holds v.it.nav owner whole ≡ true = kept_part v.it v.is_in (λ r. is_of v.it.nav r && is_in_state owner r) (and_from _ _ (eq-eqb v.it.nav.0 v.it.nav.0 refl) v.passes) in
+              let is_parent = nav_same v.it.nav parent (rooted.states owner v.it.nav parent holds_at held_by) in
+              let of_parent : is_of parent v.it ≡ true = eq-eqb v.it.nav.0 parent.0 (ap (λ (n : NavId). n.0) is_parent) in
+              let has_parent : has_row parent (tidied rows) ≡ true = v.is_in (is_of parent) of_parent in
+              let holds_left : holds parent owner (tidied rows) ≡ true = v.is_in (λ r. is_of parent r && is_in_state owner r) (and_from _ _ of_parent v.passes) in
+              elim (or_cases (not (has_row parent (tidied rows))) (test parent) above) [
+                | inl gone ↦ absurd (false≢true (sym (not-true (has_row parent (tidied rows)) gone) ∙ has_parent))
+                | inr passes ↦ step child parent owner hangs_left holds_left passes
+              ]
             where
               hangs_by : (row : Row) → IsIn (tidied rows) row → row.nav.0 ≡ child.0 → hangs_on child owner (tidied rows) ≡ true
               hangs_by row kept navs = by_owner row kept navs row.owner refl
@@ -82,39 +82,39 @@ module _ (whole : List Row) (rooted : IsRooted whole) (rows : List Row) (part : 
                   by_owner : (row : Row) → IsIn (tidied rows) row → row.nav.0 ≡ child.0 → (mine : Option StateId) → row.owner ≡ mine → hangs_on child owner (tidied rows) ≡ true
                   by_owner row kept navs None is = absurd (rooted.top_owner child owner hangs (sym navs ∙ rooted.child_owner row.nav (free whole rooted row is (kept_part row kept))))
                   by_owner row kept navs (Some mine) is =
-                    let hangs_mine : hangs_on child mine whole ≡ true = rw (sym (nav_same row.nav child navs)) (hung whole rooted row mine is (kept_part row kept)) in
-                    kept (λ r. is_of child r && is_owned_by owner r) (and_from _ _ (eq-eqb row.nav.0 child.0 navs) (rw is (eq-eqb mine.0 owner.0 (rooted.owners child mine owner hangs_mine hangs))))
+                      let hangs_mine : hangs_on child mine whole ≡ true = rw (sym (nav_same row.nav child navs)) (hung whole rooted row mine is (kept_part row kept)) in
+                      kept (λ r. is_of child r && is_owned_by owner r) (and_from _ _ (eq-eqb row.nav.0 child.0 navs) (rw is (eq-eqb mine.0 owner.0 (rooted.owners child mine owner hangs_mine hangs))))
 
   pub IsRooted-tidied : IsRooted (tidied rows)
   IsRooted-tidied = record {
-      owners = λ nav one other hangs hangs_too. rooted.owners nav one other (up _ hangs) (up _ hangs_too);
-      top_owner = λ nav owner hangs. rooted.top_owner nav owner (up _ hangs);
-      child_owner = λ nav is. rooted.child_owner nav (up _ is);
-      states = λ state one other held_one held_other. rooted.states state one other (up _ held_one) (up _ held_other);
-      another = λ nav owner hangs.
+    owners = λ nav one other hangs hangs_too. rooted.owners nav one other (up _ hangs) (up _ hangs_too);
+    top_owner = λ nav owner hangs. rooted.top_owner nav owner (up _ hangs);
+    child_owner = λ nav is. rooted.child_owner nav (up _ is);
+    states = λ state one other held_one held_other. rooted.states state one other (up _ held_one) (up _ held_other);
+    another = λ nav owner hangs.
         elim (cases_Bool (holds nav owner (tidied rows))) [
           | inl holds_too ↦ absurd (false≢true (sym (rooted.another nav owner (up _ hangs)) ∙ up _ holds_too))
           | inr apart ↦ apart
         ];
-      leads = leads_on;
-    }
+    leads = leads_on;
+  }
 
   -- a sound history, of the rows that tidying keeps
   pub IsSound-tidied : (current : ℕ) (added : List NavId)
-    → ((entry : EntryId) → count_by (is_entry entry) rows ≤ 1)
-    → ((nav : NavId) (step : ℕ) → count_by (stands_at nav step) rows ≤ 1)
-    → ((nav : NavId) → nav.0 ≡ 0 → list_any (stands_at nav 0) rows ≡ true)
-    → IsSound (record { rows = tidied rows; current = current; added = added })
+      → ((entry : EntryId) → count_by (is_entry entry) rows ≤ 1)
+      → ((nav : NavId) (step : ℕ) → count_by (stands_at nav step) rows ≤ 1)
+      → ((nav : NavId) → nav.0 ≡ 0 → list_any (stands_at nav 0) rows ≡ true)
+      → IsSound (record { rows = tidied rows; current = current; added = added })
   IsSound-tidied current added entries steps top_row = record {
-      entries = λ entry. omega (arith, fewer (is_entry entry), entries entry);
-      steps = λ nav step. omega (arith, fewer (stands_at nav step), steps nav step);
-      rooted = IsRooted-tidied;
-      top_row = λ nav zero_is.
+    entries = λ entry. omega (arith, fewer (is_entry entry), entries entry);
+    steps = λ nav step. omega (arith, fewer (stands_at nav step), steps nav step);
+    rooted = IsRooted-tidied;
+    top_row = λ nav zero_is.
         let w = witness (stands_at nav 0) rows (top_row nav zero_is) in
         let both = and_parts (is_of nav w.it) (lib.Dec.eqb w.it.step.0 0) w.passes in
         IsIn-into_tidied rows w.it w.is_in (top_stays w.it w.is_in (eqb-true w.it.nav.0 nav.0 both.0 ∙ zero_is) w.it.owner refl) (stands_at nav 0) w.passes;
-      anchored = tidied-has_owner;
-    }
+    anchored = tidied-has_owner;
+  }
     where
       fewer : (p : Row → Bool) → count_by p (tidied rows) ≤ count_by p rows
       fewer p = rw (tidied-filter rows) (count_by-filter p (is_anchored (tidied rows)) rows)

@@ -1,14 +1,14 @@
 -- Tidying a list of rows: it keeps the rows whose owner is a kept row's document state.
-use Rattle.std.proofs.Common.{◌≡◌, ℕ, zero, suc, ◌+◌, ◌<◌, ◌≤◌, Bool, true, false, not, ◌&&◌, ◌||◌, cond, List, [], ◌∷◌, ◌++◌, length, refl, ap, sym, ◌∙◌, filter, arith, ◌⊎◌, inl, inr, Option, Some, None}
+use Rattle.std.proofs.Common.{◌≡◌, ℕ, zero, suc, ◌<◌, ◌≤◌, Bool, true, false, not, ◌&&◌, ◌||◌, cond, List, [], ◌∷◌, length, refl, ap, sym, ◌∙◌, filter, arith, ◌⊎◌, inl, inr, Option, Some, None}
 use Rattle.std.specs.List.{list_any}
 use Rattle.std.specs.Option.{option_map_or, is_none}
-use Rattle.std.proofs.lemmas.Bool.{cases_Bool, or_cases, and_right, true≢false, false≢true, not-true, not-false, and_parts, and_from, eqb-true, eq-eqb}
+use Rattle.std.proofs.lemmas.Bool.{cases_Bool, or_cases, and_right, false≢true, not-true, and_parts, and_from, eqb-true, eq-eqb}
 use Rattle.tab_ids.specs.declared.NavId.{NavId}
 use Rattle.tab_ids.specs.declared.StateId.{StateId}
 use Rattle.log_model.specs.declared.row.Row.{Row}
-use Rattle.log_model.specs.History.{is_of, has_row, has_state, is_anchored, tidied_once, tidied_times, tidied}
-use Rattle.log_model.specs.Soundness.{is_in_state, is_owned_by, holds, hangs_on, is_free, IsRooted, LeadsToTop}
-use Rattle.history_laws.proofs.Members.{or_right, witness, list_any-none, list_any-filter, IsIn-filter_passes, IsIn-into_filter, IsIn, filter-same, filter-filter, IsIn-filter}
+use Rattle.log_model.specs.History.{is_of, has_state, is_anchored, tidied_once, tidied_times, tidied}
+use Rattle.log_model.specs.Soundness.{is_in_state, is_owned_by, holds, hangs_on, is_free, IsRooted}
+use Rattle.history_laws.proofs.Members.{or_right, witness, list_any-none, IsIn-filter_passes, IsIn-into_filter, IsIn, filter-same, filter-filter, IsIn-filter}
 
 -- ---- it comes to an end
 
@@ -138,10 +138,10 @@ module _ (whole : List Row) (rooted : IsRooted whole) where
     pub closed-none : (state : StateId) → has_state state rows ≡ false → l state ≡ false
     closed-none state none =
         closed state ∙ list_any-none (is_in_state state) (filter (is_anchored_by l) rows) (λ row kept.
-          elim (cases_Bool (is_in_state state row)) [
-            | inl is ↦ absurd (false≢true (sym none ∙ IsIn-filter (is_anchored_by l) rows row kept (is_in_state state) is))
-            | inr isnt ↦ isnt
-          ])
+        elim (cases_Bool (is_in_state state row)) [
+          | inl is ↦ absurd (false≢true (sym none ∙ IsIn-filter (is_anchored_by l) rows row kept (is_in_state state) is))
+          | inr isnt ↦ isnt
+        ])
 
     -- one that a row has passes where a row with it is anchored
     pub closed-state : (row : Row) → IsIn whole row → has_state row.state rows ≡ true → l row.state ≡ is_anchored_by l row
@@ -156,12 +156,12 @@ module _ (whole : List Row) (rooted : IsRooted whole) where
             IsIn-into_filter (is_anchored_by l) rows w.it w.is_in (same w.it w.is_in w.passes ∙ anchored) (is_in_state row.state) w.passes
         by_anchor false loose =
             list_any-none (is_in_state row.state) (filter (is_anchored_by l) rows) (λ other kept.
-              elim (cases_Bool (is_in_state row.state other)) [
-                | inl is ↦
+            elim (cases_Bool (is_in_state row.state other)) [
+              | inl is ↦
                   let too = IsIn-filter (is_anchored_by l) rows other kept in
                   absurd (false≢true (sym loose ∙ sym (same other too is) ∙ IsIn-filter_passes (is_anchored_by l) rows other kept))
-                | inr isnt ↦ isnt
-              ])
+              | inr isnt ↦ isnt
+            ])
 
 agree : Bool → Bool → Bool
 agree true b = b
@@ -203,12 +203,12 @@ module _ (whole : List Row) (rooted : IsRooted whole) (rows : List Row) (part : 
   agrees nav = not (list_any (λ row. not (agrees_at nav row)) whole)
 
   agrees-from : (nav : NavId) → ((row : Row) → IsIn whole row → row.nav.0 ≡ nav.0 → l row.state ≡ m row.state) → agrees nav ≡ true
-  agrees-from nav same = 
+  agrees-from nav same =
       each_row_passes (agrees_at nav) whole (λ row there.
-        elim (cases_Bool (is_of nav row)) [
-          | inl mine ↦ or_right (not (is_of nav row)) (agree (l row.state) (m row.state)) (same-agree (l row.state) (m row.state) (same row there (eqb-true row.nav.0 nav.0 mine)))
-          | inr others ↦ rw others refl
-        ])
+      elim (cases_Bool (is_of nav row)) [
+        | inl mine ↦ or_right (not (is_of nav row)) (agree (l row.state) (m row.state)) (same-agree (l row.state) (m row.state) (same row there (eqb-true row.nav.0 nav.0 mine)))
+        | inr others ↦ rw others refl
+      ])
 
   agrees-at : (nav : NavId) → agrees nav ≡ true → (row : Row) → IsIn whole row → row.nav.0 ≡ nav.0 → l row.state ≡ m row.state
   agrees-at nav all row there navs =
@@ -229,26 +229,26 @@ module _ (whole : List Row) (rooted : IsRooted whole) (rows : List Row) (part : 
     where
       above : l owner ≡ m owner
       above =
-        let w = witness (λ row. is_of parent row && is_in_state owner row) whole held_by in
-        let both = and_parts (is_of parent w.it) (is_in_state owner w.it) w.passes in
-        rw (sym (state_same w.it.state owner (eqb-true w.it.state.0 owner.0 both.1))) (agrees-at parent agrees_above w.it w.is_in (eqb-true w.it.nav.0 parent.0 both.0))
+          let w = witness (λ row. is_of parent row && is_in_state owner row) whole held_by in
+          let both = and_parts (is_of parent w.it) (is_in_state owner w.it) w.passes in
+          rw (sym (state_same w.it.state owner (eqb-true w.it.state.0 owner.0 both.1))) (agrees-at parent agrees_above w.it w.is_in (eqb-true w.it.nav.0 parent.0 both.0))
 
       by_owner : (row : Row) → IsIn whole row → row.nav.0 ≡ child.0 → (mine : Option StateId) → row.owner ≡ mine → option_map_or l mine true ≡ option_map_or m mine true
       by_owner row there navs None is = refl
       by_owner row there navs (Some mine) is =
-        let hangs_too : hangs_on child mine whole ≡ true = rw (sym (nav_same row.nav child navs)) (hung whole rooted row mine is there) in
-        rw (state_same mine owner (rooted.owners child mine owner hangs_too hangs)) above
+          let hangs_too : hangs_on child mine whole ≡ true = rw (sym (nav_same row.nav child navs)) (hung whole rooted row mine is there) in
+          rw (state_same mine owner (rooted.owners child mine owner hangs_too hangs)) above
 
   -- two tests that are closed over the rows agree
   pub closed-same : (state : StateId) → l state ≡ m state
   closed-same state =
       elim (cases_Bool (has_state state rows)) [
         | inl any ↦
-          let w = witness (is_in_state state) rows any in
-          let there = part w.it w.is_in in
-          let agreed = rooted.leads w.it.nav (there (is_of w.it.nav) (eq-eqb w.it.nav.0 w.it.nav.0 refl)) agrees at_top at_child in
-          let same = agrees-at w.it.nav agreed w.it there refl in
-          rw (sym (state_same w.it.state state (eqb-true w.it.state.0 state.0 w.passes))) same
+            let w = witness (is_in_state state) rows any in
+            let there = part w.it w.is_in in
+            let agreed = rooted.leads w.it.nav (there (is_of w.it.nav) (eq-eqb w.it.nav.0 w.it.nav.0 refl)) agrees at_top at_child in
+            let same = agrees-at w.it.nav agreed w.it there refl in
+            rw (sym (state_same w.it.state state (eqb-true w.it.state.0 state.0 w.passes))) same
         | inr none ↦ closed-none whole rooted rows part l closed_l state none ∙ sym (closed-none whole rooted rows part m closed_m state none)
       ]
 

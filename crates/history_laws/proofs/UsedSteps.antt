@@ -1,6 +1,5 @@
 -- The used steps: a row's step has one place among them, from wherever the row comes.
-use Rattle.std.proofs.Common.{◌≡◌, ◌≢◌, ℕ, ◌+◌, ◌<◌, ◌≤◌, Bool, true, false, not, ◌&&◌, ◌||◌, cond, List, [], ◌∷◌, ◌++◌, refl, ap, sym, ◌∙◌, arith, ◌⊎◌, inl, inr, fold, append_assoc}
-use Rattle.std.specs.List.{list_any}
+use Rattle.std.proofs.Common.{◌≡◌, ℕ, ◌<◌, List, [], ◌∷◌, ◌++◌, refl, ap, sym, ◌∙◌, arith, inl, inr, fold, append_assoc}
 use Rattle.std.proofs.lemmas.List.{append-nil}
 use Rattle.std.proofs.lemmas.Bool.{cases_order, lt-ltb, le-ltb, eq-eqb, ne_eqb}
 use Rattle.log_model.specs.declared.row.Row.{Row}
@@ -21,35 +20,35 @@ lower_first one other [] lower = put_here one other [] lower ∙ sym (put_past o
 lower_first one other (step ∷ steps) lower =
     elim (cases_order one step) [
       | inl one_there ↦
-        ap (with_step one) (put_past other step steps (omega (arith, one_there, lower)))
-        ∙ put_there one step (with_step other steps) one_there
-        ∙ sym (ap (with_step other) (put_there one step steps one_there) ∙ put_past other step steps (omega (arith, one_there, lower)))
+          ap (with_step one) (put_past other step steps (omega (arith, one_there, lower)))
+          ∙ put_there one step (with_step other steps) one_there
+          ∙ sym (ap (with_step other) (put_there one step steps one_there) ∙ put_past other step steps (omega (arith, one_there, lower)))
       | inr apart ↦
-        elim apart [
-          | inl one_here ↦
-            elim (cases_order other step) [
-              | inl other_there ↦
-                ap (with_step one) (put_there other step steps other_there)
-                ∙ put_here one step steps one_here
-                ∙ sym (ap (with_step other) (put_here one step steps one_here) ∙ put_past other one (step ∷ steps) lower ∙ ap (λ rest. one ∷ rest) (put_there other step steps other_there))
-              | inr other_apart ↦
-                elim other_apart [
-                  | inl other_here ↦
-                    ap (with_step one) (put_here other step steps other_here)
-                    ∙ put_here one other (step ∷ steps) lower
-                    ∙ sym (ap (with_step other) (put_here one step steps one_here) ∙ put_past other one (step ∷ steps) lower ∙ ap (λ rest. one ∷ rest) (put_here other step steps other_here))
-                  | inr other_past ↦
-                    ap (with_step one) (put_past other step steps other_past)
-                    ∙ put_here one step (with_step other steps) one_here
-                    ∙ sym (ap (with_step other) (put_here one step steps one_here) ∙ put_past other one (step ∷ steps) lower ∙ ap (λ rest. one ∷ rest) (put_past other step steps other_past))
+          elim apart [
+            | inl one_here ↦
+                elim (cases_order other step) [
+                  | inl other_there ↦
+                      ap (with_step one) (put_there other step steps other_there)
+                      ∙ put_here one step steps one_here
+                      ∙ sym (ap (with_step other) (put_here one step steps one_here) ∙ put_past other one (step ∷ steps) lower ∙ ap (λ rest. one ∷ rest) (put_there other step steps other_there))
+                  | inr other_apart ↦
+                      elim other_apart [
+                        | inl other_here ↦
+                            ap (with_step one) (put_here other step steps other_here)
+                            ∙ put_here one other (step ∷ steps) lower
+                            ∙ sym (ap (with_step other) (put_here one step steps one_here) ∙ put_past other one (step ∷ steps) lower ∙ ap (λ rest. one ∷ rest) (put_here other step steps other_here))
+                        | inr other_past ↦
+                            ap (with_step one) (put_past other step steps other_past)
+                            ∙ put_here one step (with_step other steps) one_here
+                            ∙ sym (ap (with_step other) (put_here one step steps one_here) ∙ put_past other one (step ∷ steps) lower ∙ ap (λ rest. one ∷ rest) (put_past other step steps other_past))
+                      ]
                 ]
-            ]
-          | inr one_past ↦
-            ap (with_step one) (put_past other step steps (omega (arith, one_past, lower)))
-            ∙ put_past one step (with_step other steps) one_past
-            ∙ ap (λ rest. step ∷ rest) (lower_first one other steps lower)
-            ∙ sym (ap (with_step other) (put_past one step steps one_past) ∙ put_past other step (with_step one steps) (omega (arith, one_past, lower)))
-        ]
+            | inr one_past ↦
+                ap (with_step one) (put_past other step steps (omega (arith, one_past, lower)))
+                ∙ put_past one step (with_step other steps) one_past
+                ∙ ap (λ rest. step ∷ rest) (lower_first one other steps lower)
+                ∙ sym (ap (with_step other) (put_past one step steps one_past) ∙ put_past other step (with_step one steps) (omega (arith, one_past, lower)))
+          ]
     ]
 
 pub with_step-with_step : (one other : ℕ) (steps : List ℕ) → with_step one (with_step other steps) ≡ with_step other (with_step one steps)
@@ -57,10 +56,10 @@ with_step-with_step one other steps =
     elim (cases_order one other) [
       | inl same ↦ rw same refl
       | inr apart ↦
-        elim apart [
-          | inl lower ↦ lower_first one other steps lower
-          | inr higher ↦ sym (lower_first other one steps higher)
-        ]
+          elim apart [
+            | inl lower ↦ lower_first one other steps lower
+            | inr higher ↦ sym (lower_first other one steps higher)
+          ]
     ]
 
 -- a row at the end, and a row anywhere

@@ -1,4 +1,4 @@
-use Rattle.std.proofs.Common.{◌≡◌, ap, ◌∙◌, List, None, fold}
+use Rattle.std.proofs.Common.{ap, ◌∙◌, List, None, fold}
 use Rattle.std.proofs.lemmas.List.{take_all}
 use Rattle.entry_store.specs.declared.nest.Nest.{Nest}
 use Rattle.entry_store.specs.Nested.{rows_of}

@@ -1,4 +1,4 @@
-use Rattle.std.proofs.Common.{◌≡◌, ap, sym, ◌∙◌, ◌++◌, ◌∷◌, [], cond}
+use Rattle.std.proofs.Common.{ap, ◌∙◌, ◌++◌, ◌∷◌, [], cond}
 use Rattle.entry_store.proofs.AddLaw.{has_nav-turned}
 use Rattle.entry_store.proofs.add.note_added.Goals as goal
 

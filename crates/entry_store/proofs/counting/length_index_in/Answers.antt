@@ -1,4 +1,4 @@
-use Rattle.std.proofs.Common.{◌≡◌, ◌<◌, ℕ, subst, sym, length, filter}
+use Rattle.std.proofs.Common.{◌<◌, ℕ, subst, sym}
 use Rattle.std.specs.Prelude.{nat_lt}
 use Rattle.entry_store.specs.Kept.{history_in}
 use Rattle.entry_store.proofs.StepBounds.{used_fits, index_fits}

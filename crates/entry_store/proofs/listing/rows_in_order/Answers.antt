@@ -1,4 +1,4 @@
-use Rattle.std.proofs.Common.{◌≡◌, ap, ◌∙◌, List, fold, []}
+use Rattle.std.proofs.Common.{ap, ◌∙◌, List, fold, []}
 use Rattle.std.specs.Map.{values_of}
 use Rattle.entry_store.specs.declared.nest.Nest.{Nest}
 use Rattle.entry_store.specs.Nested.{rows_of}

@@ -1,4 +1,3 @@
-use Rattle.std.proofs.Common.{◌≡◌, ap, sym, ◌∙◌}
 use Rattle.entry_store.specs.declared.nest.Nest.{Nest}
 use Rattle.entry_store.proofs.Placing.{same_rows, row_put, OnErr-any}
 use Rattle.entry_store.proofs.place.put_row.Goals as goal

@@ -9,5 +9,5 @@ returns-in-None-clause-refused c =
 pub returns-in_ok-note-in-Some-clause-ok : goal.returns-in_ok-note-in-Some-clause-ok
 returns-in_ok-note-in-Some-clause-ok c =
     planned c.args.lists.now c.args.nav c.args.entry c.deref.result.now c.deref-2.result.now c.deref.ensures.value c.deref-2.ensures.value c.in_ok-left.left.states.keys c.in_ok-left.ensures.held
-      c.args.state c.args.address.now c.args.memo.now c.in-Some.place c.in_ok-row-in-Some.row c.in-Some.owner c.note.new.self.states.keys c.in_ok-left.left.steps.keys c.note.new.self.steps.keys
-      c.in_ok-left.ensures.steps c.in-Some.ensures.within c.in-Some.ensures.owner c.in_ok-row-in-Some.ensures c.note.ensures.states c.in_ok-note-in-Some.ensures.steps
+    c.args.state c.args.address.now c.args.memo.now c.in-Some.place c.in_ok-row-in-Some.row c.in-Some.owner c.note.new.self.states.keys c.in_ok-left.left.steps.keys c.note.new.self.steps.keys
+    c.in_ok-left.ensures.steps c.in-Some.ensures.within c.in-Some.ensures.owner c.in_ok-row-in-Some.ensures c.note.ensures.states c.in_ok-note-in-Some.ensures.steps

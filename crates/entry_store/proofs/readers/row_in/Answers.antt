@@ -1,7 +1,6 @@
 use Rattle.std.proofs.Common.{sym, ap, ◌∙◌}
 use Rattle.log_model.specs.Soundness.{is_entry}
 use Rattle.entry_store.proofs.Reading.{first_here, first_later}
-use Rattle.log_model.specs.declared.row.Row.{Row}
 use Rattle.log_model.specs.History.{row_of}
 use Rattle.entry_store.proofs.readers.row_in.Goals as goal
 

@@ -1,8 +1,6 @@
-use Rattle.std.proofs.Common.{◌≡◌, sym, ap, ◌∙◌, Option, Some, None}
+use Rattle.std.proofs.Common.{sym, ap, ◌∙◌, Option}
 use Rattle.std.specs.Option.{option_copied, option_map}
 use Rattle.log_model.specs.declared.row.Row.{Row}
-use Rattle.log_model.specs.History.{target_entry}
-use Rattle.entry_store.specs.Nested.{rows_of}
 use Rattle.entry_store.proofs.Reading.{target_by_list}
 use Rattle.entry_store.proofs.readers.target_in.Goals as goal
 

@@ -1,4 +1,4 @@
-use Rattle.std.proofs.Common.{◌≡◌, ◌<◌, length, filter, get_or, ap, sym, ◌∙◌, arith}
+use Rattle.std.proofs.Common.{◌<◌, length, arith}
 use Rattle.entry_store.specs.declared.nest.Nest.{Nest}
 use Rattle.entry_store.specs.Nested.{stays}
 use Rattle.entry_store.proofs.Sweeping.{swept_rest, swept_more}

@@ -1,4 +1,4 @@
-use Rattle.std.proofs.Common.{◌≡◌, sym}
+use Rattle.std.proofs.Common.{sym}
 use Rattle.log_model.specs.Soundness.{is_entry}
 use Rattle.history_laws.proofs.Members.{found_none}
 use Rattle.entry_store.specs.Held.{history_held}

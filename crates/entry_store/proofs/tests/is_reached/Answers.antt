@@ -1,4 +1,4 @@
-use Rattle.std.proofs.Common.{◌≡◌, ◌∙◌, ap, sym, List}
+use Rattle.std.proofs.Common.{◌∙◌, ap, sym, List}
 use Rattle.std.specs.Prelude.{nat_le}
 use Rattle.std.specs.List.{list_any}
 use Rattle.log_model.specs.declared.row.Row.{Row}
@@ -9,4 +9,4 @@ use Rattle.entry_store.proofs.tests.is_reached.Goals as goal
 pub returns : goal.returns
 returns c reached =
     goal_is_reached (history_held c.args.store.now).rows c.in_ok-rows.rows c.args.goal.0 c.in_ok-rows.ensures
-      (sym (c.is_past.ensures ∙ ap (λ (rows : List Row). list_any (λ (row : Row). nat_le c.args.goal.0 row.step.0) rows) c.as_slice.ensures) ∙ reached)
+    (sym (c.is_past.ensures ∙ ap (λ (rows : List Row). list_any (λ (row : Row). nat_le c.args.goal.0 row.step.0) rows) c.as_slice.ensures) ∙ reached)
