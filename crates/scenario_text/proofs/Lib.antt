@@ -3,3 +3,4 @@ pub mod LineLaws
 pub mod DigitLaws
 pub mod ForCallers
 pub mod Spelled
+pub mod PrintLaws
