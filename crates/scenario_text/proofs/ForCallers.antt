@@ -1,14 +1,12 @@
 -- What a caller of `Scenario::read` may want to know of the grammar.
 use Rattle.std.proofs.Common.{◌≡◌, ℕ, ◌<◌, List, length, Bool, true, Ok, All, ◌&&◌, ◌==◌, arith}
-use Rattle.std.specs.Prelude.{IsTrue}
 use Rattle.std.proofs.lemmas.Bool.Decides.{nat_tests}
 use Rattle.log_model.specs.declared.action.Action.{Action}
 use Rattle.log_model.specs.declared.action.Action.TheVariants as actions
 use Rattle.log_model.specs.declared.header.Header.{Header}
-use Rattle.log_model.specs.declared.request.Request.{Request}
 use Rattle.log_model.specs.declared.request.Request.TheVariants as requests
 use Rattle.scenario_text.specs.Grammar.{scenario_of, faulty, IsSpelled}
-use Rattle.scenario_text.specs.Plays.{plays, is_top_push, is_push, IsPushLine, IsPushRequest}
+use Rattle.scenario_text.specs.Plays.{plays, is_push, IsPushLine}
 use Rattle.scenario_text.specs.declared.built.Built.{Built}
 use Rattle.scenario_text.specs.declared.built.Built.TheVariants as builts
 use Rattle.scenario_text.specs.declared.line.ScenarioLine.{ScenarioLine}
@@ -31,7 +29,7 @@ IsSpelled-from_scenario_of in_run built bytes scenario read = (built, bytes, rea
 pub lines_played : (in_run : Bool) (built : Built) (bytes : List ℕ) (scenario : Scenario) → scenario_of in_run built bytes ≡ Ok scenario → All (λ line. plays built line ≡ true) scenario.lines
 lines_played in_run built bytes scenario read =
     let P : ScenarioLine → Type 0 = λ line. plays built line ≡ true in
-    Each-all P scenario.lines (scenario_sure built P (λ (h : Header). Unit {0}) (record { of_line = λ text line e. (played_line_is built text line e).1; of_header = λ word first e. tt }) in_run bytes scenario read).1
+    Each-all P scenario.lines (scenario_sure built P (λ (h : Header). Unit {0}) (record { of_line = λ text line e plain counted. (played_line_is built text line e).1; of_header = λ word first e. tt }) in_run bytes scenario read).1
 
 push_request : (nav : ℕ) (action : Action) → (nav == 0 && is_push action) ≡ true → (nav ≡ 0) × (is_push action ≡ true)
 push_request nav action e = (grind (arith, nat_tests), grind (arith, nat_tests))
@@ -59,4 +57,4 @@ push_line_is (lines.Deliver proc) e = absurd cc
 -- for a caller that plays pushes alone each line is a push in the top navigable, or a settle
 pub lines_pushes : (in_run : Bool) (bytes : List ℕ) (scenario : Scenario) → scenario_of in_run builts.Pushes bytes ≡ Ok scenario → All IsPushLine scenario.lines
 lines_pushes in_run bytes scenario read =
-    Each-all IsPushLine scenario.lines (scenario_sure builts.Pushes IsPushLine (λ (h : Header). Unit {0}) (record { of_line = λ text line e. push_line_is line (played_line_is builts.Pushes text line e).1; of_header = λ word first e. tt }) in_run bytes scenario read).1
+    Each-all IsPushLine scenario.lines (scenario_sure builts.Pushes IsPushLine (λ (h : Header). Unit {0}) (record { of_line = λ text line e plain counted. push_line_is line (played_line_is builts.Pushes text line e).1; of_header = λ word first e. tt }) in_run bytes scenario read).1

@@ -7,3 +7,4 @@ pub mod MomentLaws
 pub mod FollowExamples
 pub mod SameRequest
 pub mod Spelled
+pub mod PrintLaws

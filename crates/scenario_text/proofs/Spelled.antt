@@ -1,5 +1,5 @@
 -- What holds of each line, and of the header, of a scenario that bytes spell.
-use Rattle.std.proofs.Common.{◌≡◌, ℕ, ◌+◌, Bool, true, false, not, List, [], ◌∷◌, ◌++◌, length, Result, Ok, Err, All, refl, sym, ap, subst, ◌==◌}
+use Rattle.std.proofs.Common.{◌≡◌, ℕ, ◌+◌, Bool, true, false, not, List, [], ◌∷◌, ◌++◌, length, Result, Ok, Err, All, refl, ap, subst, ◌==◌}
 use Rattle.std.specs.Prelude.{bytes_eq, nat_lt, codes, if◌then◌else◌}
 use Rattle.std.specs.List.{list_all}
 use Rattle.std.proofs.lemmas.List.Elements.{All-nil, All-cons}
@@ -40,7 +40,7 @@ played_line_is built text line e =
 
 -- what a reader makes sure of: P of each line, H of the header
 pub record Sure (built : Built) (P : ScenarioLine → Type 0) (H : Header → Type 0) : Type 1 where
-  pub of_line : (text : List ℕ) (line : ScenarioLine) → played_line built text ≡ Ok line → P line
+  pub of_line : (text : List ℕ) (line : ScenarioLine) → played_line built text ≡ Ok line → list_all is_plain text ≡ true → is_passed_over text ≡ false → P line
   pub of_header : (word first : List ℕ) → address_field word ≡ Ok first → H (record { keep = 3; sites = []; pages = []; first = first })
 
 -- it holds of the lines so far
@@ -79,27 +79,27 @@ heading_sure built P H sure text next e = by_test (bytes_eq (split_words (words_
     by_test true fields e = open_sure built P H sure fields next e
     by_test false fields e = cc
 
-counted_sure : (built : Built) (P : ScenarioLine → Type 0) (H : Header → Type 0) → Sure built P H → (place next : Place) (text : List ℕ) → Holds P H place → after_counted built place text ≡ Ok next → Holds P H next
+counted_sure : (built : Built) (P : ScenarioLine → Type 0) (H : Header → Type 0) → Sure built P H → (place next : Place) (text : List ℕ) → list_all is_plain text ≡ true → is_passed_over text ≡ false → Holds P H place → after_counted built place text ≡ Ok next → Holds P H next
 unfolding after_counted
-counted_sure built P H sure places.Start next text so_far e = by_test (bytes_eq text (codes "session 1")) e
+counted_sure built P H sure places.Start next text plain counted so_far e = by_test (bytes_eq text (codes "session 1")) e
   where
     by_test : (b : Bool) → (if b then Ok places.Heading else Err Unbuilt) ≡ Ok next → Holds P H next
     by_test true e = let same : places.Heading ≡ next = cc in subst (λ (p : Place). Holds P H p) same tt
     by_test false e = cc
-counted_sure built P H sure places.Heading next text so_far e = heading_sure built P H sure text next e
-counted_sure built P H sure (places.Body header before) next text so_far e =
+counted_sure built P H sure places.Heading next text plain counted so_far e = heading_sure built P H sure text next e
+counted_sure built P H sure (places.Body header before) next text plain counted so_far e =
     let last = bind_ok (played_line built text) (λ (l : ScenarioLine). Ok (places.Body header (before ++ l ∷ []))) next e in
     let same : places.Body header (before ++ last.0 ∷ []) ≡ next = ok_same last.2 in
-    subst (λ (p : Place). Holds P H p) same (so_far.0, Each-append P before last.0 so_far.1 (sure.of_line text last.0 last.1))
+    subst (λ (p : Place). Holds P H p) same (so_far.0, Each-append P before last.0 so_far.1 (sure.of_line text last.0 last.1 plain counted))
 
 line_sure : (built : Built) (P : ScenarioLine → Type 0) (H : Header → Type 0) → Sure built P H → (place next : Place) (text : List ℕ) → Holds P H place → after_line built place text ≡ Ok next → Holds P H next
 unfolding after_line
-line_sure built P H sure place next text so_far e = by_tests (list_all is_plain text) (is_passed_over text) e
+line_sure built P H sure place next text so_far e = by_tests (list_all is_plain text) (is_passed_over text) refl refl e
   where
-    by_tests : (plain passed : Bool) → (if not plain then Err Unbuilt else (if passed then Ok place else after_counted built place text)) ≡ Ok next → Holds P H next
-    by_tests false passed e = cc
-    by_tests true true e = let same : place ≡ next = cc in subst (λ (p : Place). Holds P H p) same so_far
-    by_tests true false e = counted_sure built P H sure place next text so_far e
+    by_tests : (plain passed : Bool) → list_all is_plain text ≡ plain → is_passed_over text ≡ passed → (if not plain then Err Unbuilt else (if passed then Ok place else after_counted built place text)) ≡ Ok next → Holds P H next
+    by_tests false passed is_plain_ is_passed e = cc
+    by_tests true true is_plain_ is_passed e = let same : place ≡ next = cc in subst (λ (p : Place). Holds P H p) same so_far
+    by_tests true false is_plain_ is_passed e = counted_sure built P H sure place next text is_plain_ is_passed so_far e
 
 end_sure : (P : ScenarioLine → Type 0) (H : Header → Type 0) (number : ℕ) (place : Place) (rest : List ℕ) (scenario : Scenario) → Holds P H place → at_end number place rest ≡ Ok scenario → H scenario.header × Each P scenario.lines
 unfolding at_end

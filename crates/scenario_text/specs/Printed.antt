@@ -1,6 +1,6 @@
 -- The text of a scenario: a line for each setting, and then a line for each step.
 -- This project's own.
-use Rattle.std.specs.Prelude.{ℕ, Bool, true, false, List, [], ◌∷◌, ◌++◌, flat_map, codes, decimal, Option, Some, None}
+use Rattle.std.specs.Prelude.{◌≡◌, ℕ, ◌+◌, ◌≤◌, Bool, true, false, List, [], ◌∷◌, ◌++◌, length, flat_map, codes, decimal, Option, Some, None, Ok}
 use Rattle.std.specs.Fmt.{signed_decimal}
 use Rattle.log_model.specs.declared.action.Action.{Action}
 use Rattle.log_model.specs.declared.action.Action.TheVariants as actions
@@ -11,9 +11,13 @@ use Rattle.log_model.specs.declared.request.Mode.{Mode}
 use Rattle.log_model.specs.declared.request.Mode.TheVariants as modes
 use Rattle.log_model.specs.declared.request.Request.{Request}
 use Rattle.log_model.specs.declared.request.Request.TheVariants as requests
+use Rattle.scenario_text.specs.declared.built.Built.{Built}
 use Rattle.scenario_text.specs.declared.line.ScenarioLine.{ScenarioLine}
 use Rattle.scenario_text.specs.declared.line.ScenarioLine.TheVariants as lines
+use Rattle.scenario_text.specs.declared.place.Place.TheVariants as places
 use Rattle.scenario_text.specs.declared.scenario.Scenario.{Scenario}
+use Rattle.scenario_text.specs.Pieces.{pieces}
+use Rattle.scenario_text.specs.Grammar.{read_pieces}
 
 -- ---- words
 
@@ -103,3 +107,8 @@ header_text header =
 -- the text of a scenario
 unfoldable pub text_of : Scenario → List ℕ
 text_of scenario = header_text scenario.header ++ flat_map line_text scenario.lines
+
+-- after `open` the printed lines are read back as the scenario's, by a caller that plays them
+abbrev pub AreReadBack : Scenario → Type 0
+AreReadBack scenario =
+    (built : Built) × ((number : ℕ) → number + length scenario.lines ≤ 65537 → read_pieces built number (places.Body scenario.header []) (pieces 10 (flat_map line_text scenario.lines)) ≡ Ok scenario)

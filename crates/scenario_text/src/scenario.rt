@@ -2,7 +2,7 @@
 ghost use Rattle.std.specs.Prelude.{◌≡◌, ◌≤◌, IfOk};
 ghost use Rattle.scenario_text.specs.Grammar.{scenario_of, at_end, read_pieces, IsSpelled};
 ghost use Rattle.scenario_text.specs.Pieces.{pieces};
-ghost use Rattle.scenario_text.specs.Printed.{text_of};
+ghost use Rattle.scenario_text.specs.Printed.{text_of, AreReadBack};
 ghost use Rattle.scenario_text.specs.Gives.{Reads};
 ghost use Rattle.scenario_text.specs.declared.place.Place.TheVariants as places;
 
@@ -89,10 +89,11 @@ impl Scenario {
     }
 
     /// The text that spells the scenario; `keep` always has its line.
-    #[tactic(auto, unfolding(crate::specs::Printed::text_of))]
+    #[tactic(auto, using(crate::proofs::PrintLaws::spelled_read_back), unfolding(crate::specs::Printed::text_of))]
     pub fn print(&self, alloc: Global) -> Result<Text, OutOfMemory>
         requires { IsSpelled self.now }
-        ensures { IfOk result (λ text. text ≡ text_of self.now) }
+        ensures text { IfOk result (λ text. text ≡ text_of self.now) }
+        ensures read_back { AreReadBack self.now }
     {
         let mut out = Vec::new(alloc);
         put_header(alloc, &mut out, &self.header)?;
