@@ -154,6 +154,22 @@ rounds_moments (suc n) (suc m) s events later t rest enough e =
     by_still others true still e = tt
     by_still others false busy e = by_course others busy e (a_round s events) refl
 
+-- what settles is still
+pub settles_still : (n : ℕ) (s : Seen) (events : List (List LogRow)) (t : Seen) (rest : List (List LogRow)) → rounds n s events ≡ goes t rest → is_still t ≡ true
+unfolding rounds
+settles_still zero s events t rest e = by_still (is_still s) refl e
+  where
+    by_still : (b : Bool) → is_still s ≡ b → (if b then goes s events else strays) ≡ goes t rest → is_still t ≡ true
+    by_still true still e = ap is_still (goes_same s t events rest e).0 ∙ still
+    by_still false still e = cc
+settles_still (suc n) s events t rest e =
+    by_still (λ s' mid e'. settles_still n s' mid t rest e') (is_still s) refl e
+  where
+    by_still : ((s' : Seen) (mid : List (List LogRow)) → rounds n s' mid ≡ goes t rest → is_still t ≡ true) → (b : Bool) → is_still s ≡ b → (if b then goes s events else and_then (a_round s events) (rounds n)) ≡ goes t rest → is_still t ≡ true
+    by_still others true still e = ap is_still (goes_same s t events rest e).0 ∙ still
+    by_still others false still e =
+        let by = goes_by (a_round s events) (rounds n) t rest e in others by.state by.events by.second
+
 settles_moments : HasMoments settles
 settles_moments s events later t rest e =
     rounds_moments (length events + 1) (length (events ++ later) + 1) s events later t rest (omega arith) e
