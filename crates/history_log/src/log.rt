@@ -87,7 +87,7 @@ impl Log {
 
     /// The row that says how a request ended: it was applied, refused or dropped.
     ///
-    /// A lawful log has at most one; of several the first is answered. It goes through the log.
+    /// A legal log has at most one; of several the first is answered. It goes through the log.
     pub fn request_outcome(&self, req: ReqId) -> Option<&LogRow>
         ensures { option_copied result ≡ outcome_row self.now req }
     {

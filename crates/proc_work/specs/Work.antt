@@ -1,6 +1,6 @@
 -- What a document process works out for an order.
 -- HTML Standard, "Checking if unloading is canceled"; one outcome for each kind of order is this project's own.
-use Rattle.std.specs.Prelude.{◌≡◌, Bool, IsTrue, Option, Some, None, if◌then◌else◌}
+use Rattle.std.specs.Prelude.{Bool, Option, Some, None, if◌then◌else◌}
 use Rattle.log_model.specs.declared.handler.HandlerKind.{HandlerKind}
 use Rattle.log_model.specs.declared.handler.Leaving.{Leaving}
 use Rattle.log_model.specs.declared.handler.Verdict.{Verdict}

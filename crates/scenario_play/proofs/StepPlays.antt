@@ -1,5 +1,5 @@
 -- A step of a world is the event of its line, or the line is passed over, or there is an error where the event was due.
-use Rattle.std.proofs.Common.{◌≡◌, ℕ, ◌+◌, ◌<◌, Bool, true, false, ◌&&◌, ◌||◌, ◌==◌, List, [], ◌∷◌, ◌++◌, length, map, Option, Some, None, Result, Ok, Err, refl, sym, ap, ◌∙◌, subst, arith, append-nil}
+use Rattle.std.proofs.Common.{◌≡◌, ℕ, ◌+◌, ◌<◌, Bool, true, false, ◌&&◌, ◌||◌, ◌==◌, List, [], ◌∷◌, ◌++◌, length, Option, Some, None, Result, Ok, Err, refl, sym, ap, ◌∙◌, subst, arith}
 use Rattle.std.specs.Prelude.{IsSome, slice_get, is_some, is_none, if◌then◌else◌}
 use Rattle.std.proofs.lemmas.Bool.{eq-eqb}
 use Rattle.std.proofs.lemmas.Bool.Decides.{nat_tests}
@@ -17,16 +17,14 @@ use Rattle.log_model.specs.declared.made.Report.{Report}
 use Rattle.log_model.specs.declared.made.Report.TheVariants as reports
 use Rattle.log_model.specs.declared.request.Poke.{Poke}
 use Rattle.log_model.specs.declared.request.Request.TheVariants as requests
-use Rattle.log_model.specs.declared.row_kind.Actor.{Actor}
 use Rattle.log_model.specs.declared.row_kind.LogRow.{LogRow}
-use Rattle.log_model.specs.declared.row_kind.RowKind.{RowKind}
-use Rattle.log_model.specs.Events.{events_of, have_number}
-use Rattle.log_model.specs.Logs.{seen_of, is_still, is_idle, in_hand_of}
+use Rattle.log_model.specs.Events.{have_number}
+use Rattle.log_model.specs.Logs.{seen_of, is_idle, in_hand_of}
 use Rattle.log_model.specs.Seen.{Seen, Desk, desk_of, empty_desk}
 use Rattle.log_model.specs.Views.{made_by}
 use Rattle.scenario_text.specs.declared.line.ScenarioLine.{ScenarioLine}
 use Rattle.scenario_text.specs.declared.line.ScenarioLine.TheVariants as lines
-use Rattle.scenario_text.specs.Follows.{Stage, is_passed, is_event, does, does_all, turn_of}
+use Rattle.scenario_text.specs.Follows.{is_passed, is_event, does, does_all, turn_of}
 use Rattle.scenario_text.proofs.SameRequest.{same_action_itself}
 use Rattle.world.specs.declared.error.StepError.{StepError}
 use Rattle.world.specs.declared.error.StepError.TheVariants as errors
@@ -37,7 +35,7 @@ use Rattle.world.specs.declared.event.Reply.TheVariants as replies
 use Rattle.world.specs.Kept.{WorldState}
 use Rattle.world.specs.Steps.{Stepped, idle, logs, act_with, act_of, begin_of, finish_of, take_up, deliver_of, step_of, IsBuilt, MayTake, MayTakeWhat, Steps}
 use Rattle.world.proofs.Ready.{is_report}
-use Rattle.world_laws.specs.Single.{Single, Past, seen_with, desk_with, logged}
+use Rattle.world_laws.specs.Single.{Single, Past, seen_with, desk_with}
 use Rattle.world_laws.specs.Keeps.{IsWorld}
 use Rattle.proc_work.specs.Work as worked
 use Rattle.scenario_play.specs.Courses.{Leads, Cuts, Plays, line_of, order_of, IsOfHand}

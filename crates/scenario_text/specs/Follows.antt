@@ -1,6 +1,6 @@
 -- When a log follows a scenario: its events are those that the lines ask for, in order, and there are no others.
 -- This project's own.
-use Rattle.std.specs.Prelude.{◌≡◌, ◌⊎◌, ℕ, zero, suc, ◌+◌, Bool, true, false, not, ◌&&◌, ◌||◌, ◌==◌, List, [], ◌∷◌, ◌++◌, fold, length, bytes_eq, Option, Some, None, is_none, is_some, if◌then◌else◌}
+use Rattle.std.specs.Prelude.{◌≡◌, ◌⊎◌, ℕ, zero, suc, ◌+◌, Bool, true, false, not, ◌&&◌, ◌||◌, ◌==◌, List, [], ◌∷◌, ◌++◌, fold, length, bytes_eq, is_none, is_some, if◌then◌else◌}
 use Rattle.tab_ids.specs.declared.ProcId.{ProcId}
 use Rattle.log_model.specs.declared.action.Action.{Action}
 use Rattle.log_model.specs.declared.action.Action.TheVariants as actions

@@ -1,11 +1,9 @@
 -- The event in which the document makes something of its first poke.
-use Rattle.std.proofs.Common.{◌≡◌, ℕ, ◌+◌, ◌<◌, ◌≤◌, Bool, true, false, not, ◌&&◌, ◌||◌, ◌==◌, List, [], ◌∷◌, ◌++◌, drop, Option, Some, None, refl, sym, ap, ◌∙◌, subst, arith}
+use Rattle.std.proofs.Common.{◌≡◌, ℕ, ◌+◌, ◌≤◌, Bool, true, false, not, ◌||◌, ◌==◌, List, [], ◌∷◌, ◌++◌, drop, Option, Some, None, refl, sym, ap, ◌∙◌, subst, arith}
 use Rattle.std.specs.Prelude.{count_by, fold, slice_get, option_map}
 use Rattle.std.specs.List.{list_any}
-use Rattle.std.proofs.lemmas.Bool.Decides.{nat_tests}
 use Rattle.tab_ids.specs.declared.DocId.{DocId}
 use Rattle.tab_ids.specs.declared.ReqId.{ReqId}
-use Rattle.tab_ids.specs.declared.Epoch.{Epoch}
 use Rattle.log_model.specs.declared.action.Action.{Action}
 use Rattle.log_model.specs.declared.action.Action.TheVariants as actions
 use Rattle.log_model.specs.declared.made.Made.{Made}
@@ -16,17 +14,15 @@ use Rattle.log_model.specs.declared.made.Report.TheVariants as reports
 use Rattle.log_model.specs.declared.request.Poke.{Poke}
 use Rattle.log_model.specs.declared.row.Row.{Row}
 use Rattle.log_model.specs.declared.row_kind.LogRow.{LogRow}
-use Rattle.log_model.specs.Equal.{holds}
 use Rattle.log_model.specs.Views.{View, made_by, made_for, new_entry, new_address, after_made}
-use Rattle.log_model.specs.Seen.{Seen, Asked, request_in}
-use Rattle.log_model.specs.AfterRequests.{on_request}
+use Rattle.log_model.specs.Seen.{Seen}
 use Rattle.log_model.specs.After.{after}
 use Rattle.log_model.specs.Formed.{is_numbered, is_applied_duly}
 use Rattle.log_model.specs.Settled.{is_settled_if_quiet}
 use Rattle.log_model.specs.Legal.{is_formed, is_once, is_caused, is_queued, is_ordered, is_checked, ends_settled, IsLegalEvent}
 use Rattle.log_model.proofs.Refl.{nat_eq_refl, same_what_refl}
 use Rattle.world_laws.specs.Single as single
-use Rattle.world_laws.specs.Single.{Single, Past, seen_with, first_process, first_document, first_epoch}
+use Rattle.world_laws.specs.Single.{Single, Past, seen_with, first_document, first_epoch}
 use Rattle.world_laws.specs.Keeps.{Face, face_of_row, face_of_view, face_after_what, face_after, MayMake, MayReport, Leads, is_made_push, orders_of, pair_after, due, is_poke_of, is_report_of, IsPush, ArePushes, IsAbove, number_made, AreNumbered, ArePokesFor, open_from, tally, Keeps, KeepsPast, IsWorld}
 use Rattle.world_laws.proofs.Waits.{count_by_cons, count_by_push}
 use Rattle.world_laws.proofs.Asks.{request_changed, plain_request, plain_changed, endings_changed, pokes_other, reports_other, reports_more}

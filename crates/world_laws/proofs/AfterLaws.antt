@@ -1,18 +1,16 @@
 -- What a log of one document comes to after one more row.
-use Rattle.std.proofs.Common.{◌≡◌, ◌≢◌, ℕ, ◌+◌, Bool, true, false, not, ◌&&◌, ◌||◌, ◌==◌, List, [], ◌∷◌, ◌++◌, drop, length, Option, Some, None, refl, sym, ap, ◌∙◌, subst, arith}
-use Rattle.std.specs.Prelude.{slice_get, find}
+use Rattle.std.proofs.Common.{◌≡◌, ℕ, ◌+◌, Bool, true, false, ◌&&◌, ◌==◌, List, [], ◌∷◌, ◌++◌, Option, Some, None, refl, ap, ◌∙◌, arith}
+use Rattle.std.specs.Prelude.{slice_get}
 use Rattle.std.proofs.lemmas.Bool.Decides.{nat_tests}
 use Rattle.tab_ids.specs.declared.EntryId.{EntryId}
 use Rattle.tab_ids.specs.declared.ReqId.{ReqId}
 use Rattle.log_model.specs.declared.action.Action.{Action}
-use Rattle.log_model.specs.declared.change.Change.{Change}
 use Rattle.log_model.specs.declared.change.Change.TheVariants as changes
 use Rattle.log_model.specs.declared.job.Job.{Job}
 use Rattle.log_model.specs.declared.job.Order.{Order}
 use Rattle.log_model.specs.declared.job.Task.TheVariants as tasks
 use Rattle.log_model.specs.declared.job.Why.TheVariants as whys
 use Rattle.log_model.specs.declared.made.Made.{Made}
-use Rattle.log_model.specs.declared.made.What.{What}
 use Rattle.log_model.specs.declared.made.What.TheVariants as whats
 use Rattle.log_model.specs.declared.made.Report.{Report}
 use Rattle.log_model.specs.declared.made.Report.TheVariants as reports
@@ -21,18 +19,15 @@ use Rattle.log_model.specs.declared.outcome.Ending.TheVariants as endings
 use Rattle.log_model.specs.declared.outcome.Outcome.TheVariants as outcomes
 use Rattle.log_model.specs.declared.request.Request.TheVariants as requests
 use Rattle.log_model.specs.declared.row_kind.Actor.TheVariants as actors
-use Rattle.log_model.specs.declared.row_kind.LogRow.{LogRow}
-use Rattle.log_model.specs.declared.row_kind.RowKind.{RowKind}
 use Rattle.log_model.specs.declared.row_kind.RowKind.TheVariants as rows
 use Rattle.log_model.specs.History.{History, has_row, applied}
-use Rattle.log_model.specs.Views.{made_for, after_made, after_task}
-use Rattle.log_model.specs.Seen.{Seen, Asked, request_in}
-use Rattle.log_model.specs.Places.{top, is_under_way, is_traversal, running_traversal}
+use Rattle.log_model.specs.Views.{made_for}
+use Rattle.log_model.specs.Seen.{Asked, request_in}
+use Rattle.log_model.specs.Places.{top, is_traversal, running_traversal}
 use Rattle.log_model.specs.After.{after, is_new_step}
-use Rattle.log_model.specs.AfterRequests.{is_held_up}
 use Rattle.world_laws.specs.Single as single
 use Rattle.world_laws.specs.Single.{Single, Past, seen_with, first_process, first_document, first_epoch}
-use Rattle.world_laws.specs.Keeps.{ArePlain, IsMadeFor}
+use Rattle.world_laws.specs.Keeps.{ArePlain}
 use Rattle.world_laws.proofs.Asks.{none_under_way, plain_request, no_step}
 
 pub after_accepted : (p : Past) (t : Single) (req : ReqId) (action : Action) → after (seen_with p t) (record { event = t.events; actor = actors.Ui; row = rows.Accepted req (Some first_document) (requests.Poke top action) }) ≡ seen_with (single.past_poked p req action) (record t { events = t.events + 1; input = t.input ++ record { req = req; doc = first_document; action = action } ∷ [] })

@@ -1,10 +1,8 @@
 -- The requests of a log, when one of them changes or one more comes.
-use Rattle.std.proofs.Common.{◌≡◌, ◌≢◌, ℕ, ◌+◌, ◌-◌, ◌<◌, ◌≤◌, Bool, true, false, not, ◌&&◌, ◌||◌, ◌==◌, List, [], ◌∷◌, ◌++◌, length, map, Option, Some, None, refl, sym, ap, ◌∙◌, subst, arith, zero, suc}
-use Rattle.std.specs.Prelude.{slice_get, slice_set, is_some, find, count_by, cond, if◌then◌else◌}
-use Rattle.std.specs.List.{list_all}
+use Rattle.std.proofs.Common.{◌≡◌, ◌≢◌, ℕ, ◌+◌, ◌-◌, Bool, true, false, ◌&&◌, ◌==◌, List, [], ◌∷◌, ◌++◌, length, map, Option, Some, None, refl, sym, ap, ◌∙◌, subst, arith, zero, suc}
+use Rattle.std.specs.Prelude.{slice_get, slice_set, find, count_by}
 use Rattle.std.specs.Option.{option_map_or}
-use Rattle.std.proofs.lemmas.List.{map-set, length-map}
-use Rattle.std.proofs.lemmas.Option.{slice_get-map}
+use Rattle.std.proofs.lemmas.List.{map-set}
 use Rattle.std.proofs.lemmas.Bool.Decides.{nat_tests}
 use Rattle.tab_ids.specs.declared.ReqId.{ReqId}
 use Rattle.log_model.specs.declared.outcome.Ending.{Ending}
@@ -20,7 +18,7 @@ use Rattle.log_model.specs.Seen.{Asked, request_in}
 use Rattle.log_model.specs.Places.{goes, is_load, is_traversal, is_reload, is_under_way}
 use Rattle.log_model.specs.AfterRequests.{on_request}
 use Rattle.log_model.specs.After.{ended}
-use Rattle.world_laws.specs.Keeps.{IsPush, AsksPush, IsPlainAsk, ArePlain, IsPokeFor, ArePokesFor, IsMadeFor, IsReportFor, AreReportsFor, is_poke_of, is_report_of, tally}
+use Rattle.world_laws.specs.Keeps.{IsPush, AsksPush, IsPlainAsk, ArePlain, IsPokeFor, ArePokesFor, IsReportFor, AreReportsFor, is_poke_of, is_report_of, tally}
 use Rattle.world_laws.proofs.Waits.{count_by_cons, tally_same}
 
 -- ---- look-ups

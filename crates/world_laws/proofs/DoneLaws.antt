@@ -1,5 +1,5 @@
 -- The event in which the coordinator takes the report of a finished order.
-use Rattle.std.proofs.Common.{◌≡◌, ℕ, ◌+◌, true, List, [], ◌∷◌, ◌++◌, drop, length, Option, Some, None, refl, sym, ap, ◌∙◌, subst, arith}
+use Rattle.std.proofs.Common.{◌≡◌, ℕ, ◌+◌, List, ◌∷◌, ◌++◌, drop, length, Option, Some, None, refl, sym, ap, ◌∙◌, subst, arith}
 use Rattle.std.specs.Prelude.{count_by, fold, slice_get}
 use Rattle.std.specs.List.{list_any}
 use Rattle.log_model.specs.declared.job.Job.{Job}

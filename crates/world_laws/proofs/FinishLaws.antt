@@ -1,7 +1,6 @@
 -- The event in which the process finishes the order in hand.
-use Rattle.std.proofs.Common.{◌≡◌, ℕ, ◌+◌, ◌≤◌, Bool, true, ◌==◌, List, [], ◌∷◌, ◌++◌, length, Option, Some, None, refl, sym, ap, ◌∙◌, subst, arith}
+use Rattle.std.proofs.Common.{◌≡◌, ℕ, ◌+◌, ◌≤◌, Bool, List, [], ◌∷◌, ◌++◌, length, Some, None, refl, sym, ap, ◌∙◌, subst, arith}
 use Rattle.std.specs.Prelude.{count_by, fold}
-use Rattle.tab_ids.specs.declared.Epoch.{Epoch}
 use Rattle.log_model.specs.declared.job.Job.{Job}
 use Rattle.log_model.specs.declared.job.Order.{Order}
 use Rattle.log_model.specs.declared.job.Task.{Task}
@@ -19,7 +18,7 @@ use Rattle.log_model.specs.Settled.{is_settled_if_quiet}
 use Rattle.log_model.specs.Legal.{is_formed, is_once, is_caused, is_queued, is_ordered, is_checked, ends_settled, IsLegalEvent}
 use Rattle.log_model.proofs.Refl.{nat_eq_refl}
 use Rattle.world_laws.specs.Single as single
-use Rattle.world_laws.specs.Single.{Single, Past, seen_with, first_document}
+use Rattle.world_laws.specs.Single.{Single, Past, seen_with}
 use Rattle.world_laws.specs.Keeps.{Face, face_of_row, face_of_view, Leads, orders_of, pair_after, pair_after_task, IsUpdate, AreUpdates, IsTelling, AreNumbered, is_poke_of, is_report_of, open_from, Keeps, KeepsPast, IsWorld}
 use Rattle.world_laws.proofs.Waits.{count_by_push}
 use Rattle.world_laws.proofs.Asks.{reports_more}

@@ -1,9 +1,8 @@
 -- What is kept beside the state, where a report joins, one is taken, or a request ends.
-use Rattle.std.proofs.Common.{◌≡◌, ℕ, ◌+◌, ◌-◌, ◌<◌, ◌≤◌, Bool, true, false, not, ◌&&◌, ◌||◌, ◌==◌, List, [], ◌∷◌, ◌++◌, drop, length, map, Option, Some, None, refl, sym, ap, ◌∙◌, subst, arith, zero, suc}
-use Rattle.std.specs.Prelude.{slice_get, slice_set, count_by, filter, is_none, option_map}
+use Rattle.std.proofs.Common.{◌≡◌, ℕ, ◌+◌, ◌-◌, ◌<◌, ◌≤◌, Bool, true, ◌==◌, List, [], ◌∷◌, ◌++◌, map, Option, Some, None, refl, sym, ap, ◌∙◌, arith, zero, suc}
+use Rattle.std.specs.Prelude.{slice_get, slice_set, count_by, filter, option_map}
 use Rattle.std.specs.List.{list_all}
 use Rattle.std.proofs.lemmas.Option.{slice_get-map}
-use Rattle.std.proofs.lemmas.Bool.Decides.{nat_tests}
 use Rattle.tab_ids.specs.declared.ReqId.{ReqId}
 use Rattle.log_model.specs.declared.change.Change.{Change}
 use Rattle.log_model.specs.declared.job.Job.{Job}
@@ -20,12 +19,12 @@ use Rattle.log_model.specs.declared.outcome.Outcome.{Outcome}
 use Rattle.log_model.specs.declared.request.Poke.{Poke}
 use Rattle.log_model.specs.History.{History}
 use Rattle.log_model.specs.Seen.{Seen, Asked, request_in}
-use Rattle.log_model.specs.AfterRequests.{on_request, entries_taken}
+use Rattle.log_model.specs.AfterRequests.{entries_taken}
 use Rattle.log_model.specs.After.{ended}
 use Rattle.log_model.specs.Checks.{is_settled_by}
 use Rattle.world_laws.specs.Single as single
 use Rattle.world_laws.specs.Single.{Single, Past, requests_applied}
-use Rattle.world_laws.specs.Keeps.{ArePlain, IsPlainAsk, ArePokesFor, AreReportsFor, IsAbove, number_made, AreNumbered, IsUpdate, IsTelling, is_poke_of, is_report_of, places, open_from, tally, Keeps, KeepsPast}
+use Rattle.world_laws.specs.Keeps.{ArePlain, ArePokesFor, AreReportsFor, IsAbove, number_made, AreNumbered, IsUpdate, IsTelling, is_poke_of, is_report_of, places, open_from, tally, Keeps}
 use Rattle.world_laws.proofs.Waits.{count_by_cons, tally_same, open_from_below, open_from_few, open_at, open_from_ended}
 use Rattle.world_laws.proofs.Asks.{request_at, plain_changed, endings_changed, endings_ended, pokes_other, reports_other}
 

@@ -1,10 +1,9 @@
 -- A world that was just opened.
-use Rattle.std.proofs.Common.{◌≡◌, ℕ, true, List, [], ◌∷◌, Option, Some, None, refl, arith}
-use Rattle.log_model.specs.Seen.{Seen}
+use Rattle.std.proofs.Common.{ℕ, List, [], ◌∷◌, None, refl, arith}
 use Rattle.log_model.specs.Events.{AtEachEvent, events_of, after_opening, each_event}
 use Rattle.log_model.specs.Logs.{seen_of}
 use Rattle.log_model.specs.Legal.{opens, IsLegal}
-use Rattle.world_laws.specs.Single.{Single, opened, opening_row, past_opened, replaced_row_with}
+use Rattle.world_laws.specs.Single.{opened, opening_row, past_opened, replaced_row_with}
 use Rattle.world_laws.specs.Keeps.{Keeps, KeepsPast, IsWorld}
 use Rattle.world_laws.proofs.SettledLaws.{settled_of_keeps}
 

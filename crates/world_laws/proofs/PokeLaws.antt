@@ -1,5 +1,5 @@
 -- The event in which a poke is accepted.
-use Rattle.std.proofs.Common.{◌≡◌, ℕ, ◌+◌, ◌==◌, true, List, [], ◌∷◌, ◌++◌, length, map, Option, Some, None, refl, sym, ap, ◌∙◌, subst, arith, length-append}
+use Rattle.std.proofs.Common.{◌≡◌, ℕ, ◌+◌, ◌==◌, List, [], ◌∷◌, ◌++◌, length, map, Option, Some, None, refl, sym, ap, ◌∙◌, subst, arith, length-append}
 use Rattle.std.specs.Prelude.{count_by, fold}
 use Rattle.std.proofs.lemmas.List.{map-append, length-map}
 use Rattle.log_model.specs.declared.action.Action.{Action}
@@ -11,9 +11,7 @@ use Rattle.log_model.specs.declared.row_kind.LogRow.{LogRow}
 use Rattle.log_model.specs.Seen.{Seen, Asked, request_in}
 use Rattle.log_model.specs.Places.{top}
 use Rattle.log_model.specs.After.{after, new_request}
-use Rattle.log_model.specs.Formed.{is_formed_row, is_numbered}
-use Rattle.log_model.specs.Once.{is_once_row}
-use Rattle.log_model.specs.Causes.{is_caused_row}
+use Rattle.log_model.specs.Formed.{is_numbered}
 use Rattle.log_model.specs.Settled.{is_settled_if_quiet}
 use Rattle.log_model.specs.Legal.{is_formed, is_once, is_caused, is_queued, is_ordered, is_checked, ends_settled, IsLegalEvent}
 use Rattle.log_model.proofs.Refl.{nat_eq_refl}

@@ -1,12 +1,10 @@
 -- The event in which the coordinator takes up a push: it is applied, and the document is told its length and index.
-use Rattle.std.proofs.Common.{◌≡◌, ℕ, ◌+◌, ◌-◌, ◌<◌, Bool, true, false, ◌&&◌, ◌||◌, ◌==◌, List, [], ◌∷◌, ◌++◌, drop, length, map, Option, Some, None, refl, sym, ap, ◌∙◌, subst, arith, length-append, length-set, append_assoc}
+use Rattle.std.proofs.Common.{◌≡◌, ℕ, ◌+◌, ◌-◌, ◌<◌, Bool, true, false, ◌==◌, List, [], ◌∷◌, ◌++◌, drop, length, Option, Some, None, refl, sym, ap, ◌∙◌, subst, arith, length-append, length-set, append_assoc}
 use Rattle.std.specs.Prelude.{count_by, fold, slice_get, slice_set, nat_lt, if◌then◌else◌}
 use Rattle.std.proofs.lemmas.List.Sums.{fold-append}
 use Rattle.std.proofs.lemmas.Bool.Decides.{nat_tests}
 use Rattle.tab_ids.specs.declared.EntryId.{EntryId}
 use Rattle.tab_ids.specs.declared.ReqId.{ReqId}
-use Rattle.tab_ids.specs.declared.DocId.{DocId}
-use Rattle.tab_ids.specs.declared.Epoch.{Epoch}
 use Rattle.log_model.specs.declared.change.Change.{Change}
 use Rattle.log_model.specs.declared.change.Change.TheVariants as changes
 use Rattle.log_model.specs.declared.job.Job.{Job}
@@ -17,12 +15,11 @@ use Rattle.log_model.specs.declared.made.Report.{Report}
 use Rattle.log_model.specs.declared.made.Report.TheVariants as reports
 use Rattle.log_model.specs.declared.outcome.Ending.{Ending}
 use Rattle.log_model.specs.declared.outcome.Ending.TheVariants as endings
-use Rattle.log_model.specs.declared.row.Row.{Row}
 use Rattle.log_model.specs.declared.row_kind.Actor.TheVariants as actors
 use Rattle.log_model.specs.declared.row_kind.LogRow.{LogRow}
 use Rattle.log_model.specs.declared.row_kind.RowKind.TheVariants as rows
-use Rattle.log_model.specs.Equal.{holds, implies, same_pair}
-use Rattle.log_model.specs.History.{History, has_nav, has_row, cleared, applied, history_length, history_index}
+use Rattle.log_model.specs.Equal.{holds, same_pair}
+use Rattle.log_model.specs.History.{has_nav, has_row, cleared, applied}
 use Rattle.log_model.specs.Places.{top, is_traversal, pair_at, is_moved, due_pair, aim_of}
 use Rattle.log_model.specs.Seen.{Seen, Asked, request_in}
 use Rattle.log_model.specs.After.{after}
@@ -34,11 +31,11 @@ use Rattle.log_model.specs.Orders.{is_ordered_row}
 use Rattle.log_model.specs.Checks.{is_checked_row, is_prompted_after}
 use Rattle.log_model.specs.Settled.{is_settled_if_quiet}
 use Rattle.log_model.specs.Legal.{is_formed, is_once, is_caused, is_queued, is_ordered, is_checked, ends_settled, IsLegalEvent}
-use Rattle.log_model.proofs.Refl.{nat_eq_refl, bytes_eq_refl, same_memo_refl, same_entry_refl, same_change_refl, same_pair_refl}
+use Rattle.log_model.proofs.Refl.{nat_eq_refl, same_change_refl, same_pair_refl}
 use Rattle.world_laws.specs.Single as single
 use Rattle.world_laws.specs.Single.{Single, Past, seen_with, first_process, first_document, first_epoch, requests_applied}
-use Rattle.world_laws.specs.Keeps.{EndsWith, face_of_row, face_of_view, face_after_what, MayMake, Leads, orders_of, pair_after, due, IsUpdate, AreUpdates, IsMadeFor, AreReportsFor, IsAbove, number_made, AreNumbered, is_poke_of, is_report_of, places, open_from, tally, Keeps, KeepsPast, IsWorld}
-use Rattle.world_laws.proofs.Plain.{cleared-plain, owner_of-plain, length_of_ending, pushed-plain, length_due, index_due, has_top}
+use Rattle.world_laws.specs.Keeps.{EndsWith, face_of_row, face_of_view, face_after_what, MayMake, Leads, orders_of, pair_after, due, IsUpdate, AreUpdates, AreReportsFor, IsAbove, number_made, AreNumbered, is_poke_of, is_report_of, places, open_from, tally, Keeps, KeepsPast, IsWorld}
+use Rattle.world_laws.proofs.Plain.{cleared-plain, owner_of-plain, length_of_ending, pushed-plain, has_top}
 use Rattle.world_laws.proofs.Waits.{count_by_cons, tally_same}
 use Rattle.world_laws.proofs.Asks.{plain_request, plain_changed, endings_changed, pokes_other, reports_other, none_under_way, no_step, implies_true}
 use Rattle.world_laws.proofs.AfterLaws.{after_delivered_push, after_applied_push, after_sent}

@@ -1,7 +1,6 @@
 -- The event in which the document refuses its first poke for its address.
-use Rattle.std.proofs.Common.{◌≡◌, ℕ, ◌+◌, ◌-◌, ◌<◌, true, false, ◌&&◌, ◌==◌, List, ◌∷◌, ◌++◌, drop, map, Option, Some, None, refl, sym, ap, ◌∙◌, subst, arith, length-set}
-use Rattle.std.specs.Prelude.{count_by, fold, slice_get, slice_set}
-use Rattle.tab_ids.specs.declared.ReqId.{ReqId}
+use Rattle.std.proofs.Common.{◌≡◌, ℕ, ◌+◌, ◌-◌, ◌==◌, List, ◌∷◌, ◌++◌, drop, Option, Some, None, refl, sym, ap, ◌∙◌, subst, arith, length-set}
+use Rattle.std.specs.Prelude.{count_by, slice_get, slice_set}
 use Rattle.log_model.specs.declared.outcome.Denial.TheVariants as denials
 use Rattle.log_model.specs.declared.outcome.Ending.{Ending}
 use Rattle.log_model.specs.declared.outcome.Ending.TheVariants as endings
@@ -9,15 +8,14 @@ use Rattle.log_model.specs.declared.request.Poke.{Poke}
 use Rattle.log_model.specs.declared.row.Row.{Row}
 use Rattle.log_model.specs.declared.row_kind.LogRow.{LogRow}
 use Rattle.log_model.specs.Views.{made_by}
-use Rattle.log_model.specs.Seen.{Seen, Asked}
-use Rattle.log_model.specs.After.{after}
+use Rattle.log_model.specs.Seen.{Seen}
 use Rattle.log_model.specs.Formed.{is_numbered}
 use Rattle.log_model.specs.Settled.{is_settled_if_quiet}
 use Rattle.log_model.specs.Legal.{is_formed, is_once, is_caused, is_queued, is_ordered, is_checked, ends_settled, IsLegalEvent}
 use Rattle.log_model.proofs.Refl.{nat_eq_refl}
 use Rattle.world_laws.specs.Single as single
 use Rattle.world_laws.specs.Single.{Single, Past, seen_with}
-use Rattle.world_laws.specs.Keeps.{orders_of, is_poke_of, is_report_of, ArePushes, ArePokesFor, places, open_from, tally, Keeps, KeepsPast, IsWorld}
+use Rattle.world_laws.specs.Keeps.{orders_of, is_poke_of, is_report_of, ArePushes, ArePokesFor, open_from, tally, Keeps, KeepsPast, IsWorld}
 use Rattle.world_laws.proofs.Waits.{count_by_cons}
 use Rattle.world_laws.proofs.Asks.{plain_request, plain_changed, endings_ended, pokes_other, reports_other, no_step}
 use Rattle.world_laws.proofs.AfterLaws.{after_refused}

@@ -1,16 +1,13 @@
 -- The event in which the coordinator takes up a replace, which an initial document makes: its one entry gives way.
-use Rattle.std.proofs.Common.{◌≡◌, ℕ, ◌+◌, ◌-◌, ◌<◌, Bool, true, false, ◌&&◌, ◌||◌, ◌==◌, List, [], ◌∷◌, ◌++◌, drop, length, map, Option, Some, None, refl, sym, ap, ◌∙◌, subst, arith, length-append, length-set, append_assoc}
-use Rattle.std.specs.Prelude.{count_by, fold, slice_get, slice_set, nat_lt, if◌then◌else◌}
+use Rattle.std.proofs.Common.{◌≡◌, ℕ, ◌+◌, ◌-◌, ◌<◌, Bool, true, false, ◌&&◌, ◌||◌, ◌==◌, List, [], ◌∷◌, ◌++◌, drop, length, map, Option, Some, None, refl, sym, ap, ◌∙◌, subst, arith, length-set}
+use Rattle.std.specs.Prelude.{count_by, fold, slice_get, slice_set, nat_lt}
 use Rattle.std.specs.List.{list_any}
 use Rattle.std.proofs.lemmas.Bool.Decides.{nat_tests}
 use Rattle.tab_ids.specs.declared.EntryId.{EntryId}
 use Rattle.tab_ids.specs.declared.Step.{Step}
 use Rattle.tab_ids.specs.declared.ReqId.{ReqId}
-use Rattle.tab_ids.specs.declared.DocId.{DocId}
-use Rattle.tab_ids.specs.declared.Epoch.{Epoch}
 use Rattle.log_model.specs.declared.change.Change.{Change}
 use Rattle.log_model.specs.declared.change.Change.TheVariants as changes
-use Rattle.log_model.specs.declared.job.Job.{Job}
 use Rattle.log_model.specs.declared.made.Made.{Made}
 use Rattle.log_model.specs.declared.made.What.{What}
 use Rattle.log_model.specs.declared.made.What.TheVariants as whats
@@ -22,9 +19,8 @@ use Rattle.log_model.specs.declared.row.Row.{Row}
 use Rattle.log_model.specs.declared.row_kind.Actor.TheVariants as actors
 use Rattle.log_model.specs.declared.row_kind.LogRow.{LogRow}
 use Rattle.log_model.specs.declared.row_kind.RowKind.TheVariants as rows
-use Rattle.log_model.specs.Equal.{holds, implies, same_pair}
-use Rattle.log_model.specs.History.{History, replaced_row, same_entry, is_of, tidied, has_nav, has_row, cleared, applied, history_length, history_index}
-use Rattle.log_model.specs.Places.{top, is_traversal, pair_at, is_moved, due_pair, aim_of}
+use Rattle.log_model.specs.History.{replaced_row, same_entry, is_of, tidied, has_row, applied}
+use Rattle.log_model.specs.Places.{top, is_traversal}
 use Rattle.log_model.specs.Seen.{Seen, Asked, request_in}
 use Rattle.log_model.specs.After.{after}
 use Rattle.log_model.specs.Events.{Point, each_row}
@@ -35,18 +31,18 @@ use Rattle.log_model.specs.Orders.{is_ordered_row}
 use Rattle.log_model.specs.Checks.{is_checked_row, is_prompted_after}
 use Rattle.log_model.specs.Settled.{is_settled_if_quiet}
 use Rattle.log_model.specs.Legal.{is_formed, is_once, is_caused, is_queued, is_ordered, is_checked, ends_settled, IsLegalEvent}
-use Rattle.log_model.proofs.Refl.{nat_eq_refl, bytes_eq_refl, same_memo_refl, same_entry_refl, same_change_refl, same_pair_refl}
+use Rattle.log_model.proofs.Refl.{nat_eq_refl, same_entry_refl, same_change_refl}
 use Rattle.world_laws.specs.Single as single
-use Rattle.world_laws.specs.Single.{Single, Past, seen_with, first_process, first_document, first_epoch, requests_applied}
-use Rattle.world_laws.specs.Keeps.{IsPlain, EndsWith, is_made_push, is_push, face_of_row, face_of_view, face_after_what, MayMake, Leads, orders_of, pair_after, due, IsUpdate, AreUpdates, IsMadeFor, AreReportsFor, IsAbove, number_made, AreNumbered, is_poke_of, is_report_of, places, open_from, tally, Keeps, KeepsPast, IsWorld}
-use Rattle.world_laws.proofs.Plain.{tidied-plain, cleared-plain, owner_of-plain, length_of_ending, pushed-plain, length_due, index_due, has_top}
+use Rattle.world_laws.specs.Single.{Single, Past, seen_with, first_process, first_document, first_epoch}
+use Rattle.world_laws.specs.Keeps.{IsPlain, is_made_push, is_push, face_of_row, face_of_view, face_after_what, MayMake, Leads, orders_of, due, AreReportsFor, IsAbove, number_made, AreNumbered, is_poke_of, is_report_of, places, open_from, tally, Keeps, KeepsPast, IsWorld}
+use Rattle.world_laws.proofs.Plain.{tidied-plain, length_of_ending, has_top}
 use Rattle.world_laws.proofs.Waits.{count_by_cons, tally_same}
-use Rattle.world_laws.proofs.Asks.{plain_request, plain_changed, endings_changed, pokes_other, reports_other, none_under_way, no_step, implies_true}
+use Rattle.world_laws.proofs.Asks.{plain_request, none_under_way, no_step, implies_true}
 use Rattle.world_laws.proofs.AfterLaws.{after_delivered_replace, after_applied_replace}
 use Rattle.world_laws.proofs.Kept.{open_ending, placed_ended, report_alone, plain_applied, endings_applied, pokes_applied, reports_applied, none_settled}
 use Rattle.world_laws.proofs.Rows.{two_rows}
 use Rattle.world_laws.proofs.PushLaws.{made_is}
-use Rattle.world_laws.proofs.SettledLaws.{settled_of_keeps, world_more, AreUpdates_more, pair_of_ending}
+use Rattle.world_laws.proofs.SettledLaws.{settled_of_keeps, world_more, AreUpdates_more}
 
 -- the only row of an initial document's history
 one_row : (n : ℕ) (t : Single) → t.view.initial ≡ true → (keeps : Keeps n t) → IsPlain 0 (keeps.target ∷ [])

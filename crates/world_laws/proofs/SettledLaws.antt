@@ -1,16 +1,13 @@
 -- What the state keeps makes a quiet log settled.
-use Rattle.std.proofs.Common.{◌≡◌, ℕ, ◌+◌, ◌≤◌, Bool, true, false, not, ◌&&◌, ◌||◌, ◌==◌, List, [], ◌∷◌, ◌++◌, length, map, Option, Some, None, refl, sym, ap, ◌∙◌, subst, arith, length-append}
+use Rattle.std.proofs.Common.{◌≡◌, ℕ, ◌+◌, ◌≤◌, Bool, true, false, not, ◌&&◌, ◌==◌, List, [], ◌∷◌, ◌++◌, length, map, Option, Some, None, refl, sym, ap, ◌∙◌, subst, arith, length-append}
 use Rattle.std.specs.Prelude.{fold, is_some, is_none}
 use Rattle.std.proofs.lemmas.Bool.{and_parts, false≢true}
 use Rattle.std.specs.List.{list_all}
 use Rattle.std.proofs.lemmas.Bool.Decides.{nat_tests}
 use Rattle.log_model.specs.declared.job.Job.{Job}
-use Rattle.log_model.specs.declared.job.Order.{Order}
 use Rattle.log_model.specs.declared.job.Task.{Task}
 use Rattle.log_model.specs.declared.job.Task.TheVariants as tasks
 use Rattle.log_model.specs.declared.outcome.Ending.{Ending}
-use Rattle.log_model.specs.declared.made.Report.{Report}
-use Rattle.log_model.specs.declared.request.Poke.{Poke}
 use Rattle.log_model.specs.declared.row.Row.{Row}
 use Rattle.log_model.specs.declared.row_kind.LogRow.{LogRow}
 use Rattle.log_model.specs.Seen.{Seen, Asked}
@@ -19,7 +16,7 @@ use Rattle.log_model.specs.After.{after}
 use Rattle.log_model.specs.Logs.{seen_of, is_quiet, is_still, is_idle, is_prompt_up}
 use Rattle.log_model.specs.Settled.{shows, is_settled, is_settled_if_quiet}
 use Rattle.log_model.specs.Legal.{IsLegalEvent}
-use Rattle.log_model.proofs.Refl.{nat_eq_refl, bytes_eq_refl, same_memo_refl, same_entry_refl, same_pair_refl}
+use Rattle.log_model.proofs.Refl.{nat_eq_refl, bytes_eq_refl, same_memo_refl, same_entry_refl}
 use Rattle.log_model.proofs.Laws.{seen_of_append}
 use Rattle.log_model.proofs.LegalLaws.{legal_more}
 use Rattle.world_laws.specs.Single.{Single, Past, seen_with, desk_with}

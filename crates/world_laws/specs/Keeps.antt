@@ -20,14 +20,12 @@ use Rattle.log_model.specs.declared.row_kind.LogRow.{LogRow}
 use Rattle.log_model.specs.History.{History}
 use Rattle.log_model.specs.Views.{View}
 use Rattle.log_model.specs.Logs.{seen_of}
-use Rattle.log_model.specs.declared.outcome.Outcome.{Outcome}
 use Rattle.log_model.specs.declared.outcome.Outcome.TheVariants as outcomes
 use Rattle.log_model.specs.declared.made.Made.{Made}
 use Rattle.log_model.specs.declared.request.Request.{Request}
 use Rattle.log_model.specs.declared.request.Request.TheVariants as requests
 use Rattle.log_model.specs.Places.{top}
 use Rattle.log_model.specs.Seen.{Asked}
-use Rattle.log_model.specs.AfterRequests.{on_request}
 use Rattle.log_model.specs.Seen.{request_in}
 use Rattle.log_model.specs.Legal.{IsLegal}
 use Rattle.world_laws.specs.Single.{Single, Past, seen_with, first_process, first_document, first_epoch}
