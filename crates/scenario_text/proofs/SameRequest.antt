@@ -11,18 +11,16 @@ use Rattle.log_model.specs.declared.request.Mode.{Mode}
 use Rattle.log_model.specs.declared.request.Mode.TheVariants as modes
 use Rattle.log_model.specs.declared.request.Request.{Request}
 use Rattle.log_model.specs.declared.request.Request.TheVariants as requests
-use Rattle.scenario_text.specs.Follows.{same_mode, same_text, same_action, same_request}
-
-same_text_itself : (text : Option (List ℕ)) → same_text text text ≡ true
-same_text_itself None = refl
-same_text_itself (Some a) = (bytes_eq-Decides a a).1 refl
+use Rattle.log_model.specs.Equal.{same_memo}
+use Rattle.log_model.proofs.Refl.{same_memo_refl}
+use Rattle.scenario_text.specs.Follows.{same_mode, same_action, same_request}
 
 number_itself : (n : ℕ) → (n == n) ≡ true
 number_itself n = (Decides-eqb n n).1 refl
 
 pub same_action_itself : (action : Action) → same_action action action ≡ true
-same_action_itself (actions.Push memo reference) = rw (same_text_itself memo, same_text_itself reference) refl
-same_action_itself (actions.Replace memo reference) = rw (same_text_itself memo, same_text_itself reference) refl
+same_action_itself (actions.Push memo reference) = rw (same_memo_refl memo, same_memo_refl reference) refl
+same_action_itself (actions.Replace memo reference) = rw (same_memo_refl memo, same_memo_refl reference) refl
 same_action_itself (actions.Fragment text) = (bytes_eq-Decides text text).1 refl
 same_action_itself (actions.AddFrame nav) = number_itself nav.0
 same_action_itself (actions.RemoveFrame nav) = number_itself nav.0
@@ -52,10 +50,10 @@ both_parts false b e = cc
 same_nav : (nav nav' : NavId) → (nav.0 == nav'.0) ≡ true → nav ≡ nav'
 same_nav nav nav' e = ap (λ (n : ℕ). let same : NavId = record { 0 = n } in same) ((Decides-eqb nav.0 nav'.0).0 e)
 
-same_text_only : (a b : Option (List ℕ)) → same_text a b ≡ true → a ≡ b
-same_text_only None None e = refl
-same_text_only (Some a) (Some b) e = ap Some ((bytes_eq-Decides a b).0 e)
-same_text_only _ _ e = cc
+same_memo_only : (a b : Option (List ℕ)) → same_memo a b ≡ true → a ≡ b
+same_memo_only None None e = refl
+same_memo_only (Some a) (Some b) e = ap Some ((bytes_eq-Decides a b).0 e)
+same_memo_only _ _ e = cc
 
 same_mode_only : (a b : Mode) → same_mode a b ≡ true → a ≡ b
 same_mode_only modes.Auto modes.Auto e = refl
@@ -65,11 +63,11 @@ same_mode_only _ _ e = cc
 
 same_action_only : (a b : Action) → same_action a b ≡ true → a ≡ b
 same_action_only (actions.Push m r) (actions.Push m' r') e =
-    let parts = both_parts (same_text m m') (same_text r r') e in
-    ap₂ (λ x y. actions.Push x y) (same_text_only m m' parts.0) (same_text_only r r' parts.1)
+    let parts = both_parts (same_memo m m') (same_memo r r') e in
+    ap₂ (λ x y. actions.Push x y) (same_memo_only m m' parts.0) (same_memo_only r r' parts.1)
 same_action_only (actions.Replace m r) (actions.Replace m' r') e =
-    let parts = both_parts (same_text m m') (same_text r r') e in
-    ap₂ (λ x y. actions.Replace x y) (same_text_only m m' parts.0) (same_text_only r r' parts.1)
+    let parts = both_parts (same_memo m m') (same_memo r r') e in
+    ap₂ (λ x y. actions.Replace x y) (same_memo_only m m' parts.0) (same_memo_only r r' parts.1)
 same_action_only (actions.Fragment t) (actions.Fragment t') e = ap (λ x. actions.Fragment x) ((bytes_eq-Decides t t').0 e)
 same_action_only (actions.AddFrame n) (actions.AddFrame n') e = ap (λ x. actions.AddFrame x) (same_nav n n' e)
 same_action_only (actions.RemoveFrame n) (actions.RemoveFrame n') e = ap (λ x. actions.RemoveFrame x) (same_nav n n' e)

@@ -1,6 +1,6 @@
 -- When a log follows a scenario: its events are those that the lines ask for, in order, and there are no others.
 -- This project's own.
-use Rattle.std.specs.Prelude.{◌≡◌, ◌⊎◌, ℕ, zero, suc, ◌+◌, Bool, true, false, not, ◌&&◌, ◌||◌, ◌==◌, List, [], ◌∷◌, ◌++◌, fold, length, bytes_eq, Option, Some, None, is_none, is_some, if◌then◌else◌}
+use Rattle.std.specs.Prelude.{◌≡◌, ◌⊎◌, ℕ, zero, suc, ◌+◌, Bool, true, false, not, ◌&&◌, ◌||◌, ◌==◌, List, [], ◌∷◌, ◌++◌, fold, length, bytes_eq, is_none, is_some, if◌then◌else◌}
 use Rattle.std.specs.Ordering.{int_eq}
 use Rattle.tab_ids.specs.declared.ProcId.{ProcId}
 use Rattle.log_model.specs.declared.action.Action.{Action}
@@ -14,6 +14,7 @@ use Rattle.log_model.specs.declared.row_kind.Actor.TheVariants as actors
 use Rattle.log_model.specs.declared.row_kind.LogRow.{LogRow}
 use Rattle.log_model.specs.declared.row_kind.RowKind.{RowKind}
 use Rattle.log_model.specs.declared.row_kind.RowKind.TheVariants as rows
+use Rattle.log_model.specs.Equal.{same_memo}
 use Rattle.log_model.specs.Seen.{Seen, nothing, desk_of}
 use Rattle.log_model.specs.After.{after}
 use Rattle.log_model.specs.Logs.{seen_of, is_still}
@@ -30,15 +31,9 @@ same_mode modes.Push modes.Push = true
 same_mode modes.Replace modes.Replace = true
 same_mode _ _ = false
 
--- two texts that may be missing are the same
-abbrev pub same_text : Option (List ℕ) → Option (List ℕ) → Bool
-same_text None None = true
-same_text (Some a) (Some b) = bytes_eq a b
-same_text _ _ = false
-
 abbrev pub same_action : Action → Action → Bool
-same_action (actions.Push m r) (actions.Push m' r') = same_text m m' && same_text r r'
-same_action (actions.Replace m r) (actions.Replace m' r') = same_text m m' && same_text r r'
+same_action (actions.Push m r) (actions.Push m' r') = same_memo m m' && same_memo r r'
+same_action (actions.Replace m r) (actions.Replace m' r') = same_memo m m' && same_memo r r'
 same_action (actions.Fragment t) (actions.Fragment t') = bytes_eq t t'
 same_action (actions.AddFrame n) (actions.AddFrame n') = n.0 == n'.0
 same_action (actions.RemoveFrame n) (actions.RemoveFrame n') = n.0 == n'.0
