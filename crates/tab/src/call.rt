@@ -58,7 +58,7 @@ pub fn play_call<S: Source, K: Sink>(
     carry_out(alloc, words, source, sink)
 }
 
-/// The same; what it says of a call that nothing hinders follows from the rest.
+/// `play_call` without its last two clauses, which follow from these.
 fn carry_out<S: Source, K: Sink>(
     alloc: Global,
     words: &[String],
