@@ -10,3 +10,4 @@ pub mod AddFrame
 pub mod RemoveFrame
 pub mod Replace
 pub mod Opening
+pub mod Sorted
