@@ -11,3 +11,4 @@ pub mod RemoveFrame
 pub mod Replace
 pub mod Opening
 pub mod Sorted
+pub mod Same
