@@ -12,3 +12,4 @@ pub mod Replace
 pub mod Opening
 pub mod Sorted
 pub mod Same
+pub mod SameAfter
