@@ -173,7 +173,7 @@ def main() -> int:
         written(f"{crate}/src/main.rt", PROGRAM.replace("@ENTRIES@", "[" + ", ".join(f"{n}u32" for n in entries) + "]"))
         written(f"{crate}/proofs/is_new/Answers.antt", IS_NEW)
         written(f"{crate}/proofs/is_free/Answers.antt", IS_FREE)
-        return subprocess.run(["rt", "run"], cwd=crate).returncode
+        return subprocess.run(["rt", "run", "--jobs", "1"], cwd=crate).returncode
 
 
 if __name__ == "__main__":

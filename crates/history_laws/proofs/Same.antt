@@ -1,16 +1,12 @@
 -- Two histories that are the same but for the order of their rows: their readers answer the same, and a change keeps them the same.
-use Rattle.std.proofs.Common.{◌≡◌, ◌≢◌, ℕ, ◌+◌, ◌<◌, ◌≤◌, Bool, true, false, not, ◌&&◌, ◌||◌, cond, List, [], ◌∷◌, ◌++◌, refl, ap, sym, ◌∙◌, arith, ◌⊎◌, inl, inr, filter, map, fold, find, Option, Some, None, subst}
-use Rattle.std.specs.Prelude.{max, min, nat_le, option_and_then}
+use Rattle.std.proofs.Common.{◌≡◌, Bool, ◌&&◌, List, [], ap, sym, ◌∙◌, filter, fold}
 use Rattle.std.specs.List.{list_any}
-use Rattle.std.proofs.lemmas.Bool.{cases_Bool, false≢true, true≢false, and_parts, and_from, eqb-true, eq-eqb}
-use Rattle.tab_ids.specs.declared.NavId.{NavId}
-use Rattle.tab_ids.specs.declared.StateId.{StateId}
 use Rattle.log_model.specs.declared.row.Row.{Row}
-use Rattle.log_model.specs.History.{History, is_of, has_row, has_state, owner_of, is_anchored, tidied, with_step, used_steps, used_step_at}
-use Rattle.log_model.specs.Order.{ordered, SameHistory}
-use Rattle.log_model.specs.Soundness.{is_in_state, IsRooted, IsSound}
-use Rattle.history_laws.proofs.Members.{IsIn, list_any-filter, found, found_none}
-use Rattle.history_laws.proofs.Tidying.{is_anchored_by, IsClosed, IsClosed-tidied, tidied-closed, tidied-filter, owner_same}
+use Rattle.log_model.specs.History.{has_state, is_anchored, tidied, with_step, used_steps}
+use Rattle.log_model.specs.Order.{ordered}
+use Rattle.log_model.specs.Soundness.{is_in_state, IsRooted}
+use Rattle.history_laws.proofs.Members.{IsIn, list_any-filter}
+use Rattle.history_laws.proofs.Tidying.{IsClosed, IsClosed-tidied, tidied-closed, tidied-filter}
 use Rattle.history_laws.proofs.UsedSteps.{with_step-with_step, used_steps-fold}
 use Rattle.history_laws.proofs.Sorted.{ordered-any, ordered-filter, fold-ordered, HaveSteps}
 
@@ -33,10 +29,10 @@ module _ (one other : List Row) (same : ordered one ≡ ordered other) where
     where
       closed : IsClosed (λ state. has_state state (tidied one)) other
       closed state =
-        IsClosed-tidied one state
-        ∙ list_any-filter (is_in_state state) (is_anchored (tidied one)) one
-        ∙ any-same (λ row. is_anchored (tidied one) row && is_in_state state row)
-        ∙ sym (list_any-filter (is_in_state state) (is_anchored (tidied one)) other)
+          IsClosed-tidied one state
+          ∙ list_any-filter (is_in_state state) (is_anchored (tidied one)) one
+          ∙ any-same (λ row. is_anchored (tidied one) row && is_in_state state row)
+          ∙ sym (list_any-filter (is_in_state state) (is_anchored (tidied one)) other)
 
   -- ---- the readers
 

@@ -1,7 +1,7 @@
 -- The order of rows keeps the rows, and goes with a filter, a map, and a fold that takes rows in any order.
-use Rattle.std.proofs.Common.{◌≡◌, ◌≢◌, ℕ, ◌+◌, ◌<◌, ◌≤◌, Bool, true, false, not, ◌&&◌, ◌||◌, cond, List, [], ◌∷◌, ◌++◌, refl, ap, sym, ◌∙◌, arith, ◌⊎◌, inl, inr, filter, map, fold}
+use Rattle.std.proofs.Common.{◌≡◌, ℕ, ◌≤◌, Bool, true, false, not, ◌||◌, cond, List, [], ◌∷◌, refl, ap, sym, ◌∙◌, arith, inl, inr, filter, map, fold}
 use Rattle.std.specs.List.{list_any, count_by}
-use Rattle.std.proofs.lemmas.Bool.{cases_Bool, or_cases, true≢false, false≢true, and_parts, and_from, eq-eqb}
+use Rattle.std.proofs.lemmas.Bool.{cases_Bool, true≢false, false≢true, and_from, eq-eqb}
 use Rattle.std.proofs.lemmas.Bool.Decides.{nat_tests}
 use Rattle.std.proofs.lemmas.List.Sums.{sum_by-cons}
 use Rattle.tab_ids.specs.declared.NavId.{NavId}
@@ -50,7 +50,7 @@ module _ (f : Row → Row) (navs : (row : Row) → (f row).nav.0 ≡ row.nav.0) 
       elim (cases_Bool (is_before row first)) [
         | inl before ↦ here (f row) (f first) (map f rows) (before_same row first ∙ before) ∙ sym (ap (map f) (here row first rows before))
         | inr behind ↦
-          past (f row) (f first) (map f rows) (before_same row first ∙ behind) ∙ ap (λ rest. f first ∷ rest) (with_row-map row rows) ∙ sym (ap (map f) (past row first rows behind))
+            past (f row) (f first) (map f rows) (before_same row first ∙ behind) ∙ ap (λ rest. f first ∷ rest) (with_row-map row rows) ∙ sym (ap (map f) (past row first rows behind))
       ]
 
   pub ordered-map : (rows : List Row) → ordered (map f rows) ≡ map f (ordered rows)
@@ -75,16 +75,16 @@ with_row-sorted row [] sorted = (refl, tt)
 with_row-sorted row (first ∷ rows) sorted =
     elim (cases_Bool (is_before row first)) [
       | inl before ↦
-        rw (here row first rows before) (
-          or_none _ _ (not_after row first before) (list_any-none (λ other. is_before other row) rows (λ other there.
-            elim (cases_Bool (is_before other row)) [
-              | inl earlier ↦ absurd (false≢true (sym (none_passes (λ o. is_before o first) rows sorted.0 other there) ∙ is_before-trans other row first earlier before))
-              | inr isnt ↦ isnt
-            ])),
-          sorted
-        )
+          rw (here row first rows before) (
+            or_none _ _ (not_after row first before) (list_any-none (λ other. is_before other row) rows (λ other there.
+                elim (cases_Bool (is_before other row)) [
+                  | inl earlier ↦ absurd (false≢true (sym (none_passes (λ o. is_before o first) rows sorted.0 other there) ∙ is_before-trans other row first earlier before))
+                  | inr isnt ↦ isnt
+                ])),
+            sorted,
+          )
       | inr behind ↦
-        rw (past row first rows behind) (with_row-any (λ other. is_before other first) row rows ∙ or_none _ _ behind sorted.0, with_row-sorted row rows sorted.1)
+          rw (past row first rows behind) (with_row-any (λ other. is_before other first) row rows ∙ or_none _ _ behind sorted.0, with_row-sorted row rows sorted.1)
     ]
 
 pub ordered-sorted : (rows : List Row) → IsSorted (ordered rows)
@@ -114,21 +114,21 @@ filter-with_row p row (first ∷ rows) passes sorted = by_tests (filter-with_row
   where
     all_after : is_before row first ≡ true → list_any (λ other. not (is_before row other)) (first ∷ rows) ≡ false
     all_after before =
-      or_none _ _ (ap not before) (list_any-none (λ other. not (is_before row other)) rows (λ other there.
+        or_none _ _ (ap not before) (list_any-none (λ other. not (is_before row other)) rows (λ other there.
         ap not (before_on row first other before (none_passes (λ o. is_before o first) rows sorted.0 other there))))
 
     by_tests : filter p (with_row row rows) ≡ with_row row (filter p rows) → (a : Bool) → is_before row first ≡ a → (b : Bool) → p first ≡ b → filter p (with_row row (first ∷ rows)) ≡ with_row row (filter p (first ∷ rows))
     by_tests rest true before b is =
-      ap (filter p) (here row first rows before) ∙ ap (λ c. cond c (row ∷ filter p (first ∷ rows)) (filter p (first ∷ rows))) passes
-      ∙ sym (with_row-front row (filter p (first ∷ rows)) (list_any-none (λ other. not (is_before row other)) (filter p (first ∷ rows)) (λ other kept.
+        ap (filter p) (here row first rows before) ∙ ap (λ c. cond c (row ∷ filter p (first ∷ rows)) (filter p (first ∷ rows))) passes
+        ∙ sym (with_row-front row (filter p (first ∷ rows)) (list_any-none (λ other. not (is_before row other)) (filter p (first ∷ rows)) (λ other kept.
         none_passes (λ o. not (is_before row o)) (first ∷ rows) (all_after before) other (IsIn-filter p (first ∷ rows) other kept))))
     by_tests rest false behind true is =
-      ap (filter p) (past row first rows behind) ∙ ap (λ c. cond c (first ∷ filter p (with_row row rows)) (filter p (with_row row rows))) is
-      ∙ ap (λ more. first ∷ more) rest ∙ sym (past row first (filter p rows) behind)
-      ∙ sym (ap (λ c. with_row row (cond c (first ∷ filter p rows) (filter p rows))) is)
+        ap (filter p) (past row first rows behind) ∙ ap (λ c. cond c (first ∷ filter p (with_row row rows)) (filter p (with_row row rows))) is
+        ∙ ap (λ more. first ∷ more) rest ∙ sym (past row first (filter p rows) behind)
+        ∙ sym (ap (λ c. with_row row (cond c (first ∷ filter p rows) (filter p rows))) is)
     by_tests rest false behind false is =
-      ap (filter p) (past row first rows behind) ∙ ap (λ c. cond c (first ∷ filter p (with_row row rows)) (filter p (with_row row rows))) is
-      ∙ rest ∙ sym (ap (λ c. with_row row (cond c (first ∷ filter p rows) (filter p rows))) is)
+        ap (filter p) (past row first rows behind) ∙ ap (λ c. cond c (first ∷ filter p (with_row row rows)) (filter p (with_row row rows))) is
+        ∙ rest ∙ sym (ap (λ c. with_row row (cond c (first ∷ filter p rows) (filter p rows))) is)
 
 pub ordered-filter : (p : Row → Bool) (rows : List Row) → ordered (filter p rows) ≡ filter p (ordered rows)
 ordered-filter p [] = refl
@@ -136,9 +136,9 @@ ordered-filter p (row ∷ rows) = by_test (ordered-filter p rows) (p row) refl
   where
     by_test : ordered (filter p rows) ≡ filter p (ordered rows) → (b : Bool) → p row ≡ b → ordered (filter p (row ∷ rows)) ≡ filter p (with_row row (ordered rows))
     by_test rest true passes =
-      ap (λ c. ordered (cond c (row ∷ filter p rows) (filter p rows))) passes ∙ ap (with_row row) rest ∙ sym (filter-with_row p row (ordered rows) passes (ordered-sorted rows))
+        ap (λ c. ordered (cond c (row ∷ filter p rows) (filter p rows))) passes ∙ ap (with_row row) rest ∙ sym (filter-with_row p row (ordered rows) passes (ordered-sorted rows))
     by_test rest false fails =
-      ap (λ c. ordered (cond c (row ∷ filter p rows) (filter p rows))) fails ∙ rest ∙ sym (filter-past p row (ordered rows) fails)
+        ap (λ c. ordered (cond c (row ∷ filter p rows) (filter p rows))) fails ∙ rest ∙ sym (filter-past p row (ordered rows) fails)
 
 -- ---- it goes with a fold that takes rows of different places in any order
 
@@ -163,9 +163,9 @@ module _ {B : Type 0} (f : B → Row → B) (turns : (z : B) (one other : Row) �
       elim (cases_Bool (is_before row first)) [
         | inl before ↦ ap (fold f z) (here row first rows before)
         | inr behind ↦
-          ap (fold f z) (past row first rows behind)
-          ∙ fold-with_row (f z first) row rows (λ other there. apart other (IsIn-tail rows first other there))
-          ∙ ap (λ y. fold f y rows) (sym (turns z row first (apart first (IsIn-head rows first))))
+            ap (fold f z) (past row first rows behind)
+            ∙ fold-with_row (f z first) row rows (λ other there. apart other (IsIn-tail rows first other there))
+            ∙ ap (λ y. fold f y rows) (sym (turns z row first (apart first (IsIn-head rows first))))
       ]
 
   pub fold-ordered : (z : B) (rows : List Row) → HaveSteps rows → fold f z (ordered rows) ≡ fold f z rows
