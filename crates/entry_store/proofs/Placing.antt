@@ -80,7 +80,7 @@ module _ (nests : List Nest) (place at : ℕ) (old new : Nest) (row was : Row) (
   cut_at r rows are =
       ap (λ (mine : List Row). rows_of (take place nests) ++ (mine ++ rows_of (drop (suc place) nests))) are
       ∙ between (rows_of (take place nests)) (take at old.rows.items) r (drop (suc at) old.rows.items) (rows_of (drop (suc place) nests))
-      ∙ rw (add-one, add-one) (ap (λ (mine : List Row). (rows_of (take place nests) ++ take at mine) ++ r ∷ (drop (suc at) mine ++ rows_of (drop (suc place) nests))) (sym here))
+      ∙ rw (add-one at, add-one place) (ap (λ (mine : List Row). (rows_of (take place nests) ++ take at mine) ++ r ∷ (drop (suc at) mine ++ rows_of (drop (suc place) nests))) (sym here))
 
   pub swapped : SwapsRow nests place at row was (set nests place new)
   swapped = record {

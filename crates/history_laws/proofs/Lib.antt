@@ -10,3 +10,6 @@ pub mod AddFrame
 pub mod RemoveFrame
 pub mod Replace
 pub mod Opening
+pub mod Sorted
+pub mod Same
+pub mod SameAfter
