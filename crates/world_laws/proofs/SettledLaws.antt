@@ -88,12 +88,12 @@ settled_if s settles = by_quiet (is_quiet s) refl
 pub settled_of_keeps : (n : ℕ) (p : Past) (t : Single) → (keeps : Keeps n t) → KeepsPast p t keeps.target → is_settled_if_quiet (seen_with p t) ≡ true
 settled_of_keeps n p t keeps kept =
     settled_if (seen_with p t) (λ quiet.
-      let still = (and_parts (is_still (seen_with p t)) _ quiet).0 in
-      let idle = (and_parts (is_idle (desk_with t)) true still).0 in
-      let third = and_parts _ (length t.reports == 0) idle in
-      let second = and_parts _ (is_none t.in_hand) third.0 in
-      let first = and_parts (length t.input == 0) (length t.mail == 0) second.0 in
-      quiet_settled n p t keeps kept (empty_of t.input first.0) (empty_of t.mail first.1) (none_of t.in_hand second.1) (empty_of t.reports third.1))
+    let still = (and_parts (is_still (seen_with p t)) _ quiet).0 in
+    let idle = (and_parts (is_idle (desk_with t)) true still).0 in
+    let third = and_parts _ (length t.reports == 0) idle in
+    let second = and_parts _ (is_none t.in_hand) third.0 in
+    let first = and_parts (length t.input == 0) (length t.mail == 0) second.0 in
+    quiet_settled n p t keeps kept (empty_of t.input first.0) (empty_of t.mail first.1) (none_of t.in_hand second.1) (empty_of t.reports third.1))
 
 -- one more event of a world
 pub world_more : (log : List LogRow) (t next : Single) (past : Past) (first : LogRow) (rows : List LogRow) → (world : IsWorld log t) → IsLegalEvent (seen_with world.past t) (first ∷ rows) → fold after (seen_with world.past t) (first ∷ rows) ≡ seen_with past next → (keeps : Keeps (length log + length (first ∷ rows)) next) → KeepsPast past next keeps.target → IsWorld (log ++ first ∷ rows) next
