@@ -13,3 +13,4 @@ pub mod Opening
 pub mod Sorted
 pub mod Same
 pub mod SameAfter
+pub mod InOrder

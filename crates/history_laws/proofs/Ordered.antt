@@ -19,10 +19,10 @@ is_before-trans one other third first second = grind (arith, nat_tests)
 pub is_before-apart : (one other : Row) → AreApart one other → is_before other one ≡ not (is_before one other)
 is_before-apart one other apart = grind (arith, nat_tests)
 
-put_here : (row first : Row) (rows : List Row) → is_before row first ≡ true → with_row row (first ∷ rows) ≡ row ∷ first ∷ rows
+pub put_here : (row first : Row) (rows : List Row) → is_before row first ≡ true → with_row row (first ∷ rows) ≡ row ∷ first ∷ rows
 put_here row first rows before = rw before refl
 
-put_past : (row first : Row) (rows : List Row) → is_before row first ≡ false → with_row row (first ∷ rows) ≡ first ∷ with_row row rows
+pub put_past : (row first : Row) (rows : List Row) → is_before row first ≡ false → with_row row (first ∷ rows) ≡ first ∷ with_row row rows
 put_past row first rows behind = rw behind refl
 
 both_here : (one other row : Row) (rows : List Row) → is_before one row ≡ true → is_before other row ≡ true → is_before one other ≡ true → is_before other one ≡ false → with_row one (with_row other (row ∷ rows)) ≡ with_row other (with_row one (row ∷ rows))

@@ -41,10 +41,10 @@ owner_by whole rooted nav one other part part_too any (Some x) (Some y) a b =
 
 -- ---- the used step
 
-used_upto : ℕ → ℕ → Row → ℕ
+pub used_upto : ℕ → ℕ → Row → ℕ
 used_upto step best row = cond (nat_le row.step.0 step) (max best row.step.0) best
 
-used_by_row : (step best : ℕ) (rows : List Row) → fold (used_upto step) best rows ≡ fold max best (filter (λ used. nat_le used step) (map (λ (row : Row). row.step.0) rows))
+pub used_by_row : (step best : ℕ) (rows : List Row) → fold (used_upto step) best rows ≡ fold max best (filter (λ used. nat_le used step) (map (λ (row : Row). row.step.0) rows))
 unfolding used_upto
 used_by_row step best [] = refl
 used_by_row step best (row ∷ rows) =
@@ -53,7 +53,7 @@ used_by_row step best (row ∷ rows) =
       | inr beyond ↦ rw beyond (used_by_row step best rows)
     ]
 
-used_turns : (step z : ℕ) (a b : Row) → used_upto step (used_upto step z a) b ≡ used_upto step (used_upto step z b) a
+pub used_turns : (step z : ℕ) (a b : Row) → used_upto step (used_upto step z a) b ≡ used_upto step (used_upto step z b) a
 unfolding used_upto
 used_turns step z a b = by_tests (nat_le a.step.0 step) (nat_le b.step.0 step)
   where

@@ -146,10 +146,10 @@ ordered-filter p (row ∷ rows) = by_test (ordered-filter p rows) (p row) refl
 abbrev pub HaveSteps : List Row → Type 0
 HaveSteps rows = (nav : NavId) (step : ℕ) → count_by (stands_at nav step) rows ≤ 1
 
-HaveSteps-tail : (row : Row) (rows : List Row) → HaveSteps (row ∷ rows) → HaveSteps rows
+pub HaveSteps-tail : (row : Row) (rows : List Row) → HaveSteps (row ∷ rows) → HaveSteps rows
 HaveSteps-tail row rows few nav step = omega (arith, few nav step, sum_by-cons (λ r. cond (stands_at nav step r) 1 0) row rows)
 
-apart_first : (row : Row) (rows : List Row) → HaveSteps (row ∷ rows) → (other : Row) → IsIn rows other → AreApart row other
+pub apart_first : (row : Row) (rows : List Row) → HaveSteps (row ∷ rows) → (other : Row) → IsIn rows other → AreApart row other
 apart_first row rows few other there navs steps =
     let test = stands_at row.nav row.step.0 in
     let mine : test row ≡ true = and_from _ _ (eq-eqb row.nav.0 row.nav.0 refl) (eq-eqb row.step.0 row.step.0 refl) in
