@@ -4,12 +4,15 @@ pub mod Visiting
 pub mod Reading
 pub mod Placing
 pub mod Left
+pub mod StepBounds
+pub mod LastStep
 pub mod PushLaw
+pub mod AppendLaw
 pub mod Keeping
 pub mod RemoveLaw
 pub mod MoveLaw
 pub mod AddLaw
 pub mod ReplaceLaw
-pub mod StepBounds
 pub mod InOrder
 pub mod Asking
+pub mod ForCallers

@@ -13,7 +13,7 @@ use Rattle.tab_ids.specs.declared.EntryId.{EntryId}
 use Rattle.log_model.specs.declared.row.Row.{Row}
 use Rattle.log_model.specs.History.{History, same_entry, is_of, has_row, owner_of, cleared, pushed, used_steps, with_step}
 use Rattle.log_model.specs.Order.{ordered, SameHistory}
-use Rattle.log_model.specs.Soundness.{is_entry, holds, IsSound}
+use Rattle.log_model.specs.Soundness.{is_entry, IsSound}
 use Rattle.history_laws.proofs.Members.{or_right, or_none, IsIn, witness, filter-same, find-filter, found, found_none, some_same, list_any-none, none_passes}
 use Rattle.history_laws.proofs.Ordered.{ordered-insert}
 use Rattle.history_laws.proofs.UsedSteps.{used_steps-insert}
@@ -56,6 +56,66 @@ pushed_row current owner nav entry state address memo =
 abbrev pub with_rows : History → List Row → ℕ → History
 with_rows history rows current = record { rows = rows; current = current; added = history.added }
 
+-- a row of the navigable among those that a push leaves, and the owner that the navigable's entries have there
+pub record IsPlaced (history : History) (nav : NavId) (owner : Option StateId) : Type 0 where
+  pub it : Row
+  pub is_in : IsIn (cleared history) it
+  pub is_of : it.nav.0 ≡ nav.0
+  pub owner_is : owner ≡ it.owner
+  pub owner_of_is : owner_of nav (cleared history) ≡ owner
+
+-- the rows that a push leaves, and its own among them
+module _ (history : History) (used : List ℕ) (kept : IsKept history used) (room : history.current < 4294967294) (nav : NavId) (entry : EntryId) (state : StateId) (address : List ℕ) (memo : Option (List ℕ)) (may : MayTake history (Push nav entry state address memo)) (owner : Option StateId) (p : IsPlaced history nav owner) (new : List Row) (puts : PutsRow (cleared history) (pushed_row history.current owner nav entry state address memo) new) where
+  abbrev row : Row
+  row = pushed_row history.current owner nav entry state address memo
+
+  adds : AddsRow (cleared history) row new
+  adds =
+      subst (λ (rows : List Row). AddsRow rows row new) (sym puts.was)
+      (subst (λ (rows : List Row). AddsRow (puts.front ++ puts.back) row rows) (sym puts.is) (AddsRow-insert puts.front puts.back row))
+
+  pub push_fits : has_row nav (cleared history) ≡ true
+  push_fits = p.is_in (is_of nav) (eq-eqb p.it.nav.0 nav.0 p.is_of)
+
+  pub push_same : SameHistory (with_rows history new (history.current + 1)) (pushed history nav entry state address memo)
+  push_same = record {
+    rows =
+        ap ordered puts.is
+        ∙ ordered-insert puts.front puts.back row (λ other there navs steps. omega (arith, steps, cleared-up_to history other (in_cleared other there)))
+        ∙ ap (λ rows. ordered (rows ++ row ∷ [])) (sym puts.was)
+        ∙ ap (λ (o : Option StateId). ordered (cleared history ++ pushed_row history.current o nav entry state address memo ∷ [])) (sym p.owner_of_is);
+    current = refl;
+    added = refl;
+  }
+    where
+      in_cleared : (other : Row) → IsIn puts.back other → IsIn (cleared history) other
+      in_cleared other there test passes =
+          ap (list_any test) puts.was ∙ list_any-append test puts.front puts.back ∙ or_right (list_any test puts.front) (list_any test puts.back) (there test passes)
+
+  pub push_kept : (beside : List ℕ) → beside ≡ with_step (history.current + 1) (used_steps (cleared history)) → IsKept (with_rows history new (history.current + 1)) beside
+  push_kept beside is = record {
+    sound =
+        IsSound-pushed history row new (history.current + 1) history.added kept.sound adds
+        (record { it = p.it; is_in = p.is_in; nav = sym p.is_of; owner = p.owner_is })
+        (omega arith) may.0 may.1;
+    added = λ child has is_child.
+        elim (or_cases (is_of child row) (has_row child (cleared history)) (sym (adds.any (is_of child)) ∙ has)) [
+          | inl here ↦ kept.added child (cleared-part history p.it p.is_in (is_of child) (eq-eqb p.it.nav.0 child.0 (p.is_of ∙ eqb-true nav.0 child.0 here))) is_child
+          | inr there ↦
+              let w = witness (is_of child) (cleared history) there in
+              kept.added child (cleared-part history w.it w.is_in (is_of child) w.passes) is_child
+        ];
+    used =
+        is ∙ ap (λ rows. with_step (history.current + 1) (used_steps rows)) puts.was
+        ∙ sym (used_steps-insert puts.front puts.back row)
+        ∙ ap used_steps (sym puts.is);
+    below =
+        adds.any (λ (r : Row). nat_le 4294967295 r.step.0)
+        ∙ or_none _ _ (lt-leb 4294967295 (history.current + 1) (omega (arith, room)))
+        (list_any-none (λ (r : Row). nat_le 4294967295 r.step.0) (cleared history) (λ r there. none_passes (λ (x : Row). nat_le 4294967295 x.step.0) history.rows kept.below r (cleared-part history r there)));
+  }
+
+-- the rows that stay after the cut
 module _ (history : History) (sound : IsSound history) (entry : EntryId) (entry_is_new : list_any (is_entry entry) history.rows ≡ false) (states : List StateId) where
   abbrev pub cut_of : Cut
   cut_of = Forward (record { 0 = history.current }) entry
@@ -82,116 +142,71 @@ module _ (history : History) (sound : IsSound history) (entry : EntryId) (entry_
     pub none_left : (nav : NavId) → None ≡ option_map (λ (row : Row). row.owner) (find (λ row. is_of nav row && stays cut_of states row) history.rows) → has_row nav (cleared history) ≡ false
     none_left nav none = found_none (is_of nav) (cleared history) (searched nav ∙ has_none _ none)
 
-    -- a row of the navigable that stays
-    pub record Place (nav : NavId) (owner : Option StateId) : Type 0 where
-      pub it : Row
-      pub is_in : IsIn (cleared history) it
-      pub is_of : it.nav.0 ≡ nav.0
-      pub stays : stays cut_of states it ≡ true
-      pub owner_is : owner ≡ it.owner
-      pub owner_of_is : owner_of nav (cleared history) ≡ owner
+    module _ (nav : NavId) (owner : Option StateId) (is : Some owner ≡ option_map (λ (row : Row). row.owner) (find (λ row. is_of nav row && stays cut_of states row) history.rows)) where
+      it : HasOwner (find (λ row. is_of nav row && stays cut_of states row) history.rows) owner
+      it = has_owner _ owner is
 
-    pub place : (nav : NavId) (owner : Option StateId) → Some owner ≡ option_map (λ (row : Row). row.owner) (find (λ row. is_of nav row && stays cut_of states row) history.rows) → Place nav owner
-    place nav owner is =
-        let w = has_owner _ owner is in
-        let here = found (λ row. is_of nav row && stays cut_of states row) history.rows w.it w.is in
-        let both = and_parts (is_of nav w.it) (stays cut_of states w.it) here.passes in
-        let searched_is = searched nav ∙ w.is in
-        record {
-          it = w.it;
-          is_in = (found (is_of nav) (cleared history) w.it searched_is).is_in;
-          is_of = eqb-true w.it.nav.0 nav.0 both.0;
-          stays = both.1;
-          owner_is = w.owner_is;
-          owner_of_is = ap (λ (row : Option Row). option_and_then (λ (r : Row). r.owner) row) searched_is ∙ sym w.owner_is;
-        }
+      here : (is_of nav it.it ≡ true) × (stays cut_of states it.it ≡ true)
+      here =
+          and_parts (is_of nav it.it) (stays cut_of states it.it) (found (λ row. is_of nav row && stays cut_of states row) history.rows it.it it.is).passes
 
-    -- the pushed row stays, too
-    pub pushed-stays : (nav : NavId) (owner : Option StateId) (state : StateId) (address : List ℕ) (memo : Option (List ℕ)) → Place nav owner → stays cut_of states (pushed_row history.current owner nav entry state address memo) ≡ true
-    pushed-stays nav owner state address memo p =
-        let held_is = (and_parts (outlives cut_of p.it) (is_held_by states p.it) p.stays).1 in
-        and_from _ _
-        (or_right (nat_le (history.current + 1) history.current) (same_entry entry entry) (and_from _ _ (eq-eqb entry.maker entry.maker refl) (eq-eqb entry.nr entry.nr refl)))
-        (ap (λ (o : Option StateId). option_map_or (has states) o true) p.owner_is ∙ held_is)
-
-    module _ (used : List ℕ) (kept : IsKept history used) (room : history.current < 4294967294) (nav : NavId) (state : StateId) (address : List ℕ) (memo : Option (List ℕ)) (mine : (other : NavId) → holds other state history.rows ≡ true → other.0 ≡ nav.0) (owner : Option StateId) (p : Place nav owner) (put swept : List Row) (puts : PutsRow history.rows (pushed_row history.current owner nav entry state address memo) put) (swept_is : swept ≡ filter (stays cut_of states) put) where
-      abbrev row : Row
-      row = pushed_row history.current owner nav entry state address memo
-
-      abbrev front : List Row
-      front = filter (stays cut_of states) puts.front
-
-      abbrev back : List Row
-      back = filter (stays cut_of states) puts.back
-
-      cleared_is : front ++ back ≡ cleared history
-      cleared_is = sym (filter-append (stays cut_of states) puts.front puts.back) ∙ ap (filter (stays cut_of states)) (sym puts.was) ∙ stays-cleared
-
-      swept_split : swept ≡ front ++ row ∷ back
-      swept_split =
-          swept_is ∙ ap (filter (stays cut_of states)) puts.is ∙ filter-append (stays cut_of states) puts.front (row ∷ puts.back)
-          ∙ ap (λ b. front ++ cond b (row ∷ back) back) (pushed-stays nav owner state address memo p)
-
-      adds : AddsRow (cleared history) row swept
-      adds = subst (λ (rows : List Row). AddsRow rows row swept) cleared_is (subst (λ (rows : List Row). AddsRow (front ++ back) row rows) (sym swept_split) (AddsRow-insert front back row))
-
-      pub push_fits : has_row nav (cleared history) ≡ true
-      push_fits = p.is_in (is_of nav) (eq-eqb p.it.nav.0 nav.0 p.is_of)
-
-      pub push_same : SameHistory (with_rows history swept (history.current + 1)) (pushed history nav entry state address memo)
-      push_same = record {
-        rows =
-            ap ordered swept_split
-            ∙ ordered-insert front back row (λ other there navs steps. omega (arith, steps, cleared-up_to history other (in_cleared other there)))
-            ∙ ap (λ rows. ordered (rows ++ row ∷ [])) cleared_is
-            ∙ ap (λ (o : Option StateId). ordered (cleared history ++ pushed_row history.current o nav entry state address memo ∷ [])) (sym p.owner_of_is);
-        current = refl;
-        added = refl;
+      pub placed : IsPlaced history nav owner
+      placed = record {
+        it = it.it;
+        is_in = (found (is_of nav) (cleared history) it.it (searched nav ∙ it.is)).is_in;
+        is_of = eqb-true it.it.nav.0 nav.0 here.0;
+        owner_is = it.owner_is;
+        owner_of_is = ap (λ (row : Option Row). option_and_then (λ (r : Row). r.owner) row) (searched nav ∙ it.is) ∙ sym it.owner_is;
       }
-        where
-          in_cleared : (other : Row) → IsIn back other → IsIn (cleared history) other
-          in_cleared other there test passes =
-              sym (ap (list_any test) cleared_is) ∙ list_any-append test front back ∙ or_right (list_any test front) (list_any test back) (there test passes)
 
-      pub push_kept : (beside : List ℕ) → beside ≡ with_step (history.current + 1) (used_steps (filter (stays cut_of states) history.rows)) → IsKept (with_rows history swept (history.current + 1)) beside
-      push_kept beside is = record {
-        sound =
-            IsSound-pushed history row swept (history.current + 1) history.added sound adds
-            (record { it = p.it; is_in = p.is_in; nav = sym p.is_of; owner = p.owner_is })
-            (omega arith) entry_is_new mine;
-        added = λ child has is_child.
-            elim (or_cases (is_of child row) (has_row child (cleared history)) (sym (adds.any (is_of child)) ∙ has)) [
-              | inl here ↦ kept.added child (cleared-part history p.it p.is_in (is_of child) (eq-eqb p.it.nav.0 child.0 (p.is_of ∙ eqb-true nav.0 child.0 here))) is_child
-              | inr there ↦
-                  let w = witness (is_of child) (cleared history) there in
-                  kept.added child (cleared-part history w.it w.is_in (is_of child) w.passes) is_child
-            ];
-        used =
-            is ∙ ap (λ rows. with_step (history.current + 1) (used_steps rows)) (stays-cleared ∙ sym cleared_is)
-            ∙ sym (used_steps-insert front back row)
-            ∙ ap used_steps (sym swept_split);
-        below =
-            adds.any (λ (r : Row). nat_le 4294967295 r.step.0)
-            ∙ or_none _ _ (lt-leb 4294967295 (history.current + 1) (omega (arith, room)))
-            (list_any-none (λ (r : Row). nat_le 4294967295 r.step.0) (cleared history) (λ r there. none_passes (λ (x : Row). nat_le 4294967295 x.step.0) history.rows kept.below r (cleared-part history r there)));
-      }
+      -- the pushed row stays, too
+      pushed-stays : (state : StateId) (address : List ℕ) (memo : Option (List ℕ)) → stays cut_of states (pushed_row history.current owner nav entry state address memo) ≡ true
+      pushed-stays state address memo =
+          let held_is = (and_parts (outlives cut_of it.it) (is_held_by states it.it) here.1).1 in
+          and_from _ _
+          (or_right (nat_le (history.current + 1) history.current) (same_entry entry entry) (and_from _ _ (eq-eqb entry.maker entry.maker refl) (eq-eqb entry.nr entry.nr refl)))
+          (ap (λ (o : Option StateId). option_map_or (has states) o true) it.owner_is ∙ held_is)
+
+      pub swept_puts : (state : StateId) (address : List ℕ) (memo : Option (List ℕ)) (put swept : List Row)
+          → PutsRow history.rows (pushed_row history.current owner nav entry state address memo) put
+          → swept ≡ filter (stays cut_of states) put
+          → PutsRow (cleared history) (pushed_row history.current owner nav entry state address memo) swept
+      swept_puts state address memo put swept puts swept_is =
+          let row : Row = pushed_row history.current owner nav entry state address memo in
+          let front = filter (stays cut_of states) puts.front in
+          let back = filter (stays cut_of states) puts.back in
+          record {
+            front = front;
+            back = back;
+            was = sym stays-cleared ∙ ap (filter (stays cut_of states)) puts.was ∙ filter-append (stays cut_of states) puts.front puts.back;
+            is =
+                swept_is ∙ ap (filter (stays cut_of states)) puts.is ∙ filter-append (stays cut_of states) puts.front (row ∷ puts.back)
+                ∙ ap (λ b. front ++ cond b (row ∷ back) back) (pushed-stays state address memo);
+          }
 
 -- the same, of a plan for these lists
 module _ (lists : Nested) (kept : IsKept (history_in lists) lists.used.keys) (room : lists.current.0 < 4294967294) (nav : NavId) (entry : EntryId) (state : StateId) (address : List ℕ) (memo : Option (List ℕ)) (may : MayTake (history_in lists) (Push nav entry state address memo)) (at : ℕ) (row : Row) (states : List StateId) (beside : List ℕ) (plan : IsPushPlan lists nav entry state address memo at row states beside) (put swept : List Row) (puts : PutsRow (rows_of lists.nests.items) row put) (swept_is : swept ≡ filter (stays (Forward lists.current entry) states) put) where
-  place_is : Place (history_in lists) kept.sound entry may.0 states plan.held nav plan.owner
-  place_is = place (history_in lists) kept.sound entry may.0 states plan.held nav plan.owner plan.found
+  abbrev history : History
+  history = history_in lists
 
-  puts_is : PutsRow (rows_of lists.nests.items) (pushed_row lists.current.0 plan.owner nav entry state address memo) put
-  puts_is = subst (λ (r : Row). PutsRow (rows_of lists.nests.items) r put) plan.is puts
+  placed_is : IsPlaced history nav plan.owner
+  placed_is = placed history kept.sound entry may.0 states plan.held nav plan.owner plan.found
 
-  pub planned_fits : has_row nav (cleared (history_in lists)) ≡ true
-  planned_fits = push_fits (history_in lists) kept.sound entry may.0 states plan.held lists.used.keys kept room nav state address memo may.1 plan.owner place_is put swept puts_is swept_is
+  puts_is : PutsRow (cleared history) (pushed_row lists.current.0 plan.owner nav entry state address memo) swept
+  puts_is =
+      swept_puts history kept.sound entry may.0 states plan.held nav plan.owner plan.found state address memo put swept
+      (subst (λ (r : Row). PutsRow (rows_of lists.nests.items) r put) plan.is puts) swept_is
 
-  pub planned_same : SameHistory (with_rows (history_in lists) swept (lists.current.0 + 1)) (pushed (history_in lists) nav entry state address memo)
-  planned_same = push_same (history_in lists) kept.sound entry may.0 states plan.held lists.used.keys kept room nav state address memo may.1 plan.owner place_is put swept puts_is swept_is
+  pub planned_fits : has_row nav (cleared history) ≡ true
+  planned_fits = push_fits history lists.used.keys kept room nav entry state address memo may plan.owner placed_is swept puts_is
 
-  pub planned_kept : IsKept (with_rows (history_in lists) swept (lists.current.0 + 1)) beside
-  planned_kept = push_kept (history_in lists) kept.sound entry may.0 states plan.held lists.used.keys kept room nav state address memo may.1 plan.owner place_is put swept puts_is swept_is beside plan.steps
+  pub planned_same : SameHistory (with_rows history swept (lists.current.0 + 1)) (pushed history nav entry state address memo)
+  planned_same = push_same history lists.used.keys kept room nav entry state address memo may plan.owner placed_is swept puts_is
+
+  pub planned_kept : IsKept (with_rows history swept (lists.current.0 + 1)) beside
+  planned_kept =
+      push_kept history lists.used.keys kept room nav entry state address memo may plan.owner placed_is swept puts_is beside
+      (plan.steps ∙ ap (λ rows. with_step (lists.current.0 + 1) (used_steps rows)) (stays-cleared history kept.sound entry may.0 states plan.held))
 
 -- a plan, made of what was found in the lists
 module _ (lists : Nested) (nav : NavId) (entry : EntryId) (one two : List Nest) (one_is : one ≡ lists.nests.items) (two_is : two ≡ lists.nests.items) (left : List StateId) (held : AreHeld left (filter (outlives (Forward lists.current entry)) (rows_of one))) where

@@ -29,7 +29,7 @@ with_step-ascends low high step (first ∷ steps) above below within =
           ]
     ]
 
-used_steps-ascend : (high : ℕ) (rows : List Row) → list_any (λ (row : Row). nat_le high row.step.0) rows ≡ false → Ascends 0 high (used_steps rows)
+pub used_steps-ascend : (high : ℕ) (rows : List Row) → list_any (λ (row : Row). nat_le high row.step.0) rows ≡ false → Ascends 0 high (used_steps rows)
 used_steps-ascend high [] none = omega arith
 used_steps-ascend high (row ∷ rows) none =
     let both = or_parts (nat_le high row.step.0) (list_any (λ (r : Row). nat_le high r.step.0) rows) none in

@@ -48,6 +48,14 @@ pub record IsPlaceOf (nests : List Nest) (nav : NavId) (entry : EntryId) (place 
   pub owner_is : owner ≡ it.owner
   pub step_is : step ≡ it.step.0
 
+-- a list that begins with an entry of the navigable, and the document state on which that entry hangs
+pub record IsListOf (nests : List Nest) (nav : NavId) (place : ℕ) (owner : Option StateId) : Type 0 where
+  pub it : Row
+  pub within : place < length nests
+  pub here : slice_get (rows_at nests place) 0 ≡ Some it
+  pub is_navs : it.nav.0 ≡ nav.0
+  pub owner_is : owner ≡ it.owner
+
 -- one row has the place of another, and the rest is as it was
 pub record SwapsRow (old : List Nest) (place at : ℕ) (row was : Row) (new : List Nest) : Type 0 where
   pub there : slice_get (rows_at old place) at ≡ Some was

@@ -2,6 +2,7 @@
 #![tactic(auto)]
 
 mod add;
+mod append;
 mod change;
 mod counting;
 mod cut;

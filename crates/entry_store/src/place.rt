@@ -1,5 +1,5 @@
-//! Where a new row goes.
-ghost use Rattle.std.specs.Prelude.{◌≡◌, ◌<◌, ◌&&◌, length, find, IfSome, OnOk, OnErr};
+//! A new row, and where it goes.
+ghost use Rattle.std.specs.Prelude.{◌≡◌, ◌<◌, ◌&&◌, length, find, IfSome, IfOk, OnOk, OnErr};
 ghost use Rattle.std.specs.Option.{option_copied, option_map};
 ghost use Rattle.log_model.specs.History.{is_of};
 ghost use Rattle.log_model.specs.declared.row.Row.{Row};
@@ -9,10 +9,35 @@ ghost use Rattle.entry_store.specs.Kept.{PutsRow};
 use crate::cut::Cut;
 use crate::live::is_staying;
 use crate::nest::Nest;
-use address::OutOfMemory;
+use address::{Address, OutOfMemory, Text};
 use indexmap::IndexSet;
-use log_model::Row;
-use tab_ids::{NavId, StateId};
+use log_model::{Row, copy_memo};
+use tab_ids::{EntryId, NavId, StateId, Step};
+
+/// An entry's row.
+pub fn entry_row(
+    owner: Option<StateId>,
+    nav: NavId,
+    entry: EntryId,
+    step: Step,
+    state: StateId,
+    address: &Address,
+    memo: &Option<Text>,
+) -> Result<Row, OutOfMemory>
+    ensures { IfOk result (λ row. row ≡ record { owner = owner; nav = nav; entry = entry; step = step; state = state; address = address.now; memo = memo.now }) }
+{
+    let address = address.copy()?;
+    let memo = copy_memo(memo)?;
+    Ok(Row {
+        owner,
+        nav,
+        entry,
+        step,
+        state,
+        address,
+        memo,
+    })
+}
 
 /// The list of a navigable's entries that stay, and the document state on which they hang; None where none stays.
 pub fn place_of(

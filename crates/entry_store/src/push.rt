@@ -6,14 +6,15 @@ ghost use Rattle.log_model.specs.declared.change.Change.TheVariants.{Push};
 ghost use Rattle.entry_store.specs.Store.{MayTake, IsRefused};
 ghost use Rattle.entry_store.specs.Kept.{history_in, IsKept, IsPushPlan};
 
+use crate::append::{append_in, end_place};
 use crate::cut::Cut;
 use crate::error::StoreError;
 use crate::nested::Nested;
-use crate::place::{place_of, put_row};
+use crate::place::{entry_row, place_of, put_row};
 use crate::plan::{Plan, plan_of};
 use crate::sweep::sweep;
-use address::{Address, OutOfMemory, Text};
-use log_model::{Row, copy_memo};
+use address::{Address, Text};
+use log_model::Row;
 use tab_ids::{EntryId, NavId, StateId, Step};
 
 /// A push that is sure of its place and its memory, but for that of the list it goes to.
@@ -26,6 +27,33 @@ struct PushPlan {
 
 /// Clears the forward session history and adds an entry a step after the current one.
 pub fn push_in(
+    lists: &mut Nested,
+    nav: NavId,
+    entry: EntryId,
+    state: StateId,
+    address: &Address,
+    memo: &Option<Text>,
+) -> Result<(), StoreError>
+    requires kept { IsKept (history_in lists.old) lists.old.used.keys }
+    requires may { MayTake (history_in lists.old) (Push nav entry state address.now memo.now) }
+    requires room { lists.old.current.0 < 4294967294 }
+    ensures kept { IsKept (history_in lists.new) lists.new.used.keys }
+    ensures fits { OnOk result (Fits (history_in lists.old) (Push nav entry state address.now memo.now)) }
+    ensures ok { OnOk result (SameHistory (history_in lists.new) (applied (history_in lists.old) (Push nav entry state address.now memo.now))) }
+    ensures refused { IfErr result (IsRefused (history_in lists.old) (Push nav entry state address.now memo.now)) }
+    ensures err { OnErr result (history_in lists.new ≡ history_in lists.old) }
+{
+    match end_place(lists, nav) {
+        Some(end) => {
+            append_in(lists, end, nav, entry, state, address, memo)?;
+            Ok(())
+        }
+        None => clear_and_push(lists, nav, entry, state, address, memo),
+    }
+}
+
+// The same, going along all rows: where entries stand beyond the current step, or no list begins with the navigable's entry.
+fn clear_and_push(
     lists: &mut Nested,
     nav: NavId,
     entry: EntryId,
@@ -77,29 +105,4 @@ fn push_plan(
             Ok(PushPlan { place, row, left })
         }
     }
-}
-
-/// An entry's row.
-pub fn entry_row(
-    owner: Option<StateId>,
-    nav: NavId,
-    entry: EntryId,
-    step: Step,
-    state: StateId,
-    address: &Address,
-    memo: &Option<Text>,
-) -> Result<Row, OutOfMemory>
-    ensures { IfOk result (λ row. row ≡ record { owner = owner; nav = nav; entry = entry; step = step; state = state; address = address.now; memo = memo.now }) }
-{
-    let address = address.copy()?;
-    let memo = copy_memo(memo)?;
-    Ok(Row {
-        owner,
-        nav,
-        entry,
-        step,
-        state,
-        address,
-        memo,
-    })
 }

@@ -1,7 +1,7 @@
 //! Lists of changes, and what a store answers after them; `bench/store_rows.py` prints the table from a plain model.
 
 /// What a case shows, its changes, and the answer: the current step, length and index, the rows by navigable and step (navigable and step, entry, document state, owner, a star where it is its navigable's target), and the refusals with the number of the refused change's entry.
-pub const CASES: [(&str, &str, &str); 28] = [
+pub const CASES: [(&str, &str, &str); 30] = [
     (
         "nothing changes the opening history",
         "e l0",
@@ -141,5 +141,15 @@ pub const CASES: [(&str, &str, &str); 28] = [
         "a frame hangs on a document in the middle of its parent",
         "p02 p03 t1 f214 p15 t1 p06",
         "2 3 2; 0:0 1 1 -; 0:1 2 2 -; 0:2 8 6 -*; 1:1 5 4 2*",
+    ),
+    (
+        "pushes at the end go from navigable to navigable",
+        "f112 p13 p01 f324 p25 p16 p07",
+        "5 6 5; 0:0 1 1 -; 0:2 4 1 -; 0:5 8 7 -*; 1:0 2 2 1; 1:1 3 3 1; 1:4 7 6 1*; 2:1 5 4 3; 2:3 6 5 3*",
+    ),
+    (
+        "pushes go on at the end after a traversal there and back",
+        "f112 p13 p04 t0 t2 p15 t1 p16 p07",
+        "3 4 3; 0:0 1 1 -; 0:3 10 7 -*; 1:0 2 2 1; 1:1 3 3 1; 1:2 9 6 1*",
     ),
 ];

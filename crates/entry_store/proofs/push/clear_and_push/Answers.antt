@@ -1,6 +1,6 @@
 use Rattle.entry_store.specs.Nested.{rows_of}
 use Rattle.entry_store.proofs.PushLaw.{planned_fits, planned_same, planned_kept}
-use Rattle.entry_store.proofs.push.push_in.Goals as goal
+use Rattle.entry_store.proofs.push.clear_and_push.Goals as goal
 
 pub returns-clause-kept : goal.returns-clause-kept
 returns-clause-kept c =
