@@ -1,4 +1,4 @@
-//! Logs, lawful and broken, on which the definitions of a legal log were tried. Nothing stands on it.
+//! Logs, legal and broken, on which the definitions of a legal log were tried. Nothing stands on it.
 #![tactic(auto)]
 
 /// Does nothing: the crate is its lemmas.

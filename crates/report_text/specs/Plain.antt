@@ -12,7 +12,7 @@ abbrev pub ending_lines : ℕ → List (Option Ending) → List ℕ
 ending_lines nr [] = []
 ending_lines nr (ending ∷ endings) = request_line nr ending ++ ending_lines (nr + 1) endings
 
--- the line of the top navigable, whose target is the last row
+-- the line of the top navigable, whose target is the row of the current step
 abbrev pub plain_top : Single → List ℕ
 plain_top t =
     if holds (λ row. is_at row (length t.history.rows) t.history.current t.view) (slice_get t.history.rows t.history.current)

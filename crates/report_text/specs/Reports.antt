@@ -1,6 +1,6 @@
 -- The report of a log, line by line.
 -- This project's own; the entries, the current step, length and index are the HTML Standard's, as the module on histories says.
-use Rattle.std.specs.Prelude.{ℕ, ◌+◌, Bool, true, false, ◌&&◌, ◌||◌, ◌==◌, nat_lt, nat_le, List, [], ◌∷◌, ◌++◌, flat_map, codes, decimal, Option, Some, None, if◌then◌else◌}
+use Rattle.std.specs.Prelude.{ℕ, ◌+◌, Bool, true, false, ◌&&◌, ◌==◌, List, [], ◌∷◌, ◌++◌, flat_map, codes, decimal, Option, Some, None, if◌then◌else◌}
 use Rattle.std.specs.Option.{option_map_or}
 use Rattle.log_model.specs.declared.outcome.Cause.{Cause}
 use Rattle.log_model.specs.declared.outcome.Cause.TheVariants as causes
@@ -11,6 +11,7 @@ use Rattle.log_model.specs.declared.outcome.Ending.TheVariants as endings
 use Rattle.log_model.specs.declared.row.Row.{Row}
 use Rattle.log_model.specs.declared.row_kind.LogRow.{LogRow}
 use Rattle.log_model.specs.History.{same_entry, history_length, history_index, target_entry}
+use Rattle.log_model.specs.Order.{ordered}
 use Rattle.log_model.specs.Views.{View}
 use Rattle.log_model.specs.Seen.{Seen, Document, Asked}
 use Rattle.log_model.specs.Logs.{seen_of, is_quiet}
@@ -86,20 +87,6 @@ request_line nr ending = codes "request" ++ number_word nr ++ ending_words endin
 
 -- ---- the whole
 
--- an entry of a lower navigable comes first, and of one navigable that of the lower step
-abbrev pub comes_before : Row → Row → Bool
-comes_before a b = nat_lt a.nav.0 b.nav.0 || (a.nav.0 == b.nav.0 && nat_le a.step.0 b.step.0)
-
-abbrev pub with_entry : Row → List Row → List Row
-with_entry row [] = row ∷ []
-with_entry row (first ∷ rows) =
-    if comes_before row first then row ∷ first ∷ rows else first ∷ with_entry row rows
-
--- the entries by navigable, then by step
-abbrev pub by_navigable : List Row → List Row
-by_navigable [] = []
-by_navigable (row ∷ rows) = with_entry row (by_navigable rows)
-
 -- the view has the entry and the history's length and index
 abbrev pub is_at : Row → ℕ → ℕ → View → Bool
 is_at row length index view = same_entry view.entry row.entry && view.length == length && view.index == index
@@ -122,12 +109,12 @@ abbrev pub request_lines : ℕ → List Asked → List ℕ
 request_lines nr [] = []
 request_lines nr (asked ∷ others) = request_line nr asked.ending ++ request_lines (nr + 1) others
 
--- the report of what a log has come to
+-- the report of what a log has come to; the entries stand by navigable and then by step
 abbrev pub report_with : Seen → List ℕ
 report_with s =
     quiet_line (is_quiet s)
     ++ step_line s.history.current (history_length s.history.rows) (history_index s.history.rows s.history.current)
-    ++ flat_map entry_line (by_navigable s.history.rows)
+    ++ flat_map entry_line (ordered s.history.rows)
     ++ option_map_or (top_line s) (target_entry s.history.rows top s.history.current) []
     ++ request_lines 1 s.requests
 

@@ -8,7 +8,8 @@ ghost use Rattle.report_text.specs.Plain.{ending_lines, plain_top, plain_report}
 use crate::pieces::{put_entry, put_moves, put_quiet, put_request, put_runs, put_step};
 use address::{OutOfMemory, Text};
 use doc_view::View;
-use log_model::{Ending, Row};
+use entry_store::Store;
+use log_model::{Ending, Row, Rows};
 use std::alloc::Global;
 use tab_ids::{NavId, Step};
 use world::World;
@@ -28,15 +29,29 @@ pub fn report(alloc: Global, world: &World) -> Result<Text, OutOfMemory>
 fn write(alloc: Global, out: &mut Vec<u8>, world: &World) -> Result<(), OutOfMemory>
     ensures { OnOk result (out.new.items ≡ out.old.items ++ plain_report world.now.single) }
 {
-    let rows = world.rows();
+    let rows = entries(world)?;
     let length = rows.len() as u64;
-    let current = u64::from(world.current().0);
+    let current = u64::from(current_step(world).0);
     put_quiet(out, world.is_quiet())?;
     put_step(alloc, out, current, length, current)?;
-    put_entries(alloc, out, rows)?;
-    put_top(alloc, out, world)?;
+    put_entries(alloc, out, rows.as_slice())?;
+    put_top(alloc, out, rows.as_slice(), world)?;
     put_requests(alloc, out, world.endings())?;
     Ok(())
+}
+
+/// The entries, in the order of their steps.
+fn entries(world: &World) -> Result<Rows, OutOfMemory>
+    ensures { IfOk result (λ rows. rows ≡ world.now.single.history.rows) }
+{
+    world.store().rows()
+}
+
+/// The current step.
+fn current_step(world: &World) -> Step
+    ensures { result.0 ≡ world.now.single.history.current }
+{
+    world.store().current()
 }
 
 fn put_entries(alloc: Global, out: &mut Vec<u8>, rows: &[Row]) -> Result<(), OutOfMemory>
@@ -62,13 +77,14 @@ fn put_requests(
 }
 
 /// The line of the top navigable: its document runs, and shows its target or is on its way there.
-fn put_top(alloc: Global, out: &mut Vec<u8>, world: &World) -> Result<(), OutOfMemory>
+fn put_top(alloc: Global, out: &mut Vec<u8>, rows: &[Row], world: &World) -> Result<(), OutOfMemory>
+    requires rows { rows.now ≡ world.now.single.history.rows }
     ensures { OnOk result (out.new.items ≡ out.old.items ++ plain_top world.now.single) }
 {
-    let rows = world.rows();
     let length = rows.len() as u64;
-    let current = u64::from(world.current().0);
-    let shown = is_shown(rows, world.current(), world.view(NavId(0)));
+    let step = current_step(world);
+    let current = u64::from(step.0);
+    let shown = is_shown(rows, step, world.view(NavId(0)));
     if shown {
         put_runs(alloc, out, current, length, current)?;
     } else {

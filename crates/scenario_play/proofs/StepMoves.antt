@@ -21,10 +21,17 @@ use Rattle.log_model.specs.declared.row_kind.LogRow.{LogRow}
 use Rattle.log_model.specs.Logs.{is_idle}
 use Rattle.world_laws.specs.Single.{desk_with, finish_rows, finished}
 use Rattle.world_laws.specs.Keeps.{IsWorld}
+use Rattle.tab_ids.specs.declared.ReqId.{ReqId}
+use Rattle.tab_ids.specs.declared.Step.{Step}
+use Rattle.log_model.specs.declared.job.Why.{Why}
+use Rattle.log_model.specs.declared.job.Why.TheVariants as whys
+use Rattle.log_model.specs.declared.outcome.Outcome.{Outcome}
+use Rattle.log_model.specs.declared.outcome.Outcome.TheVariants as outcomes
+use Rattle.world.specs.Taking.{IsTaken, IsForRequest, MayJudge, MayTake}
 use Rattle.world.proofs.Ready.{is_report}
 use Rattle.std.proofs.lemmas.Bool.{eq-eqb}
 use Rattle.std.proofs.lemmas.Option.{slice_get_within}
-use Rattle.world.specs.Steps.{Stepped, idle, logs, act_with, act_of, begin_of, finish_of, take_up, deliver_of, step_of, MayTake, MayTakeWhat, Steps}
+use Rattle.world.specs.Steps.{Stepped, idle, logs, act_with, act_of, begin_of, finish_of, take_up, drop_of, take_done, deliver_of, step_of, Steps}
 use Rattle.scenario_play.specs.Moves.{MovesOn, MovesIf, has_poke, has_order, has_mail, has_report}
 
 -- an answered step leaves an open world with a log that is no shorter
@@ -108,14 +115,32 @@ finish_moves old new proc order done reply open_ hand same steps = by_here (proc
 pub deliver_moves : (old new : WorldState) (proc : ProcId) (reply : Reply) → old.closed ≡ false → IsWorld old.log old.single → Steps old (step_of old.single (events.Deliver proc)) (Ok reply) new → MovesIf (has_report old.single proc) old new
 deliver_moves old new proc reply open_ world steps = by_first (proc.0 == 1) (slice_get old.single.reports 0) refl steps
   where
-    by_what : (made : Made) (what : What) → MayTakeWhat old.single made what → Steps old (take_up old.single made what) (Ok reply) new → MovesIf true old new
+    by_what : (made : Made) (what : What) → IsTaken old.single what → Steps old (take_up old.single made what) (Ok reply) new → MovesIf true old new
     by_what made (whats.Push entry memo address) may steps = logs_moves old new _ reply _ _ (omega arith) steps
     by_what made (whats.Replace over entry memo address) may steps = logs_moves old new _ reply _ _ (omega arith) steps
     by_what made _ may steps = elim may [ ]
 
+    by_why : (made : Made) (why : Why) → IsForRequest why → Steps old (drop_of old.single made why) (Ok reply) new → MovesIf true old new
+    by_why made (whys.Req by) may steps = logs_moves old new _ reply _ _ (omega arith) steps
+    by_why made _ may steps = elim may [ ]
+
+    by_judge : (made : Made) (same : Bool) → MayJudge same old.single made.what → Steps old (if same then take_up old.single made made.what else drop_of old.single made old.single.why) (Ok reply) new → MovesIf true old new
+    by_judge made true may steps = by_what made made.what may steps
+    by_judge made false may steps = by_why made old.single.why may steps
+
+    by_done : (outcome : Outcome) (running : Option (ReqId × Step)) → Steps old (take_done old.single outcome running) (Ok reply) new → MovesIf true old new
+    by_done outcomes.Activated (Some run) steps = logs_moves old new _ reply _ _ (omega arith) steps
+    by_done outcomes.Activated None steps = logs_moves old new _ reply _ _ (omega arith) steps
+    by_done (outcomes.Populated slot) running steps = logs_moves old new _ reply _ _ (omega arith) steps
+    by_done outcomes.Updated running steps = logs_moves old new _ reply _ _ (omega arith) steps
+    by_done outcomes.Frozen running steps = logs_moves old new _ reply _ _ (omega arith) steps
+    by_done outcomes.Discarded running steps = logs_moves old new _ reply _ _ (omega arith) steps
+    by_done (outcomes.Asked verdict) running steps = logs_moves old new _ reply _ _ (omega arith) steps
+    by_done outcomes.Fragmented running steps = logs_moves old new _ reply _ _ (omega arith) steps
+
     by_report : (report : Report) → MayTake old.single report → Steps old (deliver_of old.single (Some report)) (Ok reply) new → MovesIf true old new
-    by_report (reports.Made made) may steps = by_what made made.what may steps
-    by_report (reports.Done job outcome made) may steps = logs_moves old new _ reply _ _ (omega arith) steps
+    by_report (reports.Made made) may steps = by_judge made (made.epoch.0 == old.single.epoch.0) may.1 steps
+    by_report (reports.Done job outcome made) may steps = by_done outcome old.single.running steps
     by_report (reports.Died death) may steps = elim may [ ]
 
     by_first : (here : Bool) (first : Option Report) → slice_get old.single.reports 0 ≡ first → Steps old (if here then deliver_of old.single first else idle replies.Empty) (Ok reply) new → MovesIf (here && is_some first) old new

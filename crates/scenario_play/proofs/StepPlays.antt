@@ -1,5 +1,5 @@
 -- A step of a world is the event of its line, or the line is passed over, or there is an error where the event was due.
-use Rattle.std.proofs.Common.{◌≡◌, ℕ, ◌+◌, ◌<◌, Bool, true, false, ◌&&◌, ◌||◌, ◌==◌, List, [], ◌∷◌, ◌++◌, length, Option, Some, None, Result, Ok, Err, refl, sym, ap, ◌∙◌, subst, arith}
+use Rattle.std.proofs.Common.{◌≡◌, ℕ, ℤ, ◌<◌, Bool, true, false, ◌&&◌, ◌||◌, ◌==◌, List, [], ◌∷◌, ◌++◌, length, Option, Some, None, Result, Ok, Err, refl, sym, ap, ◌∙◌, subst, arith}
 use Rattle.std.specs.Prelude.{IsSome, slice_get, is_some, is_none, if◌then◌else◌}
 use Rattle.std.proofs.lemmas.Bool.{eq-eqb}
 use Rattle.std.proofs.lemmas.Bool.Decides.{nat_tests}
@@ -18,6 +18,7 @@ use Rattle.log_model.specs.declared.made.Report.TheVariants as reports
 use Rattle.log_model.specs.declared.request.Poke.{Poke}
 use Rattle.log_model.specs.declared.request.Request.TheVariants as requests
 use Rattle.log_model.specs.declared.row_kind.LogRow.{LogRow}
+use Rattle.log_model.specs.declared.row_kind.RowKind.{RowKind}
 use Rattle.log_model.specs.Events.{have_number}
 use Rattle.log_model.specs.Logs.{seen_of, is_idle, in_hand_of}
 use Rattle.log_model.specs.Seen.{Seen, Desk, desk_of, empty_desk}
@@ -33,9 +34,19 @@ use Rattle.world.specs.declared.event.Event.TheVariants as events
 use Rattle.world.specs.declared.event.Reply.{Reply}
 use Rattle.world.specs.declared.event.Reply.TheVariants as replies
 use Rattle.world.specs.Kept.{WorldState}
-use Rattle.world.specs.Steps.{Stepped, idle, logs, act_with, act_of, begin_of, finish_of, take_up, deliver_of, step_of, IsBuilt, MayTake, MayTakeWhat, Steps}
+use Rattle.world.specs.Steps.{Stepped, idle, logs, act_with, act_of, begin_of, finish_of, take_up, drop_of, take_done, deliver_of, poke_of, step_of, IsBuilt, Steps}
+use Rattle.tab_ids.specs.declared.Step.{Step}
+use Rattle.log_model.specs.declared.job.Why.{Why}
+use Rattle.log_model.specs.declared.job.Why.TheVariants as whys
+use Rattle.log_model.specs.declared.outcome.Outcome.{Outcome}
+use Rattle.log_model.specs.declared.outcome.Outcome.TheVariants as outcomes
+use Rattle.log_model.specs.declared.row_kind.Actor.{Actor}
+use Rattle.log_model.specs.declared.row_kind.Actor.TheVariants as actors
+use Rattle.log_model.proofs.Refl.{same_delta_refl}
+use Rattle.world_laws.specs.Going.{start_kinds, arrived, go_kinds}
+use Rattle.world.specs.Taking.{IsTaken, IsForRequest, MayJudge, MayTake}
 use Rattle.world.proofs.Ready.{is_report}
-use Rattle.world_laws.specs.Single.{Single, Past, seen_with, desk_with}
+use Rattle.world_laws.specs.Single.{Single, Past, seen_with, desk_with, logged}
 use Rattle.world_laws.specs.Keeps.{IsWorld}
 use Rattle.proc_work.specs.Work as worked
 use Rattle.scenario_play.specs.Courses.{Leads, Cuts, Plays, line_of, order_of, IsOfHand}
@@ -106,10 +117,28 @@ one_waits : {A : Type 0} (xs : List A) (x : A) → slice_get xs 0 ≡ Some x →
 one_waits [] x at = cc
 one_waits (y ∷ ys) x at = grind (arith, nat_tests)
 
-poke_matches : (p : Past) (t : Single) (nav : NavId) (action : Action) → nav.0 ≡ 0 → Matches (seen_with p t) (lines.Ask (requests.Poke nav action)) (step_of t (events.Poke nav action))
-poke_matches p t nav action top =
-    let there : (0 == nav.0) ≡ true = rw top refl in
-    (refl, rw (there, same_action_itself action) refl, rw (number_itself t.events) refl)
+-- the rows that are logged have the event's number
+have_logged : (event : ℕ) (actor : Actor) (kinds : List RowKind) → have_number event (logged event actor kinds) ≡ true
+have_logged event actor [] = refl
+have_logged event actor (kind ∷ kinds) = rw (number_itself event) (have_logged event actor kinds)
+
+poke_matches : (p : Past) (t : Single) (nav : NavId) (action : Action) → Matches (seen_with p t) (lines.Ask (requests.Poke nav action)) (step_of t (events.Poke nav action))
+poke_matches p t nav action = by_top (nav.0 == 0) refl
+  where
+    by_top : (b : Bool) → (nav.0 == 0) ≡ b → Matches (seen_with p t) (lines.Ask (requests.Poke nav action)) (poke_of t nav action)
+    by_top true e =
+        let top : nav.0 ≡ 0 = grind (arith, nat_tests, e) in
+        let there : (0 == nav.0) ≡ true = rw top refl in
+        rw e (refl, rw (there, same_action_itself action) refl, rw (number_itself t.events) refl)
+    by_top false e =
+        rw e (refl, rw (number_itself nav.0, same_action_itself action) refl, rw (number_itself t.events) refl)
+
+go_matches : (p : Past) (t : Single) (delta : ℤ) → Matches (seen_with p t) (lines.Ask (requests.Go delta)) (step_of t (events.Go delta))
+go_matches p t delta = (refl, by_running t.running, have_logged t.events actors.Ui (go_kinds t delta t.running))
+  where
+    by_running : (running : Option (ReqId × Step)) → is_event (lines.Ask (requests.Go delta)) (logged t.events actors.Ui (go_kinds t delta running)) ≡ true
+    by_running (Some run) = same_delta_refl delta
+    by_running None = same_delta_refl delta
 
 act_matches : (p : Past) (t : Single) (proc : ProcId) → Matches (seen_with p t) (lines.Act proc) (step_of t (events.Act proc))
 act_matches p t proc = by_here (proc.0 == 1) refl
@@ -154,14 +183,32 @@ finish_matches p t proc done hand = by_here (proc.0 == 1) refl t.in_hand refl ha
 deliver_matches : (log : List LogRow) (p : Past) (t : Single) (proc : ProcId) → IsWorld log t → Matches (seen_with p t) (lines.Deliver proc) (step_of t (events.Deliver proc))
 deliver_matches log p t proc world = by_here (proc.0 == 1) refl
   where
-    by_what : (1 == proc.0) ≡ true → (length t.reports == 0) ≡ false → (made : Made) (what : What) → MayTakeWhat t made what → Matches (seen_with p t) (lines.Deliver proc) (take_up t made what)
+    by_what : (1 == proc.0) ≡ true → (length t.reports == 0) ≡ false → (made : Made) (what : What) → IsTaken t what → Matches (seen_with p t) (lines.Deliver proc) (take_up t made what)
     by_what there some made (whats.Push entry memo address) may = (rw there some, rw there refl, rw (number_itself t.events) refl)
     by_what there some made (whats.Replace over entry memo address) may = (rw there some, rw there refl, rw (number_itself t.events) refl)
     by_what there some made _ may = elim may [ ]
 
+    by_why : (1 == proc.0) ≡ true → (length t.reports == 0) ≡ false → (made : Made) (why : Why) → IsForRequest why → Matches (seen_with p t) (lines.Deliver proc) (drop_of t made why)
+    by_why there some made (whys.Req by) may = (rw there some, rw there refl, rw (number_itself t.events) refl)
+    by_why there some made _ may = elim may [ ]
+
+    by_judge : (1 == proc.0) ≡ true → (length t.reports == 0) ≡ false → (made : Made) (same : Bool) → MayJudge same t made.what → Matches (seen_with p t) (lines.Deliver proc) (if same then take_up t made made.what else drop_of t made t.why)
+    by_judge there some made true may = by_what there some made made.what may
+    by_judge there some made false may = by_why there some made t.why may
+
+    by_done : (1 == proc.0) ≡ true → (length t.reports == 0) ≡ false → (outcome : Outcome) (running : Option (ReqId × Step)) → Matches (seen_with p t) (lines.Deliver proc) (take_done t outcome running)
+    by_done there some outcomes.Activated (Some run) = (rw there some, rw there refl, rw (number_itself t.events) (have_logged t.events actors.Coord (start_kinds (arrived t run.0 run.1) t.queue)))
+    by_done there some outcomes.Activated None = (rw there some, rw there refl, rw (number_itself t.events) refl)
+    by_done there some (outcomes.Populated slot) running = (rw there some, rw there refl, rw (number_itself t.events) refl)
+    by_done there some outcomes.Updated running = (rw there some, rw there refl, rw (number_itself t.events) refl)
+    by_done there some outcomes.Frozen running = (rw there some, rw there refl, rw (number_itself t.events) refl)
+    by_done there some outcomes.Discarded running = (rw there some, rw there refl, rw (number_itself t.events) refl)
+    by_done there some (outcomes.Asked verdict) running = (rw there some, rw there refl, rw (number_itself t.events) refl)
+    by_done there some outcomes.Fragmented running = (rw there some, rw there refl, rw (number_itself t.events) refl)
+
     by_report : (1 == proc.0) ≡ true → (length t.reports == 0) ≡ false → (report : Report) → MayTake t report → Matches (seen_with p t) (lines.Deliver proc) (deliver_of t (Some report))
-    by_report there some (reports.Made made) may = by_what there some made made.what may
-    by_report there some (reports.Done job outcome made) may = (rw there some, rw there refl, rw (number_itself t.events) refl)
+    by_report there some (reports.Made made) may = by_judge there some made (made.epoch.0 == t.epoch.0) may.1
+    by_report there some (reports.Done job outcome made) may = by_done there some outcome t.running
     by_report there some (reports.Died death) may = elim may [ ]
 
     by_first : (1 == proc.0) ≡ true → (first : Option Report) → slice_get t.reports 0 ≡ first → Matches (seen_with p t) (lines.Deliver proc) (deliver_of t first)
@@ -176,7 +223,8 @@ deliver_matches log p t proc world = by_here (proc.0 == 1) refl
     by_here true e = by_first (one_first proc.0 ∙ e) (slice_get t.reports 0) refl
 
 step_matches : (log : List LogRow) (p : Past) (t : Single) (event : Event) → IsWorld log t → IsBuilt event → IsOfHand log event → Matches (seen_with p t) (line_of event) (step_of t event)
-step_matches log p t (events.Poke nav action) world built hand = poke_matches p t nav action built.0
+step_matches log p t (events.Go delta) world built hand = go_matches p t delta
+step_matches log p t (events.Poke nav action) world built hand = poke_matches p t nav action
 step_matches log p t (events.Act proc) world built hand = act_matches p t proc
 step_matches log p t (events.Begin proc) world built hand = begin_matches p t proc
 step_matches log p t (events.Finish proc done) world built hand =
@@ -199,6 +247,14 @@ finish_has_none log proc hand = leads_none (lines.Finish proc) log (rw hand refl
 
 pub finish_is_due : (log : List LogRow) (proc : ProcId) (order : Order) → in_hand_of log proc ≡ Some order → Cuts (does (lines.Finish proc)) log log
 finish_is_due log proc order hand = cuts_here (lines.Finish proc) log (rw hand refl)
+
+-- the order in hand couldn't be copied
+pub no_finish : (log : List LogRow) (proc : ProcId) → IsSome (in_hand_of log proc) → Cuts (does (lines.Finish proc)) log log
+no_finish log proc some = by_hand (in_hand_of log proc) refl some
+  where
+    by_hand : (hand : Option Order) → in_hand_of log proc ≡ hand → IsSome hand → Cuts (does (lines.Finish proc)) log log
+    by_hand None e some = cc
+    by_hand (Some order) e some = finish_is_due log proc order e
 
 -- ---- an order is taken up
 

@@ -6,7 +6,7 @@ ghost use Rattle.scenario_play.specs.Courses.{Plays};
 ghost use Rattle.scenario_play.specs.Lines.{IsBuiltLine, IsBuiltRequest};
 ghost use Rattle.scenario_play.specs.Moves.{IsFault};
 
-use crate::round::{settle, step};
+use crate::round::{act, deliver, finish_in_hand, settle, step, take_up};
 use log_model::Request;
 use scenario_text::{Scenario, ScenarioLine};
 use world::{Event, StepError, World};
@@ -67,14 +67,13 @@ fn play_line(world: &mut World, line: &ScenarioLine) -> Result<(), StepError>
 {
     match line {
         ScenarioLine::Ask(request) => ask(world, request),
+        ScenarioLine::Act { proc } => act(world, *proc),
+        ScenarioLine::Begin { proc } => take_up(world, *proc),
+        ScenarioLine::Finish { proc } => finish_in_hand(world, *proc),
+        ScenarioLine::Deliver { proc } => deliver(world, *proc),
         ScenarioLine::Settle => settle(world),
-        ScenarioLine::Answer { .. }
-        | ScenarioLine::Evict
-        | ScenarioLine::Kill { .. }
-        | ScenarioLine::Act { .. }
-        | ScenarioLine::Begin { .. }
-        | ScenarioLine::Finish { .. }
-        | ScenarioLine::Deliver { .. } => unreachable!(),
+        ScenarioLine::Answer { .. } | ScenarioLine::Evict | ScenarioLine::Kill { .. } =>
+            unreachable!(),
     }
 }
 
@@ -94,6 +93,10 @@ fn ask(world: &mut World, request: &Request) -> Result<(), StepError>
                 Err(error) => Err(error),
             }
         }
-        Request::Load { .. } | Request::Go { .. } | Request::Reload { .. } => unreachable!(),
+        Request::Go { delta } => match step(world, Event::Go { delta: *delta }) {
+            Ok(_) => Ok(()),
+            Err(error) => Err(error),
+        },
+        Request::Load { .. } | Request::Reload { .. } => unreachable!(),
     }
 }

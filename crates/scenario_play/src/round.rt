@@ -33,7 +33,7 @@ fn is_still(world: &World) -> bool
     requires open { world.now.closed ≡ false }
     ensures value { result ≡ is_idle (desk_with world.now.single) }
     ensures log { result ≡ is_still (seen_of world.now.log) }
-    ensures short { length world.now.log ≤ 1000002 }
+    ensures short { length world.now.log ≤ 3000002 }
 {
     let _stands = world.log();
     world.is_still()
@@ -98,7 +98,7 @@ fn is_idle(world: &World, proc: ProcId) -> bool
 }
 
 /// Lets a document of the process act, where a poke waits.
-fn act(world: &mut World, proc: ProcId) -> Result<(), StepError>
+pub(crate) fn act(world: &mut World, proc: ProcId) -> Result<(), StepError>
     requires open { world.old.closed ≡ false }
     ensures faults { IfErr result (IsFault world.new) }
     ensures moves { OnOk result (MovesIf (has_poke world.old.single proc) world.old world.new) }
@@ -160,6 +160,32 @@ fn finish(world: &mut World, proc: ProcId, order: Order) -> Result<(), StepError
     }
 }
 
+/// Lets the process take up the first order of its mail, and no more.
+pub(crate) fn take_up(world: &mut World, proc: ProcId) -> Result<(), StepError>
+    requires open { world.old.closed ≡ false }
+    ensures open { OnOk result (world.new.closed ≡ false) }
+    ensures faults { IfErr result (IsFault world.new) }
+    ensures plays { Plays (does (lines.Begin proc)) world.old.log result world.new.log }
+{
+    match step(world, Event::Begin { proc }) {
+        Ok(_) => return Ok(()),
+        Err(error) => return Err(error),
+    }
+}
+
+/// Lets the process finish the order in hand, if there is one.
+pub(crate) fn finish_in_hand(world: &mut World, proc: ProcId) -> Result<(), StepError>
+    requires open { world.old.closed ≡ false }
+    ensures open { OnOk result (world.new.closed ≡ false) }
+    ensures faults { IfErr result (IsFault world.new) }
+    ensures plays { Plays (does (lines.Finish proc)) world.old.log result world.new.log }
+{
+    match in_hand(world, proc)? {
+        Some(order) => finish(world, proc, order),
+        None => Ok(()),
+    }
+}
+
 /// Lets the process take up the first order of its mail and finish it.
 fn begin(world: &mut World, proc: ProcId) -> Result<(), StepError>
     requires open { world.old.closed ≡ false }
@@ -184,6 +210,7 @@ fn taken(reply: Reply) -> Option<Order>
         Reply::Took(order) => Some(order),
         Reply::Accepted(_)
         | Reply::Acted
+        | Reply::Voided
         | Reply::Busy
         | Reply::Finished
         | Reply::Stale
@@ -193,7 +220,7 @@ fn taken(reply: Reply) -> Option<Order>
 }
 
 /// Lets the coordinator take a report of the process, where one waits.
-fn deliver(world: &mut World, proc: ProcId) -> Result<(), StepError>
+pub(crate) fn deliver(world: &mut World, proc: ProcId) -> Result<(), StepError>
     requires open { world.old.closed ≡ false }
     ensures faults { IfErr result (IsFault world.new) }
     ensures moves { OnOk result (MovesIf (has_report world.old.single proc) world.old world.new) }

@@ -54,7 +54,7 @@ read_as (Err (statuses.UrlOverflow overflowed)) bytes left rest before now came 
 -- more bytes than the limit spell nothing
 pub read_beyond : (left rest : Option (List ℕ)) → ReadsBeyond left rest 4194304 → ReadsNone left rest (record { line = 0; reason = TooLong }) × Unit {0}
 read_beyond left rest beyond =
-    (record { bytes = beyond.0; came = beyond.1; enough = inr beyond.2; spells_none = scenario_of-too_long false builts.Pushes beyond.0 beyond.2 }, tt)
+    (record { bytes = beyond.0; came = beyond.1; enough = inr beyond.2; spells_none = scenario_of-too_long false builts.Document beyond.0 beyond.2 }, tt)
 
 -- ---- the scenario that was read
 
@@ -112,31 +112,31 @@ told_long bytes read (Some xs) (Some ys) told came =
     omega (arith, ap (λ (l : List ℕ). length l) (sym same ∙ came), length-append read ys)
 
 -- the whole source spells what the bytes read spell
-told_none : (bytes : List ℕ) (left rest : Option (List ℕ)) (refusal : Refusal) → left ≡ Some bytes → ReadsNone left rest refusal → scenario_of false builts.Pushes bytes ≡ Err refusal
+told_none : (bytes : List ℕ) (left rest : Option (List ℕ)) (refusal : Refusal) → left ≡ Some bytes → ReadsNone left rest refusal → scenario_of false builts.Document bytes ≡ Err refusal
 told_none bytes left rest refusal told reads =
     elim reads.enough [
-      | inl whole ↦ ap (λ (l : List ℕ). scenario_of false builts.Pushes l) (told_whole bytes reads.bytes left rest told reads.came whole) ∙ reads.spells_none
+      | inl whole ↦ ap (λ (l : List ℕ). scenario_of false builts.Document l) (told_whole bytes reads.bytes left rest told reads.came whole) ∙ reads.spells_none
       | inr long ↦
-          scenario_of-too_long false builts.Pushes bytes (omega (arith, long, told_long bytes reads.bytes left rest told reads.came))
-          ∙ sym (scenario_of-too_long false builts.Pushes reads.bytes long)
+          scenario_of-too_long false builts.Document bytes (omega (arith, long, told_long bytes reads.bytes left rest told reads.came))
+          ∙ sym (scenario_of-too_long false builts.Document reads.bytes long)
           ∙ reads.spells_none
     ]
 
-told_scenario : (bytes : List ℕ) (left rest : Option (List ℕ)) (IsSuch : Scenario → Type 0) → left ≡ Some bytes → (reads : ReadsSuch left rest IsSuch) → scenario_of false builts.Pushes bytes ≡ Ok reads.scenario
+told_scenario : (bytes : List ℕ) (left rest : Option (List ℕ)) (IsSuch : Scenario → Type 0) → left ≡ Some bytes → (reads : ReadsSuch left rest IsSuch) → scenario_of false builts.Document bytes ≡ Ok reads.scenario
 told_scenario bytes left rest IsSuch told reads =
-    ap (λ (l : List ℕ). scenario_of false builts.Pushes l) (told_whole bytes reads.bytes left rest told reads.came reads.whole) ∙ reads.spells
+    ap (λ (l : List ℕ). scenario_of false builts.Document l) (told_whole bytes reads.bytes left rest told reads.came reads.whole) ∙ reads.spells
 
 -- a result is not both
 not_both : {A E : Type 0} (r : Result A E) (a : A) (e : E) → r ≡ Ok a → r ≡ Err e → ⊥
 not_both r a e ok err = cc
 
 -- a call that is heard and unhindered, of bytes that spell a scenario, is done
-pub completes : (status : Status) (words : List (List ℕ)) (left rest : Option (List ℕ)) (before now : ℕ) (taken given : Option (List ℕ)) (old new : ℕ) (log : Option (List LogRow)) → ((status ≡ statuses.Usage) ↔ (is_play words ≡ false)) → HasReadCause status left rest before now → FollowsRead status left rest log → HasWriteCause status taken given old new log → (bytes : List ℕ) (scenario : Scenario) → IsHeard words bytes left before now status → scenario_of false builts.Pushes bytes ≡ Ok scenario → IsUnhindered scenario old new log → status ≡ statuses.Done
+pub completes : (status : Status) (words : List (List ℕ)) (left rest : Option (List ℕ)) (before now : ℕ) (taken given : Option (List ℕ)) (old new : ℕ) (log : Option (List LogRow)) → ((status ≡ statuses.Usage) ↔ (is_play words ≡ false)) → HasReadCause status left rest before now → FollowsRead status left rest log → HasWriteCause status taken given old new log → (bytes : List ℕ) (scenario : Scenario) → IsHeard words bytes left before now status → scenario_of false builts.Document bytes ≡ Ok scenario → IsUnhindered scenario old new log → status ≡ statuses.Done
 completes statuses.Done words left rest before now taken given old new log usage read follows written bytes scenario heard spells free = refl
 completes statuses.Usage words left rest before now taken given old new log usage read follows written bytes scenario heard spells free =
     let none : is_play words ≡ false = usage.0 refl in absurd (let wrong : true ≡ false = sym heard.asks ∙ none in cc)
 completes (statuses.Scenario refusal) words left rest before now taken given old new log usage read follows written bytes scenario heard spells free =
-    absurd (not_both (scenario_of false builts.Pushes bytes) scenario refusal spells (told_none bytes left rest refusal heard.told read))
+    absurd (not_both (scenario_of false builts.Document bytes) scenario refusal spells (told_none bytes left rest refusal heard.told read))
 completes statuses.ReadFault words left rest before now taken given old new log usage read follows written bytes scenario heard spells free = absurd (heard.read read)
 completes statuses.WriteFault words left rest before now taken given old new log usage read follows written bytes scenario heard spells free = absurd (free.written written.0)
 completes statuses.OutOfMemory words left rest before now taken given old new log usage read follows written bytes scenario heard spells free = elim heard.decided [ ]
@@ -147,9 +147,9 @@ completes statuses.LogFull words left rest before now taken given old new (Some 
 completes (statuses.UrlOverflow overflowed) words left rest before now taken given old new log usage read follows written bytes scenario heard spells free = elim heard.decided [ ]
 
 -- a call that is heard, of bytes that spell none, names the refusal
-pub refuses : (status : Status) (words : List (List ℕ)) (left rest : Option (List ℕ)) (before now : ℕ) → ((status ≡ statuses.Usage) ↔ (is_play words ≡ false)) → HasReadCause status left rest before now → (bytes : List ℕ) (refusal : Refusal) → IsHeard words bytes left before now status → scenario_of false builts.Pushes bytes ≡ Err refusal → status ≡ statuses.Scenario refusal
+pub refuses : (status : Status) (words : List (List ℕ)) (left rest : Option (List ℕ)) (before now : ℕ) → ((status ≡ statuses.Usage) ↔ (is_play words ≡ false)) → HasReadCause status left rest before now → (bytes : List ℕ) (refusal : Refusal) → IsHeard words bytes left before now status → scenario_of false builts.Document bytes ≡ Err refusal → status ≡ statuses.Scenario refusal
 refuses statuses.Done words left rest before now usage read bytes refusal heard none =
-    absurd (not_both (scenario_of false builts.Pushes bytes) read.scenario refusal (told_scenario bytes left rest _ heard.told read) none)
+    absurd (not_both (scenario_of false builts.Document bytes) read.scenario refusal (told_scenario bytes left rest _ heard.told read) none)
 refuses statuses.Usage words left rest before now usage read bytes refusal heard none =
     let other : is_play words ≡ false = usage.0 refl in absurd (let wrong : true ≡ false = sym heard.asks ∙ other in cc)
 refuses (statuses.Scenario given) words left rest before now usage read bytes refusal heard none =
@@ -157,8 +157,8 @@ refuses (statuses.Scenario given) words left rest before now usage read bytes re
     let same : given ≡ refusal = cc in ap statuses.Scenario same
 refuses statuses.ReadFault words left rest before now usage read bytes refusal heard none = absurd (heard.read read)
 refuses statuses.WriteFault words left rest before now usage read bytes refusal heard none =
-    absurd (not_both (scenario_of false builts.Pushes bytes) read.scenario refusal (told_scenario bytes left rest _ heard.told read) none)
+    absurd (not_both (scenario_of false builts.Document bytes) read.scenario refusal (told_scenario bytes left rest _ heard.told read) none)
 refuses statuses.OutOfMemory words left rest before now usage read bytes refusal heard none = elim heard.decided [ ]
 refuses statuses.LogFull words left rest before now usage read bytes refusal heard none =
-    absurd (not_both (scenario_of false builts.Pushes bytes) read.scenario refusal (told_scenario bytes left rest _ heard.told read) none)
+    absurd (not_both (scenario_of false builts.Document bytes) read.scenario refusal (told_scenario bytes left rest _ heard.told read) none)
 refuses (statuses.UrlOverflow overflowed) words left rest before now usage read bytes refusal heard none = elim heard.decided [ ]

@@ -47,12 +47,12 @@ pub fn play_call<S: Source, K: Sink>(
     // Where nothing is in the way, the call is done, or refuses what is no scenario.
     ensures done { (bytes : List ℕ) → (scenario : Scenario)
         → IsHeard (map (λ w. string_bytes w) words.now) bytes (S.left source.old) (S.faults source.old) (S.faults source.new) result.status
-        → scenario_of false builts.Pushes bytes ≡ Ok scenario
+        → scenario_of false builts.Document bytes ≡ Ok scenario
         → IsUnhindered scenario (K.faults sink.old) (K.faults sink.new) result.log
         → result.status ≡ Status.Done }
     ensures refused { (bytes : List ℕ) → (refusal : Refusal)
         → IsHeard (map (λ w. string_bytes w) words.now) bytes (S.left source.old) (S.faults source.old) (S.faults source.new) result.status
-        → scenario_of false builts.Pushes bytes ≡ Err refusal
+        → scenario_of false builts.Document bytes ≡ Err refusal
         → result.status ≡ Status.Scenario refusal }
 {
     carry_out(alloc, words, source, sink)
@@ -104,7 +104,7 @@ fn read_scenario<S: Source>(alloc: Global, source: &mut S) -> Result<Scenario, S
 fn spelled(alloc: Global, text: &Text) -> Result<Scenario, Status>
     ensures { SpellsAs result text.now }
 {
-    match Scenario::read(alloc, text.bytes(), false, Built::Pushes) {
+    match Scenario::read(alloc, text.bytes(), false, Built::Document) {
         Ok(scenario) => Ok(scenario),
         Err(ScenarioError::Refused(refusal)) => Err(Status::Scenario(refusal)),
         Err(ScenarioError::UrlOverflow(overflowed)) => Err(Status::UrlOverflow(overflowed)),

@@ -64,9 +64,24 @@ fn a_scenario_is_played_or_refused_by_its_first_faulty_line(
             "quiet no\nstep 0 length 1 index 0\nentry 0 0 - http://a.test/\nnav 0 runs 0 length 1 index 0\nrequest 1 open\n",
         ),
         (
-            "session 1\nopen http://a.test/\ngo 1\n",
+            "session 1\nopen http://a.test/\nreload 0\n",
             "scenario line 3: unbuilt",
             "",
+        ),
+        (
+            "session 1\nopen http://a.test/\ngo 1\n",
+            "",
+            "quiet yes\nstep 0 length 1 index 0\nentry 0 0 - http://a.test/\nnav 0 runs 0 length 1 index 0\nrequest 1 refused no-step\n",
+        ),
+        (
+            "session 1\nopen http://a.test/\npush 0 s /1\nsettle\ngo -1\nbegin 1\npush 0 t /2\nsettle\n",
+            "",
+            "quiet yes\nstep 0 length 2 index 0\nentry 0 0 - http://a.test/\nentry 0 1 s http://a.test/1\nnav 0 runs 0 length 2 index 0\nrequest 1 applied\nrequest 2 applied\nrequest 3 dropped by 2\n",
+        ),
+        (
+            "session 1\nopen http://a.test/\nreplace 0 m\nfragment 0 x\nsettle\n",
+            "",
+            "quiet yes\nstep 1 length 2 index 1\nentry 0 0 m http://a.test/\nentry 0 1 - http://a.test/#x\nnav 0 runs 1 length 2 index 1\nrequest 1 applied\nrequest 2 applied\n",
         ),
         (
             "# a comment\n\nsession 1\nopen about:blank\npush 0 m #x\npush 0 s http://b.test/\nsettle\n",

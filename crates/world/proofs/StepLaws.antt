@@ -1,8 +1,16 @@
 -- Whatever an event comes to keeps the world.
 use Rattle.std.proofs.Common.{◌≡◌, Bool, true, false, ◌==◌, List, [], ◌∷◌, drop, length, Option, Some, None, refl, ap, arith, length-append}
 use Rattle.std.specs.Prelude.{slice_get}
+use Rattle.tab_ids.specs.declared.NavId.{NavId}
+use Rattle.tab_ids.specs.declared.ReqId.{ReqId}
+use Rattle.tab_ids.specs.declared.Step.{Step}
+use Rattle.log_model.specs.declared.action.Action.{Action}
 use Rattle.log_model.specs.declared.job.Job.{Job}
 use Rattle.log_model.specs.declared.job.Order.{Order}
+use Rattle.log_model.specs.declared.job.Why.{Why}
+use Rattle.log_model.specs.declared.job.Why.TheVariants as whys
+use Rattle.log_model.specs.declared.outcome.Outcome.{Outcome}
+use Rattle.log_model.specs.declared.outcome.Outcome.TheVariants as outcomes
 use Rattle.log_model.specs.declared.made.Made.{Made}
 use Rattle.log_model.specs.declared.made.What.{What}
 use Rattle.log_model.specs.declared.made.What.TheVariants as whats
@@ -13,24 +21,30 @@ use Rattle.log_model.specs.declared.row_kind.LogRow.{LogRow}
 use Rattle.log_model.specs.Views.{made_by}
 use Rattle.log_model.specs.After.{after}
 use Rattle.world_laws.specs.Single.{Single}
-use Rattle.world_laws.specs.Keeps.{IsWorld}
+use Rattle.world_laws.specs.Keeps.{IsEntry, IsWorld}
 use Rattle.std.specs.Prelude.{take, Ok, Err, if◌then◌else◌}
 use Rattle.address.specs.declared.error.Overflowed.{Overflowed}
 use Rattle.proc_work.specs.Work as worked
 use Rattle.world_laws.proofs.PokeLaws.{poke_world}
+use Rattle.world_laws.proofs.StrayLaws.{stray_world}
 use Rattle.world_laws.proofs.ActLaws.{act_world}
 use Rattle.world_laws.proofs.RefuseLaws.{refuse_world}
 use Rattle.world_laws.proofs.BeginLaws.{begin_world}
 use Rattle.world_laws.proofs.FinishLaws.{finish_world}
 use Rattle.world_laws.proofs.DoneLaws.{done_world}
+use Rattle.world_laws.proofs.DropLaws.{drop_world}
 use Rattle.world_laws.proofs.PushLaws.{push_world}
 use Rattle.world_laws.proofs.ReplaceLaws.{replace_world}
+use Rattle.world_laws.proofs.GoLaws.{go_world}
+use Rattle.world_laws.proofs.ArriveLaws.{arrive_world}
+use Rattle.world.proofs.Ready.{IsDoneOf, is_done_of}
+use Rattle.world.proofs.Queues.{go_few, arrive_few}
 use Rattle.world.specs.declared.event.Event.{Event}
 use Rattle.world.specs.declared.event.Event.TheVariants as events
 use Rattle.world.specs.declared.event.Reply.{Reply}
 use Rattle.world.specs.declared.error.StepError.TheVariants as errors
 use Rattle.world.specs.Kept.{IsKept}
-use Rattle.world.specs.Steps.{Stepped, idle, logs, act_with, act_of, begin_of, finish_of, take_up, deliver_of, step_of, IsBuilt, StaysKept, Takes}
+use Rattle.world.specs.Steps.{Stepped, idle, logs, act_with, act_of, begin_of, finish_of, take_up, drop_of, judge, take_done, deliver_of, poke_of, step_of, IsBuilt, StaysKept, Takes}
 
 -- a list with a first element begins with it
 head_split : {A : Type 0} (xs : List A) (x : A) → slice_get xs 0 ≡ Some x → xs ≡ x ∷ drop 1 xs
@@ -60,24 +74,54 @@ finish_stays log t done None hand world = tt
 finish_stays log t done (Some order) hand world =
     of_process log (order.job.nr.0 == done.order.job.nr.0) _ _ (finish_world log t order hand world, omega arith)
 
-take_up_stays : (log : List LogRow) (t : Single) (made : Made) (what : What) → t.reports ≡ reports.Made made ∷ drop 1 t.reports → made.what ≡ what → IsWorld log t → StaysKept log (take_up t made what)
-take_up_stays log t made (whats.Push entry memo address) waiting what world =
-    (push_world log t made (drop 1 t.reports) entry memo address waiting what world, omega arith)
-take_up_stays log t made (whats.Replace over entry memo address) waiting what world =
-    (replace_world log t made (drop 1 t.reports) over entry memo address waiting what world, omega arith)
-take_up_stays log t made _ waiting what world = tt
+-- what was made under the epoch is applied
+take_up_stays : (log : List LogRow) (t : Single) (made : Made) (what : What) → t.reports ≡ reports.Made made ∷ drop 1 t.reports → made.what ≡ what → (made.epoch.0 == t.epoch.0) ≡ true → IsWorld log t → StaysKept log (take_up t made what)
+take_up_stays log t made (whats.Push entry memo address) waiting what same world =
+    (push_world log t made (drop 1 t.reports) entry memo address waiting what same world, omega arith)
+take_up_stays log t made (whats.Replace over entry memo address) waiting what same world =
+    (replace_world log t made (drop 1 t.reports) over entry memo address waiting what same world, omega arith)
+take_up_stays log t made _ waiting what same world = tt
+
+-- what was made under another one is dropped
+drop_stays : (log : List LogRow) (t : Single) (made : Made) (why : Why) → t.reports ≡ reports.Made made ∷ drop 1 t.reports → t.why ≡ why → (made.epoch.0 == t.epoch.0) ≡ false → IsWorld log t → StaysKept log (drop_of t made why)
+drop_stays log t made (whys.Req by) waiting why other world =
+    (drop_world log t made (drop 1 t.reports) by waiting other why world, omega arith)
+drop_stays log t made _ waiting why other world = tt
+
+judge_stays : (log : List LogRow) (t : Single) (made : Made) → t.reports ≡ reports.Made made ∷ drop 1 t.reports → IsWorld log t → StaysKept log (judge t made)
+judge_stays log t made waiting world = by_epoch (made.epoch.0 == t.epoch.0) refl
+  where
+    by_epoch : (same : Bool) → (made.epoch.0 == t.epoch.0) ≡ same → StaysKept log (judge t made)
+    by_epoch true e = rw e (take_up_stays log t made made.what waiting refl e world)
+    by_epoch false e = rw e (drop_stays log t made t.why waiting refl e world)
+
+-- a finished order
+done_stays : (log : List LogRow) (t : Single) (job : Job) (outcome : Outcome) (made : Option Made) (running : Option (ReqId × Step)) → t.reports ≡ reports.Done job outcome made ∷ drop 1 t.reports → t.running ≡ running → IsDoneOf outcome running → IsWorld log t → StaysKept log (take_done t outcome running)
+done_stays log t job outcomes.Updated made running waiting runs is world =
+    (done_world log t job outcomes.Updated made (drop 1 t.reports) waiting refl world, omega arith)
+done_stays log t job outcomes.Activated made (Some run) waiting runs is world =
+    (arrive_world log t job made (drop 1 t.reports) run waiting runs world, arrive_few log t run.0 run.1 world)
+done_stays log t job _ made running waiting runs is world = elim is [ ]
 
 deliver_stays : (log : List LogRow) (t : Single) (first : Option Report) → slice_get t.reports 0 ≡ first → IsWorld log t → StaysKept log (deliver_of t first)
 deliver_stays log t None at world = tt
 deliver_stays log t (Some (reports.Made made)) at world =
-    take_up_stays log t made made.what (head_split t.reports (reports.Made made) at) refl world
+    judge_stays log t made (head_split t.reports (reports.Made made) at) world
 deliver_stays log t (Some (reports.Done job outcome made)) at world =
-    (done_world log t job outcome made (drop 1 t.reports) (head_split t.reports (reports.Done job outcome made) at) world, omega arith)
+    done_stays log t job outcome made t.running (head_split t.reports (reports.Done job outcome made) at) refl (is_done_of log t job outcome made (drop 1 t.reports) world (head_split t.reports (reports.Done job outcome made) at)) world
 deliver_stays log t (Some (reports.Died death)) at world = tt
+
+poke_stays : (log : List LogRow) (t : Single) (nav : NavId) (action : Action) → IsEntry action → IsWorld log t → StaysKept log (poke_of t nav action)
+poke_stays log t nav action is world = by_nav (nav.0 == 0) refl
+  where
+    by_nav : (top : Bool) → (nav.0 == 0) ≡ top → StaysKept log (poke_of t nav action)
+    by_nav true e = rw e (poke_world log t action is world, omega arith)
+    by_nav false e = rw e (stray_world log t nav action e is world, omega arith)
 
 -- what the event comes to keeps the world
 pub step_stays : (log : List LogRow) (t : Single) (event : Event) → IsWorld log t → IsBuilt event → StaysKept log (step_of t event)
-step_stays log t (events.Poke nav action) world built = (poke_world log t action built.1 world, omega arith)
+step_stays log t (events.Go delta) world built = (go_world log t delta world, go_few log t delta world)
+step_stays log t (events.Poke nav action) world built = poke_stays log t nav action built world
 step_stays log t (events.Act proc) world built = of_process log (proc.0 == 1) _ _ (act_stays log t (slice_get t.input 0) refl world)
 step_stays log t (events.Begin proc) world built = of_process log (proc.0 == 1) _ _ (begin_stays log t t.in_hand (slice_get t.mail 0) refl refl world)
 step_stays log t (events.Finish proc done) world built = of_process log (proc.0 == 1) _ _ (finish_stays log t done t.in_hand refl world)

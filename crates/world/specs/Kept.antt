@@ -19,16 +19,17 @@ row_limit = 1000000
 -- what holds of every world
 pub record IsKept (log : List LogRow) (single : Single) (closed : Bool) : Type 0 where
   pub legal : IsLegal log
-  -- the longest event logs three rows
-  pub short : length log ≤ 1000002
+  -- an event logs at most two rows for each traversal that waits, and three more
+  pub short : length log ≤ 3000002
   pub stands : closed ≡ false → IsWorld log single
 
 -- the numbers of the state leave room for one more event
 pub record IsRoomy (t : Single) : Type 0 where
-  pub events : t.events < 2000000
-  pub rows : length t.history.rows < 2000000
-  pub current : t.history.current < 2000000
-  pub asked : length t.endings < 2000000
-  pub sent : t.jobs < 2000000
-  pub numbered : t.view.numbered < 2000000
-  pub index : t.view.index < 2000000
+  pub events : t.events < 3100000
+  pub rows : length t.history.rows < 3100000
+  pub current : t.history.current < 3100000
+  pub asked : length t.endings < 3100000
+  pub sent : t.jobs < 3100000
+  pub numbered : t.view.numbered < 3100000
+  pub index : t.view.index < 3100000
+  pub epoch : t.epoch.0 < 3100000

@@ -1,2 +1,4 @@
 pub mod Kept
+pub mod Held
 pub mod Steps
+pub mod Taking

@@ -1,8 +1,15 @@
 -- What a step of a world answers and does.
 -- This project's own.
-use Rattle.std.specs.Prelude.{◌≡◌, ◌+◌, ◌<◌, ◌≤◌, true, false, ◌==◌, List, ◌++◌, take, length, slice_get, Option, Some, None, Result, Ok, Err, if◌then◌else◌}
+use Rattle.std.specs.Prelude.{◌≡◌, ◌+◌, ◌<◌, ◌≤◌, ◌*◌, true, false, ◌==◌, List, ◌++◌, take, length, slice_get, Option, Some, None, Result, Ok, Err, if◌then◌else◌}
 use Rattle.tab_ids.specs.declared.ReqId.{ReqId}
+use Rattle.tab_ids.specs.declared.NavId.{NavId}
 use Rattle.tab_ids.specs.declared.ProcId.{ProcId}
+use Rattle.tab_ids.specs.declared.Step.{Step}
+use Rattle.log_model.specs.declared.action.Action.{Action}
+use Rattle.log_model.specs.declared.job.Why.{Why}
+use Rattle.log_model.specs.declared.job.Why.TheVariants as whys
+use Rattle.log_model.specs.declared.outcome.Outcome.{Outcome}
+use Rattle.log_model.specs.declared.outcome.Outcome.TheVariants as outcomes
 use Rattle.world.specs.declared.event.Waiting.{Waiting}
 use Rattle.log_model.specs.declared.job.Job.{Job}
 use Rattle.log_model.specs.declared.job.Order.{Order}
@@ -15,8 +22,9 @@ use Rattle.log_model.specs.declared.request.Poke.{Poke}
 use Rattle.log_model.specs.declared.row_kind.LogRow.{LogRow}
 use Rattle.log_model.specs.Views.{made_by}
 use Rattle.proc_work.specs.Work as worked
-use Rattle.world_laws.specs.Single.{Single, next_request, poke_rows, poked, act_rows, acted, refusal_rows, refused, begin_rows, begun, finish_rows, finished, done_rows, done, push_rows, push_applied, replace_rows, replace_applied}
-use Rattle.world_laws.specs.Keeps.{IsPush, IsWorld}
+use Rattle.world_laws.specs.Single.{Single, next_request, poke_rows, poked, stray_rows, strayed, act_rows, acted, refusal_rows, refused, begin_rows, begun, finish_rows, finished, done_rows, done, push_rows, push_applied, replace_rows, replace_applied, drop_rows, dropped}
+use Rattle.world_laws.specs.Going.{go_rows, gone, arrive_rows, arrive_state}
+use Rattle.world_laws.specs.Keeps.{IsEntry, IsWorld}
 use Rattle.world.specs.declared.event.Event.{Event}
 use Rattle.world.specs.declared.event.Event.TheVariants as events
 use Rattle.world.specs.declared.event.Reply.{Reply}
@@ -73,60 +81,47 @@ take_up t made (whats.Replace over entry memo address) =
     logs replies.Delivered (replace_rows t made.req over entry memo address) (replace_applied t made.req entry memo address)
 take_up t made _ = idle replies.Empty
 
--- the log and the state after what was made is applied
-abbrev pub TakesUp : List LogRow → Single → Made → What → List LogRow → Single → Type 0
-TakesUp log t made (whats.Push entry memo address) new next =
-    (new ≡ log ++ push_rows t made.req entry memo address) × (next ≡ push_applied t made.req entry memo address)
-TakesUp log t made (whats.Replace over entry memo address) new next =
-    (new ≡ log ++ replace_rows t made.req over entry memo address)
-    × (next ≡ replace_applied t made.req entry memo address)
-TakesUp log t made _ new next = ⊥
+-- or drops it, where a traversal has moved on
+abbrev pub drop_of : Single → Made → Why → Stepped
+drop_of t made (whys.Req by) = logs replies.Delivered (drop_rows t made.req by) (dropped t made.req by)
+drop_of t made _ = idle replies.Empty
 
--- the same, for a report that is off the list already
-abbrev pub TakesOff : List LogRow → Single → Made → What → List LogRow → Single → Type 0
-TakesOff log t made (whats.Push entry memo address) new next =
-    (new ≡ log ++ push_rows t made.req entry memo address)
-    × (next ≡ record (push_applied t made.req entry memo address) { reports = t.reports })
-TakesOff log t made (whats.Replace over entry memo address) new next =
-    (new ≡ log ++ replace_rows t made.req over entry memo address)
-    × (next ≡ record (replace_applied t made.req entry memo address) { reports = t.reports })
-TakesOff log t made _ new next = ⊥
+-- what was made is taken up under the epoch of the last activation
+abbrev pub judge : Single → Made → Stepped
+judge t made = if made.epoch.0 == t.epoch.0 then take_up t made made.what else drop_of t made t.why
 
--- the log and the state after the report is taken
-abbrev pub Delivers : List LogRow → Single → Report → List LogRow → Single → Type 0
-Delivers log t (reports.Done job outcome made) new next = (new ≡ log ++ done_rows t) × (next ≡ done t)
-Delivers log t (reports.Made made) new next = TakesUp log t made made.what new next
-Delivers log t (reports.Died death) new next = ⊥
-
--- a report that a world of one document may take: of a finished order, or of a push or a replace whose request has a number
-abbrev pub MayTakeWhat : Single → Made → What → Type 0
-MayTakeWhat t made (whats.Push entry memo address) = (0 < made.req.0) × (made.req.0 < length t.endings + 1)
-MayTakeWhat t made (whats.Replace over entry memo address) = (0 < made.req.0) × (made.req.0 < length t.endings + 1)
-MayTakeWhat t made _ = ⊥
-
-abbrev pub MayTake : Single → Report → Type 0
-MayTake t (reports.Done job outcome made) = Unit {0}
-MayTake t (reports.Made made) = MayTakeWhat t made made.what
-MayTake t (reports.Died death) = ⊥
+-- a finished order changes nothing more, unless it shows the goal of the running traversal, which is applied then
+abbrev pub take_done : Single → Outcome → Option (ReqId × Step) → Stepped
+take_done t outcomes.Activated (Some run) = logs replies.Delivered (arrive_rows t run.0 run.1) (arrive_state t run.0 run.1)
+take_done t _ _ = logs replies.Delivered (done_rows t) (done t)
 
 -- the coordinator takes the first report, if there is one
 abbrev pub deliver_of : Single → Option Report → Stepped
 deliver_of t None = idle replies.Empty
-deliver_of t (Some (reports.Made made)) = take_up t made made.what
-deliver_of t (Some (reports.Done job outcome made)) = logs replies.Delivered (done_rows t) (done t)
+deliver_of t (Some (reports.Made made)) = judge t made
+deliver_of t (Some (reports.Done job outcome made)) = take_done t outcome t.running
 deliver_of t (Some (reports.Died death)) = idle replies.Empty
+
+-- a poke waits for the one document; one of a navigable without a row is refused
+abbrev pub poke_of : Single → NavId → Action → Stepped
+poke_of t nav action =
+    if nav.0 == 0
+    then logs (replies.Accepted (next_request t)) (poke_rows t action) (poked t action)
+    else logs (replies.Accepted (next_request t)) (stray_rows t nav action) (strayed t)
 
 -- what each event comes to; the one process has number 1
 abbrev pub step_of : Single → Event → Stepped
-step_of t (events.Poke nav action) = logs (replies.Accepted (next_request t)) (poke_rows t action) (poked t action)
+step_of t (events.Go delta) = logs (replies.Accepted (next_request t)) (go_rows t delta) (gone t delta)
+step_of t (events.Poke nav action) = poke_of t nav action
 step_of t (events.Act proc) = if proc.0 == 1 then act_of t (slice_get t.input 0) else idle replies.Empty
 step_of t (events.Begin proc) = if proc.0 == 1 then begin_of t t.in_hand (slice_get t.mail 0) else idle replies.Empty
 step_of t (events.Finish proc done) = if proc.0 == 1 then finish_of t done t.in_hand else idle replies.Stale
 step_of t (events.Deliver proc) = if proc.0 == 1 then deliver_of t (slice_get t.reports 0) else idle replies.Empty
 
--- the events that a world of one document takes: a poke is a push in the top navigable
+-- the events that a world of one document takes: a poke is a push, a replace or a fragment
 abbrev pub IsBuilt : Event → Type 0
-IsBuilt (events.Poke nav action) = (nav.0 ≡ 0) × IsPush action
+IsBuilt (events.Go delta) = Unit {0}
+IsBuilt (events.Poke nav action) = IsEntry action
 IsBuilt (events.Act proc) = Unit {0}
 IsBuilt (events.Begin proc) = Unit {0}
 IsBuilt (events.Finish proc done) = Unit {0}
@@ -170,4 +165,4 @@ Steps old (logs reply rows after) (Err errors.OutOfMemory) new =
 -- what is kept where the event comes to this
 abbrev pub StaysKept : List LogRow → Stepped → Type 0
 StaysKept log (idle reply) = Unit {0}
-StaysKept log (logs reply rows next) = IsWorld (log ++ rows) next × (length rows ≤ 3)
+StaysKept log (logs reply rows next) = IsWorld (log ++ rows) next × (length rows ≤ 2 * length log + 3)

@@ -9,6 +9,7 @@ ghost use Rattle.log_model.specs.Views.{made_by};
 ghost use Rattle.world_laws.specs.Single.{logged, ended, first_process};
 ghost use Rattle.world.specs.Kept.{IsRoomy};
 ghost use Rattle.world.specs.Steps.{ActsOn, Shuts};
+ghost use Rattle.world.specs.Taking.{IsAsked};
 
 use crate::error::StepError;
 use crate::state::State;
@@ -23,7 +24,7 @@ pub(crate) fn act(log: &mut Log, state: &mut State) -> Result<(), StepError>
     requires some { 0 < length state.old.input }
     requires running { state.old.view.running ≡ true }
     requires room { IsRoomy state.old }
-    requires open { IsSomeAnd (slice_get state.old.input 0) (λ poke. (0 < poke.req.0) × (poke.req.0 < length state.old.endings + 1)) }
+    requires open { IsSomeAnd (slice_get state.old.input 0) (λ poke. IsAsked (length state.old.endings) poke.req) }
     ensures acts { OnOk result (IsSomeAnd (slice_get state.old.input 0) (λ poke. ActsOn log.old state.old poke.req (made_by state.old.view poke.action) log.new state.new)) }
     ensures shuts { IfErr result Shuts }
     ensures err { OnErr result (take (length log.old) log.new ≡ log.old) }
@@ -48,7 +49,7 @@ pub(crate) fn act(log: &mut Log, state: &mut State) -> Result<(), StepError>
 
 /// Reports what was made.
 fn report(log: &mut Log, state: &mut State, made: Made) -> Result<(), OutOfMemory>
-    requires events { state.old.events < 2000000 }
+    requires events { state.old.events < 3100000 }
     ensures log { OnOk result (log.new ≡ log.old ++ logged state.old.events (actors.Proc first_process) (kinds.Made first_process made ∷ [])) }
     ensures state { OnOk result (state.new ≡ record state.old { events = state.old.events + 1; reports = state.old.reports ++ reports.Made made ∷ [] }) }
     ensures err { OnErr result (take (length log.old) log.new ≡ log.old) }
@@ -69,7 +70,7 @@ fn report(log: &mut Log, state: &mut State, made: Made) -> Result<(), OutOfMemor
 
 /// Refuses a request for its address.
 fn refuse(log: &mut Log, state: &mut State, req: ReqId) -> Result<(), OutOfMemory>
-    requires events { state.old.events < 2000000 }
+    requires events { state.old.events < 3100000 }
     requires positive { 0 < req.0 }
     requires asked { req.0 < length state.old.endings + 1 }
     ensures log { OnOk result (log.new ≡ log.old ++ logged state.old.events (actors.Proc first_process) (kinds.Refused req denials.BadAddress ∷ [])) }

@@ -6,6 +6,8 @@ use tab_ids::{NavId, ProcId, ReqId};
 /// What may happen next.
 #[derive(Drop)]
 pub enum Event {
+    /// A request: the tab is to traverse its history by a delta.
+    Go { delta: i32 },
     /// A request: the running document of a navigable is to act.
     Poke { nav: NavId, action: Action },
     /// A process lets its document act on the first poke of its input.
@@ -24,6 +26,8 @@ pub enum Reply {
     Accepted(ReqId),
     Acted,
     Took(Order),
+    /// The order was sent to an earlier incarnation of the process, and is void.
+    Voided,
     /// An order is in hand.
     Busy,
     Finished,

@@ -2,12 +2,20 @@
 #![tactic(auto)]
 
 mod acting;
-mod delivering;
 mod error;
 mod event;
+mod history;
+mod noting;
 mod poking;
+mod queue;
+mod report;
+mod settling;
 mod state;
 mod steps;
+#[cfg(test)]
+mod tests;
+mod top;
+mod traversal;
 mod working;
 mod world;
 

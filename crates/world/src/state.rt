@@ -4,48 +4,57 @@ ghost use Rattle.world_laws.specs.Single.{opened};
 
 use address::{Address, OutOfMemory};
 use doc_view::View;
-use log_model::{Ending, Job, Order, Poke, Report, Row};
+use entry_store::EntryStore;
+use log_model::{Ending, Job, Order, Poke, Report};
+use nav_tree::NavTree;
 use std::alloc::Global;
 use std::collections::VecDeque;
 use std::marker::Model;
-use tab_ids::{DocId, EntryId, NavId, StateId, Step};
+use tab_ids::{DocId, EntryId, ProcId, ReqId, Step};
 
-/// The history, the one document, the four lists of its process, and how each request ended.
+/// The history, the top navigable, the one document, the four lists of its process, the traversals that wait, the one that runs, and how each request ended.
 #[derive(Drop)]
 pub(crate) struct State {
     pub(crate) events: u32,
-    pub(crate) rows: Vec<Row>,
-    pub(crate) current: u32,
-    pub(crate) state: StateId,
+    pub(crate) store: EntryStore,
+    pub(crate) tree: NavTree,
     pub(crate) view: View,
-    pub(crate) told: Option<(u32, u32)>,
     pub(crate) input: VecDeque<Poke>,
     pub(crate) mail: VecDeque<Job>,
     pub(crate) in_hand: Option<Order>,
     pub(crate) reports: VecDeque<Report>,
+    pub(crate) queue: VecDeque<(ReqId, i32)>,
+    pub(crate) running: Option<(ReqId, Step)>,
     pub(crate) endings: Vec<Option<Ending>>,
     pub(crate) jobs: u64,
 }
 
 impl Model for State {
-    ghost use Rattle.std.specs.Prelude.{[]};
     ghost use Rattle.world_laws.specs.Single.{Single};
+    ghost use Rattle.world.specs.Held.{history_in, top_in, given_to, state_in, HasTop};
 
     ghost Value = { Single };
 
     ghost view = { λ s. record {
       events = s.events;
-      history = record { rows = s.rows.items; current = s.current; added = [] };
-      state = s.state;
+      history = history_in s.store;
+      state = state_in s.tree;
       view = s.view;
-      told = s.told;
+      epoch = (top_in s.tree).epoch;
+      given = given_to (top_in s.tree);
+      why = (top_in s.tree).why;
+      told = (top_in s.tree).told;
       input = s.input.items;
       mail = s.mail.items;
       in_hand = s.in_hand;
       reports = s.reports.items;
+      queue = s.queue.items;
+      running = s.running;
       endings = s.endings.items;
       jobs = s.jobs;
     } };
+
+    ghost invariant = { λ s. HasTop s.tree s.running };
 }
 
 /// The state of a tab that was just opened at an address.
@@ -53,28 +62,19 @@ pub(crate) fn opened_at(alloc: Global, address: &Address) -> Result<State, OutOf
     ensures { IfOk result (λ state. state ≡ opened address.now) }
 {
     let shown = address.copy()?;
-    let first = address.copy()?;
-    let mut rows = Vec::new(alloc);
-    rows.push(Row {
-        owner: None,
-        nav: NavId(0),
-        entry: EntryId { maker: 0, nr: 1 },
-        step: Step(0),
-        state: StateId(1),
-        address: first,
-        memo: None,
-    })?;
+    let store = EntryStore::fresh(alloc, address)?;
+    let tree = NavTree::fresh(alloc, DocId(1), ProcId(1), None)?;
     Ok(State {
         events: 1,
-        rows,
-        current: 0,
-        state: StateId(1),
+        store,
+        tree,
         view: View::opening(DocId(1), EntryId { maker: 0, nr: 1 }, shown),
-        told: Some((1, 0)),
         input: VecDeque::new(alloc),
         mail: VecDeque::new(alloc),
         in_hand: None,
         reports: VecDeque::new(alloc),
+        queue: VecDeque::new(alloc),
+        running: None,
         endings: Vec::new(alloc),
         jobs: 0,
     })

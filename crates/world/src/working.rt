@@ -1,14 +1,16 @@
 //! The events in which the process takes up and finishes an order.
-ghost use Rattle.std.specs.Prelude.{◌≡◌, ◌<◌, ◌+◌, ◌++◌, ◌∷◌, [], OnOk, OnErr, IfOk, take, length, true, None, Some, slice_get, IsSomeAnd};
-ghost use Rattle.world_laws.specs.Keeps.{IsUpdate};
-ghost use Rattle.world_laws.specs.Single.{begin_rows, begun, finish_rows, finished};
+ghost use Rattle.std.specs.Prelude.{◌≡◌, ◌<◌, ◌+◌, ◌^◌, ◌++◌, ◌∷◌, [], OnOk, OnErr, IfOk, take, length, true, None, Some, slice_get, IsSomeAnd};
+ghost use Rattle.log_model.specs.Views.{after_task};
+ghost use Rattle.world.specs.Taking.{IsSentHere};
+ghost use Rattle.world_laws.specs.Single.{begin_rows, begun, finish_rows, finished, outcome_of};
 ghost use Rattle.world_laws.specs.Single.{first_document};
 ghost use Rattle.world.specs.Kept.{IsRoomy};
 
 use crate::state::State;
 use address::OutOfMemory;
+use doc_view::View;
 use history_log::Log;
-use log_model::{Actor, LogRow, Order, Outcome, Report, RowKind};
+use log_model::{Actor, Job, LogRow, Order, Outcome, Report, RowKind, Task};
 use tab_ids::ProcId;
 
 /// Takes up the first order of the mail.
@@ -46,27 +48,55 @@ pub(crate) fn begin(log: &mut Log, state: &mut State) -> Result<Order, OutOfMemo
 pub(crate) fn finish(log: &mut Log, state: &mut State, order: Order) -> Result<(), OutOfMemory>
     requires room { IsRoomy state.old }
     requires doc { order.job.doc ≡ state.old.view.doc }
-    requires update { IsUpdate 2000000 order.job.task }
+    requires task { IsSentHere order.job.task }
     ensures log { OnOk result (log.new ≡ log.old ++ finish_rows state.old order.job) }
     ensures state { OnOk result (state.new ≡ finished state.old order.job) }
     ensures err { OnErr result (take (length log.old) log.new ≡ log.old) }
 {
     let Order { job, dirty: _ } = order;
     let nr = job.nr;
-    state.view.do_job(&job)?;
-    state
-        .reports
-        .push_back(Report::Done(job, Outcome::Updated, None))?;
+    let outcome = work(&mut state.view, &job)?;
+    state.reports.push_back(Report::Done(job, outcome, None))?;
     log.push_row(LogRow {
         event: state.events,
         actor: Actor::Proc(ProcId(1)),
         row: RowKind::Finished {
             proc: ProcId(1),
             job: nr,
-            outcome: Outcome::Updated,
+            outcome,
         },
     })?;
     state.in_hand = None;
     state.events += 1;
     Ok(())
+}
+
+/// Does an order to the view, and answers how it went.
+fn work(view: &mut View, job: &Job) -> Result<Outcome, OutOfMemory>
+    requires index { view.old.index + 2 < 2 ^ 32 }
+    requires numbered { view.old.numbered + 1 < 2 ^ 32 }
+    requires doc { job.now.doc ≡ view.old.doc }
+    requires task { IsSentHere job.now.task }
+    ensures outcome { IfOk result (λ outcome. outcome ≡ outcome_of job.now.task) }
+    ensures view { OnOk result (view.new ≡ after_task view.old job.now.task) }
+{
+    let outcome = outcome(&job.task);
+    view.do_job(job)?;
+    Ok(outcome)
+}
+
+/// What a process answers to an order that is sent here.
+fn outcome(task: &Task) -> Outcome
+    requires task { IsSentHere task.now }
+    ensures { result ≡ outcome_of task.now }
+{
+    match task {
+        Task::Activate { .. } => Outcome::Activated,
+        Task::Update { .. } => Outcome::Updated,
+        Task::Populate { .. }
+        | Task::Freeze
+        | Task::Discard
+        | Task::Ask { .. }
+        | Task::DoFragment { .. } => unreachable!(),
+    }
 }

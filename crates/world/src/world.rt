@@ -1,9 +1,13 @@
 //! `World`, one tab: a contract sees its log, what the log has come to, and whether it is closed.
 ghost use Rattle.std.specs.Prelude.{◌≡◌, ◌↔◌, ◌+◌, ◌<◌, ◌≤◌, ◌==◌, if◌then◌else◌, true, false, Ok, None, Some, IfOk, IfSome, OnErr, IsErrOf, length, [], ◌∷◌};
-ghost use Rattle.std.specs.Option.{option_copied};
+ghost use Rattle.std.specs.Option.{option_copied, option_and_then};
 ghost use Rattle.log_model.specs.Legal.{IsLegal};
-ghost use Rattle.log_model.specs.Logs.{seen_of, is_still, is_quiet, is_idle};
+ghost use Rattle.log_model.specs.Formed.{poked_document};
+ghost use Rattle.log_model.specs.Logs.{seen_of, history_of, in_hand_of, input_of, mail_of, reports_of, is_still, is_quiet, is_idle};
+ghost use Rattle.log_model.specs.Order.{SameHistory};
+ghost use Rattle.entry_store.specs.Held.{history_held};
 ghost use Rattle.world_laws.specs.Single.{opened, opening_row, desk_with};
+ghost use Rattle.world.specs.Held.{history_in};
 ghost use Rattle.world.specs.Kept.{row_limit};
 ghost use Rattle.world.specs.Steps.{waiting_of};
 ghost use Rattle.world_laws.specs.Keeps.{IsWorld};
@@ -12,14 +16,15 @@ ghost use Rattle.world.specs.Steps.{Steps, Takes, step_of, IsBuilt};
 use crate::error::StepError;
 use crate::event::{Event, Reply, Waiting};
 use crate::state::{State, opened_at};
-use crate::steps::{take_act, take_begin, take_deliver, take_finish, take_poke};
+use crate::steps::{take_act, take_begin, take_deliver, take_finish, take_go, take_poke};
 use address::OutOfMemory;
 use doc_view::View;
+use entry_store::EntryStore;
 use history_log::Log;
-use log_model::{Actor, Ending, Header, LogRow, Order, Row, RowKind};
+use log_model::{Actor, Ending, Header, LogRow, Order, RowKind};
 use std::alloc::Global;
 use std::marker::Model;
-use tab_ids::{DocId, EntryId, NavId, ProcId, StateId, Step};
+use tab_ids::{DocId, EntryId, NavId, ProcId, StateId};
 
 /// A tab with one document, in process 1.
 ///
@@ -126,7 +131,8 @@ impl World {
 
     /// The view of the document that a poke of the navigable reaches.
     pub fn view(&self, nav: NavId) -> Option<&View>
-        ensures { option_copied result ≡ (if nav.0 == 0 then Some self.now.single.view else None) }
+        ensures value { option_copied result ≡ (if nav.0 == 0 then Some self.now.single.view else None) }
+        ensures view { self.now.closed ≡ false → option_copied result ≡ option_and_then (λ document. document.view) (poked_document (seen_of self.now.log) nav) }
     {
         if nav.0 == 0 {
             Some(&self.state.view)
@@ -137,7 +143,8 @@ impl World {
 
     /// The order that a process has in hand.
     pub fn in_hand(&self, proc: ProcId) -> Option<&Order>
-        ensures { option_copied result ≡ (if proc.0 == 1 then self.now.single.in_hand else None) }
+        ensures value { option_copied result ≡ (if proc.0 == 1 then self.now.single.in_hand else None) }
+        ensures order { self.now.closed ≡ false → option_copied result ≡ in_hand_of self.now.log proc }
     {
         if proc.0 == 1 {
             self.state.in_hand.as_ref()
@@ -148,7 +155,10 @@ impl World {
 
     /// How many pokes, orders and reports wait in a process.
     pub fn waiting(&self, proc: ProcId) -> Waiting
-        ensures { result ≡ waiting_of self.now.single proc }
+        ensures value { result ≡ waiting_of self.now.single proc }
+        ensures input { self.now.closed ≡ false → result.input ≡ length (input_of self.now.log proc) }
+        ensures mail { self.now.closed ≡ false → result.mail ≡ length (mail_of self.now.log proc) }
+        ensures reports { self.now.closed ≡ false → result.reports ≡ length (reports_of self.now.log proc) }
     {
         if proc.0 == 1 {
             Waiting {
@@ -170,7 +180,7 @@ impl World {
     pub fn is_still(&self) -> bool
         ensures still { self.now.closed ≡ false → result ≡ is_still (seen_of self.now.log) }
         ensures value { result ≡ is_idle (desk_with self.now.single) }
-        ensures short { length self.now.log ≤ 1000002 }
+        ensures short { length self.now.log ≤ 3000002 }
     {
         self.state.input.is_empty()
             && self.state.mail.is_empty()
@@ -188,18 +198,13 @@ impl World {
         self.is_still()
     }
 
-    /// The session history entries, in the order of their steps.
-    pub fn rows(&self) -> &[Row]
-        ensures { result.now ≡ self.now.single.history.rows }
+    /// The store that keeps the history. Nothing is said of the store of a closed world.
+    pub fn store(&self) -> &EntryStore
+        ensures held { history_in result.now ≡ self.now.single.history }
+        ensures history { self.now.closed ≡ false → SameHistory (history_held result.now) (history_of self.now.log) }
     {
-        self.state.rows.as_slice()
-    }
-
-    /// The current step.
-    pub fn current(&self) -> Step
-        ensures { result.0 ≡ self.now.single.history.current }
-    {
-        Step(self.state.current)
+        let _open = &self.closed;
+        &self.state.store
     }
 
     /// How each request ended, in the order of acceptance.
@@ -213,12 +218,13 @@ impl World {
 /// Takes an event, by its kind.
 fn take(log: &mut Log, state: &mut State, event: Event) -> Result<Reply, StepError>
     requires world { IsWorld log.old state.old }
-    requires short { length log.old ≤ 1000002 }
+    requires short { length log.old ≤ 3000002 }
     requires built { IsBuilt event }
     ensures { Takes log.old state.old (step_of state.old event) result log.new state.new }
 {
     match event {
-        Event::Poke { nav: _, action } => take_poke(log, state, action),
+        Event::Go { delta } => take_go(log, state, delta),
+        Event::Poke { nav, action } => take_poke(log, state, nav, action),
         Event::Act { proc } => {
             if proc != ProcId(1) {
                 return Ok(Reply::Empty);

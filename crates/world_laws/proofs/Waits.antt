@@ -62,6 +62,24 @@ open_from_below nr [] r low = refl
 open_from_below nr (ending ∷ endings) r low =
     omega (arith, tally_other_and nr r (is_none ending) (omega arith), open_from_below (nr + 1) endings r (omega arith))
 
+-- an open request has one of the numbers
+pub open_within : (nr : ℕ) (endings : List (Option Ending)) (r : ℕ) → 0 < open_from nr endings r → r < nr + length endings
+open_within nr [] r some = absurd (omega arith)
+open_within nr (ending ∷ endings) r some = by_same (nr == r) refl (open_within (nr + 1) endings r)
+  where
+    by_same : (b : Bool) → (nr == r) ≡ b → (0 < open_from (nr + 1) endings r → r < nr + 1 + length endings) → r < nr + length (ending ∷ endings)
+    by_same true e more = let at : nr ≡ r = grind (arith, nat_tests, e) in omega arith
+    by_same false e more =
+        let other : tally ((nr == r) && is_none ending) ≡ 0 = rw e refl in
+        let within : r < nr + 1 + length endings = more (omega (arith, some, other)) in
+        omega (arith, within)
+
+-- a request that ended as it came is never open
+pub open_from_past : (nr : ℕ) (endings : List (Option Ending)) (ending : Ending) (r : ℕ) → open_from nr (endings ++ Some ending ∷ []) r ≡ open_from nr endings r
+open_from_past nr [] ending r = omega (arith, tally_and_false (nr == r))
+open_from_past nr (first ∷ endings) ending r =
+    omega (arith, open_from_past (nr + 1) endings ending r)
+
 -- ---- a request that is open, and its ending
 
 -- one that is open has no ending at its place

@@ -1,2 +1,4 @@
 pub mod Single
+pub mod Going
+pub mod Pasts
 pub mod Keeps

@@ -1,20 +1,22 @@
 -- What a log of one document in one process has come to, as the state that a world keeps, and how each kind of event changes it.
 -- This project's own.
-use Rattle.std.specs.Prelude.{ℕ, ◌+◌, ◌-◌, true, false, List, [], ◌∷◌, ◌++◌, drop, map, length, slice_set, bytes_eq, Option, Some, None, if◌then◌else◌}
+use Rattle.std.specs.Prelude.{ℕ, ◌+◌, ◌-◌, ℤ, true, false, List, [], ◌∷◌, ◌++◌, drop, take, map, length, slice_set, Option, Some, None, is_none, option_map, option_to_list}
 use Rattle.tab_ids.specs.declared.ReqId.{ReqId}
 use Rattle.tab_ids.specs.declared.DocId.{DocId}
 use Rattle.tab_ids.specs.declared.Epoch.{Epoch}
 use Rattle.tab_ids.specs.declared.ProcId.{ProcId}
 use Rattle.tab_ids.specs.declared.EntryId.{EntryId}
 use Rattle.tab_ids.specs.declared.StateId.{StateId}
+use Rattle.tab_ids.specs.declared.NavId.{NavId}
+use Rattle.tab_ids.specs.declared.JobId.{JobId}
+use Rattle.tab_ids.specs.declared.Step.{Step}
 use Rattle.log_model.specs.declared.action.Action.{Action}
-use Rattle.address.specs.Addresses.{blank_text}
-use Rattle.log_model.specs.declared.change.Change.{Change}
 use Rattle.log_model.specs.declared.change.Change.TheVariants as changes
-use Rattle.log_model.specs.declared.made.Made.{Made}
 use Rattle.log_model.specs.declared.job.Job.{Job}
 use Rattle.log_model.specs.declared.job.Order.{Order}
+use Rattle.log_model.specs.declared.job.Task.{Task}
 use Rattle.log_model.specs.declared.job.Task.TheVariants as tasks
+use Rattle.log_model.specs.declared.job.Why.{Why}
 use Rattle.log_model.specs.declared.job.Why.TheVariants as whys
 use Rattle.log_model.specs.declared.made.What.{What}
 use Rattle.log_model.specs.declared.made.Report.{Report}
@@ -22,6 +24,8 @@ use Rattle.log_model.specs.declared.made.Report.TheVariants as reports
 use Rattle.log_model.specs.declared.outcome.Denial.TheVariants as denials
 use Rattle.log_model.specs.declared.outcome.Ending.{Ending}
 use Rattle.log_model.specs.declared.outcome.Ending.TheVariants as endings
+use Rattle.log_model.specs.declared.outcome.Cause.TheVariants as causes
+use Rattle.log_model.specs.declared.outcome.Outcome.{Outcome}
 use Rattle.log_model.specs.declared.outcome.Outcome.TheVariants as outcomes
 use Rattle.log_model.specs.declared.request.Poke.{Poke}
 use Rattle.log_model.specs.declared.request.Request.TheVariants as requests
@@ -36,9 +40,6 @@ use Rattle.log_model.specs.Views.{View, opening_view, made_for, after_made, afte
 use Rattle.log_model.specs.Opening.{opening_history}
 use Rattle.log_model.specs.Seen.{Seen, Document, Desk, Asked, Place, awake}
 use Rattle.log_model.specs.Places.{top}
-use Rattle.log_model.specs.AfterRequests.{on_request, entries_taken}
-use Rattle.log_model.specs.After.{new_request}
-use Rattle.log_model.specs.After as log_after
 
 -- the first document
 abbrev pub first_document : DocId
@@ -54,11 +55,18 @@ pub record Single : Type 0 where
   pub history : History
   pub state : StateId
   pub view : View
+  -- the top: the epoch of its last activation, the entry that it was given last, why, and the length and index that it was told
+  pub epoch : Epoch
+  pub given : EntryId
+  pub why : Why
   pub told : Option (ℕ × ℕ)
   pub input : List Poke
   pub mail : List Job
   pub in_hand : Option Order
   pub reports : List Report
+  -- the traversals that wait, with their deltas, and the one that runs, with its goal
+  pub queue : List (ReqId × ℤ)
+  pub running : Option (ReqId × Step)
   pub endings : List (Option Ending)
   pub jobs : ℕ
 
@@ -69,9 +77,10 @@ first_epoch = record { 0 = 1 }
 -- what a log has come to beside the state that a world keeps: what was asked, and which entries were given and applied
 pub record Past : Type 0 where
   pub requests : List Asked
-  -- the entry that the top was given last, and all that it was ever given
-  pub given : EntryId
+  -- the entries that the top was ever given, how often it was shown its document, and the order that did it last
   pub ever_given : List EntryId
+  pub ever_awake : List DocId
+  pub last_job : Option JobId
   -- the number of the document's entry that was applied last; 0 at first
   pub last_applied : ℕ
   pub initial_states : List StateId
@@ -110,28 +119,36 @@ desk_with t =
       known = 0;
     }
 
--- the place of the top: awake on the first document
-abbrev pub place_with : Past → Place
-place_with p =
+-- the place of the top: awake on the first document, and on its way while a traversal runs
+abbrev pub place_with : Past → Single → Place
+place_with p t =
     record {
       nav = top;
       above = [];
       owners = [];
       status = awake first_document;
-      epoch = first_epoch;
-      given = Some p.given;
-      why = whys.Start;
+      epoch = t.epoch;
+      given = Some t.given;
+      why = t.why;
       last = Some first_document;
-      last_job = None;
-      is_delivered = true;
+      last_job = p.last_job;
+      is_delivered = is_none t.running;
       was_activated = true;
       added_by = None;
       taken_by = None;
       is_pending = false;
       is_unmet = false;
       ever_given = p.ever_given;
-      ever_awake = first_document ∷ [];
+      ever_awake = p.ever_awake;
     }
+
+-- the requests of a queue
+abbrev pub requests_in : List (ReqId × ℤ) → List ReqId
+requests_in queue = map (λ (go : ReqId × ℤ). go.0) queue
+
+-- the traversals that joined the queue and haven't ended: the one that runs, and those that wait
+abbrev pub joined_with : Single → List ReqId
+joined_with t = option_to_list (option_map (λ (run : ReqId × Step). run.0) t.running) ++ requests_in t.queue
 
 -- what the log has come to
 abbrev pub seen_with : Past → Single → Seen
@@ -143,9 +160,9 @@ seen_with p t =
       desks = desk_with t ∷ [];
       requests = p.requests;
       jobs = t.jobs;
-      places = place_with p ∷ [];
+      places = place_with p t ∷ [];
       kept = [];
-      joined = [];
+      joined = joined_with t;
       parked = [];
       states = 1;
       entries = 1;
@@ -182,11 +199,16 @@ opened address =
       history = opening_history first_entry first_state address;
       state = first_state;
       view = opening_view first_document first_entry address;
+      epoch = first_epoch;
+      given = first_entry;
+      why = whys.Start;
       told = Some (1, 0);
       input = [];
       mail = [];
       in_hand = None;
       reports = [];
+      queue = [];
+      running = None;
       endings = [];
       jobs = 0;
     }
@@ -212,6 +234,15 @@ poked t action =
       input = t.input ++ record { req = next_request t; doc = first_document; action = action } ∷ [];
       endings = t.endings ++ None ∷ [];
     }
+
+-- a poke of a navigable without a row is refused at once
+abbrev pub stray_rows : Single → NavId → Action → List LogRow
+stray_rows t nav action =
+    logged t.events actors.Ui (rows.Accepted (next_request t) None (requests.Poke nav action) ∷ rows.Refused (next_request t) denials.NoNavigable ∷ [])
+
+abbrev pub strayed : Single → Single
+strayed t =
+    record t { events = t.events + 1; endings = t.endings ++ Some (endings.Refused denials.NoNavigable) ∷ [] }
 
 -- ---- the document acts on its first poke
 
@@ -257,9 +288,14 @@ begun t job =
       in_hand = Some (record { job = job; dirty = t.view.dirty });
     }
 
+-- what a process answers to an order that a world of one document sends
+abbrev pub outcome_of : Task → Outcome
+outcome_of (tasks.Activate entry epoch length index memo address) = outcomes.Activated
+outcome_of _ = outcomes.Updated
+
 abbrev pub finish_rows : Single → Job → List LogRow
 finish_rows t job =
-    logged t.events (actors.Proc first_process) (rows.Finished first_process job.nr outcomes.Updated ∷ [])
+    logged t.events (actors.Proc first_process) (rows.Finished first_process job.nr (outcome_of job.task) ∷ [])
 
 abbrev pub finished : Single → Job → Single
 finished t job =
@@ -267,7 +303,7 @@ finished t job =
       events = t.events + 1;
       in_hand = None;
       view = after_task t.view job.task;
-      reports = t.reports ++ reports.Done job outcomes.Updated None ∷ [];
+      reports = t.reports ++ reports.Done job (outcome_of job.task) None ∷ [];
     }
 
 -- ---- the coordinator takes a report
@@ -279,7 +315,7 @@ done_rows t = logged t.events actors.Coord (rows.Delivered first_process ∷ [])
 abbrev pub done : Single → Single
 done t = record t { events = t.events + 1; reports = drop 1 t.reports }
 
--- the rows of the history with one more, a step after the others
+-- the new row: a step after the current one
 abbrev pub pushed_row : Single → EntryId → Option (List ℕ) → List ℕ → Row
 pushed_row t entry memo address =
     record {
@@ -292,9 +328,9 @@ pushed_row t entry memo address =
       memo = memo;
     }
 
--- the length and index once one more entry is there
+-- the length and index once the forward session history is cleared and one more entry is there
 abbrev pub pushed_pair : Single → ℕ × ℕ
-pushed_pair t = (length t.history.rows + 1, length t.history.rows)
+pushed_pair t = (t.history.current + 2, t.history.current + 1)
 
 -- the order that tells them
 abbrev pub update_job : Single → ReqId → Job
@@ -317,9 +353,10 @@ push_applied t req entry memo address =
     record t {
       events = t.events + 1;
       history = record t.history {
-        rows = t.history.rows ++ pushed_row t entry memo address ∷ [];
+        rows = take (t.history.current + 1) t.history.rows ++ pushed_row t entry memo address ∷ [];
         current = t.history.current + 1;
       };
+      given = entry;
       told = Some (pushed_pair t);
       mail = t.mail ++ update_job t req ∷ [];
       reports = drop 1 t.reports;
@@ -331,14 +368,14 @@ abbrev pub replace_rows : Single → ReqId → EntryId → EntryId → Option (L
 replace_rows t req over entry memo address =
     logged t.events actors.Coord (rows.Delivered first_process ∷ rows.Applied req (changes.Replace top over entry t.state address memo) ∷ [])
 
--- the only row, of an initial document, gives way
+-- the row at the current step gives way
 abbrev pub replaced_row_with : Single → EntryId → Option (List ℕ) → List ℕ → Row
 replaced_row_with t entry memo address =
     record {
       owner = None;
       nav = top;
       entry = entry;
-      step = record { 0 = 0 };
+      step = record { 0 = t.history.current };
       state = t.state;
       address = address;
       memo = memo;
@@ -348,75 +385,25 @@ abbrev pub replace_applied : Single → ReqId → EntryId → Option (List ℕ) 
 replace_applied t req entry memo address =
     record t {
       events = t.events + 1;
-      history = record t.history { rows = replaced_row_with t entry memo address ∷ [] };
+      history = record t.history { rows = slice_set t.history.rows t.history.current (replaced_row_with t entry memo address) };
+      given = entry;
       reports = drop 1 t.reports;
       endings = ended t.endings req endings.Applied;
     }
 
--- ---- what each row adds to the past
+-- what was made under the epoch before a traversal is dropped by it
+abbrev pub drop_rows : Single → ReqId → ReqId → List LogRow
+drop_rows t req by =
+    logged t.events actors.Coord (rows.Delivered first_process ∷ rows.Dropped req (causes.By by) ∷ [])
 
--- a poke is accepted
-abbrev pub past_poked : Past → ReqId → Action → Past
-past_poked p req action =
-    record p {
-      requests = p.requests ++ new_request req (Some first_document) (requests.Poke top action) ∷ [];
-      just_finished = None;
+abbrev pub dropped : Single → ReqId → ReqId → Single
+dropped t req by =
+    record t {
+      events = t.events + 1;
+      reports = drop 1 t.reports;
+      endings = ended t.endings req (endings.Dropped (causes.By by));
     }
 
--- something is made of a poke
-abbrev pub past_made : Past → Made → Past
-past_made p made =
-    record p {
-      requests = on_request made.req (λ q. record q { made = Some made }) p.requests;
-      just_finished = None;
-    }
-
--- a poke is refused
-abbrev pub past_refused : Past → ReqId → Past
-past_refused p req =
-    record p {
-      requests = log_after.ended p.requests req (endings.Refused denials.BadAddress);
-      just_finished = None;
-    }
-
--- an order is taken up, or a report is delivered
-abbrev pub past_quiet : Past → Past
-past_quiet p = record p { just_finished = None }
-
--- an order is finished
-abbrev pub past_finished : Past → Job → Past
-past_finished p job = record p { just_finished = Some job }
-
--- the requests once a change is applied for one
-abbrev pub requests_applied : List Asked → History → ReqId → Change → List Asked
-requests_applied asked history req change =
-    on_request req (λ q. record q { took = entries_taken history change })
-    (on_request req (λ q. record q { change = Some change }) (log_after.ended asked req endings.Applied))
-
--- a new entry of the document is applied
-abbrev pub past_applied : Past → History → ReqId → Change → EntryId → Past
-past_applied p history req change entry =
-    record {
-      requests = requests_applied p.requests history req change;
-      given = entry;
-      ever_given = entry ∷ p.ever_given;
-      last_applied = entry.nr;
-      initial_states = p.initial_states;
-      just_finished = None;
-    }
-
--- an order is sent for a request
-abbrev pub past_sent : Past → ReqId → Past
-past_sent p req = record p { requests = on_request req (λ q. q) p.requests; just_finished = None }
-
--- the past as the tab was opened
-abbrev pub past_opened : List ℕ → Past
-past_opened address =
-    record {
-      requests = [];
-      given = first_entry;
-      ever_given = first_entry ∷ [];
-      last_applied = 0;
-      initial_states = if bytes_eq address blank_text then first_state ∷ [] else [];
-      just_finished = None;
-    }
+-- the same, once the report that the entry is shown is delivered
+abbrev pub seen_shown : Past → Single → Seen
+seen_shown p t = record (seen_with p t) { places = record (place_with p t) { is_delivered = true } ∷ [] }

@@ -10,4 +10,4 @@ invariant-rounds l = record {
 }
 
 abbrev pub decreases-rounds : goal.decreases-rounds
-decreases-rounds l = 1000010 - length l.world.log
+decreases-rounds l = 3000010 - length l.world.log
