@@ -2,29 +2,32 @@
 """Times EntryStore's calls at 100, 1,000 and 10,000 entries over 1 and 100 navigables.
 
 `python3 bench/store.py [ENTRIES..]` makes a program beside the crates, in a folder of its own, and proves and
-runs it by `rt run`, as LLVM builds it. A line is: entries, navigables, then the mean time of one call of apply
-(a push), target, used_at and length_index in nanoseconds.
+runs it by `rt run`, as LLVM builds it. A line is: entries, navigables, then in nanoseconds the mean time of one call
+of apply (a push at the end, then one after a traversal back by a step), target, used_at, and length_index (from the
+last step on, then from half of it on).
 """
-import os
-import shutil
 import subprocess
 import sys
 import tempfile
 
-CRATES = ["tab_ids", "address", "log_model", "history_laws", "entry_store"]
+from beside import copied, written
+
+CRATES = ["entry_store"]
 ENTRIES = ["100", "1000", "10000"]
 
 PROGRAM = """//! Times the calls of `EntryStore`.
 #![tactic(auto)]
-ghost use Rattle.std.specs.Prelude.{◌≡◌, true, false};
+ghost use Rattle.std.specs.Prelude.{◌≡◌, ◌≤◌, true, false, nat_le, IfOk};
 ghost use Rattle.std.specs.List.{list_any};
+ghost use Rattle.log_model.specs.History.{greatest_step};
+ghost use Rattle.log_model.specs.declared.row.Row.{Row};
 ghost use Rattle.log_model.specs.Soundness.{is_entry};
 ghost use Rattle.entry_store.specs.Held.{history_held};
 ghost use Rattle.entry_store.specs.Store.{IsStateOf};
 
-use address::Address;
+use address::{Address, OutOfMemory};
 use entry_store::{EntryStore, Store};
-use log_model::Change;
+use log_model::{Change, Row};
 use std::alloc::Global;
 use std::process::ExitCode;
 use std::time::Instant;
@@ -43,6 +46,29 @@ fn is_free(store: &EntryStore, nav: NavId, state: StateId) -> bool
     ensures { result ≡ true → IsStateOf nav state (history_held store.now).rows }
 {
     if store.has_state(state) { false } else { true }
+}
+
+// Whether a row stands at the step or past it.
+fn is_reached(store: &EntryStore, goal: Step) -> Result<bool, OutOfMemory>
+    ensures { IfOk result (λ reached. reached ≡ true → goal.0 ≤ greatest_step (history_held store.now).rows) }
+{
+    let rows = store.rows()?;
+    Ok(is_past(rows.as_slice(), goal))
+}
+
+fn is_past(rows: &[Row], goal: Step) -> bool
+    ensures { result ≡ list_any (λ (row : Row). nat_le goal.0 row.step.0) rows.now }
+{
+    rows.iter().any(|row| goal <= row.step)
+}
+
+// A traversal back by a step.
+fn back(store: &mut EntryStore) -> Option<()> {
+    let goal = Step(store.current().0.saturating_sub(1));
+    if !is_reached(store, goal).ok()? || store.current().0 >= 4294967294 {
+        return None;
+    }
+    store.apply(&Change::Traverse { goal }).ok()
 }
 
 // One push, in nanoseconds.
@@ -86,6 +112,31 @@ fn built(rt: HostRuntime, entries: u32, navs: u32) -> Option<EntryStore> {
     Some(store)
 }
 
+// The mean time of 100 pushes from an entry's number on, each after a traversal back by a step or all at the end.
+fn push_time(rt: HostRuntime, store: &mut EntryStore, from: u32, navs: u32, goes_back: bool) -> Option<u128> {
+    let mut pushes: u128 = 0;
+    for i in 0..100u32 {
+        if goes_back {
+            back(store)?;
+        }
+        let nr = from.saturating_add(i).saturating_add(1);
+        pushes = pushes.wrapping_add(push(rt, store, i.checked_rem(navs)?, nr)?);
+    }
+    Some(pushes / 100)
+}
+
+// The mean time of length_index at a step and those after it.
+fn index_time(rt: HostRuntime, store: &EntryStore, from: Step) -> Option<u128> {
+    let mut sum: u64 = 0;
+    let start = Instant::now(&rt).ok()?;
+    for i in 0..1000u32 {
+        sum = sum.wrapping_add(u64::from(store.length_index(Step(from.0.saturating_add(i % 8))).1));
+    }
+    let time = start.elapsed(&rt).ok()?.as_nanos() / 1000;
+    // The sum is asked for, so that no call is left out.
+    if sum == u64::MAX { None } else { Some(time) }
+}
+
 fn times(rt: HostRuntime, entries: u32, navs: u32) -> Option<()> {
     let mut store = built(rt, entries, navs)?;
     let mut sum: u64 = 0;
@@ -101,18 +152,12 @@ fn times(rt: HostRuntime, entries: u32, navs: u32) -> Option<()> {
         sum = sum.wrapping_add(u64::from(store.used_at(Step(i)).0));
     }
     let used_at = start.elapsed(&rt).ok()?.as_nanos() / 1000;
-    let start = Instant::now(&rt).ok()?;
-    for i in 0..1000u32 {
-        sum = sum.wrapping_add(u64::from(store.length_index(Step(i)).1));
-    }
-    let length_index = start.elapsed(&rt).ok()?.as_nanos() / 1000;
-    let mut pushes: u128 = 0;
-    for i in 0..100u32 {
-        let nr = entries.saturating_add(i).saturating_add(1);
-        pushes = pushes.wrapping_add(push(rt, &mut store, i.checked_rem(navs)?, nr)?);
-    }
-    let apply = pushes / 100;
-    println!(rt; "{} {} apply {} target {} used_at {} length_index {} ({})", entries, navs, apply, target, used_at, length_index, sum % 10).ok()
+    let last = store.current();
+    let at_last = index_time(rt, &store, last)?;
+    let at_half = index_time(rt, &store, Step(last.0 / 2))?;
+    let at_end = push_time(rt, &mut store, entries, navs, false)?;
+    let after_back = push_time(rt, &mut store, entries.saturating_add(100), navs, true)?;
+    println!(rt; "{} {} apply {} {} target {} used_at {} length_index {} {} ({})", entries, navs, at_end, after_back, target, used_at, at_last, at_half, sum % 10).ok()
 }
 
 fn main(rt: HostRuntime) -> ExitCode {
@@ -151,28 +196,29 @@ returns-else-has_state c free other held =
     absurd (false≢true (c.if-has_state.ensures ∙ w.is_in (is_in_state c.args.state) (and_parts (is_of other w.it) (is_in_state c.args.state w.it) w.passes).1))
 """
 
+IS_REACHED = """use Rattle.std.proofs.Common.{◌∙◌, ap, sym, List}
+use Rattle.std.specs.Prelude.{nat_le}
+use Rattle.std.specs.List.{list_any}
+use Rattle.log_model.specs.declared.row.Row.{Row}
+use Rattle.entry_store.specs.Held.{history_held}
+use Rattle.entry_store.proofs.Asking.{goal_is_reached}
+use Rattle.store_times.proofs.is_reached.Goals as goal
 
-def written(path: str, text: str) -> None:
-    os.makedirs(os.path.dirname(path), exist_ok=True)
-    with open(path, "w") as sink:
-        sink.write(text)
+pub returns : goal.returns
+returns c reached =
+    goal_is_reached (history_held c.args.store.now).rows c.in_ok-rows.rows c.args.goal.0 c.in_ok-rows.ensures
+    (sym (c.is_past.ensures ∙ ap (λ (rows : List Row). list_any (λ (row : Row). nat_le c.args.goal.0 row.step.0) rows) c.as_slice.ensures) ∙ reached)
+"""
 
 
 def main() -> int:
-    top = os.path.dirname(os.path.dirname(os.path.abspath(__file__)))
     entries = sys.argv[1:] or ENTRIES
     with tempfile.TemporaryDirectory() as folder:
-        os.makedirs(f"{folder}/crates")
-        for crate in CRATES:
-            shutil.copytree(f"{top}/crates/{crate}", f"{folder}/crates/{crate}")
-        with open(f"{top}/crates.txt") as source:
-            lines = [line for line in source if line.split(":")[0] in CRATES]
-        lines.append("store_times: entry_store history_laws log_model address tab_ids\n")
-        written(f"{folder}/crates.txt", "".join(lines))
-        crate = f"{folder}/crates/store_times"
+        crate = copied(folder, CRATES, "store_times")
         written(f"{crate}/src/main.rt", PROGRAM.replace("@ENTRIES@", "[" + ", ".join(f"{n}u32" for n in entries) + "]"))
         written(f"{crate}/proofs/is_new/Answers.antt", IS_NEW)
         written(f"{crate}/proofs/is_free/Answers.antt", IS_FREE)
+        written(f"{crate}/proofs/is_reached/Answers.antt", IS_REACHED)
         return subprocess.run(["rt", "run", "--jobs", "1"], cwd=crate).returncode
 
 

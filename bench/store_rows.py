@@ -51,6 +51,8 @@ CASES = [
     ("a push into a frame that it clears away is refused", "p02 f213 t0 p14 p05"),
     ("four levels, cleared from the middle", "p02 f213 p14 f425 p26 f637 p38 t2 p19"),
     ("a frame hangs on a document in the middle of its parent", "p02 p03 t1 f214 p15 t1 p06"),
+    ("pushes at the end go from navigable to navigable", "f112 p13 p01 f324 p25 p16 p07"),
+    ("pushes go on at the end after a traversal there and back", "f112 p13 p04 t0 t2 p15 t1 p16 p07"),
 ]
 
 
