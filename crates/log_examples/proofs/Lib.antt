@@ -1,7 +1,9 @@
 pub mod Pushes
 pub mod Traversals
+pub mod Interleavings
 pub mod Loads
 pub mod Frames
+pub mod Removals
 pub mod Reloads
 pub mod Prompts
 pub mod Deaths
