@@ -3,3 +3,5 @@ pub mod Bytes
 pub mod ForCallers
 pub mod Fragments
 pub mod Urls
+pub mod Written
+pub mod Roots

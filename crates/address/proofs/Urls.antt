@@ -1,5 +1,5 @@
 -- What the URL of an address keeps, and what its text reads as.
-use Rattle.std.proofs.Common.{◌≡◌, ℕ, ◌≤◌, List, Ok, Err, Some, length, refl, subst, arith}
+use Rattle.std.proofs.Common.{◌≡◌, ℕ, ◌≤◌, List, Ok, Err, Some, length, refl, arith}
 use Rattle.std.specs.Prelude.{Bool, Option, Result, IfSome, None, true, false, nat_le, not, ◌||◌, if◌then◌else◌}
 use Rattle.std.specs.Str.{is_utf8}
 use Rattle.std.proofs.lemmas.Bool.Decides.{nat_tests}
@@ -10,7 +10,7 @@ use Rattle.url.specs.Parts.{Parts, IsValid, has_credentials, serialize}
 use Rattle.url.proofs.ParsedCanonical.{parse_url_canonical}
 use Rattle.url.proofs.Theorems.{parse_url-serialize}
 use Rattle.url.proofs.ValidLemmas.{IsAscii-serialize}
-use Rattle.address.specs.Addresses.{IsAddress, IsAddressUrl, Fault, bad_scheme, has_user, too_long, address_of, base_of, base_text, fragment_of, is_blank_url, is_web, judged, judged_parse, origin_of, origin_text, read_against, url_of}
+use Rattle.address.specs.Addresses.{IsAddressUrl, Fault, bad_scheme, has_user, too_long, address_of, base_of, base_text, fragment_of, is_blank_url, is_web, judged, judged_parse, origin_of, origin_text, read_against, url_of}
 
 -- the tests that a URL has passed
 pub record Passes (url : Parts) : Type 0 where
@@ -68,12 +68,12 @@ address_is_short url text spelled kept =
     let short = (Passes-from_judged url _ kept.fits).short in rw (← spelled) (grind (arith, nat_tests, short))
 
 -- an address's text reads as itself
-pub address_reads : (url : Parts) (text : List ℕ) → serialize url ≡ text → IsAddressUrl url → IsAddress text
+pub serialize_reads : (url : Parts) → IsAddressUrl url → address_of (serialize url) ≡ Ok (serialize url)
 unfolding address_of read_against judged_parse
-address_reads url text spelled kept =
+serialize_reads url kept =
     let short = (Passes-from_judged url _ kept.fits).short in
     let utf8 : is_utf8 (serialize url) ≡ true = is_utf8-from_IsUtf8 _ (IsUtf8-from_ascii _ (IsAscii-serialize url kept.valid)) in
-    subst IsAddress spelled (record { reads = rw (short, utf8, kept.reads) kept.fits })
+    rw (short, utf8, kept.reads) kept.fits
 
 -- the readers of an address's text read its URL
 pub base_of-text : (url : Parts) (text : List ℕ) → serialize url ≡ text → IsAddressUrl url → base_of text ≡ base_text url
@@ -89,8 +89,6 @@ unfolding origin_of
 origin_of-text url text spelled kept = rw (url_of-serialize url text spelled kept) refl
 
 pub ruleset readers = (base_of-text, fragment_of-text, origin_of-text)
-
-pub ruleset texts = (address_is_short, address_reads)
 
 pub ruleset of_url = (url_of-serialize)
 

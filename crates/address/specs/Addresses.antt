@@ -1,7 +1,8 @@
 -- An address: a URL of http or https with no user name and no password, or about:blank, as its written text.
 -- URL Standard, "URL parsing" and "URL serializing"; HTML Standard, "can have its URL rewritten" and
 -- "navigate to a fragment". The limits, and which schemes count, are this project's own.
-use Rattle.std.specs.Prelude.{◌≡◌, ℕ, Bool, not, ◌||◌, List, [], length, codes, bytes_eq, nat_le, Option, Some, None, option_and_then, Result, Ok, Err, MatchResult, if◌then◌else◌}
+use Rattle.std.specs.Prelude.{◌≡◌, ◌==◌, ℕ, Bool, true, false, not, ◌||◌, ◌&&◌, List, [], ◌++◌, length, codes, bytes_eq, nat_lt, nat_le, Option, Some, None, option_and_then, Result, Ok, Err, MatchResult, if◌then◌else◌}
+use Rattle.std.specs.List.{list_all}
 use Rattle.std.specs.Str.{is_utf8}
 use Rattle.std.specs.Result.{result_ok}
 use Rattle.std.specs.Option.{option_map_or}
@@ -88,6 +89,10 @@ origin_text url = if is_web url then text_between url BeforeScheme AfterPort els
 unfoldable pub origin_of : List ℕ → List ℕ
 origin_of text = option_map_or origin_text (url_of text) []
 
+-- the address is its origin with the path `/`, no query and no fragment; about:blank has no origin
+abbrev pub is_root : List ℕ → Bool
+is_root text = bytes_eq text (origin_of text ++ codes "/")
+
 -- two addresses are the same, their fragments aside
 unfoldable pub has_same_base : List ℕ → List ℕ → Bool
 has_same_base a b = bytes_eq (base_of a) (base_of b)
@@ -119,9 +124,22 @@ IsFragmentError errors.OutOfMemory = Unit {0}
 abbrev pub Reads : Result (List ℕ) AddressError → Result (List ℕ) Fault → Type 0
 Reads result expected = MatchResult result (λ text. expected ≡ Ok text) (λ e. IsFault e expected)
 
--- what every address keeps: its text reads as itself
+-- a byte that an address is written in: above a space, of ASCII, and no delete
+abbrev pub is_address_byte : ℕ → Bool
+is_address_byte b = nat_lt 32 b && nat_le b 126
+
+-- the origin of an address, a word of such bytes, reads as the address
+pub record ReadsAsRoot (text : List ℕ) : Type 0 where
+  pub some : (length (origin_of text) == 0) ≡ false
+  pub bytes : list_all is_address_byte (origin_of text) ≡ true
+  pub reads : address_of (origin_of text) ≡ Ok text
+
+-- what every address keeps: its text, a word of such bytes, reads as itself; where it is its origin and `/`, so does the origin
 pub record IsAddress (text : List ℕ) : Type 0 where
+  pub some : (length text == 0) ≡ false
+  pub bytes : list_all is_address_byte text ≡ true
   pub reads : address_of text ≡ Ok text
+  pub root : is_root text ≡ true → ReadsAsRoot text
 
 -- what the URL of every address keeps: it is judged one, and its text reads as it
 pub record IsAddressUrl (url : Parts) : Type 0 where

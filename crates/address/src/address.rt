@@ -147,7 +147,7 @@ impl Address {
     }
 
     /// The written text.
-    #[tactic(auto, using(crate::proofs::Urls::texts))]
+    #[tactic(auto, using(crate::proofs::Roots::texts))]
     pub fn text(&self) -> &[u8]
         ensures value { result.now ≡ self.now }
         ensures short { length self.now ≤ 2048 }
