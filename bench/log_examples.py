@@ -9,7 +9,8 @@ repository). The model plays each scenario; the checker has to call the log lega
     python3 bench/log_examples.py --random FIRST COUNT ROWS FOLDER [MODEL]
 
 writes lemmas on COUNT random logs of at most ROWS rows, half of them broken by one edit, into FOLDER (the proofs/ of a
-copy of the crate): that all tests of a legal log hold exactly where the checker says legal. FOLDER/logs.txt has the logs.
+copy of the crate): that all tests of a legal log hold exactly where the checker says legal, and that a log as it was
+played acts at once. FOLDER/logs.txt has the logs.
 """
 import os
 import random
@@ -152,6 +153,20 @@ SCENARIOS = [
         ('poke_of_a_dead_document', 'A death takes a poke that waits.',
          'session 1|open http://a.test/|push 0 s /1|kill 1|settle'),
     ]),
+    ('Pending', [
+        ('two_pushes_on_their_way', 'Two pushes are made, and the first one is delivered.',
+         'session 1|open http://a.test/|push 0 s /1|push 0 t /2|act 1|act 1|deliver 1'),
+        ('push_behind_a_traversal', 'A traversal ends while a push waits.',
+         'session 1|open http://a.test/|push 0 s /1|settle|go -1|begin 1|finish 1|push 0 t /2|deliver 1'),
+        ('traversal_beside_a_push', 'A traversal begins while a push waits.',
+         'session 1|open http://a.test/|push 0 s /1|settle|push 0 t /2|go -1'),
+        ('load_beside_a_push', 'A load is applied while a push waits.',
+         'session 1|open http://a.test/|load 0 auto http://a.test/1|begin 1|finish 1|push 0 s /2|deliver 1'),
+        ('load_over_a_frame', 'A load of the top, which has a frame.',
+         'session 1|open http://a.test/|frame 0 1|settle|load 0 auto http://a.test/1|settle'),
+        ('reload_of_a_removed_frame', 'A reload waits for its turn, and its frame is removed.',
+         'session 1|open http://a.test/|frame 0 1|frame 0 2|settle|load 1 auto http://a.test/f|settle|load 1 auto http://a.test/g|settle|go -1|reload 2|remove 0 2|act 1|deliver 1|settle'),
+    ]),
     ('Session', [
         ('whole_session', 'A session with sites, frames, a dirty page and a death.',
          'session 1|keep 3|site http://shop.test 2|site http://ads.test 3|page http://shop.test/cart 0|open http://news.test/|load 0 auto http://news.test/1|settle|load 0 auto http://news.test/2|settle|frame 0 1|settle|load 1 auto http://ads.test/a|settle|load 0 auto http://news.test/2#top|settle|load 0 auto http://news.test/3|settle|go -1|settle|go 1|settle|load 0 auto http://shop.test/|settle|load 0 auto http://shop.test/p1|settle|load 0 auto http://shop.test/p2|settle|load 0 auto http://shop.test/cart|settle|edit 0|settle|load 0 auto http://news.test/4|settle|answer 14 stay|settle|kill 2|settle|reload 0|settle|load 0 auto http://shop.test/done|settle|go -2|settle'),
@@ -230,6 +245,10 @@ BROKEN = [
         ('load_that_is_not_refused', 'A load of a navigable that is not there is not refused.', 'load_of_no_navigable', [('leave_out', ' refused r1')]),
         ('destroyed_by_another_request', 'A push is dropped for a removal that was none.', 'push_of_a_removed_frame',
          [('change', ' dropped r3', 'destroyed r2', 'destroyed r1')]),
+        ('frame_refused_without_its_report', 'A frame is refused in an event that takes no report.', 'taken_number',
+         [('move', ' refused r2', ' made p1 r2')]),
+        ('reload_refused_as_its_frame_is_gone', 'A reload that waits is refused as its frame is removed, and not dropped.', 'reload_of_a_removed_frame',
+         [('change', ' dropped r6', 'dropped r6 destroyed r7', 'refused r6 no-navigable')]),
         ('dropped_by_itself', 'A load of a new frame is dropped by itself.', 'load_of_a_new_frame', [('change', ' dropped r2', 'by r1', 'by r2')]),
     ]),
     ('queued', [
@@ -266,6 +285,8 @@ BROKEN = [
         ('discarded_without_cause', 'A document is discarded that is needed.', 'one_push', [('change', ' sent j1', 'update 2 1', 'discard')]),
         ('another_handler_slot', 'A document is asked at another slot than its own.', 'leave', [('change', ' sent j4', 'ask 0', 'ask 1')]),
         ('another_leave_cause', 'A document is asked for another cause.', 'leave', [('change', ' sent j4', 'traverse', 'reload')]),
+        ('asked_after_it_went_on', 'A load begins and has its document made, and only then asks the one that it leaves.', 'load_behind_an_answer',
+         [('change', ' sent j4', 'sent j4', 'sent j5'), ('insert', ' started r3', '13 ui sent j4 p1 0 d3 r3 populate n0 s3 plain http://a.test/2'), ('keep_to', ' sent j5')]),
         ('asked_out_of_order', 'The frame is asked before the top.', 'one_prompt_for_two', [('move', ' sent j9', ' sent j10')]),
         ('shown_before_it_is_made', 'A document is shown before it is made.', 'taken_number', [('move', ' sent j2', ' sent j1')]),
         ('initial_document_made_plain', 'An initial about:blank document is made as a plain one.', 'taken_number',
@@ -290,6 +311,32 @@ BROKEN = [
         ('frame_forgotten', 'A new frame whose document is never made.', 'taken_number',
          [('keep_to', ' applied r1 frame')]),
     ]),
+]
+
+# logs in which the tab puts off what it could do, or does it in vain: name, what is wrong, the scenario, the field that fails, the edits
+PUT_OFF = [
+    ('update_put_off', 'A push is applied, and its update waits for the next one.', 'two_pushes_on_their_way', 'told', [('leave_out', ' sent j1')]),
+    ('traversal_not_applied', 'A traversal runs on though all stand at its goal.', 'push_behind_a_traversal', 'stepped', [('leave_out', ' applied r2')]),
+    ('traversal_not_begun', 'A traversal waits though none runs and all stand.', 'traversal_beside_a_push', 'stepped',
+     [('leave_out', ' sent j2'), ('leave_out', ' started r3')]),
+    ('ready_load_not_applied', 'A load waits though its document is there and all stand.', 'load_beside_a_push', 'stepped',
+     [('leave_out', ' applied r1'), ('leave_out', ' sent j2'), ('leave_out', ' sent j3')]),
+    ('order_to_a_discarded_document', 'A document is sent a Discard, and another one.', 'no_document_kept', 'in_time',
+     [('change', '4 co sent j3', '4 co sent j3 p1 0 d2 r1 activate e0.2 2 2 1 - http://a.test/1', '4 co sent j3 p1 0 d1 r1 discard'),
+      ('insert', '4 co sent j3', '4 co sent j4 p1 0 d2 r1 activate e0.2 2 2 1 - http://a.test/1'), ('keep_to', '4 co sent j4')]),
+    ('frozen_twice', 'A document is frozen twice.', 'load_beside_a_push', 'in_time',
+     [('change', '5 co sent j3', 'sent j3 p1 0 d2 r1 activate e0.2 2 2 1 - http://a.test/1', 'sent j3 p1 0 d1 r1 freeze'),
+      ('insert', '5 co sent j3', '5 co sent j4 p1 0 d2 r1 activate e0.2 2 2 1 - http://a.test/1')]),
+    ('shown_for_another_request', 'While a traversal runs an entry is shown for a request that has ended.', 'traversal_beside_a_push', 'in_time',
+     [('change', ' sent j2', 'd1 r3', 'd1 r1')]),
+    ('frozen_for_another_request', 'While a traversal runs a document is frozen for a request that has ended.', 'reload_of_a_removed_frame', 'in_time',
+     [('change', ' sent j13', 'd5 r5', 'd5 r4')]),
+    ('shown_where_it_is_hidden', 'A document is shown in a frame that hangs on another document.', 'load_over_a_frame', 'in_time',
+     [('insert', '22 co delivered', '22 co sent j7 p1 0 d2 r2 activate e0.2 2 2 1 - about:blank')]),
+    ('load_applied_without_its_document', 'A load is applied before its document is made.', 'load_beside_a_push', 'in_time',
+     [('move', ' applied r1', ' sent j1'), ('keep_to', ' applied r1')]),
+    ('push_applied_without_its_report', 'A push is applied in the event that takes the report of another.', 'two_pushes_on_their_way', 'in_time',
+     [('insert', ' applied r1', '5 co applied r2 push n0 e1.2 s1 t http://a.test/2'), ('change', ' sent j1', 'update 2 1', 'update 3 2')]),
 ]
 
 # logs in which a load ends too late: name, what is wrong, the scenario, the edits
@@ -437,15 +484,19 @@ def header_of(name, header):
     return 'abbrev pub %s_header : Header\n%s_header = %s\n\n' % (name, name, setting(header))
 
 
+def lemma_of(name, what, claim, proof):
+    return 'pub %s_%s : %s\n%s\n%s_%s = %s\n' % (name, what, claim, log_rows.UNFOLDING, name, what, proof)
+
+
 def legal_lemma(name, sentence, rows, header):
     fields = '; '.join('%s = refl' % field for field in FIELDS)
     lemmas = [
         ('is_legal', 'IsLegal %s' % name, 'record { %s }' % fields),
         ('ends_loads', 'LoadsEndInTime %s' % name, 'refl'),
+        ('acts_at_once', 'ActsAtOnce %s' % name, 'record { told = refl; stepped = refl; in_time = refl }'),
         ('suits', 'Suits %s_header %s' % (name, name), 'record { opened = refl; placed = refl; kept = refl }'),
     ]
-    return log_of(name, sentence, rows) + header_of(name, header) + '\n'.join(
-        'pub %s_%s : %s\n%s\n%s_%s = %s\n' % (name, what, claim, log_rows.UNFOLDING, name, what, proof) for what, claim, proof in lemmas)
+    return log_of(name, sentence, rows) + header_of(name, header) + '\n'.join(lemma_of(name, *lemma) for lemma in lemmas)
 
 
 def broken_lemma(name, sentence, rows, claim, fact, header=None):
@@ -486,6 +537,14 @@ def gate(model):
     late = [broken_lemma(name, sentence, model.rows(edited(played[scenario], edits)), 'LoadsEndInTime ' + name, 'holds')
             for name, sentence, scenario, edits in LATE]
     names.append(module(folder, 'NotEnding', 'Logs in which a load ends too late.', late))
+    put_off, lawful = [], 0
+    for name, sentence, scenario, field, edits in PUT_OFF:
+        rows, lemma = model.rows(edited(played[scenario], edits)), ''
+        if model.verdict(edited(played[scenario], edits)) is None:
+            lawful += 1
+            lemma = '\n-- a legal log, so that nothing else refuses it\n' + lemma_of(name, 'is_legal', 'IsLegal %s' % name, 'record { %s }' % '; '.join('%s = refl' % f for f in FIELDS))
+        put_off.append(broken_lemma(name, sentence, rows, 'ActsAtOnce ' + name, 'holds.' + field) + lemma)
+    names.append(module(folder, 'NotAtOnce', 'Logs in which the tab puts off what it could do, or does it in vain.', put_off))
     unsuited = []
     for name, sentence, scenario, field, (part, value) in UNSUITED:
         header, _ = model.check.read_scenario(texts[scenario].replace('|', '\n'))
@@ -497,7 +556,8 @@ def gate(model):
     names.append(module(folder, 'NotSuited', 'Logs that do not suit other settings than their own.', unsuited))
     with open(os.path.join(folder, 'Lib.antt'), 'w') as file:
         file.write(''.join('pub mod %s\n' % name for name in names))
-    print('%d legal logs, %d broken ones, %d in which a load ends late, %d that do not suit' % (legal, broken, len(late), len(unsuited)))
+    print('%d legal logs, %d broken ones, %d in which a load ends late, %d that do not act at once (%d of them legal), %d that do not suit' % (
+        legal, broken, len(late), len(put_off), lawful, len(unsuited)))
 
 
 # ---- random logs
@@ -599,6 +659,8 @@ def at_random(model, first, count, most, folder):
             body += 'abbrev log_%d : List LogRow\nlog_%d =\n    %s\n\n' % (k, k, log_rows.terms(model.rows(lines)))
             body += 'log_%d_agrees : list_all (λ (holds : Bool). holds) (verdicts_of (events_of log_%d)) ≡ %s\n%s\nlog_%d_agrees = refl\n\n' % (
                 k, k, 'true' if is_legal else 'false', log_rows.UNFOLDING, k)
+            if what == 'as played':
+                body += lemma_of('log_%d' % k, 'acts_at_once', 'ActsAtOnce log_%d' % k, 'record { told = refl; stepped = refl; in_time = refl }') + '\n'
         name = 'Random%d' % (start // 25)
         with open(os.path.join(folder, name + '.antt'), 'w') as file:
             file.write('-- Random logs.\n%suse Rattle.std.specs.List.{list_all}\nuse Rattle.log_examples.specs.Verdicts.{verdicts_of}\n\n%s' % (imports(body), body))

@@ -175,7 +175,7 @@ def terms(rows):
 
 
 # the words that a proof by computing unfolds, by the file of definitions that has them
-OPAQUE = ['address/Addresses', 'log_model/Events', 'log_model/Formed', 'log_model/Legal', 'log_model/LoadsEndInTime']
+OPAQUE = ['address/Addresses', 'log_model/Events', 'log_model/Formed', 'log_model/Legal', 'log_model/LoadsEndInTime', 'log_model/ActsAtOnce']
 
 
 def opaque_words(file):
@@ -214,7 +214,7 @@ use Rattle.log_model.specs.declared.request.Request.TheVariants as requests
 use Rattle.log_model.specs.declared.row_kind.Actor.TheVariants as actors
 use Rattle.log_model.specs.declared.row_kind.LogRow.{LogRow}
 use Rattle.log_model.specs.declared.row_kind.RowKind.TheVariants as rows
-''' + imported('log_model/Events') + imported('log_model/Formed') + imported('log_model/Legal', ['IsLegal']) + imported('log_model/LoadsEndInTime', ['LoadsEndInTime']) + '''use Rattle.log_model.specs.Suits.{Suits}
+''' + imported('log_model/Events') + imported('log_model/Formed') + imported('log_model/Legal', ['IsLegal']) + imported('log_model/LoadsEndInTime', ['LoadsEndInTime']) + imported('log_model/ActsAtOnce', ['ActsAtOnce']) + '''use Rattle.log_model.specs.Suits.{Suits}
 use Rattle.log_model.specs.declared.header.Header.{Header}
 use Rattle.log_examples.specs.Rows.{n, s, r, p, t, x, d, j, e, epoch, at, sent, made}
 '''

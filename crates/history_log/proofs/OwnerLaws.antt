@@ -19,7 +19,7 @@ use Rattle.log_model.specs.declared.row_kind.RowKind.{RowKind}
 use Rattle.log_model.specs.declared.row_kind.RowKind.TheVariants as rows
 use Rattle.log_model.specs.Seen.{Seen, Document, nothing, desk_of}
 use Rattle.log_model.specs.After.{after}
-use Rattle.log_model.specs.AfterDocuments.{opening_document, on_document, told_by, told_after_change, with_applied, applied_to, new_document, documents_sent, task_in_hand, view_finished, documents_finished, slot_finished, documents_delivered, documents_after}
+use Rattle.log_model.specs.AfterDocuments.{opening_document, on_document, addressed, told_after_change, with_applied, applied_to, new_document, documents_sent, task_in_hand, view_finished, documents_finished, slot_finished, documents_delivered, documents_after}
 use Rattle.log_model.specs.AfterPlaces.{is_dead_by}
 use Rattle.log_model.specs.Views.{View, after_made}
 use Rattle.std.specs.Prelude.{slice_get, is_none, is_some, ◌&&◌}
@@ -102,11 +102,11 @@ own_sent : (s : Seen) (job : Job) (task : Task) (doc : DocId) → own (documents
 own_sent s job (tasks.Populate nav state address initial) doc =
     own-append s.documents (new_document s job nav state) doc ∙ ap (λ (o : Option ProcId). first_place (own s.documents doc) o) (own-one (new_document s job nav state) doc)
 own_sent s job tasks.Discard doc = own-on_document job.doc (λ (d : Document). record d { is_discarded = true }) (λ d. (refl, refl)) s.documents doc ∙ sym (first_place_none _)
-own_sent s job (tasks.Activate entry epoch length index memo address) doc = own-on_document job.doc (λ (d : Document). record d { told = told_by d.told (tasks.Activate entry epoch length index memo address) }) (λ d. (refl, refl)) s.documents doc ∙ sym (first_place_none _)
-own_sent s job (tasks.Update length index) doc = own-on_document job.doc (λ (d : Document). record d { told = told_by d.told (tasks.Update length index) }) (λ d. (refl, refl)) s.documents doc ∙ sym (first_place_none _)
-own_sent s job tasks.Freeze doc = own-on_document job.doc (λ (d : Document). record d { told = told_by d.told tasks.Freeze }) (λ d. (refl, refl)) s.documents doc ∙ sym (first_place_none _)
-own_sent s job (tasks.Ask slot cause) doc = own-on_document job.doc (λ (d : Document). record d { told = told_by d.told (tasks.Ask slot cause) }) (λ d. (refl, refl)) s.documents doc ∙ sym (first_place_none _)
-own_sent s job (tasks.DoFragment req mode address) doc = own-on_document job.doc (λ (d : Document). record d { told = told_by d.told (tasks.DoFragment req mode address) }) (λ d. (refl, refl)) s.documents doc ∙ sym (first_place_none _)
+own_sent s job (tasks.Activate entry epoch length index memo address) doc = own-on_document job.doc (addressed (tasks.Activate entry epoch length index memo address)) (λ d. (refl, refl)) s.documents doc ∙ sym (first_place_none _)
+own_sent s job (tasks.Update length index) doc = own-on_document job.doc (addressed (tasks.Update length index)) (λ d. (refl, refl)) s.documents doc ∙ sym (first_place_none _)
+own_sent s job tasks.Freeze doc = own-on_document job.doc (addressed tasks.Freeze) (λ d. (refl, refl)) s.documents doc ∙ sym (first_place_none _)
+own_sent s job (tasks.Ask slot cause) doc = own-on_document job.doc (addressed (tasks.Ask slot cause)) (λ d. (refl, refl)) s.documents doc ∙ sym (first_place_none _)
+own_sent s job (tasks.DoFragment req mode address) doc = own-on_document job.doc (addressed (tasks.DoFragment req mode address)) (λ d. (refl, refl)) s.documents doc ∙ sym (first_place_none _)
 
 own_done : (ds : List Document) (job : Option Job) (doc : DocId) → own (documents_finished ds job) doc ≡ own ds doc
 own_done ds None doc = refl

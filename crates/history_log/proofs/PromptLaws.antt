@@ -24,10 +24,10 @@ use Rattle.log_model.specs.declared.row_kind.LogRow.{LogRow}
 use Rattle.log_model.specs.declared.row_kind.RowKind.{RowKind}
 use Rattle.log_model.specs.declared.row_kind.RowKind.TheVariants as rows
 use Rattle.log_model.specs.Equal.{holds}
-use Rattle.log_model.specs.Seen.{Seen, Asked, Document, nothing, request_in, request_of, desk_of, document_of}
+use Rattle.log_model.specs.Seen.{Seen, Asked, Document, nothing, request_in, request_of, desk_of, document_of, place_of}
 use Rattle.log_model.specs.After.{after, requests_after, new_request}
 use Rattle.log_model.specs.AfterRequests.{on_request, on_served, request_served, requests_sent, requests_finished, requests_delivered, requests_told, with_activated, with_moved}
-use Rattle.log_model.specs.AfterPlaces.{sleepers}
+use Rattle.log_model.specs.AfterPlaces.{sleepers_below}
 use Rattle.log_model.specs.Logs.{seen_of, is_prompt_up}
 use Rattle.history_log.specs.declared.prompt_reader.PromptReader.{PromptReader}
 use Rattle.history_log.specs.Prompts.{is_told, prompt_after, no_prompt, reads_up}
@@ -155,7 +155,7 @@ served_law asked whys.Start n f keeps = refl
 served_keeps : (s : Seen) (job : Job) (task : Task) → KeepsFace (request_served s job task)
 served_keeps s job (tasks.Activate entry epoch length index memo address) q = by_found (document_of s job.doc)
   where
-    by_found : (found : Option Document) → face (option_map_or (λ (d : Document). with_activated d.nav (with_moved (sleepers s job) q)) found q) ≡ face q
+    by_found : (found : Option Document) → face (option_map_or (λ (d : Document). with_activated d.nav (with_moved (option_map_or (sleepers_below s job.doc) (place_of s d.nav) []) q)) found q) ≡ face q
     by_found None = refl
     by_found (Some d) = refl
 served_keeps s job tasks.Freeze q = refl
@@ -171,8 +171,8 @@ sent_law s job (tasks.Activate entry epoch length index memo address) asked n = 
 sent_law s job tasks.Freeze asked n = served_law asked job.why n _ (served_keeps s job tasks.Freeze)
 sent_law s job tasks.Discard asked n = served_law asked job.why n _ (served_keeps s job tasks.Discard)
 sent_law s job (tasks.Ask slot cause) asked n = served_law asked job.why n _ (served_keeps s job (tasks.Ask slot cause))
-sent_law s job (tasks.Populate nav state address initial) asked n = served_law asked job.why n _ (served_keeps s job (tasks.Populate nav state address initial))
-sent_law s job (tasks.Update length index) asked n = served_law asked job.why n _ (served_keeps s job (tasks.Update length index))
+sent_law s job (tasks.Populate nav state address initial) asked n = refl
+sent_law s job (tasks.Update length index) asked n = refl
 
 fragment_law : (s : Seen) (order : Order) (task : Task) (asked : List Asked) (n : ℕ) → order.job.task ≡ task → reader_of n (requests_finished s (Some order) outcomes.Fragmented asked) ≡ reader_of n asked
 fragment_law s order (tasks.DoFragment req mode address) asked n is = rw is (keep_law asked req n _ (λ q. refl))

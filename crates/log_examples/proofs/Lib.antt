@@ -7,6 +7,7 @@ pub mod Removals
 pub mod Reloads
 pub mod Prompts
 pub mod Deaths
+pub mod Pending
 pub mod Session
 pub mod NotOpened
 pub mod NotNumbered
@@ -18,4 +19,5 @@ pub mod NotOrdered
 pub mod NotChecked
 pub mod NotSettled
 pub mod NotEnding
+pub mod NotAtOnce
 pub mod NotSuited

@@ -22,6 +22,7 @@ use Rattle.log_model.specs.Events.{events_of, each_event, after_opening, AtEachE
 use Rattle.log_model.specs.Formed.{is_numbered}
 use Rattle.log_model.specs.Legal.{IsLegal, opens, is_formed, is_once, is_caused, is_queued, is_ordered, is_checked, ends_settled}
 use Rattle.log_model.specs.LoadsEndInTime.{loads_end}
+use Rattle.log_model.specs.ActsAtOnce.{ends_told, ends_stepped, goes_in_time}
 use Rattle.log_examples.specs.Rows.{n, s, r, p, t, x, d, j, e, epoch, at, sent, made}
 
 -- A load is dropped by a request that has ended.
@@ -70,7 +71,7 @@ dropped_by_a_request_that_ended =
     ∷ []
 
 pub dropped_by_a_request_that_ended_is_refused : IsLegal dropped_by_a_request_that_ended → ⊥
-unfolding url_on_literals is_web is_blank_url judged judged_parse read_against address_of url_of resolved with_fragment base_of fragment_of origin_text origin_of has_same_base is_rewritable events_of each_event after_opening AtEachEvent is_numbered opens is_formed is_once is_caused is_queued is_ordered is_checked ends_settled loads_end
+unfolding url_on_literals is_web is_blank_url judged judged_parse read_against address_of url_of resolved with_fragment base_of fragment_of origin_text origin_of has_same_base is_rewritable events_of each_event after_opening AtEachEvent is_numbered opens is_formed is_once is_caused is_queued is_ordered is_checked ends_settled loads_end ends_told ends_stepped goes_in_time
 dropped_by_a_request_that_ended_is_refused holds = false≢true holds.caused
 
 -- A load is dropped for a death that never was.
@@ -105,7 +106,7 @@ dropped_by_another_death =
     ∷ []
 
 pub dropped_by_another_death_is_refused : IsLegal dropped_by_another_death → ⊥
-unfolding url_on_literals is_web is_blank_url judged judged_parse read_against address_of url_of resolved with_fragment base_of fragment_of origin_text origin_of has_same_base is_rewritable events_of each_event after_opening AtEachEvent is_numbered opens is_formed is_once is_caused is_queued is_ordered is_checked ends_settled loads_end
+unfolding url_on_literals is_web is_blank_url judged judged_parse read_against address_of url_of resolved with_fragment base_of fragment_of origin_text origin_of has_same_base is_rewritable events_of each_event after_opening AtEachEvent is_numbered opens is_formed is_once is_caused is_queued is_ordered is_checked ends_settled loads_end ends_told ends_stepped goes_in_time
 dropped_by_another_death_is_refused holds = false≢true holds.caused
 
 -- A frame is refused for another reason.
@@ -131,7 +132,7 @@ refused_for_another_reason =
     ∷ []
 
 pub refused_for_another_reason_is_refused : IsLegal refused_for_another_reason → ⊥
-unfolding url_on_literals is_web is_blank_url judged judged_parse read_against address_of url_of resolved with_fragment base_of fragment_of origin_text origin_of has_same_base is_rewritable events_of each_event after_opening AtEachEvent is_numbered opens is_formed is_once is_caused is_queued is_ordered is_checked ends_settled loads_end
+unfolding url_on_literals is_web is_blank_url judged judged_parse read_against address_of url_of resolved with_fragment base_of fragment_of origin_text origin_of has_same_base is_rewritable events_of each_event after_opening AtEachEvent is_numbered opens is_formed is_once is_caused is_queued is_ordered is_checked ends_settled loads_end ends_told ends_stepped goes_in_time
 refused_for_another_reason_is_refused holds = false≢true holds.caused
 
 -- A traversal is dropped for a stay that the user did not answer.
@@ -168,7 +169,7 @@ stay_that_was_not_answered =
     ∷ []
 
 pub stay_that_was_not_answered_is_refused : IsLegal stay_that_was_not_answered → ⊥
-unfolding url_on_literals is_web is_blank_url judged judged_parse read_against address_of url_of resolved with_fragment base_of fragment_of origin_text origin_of has_same_base is_rewritable events_of each_event after_opening AtEachEvent is_numbered opens is_formed is_once is_caused is_queued is_ordered is_checked ends_settled loads_end
+unfolding url_on_literals is_web is_blank_url judged judged_parse read_against address_of url_of resolved with_fragment base_of fragment_of origin_text origin_of has_same_base is_rewritable events_of each_event after_opening AtEachEvent is_numbered opens is_formed is_once is_caused is_queued is_ordered is_checked ends_settled loads_end ends_told ends_stepped goes_in_time
 stay_that_was_not_answered_is_refused holds = false≢true holds.caused
 
 -- The user stays, and the traversal is not dropped.
@@ -204,7 +205,7 @@ stay_without_a_drop =
     ∷ []
 
 pub stay_without_a_drop_is_refused : IsLegal stay_without_a_drop → ⊥
-unfolding url_on_literals is_web is_blank_url judged judged_parse read_against address_of url_of resolved with_fragment base_of fragment_of origin_text origin_of has_same_base is_rewritable events_of each_event after_opening AtEachEvent is_numbered opens is_formed is_once is_caused is_queued is_ordered is_checked ends_settled loads_end
+unfolding url_on_literals is_web is_blank_url judged judged_parse read_against address_of url_of resolved with_fragment base_of fragment_of origin_text origin_of has_same_base is_rewritable events_of each_event after_opening AtEachEvent is_numbered opens is_formed is_once is_caused is_queued is_ordered is_checked ends_settled loads_end ends_told ends_stepped goes_in_time
 stay_without_a_drop_is_refused holds = false≢true holds.caused
 
 -- A traversal is refused though there is a step.
@@ -231,7 +232,7 @@ refused_without_reason =
     ∷ []
 
 pub refused_without_reason_is_refused : IsLegal refused_without_reason → ⊥
-unfolding url_on_literals is_web is_blank_url judged judged_parse read_against address_of url_of resolved with_fragment base_of fragment_of origin_text origin_of has_same_base is_rewritable events_of each_event after_opening AtEachEvent is_numbered opens is_formed is_once is_caused is_queued is_ordered is_checked ends_settled loads_end
+unfolding url_on_literals is_web is_blank_url judged judged_parse read_against address_of url_of resolved with_fragment base_of fragment_of origin_text origin_of has_same_base is_rewritable events_of each_event after_opening AtEachEvent is_numbered opens is_formed is_once is_caused is_queued is_ordered is_checked ends_settled loads_end ends_told ends_stepped goes_in_time
 refused_without_reason_is_refused holds = false≢true holds.caused
 
 -- A poke is refused though its document runs.
@@ -243,7 +244,7 @@ poke_refused_without_reason =
     ∷ []
 
 pub poke_refused_without_reason_is_refused : IsLegal poke_refused_without_reason → ⊥
-unfolding url_on_literals is_web is_blank_url judged judged_parse read_against address_of url_of resolved with_fragment base_of fragment_of origin_text origin_of has_same_base is_rewritable events_of each_event after_opening AtEachEvent is_numbered opens is_formed is_once is_caused is_queued is_ordered is_checked ends_settled loads_end
+unfolding url_on_literals is_web is_blank_url judged judged_parse read_against address_of url_of resolved with_fragment base_of fragment_of origin_text origin_of has_same_base is_rewritable events_of each_event after_opening AtEachEvent is_numbered opens is_formed is_once is_caused is_queued is_ordered is_checked ends_settled loads_end ends_told ends_stepped goes_in_time
 poke_refused_without_reason_is_refused holds = false≢true holds.caused
 
 -- A load of a navigable that is not there is not refused.
@@ -256,7 +257,7 @@ load_that_is_not_refused =
     ∷ []
 
 pub load_that_is_not_refused_is_refused : IsLegal load_that_is_not_refused → ⊥
-unfolding url_on_literals is_web is_blank_url judged judged_parse read_against address_of url_of resolved with_fragment base_of fragment_of origin_text origin_of has_same_base is_rewritable events_of each_event after_opening AtEachEvent is_numbered opens is_formed is_once is_caused is_queued is_ordered is_checked ends_settled loads_end
+unfolding url_on_literals is_web is_blank_url judged judged_parse read_against address_of url_of resolved with_fragment base_of fragment_of origin_text origin_of has_same_base is_rewritable events_of each_event after_opening AtEachEvent is_numbered opens is_formed is_once is_caused is_queued is_ordered is_checked ends_settled loads_end ends_told ends_stepped goes_in_time
 load_that_is_not_refused_is_refused holds = false≢true holds.caused
 
 -- A push is dropped for a removal that was none.
@@ -290,8 +291,131 @@ destroyed_by_another_request =
     ∷ []
 
 pub destroyed_by_another_request_is_refused : IsLegal destroyed_by_another_request → ⊥
-unfolding url_on_literals is_web is_blank_url judged judged_parse read_against address_of url_of resolved with_fragment base_of fragment_of origin_text origin_of has_same_base is_rewritable events_of each_event after_opening AtEachEvent is_numbered opens is_formed is_once is_caused is_queued is_ordered is_checked ends_settled loads_end
+unfolding url_on_literals is_web is_blank_url judged judged_parse read_against address_of url_of resolved with_fragment base_of fragment_of origin_text origin_of has_same_base is_rewritable events_of each_event after_opening AtEachEvent is_numbered opens is_formed is_once is_caused is_queued is_ordered is_checked ends_settled loads_end ends_told ends_stepped goes_in_time
 destroyed_by_another_request_is_refused holds = false≢true holds.caused
+
+-- A frame is refused in an event that takes no report.
+abbrev pub frame_refused_without_its_report : List LogRow
+frame_refused_without_its_report =
+    at 0 actors.Start (rows.Opened (e 0 1) (s 1) (d 1) (p 1) None (codes "http://a.test/"))
+    ∷ at 1 actors.Ui (rows.Accepted (r 1) (Some (d 1)) (requests.Poke (n 0) (actions.AddFrame (n 1))))
+    ∷ at 2 (actors.Proc (p 1)) (made 1 1 1 1 (whats.AddFrame (n 1)))
+    ∷ at 3 actors.Coord (rows.Delivered (p 1))
+    ∷ at 3 actors.Coord (rows.Applied (r 1) (changes.AddFrame (s 1) (n 1) (e 0 2) (s 2)))
+    ∷ at 3 actors.Coord (sent 1 1 0 2 (whys.Req (r 1)) (tasks.Populate (n 1) (s 2) (codes "about:blank") true))
+    ∷ at 4 (actors.Proc (p 1)) (rows.Taken (p 1) (j 1) true false)
+    ∷ at 5 (actors.Proc (p 1)) (rows.Finished (p 1) (j 1) (outcomes.Populated None))
+    ∷ at 6 actors.Coord (rows.Delivered (p 1))
+    ∷ at 6 actors.Coord (sent 2 1 0 2 (whys.Req (r 1)) (tasks.Activate (e 0 2) (epoch 1) 1 0 None (codes "about:blank")))
+    ∷ at 7 (actors.Proc (p 1)) (rows.Taken (p 1) (j 2) true false)
+    ∷ at 8 (actors.Proc (p 1)) (rows.Finished (p 1) (j 2) outcomes.Activated)
+    ∷ at 9 actors.Coord (rows.Delivered (p 1))
+    ∷ at 10 actors.Ui (rows.Accepted (r 2) (Some (d 1)) (requests.Poke (n 0) (actions.AddFrame (n 1))))
+    ∷ at 11 (actors.Proc (p 1)) (made 1 2 1 1 (whats.AddFrame (n 1)))
+    ∷ at 11 (actors.Proc (p 1)) (rows.Refused (r 2) denials.NavTaken)
+    ∷ at 12 actors.Coord (rows.Delivered (p 1))
+    ∷ []
+
+pub frame_refused_without_its_report_is_refused : IsLegal frame_refused_without_its_report → ⊥
+unfolding url_on_literals is_web is_blank_url judged judged_parse read_against address_of url_of resolved with_fragment base_of fragment_of origin_text origin_of has_same_base is_rewritable events_of each_event after_opening AtEachEvent is_numbered opens is_formed is_once is_caused is_queued is_ordered is_checked ends_settled loads_end ends_told ends_stepped goes_in_time
+frame_refused_without_its_report_is_refused holds = false≢true holds.caused
+
+-- A reload that waits is refused as its frame is removed, and not dropped.
+abbrev pub reload_refused_as_its_frame_is_gone : List LogRow
+reload_refused_as_its_frame_is_gone =
+    at 0 actors.Start (rows.Opened (e 0 1) (s 1) (d 1) (p 1) None (codes "http://a.test/"))
+    ∷ at 1 actors.Ui (rows.Accepted (r 1) (Some (d 1)) (requests.Poke (n 0) (actions.AddFrame (n 1))))
+    ∷ at 2 actors.Ui (rows.Accepted (r 2) (Some (d 1)) (requests.Poke (n 0) (actions.AddFrame (n 2))))
+    ∷ at 3 (actors.Proc (p 1)) (made 1 1 1 1 (whats.AddFrame (n 1)))
+    ∷ at 4 actors.Coord (rows.Delivered (p 1))
+    ∷ at 4 actors.Coord (rows.Applied (r 1) (changes.AddFrame (s 1) (n 1) (e 0 2) (s 2)))
+    ∷ at 4 actors.Coord (sent 1 1 0 2 (whys.Req (r 1)) (tasks.Populate (n 1) (s 2) (codes "about:blank") true))
+    ∷ at 5 (actors.Proc (p 1)) (made 1 2 1 1 (whats.AddFrame (n 2)))
+    ∷ at 6 (actors.Proc (p 1)) (rows.Taken (p 1) (j 1) true false)
+    ∷ at 7 (actors.Proc (p 1)) (rows.Finished (p 1) (j 1) (outcomes.Populated None))
+    ∷ at 8 actors.Coord (rows.Delivered (p 1))
+    ∷ at 8 actors.Coord (rows.Applied (r 2) (changes.AddFrame (s 1) (n 2) (e 0 3) (s 3)))
+    ∷ at 8 actors.Coord (sent 2 1 0 3 (whys.Req (r 2)) (tasks.Populate (n 2) (s 3) (codes "about:blank") true))
+    ∷ at 9 (actors.Proc (p 1)) (rows.Taken (p 1) (j 2) true false)
+    ∷ at 10 (actors.Proc (p 1)) (rows.Finished (p 1) (j 2) (outcomes.Populated None))
+    ∷ at 11 actors.Coord (rows.Delivered (p 1))
+    ∷ at 11 actors.Coord (sent 3 1 0 2 (whys.Req (r 1)) (tasks.Activate (e 0 2) (epoch 1) 1 0 None (codes "about:blank")))
+    ∷ at 12 (actors.Proc (p 1)) (rows.Taken (p 1) (j 3) true false)
+    ∷ at 13 (actors.Proc (p 1)) (rows.Finished (p 1) (j 3) outcomes.Activated)
+    ∷ at 14 actors.Coord (rows.Delivered (p 1))
+    ∷ at 14 actors.Coord (sent 4 1 0 3 (whys.Req (r 2)) (tasks.Activate (e 0 3) (epoch 1) 1 0 None (codes "about:blank")))
+    ∷ at 15 (actors.Proc (p 1)) (rows.Taken (p 1) (j 4) true false)
+    ∷ at 16 (actors.Proc (p 1)) (rows.Finished (p 1) (j 4) outcomes.Activated)
+    ∷ at 17 actors.Coord (rows.Delivered (p 1))
+    ∷ at 18 actors.Coord (rows.Delivered (p 1))
+    ∷ at 19 actors.Ui (rows.Accepted (r 3) None (requests.Load (n 1) modes.Auto (codes "http://a.test/f")))
+    ∷ at 19 actors.Ui (rows.Started (r 3) None)
+    ∷ at 19 actors.Ui (sent 5 1 0 4 (whys.Req (r 3)) (tasks.Populate (n 1) (s 4) (codes "http://a.test/f") false))
+    ∷ at 20 (actors.Proc (p 1)) (rows.Taken (p 1) (j 5) true false)
+    ∷ at 21 (actors.Proc (p 1)) (rows.Finished (p 1) (j 5) (outcomes.Populated None))
+    ∷ at 22 actors.Coord (rows.Delivered (p 1))
+    ∷ at 22 actors.Coord (rows.Applied (r 3) (changes.Replace (n 1) (e 0 2) (e 0 4) (s 4) (codes "http://a.test/f") None))
+    ∷ at 22 actors.Coord (sent 6 1 0 2 (whys.Req (r 3)) tasks.Discard)
+    ∷ at 22 actors.Coord (sent 7 1 0 4 (whys.Req (r 3)) (tasks.Activate (e 0 4) (epoch 2) 1 0 None (codes "http://a.test/f")))
+    ∷ at 23 (actors.Proc (p 1)) (rows.Taken (p 1) (j 6) true false)
+    ∷ at 24 (actors.Proc (p 1)) (rows.Finished (p 1) (j 6) outcomes.Discarded)
+    ∷ at 25 actors.Coord (rows.Delivered (p 1))
+    ∷ at 26 (actors.Proc (p 1)) (rows.Taken (p 1) (j 7) true false)
+    ∷ at 27 (actors.Proc (p 1)) (rows.Finished (p 1) (j 7) outcomes.Activated)
+    ∷ at 28 actors.Coord (rows.Delivered (p 1))
+    ∷ at 29 actors.Ui (rows.Accepted (r 4) None (requests.Load (n 1) modes.Auto (codes "http://a.test/g")))
+    ∷ at 29 actors.Ui (rows.Started (r 4) None)
+    ∷ at 29 actors.Ui (sent 8 1 0 5 (whys.Req (r 4)) (tasks.Populate (n 1) (s 5) (codes "http://a.test/g") false))
+    ∷ at 30 (actors.Proc (p 1)) (rows.Taken (p 1) (j 8) true false)
+    ∷ at 31 (actors.Proc (p 1)) (rows.Finished (p 1) (j 8) (outcomes.Populated None))
+    ∷ at 32 actors.Coord (rows.Delivered (p 1))
+    ∷ at 32 actors.Coord (rows.Applied (r 4) (changes.Push (n 1) (e 0 5) (s 5) (codes "http://a.test/g") None))
+    ∷ at 32 actors.Coord (sent 9 1 0 4 (whys.Req (r 4)) tasks.Freeze)
+    ∷ at 32 actors.Coord (sent 10 1 0 5 (whys.Req (r 4)) (tasks.Activate (e 0 5) (epoch 3) 2 1 None (codes "http://a.test/g")))
+    ∷ at 32 actors.Coord (sent 11 1 0 1 (whys.Req (r 4)) (tasks.Update 2 1))
+    ∷ at 32 actors.Coord (sent 12 1 0 3 (whys.Req (r 4)) (tasks.Update 2 1))
+    ∷ at 33 (actors.Proc (p 1)) (rows.Taken (p 1) (j 9) true false)
+    ∷ at 34 (actors.Proc (p 1)) (rows.Finished (p 1) (j 9) outcomes.Frozen)
+    ∷ at 35 actors.Coord (rows.Delivered (p 1))
+    ∷ at 36 (actors.Proc (p 1)) (rows.Taken (p 1) (j 10) true false)
+    ∷ at 37 (actors.Proc (p 1)) (rows.Finished (p 1) (j 10) outcomes.Activated)
+    ∷ at 38 actors.Coord (rows.Delivered (p 1))
+    ∷ at 39 (actors.Proc (p 1)) (rows.Taken (p 1) (j 11) true false)
+    ∷ at 40 (actors.Proc (p 1)) (rows.Finished (p 1) (j 11) outcomes.Updated)
+    ∷ at 41 actors.Coord (rows.Delivered (p 1))
+    ∷ at 42 (actors.Proc (p 1)) (rows.Taken (p 1) (j 12) true false)
+    ∷ at 43 (actors.Proc (p 1)) (rows.Finished (p 1) (j 12) outcomes.Updated)
+    ∷ at 44 actors.Coord (rows.Delivered (p 1))
+    ∷ at 45 actors.Ui (rows.Accepted (r 5) None (requests.Go (negsuc 0)))
+    ∷ at 45 actors.Ui (rows.Started (r 5) (Some (t 0)))
+    ∷ at 45 actors.Ui (sent 13 1 0 5 (whys.Req (r 5)) tasks.Freeze)
+    ∷ at 45 actors.Ui (sent 14 1 0 4 (whys.Req (r 5)) (tasks.Activate (e 0 4) (epoch 4) 2 0 None (codes "http://a.test/f")))
+    ∷ at 46 actors.Ui (rows.Accepted (r 6) None (requests.Reload (n 2)))
+    ∷ at 47 actors.Ui (rows.Accepted (r 7) (Some (d 1)) (requests.Poke (n 0) (actions.RemoveFrame (n 2))))
+    ∷ at 48 (actors.Proc (p 1)) (made 1 7 1 1 (whats.RemoveFrame (n 2)))
+    ∷ at 49 actors.Coord (rows.Delivered (p 1))
+    ∷ at 49 actors.Coord (rows.Applied (r 7) (changes.RemoveFrame (n 2)))
+    ∷ at 49 actors.Coord (sent 15 1 0 3 (whys.Req (r 7)) tasks.Discard)
+    ∷ at 49 actors.Coord (rows.Refused (r 6) denials.NoNavigable)
+    ∷ at 50 (actors.Proc (p 1)) (rows.Taken (p 1) (j 13) true false)
+    ∷ at 51 (actors.Proc (p 1)) (rows.Finished (p 1) (j 13) outcomes.Frozen)
+    ∷ at 52 actors.Coord (rows.Delivered (p 1))
+    ∷ at 53 (actors.Proc (p 1)) (rows.Taken (p 1) (j 14) true false)
+    ∷ at 54 (actors.Proc (p 1)) (rows.Finished (p 1) (j 14) outcomes.Activated)
+    ∷ at 55 actors.Coord (rows.Delivered (p 1))
+    ∷ at 55 actors.Coord (rows.Applied (r 5) (changes.Traverse (t 0)))
+    ∷ at 55 actors.Coord (sent 16 1 0 1 (whys.Req (r 5)) (tasks.Update 2 0))
+    ∷ at 56 (actors.Proc (p 1)) (rows.Taken (p 1) (j 15) true false)
+    ∷ at 57 (actors.Proc (p 1)) (rows.Finished (p 1) (j 15) outcomes.Discarded)
+    ∷ at 58 actors.Coord (rows.Delivered (p 1))
+    ∷ at 59 (actors.Proc (p 1)) (rows.Taken (p 1) (j 16) true false)
+    ∷ at 60 (actors.Proc (p 1)) (rows.Finished (p 1) (j 16) outcomes.Updated)
+    ∷ at 61 actors.Coord (rows.Delivered (p 1))
+    ∷ []
+
+pub reload_refused_as_its_frame_is_gone_is_refused : IsLegal reload_refused_as_its_frame_is_gone → ⊥
+unfolding url_on_literals is_web is_blank_url judged judged_parse read_against address_of url_of resolved with_fragment base_of fragment_of origin_text origin_of has_same_base is_rewritable events_of each_event after_opening AtEachEvent is_numbered opens is_formed is_once is_caused is_queued is_ordered is_checked ends_settled loads_end ends_told ends_stepped goes_in_time
+reload_refused_as_its_frame_is_gone_is_refused holds = false≢true holds.caused
 
 -- A load of a new frame is dropped by itself.
 abbrev pub dropped_by_itself : List LogRow
@@ -314,5 +438,5 @@ dropped_by_itself =
     ∷ []
 
 pub dropped_by_itself_is_refused : IsLegal dropped_by_itself → ⊥
-unfolding url_on_literals is_web is_blank_url judged judged_parse read_against address_of url_of resolved with_fragment base_of fragment_of origin_text origin_of has_same_base is_rewritable events_of each_event after_opening AtEachEvent is_numbered opens is_formed is_once is_caused is_queued is_ordered is_checked ends_settled loads_end
+unfolding url_on_literals is_web is_blank_url judged judged_parse read_against address_of url_of resolved with_fragment base_of fragment_of origin_text origin_of has_same_base is_rewritable events_of each_event after_opening AtEachEvent is_numbered opens is_formed is_once is_caused is_queued is_ordered is_checked ends_settled loads_end ends_told ends_stepped goes_in_time
 dropped_by_itself_is_refused holds = false≢true holds.caused

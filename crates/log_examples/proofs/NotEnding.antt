@@ -16,6 +16,7 @@ use Rattle.log_model.specs.Events.{events_of, each_event, after_opening, AtEachE
 use Rattle.log_model.specs.Formed.{is_numbered}
 use Rattle.log_model.specs.Legal.{opens, is_formed, is_once, is_caused, is_queued, is_ordered, is_checked, ends_settled}
 use Rattle.log_model.specs.LoadsEndInTime.{LoadsEndInTime, loads_end}
+use Rattle.log_model.specs.ActsAtOnce.{ends_told, ends_stepped, goes_in_time}
 use Rattle.log_examples.specs.Rows.{n, s, r, p, t, d, j, e, epoch, at, sent}
 
 -- A load outlives the traversal that moves its navigable.
@@ -61,7 +62,7 @@ load_outlives_a_traversal =
     ∷ []
 
 pub load_outlives_a_traversal_is_refused : LoadsEndInTime load_outlives_a_traversal → ⊥
-unfolding url_on_literals is_web is_blank_url judged judged_parse read_against address_of url_of resolved with_fragment base_of fragment_of origin_text origin_of has_same_base is_rewritable events_of each_event after_opening AtEachEvent is_numbered opens is_formed is_once is_caused is_queued is_ordered is_checked ends_settled loads_end
+unfolding url_on_literals is_web is_blank_url judged judged_parse read_against address_of url_of resolved with_fragment base_of fragment_of origin_text origin_of has_same_base is_rewritable events_of each_event after_opening AtEachEvent is_numbered opens is_formed is_once is_caused is_queued is_ordered is_checked ends_settled loads_end ends_told ends_stepped goes_in_time
 load_outlives_a_traversal_is_refused holds = false≢true holds
 
 -- A load outlives the reload of its navigable.
@@ -96,5 +97,5 @@ load_outlives_a_reload =
     ∷ []
 
 pub load_outlives_a_reload_is_refused : LoadsEndInTime load_outlives_a_reload → ⊥
-unfolding url_on_literals is_web is_blank_url judged judged_parse read_against address_of url_of resolved with_fragment base_of fragment_of origin_text origin_of has_same_base is_rewritable events_of each_event after_opening AtEachEvent is_numbered opens is_formed is_once is_caused is_queued is_ordered is_checked ends_settled loads_end
+unfolding url_on_literals is_web is_blank_url judged judged_parse read_against address_of url_of resolved with_fragment base_of fragment_of origin_text origin_of has_same_base is_rewritable events_of each_event after_opening AtEachEvent is_numbered opens is_formed is_once is_caused is_queued is_ordered is_checked ends_settled loads_end ends_told ends_stepped goes_in_time
 load_outlives_a_reload_is_refused holds = false≢true holds

@@ -22,6 +22,7 @@ use Rattle.log_model.specs.Events.{events_of, each_event, after_opening, AtEachE
 use Rattle.log_model.specs.Formed.{is_numbered}
 use Rattle.log_model.specs.Legal.{IsLegal, opens, is_formed, is_once, is_caused, is_queued, is_ordered, is_checked, ends_settled}
 use Rattle.log_model.specs.LoadsEndInTime.{loads_end}
+use Rattle.log_model.specs.ActsAtOnce.{ends_told, ends_stepped, goes_in_time}
 use Rattle.log_examples.specs.Rows.{n, s, r, p, t, x, d, j, e, epoch, at, sent, made}
 
 -- An update is sent again.
@@ -40,7 +41,7 @@ update_sent_twice =
     ∷ []
 
 pub update_sent_twice_is_refused : IsLegal update_sent_twice → ⊥
-unfolding url_on_literals is_web is_blank_url judged judged_parse read_against address_of url_of resolved with_fragment base_of fragment_of origin_text origin_of has_same_base is_rewritable events_of each_event after_opening AtEachEvent is_numbered opens is_formed is_once is_caused is_queued is_ordered is_checked ends_settled loads_end
+unfolding url_on_literals is_web is_blank_url judged judged_parse read_against address_of url_of resolved with_fragment base_of fragment_of origin_text origin_of has_same_base is_rewritable events_of each_event after_opening AtEachEvent is_numbered opens is_formed is_once is_caused is_queued is_ordered is_checked ends_settled loads_end ends_told ends_stepped goes_in_time
 update_sent_twice_is_refused holds = false≢true holds.ordered
 
 -- An update has another length.
@@ -58,7 +59,7 @@ another_length =
     ∷ []
 
 pub another_length_is_refused : IsLegal another_length → ⊥
-unfolding url_on_literals is_web is_blank_url judged judged_parse read_against address_of url_of resolved with_fragment base_of fragment_of origin_text origin_of has_same_base is_rewritable events_of each_event after_opening AtEachEvent is_numbered opens is_formed is_once is_caused is_queued is_ordered is_checked ends_settled loads_end
+unfolding url_on_literals is_web is_blank_url judged judged_parse read_against address_of url_of resolved with_fragment base_of fragment_of origin_text origin_of has_same_base is_rewritable events_of each_event after_opening AtEachEvent is_numbered opens is_formed is_once is_caused is_queued is_ordered is_checked ends_settled loads_end ends_told ends_stepped goes_in_time
 another_length_is_refused holds = false≢true holds.ordered
 
 -- A dead document is shown.
@@ -81,7 +82,7 @@ order_for_a_dead_document =
     ∷ []
 
 pub order_for_a_dead_document_is_refused : IsLegal order_for_a_dead_document → ⊥
-unfolding url_on_literals is_web is_blank_url judged judged_parse read_against address_of url_of resolved with_fragment base_of fragment_of origin_text origin_of has_same_base is_rewritable events_of each_event after_opening AtEachEvent is_numbered opens is_formed is_once is_caused is_queued is_ordered is_checked ends_settled loads_end
+unfolding url_on_literals is_web is_blank_url judged judged_parse read_against address_of url_of resolved with_fragment base_of fragment_of origin_text origin_of has_same_base is_rewritable events_of each_event after_opening AtEachEvent is_numbered opens is_formed is_once is_caused is_queued is_ordered is_checked ends_settled loads_end ends_told ends_stepped goes_in_time
 order_for_a_dead_document_is_refused holds = false≢true holds.ordered
 
 -- A document is shown under an epoch that was.
@@ -126,7 +127,7 @@ old_epoch_sent =
     ∷ []
 
 pub old_epoch_sent_is_refused : IsLegal old_epoch_sent → ⊥
-unfolding url_on_literals is_web is_blank_url judged judged_parse read_against address_of url_of resolved with_fragment base_of fragment_of origin_text origin_of has_same_base is_rewritable events_of each_event after_opening AtEachEvent is_numbered opens is_formed is_once is_caused is_queued is_ordered is_checked ends_settled loads_end
+unfolding url_on_literals is_web is_blank_url judged judged_parse read_against address_of url_of resolved with_fragment base_of fragment_of origin_text origin_of has_same_base is_rewritable events_of each_event after_opening AtEachEvent is_numbered opens is_formed is_once is_caused is_queued is_ordered is_checked ends_settled loads_end ends_told ends_stepped goes_in_time
 old_epoch_sent_is_refused holds = false≢true holds.ordered
 
 -- A document is made twice.
@@ -176,7 +177,7 @@ made_twice =
     ∷ []
 
 pub made_twice_is_refused : IsLegal made_twice → ⊥
-unfolding url_on_literals is_web is_blank_url judged judged_parse read_against address_of url_of resolved with_fragment base_of fragment_of origin_text origin_of has_same_base is_rewritable events_of each_event after_opening AtEachEvent is_numbered opens is_formed is_once is_caused is_queued is_ordered is_checked ends_settled loads_end
+unfolding url_on_literals is_web is_blank_url judged judged_parse read_against address_of url_of resolved with_fragment base_of fragment_of origin_text origin_of has_same_base is_rewritable events_of each_event after_opening AtEachEvent is_numbered opens is_formed is_once is_caused is_queued is_ordered is_checked ends_settled loads_end ends_told ends_stepped goes_in_time
 made_twice_is_refused holds = false≢true holds.ordered
 
 -- A document with a handler is left unasked.
@@ -220,7 +221,7 @@ handler_not_asked =
     ∷ []
 
 pub handler_not_asked_is_refused : IsLegal handler_not_asked → ⊥
-unfolding url_on_literals is_web is_blank_url judged judged_parse read_against address_of url_of resolved with_fragment base_of fragment_of origin_text origin_of has_same_base is_rewritable events_of each_event after_opening AtEachEvent is_numbered opens is_formed is_once is_caused is_queued is_ordered is_checked ends_settled loads_end
+unfolding url_on_literals is_web is_blank_url judged judged_parse read_against address_of url_of resolved with_fragment base_of fragment_of origin_text origin_of has_same_base is_rewritable events_of each_event after_opening AtEachEvent is_numbered opens is_formed is_once is_caused is_queued is_ordered is_checked ends_settled loads_end ends_told ends_stepped goes_in_time
 handler_not_asked_is_refused holds = false≢true holds.ordered
 
 -- A document is evicted, and not discarded.
@@ -287,7 +288,7 @@ eviction_without_discard =
     ∷ []
 
 pub eviction_without_discard_is_refused : IsLegal eviction_without_discard → ⊥
-unfolding url_on_literals is_web is_blank_url judged judged_parse read_against address_of url_of resolved with_fragment base_of fragment_of origin_text origin_of has_same_base is_rewritable events_of each_event after_opening AtEachEvent is_numbered opens is_formed is_once is_caused is_queued is_ordered is_checked ends_settled loads_end
+unfolding url_on_literals is_web is_blank_url judged judged_parse read_against address_of url_of resolved with_fragment base_of fragment_of origin_text origin_of has_same_base is_rewritable events_of each_event after_opening AtEachEvent is_numbered opens is_formed is_once is_caused is_queued is_ordered is_checked ends_settled loads_end ends_told ends_stepped goes_in_time
 eviction_without_discard_is_refused holds = false≢true holds.ordered
 
 -- An order goes to an incarnation that is not known.
@@ -305,7 +306,7 @@ another_incarnation =
     ∷ []
 
 pub another_incarnation_is_refused : IsLegal another_incarnation → ⊥
-unfolding url_on_literals is_web is_blank_url judged judged_parse read_against address_of url_of resolved with_fragment base_of fragment_of origin_text origin_of has_same_base is_rewritable events_of each_event after_opening AtEachEvent is_numbered opens is_formed is_once is_caused is_queued is_ordered is_checked ends_settled loads_end
+unfolding url_on_literals is_web is_blank_url judged judged_parse read_against address_of url_of resolved with_fragment base_of fragment_of origin_text origin_of has_same_base is_rewritable events_of each_event after_opening AtEachEvent is_numbered opens is_formed is_once is_caused is_queued is_ordered is_checked ends_settled loads_end ends_told ends_stepped goes_in_time
 another_incarnation_is_refused holds = false≢true holds.ordered
 
 -- An order shows another entry than the target.
@@ -332,7 +333,7 @@ shown_too_late =
     ∷ []
 
 pub shown_too_late_is_refused : IsLegal shown_too_late → ⊥
-unfolding url_on_literals is_web is_blank_url judged judged_parse read_against address_of url_of resolved with_fragment base_of fragment_of origin_text origin_of has_same_base is_rewritable events_of each_event after_opening AtEachEvent is_numbered opens is_formed is_once is_caused is_queued is_ordered is_checked ends_settled loads_end
+unfolding url_on_literals is_web is_blank_url judged judged_parse read_against address_of url_of resolved with_fragment base_of fragment_of origin_text origin_of has_same_base is_rewritable events_of each_event after_opening AtEachEvent is_numbered opens is_formed is_once is_caused is_queued is_ordered is_checked ends_settled loads_end ends_told ends_stepped goes_in_time
 shown_too_late_is_refused holds = false≢true holds.ordered
 
 -- A document is frozen that nothing is shown instead of.
@@ -350,7 +351,7 @@ frozen_without_leaving =
     ∷ []
 
 pub frozen_without_leaving_is_refused : IsLegal frozen_without_leaving → ⊥
-unfolding url_on_literals is_web is_blank_url judged judged_parse read_against address_of url_of resolved with_fragment base_of fragment_of origin_text origin_of has_same_base is_rewritable events_of each_event after_opening AtEachEvent is_numbered opens is_formed is_once is_caused is_queued is_ordered is_checked ends_settled loads_end
+unfolding url_on_literals is_web is_blank_url judged judged_parse read_against address_of url_of resolved with_fragment base_of fragment_of origin_text origin_of has_same_base is_rewritable events_of each_event after_opening AtEachEvent is_numbered opens is_formed is_once is_caused is_queued is_ordered is_checked ends_settled loads_end ends_told ends_stepped goes_in_time
 frozen_without_leaving_is_refused holds = false≢true holds.ordered
 
 -- A document is discarded that is needed.
@@ -368,7 +369,7 @@ discarded_without_cause =
     ∷ []
 
 pub discarded_without_cause_is_refused : IsLegal discarded_without_cause → ⊥
-unfolding url_on_literals is_web is_blank_url judged judged_parse read_against address_of url_of resolved with_fragment base_of fragment_of origin_text origin_of has_same_base is_rewritable events_of each_event after_opening AtEachEvent is_numbered opens is_formed is_once is_caused is_queued is_ordered is_checked ends_settled loads_end
+unfolding url_on_literals is_web is_blank_url judged judged_parse read_against address_of url_of resolved with_fragment base_of fragment_of origin_text origin_of has_same_base is_rewritable events_of each_event after_opening AtEachEvent is_numbered opens is_formed is_once is_caused is_queued is_ordered is_checked ends_settled loads_end ends_told ends_stepped goes_in_time
 discarded_without_cause_is_refused holds = false≢true holds.ordered
 
 -- A document is asked at another slot than its own.
@@ -413,7 +414,7 @@ another_handler_slot =
     ∷ []
 
 pub another_handler_slot_is_refused : IsLegal another_handler_slot → ⊥
-unfolding url_on_literals is_web is_blank_url judged judged_parse read_against address_of url_of resolved with_fragment base_of fragment_of origin_text origin_of has_same_base is_rewritable events_of each_event after_opening AtEachEvent is_numbered opens is_formed is_once is_caused is_queued is_ordered is_checked ends_settled loads_end
+unfolding url_on_literals is_web is_blank_url judged judged_parse read_against address_of url_of resolved with_fragment base_of fragment_of origin_text origin_of has_same_base is_rewritable events_of each_event after_opening AtEachEvent is_numbered opens is_formed is_once is_caused is_queued is_ordered is_checked ends_settled loads_end ends_told ends_stepped goes_in_time
 another_handler_slot_is_refused holds = false≢true holds.ordered
 
 -- A document is asked for another cause.
@@ -458,8 +459,40 @@ another_leave_cause =
     ∷ []
 
 pub another_leave_cause_is_refused : IsLegal another_leave_cause → ⊥
-unfolding url_on_literals is_web is_blank_url judged judged_parse read_against address_of url_of resolved with_fragment base_of fragment_of origin_text origin_of has_same_base is_rewritable events_of each_event after_opening AtEachEvent is_numbered opens is_formed is_once is_caused is_queued is_ordered is_checked ends_settled loads_end
+unfolding url_on_literals is_web is_blank_url judged judged_parse read_against address_of url_of resolved with_fragment base_of fragment_of origin_text origin_of has_same_base is_rewritable events_of each_event after_opening AtEachEvent is_numbered opens is_formed is_once is_caused is_queued is_ordered is_checked ends_settled loads_end ends_told ends_stepped goes_in_time
 another_leave_cause_is_refused holds = false≢true holds.ordered
+
+-- A load begins and has its document made, and only then asks the one that it leaves.
+abbrev pub asked_after_it_went_on : List LogRow
+asked_after_it_went_on =
+    at 0 actors.Start (rows.Opened (e 0 1) (s 1) (d 1) (p 1) None (codes "http://a.test/"))
+    ∷ at 1 actors.Ui (rows.Accepted (r 1) None (requests.Load (n 0) modes.Auto (codes "http://a.test/1")))
+    ∷ at 1 actors.Ui (rows.Started (r 1) None)
+    ∷ at 1 actors.Ui (sent 1 1 0 2 (whys.Req (r 1)) (tasks.Populate (n 0) (s 2) (codes "http://a.test/1") false))
+    ∷ at 2 (actors.Proc (p 1)) (rows.Taken (p 1) (j 1) true false)
+    ∷ at 3 (actors.Proc (p 1)) (rows.Finished (p 1) (j 1) (outcomes.Populated (Some 0)))
+    ∷ at 4 actors.Coord (rows.Delivered (p 1))
+    ∷ at 4 actors.Coord (rows.Applied (r 1) (changes.Push (n 0) (e 0 2) (s 2) (codes "http://a.test/1") None))
+    ∷ at 4 actors.Coord (sent 2 1 0 1 (whys.Req (r 1)) tasks.Freeze)
+    ∷ at 4 actors.Coord (sent 3 1 0 2 (whys.Req (r 1)) (tasks.Activate (e 0 2) (epoch 2) 2 1 None (codes "http://a.test/1")))
+    ∷ at 5 (actors.Proc (p 1)) (rows.Taken (p 1) (j 2) true false)
+    ∷ at 6 (actors.Proc (p 1)) (rows.Finished (p 1) (j 2) outcomes.Frozen)
+    ∷ at 7 actors.Coord (rows.Delivered (p 1))
+    ∷ at 8 (actors.Proc (p 1)) (rows.Taken (p 1) (j 3) true false)
+    ∷ at 9 (actors.Proc (p 1)) (rows.Finished (p 1) (j 3) outcomes.Activated)
+    ∷ at 10 actors.Coord (rows.Delivered (p 1))
+    ∷ at 11 actors.Ui (rows.Accepted (r 2) (Some (d 2)) (requests.Poke (n 0) actions.Edit))
+    ∷ at 12 (actors.Proc (p 1)) (made 1 2 2 2 whats.Edit)
+    ∷ at 12 (actors.Proc (p 1)) (rows.Applied (r 2) changes.Edit)
+    ∷ at 13 actors.Ui (rows.Accepted (r 3) None (requests.Load (n 0) modes.Auto (codes "http://a.test/2")))
+    ∷ at 13 actors.Ui (rows.Started (r 3) None)
+    ∷ at 13 actors.Ui (sent 4 1 0 3 (whys.Req (r 3)) (tasks.Populate (n 0) (s 3) (codes "http://a.test/2") false))
+    ∷ at 13 actors.Ui (sent 5 1 0 2 (whys.Req (r 3)) (tasks.Ask 0 leavings.Load))
+    ∷ []
+
+pub asked_after_it_went_on_is_refused : IsLegal asked_after_it_went_on → ⊥
+unfolding url_on_literals is_web is_blank_url judged judged_parse read_against address_of url_of resolved with_fragment base_of fragment_of origin_text origin_of has_same_base is_rewritable events_of each_event after_opening AtEachEvent is_numbered opens is_formed is_once is_caused is_queued is_ordered is_checked ends_settled loads_end ends_told ends_stepped goes_in_time
+asked_after_it_went_on_is_refused holds = false≢true holds.ordered
 
 -- The frame is asked before the top.
 abbrev pub asked_out_of_order : List LogRow
@@ -535,7 +568,7 @@ asked_out_of_order =
     ∷ []
 
 pub asked_out_of_order_is_refused : IsLegal asked_out_of_order → ⊥
-unfolding url_on_literals is_web is_blank_url judged judged_parse read_against address_of url_of resolved with_fragment base_of fragment_of origin_text origin_of has_same_base is_rewritable events_of each_event after_opening AtEachEvent is_numbered opens is_formed is_once is_caused is_queued is_ordered is_checked ends_settled loads_end
+unfolding url_on_literals is_web is_blank_url judged judged_parse read_against address_of url_of resolved with_fragment base_of fragment_of origin_text origin_of has_same_base is_rewritable events_of each_event after_opening AtEachEvent is_numbered opens is_formed is_once is_caused is_queued is_ordered is_checked ends_settled loads_end ends_told ends_stepped goes_in_time
 asked_out_of_order_is_refused holds = false≢true holds.ordered
 
 -- A document is shown before it is made.
@@ -561,7 +594,7 @@ shown_before_it_is_made =
     ∷ []
 
 pub shown_before_it_is_made_is_refused : IsLegal shown_before_it_is_made → ⊥
-unfolding url_on_literals is_web is_blank_url judged judged_parse read_against address_of url_of resolved with_fragment base_of fragment_of origin_text origin_of has_same_base is_rewritable events_of each_event after_opening AtEachEvent is_numbered opens is_formed is_once is_caused is_queued is_ordered is_checked ends_settled loads_end
+unfolding url_on_literals is_web is_blank_url judged judged_parse read_against address_of url_of resolved with_fragment base_of fragment_of origin_text origin_of has_same_base is_rewritable events_of each_event after_opening AtEachEvent is_numbered opens is_formed is_once is_caused is_queued is_ordered is_checked ends_settled loads_end ends_told ends_stepped goes_in_time
 shown_before_it_is_made_is_refused holds = false≢true holds.ordered
 
 -- An initial about:blank document is made as a plain one.
@@ -587,7 +620,7 @@ initial_document_made_plain =
     ∷ []
 
 pub initial_document_made_plain_is_refused : IsLegal initial_document_made_plain → ⊥
-unfolding url_on_literals is_web is_blank_url judged judged_parse read_against address_of url_of resolved with_fragment base_of fragment_of origin_text origin_of has_same_base is_rewritable events_of each_event after_opening AtEachEvent is_numbered opens is_formed is_once is_caused is_queued is_ordered is_checked ends_settled loads_end
+unfolding url_on_literals is_web is_blank_url judged judged_parse read_against address_of url_of resolved with_fragment base_of fragment_of origin_text origin_of has_same_base is_rewritable events_of each_event after_opening AtEachEvent is_numbered opens is_formed is_once is_caused is_queued is_ordered is_checked ends_settled loads_end ends_told ends_stepped goes_in_time
 initial_document_made_plain_is_refused holds = false≢true holds.ordered
 
 -- A fragment order has another address than its load.
@@ -608,5 +641,5 @@ another_fragment =
     ∷ []
 
 pub another_fragment_is_refused : IsLegal another_fragment → ⊥
-unfolding url_on_literals is_web is_blank_url judged judged_parse read_against address_of url_of resolved with_fragment base_of fragment_of origin_text origin_of has_same_base is_rewritable events_of each_event after_opening AtEachEvent is_numbered opens is_formed is_once is_caused is_queued is_ordered is_checked ends_settled loads_end
+unfolding url_on_literals is_web is_blank_url judged judged_parse read_against address_of url_of resolved with_fragment base_of fragment_of origin_text origin_of has_same_base is_rewritable events_of each_event after_opening AtEachEvent is_numbered opens is_formed is_once is_caused is_queued is_ordered is_checked ends_settled loads_end ends_told ends_stepped goes_in_time
 another_fragment_is_refused holds = false≢true holds.ordered

@@ -18,6 +18,7 @@ use Rattle.log_model.specs.Events.{events_of, each_event, after_opening, AtEachE
 use Rattle.log_model.specs.Formed.{is_numbered}
 use Rattle.log_model.specs.Legal.{IsLegal, opens, is_formed, is_once, is_caused, is_queued, is_ordered, is_checked, ends_settled}
 use Rattle.log_model.specs.LoadsEndInTime.{loads_end}
+use Rattle.log_model.specs.ActsAtOnce.{ends_told, ends_stepped, goes_in_time}
 use Rattle.log_examples.specs.Rows.{n, s, r, p, t, d, j, e, epoch, at, sent, made}
 
 -- A traversal is applied before all navigables stand.
@@ -135,7 +136,7 @@ traversal_applied_early =
     ∷ []
 
 pub traversal_applied_early_is_refused : IsLegal traversal_applied_early → ⊥
-unfolding url_on_literals is_web is_blank_url judged judged_parse read_against address_of url_of resolved with_fragment base_of fragment_of origin_text origin_of has_same_base is_rewritable events_of each_event after_opening AtEachEvent is_numbered opens is_formed is_once is_caused is_queued is_ordered is_checked ends_settled loads_end
+unfolding url_on_literals is_web is_blank_url judged judged_parse read_against address_of url_of resolved with_fragment base_of fragment_of origin_text origin_of has_same_base is_rewritable events_of each_event after_opening AtEachEvent is_numbered opens is_formed is_once is_caused is_queued is_ordered is_checked ends_settled loads_end ends_told ends_stepped goes_in_time
 traversal_applied_early_is_refused holds = false≢true holds.queued
 
 -- A push under an old epoch is applied.
@@ -164,7 +165,7 @@ old_epoch_applied =
     ∷ []
 
 pub old_epoch_applied_is_refused : IsLegal old_epoch_applied → ⊥
-unfolding url_on_literals is_web is_blank_url judged judged_parse read_against address_of url_of resolved with_fragment base_of fragment_of origin_text origin_of has_same_base is_rewritable events_of each_event after_opening AtEachEvent is_numbered opens is_formed is_once is_caused is_queued is_ordered is_checked ends_settled loads_end
+unfolding url_on_literals is_web is_blank_url judged judged_parse read_against address_of url_of resolved with_fragment base_of fragment_of origin_text origin_of has_same_base is_rewritable events_of each_event after_opening AtEachEvent is_numbered opens is_formed is_once is_caused is_queued is_ordered is_checked ends_settled loads_end ends_told ends_stepped goes_in_time
 old_epoch_applied_is_refused holds = false≢true holds.queued
 
 -- A push that may jump the queue waits for the traversal.
@@ -282,7 +283,7 @@ push_waits_for_the_traversal =
     ∷ []
 
 pub push_waits_for_the_traversal_is_refused : IsLegal push_waits_for_the_traversal → ⊥
-unfolding url_on_literals is_web is_blank_url judged judged_parse read_against address_of url_of resolved with_fragment base_of fragment_of origin_text origin_of has_same_base is_rewritable events_of each_event after_opening AtEachEvent is_numbered opens is_formed is_once is_caused is_queued is_ordered is_checked ends_settled loads_end
+unfolding url_on_literals is_web is_blank_url judged judged_parse read_against address_of url_of resolved with_fragment base_of fragment_of origin_text origin_of has_same_base is_rewritable events_of each_event after_opening AtEachEvent is_numbered opens is_formed is_once is_caused is_queued is_ordered is_checked ends_settled loads_end ends_told ends_stepped goes_in_time
 push_waits_for_the_traversal_is_refused holds = false≢true holds.queued
 
 -- A held back push is applied before its traversal.
@@ -366,7 +367,7 @@ held_back_push_applied_early =
     ∷ []
 
 pub held_back_push_applied_early_is_refused : IsLegal held_back_push_applied_early → ⊥
-unfolding url_on_literals is_web is_blank_url judged judged_parse read_against address_of url_of resolved with_fragment base_of fragment_of origin_text origin_of has_same_base is_rewritable events_of each_event after_opening AtEachEvent is_numbered opens is_formed is_once is_caused is_queued is_ordered is_checked ends_settled loads_end
+unfolding url_on_literals is_web is_blank_url judged judged_parse read_against address_of url_of resolved with_fragment base_of fragment_of origin_text origin_of has_same_base is_rewritable events_of each_event after_opening AtEachEvent is_numbered opens is_formed is_once is_caused is_queued is_ordered is_checked ends_settled loads_end ends_told ends_stepped goes_in_time
 held_back_push_applied_early_is_refused holds = false≢true holds.queued
 
 -- A traversal begins before the one before it has ended.
@@ -406,7 +407,7 @@ begins_out_of_turn =
     ∷ []
 
 pub begins_out_of_turn_is_refused : IsLegal begins_out_of_turn → ⊥
-unfolding url_on_literals is_web is_blank_url judged judged_parse read_against address_of url_of resolved with_fragment base_of fragment_of origin_text origin_of has_same_base is_rewritable events_of each_event after_opening AtEachEvent is_numbered opens is_formed is_once is_caused is_queued is_ordered is_checked ends_settled loads_end
+unfolding url_on_literals is_web is_blank_url judged judged_parse read_against address_of url_of resolved with_fragment base_of fragment_of origin_text origin_of has_same_base is_rewritable events_of each_event after_opening AtEachEvent is_numbered opens is_formed is_once is_caused is_queued is_ordered is_checked ends_settled loads_end ends_told ends_stepped goes_in_time
 begins_out_of_turn_is_refused holds = false≢true holds.queued
 
 -- A load is applied while a traversal is under way.
@@ -453,5 +454,5 @@ load_applied_during_a_traversal =
     ∷ []
 
 pub load_applied_during_a_traversal_is_refused : IsLegal load_applied_during_a_traversal → ⊥
-unfolding url_on_literals is_web is_blank_url judged judged_parse read_against address_of url_of resolved with_fragment base_of fragment_of origin_text origin_of has_same_base is_rewritable events_of each_event after_opening AtEachEvent is_numbered opens is_formed is_once is_caused is_queued is_ordered is_checked ends_settled loads_end
+unfolding url_on_literals is_web is_blank_url judged judged_parse read_against address_of url_of resolved with_fragment base_of fragment_of origin_text origin_of has_same_base is_rewritable events_of each_event after_opening AtEachEvent is_numbered opens is_formed is_once is_caused is_queued is_ordered is_checked ends_settled loads_end ends_told ends_stepped goes_in_time
 load_applied_during_a_traversal_is_refused holds = false≢true holds.queued

@@ -20,6 +20,7 @@ use Rattle.log_model.specs.Events.{events_of, each_event, after_opening, AtEachE
 use Rattle.log_model.specs.Formed.{is_numbered}
 use Rattle.log_model.specs.Legal.{opens, is_formed, is_once, is_caused, is_queued, is_ordered, is_checked, ends_settled}
 use Rattle.log_model.specs.LoadsEndInTime.{loads_end}
+use Rattle.log_model.specs.ActsAtOnce.{ends_told, ends_stepped, goes_in_time}
 use Rattle.log_model.specs.Suits.{Suits}
 use Rattle.log_model.specs.declared.header.Header.{Header}
 use Rattle.log_examples.specs.Rows.{n, s, r, p, t, d, j, e, epoch, at, sent, made}
@@ -34,7 +35,7 @@ abbrev pub another_first_address_header : Header
 another_first_address_header = record { keep = 3; sites = []; pages = []; first = codes "http://b.test/" }
 
 pub another_first_address_is_refused : Suits another_first_address_header another_first_address → ⊥
-unfolding url_on_literals is_web is_blank_url judged judged_parse read_against address_of url_of resolved with_fragment base_of fragment_of origin_text origin_of has_same_base is_rewritable events_of each_event after_opening AtEachEvent is_numbered opens is_formed is_once is_caused is_queued is_ordered is_checked ends_settled loads_end
+unfolding url_on_literals is_web is_blank_url judged judged_parse read_against address_of url_of resolved with_fragment base_of fragment_of origin_text origin_of has_same_base is_rewritable events_of each_event after_opening AtEachEvent is_numbered opens is_formed is_once is_caused is_queued is_ordered is_checked ends_settled loads_end ends_told ends_stepped goes_in_time
 another_first_address_is_refused holds = false≢true holds.opened
 
 -- A document is made in another process than its site says.
@@ -73,7 +74,7 @@ abbrev pub another_process_header : Header
 another_process_header = record { keep = 3; sites = record { origin = codes "http://b.test"; proc = p 3 } ∷ []; pages = []; first = codes "http://a.test/" }
 
 pub another_process_is_refused : Suits another_process_header another_process → ⊥
-unfolding url_on_literals is_web is_blank_url judged judged_parse read_against address_of url_of resolved with_fragment base_of fragment_of origin_text origin_of has_same_base is_rewritable events_of each_event after_opening AtEachEvent is_numbered opens is_formed is_once is_caused is_queued is_ordered is_checked ends_settled loads_end
+unfolding url_on_literals is_web is_blank_url judged judged_parse read_against address_of url_of resolved with_fragment base_of fragment_of origin_text origin_of has_same_base is_rewritable events_of each_event after_opening AtEachEvent is_numbered opens is_formed is_once is_caused is_queued is_ordered is_checked ends_settled loads_end ends_told ends_stepped goes_in_time
 another_process_is_refused holds = false≢true holds.placed
 
 -- A document has another handler than its page says.
@@ -121,7 +122,7 @@ abbrev pub another_handler_header : Header
 another_handler_header = record { keep = 3; sites = []; pages = record { base = codes "http://a.test/1"; slot = 1 } ∷ []; first = codes "http://a.test/" }
 
 pub another_handler_is_refused : Suits another_handler_header another_handler → ⊥
-unfolding url_on_literals is_web is_blank_url judged judged_parse read_against address_of url_of resolved with_fragment base_of fragment_of origin_text origin_of has_same_base is_rewritable events_of each_event after_opening AtEachEvent is_numbered opens is_formed is_once is_caused is_queued is_ordered is_checked ends_settled loads_end
+unfolding url_on_literals is_web is_blank_url judged judged_parse read_against address_of url_of resolved with_fragment base_of fragment_of origin_text origin_of has_same_base is_rewritable events_of each_event after_opening AtEachEvent is_numbered opens is_formed is_once is_caused is_queued is_ordered is_checked ends_settled loads_end ends_told ends_stepped goes_in_time
 another_handler_is_refused holds = false≢true holds.placed
 
 -- A kept document is discarded though more may be kept.
@@ -192,7 +193,7 @@ abbrev pub discarded_too_early_header : Header
 discarded_too_early_header = record { keep = 2; sites = []; pages = []; first = codes "http://a.test/" }
 
 pub discarded_too_early_is_refused : Suits discarded_too_early_header discarded_too_early → ⊥
-unfolding url_on_literals is_web is_blank_url judged judged_parse read_against address_of url_of resolved with_fragment base_of fragment_of origin_text origin_of has_same_base is_rewritable events_of each_event after_opening AtEachEvent is_numbered opens is_formed is_once is_caused is_queued is_ordered is_checked ends_settled loads_end
+unfolding url_on_literals is_web is_blank_url judged judged_parse read_against address_of url_of resolved with_fragment base_of fragment_of origin_text origin_of has_same_base is_rewritable events_of each_event after_opening AtEachEvent is_numbered opens is_formed is_once is_caused is_queued is_ordered is_checked ends_settled loads_end ends_told ends_stepped goes_in_time
 discarded_too_early_is_refused holds = false≢true holds.placed
 
 -- More documents are kept than may be.
@@ -263,5 +264,5 @@ abbrev pub too_many_kept_header : Header
 too_many_kept_header = record { keep = 0; sites = []; pages = []; first = codes "http://a.test/" }
 
 pub too_many_kept_is_refused : Suits too_many_kept_header too_many_kept → ⊥
-unfolding url_on_literals is_web is_blank_url judged judged_parse read_against address_of url_of resolved with_fragment base_of fragment_of origin_text origin_of has_same_base is_rewritable events_of each_event after_opening AtEachEvent is_numbered opens is_formed is_once is_caused is_queued is_ordered is_checked ends_settled loads_end
+unfolding url_on_literals is_web is_blank_url judged judged_parse read_against address_of url_of resolved with_fragment base_of fragment_of origin_text origin_of has_same_base is_rewritable events_of each_event after_opening AtEachEvent is_numbered opens is_formed is_once is_caused is_queued is_ordered is_checked ends_settled loads_end ends_told ends_stepped goes_in_time
 too_many_kept_is_refused holds = false≢true holds.kept

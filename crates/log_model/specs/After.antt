@@ -34,7 +34,7 @@ pub use Rattle.log_model.specs.Opening.{opening_history}
 use Rattle.log_model.specs.Seen.{Seen, Desk, Asked, document_of, empty_desk, request_of}
 use Rattle.log_model.specs.Places.{is_load, is_reload, all_stand}
 use Rattle.log_model.specs.AfterPlaces.{places_after, kept_after}
-pub use Rattle.log_model.specs.AfterDocuments.{opening_document, on_document, told_by, told_after_change, with_applied, applied_to, new_document, documents_sent, task_in_hand, view_finished, documents_finished, slot_finished, documents_delivered, documents_killed, documents_after}
+pub use Rattle.log_model.specs.AfterDocuments.{opening_document, on_document, told_by, frozen_by, addressed, told_after_change, with_applied, applied_to, new_document, documents_sent, task_in_hand, view_finished, documents_finished, slot_finished, documents_delivered, documents_killed, documents_after}
 use Rattle.log_model.specs.AfterRequests.{on_request, requests_told, joined_after, parked_after}
 
 -- ---- the history

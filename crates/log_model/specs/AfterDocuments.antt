@@ -1,6 +1,6 @@
 -- How each row of a log changes the documents: which there are, what they show, and what is known of them.
 -- HTML Standard, "populate the history entry's document", "destroy a document", "update document for history step application"; deaths and the pair that was told are this project's own.
-use Rattle.std.specs.Prelude.{ℕ, true, false, ◌&&◌, ◌==◌, List, [], ◌∷◌, ◌++◌, map, slice_get, option_map, Option, Some, None, is_none, if◌then◌else◌}
+use Rattle.std.specs.Prelude.{ℕ, Bool, true, false, ◌&&◌, ◌==◌, List, [], ◌∷◌, ◌++◌, map, slice_get, option_map, Option, Some, None, is_none, if◌then◌else◌}
 use Rattle.tab_ids.specs.declared.Death.{Death}
 use Rattle.tab_ids.specs.declared.NavId.{NavId}
 use Rattle.tab_ids.specs.declared.ProcId.{ProcId}
@@ -36,6 +36,7 @@ opening_document entry state doc proc slot address =
       told = Some (1, 0);
       is_ready = true;
       is_fresh = true;
+      is_frozen = false;
       is_discarded = false;
       dead_by = None;
       is_known_dead = false;
@@ -51,6 +52,12 @@ abbrev pub told_by : Option (ℕ × ℕ) → Task → Option (ℕ × ℕ)
 told_by told (tasks.Activate entry epoch length index memo address) = Some (length, index)
 told_by told (tasks.Update length index) = Some (length, index)
 told_by told _ = told
+
+-- an order that freezes a document, or shows it again
+abbrev pub frozen_by : Bool → Task → Bool
+frozen_by frozen (tasks.Activate entry epoch length index memo address) = false
+frozen_by frozen tasks.Freeze = true
+frozen_by frozen _ = frozen
 
 -- an applied push of a document: it shows a guess, and was told nothing since
 abbrev pub told_after_change : Document → Change → Document
@@ -83,17 +90,22 @@ new_document s job nav state =
       told = None;
       is_ready = false;
       is_fresh = false;
+      is_frozen = false;
       is_discarded = false;
       dead_by = slice_get (desk_of s job.proc).killed job.incarnation;
       is_known_dead = false;
       last_applied = 0;
     }
 
+-- the document once an order was sent to it
+abbrev pub addressed : Task → Document → Document
+addressed task d = record d { told = told_by d.told task; is_frozen = frozen_by d.is_frozen task }
+
 -- what an order does to the documents as it is sent
 abbrev pub documents_sent : Seen → Job → Task → List Document
 documents_sent s job (tasks.Populate nav state address initial) = s.documents ++ new_document s job nav state ∷ []
 documents_sent s job tasks.Discard = on_document job.doc (λ d. record d { is_discarded = true }) s.documents
-documents_sent s job task = on_document job.doc (λ d. record d { told = told_by d.told task }) s.documents
+documents_sent s job task = on_document job.doc (addressed task) s.documents
 
 -- the order that a process has in hand
 abbrev pub task_in_hand : Seen → ProcId → Option Job

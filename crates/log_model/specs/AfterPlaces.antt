@@ -61,17 +61,6 @@ sleepers_below s doc place =
 abbrev pub sleepers_with : Seen → DocId → List NavId
 sleepers_with s doc = option_map_or (λ (place : Place). place.nav ∷ woken_below s place.nav) (shower_of s doc) []
 
--- the navigables that an order puts to sleep
-abbrev pub sleepers : Seen → Job → List NavId
-sleepers s job = by_task s job.doc job.task
-  where
-    by_task : Seen → DocId → Task → List NavId
-    by_task s doc (tasks.Activate entry epoch length index memo address) =
-        option_map_or (λ (d : Document). option_map_or (sleepers_below s doc) (place_of s d.nav) []) (document_of s doc) []
-    by_task s doc tasks.Freeze = sleepers_with s doc
-    by_task s doc tasks.Discard = sleepers_with s doc
-    by_task s doc _ = []
-
 -- ---- the places
 
 -- the place of the top as the tab opens: awake on the first document
@@ -148,14 +137,16 @@ activated job entry epoch d place =
       ever_awake = job.doc ∷ place.ever_awake;
     }
 
--- what an order does to the places
-abbrev pub places_sent : Seen → Job → List Place
-places_sent s job = by_task s job job.task (put_to_sleep (sleepers s job) job.why s.places)
-  where
-    by_task : Seen → Job → Task → List Place → List Place
-    by_task s job (tasks.Activate entry epoch length index memo address) places =
-        option_map_or (λ (d : Document). on_place d.nav (activated job entry epoch d) places) (document_of s job.doc) places
-    by_task s job _ places = places
+-- what an order does to the places: it may show a navigable a document, and puts others to sleep
+abbrev pub places_sent : Seen → Job → Task → List Place
+places_sent s job (tasks.Activate entry epoch length index memo address) =
+    option_map_or
+    (λ (d : Document). on_place d.nav (activated job entry epoch d) (put_to_sleep (option_map_or (sleepers_below s job.doc) (place_of s d.nav) []) job.why s.places))
+    (document_of s job.doc)
+    s.places
+places_sent s job tasks.Freeze = put_to_sleep (sleepers_with s job.doc) job.why s.places
+places_sent s job tasks.Discard = put_to_sleep (sleepers_with s job.doc) job.why s.places
+places_sent s job _ = s.places
 
 -- a navigable that is awake on a document dead by the death is known lost; those below one of these fall asleep, lost ones too
 abbrev pub place_bereft : Seen → Death → Place → Place
@@ -218,7 +209,7 @@ places_applied s req change = with_taker s.history (applied s.history change) re
 abbrev pub places_after : Seen → RowKind → List Place
 places_after s (rows.Opened entry state doc proc slot address) = opening_place entry doc ∷ []
 places_after s (rows.Applied req change) = places_applied s req change
-places_after s (rows.Sent job) = places_sent s job
+places_after s (rows.Sent job) = places_sent s job job.task
 places_after s (rows.Delivered proc) = places_delivered s (slice_get (desk_of s proc).reports 0)
 places_after s _ = s.places
 

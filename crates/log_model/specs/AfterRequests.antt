@@ -35,7 +35,7 @@ use Rattle.log_model.specs.History.{History, same_entry, has_nav, has_row, appli
 use Rattle.log_model.specs.Views.{View}
 use Rattle.log_model.specs.Seen.{Seen, Document, Asked, Asking, document_of, desk_of, request_in, place_of}
 use Rattle.log_model.specs.Places.{awake_document, running_traversal, is_present, given_row}
-use Rattle.log_model.specs.AfterPlaces.{sleepers}
+use Rattle.log_model.specs.AfterPlaces.{sleepers_below, sleepers_with}
 
 -- the requests with one of them changed
 abbrev pub on_request : ReqId → (Asked → Asked) → List Asked → List Asked
@@ -99,9 +99,9 @@ with_activated nav q = record q { activated = nav ∷ q.activated; moved = nav �
 -- what an order for a request adds to it
 abbrev pub request_served : Seen → Job → Task → Asked → Asked
 request_served s job (tasks.Activate entry epoch length index memo address) q =
-    option_map_or (λ (d : Document). with_activated d.nav (with_moved (sleepers s job) q)) (document_of s job.doc) q
-request_served s job tasks.Freeze q = with_moved (sleepers s job) q
-request_served s job tasks.Discard q = with_moved (sleepers s job) q
+    option_map_or (λ (d : Document). with_activated d.nav (with_moved (option_map_or (sleepers_below s job.doc) (place_of s d.nav) []) q)) (document_of s job.doc) q
+request_served s job tasks.Freeze q = with_moved (sleepers_with s job.doc) q
+request_served s job tasks.Discard q = with_moved (sleepers_with s job.doc) q
 request_served s job (tasks.Ask slot cause) q = with_asking job q
 request_served s job _ q = q
 
@@ -110,10 +110,12 @@ abbrev pub on_served : Why → (Asked → Asked) → List Asked → List Asked
 on_served (whys.Req req) f asked = on_request req f asked
 on_served _ f asked = asked
 
--- a fragment order answers the load of its own request
+-- a fragment order answers the load of its own request; an order that makes a document, or tells one something, adds nothing
 abbrev pub requests_sent : Seen → Job → Task → List Asked → List Asked
 requests_sent s job (tasks.DoFragment req mode address) asked =
     on_request req (λ q. record q { fragment = Some job.doc }) asked
+requests_sent s job (tasks.Populate nav state address initial) asked = asked
+requests_sent s job (tasks.Update length index) asked = asked
 requests_sent s job task asked = on_served job.why (request_served s job task) asked
 
 -- ---- what its documents answer

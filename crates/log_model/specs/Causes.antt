@@ -66,10 +66,14 @@ denial_at_acceptance s (requests.Go delta) = None
 denial_at_acceptance s (requests.Reload nav) = denial_of_nav s false nav
 denial_at_acceptance s (requests.Poke nav action) = denial_of_poke s nav
 
+-- the reason for which a reload can't begin; one whose navigable has lost its rows isn't refused but dropped
+abbrev pub denial_of_reload : Seen → NavId → Option Denial
+denial_of_reload s nav = if has_row nav s.history.rows then denial_of_nav s true nav else None
+
 -- the first reason that holds as a traversal or a reload begins
 abbrev pub denial_at_start : Seen → Request → Option Denial
 denial_at_start s (requests.Load nav mode address) = None
-denial_at_start s (requests.Reload nav) = denial_of_nav s true nav
+denial_at_start s (requests.Reload nav) = denial_of_reload s nav
 denial_at_start s what = option_and_then (λ delta. if is_some (step_at_delta s delta) then None else Some denials.NoStep) (delta_of what)
 
 -- the first reason that holds as a document is to act
@@ -93,25 +97,33 @@ denial_at_delivery s made = by_what s made made.what
         else Some denials.NoNavigable
     by_what s made _ = None
 
--- the first reason that holds where a request is refused: as its document is to act, as it is accepted, as its report is delivered, or as it begins
+-- the row takes a report
+abbrev pub takes_report : RowKind → Bool
+takes_report (rows.Delivered proc) = true
+takes_report _ = false
+
+-- the first reason that holds where a request is refused: as its document is to act, as it is accepted, in an event that takes a report, or as it begins
 abbrev pub due_denial : Point → LogRow → Asked → Option Denial
-due_denial p row q = by_actor p q row.actor
+due_denial p row q = by_actor p row q row.actor
   where
     at_acceptance : Point → Asked → Option Denial
     at_acceptance p q = if is_accepted_here p q.nr then denial_at_acceptance p.start q.what else None
 
-    later_on : Point → Asked → Option Denial
-    later_on p q =
+    at_delivery : Point → LogRow → Made → Option Denial
+    at_delivery p row made = if takes_report (own_row p row) then denial_at_delivery p.now made else None
+
+    later_on : Point → LogRow → Asked → Option Denial
+    later_on p row q =
         if is_traversal q.what then denial_at_start p.now q.what
-        else (if is_some q.made then option_and_then (denial_at_delivery p.now) q.made else denial_at_start p.now q.what)
+        else (if is_some q.made then option_and_then (at_delivery p row) q.made else denial_at_start p.now q.what)
 
-    by_coordinator : Point → Asked → Option Denial → Option Denial
-    by_coordinator p q None = later_on p q
-    by_coordinator p q (Some reason) = Some reason
+    by_coordinator : Point → LogRow → Asked → Option Denial → Option Denial
+    by_coordinator p row q None = later_on p row q
+    by_coordinator p row q (Some reason) = Some reason
 
-    by_actor : Point → Asked → Actor → Option Denial
-    by_actor p q (actors.Proc proc) = denial_at_act p.now q
-    by_actor p q _ = by_coordinator p q (at_acceptance p q)
+    by_actor : Point → LogRow → Asked → Actor → Option Denial
+    by_actor p row q (actors.Proc proc) = denial_at_act p.now q
+    by_actor p row q _ = by_coordinator p row q (at_acceptance p q)
 
 -- a request for which a reason holds as it is accepted is refused in that event
 abbrev pub is_denied_duly : Point → ReqId → Request → Bool
@@ -121,9 +133,13 @@ is_denied_duly p req what = by_reason p req (denial_at_acceptance p.start what)
     by_reason p req None = true
     by_reason p req (Some reason) = list_any (is_refused_in req reason) p.later
 
--- a reload doesn't begin where a reason holds
+-- a reload begins only where its navigable has a row, and no reason to refuse it holds
 abbrev pub may_begin_here : Seen → Asked → Bool
-may_begin_here s q = not (is_reload q.what) || is_none (denial_at_start s q.what)
+may_begin_here s q = by_request s q.what
+  where
+    by_request : Seen → Request → Bool
+    by_request s (requests.Reload nav) = has_row nav s.history.rows && is_none (denial_of_reload s nav)
+    by_request s _ = true
 
 -- ---- why a request is dropped: what is read
 

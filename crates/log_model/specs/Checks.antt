@@ -6,7 +6,6 @@ use Rattle.tab_ids.specs.declared.DocId.{DocId}
 use Rattle.tab_ids.specs.declared.ReqId.{ReqId}
 use Rattle.log_model.specs.declared.handler.Verdict.{Verdict}
 use Rattle.log_model.specs.declared.handler.Verdict.TheVariants as verdicts
-use Rattle.log_model.specs.declared.job.Job.{Job}
 use Rattle.log_model.specs.declared.job.Task.{Task}
 use Rattle.log_model.specs.declared.job.Task.TheVariants as tasks
 use Rattle.log_model.specs.declared.job.Why.{Why}
@@ -14,6 +13,7 @@ use Rattle.log_model.specs.declared.job.Why.TheVariants as whys
 use Rattle.log_model.specs.declared.row_kind.LogRow.{LogRow}
 use Rattle.log_model.specs.declared.row_kind.RowKind.{RowKind}
 use Rattle.log_model.specs.declared.row_kind.RowKind.TheVariants as rows
+use Rattle.log_model.specs.Outcomes.{is_drop}
 use Rattle.log_model.specs.Equal.{holds, implies, same_list, same_doc, has_doc}
 use Rattle.log_model.specs.Seen.{Seen, Document, Asked, Asking, document_of, request_of}
 use Rattle.log_model.specs.Places.{shower_of, is_gone, all_asked, has_passed, is_load, is_traversal, is_reload}
@@ -44,20 +44,18 @@ may_be_left p doc req =
     has_handler : Seen → DocId → Bool
     has_handler s doc = holds (λ (d : Document). is_some d.slot) (document_of s doc)
 
--- an order for a request: no document is made, shown or frozen before the check has passed, and none is left unasked
-abbrev pub is_sent_in_time : Point → Job → Bool
-is_sent_in_time p job = by_why p job job.why
-  where
-    by_task : Point → Job → ReqId → Task → Bool
-    by_task p job req (tasks.Populate nav state address initial) = may_go_on p.now req
-    by_task p job req (tasks.Activate entry epoch length index memo address) = may_go_on p.now req
-    by_task p job req tasks.Freeze = may_go_on p.now req && may_be_left p job.doc req
-    by_task p job req tasks.Discard = may_be_left p job.doc req
-    by_task p job req _ = true
+-- an order for the request may be sent: no document is made, shown or frozen before the check has passed, and none is left unasked
+abbrev pub may_be_sent : Point → DocId → ReqId → Task → Bool
+may_be_sent p doc req (tasks.Populate nav state address initial) = may_go_on p.now req
+may_be_sent p doc req (tasks.Activate entry epoch length index memo address) = may_go_on p.now req
+may_be_sent p doc req tasks.Freeze = may_go_on p.now req && may_be_left p doc req
+may_be_sent p doc req tasks.Discard = may_be_left p doc req
+may_be_sent p doc req _ = true
 
-    by_why : Point → Job → Why → Bool
-    by_why p job (whys.Req req) = by_task p job req job.task
-    by_why p job _ = true
+-- an order for a request comes no sooner than it may
+abbrev pub is_sent_in_time : Point → DocId → Why → Task → Bool
+is_sent_in_time p doc (whys.Req req) task = may_be_sent p doc req task
+is_sent_in_time p doc _ task = true
 
 -- ---- the prompt
 
@@ -76,9 +74,9 @@ prompting s q =
     is_prompt verdicts.Prompt = true
     is_prompt verdicts.Leave = false
 
--- the document for whose sake the user is to be asked: the lowest-numbered of those, unless the request has ended
+-- the document for whose sake the user is to be asked: the lowest-numbered of those, unless the request was dropped
 abbrev pub due_prompt : Seen → Asked → Option DocId
-due_prompt s q = if is_some q.ending then None else fold lower_doc None (prompting s q)
+due_prompt s q = if holds is_drop q.ending then None else fold lower_doc None (prompting s q)
 
 -- the row discards a document or asks the user
 abbrev pub is_of_run : LogRow → Bool
@@ -138,6 +136,11 @@ is_settled_by now next q = not (all_asked now q) && holds (all_asked next) (requ
 abbrev pub prompts_duly : Point → LogRow → Bool
 prompts_duly p row = list_all (is_prompted_after p row) (filter (is_settled_by p.now (next_of p row)) p.now.requests)
 
+-- an order that discards a document may settle questions
+abbrev pub settles_duly : Point → LogRow → Task → Bool
+settles_duly p row tasks.Discard = prompts_duly p row
+settles_duly p row _ = true
+
 -- the user is asked in the event in which the last question of the request is settled
 abbrev pub is_prompted_duly : Point → ReqId → Bool
 is_prompted_duly p req =
@@ -149,12 +152,8 @@ is_prompted_duly p req =
 abbrev pub is_checked_row : Point → LogRow → Bool
 is_checked_row p row = by_kind p row row.row
   where
-    by_task : Point → LogRow → Task → Bool
-    by_task p row tasks.Discard = prompts_duly p row
-    by_task p row _ = true
-
     by_kind : Point → LogRow → RowKind → Bool
-    by_kind p row (rows.Sent job) = is_sent_in_time p job && by_task p row job.task
+    by_kind p row (rows.Sent job) = is_sent_in_time p job.doc job.why job.task && settles_duly p row job.task
     by_kind p row (rows.Delivered proc) = prompts_duly p row
     by_kind p row (rows.Applied req change) = may_go_on p.now req
     by_kind p row (rows.Prompted req doc) = is_prompted_duly p req

@@ -26,3 +26,5 @@ pub mod Soundness
 pub mod Order
 pub mod LoadsEndInTime
 pub mod Suits
+pub mod ActsAtOnce
+pub mod Limits

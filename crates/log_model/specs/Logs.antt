@@ -1,17 +1,16 @@
 -- What a log has come to, read from its rows: its history, and what waits in each process.
 -- This project's own.
-use Rattle.std.specs.Prelude.{Bool, true, false, not, ◌&&◌, ◌==◌, List, length, fold, Option, is_none, is_some, option_and_then, IsTrue}
+use Rattle.std.specs.Prelude.{Bool, not, ◌&&◌, ◌==◌, List, length, fold, Option, is_none, is_some, option_and_then, IsTrue}
 use Rattle.std.specs.List.{list_all}
 use Rattle.tab_ids.specs.declared.DocId.{DocId}
 use Rattle.tab_ids.specs.declared.ProcId.{ProcId}
 use Rattle.log_model.specs.declared.job.Job.{Job}
 use Rattle.log_model.specs.declared.job.Order.{Order}
 use Rattle.log_model.specs.declared.made.Report.{Report}
-use Rattle.log_model.specs.declared.outcome.Ending.{Ending}
-use Rattle.log_model.specs.declared.outcome.Ending.TheVariants as endings
 use Rattle.log_model.specs.declared.request.Poke.{Poke}
 use Rattle.log_model.specs.declared.row_kind.LogRow.{LogRow}
 use Rattle.log_model.specs.Equal.{holds}
+use Rattle.log_model.specs.Outcomes.{is_drop}
 use Rattle.log_model.specs.History.{History}
 use Rattle.log_model.specs.Views.{View}
 use Rattle.log_model.specs.Seen.{Seen, Document, Desk, Asked, nothing, document_of, desk_of}
@@ -52,10 +51,6 @@ is_still s = list_all is_idle s.desks
 -- the user is asked for the request, and neither answered nor was the request dropped
 abbrev pub is_prompt_up : Asked → Bool
 is_prompt_up q = is_some q.prompted && is_none q.answered && not (holds is_drop q.ending)
-  where
-    is_drop : Ending → Bool
-    is_drop (endings.Dropped cause) = true
-    is_drop _ = false
 
 -- nothing is in transit and no prompt is up
 abbrev pub is_quiet : Seen → Bool

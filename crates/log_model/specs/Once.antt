@@ -77,9 +77,9 @@ abbrev pub has_no_earlier_load : Seen → ReqId → NavId → Bool
 has_no_earlier_load s req nav =
     list_all (λ (q : Asked). not (is_ongoing_load q && nat_lt q.nr.0 req.0 && loads nav q.what)) s.requests
 
--- the request may begin: a load, with no earlier one of its navigable as the event ends; a traversal with its goal; a reload
+-- the request may begin, once and before its outcome: a load, with no earlier one of its navigable as the event ends; a traversal with its goal; a reload
 abbrev pub may_begin_request : Point → LogRow → Option Step → Asked → Bool
-may_begin_request p row goal q = not q.is_started && by_request p row goal q q.what
+may_begin_request p row goal q = not q.is_started && is_none q.ending && by_request p row goal q q.what
   where
     by_request : Point → LogRow → Option Step → Asked → Request → Bool
     by_request p row goal q (requests.Load nav mode address) =

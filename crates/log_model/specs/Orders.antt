@@ -1,6 +1,6 @@
 -- Each order to a document's process has its cause.
 -- HTML Standard, "attempt to populate the history entry's document", "activate history entry", "update document for history step application", "destroy a document", "checking if unloading is canceled", "navigate to a fragment". This project's own: the exact causes, epochs, numbers and incarnations.
-use Rattle.std.specs.Prelude.{ℕ, ◌+◌, Bool, true, false, not, ◌&&◌, ◌||◌, ◌==◌, nat_lt, List, length, filter, filter_map, find, bytes_eq, Option, Some, None, is_none, option_map, option_and_then, if◌then◌else◌}
+use Rattle.std.specs.Prelude.{ℕ, ◌+◌, Bool, true, false, not, ◌&&◌, ◌||◌, ◌==◌, nat_lt, List, length, filter, filter_map, find, take_while, bytes_eq, Option, Some, None, is_none, option_map, option_and_then, if◌then◌else◌}
 use Rattle.std.specs.List.{list_all, list_any}
 use Rattle.tab_ids.specs.declared.NavId.{NavId}
 use Rattle.tab_ids.specs.declared.StateId.{StateId}
@@ -246,10 +246,23 @@ question_in req row = option_and_then (λ job. if is_for req job then by_task jo
     by_task job (tasks.Ask slot cause) = Some (job.doc, slot, cause)
     by_task job _ = None
 
--- as a request begins, exactly the leaving documents that have a handler are asked in this event, in the order of the walk
+-- the row sends a question
+abbrev pub is_question : LogRow → Bool
+is_question row = holds by_task (option_map (λ (job : Job). job.task) (order_of row))
+  where
+    by_task : Task → Bool
+    by_task (tasks.Ask slot cause) = true
+    by_task _ = false
+
+-- the rows that follow ask exactly these questions for the request, and all of them come first
+abbrev pub asks_at_once : ReqId → List Question → List LogRow → Bool
+asks_at_once req due later =
+    same_list same_question (filter_map (question_in req) later) due
+    && same_list same_question (filter_map (question_in req) (take_while is_question later)) due
+
+-- as a request begins, exactly the leaving documents that have a handler are asked straight after, in the order of the walk: so the request hasn't passed before all of them were asked
 abbrev pub asks_duly : Point → ReqId → Option Step → Asked → Bool
-asks_duly p req goal q =
-    same_list same_question (filter_map (question_in req) p.later) (due_questions p.now q.what goal)
+asks_duly p req goal q = asks_at_once req (due_questions p.now q.what goal) p.later
 
 -- a question is sent for a request that began in this event
 abbrev pub is_asked_duly : Point → Job → Bool

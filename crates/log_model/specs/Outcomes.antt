@@ -1,8 +1,10 @@
--- Which outcome a finished order may have.
+-- Which outcome a finished order may have, and whether a request was dropped.
 -- This project's own: one outcome for each kind of order.
 use Rattle.std.specs.Prelude.{Bool, true, false}
 use Rattle.log_model.specs.declared.job.Task.{Task}
 use Rattle.log_model.specs.declared.job.Task.TheVariants as tasks
+use Rattle.log_model.specs.declared.outcome.Ending.{Ending}
+use Rattle.log_model.specs.declared.outcome.Ending.TheVariants as endings
 use Rattle.log_model.specs.declared.outcome.Outcome.{Outcome}
 use Rattle.log_model.specs.declared.outcome.Outcome.TheVariants as outcomes
 
@@ -16,3 +18,8 @@ is_outcome_of tasks.Discard outcomes.Discarded = true
 is_outcome_of (tasks.Ask slot cause) (outcomes.Asked verdict) = true
 is_outcome_of (tasks.DoFragment req mode address) outcomes.Fragmented = true
 is_outcome_of task outcome = false
+
+-- the request was dropped
+abbrev pub is_drop : Ending → Bool
+is_drop (endings.Dropped cause) = true
+is_drop _ = false

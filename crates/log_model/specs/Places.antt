@@ -14,8 +14,8 @@ use Rattle.log_model.specs.declared.request.Request.{Request}
 use Rattle.log_model.specs.declared.request.Request.TheVariants as requests
 use Rattle.log_model.specs.declared.row.Row.{Row}
 use Rattle.log_model.specs.Equal.{holds}
-use Rattle.log_model.specs.History.{same_entry, has_nav, is_of, owner_of, used_step_at, history_length, history_index, target_entry}
-use Rattle.log_model.specs.Seen.{Seen, Document, Asked, Asking, Place, Status, awake, lost, asleep, document_of, place_of}
+use Rattle.log_model.specs.History.{History, same_entry, has_nav, is_of, owner_of, used_step_at, history_length, history_index, target_entry}
+use Rattle.log_model.specs.Seen.{Seen, Document, Asked, Asking, Place, Status, awake, lost, asleep, document_of, place_in, place_of}
 
 -- ---- shown navigables
 
@@ -111,13 +111,17 @@ hangs_on state place = list_any (λ (owner : StateId). owner.0 == state.0) place
 abbrev pub is_document_below : Seen → StateId → Document → Bool
 is_document_below s state d = holds (hangs_on state) (place_of s d.nav)
 
--- the navigable is known lost: the report of the death that took its document was delivered
-abbrev pub is_known_lost : Seen → NavId → Bool
-is_known_lost s nav = holds (λ (place : Place). knows place.status) (place_of s nav)
+-- the navigable is known lost among these places
+abbrev pub is_lost_in : List Place → NavId → Bool
+is_lost_in places nav = holds (λ (place : Place). knows place.status) (place_in places nav)
   where
     knows : Status → Bool
     knows lost = true
     knows _ = false
+
+-- the navigable is known lost: the report of the death that took its document was delivered
+abbrev pub is_known_lost : Seen → NavId → Bool
+is_known_lost s nav = is_lost_in s.places nav
 
 -- the navigable, or one above it, is known lost
 abbrev pub is_below_known_lost : Seen → Place → Bool
@@ -150,20 +154,24 @@ abbrev pub is_gone : Seen → DocId → Bool
 is_gone s doc = holds (λ (d : Document). d.is_discarded || d.is_known_dead) (document_of s doc)
 
 -- the question is settled: its answer was delivered, or its document is gone
-abbrev pub is_settled_asking : Seen → Asking → Bool
-is_settled_asking s asking = asking.is_delivered || is_gone s asking.doc
+abbrev pub is_settled_asking : (DocId → Bool) → Asking → Bool
+is_settled_asking gone asking = asking.is_delivered || gone asking.doc
 
 -- all questions of the request are settled
 abbrev pub all_asked : Seen → Asked → Bool
-all_asked s q = list_all (is_settled_asking s) q.asks
+all_asked s q = list_all (is_settled_asking (is_gone s)) q.asks
 
 -- the user wasn't asked, or answered that the page may be left
 abbrev pub may_leave : Asked → Bool
 may_leave q = is_none q.prompted || holds not q.answered
 
+-- the request has passed its unload check, where these documents are gone
+abbrev pub has_passed_with : (DocId → Bool) → Asked → Bool
+has_passed_with gone q = list_all (is_settled_asking gone) q.asks && may_leave q
+
 -- the request has passed its unload check
 abbrev pub has_passed : Seen → Asked → Bool
-has_passed s q = all_asked s q && may_leave q
+has_passed s q = has_passed_with (is_gone s) q
 
 -- ---- requests under way
 
@@ -196,24 +204,39 @@ is_under_way q = q.is_started && is_none q.ending
 abbrev pub is_ongoing_load : Asked → Bool
 is_ongoing_load q = is_under_way q && is_load q.what
 
+-- the traversal that is running among these requests
+abbrev pub running_in : List Asked → Option Asked
+running_in asked = find (λ q. is_under_way q && is_traversal q.what) asked
+
 -- the traversal that is running
 abbrev pub running_traversal : Seen → Option Asked
-running_traversal s = find (λ q. is_under_way q && is_traversal q.what) s.requests
+running_traversal s = running_in s.requests
+
+-- the traversal that is running among these requests and has passed its unload check, where these documents are gone
+abbrev pub passed_in : (DocId → Bool) → List Asked → Option Asked
+passed_in gone asked = find (λ q. is_under_way q && is_traversal q.what && has_passed_with gone q) asked
 
 -- the traversal that is running and has passed its unload check
 abbrev pub passed_traversal : Seen → Option Asked
-passed_traversal s = find (λ q. is_under_way q && is_traversal q.what && has_passed s q) s.requests
+passed_traversal s = passed_in (is_gone s) s.requests
 
 -- ---- where navigables are to be: the target step of "apply the history step"
 
+-- the same, read from which documents are gone, the requests and the history
+abbrev pub aim_with : (DocId → Bool) → List Asked → History → ℕ
+aim_with gone asked history = option_map_or (λ (q : Asked). option_map_or (λ goal. used_step_at history.rows goal.0) q.goal history.current) (passed_in gone asked) history.current
+
 -- the step that the history is brought to: that of the goal of the running traversal, once that has passed; else the current step
 abbrev pub aim_of : Seen → ℕ
-aim_of s = option_map_or (λ (q : Asked). option_map_or (λ goal. used_step_at s.history.rows goal.0) q.goal s.history.current) (passed_traversal s) s.history.current
+aim_of s = aim_with (is_gone s) s.requests s.history
 
 -- the entry that the navigable was given is its target at the step
+abbrev pub is_given_target : List Row → ℕ → Place → Bool
+is_given_target rows step place =
+    holds (λ (row : Row). holds (same_entry row.entry) place.given) (target_entry rows place.nav step)
+
 abbrev pub has_target : Seen → ℕ → Place → Bool
-has_target s step place =
-    holds (λ (row : Row). holds (same_entry row.entry) place.given) (target_entry s.history.rows place.nav step)
+has_target s step place = is_given_target s.history.rows step place
 
 -- the navigable is known lost, or awake, and the report that its document was shown is delivered
 abbrev pub has_arrived : Place → Bool
@@ -224,16 +247,29 @@ has_arrived place = arrived place.status place.is_delivered
     arrived lost delivered = true
     arrived asleep delivered = false
 
--- the navigable stands at the step: its given entry is its target, no reload of it is due, and it has arrived
+-- the place stands at the step: its given entry is its target, no reload of it is due, and it has arrived
+abbrev pub is_standing : List Row → ℕ → Place → Bool
+is_standing rows step place = is_given_target rows step place && not place.is_unmet && has_arrived place
+
+-- the navigable stands at the step
 abbrev pub stands : Seen → ℕ → NavId → Bool
-stands s step nav = holds (λ place. has_target s step place && not place.is_unmet && has_arrived place) (place_of s nav)
+stands s step nav = holds (is_standing s.history.rows step) (place_of s nav)
+
+-- the place is to stand at the step: its navigable is shown there, and isn't below a known lost one
+abbrev pub is_wanted : List Row → List Place → ℕ → Place → Bool
+is_wanted rows places step place = is_shown rows step place.nav && not (list_any (is_lost_in places) place.above)
+
+-- each of the places that is to stand at the step stands there
+abbrev pub all_stand_in : List Row → List Place → ℕ → Bool
+all_stand_in rows places step = list_all (λ place. stands_if_wanted rows places step place) places
+  where
+    stands_if_wanted : List Row → List Place → ℕ → Place → Bool
+    stands_if_wanted rows places step place =
+        if is_wanted rows places step place then holds (is_standing rows step) (place_in places place.nav) else true
 
 -- each navigable that is shown at the step and isn't below a known lost one stands there
 abbrev pub all_stand : Seen → ℕ → Bool
-all_stand s step = list_all (λ place. stands_if_shown s step place) s.places
-  where
-    stands_if_shown : Seen → ℕ → Place → Bool
-    stands_if_shown s step place = if is_shown s.history.rows step place.nav && not (is_below_known_lost s place) then stands s step place.nav else true
+all_stand s step = all_stand_in s.history.rows s.places step
 
 -- the navigable is shown at the step and stands there
 abbrev pub is_placed : Seen → ℕ → NavId → Bool
@@ -245,18 +281,31 @@ is_fragment_navigation from to = has_same_base from to && is_some (fragment_of t
 
 -- ---- length and index
 
+-- the length and index of the history with these rows at a step
+abbrev pub pair_in : List Row → ℕ → ℕ × ℕ
+pair_in rows step = (history_length rows, history_index rows step)
+
 -- the length and index of the history at a step
 abbrev pub pair_at : Seen → ℕ → ℕ × ℕ
-pair_at s step = (history_length s.history.rows, history_index s.history.rows step)
+pair_at s step = pair_in s.history.rows step
 
 -- the pair that the navigable was told: the last one sent to the document that it is awake on
 abbrev pub told_pair : Seen → Place → Option (ℕ × ℕ)
 told_pair s place = option_and_then (λ doc. option_and_then (λ (d : Document). d.told) (document_of s doc)) (awake_document place)
 
+-- the traversal that is running among these requests has moved the navigable
+abbrev pub is_moved_in : List Asked → NavId → Bool
+is_moved_in asked nav = holds (λ (q : Asked). has_nav q.moved nav) (running_in asked)
+
 -- the running traversal has moved the navigable
 abbrev pub is_moved : Seen → NavId → Bool
-is_moved s nav = holds (λ (q : Asked). has_nav q.moved nav) (running_traversal s)
+is_moved s nav = is_moved_in s.requests nav
+
+-- the same as the pair that is due, read from which documents are gone, the requests and the history
+abbrev pub due_pair_with : (DocId → Bool) → List Asked → History → NavId → ℕ × ℕ
+due_pair_with gone asked history nav =
+    pair_in history.rows (if is_moved_in asked nav then aim_with gone asked history else history.current)
 
 -- the pair that the navigable is to be told: that of the aim where the running traversal has moved it, else that of the current step
 abbrev pub due_pair : Seen → NavId → ℕ × ℕ
-due_pair s nav = pair_at s (if is_moved s nav then aim_of s else s.history.current)
+due_pair s nav = due_pair_with (is_gone s) s.requests s.history nav

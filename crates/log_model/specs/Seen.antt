@@ -38,6 +38,8 @@ pub record Document : Type 0 where
   pub is_ready : Bool
   -- that report was delivered after the last applied reload of its navigable
   pub is_fresh : Bool
+  -- it was sent a Freeze, and no Activate since
+  pub is_frozen : Bool
   -- it was sent a Discard
   pub is_discarded : Bool
   -- the death that ended its incarnation
