@@ -1,8 +1,9 @@
 #!/usr/bin/env python3
 """Times the proved program on scenarios of which it reads all lines and plays none.
 
-Each has lines of 64 bytes, the longest 65,536 of them, which is the limit on both. The last line is faulty, so that all
-lines before it are read and kept, and nothing else is done.
+Each has lines of all kinds that the program plays, and a header with sites and pages; on the mean they have 64 bytes, and
+the longest text has 65,536 of them, which is the limit on both. The last line is faulty, so that all lines before it are
+read and kept, and nothing else is done.
 
 `python3 bench/reading.py [PROGRAM]` wants crates/tab/out/tab, or the program that it names:
 `cd crates/tab && rt run -- play < ../../docs/examples/three_pushes.txt` makes it.
@@ -14,13 +15,22 @@ from timing import MOST_RATIO, Run, grown, proved_program, shown, timed, within
 SIZES = [16_384, 32_768, 65_536]
 LINE = 64
 REFUSED = 2
+HEADER = ["session 1", "keep 64"] + [f"site http://s{i}.test {i % 16 + 1}" for i in range(20)] \
+    + [f"page http://s{i}.test/p {i}" for i in range(20)] + ["open http://a.test/"]
+LONG = ["push 0 s{} /", "replace 4095 s{} ../", "fragment 0 f{}-", "push 1 - /{}", "#{} "]
+SHORT = ["go -1", "act 16", "settle", "begin 1", "go 999", "finish 2", "deliver 10"]
 
 
 def scenario(lines: int) -> str:
-    text = ["session 1", "open http://a.test/"]
-    for i in range(3, lines):
-        line = f"push 0 s{i} /"
-        text.append(line + "x" * (LINE - 1 - len(line)))
+    """Long lines and short ones in turn, each two of them with the bytes of two lines."""
+    text = list(HEADER)
+    for i in range(len(text) + 1, lines):
+        if i % 2 or i + 1 == lines:
+            text.append(SHORT[i // 2 % len(SHORT)])
+        else:
+            line = LONG[i // 2 % len(LONG)].format(i)
+            short = len(SHORT[(i + 1) // 2 % len(SHORT)])
+            text.append(line + "x" * (2 * (LINE - 1) - short - len(line)))
     text.append("x")
     return "\n".join(text) + "\n"
 

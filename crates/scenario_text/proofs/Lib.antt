@@ -1,10 +1,15 @@
 pub mod PieceLaws
 pub mod LineLaws
 pub mod DigitLaws
+pub mod Spelled
+pub mod FieldTexts
+pub mod LineTexts
+pub mod PrintedWords
+pub mod PrintLaws
+pub mod HeaderLaws
+pub mod WrittenLaws
 pub mod ForCallers
 pub mod FollowLaws
 pub mod MomentLaws
 pub mod FollowExamples
 pub mod SameRequest
-pub mod Spelled
-pub mod PrintLaws

@@ -17,40 +17,40 @@ use Rattle.scenario_text.specs.declared.scenario.Scenario.{Scenario}
 use Rattle.scenario_text.proofs.PieceLaws.{length-pieces}
 
 -- what stands after the last line feed
-pub reads_end : (built : Built) (number : ℕ) (place : Place) (rest : List ℕ) → pieces 10 rest ≡ rest ∷ [] → read_pieces built number place (pieces 10 rest) ≡ at_end number place rest
+pub reads_end : (in_run : Bool) (built : Built) (number : ℕ) (place : Place) (rest : List ℕ) → pieces 10 rest ≡ rest ∷ [] → read_pieces in_run built number place (pieces 10 rest) ≡ at_end number place rest
 unfolding read_pieces
-reads_end built number place rest only = rw only refl
+reads_end in_run built number place rest only = rw only refl
 
 -- a line that has its end
-pub reads_line : (built : Built) (number : ℕ) (place : Place) (rest line after : List ℕ) → pieces 10 rest ≡ line ∷ pieces 10 after
-    → read_pieces built number place (pieces 10 rest) ≡ cond (ltb 65536 number) (faulty number TooMany) (at_line number (after_line built place line) >>= λ next. read_pieces built (number + 1) next (pieces 10 after))
+pub reads_line : (in_run : Bool) (built : Built) (number : ℕ) (place : Place) (rest line after : List ℕ) → pieces 10 rest ≡ line ∷ pieces 10 after
+    → read_pieces in_run built number place (pieces 10 rest) ≡ cond (ltb 65536 number) (faulty number TooMany) (at_line number (after_line in_run built place line) >>= λ next. read_pieces in_run built (number + 1) next (pieces 10 after))
 unfolding read_pieces
-reads_line built number place rest line after cut =
+reads_line in_run built number place rest line after cut =
     let some : eqb (length (pieces 10 after)) 0 ≡ false = grind (arith, nat_tests, length-pieces 10 after) in
     rw (cut, some) refl
 
 -- a line too many
-pub reads_too_many : (built : Built) (number : ℕ) (place : Place) (rest line after : List ℕ) → pieces 10 rest ≡ line ∷ pieces 10 after → 65536 < number
-    → read_pieces built number place (pieces 10 rest) ≡ faulty number TooMany
-reads_too_many built number place rest line after cut many =
+pub reads_too_many : (in_run : Bool) (built : Built) (number : ℕ) (place : Place) (rest line after : List ℕ) → pieces 10 rest ≡ line ∷ pieces 10 after → 65536 < number
+    → read_pieces in_run built number place (pieces 10 rest) ≡ faulty number TooMany
+reads_too_many in_run built number place rest line after cut many =
     let beyond : ltb 65536 number ≡ true = grind (arith, nat_tests) in
-    reads_line built number place rest line after cut ∙ rw beyond refl
+    reads_line in_run built number place rest line after cut ∙ rw beyond refl
 
 -- a line that is read
-pub reads_on : (built : Built) (number : ℕ) (place next : Place) (rest line after : List ℕ) → pieces 10 rest ≡ line ∷ pieces 10 after → number ≤ 65536 → after_line built place line ≡ Ok next
-    → read_pieces built number place (pieces 10 rest) ≡ read_pieces built (number + 1) next (pieces 10 after)
-reads_on built number place next rest line after cut few read =
+pub reads_on : (in_run : Bool) (built : Built) (number : ℕ) (place next : Place) (rest line after : List ℕ) → pieces 10 rest ≡ line ∷ pieces 10 after → number ≤ 65536 → after_line in_run built place line ≡ Ok next
+    → read_pieces in_run built number place (pieces 10 rest) ≡ read_pieces in_run built (number + 1) next (pieces 10 after)
+reads_on in_run built number place next rest line after cut few read =
     let within : ltb 65536 number ≡ false = grind (arith, nat_tests) in
-    reads_line built number place rest line after cut ∙ rw (within, read) refl
+    reads_line in_run built number place rest line after cut ∙ rw (within, read) refl
 
 -- a line that is not
-pub reads_fault : (built : Built) (number : ℕ) (place : Place) (rest line after : List ℕ) (e : LineError) (error : ScenarioError) → pieces 10 rest ≡ line ∷ pieces 10 after → number ≤ 65536
-    → IsReason e (after_line built place line) → IsFaultAt error number e → IsRefusal error (read_pieces built number place (pieces 10 rest))
-reads_fault built number place rest line after (faults.Faulty reason) error cut few fault is =
+pub reads_fault : (in_run : Bool) (built : Built) (number : ℕ) (place : Place) (rest line after : List ℕ) (e : LineError) (error : ScenarioError) → pieces 10 rest ≡ line ∷ pieces 10 after → number ≤ 65536
+    → IsReason e (after_line in_run built place line) → IsFaultAt error number e → IsRefusal error (read_pieces in_run built number place (pieces 10 rest))
+reads_fault in_run built number place rest line after (faults.Faulty reason) error cut few fault is =
     let within : ltb 65536 number ≡ false = grind (arith, nat_tests) in
-    rw is (reads_line built number place rest line after cut ∙ rw (within, fault) refl)
-reads_fault built number place rest line after (faults.UrlOverflow mark) error cut few fault is = rw is tt
-reads_fault built number place rest line after faults.OutOfMemory error cut few fault is = rw is tt
+    rw is (reads_line in_run built number place rest line after cut ∙ rw (within, fault) refl)
+reads_fault in_run built number place rest line after (faults.UrlOverflow mark) error cut few fault is = rw is tt
+reads_fault in_run built number place rest line after faults.OutOfMemory error cut few fault is = rw is tt
 
 -- ---- the whole text
 
@@ -58,11 +58,11 @@ pub reads_too_long : (in_run : Bool) (built : Built) (bytes : List ℕ) → 4194
 unfolding scenario_of
 reads_too_long in_run built bytes long = let beyond : ltb 4194304 (length bytes) ≡ true = grind (arith, nat_tests) in rw beyond refl
 
-pub reads_text : (in_run : Bool) (built : Built) (bytes : List ℕ) → length bytes ≤ 4194304 → scenario_of in_run built bytes ≡ read_pieces built 1 Start (pieces 10 bytes)
+pub reads_text : (in_run : Bool) (built : Built) (bytes : List ℕ) → length bytes ≤ 4194304 → scenario_of in_run built bytes ≡ read_pieces in_run built 1 Start (pieces 10 bytes)
 unfolding scenario_of
 reads_text in_run built bytes short = let within : ltb 4194304 (length bytes) ≡ false = grind (arith, nat_tests) in rw within refl
 
 -- what was read is spelled by the bytes
-pub spells : (built : Built) (bytes : List ℕ) (result : Result Scenario ScenarioError) → length bytes ≤ 4194304 → Reads result (read_pieces built 1 Start (pieces 10 bytes)) → IfOk result (λ scenario. IsSpelled scenario)
-spells built bytes (Ok scenario) short read = (built, bytes, reads_text false built bytes short ∙ read)
-spells built bytes (Err e) short read = tt
+pub spells : (in_run : Bool) (built : Built) (bytes : List ℕ) (result : Result Scenario ScenarioError) → length bytes ≤ 4194304 → Reads result (read_pieces in_run built 1 Start (pieces 10 bytes)) → IfOk result (λ scenario. IsSpelled scenario)
+spells in_run built bytes (Ok scenario) short read = (in_run, built, bytes, reads_text in_run built bytes short ∙ read)
+spells in_run built bytes (Err e) short read = tt

@@ -11,6 +11,8 @@ use Rattle.log_model.proofs.EventLaws.{flat, flat-events_of}
 use Rattle.scenario_text.specs.declared.line.ScenarioLine.{ScenarioLine}
 use Rattle.scenario_text.specs.declared.line.ScenarioLine.TheVariants as lines
 use Rattle.scenario_text.specs.declared.scenario.Scenario.{Scenario}
+use Rattle.log_model.specs.Suits.{Suits}
+use Rattle.log_model.proofs.FurtherLaws.{suits_front}
 use Rattle.scenario_text.specs.Follows.{Course, goes, strays, stops, Stage, and_then, is_passed, is_event, takes, does, does_all, turns_to, a_round, rounds, settles, plays_line, plays, course_of, Follows, FollowsUpTo}
 use Rattle.scenario_text.proofs.FollowLaws.{GoesBy, goes_by, IsLasting, does-later, does_all-later, plays_line-later, plays-later}
 
@@ -287,7 +289,10 @@ unfolding course_of seen_of
 follows_up_to row rows more later scenario moment follows = by_events (events_of (row ∷ rows)) refl
   where
     whole : course_of scenario.lines (events_of (row ∷ rows) ++ later) ≡ goes (seen_of ((row ∷ rows) ++ more)) []
-    whole = ap (λ (e : List (List LogRow)). course_of scenario.lines e) (sym moment) ∙ follows
+    whole = ap (λ (e : List (List LogRow)). course_of scenario.lines e) (sym moment) ∙ follows.course
+
+    suits : Suits scenario.header (row ∷ rows)
+    suits = suits_front scenario.header row rows more later moment follows.suits
 
     by_events : (events : List (List LogRow)) → events_of (row ∷ rows) ≡ events → FollowsUpTo (row ∷ rows) scenario
     by_events [] is =
@@ -299,6 +304,6 @@ follows_up_to row rows more later scenario moment follows = by_events (events_of
         sym (fold-append (λ (x : Seen) (r : LogRow). after x r) nothing opening (flat events)) ∙ ap (λ (l : List LogRow). fold after nothing l) (sym (ap (λ (e : List (List LogRow)). flat e) is) ∙ flat-events_of (row ∷ rows)) in
         let here : course_of scenario.lines (events_of (row ∷ rows)) ≡ plays scenario.lines start events = ap (λ (e : List (List LogRow)). course_of scenario.lines e) is in
         elim (first_events scenario.lines start events later (seen_of ((row ∷ rows) ++ more)) all) [
-          | inl played ↦ inl (here ∙ played ∙ ap (λ (x : Seen). goes x []) state)
-          | inr cut ↦ inr (here ∙ cut)
+          | inl played ↦ inl (record { suits = suits; course = here ∙ played ∙ ap (λ (x : Seen). goes x []) state })
+          | inr cut ↦ inr (record { suits = suits; course = here ∙ cut })
         ]

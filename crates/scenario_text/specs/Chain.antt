@@ -1,9 +1,14 @@
 -- One reading after another.
 -- This project's own.
-use Rattle.std.specs.Prelude.{Result, Ok, Err}
+use Rattle.std.specs.Prelude.{Option, Some, None, Result, Ok, Err}
 
 -- the first that fails decides
 infixl 10 ◌>>=◌
 abbrev pub ◌>>=◌ : {A B E : Type 0} → Result A E → (A → Result B E) → Result B E
 (Ok x) >>= f = f x
 (Err e) >>= f = Err e
+
+-- a value, unless there is a fault
+abbrev pub unless : {A E : Type 0} → Option E → A → Result A E
+unless None x = Ok x
+unless (Some e) x = Err e

@@ -1,4 +1,4 @@
--- When a log follows a scenario: its events are those that the lines ask for, in order, and there are no others.
+-- When a log follows a scenario: it opens as the header says, its events are those that the lines ask for, in order, and there are no others.
 -- This project's own.
 use Rattle.std.specs.Prelude.{◌≡◌, ◌⊎◌, ℕ, zero, suc, ◌+◌, Bool, true, false, not, ◌&&◌, ◌||◌, ◌==◌, List, [], ◌∷◌, ◌++◌, fold, length, bytes_eq, is_none, is_some, if◌then◌else◌}
 use Rattle.tab_ids.specs.declared.ProcId.{ProcId}
@@ -16,6 +16,7 @@ use Rattle.log_model.specs.Seen.{Seen, nothing, desk_of, request_of}
 use Rattle.log_model.specs.After.{after}
 use Rattle.log_model.specs.Logs.{seen_of, is_still, is_prompt_up}
 use Rattle.log_model.specs.Events.{events_of}
+use Rattle.log_model.specs.Suits.{Suits}
 use Rattle.scenario_text.specs.declared.line.ScenarioLine.{ScenarioLine}
 use Rattle.scenario_text.specs.declared.line.ScenarioLine.TheVariants as lines
 use Rattle.scenario_text.specs.declared.scenario.Scenario.{Scenario}
@@ -176,13 +177,15 @@ unfoldable pub course_of : List ScenarioLine → List (List LogRow) → Course
 course_of lines [] = strays
 course_of lines (opening ∷ events) = plays lines (fold after nothing opening) events
 
--- the log's events are those of the scenario's lines
-abbrev pub Follows : List LogRow → Scenario → Type 0
-Follows log scenario = course_of scenario.lines (events_of log) ≡ goes (seen_of log) []
+-- the log opens as the scenario says, and its events are those of the scenario's lines
+pub record Follows (log : List LogRow) (scenario : Scenario) : Type 0 where
+  pub suits : Suits scenario.header log
+  pub course : course_of scenario.lines (events_of log) ≡ goes (seen_of log) []
 
--- the log's events are those of the scenario's lines up to one that is missing: an event that logs was due where the log ends
-abbrev pub IsCutShort : List LogRow → Scenario → Type 0
-IsCutShort log scenario = course_of scenario.lines (events_of log) ≡ stops
+-- the same, up to a line whose event is missing: an event that logs was due where the log ends
+pub record IsCutShort (log : List LogRow) (scenario : Scenario) : Type 0 where
+  pub suits : Suits scenario.header log
+  pub course : course_of scenario.lines (events_of log) ≡ stops
 
 -- the log follows the scenario up to a moment
 abbrev pub FollowsUpTo : List LogRow → Scenario → Type 0

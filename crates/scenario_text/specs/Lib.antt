@@ -5,6 +5,10 @@ pub mod Words
 pub mod Reasons
 pub mod Gives
 pub mod Plays
+pub mod Readings
+pub mod Body
+pub mod Heading
 pub mod Grammar
+pub mod Written
 pub mod Follows
 pub mod Printed

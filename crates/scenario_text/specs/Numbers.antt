@@ -5,7 +5,7 @@ use Rattle.std.specs.List.{list_all}
 use Rattle.std.specs.Char.{is_ascii_digit}
 use Rattle.std.specs.Str.Parse.{digits_value}
 use Rattle.scenario_text.specs.declared.reason.Reason.{Reason}
-use Rattle.scenario_text.specs.declared.reason.Reason.TheVariants.{Unbuilt}
+use Rattle.scenario_text.specs.declared.reason.Reason.TheVariants.{Number}
 use Rattle.scenario_text.specs.Chain.{◌>>=◌}
 
 -- all bytes are digits
@@ -23,11 +23,11 @@ unfoldable pub number_of : ℕ → ℕ → List ℕ → Result ℕ Reason
 number_of low high word =
     let number = digits_value 10 word in
     if are_digits word && (has_no_zero_in_front word && (nat_le low number && nat_le number high)) then Ok number
-    else Err Unbuilt
+    else Err Number
 
 -- DELTA: 1 to 999, or `-` and 1 to 999
 unfoldable pub delta_of : List ℕ → Result ℤ Reason
-delta_of [] = Err Unbuilt
+delta_of [] = Err Number
 delta_of (b ∷ word) =
     if b == 45 then (number_of 1 999 word >>= λ number. Ok (neg_ℤ (pos number)))
     else (number_of 1 999 (b ∷ word) >>= λ number. Ok (pos number))

@@ -14,10 +14,8 @@ use Rattle.log_model.specs.declared.request.Request.TheVariants as requests
 use Rattle.scenario_text.specs.declared.built.Built.{Built}
 use Rattle.scenario_text.specs.declared.line.ScenarioLine.{ScenarioLine}
 use Rattle.scenario_text.specs.declared.line.ScenarioLine.TheVariants as lines
-use Rattle.scenario_text.specs.declared.place.Place.TheVariants as places
 use Rattle.scenario_text.specs.declared.scenario.Scenario.{Scenario}
-use Rattle.scenario_text.specs.Pieces.{pieces}
-use Rattle.scenario_text.specs.Grammar.{read_pieces}
+use Rattle.scenario_text.specs.Grammar.{scenario_of}
 
 -- ---- words
 
@@ -108,7 +106,13 @@ header_text header =
 unfoldable pub text_of : Scenario → List ℕ
 text_of scenario = header_text scenario.header ++ flat_map line_text scenario.lines
 
--- after `open` the printed lines are read back as the scenario's, by a caller that plays them
-abbrev pub AreReadBack : Scenario → Type 0
-AreReadBack scenario =
-    (built : Built) × ((number : ℕ) → number + length scenario.lines ≤ 65537 → read_pieces built number (places.Body scenario.header []) (pieces 10 (flat_map line_text scenario.lines)) ≡ Ok scenario)
+-- ---- reading it back
+
+-- how many lines the text has: the version, `keep`, `open`, and one for each site, each page and each step
+abbrev pub line_count : Scenario → ℕ
+line_count scenario = 3 + length scenario.header.sites + length scenario.header.pages + length scenario.lines
+
+-- the text is read back as the scenario, by a caller that plays its lines, where it is within the limits
+abbrev pub IsReadBack : Scenario → Type 0
+IsReadBack scenario =
+    (built : Built) × (length (text_of scenario) ≤ 4194304 → line_count scenario ≤ 65536 → scenario_of false built (text_of scenario) ≡ Ok scenario)

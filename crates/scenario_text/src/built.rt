@@ -3,15 +3,16 @@ ghost use Rattle.std.specs.Prelude.{◌≡◌};
 ghost use Rattle.scenario_text.specs.Plays as spec;
 
 use crate::line::ScenarioLine;
+use crate::place::{Place, Stage};
 use log_model::{Action, Request};
 
-/// The lines that a caller can play; any other is refused as `unbuilt`.
+/// The lines that a caller can play; any other is refused as `unbuilt`, once it has no other fault.
 #[derive(Clone, Copy, PartialEq, Eq, Debug)]
 pub enum Built {
-    /// `push 0 ..` and `settle`.
-    Pushes,
     /// The lines of back and forward in one document: `go`, `push`, `replace`, `fragment`, `act`, `begin`, `finish`, `deliver` and `settle`.
     Document,
+    /// All lines.
+    All,
 }
 
 impl Built {
@@ -20,49 +21,45 @@ impl Built {
         ensures { result ≡ spec.plays self line.now }
     {
         match self {
-            Built::Pushes => is_top_push_or_settle(line),
             Built::Document => is_of_document(line),
+            Built::All => true,
+        }
+    }
+
+    /// Whether the caller can play the line of the header that leads to the place.
+    pub fn plays_place(self, place: &Place) -> bool
+        ensures { result ≡ spec.plays_place self place.now }
+    {
+        match place {
+            Place::Heading(stage, _) => self.plays_stage(*stage),
+            Place::Start | Place::Body(_, _) => true,
+        }
+    }
+
+    fn plays_stage(self, stage: Stage) -> bool
+        ensures { result ≡ spec.plays_stage self stage }
+    {
+        match (self, stage) {
+            (Built::Document, Stage::Site | Stage::Page) => false,
+            (Built::Document, Stage::Version | Stage::Keep) | (Built::All, _) => true,
         }
     }
 }
 
-/// Whether it is a push in the top navigable, or a settle.
-fn is_top_push_or_settle(line: &ScenarioLine) -> bool
-    ensures { result ≡ spec.is_top_push_or_settle line.now }
+/// Whether it is one step of a process.
+pub fn is_step(line: &ScenarioLine) -> bool
+    ensures { result ≡ spec.is_step line.now }
 {
     match line {
-        ScenarioLine::Ask(request) => is_top_push(request),
-        ScenarioLine::Settle => true,
-        ScenarioLine::Answer { .. }
-        | ScenarioLine::Evict
-        | ScenarioLine::Kill { .. }
-        | ScenarioLine::Act { .. }
+        ScenarioLine::Act { .. }
         | ScenarioLine::Begin { .. }
         | ScenarioLine::Finish { .. }
-        | ScenarioLine::Deliver { .. } => false,
-    }
-}
-
-fn is_top_push(request: &Request) -> bool
-    ensures { result ≡ spec.is_top_push request.now }
-{
-    match request {
-        Request::Poke { nav, action } => nav.0 == 0 && is_push(action),
-        Request::Load { .. } | Request::Go { .. } | Request::Reload { .. } => false,
-    }
-}
-
-fn is_push(action: &Action) -> bool
-    ensures { result ≡ spec.is_push action.now }
-{
-    match action {
-        Action::Push { .. } => true,
-        Action::Replace { .. }
-        | Action::Fragment { .. }
-        | Action::AddFrame { .. }
-        | Action::RemoveFrame { .. }
-        | Action::Go { .. }
-        | Action::Edit => false,
+        | ScenarioLine::Deliver { .. } => true,
+        ScenarioLine::Ask(_)
+        | ScenarioLine::Answer { .. }
+        | ScenarioLine::Evict
+        | ScenarioLine::Kill { .. }
+        | ScenarioLine::Settle => false,
     }
 }
 

@@ -7,13 +7,18 @@ mod cut;
 mod error;
 mod fault;
 mod fields;
+mod head_word;
 mod heading;
 mod line;
 mod number;
 mod place;
 mod printing;
+mod progress;
+mod readings;
 mod reason;
+mod requests;
 mod scenario;
+mod steps;
 mod word;
 mod words;
 

@@ -43,12 +43,12 @@ pub fn number_of(bytes: &[u8], low: u32, high: u32) -> Result<u32, LineError>
     ensures within { IfOk result (λ number. number ≤ high) }
 {
     let Some(number) = digits(bytes) else {
-        return Err(LineError::Faulty(Reason::Unbuilt));
+        return Err(LineError::Faulty(Reason::Number));
     };
     if has_no_zero_in_front(bytes) && low <= number && number <= high {
         Ok(number)
     } else {
-        Err(LineError::Faulty(Reason::Unbuilt))
+        Err(LineError::Faulty(Reason::Number))
     }
 }
 
@@ -58,7 +58,7 @@ pub fn delta_of(bytes: &[u8]) -> Result<i32, LineError>
     ensures { GivesLine result (spec.delta_of bytes.now) }
 {
     let [first, rest @ ..] = bytes else {
-        return Err(LineError::Faulty(Reason::Unbuilt));
+        return Err(LineError::Faulty(Reason::Number));
     };
     if *first == b'-' {
         let number = number_of(rest, 1, 999)?;

@@ -15,15 +15,15 @@ pub enum Reason {
     Bytes,
     /// It begins or ends with a space, or has two spaces together.
     Spaces,
-    /// It stands where a line before `open` is due, and is none that may stand there.
+    /// It stands before `open`, and its first word isn't one that may stand there; or `open` never comes.
     Header,
-    /// Its first word is none of a line after `open`.
+    /// It stands after `open`, and its first word is none of a line there.
     Word,
     /// It has too many words, or too few.
     Count,
     /// A number isn't one that may stand there.
     Number,
-    /// The way of a load, or the answer to a prompt, is none.
+    /// The mode of a load, or the answer to a prompt, is none.
     Mode,
     /// A memo has more than 64 bytes.
     Memo,
@@ -43,7 +43,7 @@ pub enum Reason {
     Twice,
     /// A single step of a process stands in a scenario for threads.
     StepLine,
-    /// It is no line that this version reads.
+    /// It has no other fault, and the caller can't play it.
     Unbuilt,
 }
 

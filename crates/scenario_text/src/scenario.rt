@@ -2,17 +2,18 @@
 ghost use Rattle.std.specs.Prelude.{◌≡◌, ◌≤◌, IfOk};
 ghost use Rattle.scenario_text.specs.Grammar.{scenario_of, at_end, read_pieces, IsSpelled};
 ghost use Rattle.scenario_text.specs.Pieces.{pieces};
-ghost use Rattle.scenario_text.specs.Printed.{text_of, AreReadBack};
+ghost use Rattle.scenario_text.specs.Printed.{text_of, IsReadBack};
+ghost use Rattle.scenario_text.specs.Written.{IsWrittenPlace, AreWritten};
 ghost use Rattle.scenario_text.specs.Gives.{Reads};
 ghost use Rattle.scenario_text.specs.declared.place.Place.TheVariants as places;
 
 use crate::built::Built;
 use crate::cut::cut;
 use crate::error::{Refusal, ScenarioError};
-use crate::heading::after_line;
 use crate::line::Lines;
 use crate::place::Place;
 use crate::printing::{put_header, put_lines};
+use crate::progress::after_line;
 use crate::reason::Reason;
 use address::{OutOfMemory, Text};
 use log_model::Header;
@@ -34,7 +35,9 @@ fn refused(line: u32, reason: Reason) -> ScenarioError
 /// What the lines give, where what stands after the last line feed has this number.
 #[tactic(auto, unfolding(crate::specs::Grammar::at_end))]
 fn at_end(number: u32, place: Place, rest: &[u8]) -> Result<Scenario, ScenarioError>
-    ensures { Reads result (at_end number place rest.now) }
+    requires { IsWrittenPlace place }
+    ensures read { Reads result (at_end number place rest.now) }
+    ensures written { IfOk result (λ scenario. AreWritten scenario) }
 {
     if !rest.is_empty() {
         if number > 65_536 {
@@ -44,13 +47,19 @@ fn at_end(number: u32, place: Place, rest: &[u8]) -> Result<Scenario, ScenarioEr
     }
     match place {
         Place::Body(header, lines) => Ok(Scenario { header, lines }),
-        Place::Start | Place::Heading => Err(refused(number, Reason::Header)),
+        Place::Start | Place::Heading(_, _) => Err(refused(number, Reason::Header)),
     }
 }
 
 /// What the lines of a text give.
-fn read_lines(alloc: Global, built: Built, bytes: &[u8]) -> Result<Scenario, ScenarioError>
-    ensures { Reads result (read_pieces built 1 places.Start (pieces 10 bytes.now)) }
+fn read_lines(
+    alloc: Global,
+    in_run: bool,
+    built: Built,
+    bytes: &[u8],
+) -> Result<Scenario, ScenarioError>
+    ensures read { Reads result (read_pieces in_run built 1 places.Start (pieces 10 bytes.now)) }
+    ensures written { IfOk result (λ scenario. AreWritten scenario) }
 {
     let mut place = Place::Start;
     let mut rest = bytes;
@@ -59,7 +68,7 @@ fn read_lines(alloc: Global, built: Built, bytes: &[u8]) -> Result<Scenario, Sce
         if number > 65_536 {
             return Err(refused(number, Reason::TooMany));
         }
-        place = match after_line(alloc, built, place, line) {
+        place = match after_line(alloc, in_run, built, place, line) {
             Ok(next) => next,
             Err(e) => return Err(e.at(number)),
         };
@@ -81,19 +90,21 @@ impl Scenario {
     ) -> Result<Scenario, ScenarioError>
         ensures read { Reads result (scenario_of in_run built bytes.now) }
         ensures spelled { IfOk result (λ scenario. IsSpelled scenario) }
+        ensures written { IfOk result (λ scenario. AreWritten scenario) }
     {
         if bytes.len() > 4_194_304 {
             return Err(refused(0, Reason::TooLong));
         }
-        read_lines(alloc, built, bytes)
+        read_lines(alloc, in_run, built, bytes)
     }
 
     /// The text that spells the scenario; `keep` always has its line.
-    #[tactic(auto, using(crate::proofs::PrintLaws::spelled_read_back), unfolding(crate::specs::Printed::text_of))]
+    #[tactic(auto, using(crate::proofs::HeaderLaws::spelled_read_back), unfolding(crate::specs::Printed::text_of))]
     pub fn print(&self, alloc: Global) -> Result<Text, OutOfMemory>
-        requires { IsSpelled self.now }
+        requires spelled { IsSpelled self.now }
+        requires written { AreWritten self.now }
         ensures text { IfOk result (λ text. text ≡ text_of self.now) }
-        ensures read_back { AreReadBack self.now }
+        ensures read_back { IsReadBack self.now }
     {
         let mut out = Vec::new(alloc);
         put_header(alloc, &mut out, &self.header)?;

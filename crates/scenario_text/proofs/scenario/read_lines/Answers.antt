@@ -7,20 +7,28 @@ use Rattle.scenario_text.proofs.scenario.read_lines.Goals as goal
 
 pub returns-then-number-gt65536 : goal.returns-then-number-gt65536
 returns-then-number-gt65536 c =
-    rw c.refused.ensures (sym c.lines.invariant.rest ∙ reads_too_many c.args.built c.lines.number c.lines.place c.lines.rest.now _ _ c.in-Some.ensures.cut c.if-number-gt65536.true)
+    rw c.refused.ensures (record {
+      read = sym c.lines.invariant.rest ∙ reads_too_many c.args.in_run c.args.built c.lines.number c.lines.place c.lines.rest.now _ _ c.in-Some.ensures.cut c.if-number-gt65536.true;
+      written = tt;
+    })
 
 pub returns-in-Err : goal.returns-in-Err
-returns-in-Err c =
-    subst (λ (total : Result Scenario Refusal). IsRefusal c.at.result total) c.lines.invariant.rest
-    (reads_fault c.args.built c.lines.number c.lines.place c.lines.rest.now _ _ c.in-Err.e c.at.result c.in-Some.ensures.cut c.if-number-gt65536.false c.in-Err.ensures c.at.ensures)
+returns-in-Err c = record {
+  read = subst (λ (total : Result Scenario Refusal). IsRefusal c.at.result total) c.lines.invariant.rest
+      (reads_fault c.args.in_run c.args.built c.lines.number c.lines.place c.lines.rest.now _ _ c.in-Err.e c.at.result c.in-Some.ensures.cut c.if-number-gt65536.false c.in-Err.ensures.read c.at.ensures);
+  written = tt;
+}
 
 pub lines-preserved : goal.lines-preserved
 lines-preserved c = record {
+  written = c.in-Ok.ensures.written;
   small = omega arith;
-  rest = sym (reads_on c.args.built c.lines.number c.lines.place c.in-Ok.next c.lines.rest.now _ _ c.in-Some.ensures.cut c.if-number-gt65536.false c.in-Ok.ensures) ∙ c.lines.invariant.rest;
+  rest = sym (reads_on c.args.in_run c.args.built c.lines.number c.lines.place c.in-Ok.next c.lines.rest.now _ _ c.in-Some.ensures.cut c.if-number-gt65536.false c.in-Ok.ensures.read) ∙ c.lines.invariant.rest;
 }
 
 pub returns : goal.returns
-returns c =
-    subst (λ (total : Result Scenario Refusal). Reads c.at_end.result total)
-    (sym (reads_end c.args.built c.lines.number c.lines.place c.lines.rest.now c.in_default.ensures.cut) ∙ c.lines.invariant.rest) c.at_end.ensures
+returns c = record {
+  read = subst (λ (total : Result Scenario Refusal). Reads c.at_end.result total)
+      (sym (reads_end c.args.in_run c.args.built c.lines.number c.lines.place c.lines.rest.now c.in_default.ensures.cut) ∙ c.lines.invariant.rest) c.at_end.ensures.read;
+  written = c.at_end.ensures.written;
+}
