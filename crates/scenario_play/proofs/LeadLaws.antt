@@ -1,8 +1,10 @@
 -- One stage after another: what was played of a scenario is put together.
-use Rattle.std.proofs.Common.{◌≡◌, ℕ, zero, suc, ◌+◌, ◌-◌, ◌≤◌, ◌<◌, true, false, List, [], ◌∷◌, ◌++◌, length, Result, Ok, Err, refl, sym, ap, ◌∙◌, subst, arith, append_assoc, append-nil, add-one, zero-add, length-append, take, drop, get_or, take-suc, drop-cons, eq-or-lt_of_le, inl, inr, IsErr}
+use Rattle.std.proofs.Common.{◌≡◌, ℕ, zero, suc, ◌+◌, ◌-◌, ◌≤◌, ◌<◌, true, false, List, [], ◌∷◌, ◌++◌, length, Result, Ok, Err, refl, sym, ap, ◌∙◌, subst, arith, append_assoc, append-nil, add-one, zero-add, length-append, take, drop, get_or, take-suc, drop-cons, eq-or-lt_of_le, inl, inr, IsErr, IsTrue}
 use Rattle.std.proofs.lemmas.List.{take-append-drop}
 use Rattle.log_model.specs.declared.row_kind.LogRow.{LogRow}
-use Rattle.log_model.specs.Seen.{Seen}
+use Rattle.log_model.specs.declared.header.Header.{Header}
+use Rattle.log_model.specs.Suits.{Suits, opens_as}
+use Rattle.log_model.specs.Seen.{Seen, nothing}
 use Rattle.log_model.specs.Logs.{seen_of, is_still}
 use Rattle.log_model.specs.Events.{events_of, have_number}
 use Rattle.log_model.proofs.Laws.{seen_of_append}
@@ -258,15 +260,28 @@ course_opened : (ls : List ScenarioLine) (row : LogRow) (new : List LogRow) (eve
 unfolding course_of seen_of
 course_opened ls row new events more = rw (more, opened_events row) refl
 
-pub follows : (scenario : Scenario) (old new : List LogRow) → length old ≡ 1 → Leads (plays scenario.lines) old new → Follows new scenario
-follows scenario [] new one leads = absurd (omega (arith, one))
-follows scenario (row ∷ []) new one leads =
-    course_opened scenario.lines row new leads.events leads.more
-    ∙ ap (λ (e : List (List LogRow)). plays scenario.lines (seen_of (row ∷ [])) e) (sym (append-nil leads.events))
-    ∙ leads.leads []
-follows scenario (row ∷ second ∷ rows) new one leads = absurd (omega (arith, one))
+-- the log opens as before
+pub opens_still : (header : Header) (old new : List LogRow) (events : List (List LogRow)) → length old ≡ 1 → events_of new ≡ events_of old ++ events → IsTrue (opens_as header nothing (events_of old)) → IsTrue (opens_as header nothing (events_of new))
+opens_still header [] new events one more opened = absurd (omega (arith, one))
+opens_still header (row ∷ []) new events one more opened = rw (more, opened_events row) (rw (opened_events row) at opened)
+opens_still header (row ∷ second ∷ rows) new events one more opened = absurd (omega (arith, one))
 
-pub cut_short : (scenario : Scenario) (old new : List LogRow) → length old ≡ 1 → Cuts (plays scenario.lines) old new → IsCutShort new scenario
-cut_short scenario [] new one cuts = absurd (omega (arith, one))
-cut_short scenario (row ∷ []) new one cuts = course_opened scenario.lines row new cuts.events cuts.more ∙ cuts.cuts
-cut_short scenario (row ∷ second ∷ rows) new one cuts = absurd (omega (arith, one))
+pub follows : (scenario : Scenario) (old new : List LogRow) → length old ≡ 1 → Suits scenario.header old → (IsTrue (opens_as scenario.header nothing (events_of new)) → Suits scenario.header new) → Leads (plays scenario.lines) old new → Follows new scenario
+follows scenario [] new one suits opens leads = absurd (omega (arith, one))
+follows scenario (row ∷ []) new one suits opens leads =
+    record {
+      suits = opens (opens_still scenario.header (row ∷ []) new leads.events one leads.more suits.opened);
+      course = course_opened scenario.lines row new leads.events leads.more
+          ∙ ap (λ (e : List (List LogRow)). plays scenario.lines (seen_of (row ∷ [])) e) (sym (append-nil leads.events))
+          ∙ leads.leads [];
+    }
+follows scenario (row ∷ second ∷ rows) new one suits opens leads = absurd (omega (arith, one))
+
+pub cut_short : (scenario : Scenario) (old new : List LogRow) → length old ≡ 1 → Suits scenario.header old → (IsTrue (opens_as scenario.header nothing (events_of new)) → Suits scenario.header new) → Cuts (plays scenario.lines) old new → IsCutShort new scenario
+cut_short scenario [] new one suits opens cuts = absurd (omega (arith, one))
+cut_short scenario (row ∷ []) new one suits opens cuts =
+    record {
+      suits = opens (opens_still scenario.header (row ∷ []) new cuts.events one cuts.more suits.opened);
+      course = course_opened scenario.lines row new cuts.events cuts.more ∙ cuts.cuts;
+    }
+cut_short scenario (row ∷ second ∷ rows) new one suits opens cuts = absurd (omega (arith, one))

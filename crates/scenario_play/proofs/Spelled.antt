@@ -11,8 +11,9 @@ use Rattle.scenario_text.specs.declared.line.ScenarioLine.TheVariants as lines
 use Rattle.scenario_text.specs.declared.scenario.Scenario.{Scenario}
 use Rattle.scenario_text.specs.Grammar.{scenario_of}
 use Rattle.scenario_text.specs.Plays.{plays, is_change_of_entry, is_request_of_document}
-use Rattle.scenario_text.proofs.ForCallers.{lines_played}
+use Rattle.scenario_text.proofs.ForCallers.{lines_played, header_played}
 use Rattle.world_laws.specs.Keeps.{IsEntry}
+use Rattle.world.specs.Kept.{IsPlainHeader}
 use Rattle.scenario_play.specs.Lines.{IsBuiltRequest, IsBuiltLine}
 
 action_built : (action : Action) → is_change_of_entry action ≡ true → IsEntry action
@@ -49,3 +50,8 @@ all_built (line ∷ lines) are =
 pub spelled_built : (in_run : Bool) (bytes : List ℕ) (scenario : Scenario) → scenario_of in_run builts.Document bytes ≡ Ok scenario → All IsBuiltLine scenario.lines
 spelled_built in_run bytes scenario e =
     all_built scenario.lines (lines_played in_run builts.Document bytes scenario e)
+
+-- the settings are plain
+pub spelled_plain : (in_run : Bool) (bytes : List ℕ) (scenario : Scenario) → scenario_of in_run builts.Document bytes ≡ Ok scenario → IsPlainHeader scenario.header
+spelled_plain in_run bytes scenario e =
+    let plain = header_played in_run bytes scenario e in record { no_sites = plain.0; no_pages = plain.1 }

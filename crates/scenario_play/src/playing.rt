@@ -1,6 +1,7 @@
 //! `play`, which makes the events of a scenario's lines.
 ghost use Rattle.std.specs.Prelude.{◌≡◌, All, false, None, IfErr, IfSome, IsSome, OnOk, length};
 ghost use Rattle.scenario_text.specs.declared.line.ScenarioLine.TheVariants as lines;
+ghost use Rattle.log_model.specs.Suits.{Suits};
 ghost use Rattle.scenario_text.specs.Follows.{Follows, IsCutShort, does, plays, plays_line};
 ghost use Rattle.scenario_play.specs.Courses.{Plays};
 ghost use Rattle.scenario_play.specs.Lines.{IsBuiltLine, IsBuiltRequest};
@@ -18,12 +19,13 @@ pub struct Played {
     pub fault: Option<StepError>,
 }
 
-/// Plays the lines in order, in a tab that was just opened. The world is always given back.
+/// Plays the lines in order, in a tab that was just opened as the scenario's header says. The world is always given back.
 ///
 /// Where there is a fault, its log ends before the event that failed.
 pub fn play(scenario: &Scenario, world: World) -> Played
     requires open { world.closed ≡ false }
     requires opened { length world.log ≡ 1 }
+    requires suits { Suits scenario.now.header world.log }
     requires built { All IsBuiltLine scenario.now.lines }
     ensures follows { result.fault ≡ None → IfSome result.world (λ w. Follows w.log scenario.now) }
     ensures open { result.fault ≡ None → IfSome result.world (λ w. w.closed ≡ false) }
@@ -32,7 +34,10 @@ pub fn play(scenario: &Scenario, world: World) -> Played
     ensures given { IsSome result.world }
 {
     let mut world = world;
-    match play_lines(&mut world, scenario.lines.as_slice()) {
+    let played = play_lines(&mut world, scenario.lines.as_slice());
+    // Brings what holds of every world's log.
+    let _log = world.log();
+    match played {
         Ok(()) => Played {
             world: Some(world),
             fault: None,

@@ -1,6 +1,9 @@
 //! `play_call`, all that the program does with its words, a source and a sink.
 ghost use Rattle.std.specs.Prelude.{◌≡◌, ◌↔◌, ℕ, false, List, None, Ok, Err, IfSome, IsSome, map, string_bytes};
+ghost use Rattle.log_model.specs.ActsAtOnce.{ActsAtOnce};
 ghost use Rattle.log_model.specs.Legal.{IsLegal};
+ghost use Rattle.log_model.specs.Limits.{BeginsBelow};
+ghost use Rattle.world.specs.Kept.{row_limit};
 ghost use Rattle.tab.specs.Words.{is_play};
 ghost use Rattle.scenario_play.specs.Moves.{IsFault};
 ghost use Rattle.scenario_text.specs.Follows.{Follows, IsCutShort};
@@ -43,6 +46,8 @@ pub fn play_call<S: Source, K: Sink>(
     ensures follows { FollowsRead result.status (S.left source.old) (S.left source.new) result.log }
     ensures written { HasWriteCause result.status (K.taken sink.old) (K.taken sink.new) (K.faults sink.old) (K.faults sink.new) result.log }
     ensures legal { IfSome result.log IsLegal }
+    ensures at_once { IfSome result.log ActsAtOnce }
+    ensures limited { IfSome result.log (BeginsBelow row_limit) }
 
     // Where nothing is in the way, the call is done, or refuses what is no scenario.
     ensures done { (bytes : List ℕ) → (scenario : Scenario)
@@ -70,6 +75,8 @@ fn carry_out<S: Source, K: Sink>(
     ensures follows { FollowsRead result.status (S.left source.old) (S.left source.new) result.log }
     ensures written { HasWriteCause result.status (K.taken sink.old) (K.taken sink.new) (K.faults sink.old) (K.faults sink.new) result.log }
     ensures legal { IfSome result.log IsLegal }
+    ensures at_once { IfSome result.log ActsAtOnce }
+    ensures limited { IfSome result.log (BeginsBelow row_limit) }
 {
     if !asks_play(words) {
         return failed(Status::Usage);
@@ -123,6 +130,8 @@ fn tell<K: Sink>(alloc: Global, scenario: &Scenario, played: Played, sink: &mut 
     ensures follows { FollowsAs result.status result.log scenario.now }
     ensures written { HasWriteCause result.status (K.taken sink.old) (K.taken sink.new) (K.faults sink.old) (K.faults sink.new) result.log }
     ensures legal { IfSome result.log IsLegal }
+    ensures at_once { IfSome result.log ActsAtOnce }
+    ensures limited { IfSome result.log (BeginsBelow row_limit) }
 {
     let Played { world, fault } = played;
     let Some(world) = world else { unreachable!() };
@@ -146,6 +155,8 @@ fn write_report<K: Sink>(alloc: Global, scenario: &Scenario, world: World, sink:
     ensures follows { FollowsAs result.status result.log scenario.now }
     ensures written { HasWriteCause result.status (K.taken sink.old) (K.taken sink.new) (K.faults sink.old) (K.faults sink.new) result.log }
     ensures legal { IfSome result.log IsLegal }
+    ensures at_once { IfSome result.log ActsAtOnce }
+    ensures limited { IfSome result.log (BeginsBelow row_limit) }
 {
     let text = match report(alloc, &world) {
         Ok(text) => text,

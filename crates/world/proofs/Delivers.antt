@@ -1,6 +1,6 @@
 -- Taking a report always logs.
-use Rattle.std.proofs.Common.{◌≡◌, ℕ, ◌<◌, ◌≤◌, Bool, true, false, ◌==◌, List, length, Option, Some, None, refl}
-use Rattle.std.specs.Prelude.{slice_get, take, Ok, Err, IsSomeAnd}
+use Rattle.std.proofs.Common.{◌≡◌, ◌<◌, ◌≤◌, Bool, true, false, ◌==◌, List, length, Option, Some, None, refl}
+use Rattle.std.specs.Prelude.{take, Ok, Err, IsSomeAnd}
 use Rattle.tab_ids.specs.declared.ReqId.{ReqId}
 use Rattle.tab_ids.specs.declared.Step.{Step}
 use Rattle.log_model.specs.declared.job.Why.{Why}
@@ -17,7 +17,7 @@ use Rattle.world_laws.specs.Single.{Single}
 use Rattle.world.specs.declared.error.StepError.TheVariants as errors
 use Rattle.world.specs.declared.event.Reply.TheVariants as replies
 use Rattle.world.specs.Kept.{row_limit}
-use Rattle.world.specs.Steps.{Stepped, idle, logs, Takes, take_up, drop_of, judge, take_done, deliver_of}
+use Rattle.world.specs.Steps.{Stepped, logs, Takes, take_up, drop_of, judge, take_done, deliver_of}
 use Rattle.world.specs.Taking.{IsTaken, IsForRequest, MayJudge, MayTake, Does}
 
 -- what the event comes to is logged

@@ -1,5 +1,5 @@
 -- How many rows an event logs: two for each traversal that waits, and no more wait than were asked for.
-use Rattle.std.proofs.Common.{◌≡◌, ℕ, ◌+◌, ◌-◌, ◌*◌, ◌<◌, ◌≤◌, ℤ, Bool, true, false, cond, ◌&&◌, ◌==◌, List, [], ◌∷◌, ◌++◌, length, Option, Some, None, refl, sym, ap, ◌∙◌, subst, arith, length-append, zero, suc}
+use Rattle.std.proofs.Common.{◌≡◌, ℕ, ◌+◌, ◌*◌, ◌≤◌, ℤ, Bool, true, false, cond, ◌&&◌, ◌==◌, List, [], ◌∷◌, length, Option, Some, None, refl, subst, arith, length-append}
 use Rattle.std.specs.Prelude.{count_by, slice_get, is_none}
 use Rattle.std.proofs.lemmas.List.{length-map}
 use Rattle.std.proofs.lemmas.Bool.Decides.{nat_tests}
@@ -12,7 +12,7 @@ use Rattle.log_model.specs.declared.change.Change.TheVariants as changes
 use Rattle.log_model.specs.declared.row_kind.RowKind.TheVariants as rows
 use Rattle.world_laws.specs.Single.{Single, first_process}
 use Rattle.world_laws.specs.Going.{goal_at, joined, arrived, start_kinds, go_kinds, go_rows, arrive_rows}
-use Rattle.world_laws.specs.Keeps.{is_go_of, places, open_from, tally, IsOnItsWay, Keeps, IsWorld}
+use Rattle.world_laws.specs.Keeps.{is_go_of, places, open_from, tally, IsWorld}
 use Rattle.world_laws.proofs.Waits.{count_by_cons, tally_same, open_from_below}
 
 -- ---- no more traversals wait than requests are open

@@ -1,5 +1,5 @@
 -- What a world that stands for its log may do next.
-use Rattle.std.proofs.Common.{◌≡◌, ℕ, ◌+◌, ◌-◌, ◌<◌, ◌≤◌, ℤ, Bool, true, false, ◌==◌, List, [], ◌∷◌, ◌++◌, length, Option, Some, None, refl, sym, ap, ◌∙◌, subst, arith, zero, suc}
+use Rattle.std.proofs.Common.{◌≡◌, ℕ, ◌+◌, ◌-◌, ◌<◌, ◌≤◌, ℤ, Bool, true, false, ◌==◌, List, [], ◌∷◌, ◌++◌, length, Option, Some, None, refl, sym, ap, ◌∙◌, subst, arith, suc}
 use Rattle.std.specs.Prelude.{count_by, slice_get, take, Err, IsSomeAnd}
 use Rattle.std.specs.List.{list_any}
 use Rattle.std.specs.Option.{option_map_or}
@@ -8,21 +8,18 @@ use Rattle.std.proofs.lemmas.Option.{slice_get_within}
 use Rattle.tab_ids.specs.declared.EntryId.{EntryId}
 use Rattle.tab_ids.specs.declared.StateId.{StateId}
 use Rattle.tab_ids.specs.declared.Epoch.{Epoch}
-use Rattle.tab_ids.specs.declared.JobId.{JobId}
 use Rattle.tab_ids.specs.declared.ReqId.{ReqId}
 use Rattle.tab_ids.specs.declared.Step.{Step}
 use Rattle.log_model.specs.declared.job.Job.{Job}
 use Rattle.log_model.specs.declared.job.Order.{Order}
 use Rattle.log_model.specs.declared.job.Task.{Task}
 use Rattle.log_model.specs.declared.job.Task.TheVariants as tasks
-use Rattle.log_model.specs.declared.job.Why.{Why}
 use Rattle.log_model.specs.declared.job.Why.TheVariants as whys
 use Rattle.log_model.specs.declared.made.Made.{Made}
 use Rattle.log_model.specs.declared.made.What.{What}
 use Rattle.log_model.specs.declared.made.What.TheVariants as whats
 use Rattle.log_model.specs.declared.made.Report.{Report}
 use Rattle.log_model.specs.declared.made.Report.TheVariants as reports
-use Rattle.log_model.specs.declared.outcome.Ending.{Ending}
 use Rattle.log_model.specs.declared.outcome.Outcome.{Outcome}
 use Rattle.log_model.specs.declared.outcome.Outcome.TheVariants as outcomes
 use Rattle.log_model.specs.declared.request.Poke.{Poke}
@@ -35,7 +32,7 @@ use Rattle.history_laws.proofs.Members.{or_none}
 use Rattle.history_laws.proofs.Joining.{entry_same}
 use Rattle.world_laws.proofs.Plain.{get_within}
 use Rattle.world_laws.specs.Single.{Single, first_document}
-use Rattle.world_laws.specs.Keeps.{Face, face_of_row, face_of_view, MayMake, Leads, AreKnown, IsAbove, AreNumbered, spot, orders_of, IsUpdate, AreUpdates, IsResting, IsRunning, IsSent, IsCome, IsShowing, IsOnItsWay, Coming, sent, told, old, come, is_poke_of, is_report_of, is_go_of, run_of, places, open_from, tally, Keeps, IsWorld}
+use Rattle.world_laws.specs.Keeps.{face_of_row, face_of_view, MayMake, Leads, AreKnown, IsAbove, AreNumbered, spot, orders_of, IsUpdate, AreUpdates, IsSent, IsCome, IsShowing, IsOnItsWay, Coming, sent, told, old, come, is_poke_of, is_report_of, is_go_of, run_of, places, open_from, tally, Keeps, IsWorld}
 use Rattle.world_laws.proofs.Waits.{count_by_cons, tally_same, open_at}
 use Rattle.world_laws.proofs.Kept.{number_of_open}
 use Rattle.world.specs.Kept.{IsRoomy}
@@ -43,7 +40,7 @@ use Rattle.world.specs.declared.error.StepError.{StepError}
 use Rattle.world.specs.declared.error.StepError.TheVariants as errors
 use Rattle.world.specs.Steps.{Shuts, Takes, act_of, act_with}
 use Rattle.world.specs.Held.{IsStraight}
-use Rattle.world.specs.Taking.{IsAsked, AreAsked, IsRunReady, IsSentHere, IsTaken, IsForRequest, MayJudge, MayTake}
+use Rattle.world.specs.Taking.{IsAsked, AreAsked, IsRunReady, IsSentHere, IsTaken, MayJudge, MayTake}
 
 pub is_roomy : (log : List LogRow) (t : Single) → IsWorld log t → length log ≤ 3000002 → IsRoomy t
 is_roomy log t world short =

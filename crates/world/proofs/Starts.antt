@@ -1,9 +1,8 @@
 -- How the first of the queue begins, and how the rest of the queue follows.
-use Rattle.std.proofs.Common.{◌≡◌, ℕ, ◌+◌, ◌-◌, ◌<◌, ◌≤◌, ℤ, pos, negsuc, ◌+ℤ◌, Bool, true, false, ◌==◌, List, [], ◌∷◌, ◌++◌, drop, length, Option, Some, None, refl, sym, ap, ◌∙◌, subst, arith, zero, suc, append_assoc, append-nil, length-append}
-use Rattle.std.specs.Prelude.{slice_get, take, map, nat_lt, cond, if◌then◌else◌}
+use Rattle.std.proofs.Common.{◌≡◌, ℕ, ◌+◌, ◌-◌, ◌<◌, ◌≤◌, ℤ, pos, negsuc, ◌+ℤ◌, Bool, true, false, ◌==◌, List, [], ◌∷◌, ◌++◌, length, Option, Some, None, refl, sym, ap, ◌∙◌, subst, arith, zero, suc, append_assoc, append-nil, length-append}
+use Rattle.std.specs.Prelude.{slice_get, take, nat_lt, if◌then◌else◌}
 use Rattle.std.proofs.lemmas.List.{map-append, length-set}
 use Rattle.std.proofs.Math.Seq.{take-length}
-use Rattle.std.proofs.lemmas.Option.{slice_get_cases}
 use Rattle.std.proofs.lemmas.Bool.Decides.{nat_tests}
 use Rattle.tab_ids.specs.declared.ReqId.{ReqId}
 use Rattle.log_model.specs.declared.outcome.Ending.{Ending}

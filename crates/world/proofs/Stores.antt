@@ -1,8 +1,8 @@
 -- What the store of one document's entries answers, and what it holds after a change: the history, put in order.
-use Rattle.std.proofs.Common.{◌≡◌, ℕ, ◌+◌, ◌<◌, ◌≤◌, Bool, true, false, not, ◌≢◌, ◌&&◌, ◌||◌, ◌==◌, List, [], ◌∷◌, ◌++◌, length, map, find, Option, Some, None, refl, sym, ap, ◌∙◌, subst, arith, zero, suc, length-append}
-use Rattle.std.specs.Prelude.{slice_get, slice_set, take, nat_le, nat_lt, IsSomeAnd, if◌then◌else◌}
+use Rattle.std.proofs.Common.{◌≡◌, ℕ, ◌+◌, ◌<◌, Bool, true, false, not, ◌≢◌, ◌&&◌, ◌||◌, ◌==◌, List, [], ◌∷◌, ◌++◌, length, find, Option, Some, None, refl, sym, ap, ◌∙◌, subst, arith, zero, suc, length-append}
+use Rattle.std.specs.Prelude.{slice_get, slice_set, take, nat_le, IsSomeAnd}
 use Rattle.std.specs.List.{list_any}
-use Rattle.std.proofs.lemmas.Bool.{and_parts, false≢true}
+use Rattle.std.proofs.lemmas.Bool.{false≢true}
 use Rattle.std.proofs.lemmas.Bool.Decides.{nat_tests}
 use Rattle.tab_ids.specs.declared.EntryId.{EntryId}
 use Rattle.tab_ids.specs.declared.NavId.{NavId}
@@ -12,11 +12,10 @@ use Rattle.log_model.specs.declared.change.Change.{Change}
 use Rattle.log_model.specs.declared.change.Change.TheVariants as changes
 use Rattle.log_model.specs.declared.row.Row.{Row}
 use Rattle.log_model.specs.History.{History, Fits, applied, is_of, same_entry, row_of, target_entry, history_length, history_index, cleared, owner_of, tidied, greatest_step, used_step_at, has_nav, has_row}
-use Rattle.log_model.specs.Order.{is_before, with_row, ordered, SameHistory}
-use Rattle.log_model.specs.Soundness.{IsSound, is_entry, holds, is_in_state}
+use Rattle.log_model.specs.Order.{SameHistory}
+use Rattle.log_model.specs.Soundness.{is_entry, holds}
 use Rattle.log_model.specs.Places.{top}
 use Rattle.log_model.proofs.Refl.{same_entry_refl}
-use Rattle.history_laws.proofs.Sorted.{HaveSteps}
 use Rattle.history_laws.proofs.InOrder.{SameHistory-ordered, target_entry-ordered, row_of-ordered, history_length-ordered, history_index-ordered, fits-ordered, KeepsSame, applied-ordered}
 use Rattle.entry_store.specs.declared.entry_store.EntryStore.{EntryStore}
 use Rattle.entry_store.specs.Held.{history_held}
@@ -28,9 +27,8 @@ use Rattle.log_model.specs.Seen.{Seen}
 use Rattle.world_laws.specs.Single.{Single, pushed_row, replaced_row_with}
 use Rattle.world_laws.specs.Keeps.{IsPlain, AreDistinct, IsWorld}
 use Rattle.world_laws.proofs.Plain.{ordered-plain, get_some, IsPlain-append, IsPlain-take, IsPlain-set, cleared-plain, owner_of-plain, has_top, tidied-plain, greatest_step-plain, used_step_at-plain, history_length-plain, history_index-plain, target_entry-plain, length-take, plain_at}
-use Rattle.world_laws.proofs.Known.{get_set_here, replaced_at}
+use Rattle.world_laws.proofs.Known.{replaced_at}
 use Rattle.world.specs.Held.{in_order, history_in, IsStraight}
-use Rattle.world.specs.Taking.{IsNew, IsCurrent}
 
 -- ---- entries at consecutive steps are in order
 

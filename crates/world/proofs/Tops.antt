@@ -1,14 +1,12 @@
 -- What a change of the top's fields leaves in the table of navigables.
 use Rattle.std.proofs.Common.{◌≡◌, Bool, true, false, List, [], ◌∷◌, Option, Some, None, refl, sym, ap, ◌∙◌, subst}
-use Rattle.std.specs.Prelude.{cond}
 use Rattle.std.specs.Option.{IsSome}
 use Rattle.std.specs.Map.{lookup, set_value}
 use Rattle.log_model.specs.Places.{top}
 use Rattle.nav_tree.specs.declared.nav.Nav.{Nav}
 use Rattle.nav_tree.specs.declared.node.Node.{Node}
-use Rattle.nav_tree.specs.Tree.{Tree, is_nav, node_of, with_node, with_nav, state_of}
-use Rattle.world_laws.specs.Single.{first_document}
-use Rattle.world.specs.Held.{top_in, state_in, BecomesTop}
+use Rattle.nav_tree.specs.Tree.{Tree, is_nav, node_of, with_node, with_nav}
+use Rattle.world.specs.Held.{top_in, BecomesTop}
 
 -- what is written is read
 read_back : {K X : Type 0} (test : K → Bool) (es : List (K × X)) (w : X) → IsSome (lookup test es) → lookup test (set_value test es w) ≡ Some w

@@ -1,6 +1,6 @@
 -- What the store of entries and the table of navigables hold of a tab of one document.
 -- This project's own.
-use Rattle.std.specs.Prelude.{◌≡◌, ℕ, ◌<◌, length, List, Option, is_some, is_none}
+use Rattle.std.specs.Prelude.{◌≡◌, ◌<◌, length, Option, is_some, is_none}
 use Rattle.std.specs.Option.{option_map_or, IsSome}
 use Rattle.tab_ids.specs.declared.EntryId.{EntryId}
 use Rattle.tab_ids.specs.declared.ReqId.{ReqId}

@@ -1,8 +1,14 @@
 -- What a world keeps: its log is legal, and while it isn't closed, its state is what the log has come to.
 -- This project's own.
-use Rattle.std.specs.Prelude.{◌≡◌, ℕ, ◌<◌, ◌≤◌, Bool, false, List, length}
+use Rattle.std.specs.Prelude.{◌≡◌, ℕ, ◌<◌, ◌≤◌, Bool, false, List, [], length, IsTrue}
 use Rattle.log_model.specs.declared.row_kind.LogRow.{LogRow}
+use Rattle.log_model.specs.declared.header.Header.{Header}
+use Rattle.log_model.specs.Seen.{nothing}
+use Rattle.log_model.specs.Events.{events_of}
 use Rattle.log_model.specs.Legal.{IsLegal}
+use Rattle.log_model.specs.ActsAtOnce.{ActsAtOnce}
+use Rattle.log_model.specs.Limits.{BeginsBelow}
+use Rattle.log_model.specs.Suits.{Suits, opens_as}
 use Rattle.world_laws.specs.Single.{Single}
 use Rattle.world_laws.specs.Keeps.{IsWorld}
 
@@ -16,9 +22,17 @@ pub record WorldState : Type 0 where
 abbrev pub row_limit : ℕ
 row_limit = 1000000
 
+-- the log opens as the settings say: at their address, in its process and with its handler
+abbrev pub OpensAs : Header → List LogRow → Type 0
+OpensAs header log = IsTrue (opens_as header nothing (events_of log))
+
 -- what holds of every world
 pub record IsKept (log : List LogRow) (single : Single) (closed : Bool) : Type 0 where
   pub legal : IsLegal log
+  pub at_once : ActsAtOnce log
+  -- it suits each settings as which it opens
+  pub suits : (header : Header) → OpensAs header log → Suits header log
+  pub limited : BeginsBelow row_limit log
   -- an event logs at most two rows for each traversal that waits, and three more
   pub short : length log ≤ 3000002
   pub stands : closed ≡ false → IsWorld log single
@@ -33,3 +47,8 @@ pub record IsRoomy (t : Single) : Type 0 where
   pub numbered : t.view.numbered < 3100000
   pub index : t.view.index < 3100000
   pub epoch : t.epoch.0 < 3100000
+
+-- the settings place no document otherwise than in the first process, and give it no handler
+pub record IsPlainHeader (header : Header) : Type 0 where
+  pub no_sites : header.sites ≡ []
+  pub no_pages : header.pages ≡ []

@@ -1,6 +1,6 @@
 -- What a step of a world answers and does.
 -- This project's own.
-use Rattle.std.specs.Prelude.{◌≡◌, ◌+◌, ◌<◌, ◌≤◌, ◌*◌, true, false, ◌==◌, List, ◌++◌, take, length, slice_get, Option, Some, None, Result, Ok, Err, if◌then◌else◌}
+use Rattle.std.specs.Prelude.{◌≡◌, ℕ, ◌+◌, ◌<◌, ◌≤◌, ◌*◌, true, false, ◌==◌, List, ◌++◌, take, length, slice_get, Option, Some, None, Result, Ok, Err, if◌then◌else◌}
 use Rattle.tab_ids.specs.declared.ReqId.{ReqId}
 use Rattle.tab_ids.specs.declared.NavId.{NavId}
 use Rattle.tab_ids.specs.declared.ProcId.{ProcId}
@@ -20,6 +20,7 @@ use Rattle.log_model.specs.declared.made.Report.{Report}
 use Rattle.log_model.specs.declared.made.Report.TheVariants as reports
 use Rattle.log_model.specs.declared.request.Poke.{Poke}
 use Rattle.log_model.specs.declared.row_kind.LogRow.{LogRow}
+use Rattle.log_model.specs.Limits.{BeginsBelow}
 use Rattle.log_model.specs.Views.{made_by}
 use Rattle.proc_work.specs.Work as worked
 use Rattle.world_laws.specs.Single.{Single, next_request, poke_rows, poked, stray_rows, strayed, act_rows, acted, refusal_rows, refused, begin_rows, begun, finish_rows, finished, done_rows, done, push_rows, push_applied, replace_rows, replace_applied, drop_rows, dropped}
@@ -162,7 +163,12 @@ Steps old (logs reply rows after) (Err (errors.UrlOverflow overflowed)) new =
 Steps old (logs reply rows after) (Err errors.OutOfMemory) new =
     (length old.log < row_limit) × (new.log ≡ old.log) × (new.closed ≡ true)
 
+-- where the log has room for one more event, none of the longer log begins beyond it
+abbrev pub StaysBelow : List LogRow → List LogRow → Type 0
+StaysBelow log rows = (limit : ℕ) → BeginsBelow limit log → length log < limit → BeginsBelow limit (log ++ rows)
+
 -- what is kept where the event comes to this
 abbrev pub StaysKept : List LogRow → Stepped → Type 0
 StaysKept log (idle reply) = Unit {0}
-StaysKept log (logs reply rows next) = IsWorld (log ++ rows) next × (length rows ≤ 2 * length log + 3)
+StaysKept log (logs reply rows next) =
+    IsWorld (log ++ rows) next × (length rows ≤ 2 * length log + 3) × StaysBelow log rows

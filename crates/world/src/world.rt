@@ -1,14 +1,18 @@
 //! `World`, one tab: a contract sees its log, what the log has come to, and whether it is closed.
 ghost use Rattle.std.specs.Prelude.{◌≡◌, ◌↔◌, ◌+◌, ◌<◌, ◌≤◌, ◌==◌, if◌then◌else◌, true, false, Ok, None, Some, IfOk, IfSome, OnErr, IsErrOf, length, [], ◌∷◌};
 ghost use Rattle.std.specs.Option.{option_copied, option_and_then};
+ghost use Rattle.log_model.specs.declared.header.Header.{Header};
+ghost use Rattle.log_model.specs.ActsAtOnce.{ActsAtOnce};
 ghost use Rattle.log_model.specs.Legal.{IsLegal};
+ghost use Rattle.log_model.specs.Limits.{BeginsBelow};
+ghost use Rattle.log_model.specs.Suits.{Suits};
 ghost use Rattle.log_model.specs.Formed.{poked_document};
 ghost use Rattle.log_model.specs.Logs.{seen_of, history_of, in_hand_of, input_of, mail_of, reports_of, is_still, is_quiet, is_idle};
 ghost use Rattle.log_model.specs.Order.{SameHistory};
 ghost use Rattle.entry_store.specs.Held.{history_held};
 ghost use Rattle.world_laws.specs.Single.{opened, opening_row, desk_with};
 ghost use Rattle.world.specs.Held.{history_in};
-ghost use Rattle.world.specs.Kept.{row_limit};
+ghost use Rattle.world.specs.Kept.{row_limit, IsPlainHeader, OpensAs};
 ghost use Rattle.world.specs.Steps.{waiting_of};
 ghost use Rattle.world_laws.specs.Keeps.{IsWorld};
 ghost use Rattle.world.specs.Steps.{Steps, Takes, step_of, IsBuilt};
@@ -51,6 +55,7 @@ impl World {
     #[tactic(auto, using(crate::proofs::Opens::opened_kept))]
     pub fn fresh(alloc: Global, header: &Header) -> Result<World, OutOfMemory>
         ensures ok { IfOk result (λ world. world ≡ record { log = opening_row header.now.first ∷ []; single = opened header.now.first; closed = false }) }
+        ensures suits { IsPlainHeader header.now → IfOk result (λ world. Suits header.now world.log) }
     {
         let state = opened_at(alloc, &header.first)?;
         let address = header.first.copy()?;
@@ -83,7 +88,26 @@ impl World {
         ensures shut { self.old.closed ≡ true → self.new ≡ self.old }
         ensures steps { self.old.closed ≡ false → Steps self.old (step_of self.old.single event) result self.new }
         ensures full { IsErrOf result StepError.LogFull → row_limit ≤ length self.new.log }
+
+        // What holds of the log, whatever is answered.
         ensures legal { IsLegal self.new.log }
+        ensures at_once { ActsAtOnce self.new.log }
+        ensures suits { (header : Header) → OpensAs header self.new.log → Suits header self.new.log }
+        ensures limited { BeginsBelow row_limit self.new.log }
+    {
+        let result = self.try_step(event);
+        // Brings what holds of every world.
+        let _kept = &self.closed;
+        result
+    }
+
+    /// `step`, but for what holds of every world's log.
+    fn try_step(&mut self, event: Event) -> Result<Reply, StepError>
+        requires built { IsBuilt event }
+        ensures closed { IsErrOf result StepError.Closed ↔ (self.old.closed ≡ true) }
+        ensures shut { self.old.closed ≡ true → self.new ≡ self.old }
+        ensures steps { self.old.closed ≡ false → Steps self.old (step_of self.old.single event) result self.new }
+        ensures full { IsErrOf result StepError.LogFull → row_limit ≤ length self.new.log }
     {
         if self.closed {
             return Err(StepError::Closed);
@@ -110,6 +134,9 @@ impl World {
     pub fn log(&self) -> &Log
         ensures log { result.now ≡ self.now.log }
         ensures legal { IsLegal self.now.log }
+        ensures at_once { ActsAtOnce self.now.log }
+        ensures suits { (header : Header) → OpensAs header self.now.log → Suits header self.now.log }
+        ensures limited { BeginsBelow row_limit self.now.log }
         ensures stands { self.now.closed ≡ false → IsWorld self.now.log self.now.single }
     {
         let _open = &self.closed;
@@ -120,6 +147,9 @@ impl World {
     pub fn into_log(self) -> Log
         ensures log { result ≡ self.log }
         ensures legal { IsLegal self.log }
+        ensures at_once { ActsAtOnce self.log }
+        ensures suits { (header : Header) → OpensAs header self.log → Suits header self.log }
+        ensures limited { BeginsBelow row_limit self.log }
     {
         let World {
             log,

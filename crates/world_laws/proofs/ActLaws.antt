@@ -34,7 +34,8 @@ use Rattle.world_laws.proofs.Asks.{request_changed, calm_noted, endings_changed,
 use Rattle.world_laws.proofs.AfterLaws.{unfollowed, after_made_push, after_made_replace}
 use Rattle.world_laws.proofs.Kept.{numbered_made, poke_alone}
 use Rattle.world_laws.proofs.Ways.{leads_append, no_push, coming_append, run_changed}
-use Rattle.world_laws.proofs.SettledLaws.{settled_of_keeps, world_more, AreUpdates_more}
+use Rattle.world_laws.proofs.SettledLaws.{settled_of_keeps, AreUpdates_more}
+use Rattle.world_laws.proofs.MoreLaws.{world_more}
 
 -- ---- what a document makes
 
@@ -256,4 +257,4 @@ module _ (n : ℕ) (p : Past) (t : Single) (poke : Poke) (rest : List Poke) (wha
 pub act_world : (log : List LogRow) (t : Single) (poke : Poke) (rest : List Poke) (what : What) → t.input ≡ poke ∷ rest → made_by t.view poke.action ≡ Some what → IsWorld log t → IsWorld (log ++ single.act_rows t poke.req what) (single.acted t poke.req what)
 unfolding act_keeps
 act_world log t poke rest what input made world =
-    world_more log t (single.acted t poke.req what) (past.past_made world.past (made_for t.view poke.req what)) _ _ world (act_legal _ world.past t poke rest what input made world.keeps world.kept) (act_comes world.past t poke.req what t.view.initial (face_of_view t.view) world.keeps.document (may _ world.past t poke rest what input made world.keeps world.kept)) (act_keeps _ world.past t poke rest what input made world.keeps world.kept) (act_kept _ world.past t poke rest what input made world.keeps world.kept)
+    world_more log t (single.acted t poke.req what) (past.past_made world.past (made_for t.view poke.req what)) _ _ world (act_legal _ world.past t poke rest what input made world.keeps world.kept) (record { in_time = refl; suits = λ header. refl }) (act_comes world.past t poke.req what t.view.initial (face_of_view t.view) world.keeps.document (may _ world.past t poke rest what input made world.keeps world.kept)) (act_keeps _ world.past t poke rest what input made world.keeps world.kept) (act_kept _ world.past t poke rest what input made world.keeps world.kept)

@@ -175,7 +175,7 @@ after_started p t actor event run goal req q calm at =
 -- ---- orders
 
 -- an update is sent
-pub after_sent_update : (p : Past) (t : Single) (event : ℕ) (req : ReqId) (job : Job) (long at : ℕ) → job.proc ≡ first_process → job.doc ≡ first_document → job.why ≡ whys.Req req → job.task ≡ tasks.Update long at → after (seen_with p t) (record { event = event; actor = actors.Coord; row = rows.Sent job }) ≡ seen_with (past.past_sent p req) (record t { events = event + 1; told = Some (long, at); mail = t.mail ++ job ∷ []; jobs = t.jobs + 1 })
+pub after_sent_update : (p : Past) (t : Single) (event : ℕ) (req : ReqId) (job : Job) (long at : ℕ) → job.proc ≡ first_process → job.doc ≡ first_document → job.why ≡ whys.Req req → job.task ≡ tasks.Update long at → after (seen_with p t) (record { event = event; actor = actors.Coord; row = rows.Sent job }) ≡ seen_with (past.past_quiet p) (record t { events = event + 1; told = Some (long, at); mail = t.mail ++ job ∷ []; jobs = t.jobs + 1 })
 after_sent_update p t event req job long at proc doc why task = rw (proc, doc, why, task) refl
 
 -- an entry is shown

@@ -43,10 +43,11 @@ use Rattle.world_laws.proofs.Asks.{calm_request, one_runs, passed_calm, passed_r
 use Rattle.world_laws.proofs.AfterLaws.{after_delivered_showing, after_arrived}
 use Rattle.world_laws.proofs.Kept.{open_ending, placed_ended, first_leaves, endings_applied, pokes_applied, reports_applied, goes_applied, calm_run_applied, none_settled}
 use Rattle.world_laws.proofs.Idle.{IsIdle}
-use Rattle.world_laws.proofs.Starting.{Passes, EachPasses, none_unparked}
+use Rattle.world_laws.proofs.Starting.{Passes, EachPasses, none_unparked, passing_fits}
 use Rattle.world_laws.proofs.StartLaws.{Begun, begin_all}
 use Rattle.world_laws.proofs.GoLaws.{passing_legal}
-use Rattle.world_laws.proofs.SettledLaws.{all_stand_shown, world_more}
+use Rattle.world_laws.proofs.SettledLaws.{all_stand_shown}
+use Rattle.world_laws.proofs.MoreLaws.{world_more}
 
 -- ---- the report
 
@@ -209,6 +210,8 @@ module _ (n : ℕ) (p : Past) (t : Single) (job : Job) (made : Option Made) (res
         queued = rw first refl;
         ordered = refl;
         checked = none_settled (seen_with p t) (after (seen_with p t) delivered_row) 1 run.0.0 p.requests (is_prompted_after (record { start = seen_with p t; now = seen_with p t; done = []; later = later }) delivered_row) calm_run;
+        in_time = refl;
+        suits = λ header. refl;
       }
 
   -- the aim is the goal
@@ -233,6 +236,8 @@ module _ (n : ℕ) (p : Past) (t : Single) (job : Job) (made : Option Made) (res
         queued = rw has.for.at (rw aim (rw (stand, none_unparked (filter_map ends_in later)) (rw (has.for.unmade, has.for.what) (rw has.for.started refl))));
         ordered = refl;
         checked = rw has.for.at (rw (passed_calm now has.for.asking calm.0) (implies_true _));
+        in_time = rw has.for.at (rw (has.for.unmade, has.for.started, has.for.what) refl);
+        suits = λ header. refl;
       }
 
 -- the event keeps the world
@@ -257,4 +262,4 @@ arrive_world log t job made rest run waiting runs world =
     let others : EachPasses (seen_with p t) (after now two) (one ∷ two ∷ []) (logged t.events actors.Coord kinds) = subst (λ (s : Seen). EachPasses (seen_with p t) s (one ∷ two ∷ []) (logged t.events actors.Coord kinds)) (sym second) begun.passes in
     let later : EachPasses (seen_with p t) now (one ∷ []) (two ∷ logged t.events actors.Coord kinds) = (applied_passes n p t job made rest run waiting runs world.keeps world.kept has (logged t.events actors.Coord kinds), others) in
     let passes : EachPasses (seen_with p t) (seen_with p t) [] (logged t.events actors.Coord all) = (delivered_passes n p t job made rest run waiting runs world.keeps world.kept has (two ∷ logged t.events actors.Coord kinds), subst (λ (s : Seen). EachPasses (seen_with p t) s (one ∷ []) (two ∷ logged t.events actors.Coord kinds)) (sym first) later) in
-    world_more log t final begun.last _ _ world (passing_legal k p begun.last t final actors.Coord (rows.Delivered first_process) (rows.Applied run.0 (changes.Traverse run.1) ∷ kinds) refl passes comes begun.keeps begun.kept) comes begun.keeps begun.kept
+    world_more log t final begun.last _ _ world (passing_legal k p begun.last t final actors.Coord (rows.Delivered first_process) (rows.Applied run.0 (changes.Traverse run.1) ∷ kinds) refl passes comes begun.keeps begun.kept) (passing_fits (seen_with p t) (logged t.events actors.Coord all) passes) comes begun.keeps begun.kept

@@ -14,7 +14,8 @@ use Rattle.world_laws.specs.Pasts as past
 use Rattle.world_laws.specs.Keeps.{orders_of, IsOnItsWay, Keeps, KeepsPast, IsWorld}
 use Rattle.world_laws.proofs.AfterLaws.{after_taken}
 use Rattle.world_laws.proofs.Ways.{way_noted, run_noted, spot_within, order_addressed}
-use Rattle.world_laws.proofs.SettledLaws.{settled_of_keeps, world_more}
+use Rattle.world_laws.proofs.SettledLaws.{settled_of_keeps}
+use Rattle.world_laws.proofs.MoreLaws.{world_more}
 
 -- what is taken up stays among the orders to be finished
 pub orders_begun : (t : Single) (job : Job) (rest : List Job) → t.mail ≡ job ∷ rest → t.in_hand ≡ None → orders_of (single.begun t job) ≡ orders_of t
@@ -87,4 +88,4 @@ begin_legal n p t job rest mail hand keeps kept =
 pub begin_world : (log : List LogRow) (t : Single) (job : Job) (rest : List Job) → t.mail ≡ job ∷ rest → t.in_hand ≡ None → IsWorld log t → IsWorld (log ++ single.begin_rows t job) (single.begun t job)
 unfolding begin_keeps
 begin_world log t job rest mail hand world =
-    world_more log t (single.begun t job) (past.past_quiet world.past) _ _ world (begin_legal _ world.past t job rest mail hand world.keeps world.kept) (after_taken world.past t job (first_order t job rest mail)) (begin_keeps _ t job rest mail hand world.keeps) (begin_kept _ world.past t job rest mail hand world.keeps world.kept)
+    world_more log t (single.begun t job) (past.past_quiet world.past) _ _ world (begin_legal _ world.past t job rest mail hand world.keeps world.kept) (record { in_time = refl; suits = λ header. refl }) (after_taken world.past t job (first_order t job rest mail)) (begin_keeps _ t job rest mail hand world.keeps) (begin_kept _ world.past t job rest mail hand world.keeps world.kept)

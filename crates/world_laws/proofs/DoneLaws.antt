@@ -27,7 +27,8 @@ use Rattle.world_laws.proofs.Waits.{count_by_cons}
 use Rattle.world_laws.proofs.AfterLaws.{after_delivered_done}
 use Rattle.world_laws.proofs.Kept.{telling_of, none_settled}
 use Rattle.world_laws.proofs.Ways.{coming_map}
-use Rattle.world_laws.proofs.SettledLaws.{settled_of_keeps, world_more, AreUpdates_more}
+use Rattle.world_laws.proofs.SettledLaws.{settled_of_keeps, AreUpdates_more}
+use Rattle.world_laws.proofs.MoreLaws.{world_more}
 
 -- what the first report is: of an order that told length and index, and nothing was made
 abbrev pub IsUpdateReport : Job → Option Made → Type 0
@@ -171,4 +172,4 @@ module _ (n : ℕ) (p : Past) (t : Single) (job : Job) (outcome : Outcome) (made
 pub done_world : (log : List LogRow) (t : Single) (job : Job) (outcome : Outcome) (made : Option Made) (rest : List Report) → t.reports ≡ reports.Done job outcome made ∷ rest → outcome ≡ outcomes.Updated → IsWorld log t → IsWorld (log ++ single.done_rows t) (single.done t)
 unfolding done_keeps
 done_world log t job outcome made rest waiting is world =
-    world_more log t (single.done t) (past.past_quiet world.past) _ _ world (done_legal _ world.past t job outcome made rest waiting is world.keeps world.kept) (done_comes _ world.past t job outcome made rest waiting is world.keeps world.kept) (done_keeps _ world.past t job outcome made rest waiting is world.keeps world.kept) (done_kept _ world.past t job outcome made rest waiting is world.keeps world.kept)
+    world_more log t (single.done t) (past.past_quiet world.past) _ _ world (done_legal _ world.past t job outcome made rest waiting is world.keeps world.kept) (record { in_time = refl; suits = λ header. refl }) (done_comes _ world.past t job outcome made rest waiting is world.keeps world.kept) (done_keeps _ world.past t job outcome made rest waiting is world.keeps world.kept) (done_kept _ world.past t job outcome made rest waiting is world.keeps world.kept)

@@ -45,7 +45,8 @@ use Rattle.world_laws.proofs.Kept.{numbered_lower, above_number, open_ending, pl
 use Rattle.world_laws.proofs.Ways.{coming_map, run_other, apart_of_run}
 use Rattle.world_laws.proofs.PushLaws.{made_is}
 use Rattle.world_laws.proofs.Rows.{two_rows}
-use Rattle.world_laws.proofs.SettledLaws.{settled_of_keeps, world_more, AreUpdates_more}
+use Rattle.world_laws.proofs.SettledLaws.{settled_of_keeps, AreUpdates_more}
+use Rattle.world_laws.proofs.MoreLaws.{world_more}
 
 -- ---- a report of an older epoch is first only while a traversal runs
 
@@ -257,4 +258,4 @@ drop_world log t made rest by waiting other why world =
     let runs = other_runs _ t world.keeps.target t.running made rest waiting other world.keeps.way in
     let is = old_report _ world.past t made rest runs.0 waiting runs.1 world.keeps world.kept in
     let same : runs.0.0 ≡ by = (let e : whys.Req runs.0.0 ≡ whys.Req by = sym is.why ∙ why in cc) in
-    subst (λ (r : ReqId). IsWorld (log ++ single.drop_rows t made.req r) (single.dropped t made.req r)) same (world_more log t (single.dropped t made.req runs.0.0) _ _ _ world (drop_legal _ world.past t made rest runs.0 waiting other world.keeps world.kept is) (drop_comes _ world.past t made rest runs.0 waiting other world.keeps world.kept is) (drop_keeps _ t made rest runs.0.0 waiting other world.keeps) (drop_kept _ world.past t made rest runs.0 waiting other world.keeps world.kept is))
+    subst (λ (r : ReqId). IsWorld (log ++ single.drop_rows t made.req r) (single.dropped t made.req r)) same (world_more log t (single.dropped t made.req runs.0.0) _ _ _ world (drop_legal _ world.past t made rest runs.0 waiting other world.keeps world.kept is) (record { in_time = refl; suits = λ header. refl }) (drop_comes _ world.past t made rest runs.0 waiting other world.keeps world.kept is) (drop_keeps _ t made rest runs.0.0 waiting other world.keeps) (drop_kept _ world.past t made rest runs.0 waiting other world.keeps world.kept is))

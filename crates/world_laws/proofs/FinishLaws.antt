@@ -31,7 +31,8 @@ use Rattle.world_laws.proofs.Asks.{reports_more}
 use Rattle.world_laws.proofs.AfterLaws.{after_finished_update, after_finished_showing}
 use Rattle.world_laws.proofs.Ways.{leads_append, no_push, coming_append, IsPlainTask, spot_within, order_addressed}
 use Rattle.world_laws.proofs.Kept.{numbered_done}
-use Rattle.world_laws.proofs.SettledLaws.{settled_of_keeps, world_more, AreUpdates_more}
+use Rattle.world_laws.proofs.SettledLaws.{settled_of_keeps, AreUpdates_more}
+use Rattle.world_laws.proofs.MoreLaws.{FitsIn, world_more}
 
 -- the report of the order
 abbrev pub report_of : Job → Report
@@ -201,6 +202,12 @@ finish_formed p t order bound (tasks.Activate entry epoch long at memo address) 
     rw hand (rw (nat_eq_refl order.job.nr.0, e) refl)
 finish_formed p t order bound _ hand e is = elim is [ ]
 
+-- its row suits each settings: no document was made
+finish_fits : (p : Past) (t : Single) (order : Order) (bound : ℕ) (task : Task) → t.in_hand ≡ Some order → order.job.task ≡ task → IsPlainTask bound task → FitsIn (seen_with p t) (single.finish_rows t order.job)
+finish_fits p t order bound (tasks.Update long at) hand e is = record { in_time = refl; suits = λ header. rw hand (rw e refl) }
+finish_fits p t order bound (tasks.Activate entry epoch long at memo address) hand e is = record { in_time = refl; suits = λ header. rw hand (rw e refl) }
+finish_fits p t order bound _ hand e is = elim is [ ]
+
 finish_legal : (n : ℕ) (p : Past) (t : Single) (order : Order) → t.in_hand ≡ Some order → (keeps : Keeps n t) → KeepsPast n p t keeps.target keeps.way → IsLegalEvent (seen_with p t) (single.finish_rows t order.job)
 unfolding is_numbered is_once is_caused is_queued is_ordered is_checked ends_settled finish_keeps
 finish_legal n p t order hand keeps kept =
@@ -221,4 +228,4 @@ finish_legal n p t order hand keeps kept =
 pub finish_world : (log : List LogRow) (t : Single) (order : Order) → t.in_hand ≡ Some order → IsWorld log t → IsWorld (log ++ single.finish_rows t order.job) (single.finished t order.job)
 unfolding finish_keeps
 finish_world log t order hand world =
-    world_more log t (single.finished t order.job) (past.past_finished world.past order.job) _ _ world (finish_legal _ world.past t order hand world.keeps world.kept) (finish_comes (length log) world.past t order hand world.keeps) (finish_keeps _ t order hand world.keeps) (finish_kept _ world.past t order hand world.keeps world.kept)
+    world_more log t (single.finished t order.job) (past.past_finished world.past order.job) _ _ world (finish_legal _ world.past t order hand world.keeps world.kept) (finish_fits world.past t order (length log) order.job.task hand refl (order_addressed (length log) t world.keeps.target t.running order.job t.mail (rw hand refl) (spot_within _ t world.keeps) world.keeps.way).3) (finish_comes (length log) world.past t order hand world.keeps) (finish_keeps _ t order hand world.keeps) (finish_kept _ world.past t order hand world.keeps world.kept)

@@ -38,9 +38,10 @@ use Rattle.world_laws.proofs.Ways.{coming_map}
 use Rattle.world_laws.proofs.PokeLaws.{asked_length, run_pushed, run_below}
 use Rattle.world_laws.proofs.Resting.{way_rests}
 use Rattle.world_laws.proofs.Idle.{IsIdle}
-use Rattle.world_laws.proofs.Starting.{Passes, EachPasses, each_passes}
+use Rattle.world_laws.proofs.Starting.{Passes, EachPasses, each_passes, passing_fits}
 use Rattle.world_laws.proofs.StartLaws.{Begun, begin_all}
-use Rattle.world_laws.proofs.SettledLaws.{settled_of_keeps, world_more, AreUpdates_more}
+use Rattle.world_laws.proofs.SettledLaws.{settled_of_keeps, AreUpdates_more}
+use Rattle.world_laws.proofs.MoreLaws.{world_more}
 
 -- ---- rows of one event
 
@@ -97,6 +98,8 @@ accepted_passes n p t delta later keeps kept =
       queued = refl;
       ordered = refl;
       checked = refl;
+      in_time = refl;
+      suits = λ header. refl;
     }
 
 -- ---- the places of requests, and what is kept of them
@@ -188,7 +191,7 @@ wait_world log t delta run runs world =
     let p : Past = world.past in
     let keeps = wait_keeps n t delta run runs world.keeps in
     let kept = wait_kept n p t delta run runs world.keeps world.kept in
-    world_more log t (joined t delta) (past_joined p t delta) _ _ world (passing_legal (n + 1) p (past_joined p t delta) t (joined t delta) actors.Ui (accepted t delta) [] refl (accepted_passes n p t delta [] world.keeps world.kept, tt) (accepted_comes p t delta) keeps kept) (accepted_comes p t delta) keeps kept
+    world_more log t (joined t delta) (past_joined p t delta) _ _ world (passing_legal (n + 1) p (past_joined p t delta) t (joined t delta) actors.Ui (accepted t delta) [] refl (accepted_passes n p t delta [] world.keeps world.kept, tt) (accepted_comes p t delta) keeps kept) (record { in_time = refl; suits = λ header. refl }) (accepted_comes p t delta) keeps kept
 
 -- ---- where none runs
 
@@ -259,7 +262,7 @@ begin_world log t delta rests world =
     let begun : Begun k (past_joined p t delta) (joined t delta) (seen_with p t) t.events actors.Ui (accepted_row t delta ∷ []) kinds final = begin_all (seen_with p t) (accepted_row t delta) (λ kind. refl) t.events actors.Ui tt k (joined t delta).queue (n + 1) (past_joined p t delta) (joined t delta) [] (omega (arith, long)) refl idle in
     let comes : fold after (seen_with p t) (logged t.events actors.Ui (accepted t delta ∷ kinds)) ≡ seen_with begun.last final = ap (λ (s : Seen). fold after s (logged t.events actors.Ui kinds)) (accepted_comes p t delta) ∙ begun.comes in
     let passes : EachPasses (seen_with p t) (seen_with p t) [] (logged t.events actors.Ui (accepted t delta ∷ kinds)) = (accepted_passes n p t delta (logged t.events actors.Ui kinds) world.keeps world.kept, subst (λ (s : Seen). EachPasses (seen_with p t) s (accepted_row t delta ∷ []) (logged t.events actors.Ui kinds)) (sym (accepted_comes p t delta)) begun.passes) in
-    world_more log t final begun.last _ _ world (passing_legal k p begun.last t final actors.Ui (accepted t delta) kinds refl passes comes begun.keeps begun.kept) comes begun.keeps begun.kept
+    world_more log t final begun.last _ _ world (passing_legal k p begun.last t final actors.Ui (accepted t delta) kinds refl passes comes begun.keeps begun.kept) (passing_fits (seen_with p t) (logged t.events actors.Ui (accepted t delta ∷ kinds)) passes) comes begun.keeps begun.kept
 
 -- an accepted traversal keeps the world
 pub go_world : (log : List LogRow) (t : Single) (delta : ℤ) → IsWorld log t → IsWorld (log ++ go_rows t delta) (gone t delta)

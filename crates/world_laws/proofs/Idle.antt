@@ -375,7 +375,7 @@ shown_keeps m k p t u req delta goal rest row apart found low is =
         pokes = pokes_other asked req shows t.input alone.pokes_ (begun_pokes p u req goal t.input alone.pokes_ is.pokes_for);
         reports = reports_other asked req shows t.reports alone.reports_ (begun_reports p u req goal t.reports alone.reports_ is.reports_for);
         queue = goes_other asked req shows rest alone.queue_ (begun_goes p u req goal rest alone.queue_ is.goes.1);
-        run = (record { asking = shows (begun_request p u goal go.asking); delta = delta; at = request_changed asked _ req shows at; what = go.what; started = refl; goal = refl; unmade = go.unmade }, refl);
+        run = (record { asking = shows (begun_request p u goal go.asking); delta = delta; at = request_changed asked _ req shows at; what = go.what; started = refl; goal = refl; unmade = go.unmade; moves = refl }, refl);
         numbered = is.numbers;
         entries = is.entries;
       },

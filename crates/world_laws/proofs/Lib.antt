@@ -7,6 +7,7 @@ pub mod AfterLaws
 pub mod Kept
 pub mod SettledLaws
 pub mod Ways
+pub mod MoreLaws
 pub mod PokeLaws
 pub mod StrayLaws
 pub mod BeginLaws

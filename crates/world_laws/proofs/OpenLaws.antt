@@ -1,9 +1,13 @@
 -- A world that was just opened.
 use Rattle.std.proofs.Common.{◌≡◌, ◌≤◌, ℕ, List, [], ◌∷◌, Some, None, refl, ap, arith, zero, suc}
-use Rattle.std.specs.Prelude.{slice_get}
+use Rattle.std.specs.Prelude.{slice_get, IsTrue}
 use Rattle.log_model.specs.declared.row.Row.{Row}
+use Rattle.log_model.specs.Seen.{nothing}
 use Rattle.log_model.specs.Events.{AtEachEvent, events_of, after_opening, each_event}
 use Rattle.log_model.specs.Logs.{seen_of}
+use Rattle.log_model.specs.declared.header.Header.{Header}
+use Rattle.log_model.specs.ActsAtOnce.{ActsAtOnce}
+use Rattle.log_model.specs.Suits.{Suits, opens_as}
 use Rattle.log_model.specs.Legal.{opens, IsLegal}
 use Rattle.world_laws.specs.Single.{opened, opening_row, first_entry, replaced_row_with}
 use Rattle.world_laws.specs.Pasts.{past_opened}
@@ -93,7 +97,15 @@ opened_legal address =
       settled = refl;
     }
 
+opened_at_once : (address : List ℕ) → ActsAtOnce (opening_row address ∷ [])
+unfolding events_of AtEachEvent after_opening each_event
+opened_at_once address = record { told = refl; stepped = refl; in_time = refl }
+
+opened_suits : (address : List ℕ) (header : Header) → IsTrue (opens_as header nothing (events_of (opening_row address ∷ []))) → Suits header (opening_row address ∷ [])
+unfolding events_of AtEachEvent after_opening each_event
+opened_suits address header opened = record { opened = opened; placed = refl; kept = refl }
+
 pub opened_world : (address : List ℕ) → IsWorld (opening_row address ∷ []) (opened address)
 unfolding seen_of opened_keeps
 opened_world address =
-    record { past = past_opened address; tied = refl; legal = opened_legal address; keeps = opened_keeps address; kept = opened_kept address }
+    record { past = past_opened address; tied = refl; legal = opened_legal address; at_once = opened_at_once address; suits = opened_suits address; keeps = opened_keeps address; kept = opened_kept address }

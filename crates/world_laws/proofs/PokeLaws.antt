@@ -24,7 +24,8 @@ use Rattle.world_laws.proofs.Waits.{count_by_push, open_from_append, open_within
 use Rattle.world_laws.proofs.Asks.{calm_pushed, pokes_pushed, pokes_more, reports_pushed, goes_pushed, request_new, request_pushed}
 use Rattle.world_laws.proofs.AfterLaws.{after_accepted}
 use Rattle.world_laws.proofs.Ways.{way_noted, run_noted}
-use Rattle.world_laws.proofs.SettledLaws.{settled_of_keeps, world_more}
+use Rattle.world_laws.proofs.SettledLaws.{settled_of_keeps}
+use Rattle.world_laws.proofs.MoreLaws.{world_more}
 
 pushes_append : (pokes : List Poke) (poke : Poke) → AreEntries pokes → poke.doc ≡ first_document → IsEntry poke.action → AreEntries (pokes ++ poke ∷ [])
 pushes_append [] poke are doc push = ((doc, push), tt)
@@ -37,7 +38,7 @@ asked_length p t same = sym (length-map p.requests (λ (q : Asked). q.ending)) �
 -- a request that is there is still asked for
 pub run_pushed : (asked : List Asked) (new : Asked) (run : ReqId × Step) → IsRunFor asked run → IsRunFor (asked ++ new ∷ []) run
 run_pushed asked new run is =
-    record { asking = is.asking; delta = is.delta; at = request_pushed asked new is.asking run.0 is.at; what = is.what; started = is.started; goal = is.goal; unmade = is.unmade }
+    record { asking = is.asking; delta = is.delta; at = request_pushed asked new is.asking run.0 is.at; what = is.what; started = is.started; goal = is.goal; unmade = is.unmade; moves = is.moves }
 
 -- the number of the running traversal is one of the requests'
 pub run_below : (n : ℕ) (t : Single) → Keeps n t → run_number t.running < 1 + length t.endings
@@ -120,4 +121,4 @@ poke_legal n p t action push keeps kept =
 pub poke_world : (log : List LogRow) (t : Single) (action : Action) → IsEntry action → IsWorld log t → IsWorld (log ++ poke_rows t action) (poked t action)
 unfolding poke_keeps
 poke_world log t action push world =
-    world_more log t (poked t action) (past.past_poked world.past (next_request t) action) _ _ world (poke_legal _ world.past t action push world.keeps world.kept) (after_accepted world.past t (next_request t) action) (poke_keeps _ t action push world.keeps) (poke_kept _ world.past t action push world.keeps world.kept)
+    world_more log t (poked t action) (past.past_poked world.past (next_request t) action) _ _ world (poke_legal _ world.past t action push world.keeps world.kept) (record { in_time = refl; suits = λ header. refl }) (after_accepted world.past t (next_request t) action) (poke_keeps _ t action push world.keeps) (poke_kept _ world.past t action push world.keeps world.kept)

@@ -34,6 +34,8 @@ use Rattle.log_model.specs.Queue.{is_queued_row}
 use Rattle.log_model.specs.Orders.{is_ordered_row}
 use Rattle.log_model.specs.Checks.{is_checked_row, is_prompted_after}
 use Rattle.log_model.specs.Settled.{is_settled_if_quiet}
+use Rattle.log_model.specs.ActsAtOnce.{is_row_in_time}
+use Rattle.log_model.specs.Suits.{is_suitable_row}
 use Rattle.log_model.specs.Legal.{is_formed, is_once, is_caused, is_queued, is_ordered, is_checked, ends_settled, IsLegalEvent}
 use Rattle.log_model.proofs.Refl.{nat_eq_refl, same_change_refl, same_pair_refl}
 use Rattle.world_laws.specs.Single as single
@@ -44,12 +46,13 @@ use Rattle.world_laws.specs.Keeps.{IsPlain, face_of_row, face_of_view, face_afte
 use Rattle.world_laws.proofs.Plain.{IsPlain-append, IsPlain-take, cleared-plain, owner_of-plain, has_top, length-take}
 use Rattle.world_laws.proofs.Known.{get_last, known_pushed}
 use Rattle.world_laws.proofs.Waits.{count_by_cons, tally_same}
-use Rattle.world_laws.proofs.Asks.{request_at, calm_noted, endings_changed, pokes_other, reports_other, goes_other, none_runs, entry_goes, implies_true}
+use Rattle.world_laws.proofs.Asks.{request_at, none_runs, entry_goes, implies_true}
 use Rattle.world_laws.proofs.AfterLaws.{after_delivered_push, after_applied_push, after_sent_update}
 use Rattle.world_laws.proofs.Kept.{open_ending, placed_ended, report_alone, endings_applied, pokes_applied, reports_applied, goes_applied, calm_applied, none_settled}
 use Rattle.world_laws.proofs.Resting.{made_rests, way_rests, resting_way, run_rests}
 use Rattle.world_laws.proofs.Rows.{three_rows}
-use Rattle.world_laws.proofs.SettledLaws.{settled_of_keeps, world_more, AreUpdates_more, pair_of}
+use Rattle.world_laws.proofs.SettledLaws.{settled_of_keeps, AreUpdates_more, pair_of}
+use Rattle.world_laws.proofs.MoreLaws.{FitsIn, world_more}
 
 -- the rows that stay
 long_stay : (t : Single) → t.history.current < length t.history.rows → length (take (t.history.current + 1) t.history.rows) ≡ t.history.current + 1
@@ -243,10 +246,10 @@ module _ (n : ℕ) (p : Past) (t : Single) (made : Made) (rest : List Report) (e
   second_comes : after (seen_with (past.past_quiet p) (single.done t)) (applied_row t made.req entry memo address) ≡ seen_with (past_pushed p t made.req entry memo address) (pushed_state t made.req entry memo address)
   second_comes = after_applied_push (past.past_quiet p) (single.done t) t.events 0 made.req is.asked.asking _ entry memo address (single.push_applied t made.req entry memo address).history joined calm is.asked.at is.makes is.maker (push_history n t made.req entry memo address keeps) had (has_top _ next_plain (omega (arith, next_long)))
 
-  third_comes : after (seen_with (past_pushed p t made.req entry memo address) (pushed_state t made.req entry memo address)) (sent_row t made.req) ≡ seen_with (past.past_sent (past_pushed p t made.req entry memo address) made.req) (single.push_applied t made.req entry memo address)
+  third_comes : after (seen_with (past_pushed p t made.req entry memo address) (pushed_state t made.req entry memo address)) (sent_row t made.req) ≡ seen_with (past.past_quiet (past_pushed p t made.req entry memo address)) (single.push_applied t made.req entry memo address)
   third_comes = after_sent_update (past_pushed p t made.req entry memo address) (pushed_state t made.req entry memo address) t.events made.req (single.update_job t made.req) _ _ refl refl refl refl
 
-  pub push_comes : fold after (seen_with p t) (single.push_rows t made.req entry memo address) ≡ seen_with (past.past_sent (past_pushed p t made.req entry memo address) made.req) (single.push_applied t made.req entry memo address)
+  pub push_comes : fold after (seen_with p t) (single.push_rows t made.req entry memo address) ≡ seen_with (past.past_quiet (past_pushed p t made.req entry memo address)) (single.push_applied t made.req entry memo address)
   push_comes =
       ap (λ (s : Seen). after (after s (applied_row t made.req entry memo address)) (sent_row t made.req)) first_comes
       ∙ ap (λ (s : Seen). after s (sent_row t made.req)) second_comes
@@ -261,16 +264,16 @@ module _ (n : ℕ) (p : Past) (t : Single) (made : Made) (rest : List Report) (e
   apart_run : (made.req.0 == run_number t.running) ≡ false
   apart_run = ap (λ (running : Option (ReqId × Step)). made.req.0 == run_number running) rests ∙ apart
 
-  pub push_kept : (waiting : t.reports ≡ reports.Made made ∷ rest) → (what : made.what ≡ whats.Push entry memo address) → KeepsPast (n + 3) (past.past_sent (past_pushed p t made.req entry memo address) made.req) (single.push_applied t made.req entry memo address) (single.pushed_row t entry memo address) (pushed_way n t made rest entry memo address waiting what rests keeps)
+  pub push_kept : (waiting : t.reports ≡ reports.Made made ∷ rest) → (what : made.what ≡ whats.Push entry memo address) → KeepsPast (n + 3) (past.past_quiet (past_pushed p t made.req entry memo address)) (single.push_applied t made.req entry memo address) (single.pushed_row t entry memo address) (pushed_way n t made rest entry memo address waiting what rests keeps)
   push_kept waiting what =
       let alone = report_alone n t made rest waiting keeps in
       let change = push_of t entry memo address in
       record {
-        calm = calm_noted _ (run_number t.running) made.req (λ q. q) (calm_applied p.requests t.history (run_number t.running) made.req change is.asked.asking kept.calm is.asked.at apart_run) (λ q has. (has, refl, refl));
-        endings = endings_changed _ made.req (λ q. q) (λ q. refl) ∙ endings_applied p.requests t.history made.req change is.asked.asking is.asked.at ∙ ap (λ (l : List (Option Ending)). slice_set l (made.req.0 - 1) (Some endings.Applied)) kept.endings;
-        pokes = pokes_other _ made.req _ t.input alone.pokes_ (pokes_applied p.requests t.history made.req change t.input alone.pokes_ kept.pokes);
-        reports = subst (λ (l : List Report). AreReportsFor (past.past_sent (past_pushed p t made.req entry memo address) made.req).requests l) (sym others_left) (reports_other _ made.req _ rest alone.reports_ (reports_applied p.requests t.history made.req change rest alone.reports_ is.others));
-        queue = goes_other _ made.req _ t.queue alone.queue_ (goes_applied p.requests t.history made.req change t.queue alone.queue_ kept.queue);
+        calm = calm_applied p.requests t.history (run_number t.running) made.req change is.asked.asking kept.calm is.asked.at apart_run;
+        endings = endings_applied p.requests t.history made.req change is.asked.asking is.asked.at ∙ ap (λ (l : List (Option Ending)). slice_set l (made.req.0 - 1) (Some endings.Applied)) kept.endings;
+        pokes = pokes_applied p.requests t.history made.req change t.input alone.pokes_ kept.pokes;
+        reports = subst (λ (l : List Report). AreReportsFor (past.past_quiet (past_pushed p t made.req entry memo address)).requests l) (sym others_left) (reports_applied p.requests t.history made.req change rest alone.reports_ is.others);
+        queue = goes_applied p.requests t.history made.req change t.queue alone.queue_ kept.queue;
         run = run_rests _ _ (n + 3) (single.push_applied t made.req entry memo address) (single.pushed_row t entry memo address) t.running rests _;
         numbered = subst (λ (l : List Report). AreNumbered entry.nr l t.view.numbered) (sym others_left) is.numbers;
         entries = known_pushed t.state p.last_applied (t.history.current + 1) t.history.rows (single.pushed_row t entry memo address) kept.entries (omega (arith, keeps.within)) refl refl refl refl is.maker is.later;
@@ -310,10 +313,18 @@ module _ (n : ℕ) (p : Past) (t : Single) (made : Made) (rest : List Report) (e
         settled = ap (λ (s : Seen). is_settled_if_quiet s) push_comes ∙ settled_of_keeps (n + 3) _ (single.push_applied t made.req entry memo address) (push_keeps n t made rest entry memo address waiting what rests keeps) (push_kept waiting what);
       }
 
+  pub push_fits : FitsIn (seen_with p t) (single.push_rows t made.req entry memo address)
+  push_fits =
+      let first : slice_get t.reports 0 ≡ Some (reports.Made (record { req = made.req; doc = first_document; epoch = t.epoch; what = whats.Push entry memo address })) = ap (λ (l : List Report). slice_get l 0) is.waiting in
+      record {
+        in_time = each is_row_in_time refl (rw is.asked.at (rw (is.makes, is.asked.unstarted) (rw first (rw (nat_eq_refl made.req.0) refl)))) refl;
+        suits = λ header. each (is_suitable_row header) refl refl refl;
+      }
+
 -- taking up a push keeps the world
 pub push_world : (log : List LogRow) (t : Single) (made : Made) (rest : List Report) (entry : EntryId) (memo : Option (List ℕ)) (address : List ℕ) → t.reports ≡ reports.Made made ∷ rest → made.what ≡ whats.Push entry memo address → (made.epoch.0 == t.epoch.0) ≡ true → IsWorld log t → IsWorld (log ++ single.push_rows t made.req entry memo address) (single.push_applied t made.req entry memo address)
 unfolding push_keeps
 push_world log t made rest entry memo address waiting what same world =
     let rests = made_rests _ t world.keeps.target t.running made rest waiting same world.keeps.way in
     let is = push_report _ world.past t made rest entry memo address waiting what rests world.keeps world.kept in
-    world_more log t (single.push_applied t made.req entry memo address) _ _ _ world (push_legal _ world.past t made rest entry memo address rests world.keeps world.kept is waiting what) (push_comes _ world.past t made rest entry memo address rests world.keeps world.kept is) (push_keeps _ t made rest entry memo address waiting what rests world.keeps) (push_kept _ world.past t made rest entry memo address rests world.keeps world.kept is waiting what)
+    world_more log t (single.push_applied t made.req entry memo address) _ _ _ world (push_legal _ world.past t made rest entry memo address rests world.keeps world.kept is waiting what) (push_fits _ world.past t made rest entry memo address rests world.keeps world.kept is) (push_comes _ world.past t made rest entry memo address rests world.keeps world.kept is) (push_keeps _ t made rest entry memo address waiting what rests world.keeps) (push_kept _ world.past t made rest entry memo address rests world.keeps world.kept is waiting what)

@@ -22,7 +22,8 @@ use Rattle.world_laws.proofs.Asks.{calm_ended, endings_ended, pokes_other, repor
 use Rattle.world_laws.proofs.AfterLaws.{after_refused}
 use Rattle.world_laws.proofs.Kept.{open_ending, placed_ended, poke_alone, joined_without}
 use Rattle.world_laws.proofs.Ways.{way_noted, run_noted, run_other, apart_of_run}
-use Rattle.world_laws.proofs.SettledLaws.{settled_of_keeps, world_more}
+use Rattle.world_laws.proofs.SettledLaws.{settled_of_keeps}
+use Rattle.world_laws.proofs.MoreLaws.{world_more}
 
 -- what is on its way stays so
 abbrev pub refuse_way : (n : ℕ) (t : Single) (poke : Poke) → (keeps : Keeps n t) → IsOnItsWay (n + 1) (single.refused t poke.req) keeps.target t.running
@@ -106,4 +107,4 @@ pub refuse_world : (log : List LogRow) (t : Single) (poke : Poke) (rest : List P
 unfolding refuse_keeps
 refuse_world log t poke rest input made world =
     let alone = poke_alone _ t poke rest input world.keeps in
-    world_more log t (single.refused t poke.req) (past_of world.past poke.req) _ _ world (refuse_legal _ world.past t poke rest input made world.keeps world.kept) (after_refused world.past t poke.req (joined_without t poke.req alone.queue_ alone.run_)) (refuse_keeps _ t poke rest input world.keeps) (refuse_kept _ world.past t poke rest input world.keeps world.kept)
+    world_more log t (single.refused t poke.req) (past_of world.past poke.req) _ _ world (refuse_legal _ world.past t poke rest input made world.keeps world.kept) (record { in_time = refl; suits = λ header. refl }) (after_refused world.past t poke.req (joined_without t poke.req alone.queue_ alone.run_)) (refuse_keeps _ t poke rest input world.keeps) (refuse_kept _ world.past t poke rest input world.keeps world.kept)

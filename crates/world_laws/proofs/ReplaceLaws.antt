@@ -32,6 +32,8 @@ use Rattle.log_model.specs.Queue.{is_queued_row}
 use Rattle.log_model.specs.Orders.{is_ordered_row}
 use Rattle.log_model.specs.Checks.{is_checked_row, is_prompted_after}
 use Rattle.log_model.specs.Settled.{is_settled_if_quiet}
+use Rattle.log_model.specs.ActsAtOnce.{is_row_in_time}
+use Rattle.log_model.specs.Suits.{is_suitable_row}
 use Rattle.log_model.specs.Legal.{is_formed, is_once, is_caused, is_queued, is_ordered, is_checked, ends_settled, IsLegalEvent}
 use Rattle.log_model.proofs.Refl.{nat_eq_refl, same_entry_refl, same_change_refl}
 use Rattle.world_laws.specs.Single as single
@@ -48,7 +50,8 @@ use Rattle.world_laws.proofs.AfterLaws.{after_delivered_replace, after_applied_r
 use Rattle.world_laws.proofs.Kept.{open_ending, placed_ended, report_alone, endings_applied, pokes_applied, reports_applied, goes_applied, calm_applied, none_settled}
 use Rattle.world_laws.proofs.Resting.{made_rests, way_rests, resting_way, run_rests}
 use Rattle.world_laws.proofs.Rows.{two_rows}
-use Rattle.world_laws.proofs.SettledLaws.{settled_of_keeps, world_more, AreUpdates_more}
+use Rattle.world_laws.proofs.SettledLaws.{settled_of_keeps, AreUpdates_more}
+use Rattle.world_laws.proofs.MoreLaws.{FitsIn, world_more}
 
 -- the current row is that of the given entry
 target_here : (n : ℕ) (t : Single) → t.running ≡ None → (keeps : Keeps n t) → slice_get t.history.rows t.history.current ≡ Some keeps.target
@@ -279,10 +282,18 @@ module _ (n : ℕ) (p : Past) (t : Single) (made : Made) (rest : List Report) (o
         settled = ap (λ (s : Seen). is_settled_if_quiet s) replace_comes ∙ settled_of_keeps (n + 2) _ (single.replace_applied t made.req entry memo address) (replace_keeps n t made rest over entry memo address waiting what rests keeps) (replace_kept waiting what);
       }
 
+  pub replace_fits : FitsIn (seen_with p t) (single.replace_rows t made.req over entry memo address)
+  replace_fits =
+      let first : slice_get t.reports 0 ≡ Some (reports.Made (record { req = made.req; doc = first_document; epoch = t.epoch; what = whats.Replace over entry memo address })) = ap (λ (l : List Report). slice_get l 0) is.waiting in
+      record {
+        in_time = each is_row_in_time refl (rw is.asked.at (rw (is.makes, is.asked.unstarted) (rw first (rw (nat_eq_refl made.req.0) refl))));
+        suits = λ header. each (is_suitable_row header) refl refl;
+      }
+
 -- taking up a replace keeps the world
 pub replace_world : (log : List LogRow) (t : Single) (made : Made) (rest : List Report) (over entry : EntryId) (memo : Option (List ℕ)) (address : List ℕ) → t.reports ≡ reports.Made made ∷ rest → made.what ≡ whats.Replace over entry memo address → (made.epoch.0 == t.epoch.0) ≡ true → IsWorld log t → IsWorld (log ++ single.replace_rows t made.req over entry memo address) (single.replace_applied t made.req entry memo address)
 unfolding replace_keeps
 replace_world log t made rest over entry memo address waiting what same world =
     let rests = made_rests _ t world.keeps.target t.running made rest waiting same world.keeps.way in
     let is = replace_report _ world.past t made rest over entry memo address waiting what rests world.keeps world.kept in
-    world_more log t (single.replace_applied t made.req entry memo address) _ _ _ world (replace_legal _ world.past t made rest over entry memo address rests world.keeps world.kept is waiting what) (replace_comes _ world.past t made rest over entry memo address rests world.keeps world.kept is) (replace_keeps _ t made rest over entry memo address waiting what rests world.keeps) (replace_kept _ world.past t made rest over entry memo address rests world.keeps world.kept is waiting what)
+    world_more log t (single.replace_applied t made.req entry memo address) _ _ _ world (replace_legal _ world.past t made rest over entry memo address rests world.keeps world.kept is waiting what) (replace_fits _ world.past t made rest over entry memo address rests world.keeps world.kept is) (replace_comes _ world.past t made rest over entry memo address rests world.keeps world.kept is) (replace_keeps _ t made rest over entry memo address waiting what rests world.keeps) (replace_kept _ world.past t made rest over entry memo address rests world.keeps world.kept is waiting what)

@@ -1,6 +1,6 @@
 -- What the state keeps makes a quiet log settled.
-use Rattle.std.proofs.Common.{◌≡◌, ℕ, ◌+◌, ◌≤◌, ◌<◌, Bool, true, false, not, ◌&&◌, ◌==◌, List, [], ◌∷◌, ◌++◌, length, map, Option, Some, None, refl, sym, ap, ◌∙◌, subst, arith, length-append}
-use Rattle.std.specs.Prelude.{fold, is_some, is_none, slice_get}
+use Rattle.std.proofs.Common.{◌≡◌, ℕ, ◌+◌, ◌≤◌, ◌<◌, Bool, true, false, not, ◌&&◌, ◌==◌, List, [], ◌∷◌, ◌++◌, length, map, Option, Some, None, refl, sym, ap, ◌∙◌, subst, arith}
+use Rattle.std.specs.Prelude.{is_some, is_none, slice_get}
 use Rattle.std.specs.Option.{option_map_or}
 use Rattle.tab_ids.specs.declared.ReqId.{ReqId}
 use Rattle.tab_ids.specs.declared.Step.{Step}
@@ -16,13 +16,9 @@ use Rattle.log_model.specs.declared.row.Row.{Row}
 use Rattle.log_model.specs.declared.row_kind.LogRow.{LogRow}
 use Rattle.log_model.specs.Seen.{Seen, Asked}
 use Rattle.log_model.specs.Places.{top, is_shown, all_stand, pair_at}
-use Rattle.log_model.specs.After.{after}
 use Rattle.log_model.specs.Logs.{seen_of, is_quiet, is_still, is_idle, is_prompt_up}
 use Rattle.log_model.specs.Settled.{shows, is_settled, is_settled_if_quiet}
-use Rattle.log_model.specs.Legal.{IsLegalEvent}
 use Rattle.log_model.proofs.Refl.{nat_eq_refl, bytes_eq_refl, same_memo_refl, same_entry_refl}
-use Rattle.log_model.proofs.Laws.{seen_of_append}
-use Rattle.log_model.proofs.LegalLaws.{legal_more}
 use Rattle.world_laws.specs.Single.{Single, Past, seen_with, seen_shown, desk_with}
 use Rattle.world_laws.specs.Keeps.{IsPlain, Face, face_of_row, face_of_view, spot, due, orders_of, places, open_from, AreUpdates, IsUpdate, IsShowing, IsSent, IsCome, Coming, sent, IsResting, IsRunning, IsOnItsWay, AreCalm, Keeps, KeepsPast, IsWorld}
 use Rattle.world_laws.proofs.Plain.{history_length-plain, history_index-plain, target_entry-plain}
@@ -125,22 +121,6 @@ settled_of_keeps n p t keeps kept =
     by_run : (running : Option (ReqId × Step)) → t.running ≡ running → IsOnItsWay n t keeps.target running → t.input ≡ [] → t.mail ≡ [] → t.in_hand ≡ None → t.reports ≡ [] → is_settled (seen_with p t) ≡ true
     by_run None e way input mail in_hand reports = rested_settled n p t keeps kept e way input mail in_hand reports
     by_run (Some run) e way input mail in_hand reports = absurd (run_waits n t keeps.target run way mail in_hand reports)
-
--- one more event of a world
-pub world_more : (log : List LogRow) (t next : Single) (past : Past) (first : LogRow) (rows : List LogRow) → (world : IsWorld log t) → IsLegalEvent (seen_with world.past t) (first ∷ rows) → fold after (seen_with world.past t) (first ∷ rows) ≡ seen_with past next → (keeps : Keeps (length log + length (first ∷ rows)) next) → KeepsPast (length log + length (first ∷ rows)) past next keeps.target keeps.way → IsWorld (log ++ first ∷ rows) next
-world_more log t next past first rows world event comes keeps kept =
-    let long : length (log ++ first ∷ rows) ≡ length log + length (first ∷ rows) = length-append log (first ∷ rows) in
-    let both = transported long keeps kept in
-    record {
-      past = past;
-      tied = seen_of_append log (first ∷ rows) ∙ ap (λ (s : Seen). fold after s (first ∷ rows)) world.tied ∙ comes;
-      legal = legal_more log first rows (rw world.tied world.keeps.some) world.legal (rw world.tied event);
-      keeps = both.0;
-      kept = both.1;
-    }
-  where
-    transported : {n m : ℕ} → m ≡ n → (keeps : Keeps n next) → KeepsPast n past next keeps.target keeps.way → (k : Keeps m next) × KeepsPast m past next k.target k.way
-    transported {n} {m} same keeps kept = subst (λ (i : ℕ). (k : Keeps i next) × KeepsPast i past next k.target k.way) (sym same) (keeps, kept)
 
 -- the bound of updates may grow
 IsUpdate_more : (n m : ℕ) (task : Task) → n ≤ m → IsUpdate n task → IsUpdate m task

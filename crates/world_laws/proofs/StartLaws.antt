@@ -207,7 +207,7 @@ module _ (start : Seen) (own : LogRow) (leads : (kind : RowKind) → may_follow 
       begun_same k p from start event actor (own ∷ more) (begins ∷ applies ∷ start_kinds next rest) _ (start_state next rest) _ same (state_same t req delta goal rest somewhere near)
       (begun_row k p began from from start event actor (own ∷ more) begins (applies ∷ start_kinds next rest) (start_state next rest)
       (after_started p from actor event 0 goal req go.asking is.calm go.at)
-      (passes_started m p t req delta rest event is start own leads actor worker go.asking go.at go.what go.unstarted go.unmade alone.open_ more _ goal somewhere (unasked req event actor next rest))
+      (passes_started m p t req delta rest event is start own leads actor worker go.asking go.at go.what go.unstarted go.unmade alone.open_ more _ goal somewhere (unasked req event actor next rest) refl)
       (begun_row k began ended_ from (record next { events = event + 1; queue = rest }) start event actor (own ∷ more ++ begin_row ∷ []) applies (start_kinds next rest) (start_state next rest)
       comes
       (passes_applied m p t req delta rest event is start own leads actor worker go.asking go.at go.what go.unstarted go.unmade alone.open_ (more ++ begin_row ∷ []) _ goal low near)
@@ -233,7 +233,7 @@ module _ (start : Seen) (own : LogRow) (leads : (kind : RowKind) → may_follow 
       begun_same k p from start event actor (own ∷ more) (begins ∷ sends ∷ []) _ final _ same (state_shown t req delta goal rest row somewhere apart found)
       (begun_row k p began from from start event actor (own ∷ more) begins (sends ∷ []) final
       (after_started p from actor event 0 goal req go.asking is.calm go.at)
-      (passes_started m p t req delta rest event is start own leads actor worker go.asking go.at go.what go.unstarted go.unmade alone.open_ more _ goal somewhere (rw (unasked_row req event actor t req goal row) refl))
+      (passes_started m p t req delta rest event is start own leads actor worker go.asking go.at go.what go.unstarted go.unmade alone.open_ more _ goal somewhere (rw (unasked_row req event actor t req goal row) refl) refl)
       (begun_row k began last from (record final { events = event + 1 }) start event actor (own ∷ more ++ begin_row ∷ []) sends [] final
       sent_
       (passes_shown m p t req delta rest event is start own leads actor worker go.asking go.at go.what go.unstarted go.unmade alone.open_ (more ++ begin_row ∷ []) [] goal row low apart found)

@@ -1,6 +1,6 @@
 -- Each row with which a traversal begins is legal, wherever in its event it stands.
 use Rattle.std.proofs.Common.{◌≡◌, ℕ, ◌+◌, ◌<◌, ◌≤◌, ℤ, pos, negsuc, ◌+ℤ◌, Bool, true, false, not, ◌&&◌, ◌||◌, ◌==◌, List, [], ◌∷◌, ◌++◌, length, Option, Some, None, refl, sym, ap, ◌∙◌, arith}
-use Rattle.std.specs.Prelude.{filter, slice_get, nat_lt, nat_le, if◌then◌else◌}
+use Rattle.std.specs.Prelude.{filter, take_while, slice_get, nat_lt, nat_le, if◌then◌else◌}
 use Rattle.std.specs.List.{list_all, filter_map, cons_option}
 use Rattle.std.specs.Option.{option_map_or}
 use Rattle.std.proofs.lemmas.Bool.Decides.{nat_tests}
@@ -18,7 +18,7 @@ use Rattle.log_model.specs.declared.row_kind.RowKind.{RowKind}
 use Rattle.log_model.specs.declared.row_kind.RowKind.TheVariants as rows
 use Rattle.log_model.specs.Equal.{same_list, has_req}
 use Rattle.log_model.specs.History.{used_step_at, greatest_step, target_entry, same_entry}
-use Rattle.log_model.specs.Places.{top, is_traversal, is_reload, is_under_way, aim_of}
+use Rattle.log_model.specs.Places.{top, is_traversal, is_reload, is_under_way, aim_of, passed_traversal}
 use Rattle.log_model.specs.Seen.{Seen, Asked, request_in}
 use Rattle.log_model.specs.After.{after}
 use Rattle.log_model.specs.Events.{Point, each_point}
@@ -27,7 +27,10 @@ use Rattle.log_model.specs.Once.{index_at_delta, step_at_delta, is_once_row}
 use Rattle.log_model.specs.Causes.{denial_at_start, due_denial, is_caused_row}
 use Rattle.log_model.specs.Points.{is_accepted_here, ends_in}
 use Rattle.log_model.specs.Queue.{is_queued_row, is_queue_free, is_step_under_way, begins_in_turn}
-use Rattle.log_model.specs.Orders.{is_ordered_row, question_in, same_question}
+use Rattle.log_model.specs.Orders.{is_ordered_row, is_for, is_question, question_in, same_question}
+use Rattle.log_model.specs.ActsAtOnce.{is_row_in_time}
+use Rattle.log_model.specs.Suits.{is_suitable_row}
+use Rattle.log_model.specs.declared.header.Header.{Header}
 use Rattle.log_model.specs.Checks.{is_checked, is_checked_row}
 use Rattle.log_model.proofs.Refl.{nat_eq_refl, same_entry_refl, same_memo_refl, bytes_eq_refl}
 use Rattle.world_laws.specs.Single.{Single, Past, seen_with}
@@ -37,7 +40,8 @@ use Rattle.world_laws.specs.Keeps.{IsPlain, AreCalm}
 use Rattle.world_laws.proofs.Plain.{get_beyond, steps_from, length-steps_from, used_steps-plain, get-steps_from, used_step_at-plain, greatest_step-plain, history_length-plain, history_index-plain, target_entry-plain}
 use Rattle.world_laws.proofs.Asks.{calm_request, no_load, one_runs, passed_calm, passed_runs, implies_true}
 use Rattle.world_laws.proofs.AfterLaws.{IsWorker}
-use Rattle.world_laws.proofs.SettledLaws.{all_stand_at}
+use Rattle.world_laws.proofs.SettledLaws.{all_stand_at, shown_top}
+use Rattle.world_laws.proofs.MoreLaws.{FitsIn, both}
 use Rattle.world_laws.proofs.Idle.{IsIdle, begun_request, begun_at, begun_calm}
 
 -- a row passes each test of its event
@@ -48,6 +52,8 @@ pub record Passes (p : Point) (row : LogRow) : Type 0 where
   pub queued : is_queued_row p row ≡ true
   pub ordered : is_ordered_row p row ≡ true
   pub checked : is_checked_row p row ≡ true
+  pub in_time : is_row_in_time p row ≡ true
+  pub suits : (header : Header) → is_suitable_row header p row ≡ true
 
 -- so do all rows
 abbrev pub EachPasses : Seen → Seen → List LogRow → List LogRow → Type 0
@@ -59,6 +65,14 @@ pub each_passes : (test : Point → LogRow → Bool) → ((p : Point) (row : Log
 each_passes test get start now done [] are = refl
 each_passes test get start now done (row ∷ rows) are =
     rw (get _ row are.0, each_passes test get start (after now row) (done ++ row ∷ []) rows are.1) refl
+
+-- rows that pass are in time, and suit each settings
+pub passing_fits : (s : Seen) (rows : List LogRow) → EachPasses s s [] rows → FitsIn s rows
+passing_fits s rows passes =
+    record {
+      in_time = each_passes is_row_in_time (λ p row is. is.in_time) s s [] rows passes;
+      suits = λ header. each_passes (is_suitable_row header) (λ p row is. is.suits header) s s [] rows passes;
+    }
 
 -- ---- the queue is free, and where a delta leads
 
@@ -112,7 +126,7 @@ step_there p t delta plain within = by_step (pos t.history.current +ℤ delta) r
 -- ---- the rows
 
 -- no document has a handler
-unasked_leaves : (b : Bool) → same_list same_question [] (cons_option (if b then None else None) []) ≡ true
+unasked_leaves : (b : Bool) → (same_list same_question [] (cons_option (if b then None else None) []) && same_list same_question [] (cons_option (if b then None else None) [])) ≡ true
 unasked_leaves true = refl
 unasked_leaves false = refl
 
@@ -151,20 +165,24 @@ module _ (m : ℕ) (p : Past) (t : Single) (req : ReqId) (delta : ℤ) (rest : L
         queued = rw found_at (rw in_turn (implies_true _));
         ordered = refl;
         checked = refl;
+        in_time = refl;
+        suits = λ header. refl;
       }
 
   -- ---- it begins
 
-  pub passes_started : (more later : List LogRow) (goal : ℕ) → goal_at t delta ≡ Some goal → filter_map (question_in req) later ≡ [] → Passes (record { start = start; now = seen_with p before; done = own ∷ more; later = later }) (record { event = event; actor = actor; row = rows.Started req (Some (record { 0 = goal })) })
-  passes_started more later goal somewhere unasked =
+  pub passes_started : (more later : List LogRow) (goal : ℕ) → goal_at t delta ≡ Some goal → filter_map (question_in req) later ≡ [] → filter_map (question_in req) (take_while is_question later) ≡ [] → Passes (record { start = start; now = seen_with p before; done = own ∷ more; later = later }) (record { event = event; actor = actor; row = rows.Started req (Some (record { 0 = goal })) })
+  passes_started more later goal somewhere unasked none_first =
       let there : step_at_delta (seen_with p before) delta ≡ Some goal = step_there p before delta is.plain is.within ∙ somewhere in
       record {
         formed = rw (leads (rows.Started req (Some (record { 0 = goal })))) (rw found_at refl);
-        once = rw found_at (rw (unstarted, asks) (rw there (nat_eq_refl goal)));
+        once = rw found_at (rw (unstarted, open_, asks) (rw there (nat_eq_refl goal)));
         caused = rw found_at (rw asks refl);
         queued = rw found_at (rw in_turn (implies_true _));
-        ordered = rw found_at (rw unasked (unasked_leaves _));
+        ordered = rw found_at (rw (unasked, none_first) (unasked_leaves _));
         checked = refl;
+        in_time = refl;
+        suits = λ header. refl;
       }
 
   -- the state once it has begun
@@ -178,10 +196,15 @@ module _ (m : ℕ) (p : Past) (t : Single) (req : ReqId) (delta : ℤ) (rest : L
   began_at : (goal : ℕ) → request_in (began goal).requests req ≡ Some (begun_request p before goal q)
   began_at goal = begun_at p before req goal q found_at
 
+  -- it is the one that runs
+  began_passed : (goal : ℕ) → passed_traversal (seen_with (began goal) before) ≡ Some (begun_request p before goal q)
+  began_passed goal =
+      passed_runs (seen_with (began goal) before) (began goal).requests req.0 (began_calm goal) ∙ one_runs (began goal).requests req (begun_request p before goal q) (began_calm goal) (began_at goal)
+
   -- the aim is then its goal
   began_aim : (goal : ℕ) → goal < length t.history.rows → aim_of (seen_with (began goal) before) ≡ goal
   began_aim goal low =
-      let passed = passed_runs (seen_with (began goal) before) (began goal).requests req.0 (began_calm goal) ∙ one_runs (began goal).requests req (begun_request p before goal q) (began_calm goal) (began_at goal) in
+      let passed = began_passed goal in
       ap (λ (o : Option Asked). option_map_or (λ (q : Asked). option_map_or (λ (goal : Step). used_step_at t.history.rows goal.0) q.goal t.history.current) o t.history.current) passed ∙ used_step_at-plain t.history.rows goal is.plain low
 
   -- it leads to the current step, and is applied at once
@@ -200,6 +223,8 @@ module _ (m : ℕ) (p : Past) (t : Single) (req : ReqId) (delta : ℤ) (rest : L
         queued = rw at (rw aim (rw (stand, none_unparked (filter_map ends_in later)) (rw (unmade, asks) refl)));
         ordered = refl;
         checked = rw at (rw (passed_calm (seen_with (began goal) before) (begun_request p before goal q) calm.0) (implies_true _));
+        in_time = rw at (rw (unmade, asks) refl);
+        suits = λ header. refl;
       }
 
   -- its entry isn't the given one
@@ -231,4 +256,6 @@ module _ (m : ℕ) (p : Past) (t : Single) (req : ReqId) (delta : ℤ) (rest : L
         queued = refl;
         ordered = rw (nat_eq_refl (t.jobs + 1), aim) (rw (target, other, above) (rw (same_entry_refl row.entry, same_memo_refl row.memo, bytes_eq_refl row.address, state) (rw (history_length-plain t.history.rows is.plain, history_index-plain t.history.rows goal is.plain low) (rw (nat_eq_refl (length t.history.rows), nat_eq_refl goal) refl))));
         checked = rw at (rw (passed_calm (seen_with (began goal) before) (begun_request p before goal q) calm.0) (rw (implies_true (is_checked (begun_request p before goal q))) refl));
+        in_time = both (ap (λ (o : Option Asked). option_map_or (λ (q : Asked). is_for q.nr (activate_job t req goal row)) o true) (began_passed goal) ∙ ap (λ (r : ReqId). is_for r (activate_job t req goal row)) calm.1 ∙ nat_eq_refl req.0) (shown_top t.history.rows (aim_of (seen_with (began goal) before)));
+        suits = λ header. refl;
       }

@@ -33,7 +33,8 @@ use Rattle.world_laws.proofs.Ways.{way_noted, run_noted, run_other}
 use Rattle.world_laws.proofs.Kept.{joined_without}
 use Rattle.world_laws.proofs.Rows.{two_rows}
 use Rattle.world_laws.proofs.PokeLaws.{asked_length, run_pushed, run_below}
-use Rattle.world_laws.proofs.SettledLaws.{settled_of_keeps, world_more}
+use Rattle.world_laws.proofs.SettledLaws.{settled_of_keeps}
+use Rattle.world_laws.proofs.MoreLaws.{world_more}
 
 -- nothing waits for the next request
 pub next_nowhere : (n : ℕ) (t : Single) → Keeps n t → places t (next_request t).0 ≡ 0
@@ -168,4 +169,4 @@ stray_legal n p t nav action other push keeps kept =
 pub stray_world : (log : List LogRow) (t : Single) (nav : NavId) (action : Action) → (nav.0 == 0) ≡ false → IsEntry action → IsWorld log t → IsWorld (log ++ stray_rows t nav action) (strayed t)
 unfolding stray_keeps
 stray_world log t nav action other push world =
-    world_more log t (strayed t) (past_strayed world.past t nav action) _ _ world (stray_legal _ world.past t nav action other push world.keeps world.kept) (stray_comes _ world.past t nav action push world.keeps world.kept) (stray_keeps _ t world.keeps) (stray_kept _ world.past t nav action push world.keeps world.kept)
+    world_more log t (strayed t) (past_strayed world.past t nav action) _ _ world (stray_legal _ world.past t nav action other push world.keeps world.kept) (record { in_time = refl; suits = λ header. refl }) (stray_comes _ world.past t nav action push world.keeps world.kept) (stray_keeps _ t world.keeps) (stray_kept _ world.past t nav action push world.keeps world.kept)

@@ -107,12 +107,12 @@ run_noted asked others last n k t events input endings mail in_hand target (Some
 -- the running traversal stays asked for, where another request changes
 pub run_changed : (asked : List Asked) (req : ReqId) (f : Asked → Asked) (run : ReqId × Step) → req.0 ≢ run.0.0 → IsRunFor asked run → IsRunFor (on_request req f asked) run
 run_changed asked req f run apart is =
-    record { asking = is.asking; delta = is.delta; at = request_other asked req run.0 f apart ∙ is.at; what = is.what; started = is.started; goal = is.goal; unmade = is.unmade }
+    record { asking = is.asking; delta = is.delta; at = request_other asked req run.0 f apart ∙ is.at; what = is.what; started = is.started; goal = is.goal; unmade = is.unmade; moves = is.moves }
 
 -- or ends
 pub run_other : (asked : List Asked) (req : ReqId) (ending : Ending) (run : ReqId × Step) → req.0 ≢ run.0.0 → IsRunFor asked run → IsRunFor (ended asked req ending) run
 run_other asked req ending run apart is =
-    record { asking = is.asking; delta = is.delta; at = request_other asked req run.0 _ apart ∙ is.at; what = is.what; started = is.started; goal = is.goal; unmade = is.unmade }
+    record { asking = is.asking; delta = is.delta; at = request_other asked req run.0 _ apart ∙ is.at; what = is.what; started = is.started; goal = is.goal; unmade = is.unmade; moves = is.moves }
 
 -- ---- the orders that are still to be finished
 

@@ -1,6 +1,6 @@
 -- What a world of one document keeps from event to event.
 -- This project's own.
-use Rattle.std.specs.Prelude.{◌≡◌, ℕ, ◌+◌, ◌≤◌, ◌<◌, ℤ, Bool, true, false, ◌&&◌, ◌==◌, List, [], ◌∷◌, ◌++◌, length, map, fold, count_by, slice_get, option_to_list, option_map, Option, Some, None, is_none}
+use Rattle.std.specs.Prelude.{◌≡◌, ℕ, ◌+◌, ◌≤◌, ◌<◌, ℤ, Bool, true, false, ◌&&◌, ◌==◌, List, [], ◌∷◌, ◌++◌, length, map, fold, count_by, slice_get, option_to_list, option_map, Option, Some, None, is_none, IsTrue}
 use Rattle.std.specs.List.{list_any}
 use Rattle.std.specs.Option.{option_map_or}
 use Rattle.tab_ids.specs.declared.EntryId.{EntryId}
@@ -28,12 +28,16 @@ use Rattle.log_model.specs.declared.request.Request.{Request}
 use Rattle.log_model.specs.declared.request.Request.TheVariants as requests
 use Rattle.log_model.specs.declared.row.Row.{Row}
 use Rattle.log_model.specs.declared.row_kind.LogRow.{LogRow}
-use Rattle.log_model.specs.History.{same_entry}
+use Rattle.log_model.specs.History.{same_entry, has_nav}
 use Rattle.log_model.specs.Views.{View}
 use Rattle.log_model.specs.Places.{top, is_under_way, is_traversal}
-use Rattle.log_model.specs.Seen.{Asked, request_in}
+use Rattle.log_model.specs.Seen.{Asked, nothing, request_in}
 use Rattle.log_model.specs.Logs.{seen_of}
+use Rattle.log_model.specs.Events.{events_of}
 use Rattle.log_model.specs.Legal.{IsLegal}
+use Rattle.log_model.specs.ActsAtOnce.{ActsAtOnce}
+use Rattle.log_model.specs.Suits.{Suits, opens_as}
+use Rattle.log_model.specs.declared.header.Header.{Header}
 use Rattle.world_laws.specs.Single.{Single, Past, seen_with, first_process, first_document}
 
 -- ---- the history: the top's entries alone, at the steps 0, 1, 2 and so on
@@ -353,6 +357,7 @@ pub record IsRunFor (asked : List Asked) (run : ReqId × Step) : Type 0 where
   pub started : asking.is_started ≡ true
   pub goal : asking.goal ≡ Some run.1
   pub unmade : asking.made ≡ None
+  pub moves : has_nav asking.moved top ≡ true
 
 -- and the order of its number was the last that showed the top a document
 abbrev pub IsRunIn : List Asked → Option JobId → (n : ℕ) → (t : Single) → (target : Row) → (running : Option (ReqId × Step)) → IsOnItsWay n t target running → Type 0
@@ -396,5 +401,8 @@ pub record IsWorld (log : List LogRow) (t : Single) : Type 0 where
   pub past : Past
   pub tied : seen_of log ≡ seen_with past t
   pub legal : IsLegal log
+  pub at_once : ActsAtOnce log
+  -- it suits each settings as which it opens, since no document is made, discarded or kept
+  pub suits : (header : Header) → IsTrue (opens_as header nothing (events_of log)) → Suits header log
   pub keeps : Keeps (length log) t
   pub kept : KeepsPast (length log) past t keeps.target keeps.way

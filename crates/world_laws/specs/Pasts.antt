@@ -47,7 +47,7 @@ past_refused p req =
       just_finished = None;
     }
 
--- an order is taken up, or a report is delivered
+-- an order that tells length and index is sent, an order is taken up, or a report is delivered
 abbrev pub past_quiet : Past → Past
 past_quiet p = record p { just_finished = None }
 
@@ -70,10 +70,6 @@ past_applied p history req change entry =
       last_applied = entry.nr;
       just_finished = None;
     }
-
--- an order is sent for a request
-abbrev pub past_sent : Past → ReqId → Past
-past_sent p req = record p { requests = on_request req (λ q. q) p.requests; just_finished = None }
 
 -- the past as the tab was opened
 abbrev pub past_opened : List ℕ → Past

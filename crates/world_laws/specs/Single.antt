@@ -100,6 +100,7 @@ document_with p t =
       told = t.told;
       is_ready = true;
       is_fresh = true;
+      is_frozen = false;
       is_discarded = false;
       dead_by = None;
       is_known_dead = false;

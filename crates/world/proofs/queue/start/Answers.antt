@@ -1,8 +1,8 @@
-use Rattle.std.proofs.Common.{◌≡◌, ◌∙◌, sym, ap, rules}
+use Rattle.std.proofs.Common.{◌∙◌, sym, rules}
 use mir.Val.{SFits}
 use mir.Syntax.{w32}
 use Rattle.std.proofs.lemmas.Int.{to_z-of_z}
-use Rattle.world.proofs.Starts.{starting, popped_next, popped_way, started_all}
+use Rattle.world.proofs.Starts.{popped_next, popped_way}
 use Rattle.world.proofs.queue.start.Goals as goal
 
 pub waiting-preserved : goal.waiting-preserved

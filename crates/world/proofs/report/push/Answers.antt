@@ -1,10 +1,9 @@
 -- A push is made in the store, logged, and told to the document.
-use Rattle.std.proofs.Common.{◌≡◌, ◌<◌, ◌+◌, ◌++◌, ◌∷◌, [], ◌∙◌, false, sym, ap, subst, length, refl, arith, append_assoc, ℕ, List}
-use Rattle.std.specs.Prelude.{take}
+use Rattle.std.proofs.Common.{◌≡◌, ◌<◌, ◌+◌, ◌∙◌, false, sym, ap, subst, length, refl, append_assoc}
 use Rattle.std.specs.List.{list_any}
 use Rattle.log_model.specs.History.{History}
 use Rattle.log_model.specs.Soundness.{is_entry}
-use Rattle.world_laws.specs.Single.{Single, pushed_row, pushed_pair}
+use Rattle.world_laws.specs.Single.{Single, pushed_pair}
 use Rattle.world_laws.specs.Keeps.{IsPlain}
 use Rattle.world.specs.Held.{history_in, IsStraight}
 use Rattle.world.proofs.Stores.{push_fits, push_may, pushed_held, pushed_straight}

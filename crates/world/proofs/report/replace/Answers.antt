@@ -4,7 +4,6 @@ use Rattle.std.specs.List.{list_any}
 use Rattle.log_model.specs.Soundness.{is_entry}
 use Rattle.world_laws.specs.Single.{Single}
 use Rattle.world.specs.Held.{history_in, IsStraight}
-use Rattle.world.specs.Taking.{IsCurrent}
 use Rattle.world.proofs.Stores.{IsAtCurrent, at_current, replace_fits, replace_may, replaced_held}
 use Rattle.world.proofs.report.replace.Goals as goal
 

@@ -1,4 +1,4 @@
-use Rattle.std.proofs.Common.{◌≡◌, ◌<◌, ◌∙◌, sym, ap, subst, length, refl}
+use Rattle.std.proofs.Common.{◌≡◌, ◌<◌, ◌∙◌, sym, subst, length, refl}
 use Rattle.world_laws.specs.Single.{Single}
 use Rattle.world.specs.Held.{history_in, IsStraight}
 use Rattle.world.proofs.Stores.{traverse_fits, traverses}
