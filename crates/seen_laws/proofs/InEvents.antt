@@ -1,0 +1,102 @@
+-- One row more in an event.
+use Rattle.std.proofs.Common.{◌≡◌, Bool, true, false, cond, ◌||◌, Option, None, List, [], ◌∷◌, ◌++◌, map, refl, sym, ap, ◌∙◌, subst}
+use Rattle.std.proofs.lemmas.List.{map-append}
+use Rattle.log_model.specs.declared.row_kind.LogRow.{LogRow}
+use Rattle.log_model.specs.declared.row_kind.RowKind.{RowKind}
+use Rattle.log_model.specs.Seen.{Seen}
+use Rattle.log_model.specs.After.{after}
+use Rattle.seen_laws.specs.Blocks.{Here, on_row, on_rows, EachPass, MayLog}
+use Rattle.seen_laws.specs.Sending.{leads, is_led}
+use Rattle.std.specs.List.{list_any}
+use Rattle.tab_ids.specs.declared.ReqId.{ReqId}
+use Rattle.log_model.specs.declared.job.Job.{Job}
+use Rattle.log_model.specs.declared.job.Task.{Task}
+use Rattle.log_model.specs.declared.job.Task.TheVariants as tasks
+use Rattle.log_model.specs.declared.row_kind.RowKind.TheVariants as rows
+use Rattle.log_model.specs.Orders.{Question, is_for, question_in}
+use Rattle.seen_laws.specs.Sending.{IsToldTask}
+use Rattle.seen_laws.specs.InEvent.{InEvent, row_of, start_of, first_of, here_of, now_of, begins, IsRest, IsPaid, Anything, AreLegal}
+use Rattle.seen_laws.specs.Owing.{Pays, owes, MayLogOwing}
+use Rattle.seen_laws.proofs.BlockLaws.{each_pass_append}
+use Rattle.seen_laws.proofs.Owings.{pays_append, owes_append}
+
+on_rows_append : (h : Here) (rows more : List LogRow) → on_rows h (rows ++ more) ≡ on_rows (on_rows h rows) more
+on_rows_append h [] more = refl
+on_rows_append h (row ∷ rows) more = on_rows_append (on_row h row) rows more
+
+pub here_more : (e : InEvent) (out : List RowKind) (kind : RowKind) → here_of e (out ++ kind ∷ []) ≡ on_row (here_of e out) (row_of e kind)
+here_more e out kind = ap (λ (rows : List LogRow). on_rows (first_of e) rows) (map-append (row_of e) out (kind ∷ [])) ∙ on_rows_append (first_of e) (map (row_of e) out) (row_of e kind ∷ [])
+
+pub now_more : (e : InEvent) (out : List RowKind) (kind : RowKind) → now_of e (out ++ kind ∷ []) ≡ after (now_of e out) (row_of e kind)
+unfolding now_of
+now_more e out kind = ap (λ (h : Here). h.now) (here_more e out kind)
+
+-- a row that asks no document
+abbrev pub IsQuiet : InEvent → RowKind → Type 0
+IsQuiet e kind = (req : ReqId) → question_in req (row_of e kind) ≡ None
+
+or_left : (a b : Bool) → a ≡ true → (a || b) ≡ true
+or_left true b e = refl
+or_left false b e = cc
+
+any_more : (test : RowKind → Bool) (out : List RowKind) (kind : RowKind) → list_any test out ≡ true → list_any test (out ++ kind ∷ []) ≡ true
+any_more test [] kind e = cc
+any_more test (k ∷ out) kind e = by_test (test k) (any_more test out kind) e
+  where
+    by_test : (b : Bool) → (list_any test out ≡ true → list_any test (out ++ kind ∷ []) ≡ true) → (b || list_any test out) ≡ true → (b || list_any test (out ++ kind ∷ [])) ≡ true
+    by_test true more f = refl
+    by_test false more f = more f
+
+-- it keeps what the rows before it ask of what comes later
+rest_more : (e : InEvent) (out : List RowKind) (kind : RowKind) → IsQuiet e kind → (later : List LogRow) → IsRest e (out ++ kind ∷ []) later → IsRest e out (row_of e kind ∷ later) × Pays (here_of e out) (row_of e kind ∷ []) later
+rest_more e out kind quiet later rest =
+    let parts = pays_append (start_of e) (row_of e e.own ∷ map (row_of e) out) (row_of e kind ∷ []) later (subst (λ (rows : List LogRow). Pays (start_of e) (row_of e e.own ∷ rows) later) (map-append (row_of e) out (kind ∷ [])) rest.owed) in
+    (record { asks = λ req began. rw (quiet req) (rest.asks req (any_more (begins req) out kind began)); owed = parts.0 }, parts.1)
+
+-- a row that may be logged, if the event's end pays what it owes
+pub legal_more_owing : (e : InEvent) (out : List RowKind) (kind : RowKind) → IsQuiet e kind → AreLegal e out → MayLogOwing (here_of e out) (row_of e kind ∷ []) → AreLegal e (out ++ kind ∷ [])
+unfolding AreLegal
+legal_more_owing e out kind quiet legal may =
+    subst (λ (rows : List LogRow). MayLog (start_of e) (row_of e e.own ∷ rows) (IsRest e (out ++ kind ∷ []))) (sym (map-append (row_of e) out (kind ∷ []))) (λ later rest. let parts = rest_more e out kind quiet later rest in each_pass_append (start_of e) (row_of e e.own ∷ map (row_of e) out) (row_of e kind ∷ []) later (legal (row_of e kind ∷ later) parts.0) (may later parts.1))
+
+-- one that owes nothing
+pub legal_more : (e : InEvent) (out : List RowKind) (kind : RowKind) → IsQuiet e kind → AreLegal e out → MayLog (here_of e out) (row_of e kind ∷ []) Anything → AreLegal e (out ++ kind ∷ [])
+legal_more e out kind quiet legal may = legal_more_owing e out kind quiet legal (λ later pays. may later tt)
+
+-- at the event's end nothing comes later
+pub legal_end : (e : InEvent) (out : List RowKind) → AreLegal e out → IsPaid e out → EachPass (start_of e) (row_of e e.own ∷ map (row_of e) out) []
+unfolding AreLegal
+legal_end e out legal paid = legal [] (record { asks = λ req began. refl; owed = paid })
+
+both_none : (b : Bool) → (let o : Option Question = cond b None None in o) ≡ None
+both_none true = refl
+both_none false = refl
+
+-- an order that is no question
+pub order_quiet : (e : InEvent) (job : Job) (task : Task) → job.task ≡ task → IsToldTask task → IsQuiet e (rows.Sent job)
+order_quiet e job (tasks.Activate entry epoch long at memo address) is plain req = rw is (both_none (is_for req job))
+order_quiet e job (tasks.Update long at) is plain req = rw is (both_none (is_for req job))
+order_quiet e job _ is plain req = elim plain [ ]
+
+-- the event stays one that the coordinator works in
+done_led : (h : Here) (rows : List LogRow) → is_led h.done ≡ true → is_led (on_rows h rows).done ≡ true
+done_led h [] led = led
+done_led h (row ∷ rows) led = done_led (on_row h row) rows (more h.done row led)
+  where
+    more : (done : List LogRow) (row : LogRow) → is_led done ≡ true → is_led (done ++ row ∷ []) ≡ true
+    more [] row led = cc
+    more (own ∷ done) row led = led
+
+pub led_here : (e : InEvent) (out : List RowKind) → leads e.own ≡ true → is_led (here_of e out).done ≡ true
+led_here e out own = done_led (first_of e) (map (row_of e) out) own
+
+-- ---- where nothing is owed
+
+-- the rows so far owe nothing, whatever the event's end is
+abbrev pub IsClear : InEvent → List RowKind → Type 0
+IsClear e out = (end : Seen) → owes (start_of e) (row_of e e.own ∷ map (row_of e) out) end ≡ true
+
+-- an order owes nothing
+pub clear_more : (e : InEvent) (out : List RowKind) (job : Job) → IsClear e out → IsClear e (out ++ rows.Sent job ∷ [])
+clear_more e out job clear end =
+    subst (λ (l : List LogRow). owes (start_of e) (row_of e e.own ∷ l) end ≡ true) (sym (map-append (row_of e) out (rows.Sent job ∷ []))) (owes_append (start_of e) (row_of e e.own ∷ map (row_of e) out) (row_of e (rows.Sent job) ∷ []) end ∙ rw (clear end) refl)

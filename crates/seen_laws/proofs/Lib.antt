@@ -1,0 +1,11 @@
+pub mod Keyed
+pub mod Desks
+pub mod Sums
+pub mod BlockLaws
+pub mod Sendings
+pub mod Owings
+pub mod InEvents
+pub mod Startings
+pub mod Applyings
+pub mod Deliveries
+pub mod Processes

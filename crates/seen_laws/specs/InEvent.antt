@@ -1,0 +1,64 @@
+-- An event in which the coordinator works: its own row, and the rows put out so far.
+-- This project's own.
+use Rattle.std.specs.Prelude.{◌≡◌, ℕ, Bool, true, false, ◌==◌, List, [], ◌∷◌, map}
+use Rattle.std.specs.List.{list_any, filter_map}
+use Rattle.tab_ids.specs.declared.ReqId.{ReqId}
+use Rattle.log_model.specs.declared.header.Header.{Header}
+use Rattle.log_model.specs.declared.row_kind.Actor.{Actor}
+use Rattle.log_model.specs.declared.row_kind.LogRow.{LogRow}
+use Rattle.log_model.specs.declared.row_kind.RowKind.{RowKind}
+use Rattle.log_model.specs.declared.row_kind.RowKind.TheVariants as rows
+use Rattle.log_model.specs.Seen.{Seen}
+use Rattle.log_model.specs.Orders.{question_in}
+use Rattle.seen_laws.specs.Blocks.{Here, on_row, on_rows, MayLog}
+use Rattle.seen_laws.specs.Owing.{owes, Pays}
+
+-- the settings, what the log had come to as the event began, its number, its actor and its own row
+pub record InEvent : Type 0 where
+  pub header : Header
+  pub start : Seen
+  pub event : ℕ
+  pub actor : Actor
+  pub own : RowKind
+
+-- a row of the event
+abbrev pub row_of : InEvent → RowKind → LogRow
+row_of e kind = record { event = e.event; actor = e.actor; row = kind }
+
+-- where the event stands before its own row, after it, and after these rows more
+abbrev pub start_of : InEvent → Here
+start_of e = record { header = e.header; start = e.start; now = e.start; done = [] }
+
+abbrev pub first_of : InEvent → Here
+first_of e = on_row (start_of e) (row_of e e.own)
+
+abbrev pub here_of : InEvent → List RowKind → Here
+here_of e out = on_rows (first_of e) (map (row_of e) out)
+
+-- what the log has come to by then
+unfoldable pub now_of : InEvent → List RowKind → Seen
+now_of e out = (here_of e out).now
+
+-- nothing is asked of what comes later
+abbrev pub Anything : List LogRow → Type 0
+Anything later = Unit {0}
+
+-- the row begins the request
+abbrev pub begins : ReqId → RowKind → Bool
+begins req (rows.Started r goal) = r.0 == req.0
+begins req _ = false
+
+-- what the rows put out so far ask of what comes later in the event
+pub record IsRest (e : InEvent) (out : List RowKind) (later : List LogRow) : Type 0 where
+  -- a request that began among them asks no document any more
+  pub asks : (req : ReqId) → list_any (begins req) out ≡ true → filter_map (question_in req) later ≡ []
+  -- and the event's end pays what they owe to it
+  pub owed : Pays (start_of e) (row_of e e.own ∷ map (row_of e) out) later
+
+-- the own row and those put out so far pass each test, whatever comes later
+unfoldable pub AreLegal : InEvent → List RowKind → Type 0
+AreLegal e out = MayLog (start_of e) (row_of e e.own ∷ map (row_of e) out) (IsRest e out)
+
+-- what is owed is paid by what the log has come to
+abbrev pub IsPaid : InEvent → List RowKind → Type 0
+IsPaid e out = owes (start_of e) (row_of e e.own ∷ map (row_of e) out) (here_of e out).now ≡ true

@@ -1,0 +1,5 @@
+pub mod Blocks
+pub mod Owing
+pub mod InEvent
+pub mod Sending
+pub mod Applying
