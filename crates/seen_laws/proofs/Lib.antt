@@ -9,3 +9,5 @@ pub mod Startings
 pub mod Applyings
 pub mod Deliveries
 pub mod Processes
+pub mod Makings
+pub mod Strays

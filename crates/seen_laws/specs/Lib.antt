@@ -3,3 +3,4 @@ pub mod Owing
 pub mod InEvent
 pub mod Sending
 pub mod Applying
+pub mod Acting
