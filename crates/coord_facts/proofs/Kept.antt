@@ -1,0 +1,205 @@
+-- What is on its way stays so over a row: an order that is finished, taken up or told, and rows that change nothing that is read.
+use Rattle.std.proofs.Common.{◌≡◌, ℕ, Bool, true, false, ◌==◌, List, length, Option, Some, None, refl, sym, ap, ◌∙◌, subst}
+use Rattle.std.specs.Prelude.{slice_get, option_map}
+use Rattle.tab_ids.specs.declared.DocId.{DocId}
+use Rattle.tab_ids.specs.declared.EntryId.{EntryId}
+use Rattle.tab_ids.specs.declared.Epoch.{Epoch}
+use Rattle.tab_ids.specs.declared.NavId.{NavId}
+use Rattle.tab_ids.specs.declared.ProcId.{ProcId}
+use Rattle.log_model.specs.declared.job.Job.{Job}
+use Rattle.log_model.specs.declared.job.Order.{Order}
+use Rattle.log_model.specs.declared.job.Task.{Task}
+use Rattle.log_model.specs.declared.job.Task.TheVariants as tasks
+use Rattle.log_model.specs.declared.made.Made.{Made}
+use Rattle.log_model.specs.declared.outcome.Outcome.{Outcome}
+use Rattle.log_model.specs.declared.outcome.Outcome.TheVariants as outcomes
+use Rattle.log_model.specs.declared.row.Row.{Row}
+use Rattle.log_model.specs.declared.row_kind.Actor.{Actor}
+use Rattle.log_model.specs.declared.row_kind.Actor.TheVariants as actors
+use Rattle.log_model.specs.declared.row_kind.RowKind.TheVariants as rows
+use Rattle.log_model.specs.Seen.{Seen, Document, Desk, Asked, Place, document_of, desk_of, desk_in, place_in, place_of}
+use Rattle.log_model.specs.After.{after, on_desk, on_document, desk_finished, desk_taken}
+use Rattle.log_model.specs.AfterDocuments.{addressed, slot_finished, documents_finished, documents_sent}
+use Rattle.log_model.specs.AfterPlaces.{places_sent}
+use Rattle.log_model.specs.AfterRequests.{requests_finished, requests_sent}
+use Rattle.log_model.proofs.Refl.{nat_eq_refl}
+use Rattle.seen_laws.proofs.Keyed.{find_has}
+use Rattle.seen_laws.proofs.Desks.{desk_on_same, desk_on_other}
+use Rattle.coord_facts.specs.Leading.{is_live_order, once_finished, held_back, Leads, EachLeads}
+use Rattle.coord_facts.proofs.Leadings.{proc_same, LeadsOn, IsOneChange, at_home, one_leads}
+use Rattle.coord_facts.proofs.OneDocument.{leads_alike, finished_own, finished_other, taken_alike, mailed, mailed_other, updated_leads}
+
+-- ---- an order is finished
+
+-- the order in hand of a process is to a document of that process, in the incarnation that lives
+pub record IsInHand (s : Seen) (proc : ProcId) (order : Order) : Type 0 where
+  pub hand : (desk_of s proc).in_hand ≡ Some order
+  pub lives : order.job.incarnation ≡ length (desk_of s proc).killed
+  pub home : (d : Document) → document_of s order.job.doc ≡ Some d → d.proc ≡ proc
+
+-- the document made nothing, wasn't made, and answered no question
+abbrev pub IsPlainOutcome : Outcome → Type 0
+IsPlainOutcome outcomes.Activated = Unit {0}
+IsPlainOutcome outcomes.Updated = Unit {0}
+IsPlainOutcome outcomes.Frozen = Unit {0}
+IsPlainOutcome outcomes.Discarded = Unit {0}
+IsPlainOutcome _ = ⊥
+
+no_slot : (documents : List Document) (job : Job) (outcome : Outcome) → IsPlainOutcome outcome → slot_finished documents (Some job) outcome ≡ documents
+no_slot documents job outcomes.Activated is = refl
+no_slot documents job outcomes.Updated is = refl
+no_slot documents job outcomes.Frozen is = refl
+no_slot documents job outcomes.Discarded is = refl
+no_slot documents job _ is = elim is [ ]
+
+no_answer : (s : Seen) (order : Order) (outcome : Outcome) (asked : List Asked) → IsPlainOutcome outcome → requests_finished s (Some order) outcome asked ≡ asked
+no_answer s order outcomes.Activated asked is = refl
+no_answer s order outcomes.Updated asked is = refl
+no_answer s order outcomes.Frozen asked is = refl
+no_answer s order outcomes.Discarded asked is = refl
+no_answer s order _ asked is = elim is [ ]
+
+-- the order is a live one of its document
+pub is_mine : (doc : DocId) (incarnation : ℕ) (job : Job) → job.doc.0 ≡ doc.0 → job.incarnation ≡ incarnation → is_live_order doc incarnation job ≡ true
+is_mine doc incarnation job doc_is lives =
+    rw (doc_is, lives) (rw (nat_eq_refl doc.0) (nat_eq_refl incarnation))
+
+module _ (s : Seen) (event : ℕ) (proc : ProcId) (order : Order) (outcome : Outcome) (in_ : IsInHand s proc order) (plain : IsPlainOutcome outcome) where
+  abbrev after_finish : Seen
+  after_finish =
+      after s (record { event = event; actor = actors.Proc proc; row = rows.Finished proc order.job.nr outcome })
+
+  finished_documents : after_finish.documents ≡ on_document order.job.doc (λ d. once_finished d order.job) s.documents
+  finished_documents =
+      ap (λ (job : Option Job). slot_finished (documents_finished s.documents job) job outcome) (ap (λ (o : Option Order). option_map (λ (x : Order). x.job) o) in_.hand)
+      ∙ no_slot (documents_finished s.documents (Some order.job)) order.job outcome plain
+
+  finished_requests : after_finish.requests ≡ s.requests
+  finished_requests =
+      ap (λ (o : Option Order). requests_finished s o outcome s.requests) in_.hand ∙ no_answer s order outcome s.requests plain
+
+  finished_change : EachLeads s → IsOneChange s after_finish proc (desk_finished outcome) order.job.doc (λ d. once_finished d order.job)
+  finished_change each =
+      record {
+        desks = refl;
+        documents = finished_documents;
+        rows = refl;
+        held = ap (λ (asked : List Asked). held_back asked s.parked) finished_requests;
+        keeps_proc = λ desk. refl;
+        keeps_number = λ d. refl;
+        stays = λ d. refl;
+        home = in_.home;
+        own = λ nav place d placed wakes there. leads_alike s.history.rows (held_back s.requests s.parked) (desk_of s proc) (desk_finished outcome (desk_of s proc)) d (once_finished d order.job) place.given place.epoch (finished_own (held_back s.requests s.parked) (desk_of s proc) order outcome d place.epoch in_.hand (is_mine d.nr (length (desk_of s proc).killed) order.job (sym (find_has (λ (x : Document). x.nr.0) order.job.doc.0 s.documents d there)) in_.lives)) (at_home s proc d place.given place.epoch (in_.home d there) (each nav place order.job.doc d placed wakes there));
+        others = λ nav place at placed wakes apart. placed;
+        other = λ d apart given epoch leads. leads_alike s.history.rows (held_back s.requests s.parked) (desk_of s proc) (desk_finished outcome (desk_of s proc)) d d given epoch (finished_other (held_back s.requests s.parked) (desk_of s proc) order outcome d epoch in_.hand apart) leads;
+      }
+
+  pub finished_leads : EachLeads s → EachLeads after_finish
+  finished_leads each =
+      one_leads s after_finish proc (desk_finished outcome) order.job.doc (λ d. once_finished d order.job) (finished_change each) each
+
+-- ---- an Update is sent
+
+-- the order goes to the process of its document, in the incarnation that lives
+pub record IsSentHome (s : Seen) (job : Job) : Type 0 where
+  pub lives : job.incarnation ≡ length (desk_of s job.proc).killed
+  pub home : (d : Document) → document_of s job.doc ≡ Some d → d.proc ≡ job.proc
+
+module _ (s : Seen) (event : ℕ) (actor : Actor) (job : Job) (long at : ℕ) (task : job.task ≡ tasks.Update long at) (sent : IsSentHome s job) where
+  abbrev after_update : Seen
+  after_update = after s (record { event = event; actor = actor; row = rows.Sent job })
+
+  was_placed : (nav : NavId) (place : Place) → place_of after_update nav ≡ Some place → place_of s nav ≡ Some place
+  was_placed nav place placed =
+      ap (λ (places : List Place). place_in places nav) (sym (ap (λ (t : Task). places_sent s job t) task)) ∙ placed
+
+  update_change : EachLeads s → IsOneChange s after_update job.proc (mailed job) job.doc (addressed job.task)
+  update_change each =
+      record {
+        desks = refl;
+        documents = ap (λ (t : Task). documents_sent s job t) task ∙ ap (λ (t : Task). on_document job.doc (addressed t) s.documents) (sym task);
+        rows = refl;
+        held = ap (λ (asked : List Asked). held_back asked s.parked) (ap (λ (t : Task). requests_sent s job t s.requests) task);
+        keeps_proc = λ desk. refl;
+        keeps_number = λ d. refl;
+        stays = λ d. refl;
+        home = sent.home;
+        own = λ nav place d placed wakes there. updated_leads s.history.rows (held_back s.requests s.parked) (desk_of s job.proc) d job long at place.given place.epoch task (is_mine d.nr (length (desk_of s job.proc).killed) job (sym (find_has (λ (x : Document). x.nr.0) job.doc.0 s.documents d there)) sent.lives) (at_home s job.proc d place.given place.epoch (sent.home d there) (each nav place job.doc d (was_placed nav place placed) wakes there));
+        others = λ nav place at_ placed wakes apart. was_placed nav place placed;
+        other = λ d apart given epoch leads. leads_alike s.history.rows (held_back s.requests s.parked) (desk_of s job.proc) (mailed job (desk_of s job.proc)) d d given epoch (mailed_other (held_back s.requests s.parked) (desk_of s job.proc) job d epoch apart) leads;
+      }
+
+  pub update_leads : EachLeads s → EachLeads after_update
+  update_leads each =
+      one_leads s after_update job.proc (mailed job) job.doc (addressed job.task) (update_change each) each
+
+-- ---- nothing that is read changes
+
+-- a navigable that is awake was so before, at the same given entry and under the same epoch
+pub record WasAwake (s : Seen) (nav : NavId) (place : Place) : Type 0 where
+  pub before : Place
+  pub there : place_of s nav ≡ Some before
+  pub status : before.status ≡ place.status
+  pub given : before.given ≡ place.given
+  pub epoch : before.epoch ≡ place.epoch
+
+abbrev pub EachWasAwake : Seen → Seen → Type 0
+EachWasAwake s next = (nav : NavId) (place : Place) → place_of next nav ≡ Some place → WasAwake s nav place
+
+-- for each document its desk leads on, and all else that is read is as it was
+pub record IsNoChange (s next : Seen) : Type 0 where
+  pub documents : next.documents ≡ s.documents
+  pub places : EachWasAwake s next
+  pub rows : next.history.rows ≡ s.history.rows
+  pub held : held_back next.requests next.parked ≡ held_back s.requests s.parked
+  pub leads_on : (d : Document) → LeadsOn s.history.rows (held_back s.requests s.parked) (desk_of s d.proc) d (desk_of next d.proc) d
+
+-- what is on its way for a document, with this desk
+abbrev Led : Seen → Document → Option EntryId → Epoch → Desk → Type 0
+Led s d given epoch desk = Leads s.history.rows (held_back s.requests s.parked) desk d given epoch
+
+pub unread_leads : (s next : Seen) → IsNoChange s next → EachLeads s → EachLeads next
+unread_leads s next is each nav place doc d placed wakes found =
+    let was : WasAwake s nav place = is.places nav place placed in
+    let there : document_of s doc ≡ Some d = ap (λ (documents : List Document). document_of (record s { documents = documents }) doc) (sym is.documents) ∙ found in
+    let before : Led s d was.before.given was.before.epoch (desk_of s d.proc) = each nav was.before doc d was.there (was.status ∙ wakes) there in
+    let led : Led s d place.given place.epoch (desk_of s d.proc) = subst (λ (given : Option EntryId). Led s d given place.epoch (desk_of s d.proc)) was.given (subst (λ (epoch : Epoch). Led s d was.before.given epoch (desk_of s d.proc)) was.epoch before) in
+    subst (λ (rows : List Row). Leads rows (held_back next.requests next.parked) (desk_of next d.proc) d place.given place.epoch) (sym is.rows)
+    (subst (λ (held : List Made). Leads s.history.rows held (desk_of next d.proc) d place.given place.epoch) (sym is.held)
+    (is.leads_on d place.given place.epoch led))
+
+-- the places are as they were
+pub same_places : (s next : Seen) → next.places ≡ s.places → EachWasAwake s next
+same_places s next same nav place placed =
+    record {
+      before = place;
+      there = ap (λ (places : List Place). place_in places nav) (sym same) ∙ placed;
+      status = refl;
+      given = refl;
+      epoch = refl;
+    }
+
+-- one desk changes, and leads on for each document
+pub desk_leads_on : (s next : Seen) (proc : ProcId) (f : Desk → Desk) → next.desks ≡ on_desk proc f s.desks → ((desk : Desk) → (f desk).proc ≡ desk.proc) → ((d : Document) → LeadsOn s.history.rows (held_back s.requests s.parked) (desk_of s proc) d (f (desk_of s proc)) d) → (d : Document) → LeadsOn s.history.rows (held_back s.requests s.parked) (desk_of s d.proc) d (desk_of next d.proc) d
+desk_leads_on s next proc f desks keeps on d given epoch was = by_process (proc.0 == d.proc.0) refl
+  where
+    by_process : (b : Bool) → (proc.0 == d.proc.0) ≡ b → Led s d given epoch (desk_of next d.proc)
+    by_process true e =
+        let same : proc ≡ d.proc = proc_same proc d.proc e in
+        let own : desk_of next proc ≡ f (desk_of s proc) = ap (λ (l : List Desk). desk_in l proc) desks ∙ desk_on_same f s.desks proc keeps in
+        subst (λ (p : ProcId). Led s d given epoch (desk_of next p)) same (subst (Led s d given epoch) (sym own) (on d given epoch (subst (λ (p : ProcId). Led s d given epoch (desk_of s p)) (sym same) was)))
+    by_process false e =
+        let other : desk_of next d.proc ≡ desk_of s d.proc = ap (λ (l : List Desk). desk_in l d.proc) desks ∙ desk_on_other f s.desks proc d.proc keeps e in
+        subst (Led s d given epoch) (sym other) was
+
+-- a live order is taken up
+pub taken_leads : (s : Seen) (event : ℕ) (proc : ProcId) (job : Job) (dirty : Bool) → (desk_of s proc).in_hand ≡ None → slice_get (desk_of s proc).mail 0 ≡ Some job → EachLeads s → EachLeads (after s (record { event = event; actor = actors.Proc proc; row = rows.Taken proc job.nr true dirty }))
+taken_leads s event proc job dirty free first =
+    unread_leads s (after s (record { event = event; actor = actors.Proc proc; row = rows.Taken proc job.nr true dirty }))
+    (record {
+      documents = refl;
+      places = λ nav place placed. record { before = place; there = placed; status = refl; given = refl; epoch = refl };
+      rows = refl;
+      held = refl;
+      leads_on = desk_leads_on s (after s (record { event = event; actor = actors.Proc proc; row = rows.Taken proc job.nr true dirty })) proc (desk_taken true dirty) refl (λ desk. refl) (λ d given epoch leads. leads_alike s.history.rows (held_back s.requests s.parked) (desk_of s proc) (desk_taken true dirty (desk_of s proc)) d d given epoch (taken_alike (held_back s.requests s.parked) (desk_of s proc) job dirty d epoch free first) leads);
+    })

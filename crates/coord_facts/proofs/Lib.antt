@@ -1,0 +1,11 @@
+pub mod OnItsWays
+pub mod Singles
+pub mod Settlings
+pub mod Leadings
+pub mod OneDocument
+pub mod Kept
+pub mod Shown
+pub mod Arrived
+pub mod Whose
+pub mod OneMade
+pub mod Makes

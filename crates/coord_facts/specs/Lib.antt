@@ -1,0 +1,3 @@
+pub mod OnItsWay
+pub mod Leading
+pub mod Reaching
