@@ -1,8 +1,8 @@
 #!/usr/bin/env python3
 """Times the proved program on scenarios of which it reads all lines and plays none.
 
-Each has lines of all kinds that the program plays, and a header with sites and pages; on the mean they have 64 bytes, and
-the longest text has 65,536 of them, which is the limit on both. The last line is faulty, so that all lines before it are
+Each has lines of all kinds that the program plays; on the mean they have 64 bytes, and the longest text has 65,536 of them,
+which is the limit on both. The last line is faulty, so that all lines before it are
 read and kept, and nothing else is done.
 
 `python3 bench/reading.py [PROGRAM]` wants crates/tab/out/tab, or the program that it names:
@@ -15,8 +15,7 @@ from timing import MOST_RATIO, Run, grown, proved_program, shown, timed, within
 SIZES = [16_384, 32_768, 65_536]
 LINE = 64
 REFUSED = 2
-HEADER = ["session 1", "keep 64"] + [f"site http://s{i}.test {i % 16 + 1}" for i in range(20)] \
-    + [f"page http://s{i}.test/p {i}" for i in range(20)] + ["open http://a.test/"]
+HEADER = ["session 1", "keep 64", "open http://a.test/"]
 LONG = ["push 0 s{} /", "replace 4095 s{} ../", "fragment 0 f{}-", "push 1 - /{}", "#{} "]
 SHORT = ["go -1", "act 16", "settle", "begin 1", "go 999", "finish 2", "deliver 10"]
 
