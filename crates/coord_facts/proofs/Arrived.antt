@@ -24,8 +24,9 @@ use Rattle.log_model.specs.AfterPlaces.{on_place, place_arrived, places_delivere
 use Rattle.log_model.specs.AfterRequests.{made_of_report, requests_delivered, is_held_back}
 use Rattle.seen_laws.proofs.Keyed.{find_on_same, find_on_other}
 use Rattle.coord_facts.specs.Leading.{is_made_under, held_back, EachLeads}
+use Rattle.coord_facts.proofs.Leadings.{LeadsIn, leads_again}
 use Rattle.coord_facts.proofs.OneDocument.{LooksAlike, leads_alike}
-use Rattle.coord_facts.proofs.Kept.{IsPlainOutcome, WasAwake, unread_leads, desk_leads_on}
+use Rattle.coord_facts.proofs.Kept.{IsPlainOutcome, WasAwake, EachWasAwake, unread_stays, desk_stays_on}
 
 -- the report of an order is the first
 abbrev pub IsFirstReport : Desk → Job → Outcome → Type 0
@@ -125,13 +126,21 @@ module _ (s : Seen) (event : ℕ) (proc : ProcId) (job : Job) (outcome : Outcome
   places_as : after_delivery.places ≡ places_delivered s (Some (reports.Done job outcome None))
   places_as = ap (λ (o : Option Report). places_delivered s o) first
 
+  pub places_before : EachWasAwake s after_delivery
+  places_before nav place placed =
+      delivered_before s job outcome job.task refl nav place (ap (λ (places : List Place). place_in places nav) (sym places_as) ∙ placed)
+
+  pub documents_as : after_delivery.documents ≡ s.documents
+  documents_as =
+      ap (λ (o : Option Report). documents_delivered s.documents o) first ∙ same_documents s.documents job outcome plain
+
   pub delivered_leads : EachLeads s → EachLeads after_delivery
-  delivered_leads =
-      unread_leads s after_delivery
+  delivered_leads each =
+      leads_again s after_delivery refl (ap (λ (asked : List Asked). held_back asked after_delivery.parked) requests_as ∙ ap (λ (parked : List ReqId). held_back s.requests parked) parked_as)
+      (unread_stays (LeadsIn s) s after_delivery
       (record {
-        documents = ap (λ (o : Option Report). documents_delivered s.documents o) first ∙ same_documents s.documents job outcome plain;
-        places = λ nav place placed. delivered_before s job outcome job.task refl nav place (ap (λ (places : List Place). place_in places nav) (sym places_as) ∙ placed);
-        rows = refl;
-        held = ap (λ (asked : List Asked). held_back asked after_delivery.parked) requests_as ∙ ap (λ (parked : List ReqId). held_back s.requests parked) parked_as;
-        leads_on = desk_leads_on s after_delivery proc desk_delivered refl (λ desk. refl) (λ d given epoch leads. leads_alike s.history.rows (held_back s.requests s.parked) (desk_of s proc) (desk_delivered (desk_of s proc)) d d given epoch (coming_alike (held_back s.requests s.parked) (desk_of s proc) job outcome d epoch first) leads);
+        documents = documents_as;
+        places = places_before;
+        stays_on = desk_stays_on (LeadsIn s) s after_delivery proc desk_delivered refl (λ desk. refl) (λ d given epoch leads. leads_alike s.history.rows (held_back s.requests s.parked) (desk_of s proc) (desk_delivered (desk_of s proc)) d d given epoch (coming_alike (held_back s.requests s.parked) (desk_of s proc) job outcome d epoch first) leads);
       })
+      each)

@@ -9,3 +9,5 @@ pub mod Arrived
 pub mod Whose
 pub mod OneMade
 pub mod Makes
+pub mod Reached
+pub mod Reachings

@@ -18,7 +18,7 @@ use Rattle.seen_laws.specs.Acting.{IsToAct, IsNoEdit}
 use Rattle.seen_laws.proofs.Keyed.{find_has}
 use Rattle.coord_facts.specs.Leading.{is_made_under, held_back, coming, Leads, EachLeads}
 use Rattle.coord_facts.specs.Reaching.{Reaches, EachReaches}
-use Rattle.coord_facts.proofs.Leadings.{IsOneChange, at_home, one_leads}
+use Rattle.coord_facts.proofs.Leadings.{IsOneChange, one_stays, LeadsIn, at_home, leads_again}
 use Rattle.coord_facts.proofs.OneDocument.{LooksAlike, leads_alike}
 use Rattle.coord_facts.proofs.OneMade.{coming_made, once_made, making_leads}
 
@@ -43,7 +43,7 @@ module _ (s : Seen) (proc : ProcId) (poke : Poke) (q : Asked) (of : NavId) (d : 
   after_making = after s row
 
   -- the row begins an event, so it isn't of an order that was just finished
-  unfollowed : follows_finished s row ≡ false
+  pub unfollowed : follows_finished s row ≡ false
   unfollowed =
       let anew : (s.events == (s.events + 1)) ≡ false = grind (arith, nat_tests) in rw anew refl
 
@@ -60,23 +60,21 @@ module _ (s : Seen) (proc : ProcId) (poke : Poke) (q : Asked) (of : NavId) (d : 
       subst (λ (x : Document). Leads s.history.rows (held_back s.requests s.parked) (desk_made made (desk_of s proc)) (once_made what x) place.given place.epoch) same
       (making_leads s.history.rows (held_back s.requests s.parked) (desk_of s proc) d view poke.req what place.given place.epoch acts.has its is on was)
 
-  made_change : EachLeads s → held_back after_making.requests s.parked ≡ held_back s.requests s.parked → IsOneChange s after_making proc (desk_made made) view.doc (once_made what)
-  made_change each held =
+  made_change : EachLeads s → IsOneChange (LeadsIn s) s after_making proc (desk_made made) view.doc (once_made what)
+  made_change each =
       record {
         desks = ap (λ (b : Bool). on_desk proc (desks_made b made) s.desks) unfollowed;
         documents = refl;
-        rows = refl;
-        held = held;
         keeps_proc = λ desk. refl;
         keeps_number = λ x. refl;
         stays = λ x. refl;
         home = λ x there. (let same : d ≡ x = (let some : Some d ≡ Some x = sym acts.there ∙ there in cc) in ap (λ (y : Document). y.proc) (sym same) ∙ acts.home);
         own = own each;
         others = λ nav place at placed wakes apart. placed;
-        other = λ x apart given epoch leads. leads_alike s.history.rows (held_back s.requests s.parked) (desk_of s proc) (desk_made made (desk_of s proc)) x x given epoch (made_elsewhere (held_back s.requests s.parked) (desk_of s proc) made x epoch is apart) leads;
+        other = λ x given epoch apart leads. leads_alike s.history.rows (held_back s.requests s.parked) (desk_of s proc) (desk_made made (desk_of s proc)) x x given epoch (made_elsewhere (held_back s.requests s.parked) (desk_of s proc) made x epoch is apart) leads;
       }
 
   -- where the request isn't one that is held back, what leads for each document leads on
   pub made_leads : held_back after_making.requests s.parked ≡ held_back s.requests s.parked → EachLeads s → EachLeads after_making
   made_leads held each =
-      one_leads s after_making proc (desk_made made) view.doc (once_made what) (made_change each held) each
+      leads_again s after_making refl held (one_stays (LeadsIn s) s after_making proc (desk_made made) view.doc (once_made what) (made_change each) each)

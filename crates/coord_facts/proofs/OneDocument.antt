@@ -52,10 +52,10 @@ coming_done held desk order outcome doc epoch hand =
     let more : filter_map made_of_report (desk.reports ++ reports.Done order.job outcome None ∷ []) ≡ filter_map made_of_report desk.reports = filter_map-append made_of_report desk.reports (reports.Done order.job outcome None ∷ []) ∙ append-nil (filter_map made_of_report desk.reports) in
     rw hand (ap (λ (l : List Made). filter (is_made_under doc epoch) (held ++ l)) more)
 
-orders_finished_own : (desk : Desk) (order : Order) (outcome : Outcome) (doc : DocId) → desk.in_hand ≡ Some order → is_live_order doc (length desk.killed) order.job ≡ true → order.job ∷ orders_for (desk_finished outcome desk) doc ≡ orders_for desk doc
+pub orders_finished_own : (desk : Desk) (order : Order) (outcome : Outcome) (doc : DocId) → desk.in_hand ≡ Some order → is_live_order doc (length desk.killed) order.job ≡ true → order.job ∷ orders_for (desk_finished outcome desk) doc ≡ orders_for desk doc
 orders_finished_own desk order outcome doc hand lives = rw hand (rw lives refl)
 
-orders_finished_other : (desk : Desk) (order : Order) (outcome : Outcome) (doc : DocId) → desk.in_hand ≡ Some order → (order.job.doc.0 == doc.0) ≡ false → orders_for (desk_finished outcome desk) doc ≡ orders_for desk doc
+pub orders_finished_other : (desk : Desk) (order : Order) (outcome : Outcome) (doc : DocId) → desk.in_hand ≡ Some order → (order.job.doc.0 == doc.0) ≡ false → orders_for (desk_finished outcome desk) doc ≡ orders_for desk doc
 orders_finished_other desk order outcome doc hand other = rw hand (rw other refl)
 
 -- for its own document the finished order is one that is no longer to come
@@ -77,7 +77,7 @@ finished_other held desk order outcome d epoch hand other =
 
 -- ---- a live order is taken up
 
-orders_taken : (desk : Desk) (job : Job) (dirty : Bool) → desk.in_hand ≡ None → slice_get desk.mail 0 ≡ Some job → orders_of_desk (desk_taken true dirty desk) ≡ orders_of_desk desk
+pub orders_taken : (desk : Desk) (job : Job) (dirty : Bool) → desk.in_hand ≡ None → slice_get desk.mail 0 ≡ Some job → orders_of_desk (desk_taken true dirty desk) ≡ orders_of_desk desk
 orders_taken desk job dirty free first = rw (free, first) (by_mail desk.mail first)
   where
     by_mail : (mail : List Job) → slice_get mail 0 ≡ Some job → job ∷ drop 1 mail ≡ mail
@@ -99,7 +99,7 @@ taken_alike held desk job dirty d epoch free first =
 abbrev pub mailed : Job → Desk → Desk
 mailed job desk = record desk { mail = desk.mail ++ job ∷ [] }
 
-orders_mailed : (job : Job) (desk : Desk) (doc : DocId) → orders_for (mailed job desk) doc ≡ orders_for desk doc ++ filter (is_live_order doc (length desk.killed)) (job ∷ [])
+pub orders_mailed : (job : Job) (desk : Desk) (doc : DocId) → orders_for (mailed job desk) doc ≡ orders_for desk doc ++ filter (is_live_order doc (length desk.killed)) (job ∷ [])
 orders_mailed job desk doc =
     ap (λ (l : List Job). filter (is_live_order doc (length desk.killed)) l) (sym (append_assoc (option_to_list (option_map (λ (order : Order). order.job) desk.in_hand)) desk.mail (job ∷ [])))
     ∙ filter-append (is_live_order doc (length desk.killed)) (orders_of_desk desk) (job ∷ [])

@@ -24,7 +24,7 @@ use Rattle.log_model.specs.AfterRequests.{requests_sent}
 use Rattle.log_model.proofs.Refl.{nat_eq_refl}
 use Rattle.seen_laws.proofs.Keyed.{find_map, find_on_same, find_on_other, find_has}
 use Rattle.coord_facts.specs.Leading.{is_live_order, held_back, coming, pending_view, Leads, EachLeads, EachIsOfItsNavigable}
-use Rattle.coord_facts.proofs.Leadings.{doc_same, IsOneChange, one_leads}
+use Rattle.coord_facts.proofs.Leadings.{doc_same, IsOneChange, one_stays, LeadsIn, leads_again}
 use Rattle.coord_facts.proofs.OneDocument.{leads_alike, mailed, mailed_other, activated_leads}
 use Rattle.coord_facts.proofs.Kept.{IsSentHome, is_mine}
 
@@ -141,24 +141,23 @@ module _ (s : Seen) (event : ℕ) (actor : Actor) (job : Job) (d : Document) (vi
           let yes : (d.nav.0 == nav.0) ≡ true = rw (whose nav place job.doc d before wakes is.there) (nat_eq_refl nav.0) in
           let no_ : true ≡ false = sym yes ∙ e in absurd cc
 
-  show_change : IsOneChange s after_show job.proc (mailed job) job.doc (addressed job.task)
+  show_change : IsOneChange (LeadsIn s) s after_show job.proc (mailed job) job.doc (addressed job.task)
   show_change =
       record {
         desks = refl;
         documents = ap (λ (t : Task). documents_sent s job t) task ∙ ap (λ (t : Task). on_document job.doc (addressed t) s.documents) (sym task);
-        rows = refl;
-        held = requests;
         keeps_proc = λ desk. refl;
         keeps_number = λ d. refl;
         stays = λ d. refl;
         home = sent.home;
         own = own_leads;
         others = others_stay;
-        other = λ x apart given epoch_ leads. leads_alike s.history.rows (held_back s.requests s.parked) (desk_of s job.proc) (mailed job (desk_of s job.proc)) x x given epoch_ (mailed_other (held_back s.requests s.parked) (desk_of s job.proc) job x epoch_ apart) leads;
+        other = λ x given epoch_ apart leads. leads_alike s.history.rows (held_back s.requests s.parked) (desk_of s job.proc) (mailed job (desk_of s job.proc)) x x given epoch_ (mailed_other (held_back s.requests s.parked) (desk_of s job.proc) job x epoch_ apart) leads;
       }
 
   pub show_leads : EachLeads s → EachLeads after_show
-  show_leads = one_leads s after_show job.proc (mailed job) job.doc (addressed job.task) show_change
+  show_leads each =
+      leads_again s after_show refl requests (one_stays (LeadsIn s) s after_show job.proc (mailed job) job.doc (addressed job.task) show_change each)
 
   -- the document that is shown is of the navigable that is awake on it
   pub whose_shown : EachIsOfItsNavigable after_show

@@ -95,10 +95,14 @@ pub record Leads (rows : List Row) (held : List Made) (desk : Desk) (d : Documen
   pub in_epoch : view.epoch ≡ epoch
   pub pair : list_any is_push (coming held desk d.nr epoch) ≡ false → d.told ≡ Some (view.length, view.index)
 
--- so it is for the document of each awake navigable
+-- a fact of the document of each awake navigable, with the desk of its process, what the navigable was given, and its epoch
+abbrev pub EachAwake : (Desk → Document → Option EntryId → Epoch → Type 0) → Seen → Type 0
+EachAwake F s =
+    (nav : NavId) (place : Place) (doc : DocId) (d : Document) → place_of s nav ≡ Some place → place.status ≡ awake doc → document_of s doc ≡ Some d → F (desk_of s d.proc) d place.given place.epoch
+
+-- what is on its way leads for the document of each awake navigable
 abbrev pub EachLeads : Seen → Type 0
-EachLeads s =
-    (nav : NavId) (place : Place) (doc : DocId) (d : Document) → place_of s nav ≡ Some place → place.status ≡ awake doc → document_of s doc ≡ Some d → Leads s.history.rows (held_back s.requests s.parked) (desk_of s d.proc) d place.given place.epoch
+EachLeads s = EachAwake (Leads s.history.rows (held_back s.requests s.parked)) s
 
 -- a document that a navigable is awake on is of that navigable
 abbrev pub EachIsOfItsNavigable : Seen → Type 0

@@ -1,15 +1,13 @@
 -- Which orders on their way to a document leave what its view shows: all that come after the view's epoch is reached.
 -- This project's own.
 use Rattle.std.specs.Prelude.{◌≡◌, Bool, true, false, ◌==◌, List, [], ◌∷◌, Some}
-use Rattle.tab_ids.specs.declared.DocId.{DocId}
 use Rattle.tab_ids.specs.declared.Epoch.{Epoch}
-use Rattle.tab_ids.specs.declared.NavId.{NavId}
 use Rattle.log_model.specs.declared.job.Job.{Job}
 use Rattle.log_model.specs.declared.job.Task.{Task}
 use Rattle.log_model.specs.declared.job.Task.TheVariants as tasks
 use Rattle.log_model.specs.Views.{View}
-use Rattle.log_model.specs.Seen.{Seen, Document, Desk, Place, awake, document_of, desk_of, place_of}
-use Rattle.coord_facts.specs.Leading.{orders_for}
+use Rattle.log_model.specs.Seen.{Seen, Document, Desk}
+use Rattle.coord_facts.specs.Leading.{orders_for, EachAwake}
 
 -- the order tells length and index, asks, or is a fragment navigation: by itself it leaves what the view shows, and its epoch
 abbrev pub is_telling : Task → Bool
@@ -39,5 +37,4 @@ pub record Reaches (desk : Desk) (d : Document) (epoch : Epoch) : Type 0 where
 
 -- so it is for the document of each awake navigable
 abbrev pub EachReaches : Seen → Type 0
-EachReaches s =
-    (nav : NavId) (place : Place) (doc : DocId) (d : Document) → place_of s nav ≡ Some place → place.status ≡ awake doc → document_of s doc ≡ Some d → Reaches (desk_of s d.proc) d place.epoch
+EachReaches s = EachAwake (λ desk d given epoch. Reaches desk d epoch) s
