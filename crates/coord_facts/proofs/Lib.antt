@@ -11,3 +11,4 @@ pub mod OneMade
 pub mod Makes
 pub mod Reached
 pub mod Reachings
+pub mod NewEpoch

@@ -1,3 +1,4 @@
 pub mod OnItsWay
 pub mod Leading
 pub mod Reaching
+pub mod Epochs
