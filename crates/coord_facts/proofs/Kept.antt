@@ -72,7 +72,7 @@ module _ (s : Seen) (event : ℕ) (proc : ProcId) (order : Order) (outcome : Out
       ap (λ (job : Option Job). slot_finished (documents_finished s.documents job) job outcome) (ap (λ (o : Option Order). option_map (λ (x : Order). x.job) o) in_.hand)
       ∙ no_slot (documents_finished s.documents (Some order.job)) order.job outcome plain
 
-  finished_requests : after_finish.requests ≡ s.requests
+  pub finished_requests : after_finish.requests ≡ s.requests
   finished_requests =
       ap (λ (o : Option Order). requests_finished s o outcome s.requests) in_.hand ∙ no_answer s order outcome s.requests plain
 

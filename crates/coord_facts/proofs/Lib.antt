@@ -12,3 +12,6 @@ pub mod Makes
 pub mod Reached
 pub mod Reachings
 pub mod NewEpoch
+pub mod EachDocuments
+pub mod Within
+pub mod Withins

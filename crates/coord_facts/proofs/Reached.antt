@@ -132,7 +132,7 @@ last_more : (epoch : Epoch) (jobs : List Job) (job : Job) → LastShows epoch jo
 last_more epoch [] job last telling = (λ shows. tt, tt)
 last_more epoch (first ∷ jobs) job last telling = (λ shows. all_more jobs job (last.0 shows) telling, last_more epoch jobs job last.1 telling)
 
-mailed_own : (job : Job) (desk : Desk) (doc : DocId) → is_live_order doc (length desk.killed) job ≡ true → orders_for (mailed job desk) doc ≡ orders_for desk doc ++ job ∷ []
+pub mailed_own : (job : Job) (desk : Desk) (doc : DocId) → is_live_order doc (length desk.killed) job ≡ true → orders_for (mailed job desk) doc ≡ orders_for desk doc ++ job ∷ []
 mailed_own job desk doc mine = orders_mailed job desk doc ∙ ap (λ (l : List Job). orders_for desk doc ++ l) (rw mine refl)
 
 -- an order that leaves what the document shows

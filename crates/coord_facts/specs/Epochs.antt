@@ -32,7 +32,11 @@ pub record IsWithin (held : List Made) (desk : Desk) (d : Document) (bound : ℕ
   pub held_back : MadeWithin bound d.nr held
   pub reports : MadeWithin bound d.nr (filter_map made_of_report desk.reports)
 
--- so it is for each document, up to the epoch of its navigable
+-- a fact of each document, with the desk of its process and the epoch of its navigable
+abbrev pub EachDocument : (Desk → Document → ℕ → Type 0) → Seen → Type 0
+EachDocument F s =
+    (doc : DocId) (d : Document) (place : Place) → document_of s doc ≡ Some d → place_of s d.nav ≡ Some place → F (desk_of s d.proc) d place.epoch.0
+
+-- each document is within the epoch of its navigable
 abbrev pub EachIsWithin : Seen → Type 0
-EachIsWithin s =
-    (doc : DocId) (d : Document) (place : Place) → document_of s doc ≡ Some d → place_of s d.nav ≡ Some place → IsWithin (held_back s.requests s.parked) (desk_of s d.proc) d place.epoch.0
+EachIsWithin s = EachDocument (IsWithin (held_back s.requests s.parked)) s
