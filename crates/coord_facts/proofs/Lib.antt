@@ -15,3 +15,4 @@ pub mod NewEpoch
 pub mod EachDocuments
 pub mod Within
 pub mod Withins
+pub mod WithinShown

@@ -24,11 +24,11 @@ use Rattle.coord_facts.proofs.EachDocuments.{HadEpoch, IsOneOfEach, each_stays}
 use Rattle.coord_facts.proofs.Within.{within_more, finished_within, finished_apart, sent_within, sent_apart}
 
 -- the fact of one document, of all that a log has come to
-abbrev WithinIn : Seen → Desk → Document → ℕ → Type 0
+abbrev pub WithinIn : Seen → Desk → Document → ℕ → Type 0
 WithinIn s = IsWithin (held_back s.requests s.parked)
 
 -- held back reports that are as they were leave it
-within_again : (s next : Seen) → held_back next.requests next.parked ≡ held_back s.requests s.parked → EachDocument (WithinIn s) next → EachIsWithin next
+pub within_again : (s next : Seen) → held_back next.requests next.parked ≡ held_back s.requests s.parked → EachDocument (WithinIn s) next → EachIsWithin next
 within_again s next held each doc d place found placed =
     subst (λ (l : List Made). IsWithin l (desk_of next d.proc) d place.epoch.0) (sym held) (each doc d place found placed)
 
