@@ -1,4 +1,5 @@
 pub mod Handlers
+pub mod Entries
 pub mod Outcomes
 pub mod History
 pub mod Opening

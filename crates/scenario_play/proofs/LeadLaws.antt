@@ -10,7 +10,7 @@ use Rattle.log_model.specs.Events.{events_of, have_number}
 use Rattle.log_model.proofs.Laws.{seen_of_append}
 use Rattle.log_model.proofs.EventLaws.{flat, flat-events_of}
 use Rattle.scenario_text.specs.declared.line.ScenarioLine.{ScenarioLine}
-use Rattle.scenario_text.specs.declared.scenario.Scenario.{Scenario}
+use Rattle.scenario_text.specs.Scenarios.{Scenario}
 use Rattle.scenario_text.specs.Follows.{Course, goes, Stage, and_then, is_passed, is_event, does, does_all, turn_of, turns_to, a_round, rounds, settles, plays_line, plays, course_of, Follows, IsCutShort}
 use Rattle.scenario_text.proofs.FollowLaws.{does_all-append, plays-append, plays_one, events_more}
 use Rattle.scenario_play.specs.Courses.{Leads, Cuts, Plays, PlaysRounds}

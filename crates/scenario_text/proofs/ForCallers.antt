@@ -8,7 +8,7 @@ use Rattle.scenario_text.specs.declared.line.ScenarioLine.{ScenarioLine}
 use Rattle.scenario_text.specs.declared.place.Place.{Place}
 use Rattle.scenario_text.specs.declared.place.Place.TheVariants as places
 use Rattle.scenario_text.specs.declared.reason.Reason.TheVariants.{TooLong}
-use Rattle.scenario_text.specs.declared.scenario.Scenario.{Scenario}
+use Rattle.scenario_text.specs.Scenarios.{Scenario}
 use Rattle.scenario_text.proofs.LineLaws.{reads_too_long}
 use Rattle.scenario_text.proofs.Spelled.{Each-all, played_line_is, lines_stay, scenario_stays}
 

@@ -15,7 +15,7 @@ use Rattle.scenario_text.specs.declared.place.Place.TheVariants as places
 use Rattle.scenario_text.specs.declared.place.Settings.{Settings}
 use Rattle.scenario_text.specs.declared.place.Stage.{Stage}
 use Rattle.scenario_text.specs.declared.place.Stage.TheVariants as stages
-use Rattle.scenario_text.specs.declared.scenario.Scenario.{Scenario}
+use Rattle.scenario_text.specs.Scenarios.{Scenario}
 use Rattle.scenario_text.specs.Chain.{◌>>=◌}
 use Rattle.scenario_text.specs.Numbers.{number_of}
 use Rattle.scenario_text.specs.Pieces.{pieces}

@@ -13,3 +13,4 @@ pub mod FollowLaws
 pub mod MomentLaws
 pub mod FollowExamples
 pub mod SameRequest
+pub mod CutLaws

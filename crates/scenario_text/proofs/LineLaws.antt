@@ -13,7 +13,7 @@ use Rattle.scenario_text.specs.declared.error.ScenarioError.{ScenarioError}
 use Rattle.scenario_text.specs.declared.reason.Reason.TheVariants.{TooLong, TooMany}
 use Rattle.scenario_text.specs.declared.place.Place.{Place}
 use Rattle.scenario_text.specs.declared.place.Place.TheVariants.{Start}
-use Rattle.scenario_text.specs.declared.scenario.Scenario.{Scenario}
+use Rattle.scenario_text.specs.Scenarios.{Scenario}
 use Rattle.scenario_text.proofs.PieceLaws.{length-pieces}
 
 -- what stands after the last line feed

@@ -10,7 +10,7 @@ use Rattle.log_model.specs.Events.{events_of}
 use Rattle.log_model.proofs.EventLaws.{flat, flat-events_of}
 use Rattle.scenario_text.specs.declared.line.ScenarioLine.{ScenarioLine}
 use Rattle.scenario_text.specs.declared.line.ScenarioLine.TheVariants as lines
-use Rattle.scenario_text.specs.declared.scenario.Scenario.{Scenario}
+use Rattle.scenario_text.specs.Scenarios.{Scenario}
 use Rattle.log_model.specs.Suits.{Suits}
 use Rattle.log_model.proofs.FurtherLaws.{suits_front}
 use Rattle.scenario_text.specs.Follows.{Course, goes, strays, stops, Stage, and_then, is_passed, is_event, takes, does, does_all, turns_to, a_round, rounds, settles, plays_line, plays, course_of, Follows, FollowsUpTo}

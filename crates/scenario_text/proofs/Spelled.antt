@@ -18,7 +18,7 @@ use Rattle.scenario_text.specs.declared.place.Stage.{Stage}
 use Rattle.scenario_text.specs.declared.place.Stage.TheVariants as stages
 use Rattle.scenario_text.specs.declared.reason.Reason.{Reason}
 use Rattle.scenario_text.specs.declared.reason.Reason.TheVariants.{TooLong, TooMany, NoEnd, Bytes, Spaces, Twice, Header as NoHeader, StepLine, Unbuilt}
-use Rattle.scenario_text.specs.declared.scenario.Scenario.{Scenario}
+use Rattle.scenario_text.specs.Scenarios.{Scenario}
 use Rattle.scenario_text.specs.Chain.{◌>>=◌, unless}
 use Rattle.scenario_text.specs.Pieces.{pieces}
 use Rattle.scenario_text.specs.Plays.{plays, plays_place}

@@ -19,7 +19,7 @@ use Rattle.log_model.specs.Events.{events_of}
 use Rattle.log_model.specs.Suits.{Suits}
 use Rattle.scenario_text.specs.declared.line.ScenarioLine.{ScenarioLine}
 use Rattle.scenario_text.specs.declared.line.ScenarioLine.TheVariants as lines
-use Rattle.scenario_text.specs.declared.scenario.Scenario.{Scenario}
+use Rattle.scenario_text.specs.Scenarios.{Scenario}
 
 -- ---- the request of a line is the one that was accepted
 

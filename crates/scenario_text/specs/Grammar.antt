@@ -9,7 +9,7 @@ use Rattle.scenario_text.specs.declared.place.Place.TheVariants as places
 use Rattle.scenario_text.specs.declared.place.Stage.TheVariants as stages
 use Rattle.scenario_text.specs.declared.reason.Reason.{Reason}
 use Rattle.scenario_text.specs.declared.reason.Reason.TheVariants.{TooLong, TooMany, NoEnd, Bytes, Spaces, Unbuilt, Header as NoHeader}
-use Rattle.scenario_text.specs.declared.scenario.Scenario.{Scenario}
+use Rattle.scenario_text.specs.Scenarios.{Scenario}
 use Rattle.scenario_text.specs.Pieces.{pieces}
 use Rattle.scenario_text.specs.Chain.{◌>>=◌}
 use Rattle.scenario_text.specs.Plays.{plays_place}

@@ -1,3 +1,4 @@
+pub mod Scenarios
 pub mod Chain
 pub mod Pieces
 pub mod Numbers

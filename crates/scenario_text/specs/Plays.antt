@@ -1,10 +1,7 @@
 -- Which lines a caller can play.
 -- This project's own.
 use Rattle.std.specs.Prelude.{Bool, true, false}
-use Rattle.log_model.specs.declared.action.Action.{Action}
-use Rattle.log_model.specs.declared.action.Action.TheVariants as actions
-use Rattle.log_model.specs.declared.request.Request.{Request}
-use Rattle.log_model.specs.declared.request.Request.TheVariants as requests
+use Rattle.log_model.specs.Entries.{is_request_of_document}
 use Rattle.scenario_text.specs.declared.built.Built.{Built}
 use Rattle.scenario_text.specs.declared.built.Built.TheVariants as builts
 use Rattle.scenario_text.specs.declared.line.ScenarioLine.{ScenarioLine}
@@ -13,19 +10,6 @@ use Rattle.scenario_text.specs.declared.place.Place.{Place}
 use Rattle.scenario_text.specs.declared.place.Place.TheVariants as places
 use Rattle.scenario_text.specs.declared.place.Stage.{Stage}
 use Rattle.scenario_text.specs.declared.place.Stage.TheVariants as stages
-
--- a push, a replace or a fragment navigation
-abbrev pub is_change_of_entry : Action → Bool
-is_change_of_entry (actions.Push memo reference) = true
-is_change_of_entry (actions.Replace memo reference) = true
-is_change_of_entry (actions.Fragment text) = true
-is_change_of_entry _ = false
-
--- a request of back and forward in one document
-abbrev pub is_request_of_document : Request → Bool
-is_request_of_document (requests.Go delta) = true
-is_request_of_document (requests.Poke nav action) = is_change_of_entry action
-is_request_of_document _ = false
 
 -- one step of a process
 abbrev pub is_step : ScenarioLine → Bool

@@ -12,7 +12,7 @@ use Rattle.scenario_text.specs.declared.line.ScenarioLine.TheVariants as lines
 use Rattle.scenario_text.specs.declared.place.Place.{Place}
 use Rattle.scenario_text.specs.declared.place.Place.TheVariants as places
 use Rattle.scenario_text.specs.declared.place.Settings.{Settings}
-use Rattle.scenario_text.specs.declared.scenario.Scenario.{Scenario}
+use Rattle.scenario_text.specs.Scenarios.{Scenario}
 use Rattle.scenario_text.specs.Readings.{address_field, origin_field, base_field}
 
 -- it holds of each item

@@ -1,5 +1,6 @@
 //! `Built`, the lines that a caller can play.
 ghost use Rattle.std.specs.Prelude.{◌≡◌};
+ghost use Rattle.log_model.specs.Entries as entries;
 ghost use Rattle.scenario_text.specs.Plays as spec;
 
 use crate::line::ScenarioLine;
@@ -79,7 +80,7 @@ fn is_of_document(line: &ScenarioLine) -> bool
 }
 
 fn is_request_of_document(request: &Request) -> bool
-    ensures { result ≡ spec.is_request_of_document request.now }
+    ensures { result ≡ entries.is_request_of_document request.now }
 {
     match request {
         Request::Go { .. } => true,
@@ -89,7 +90,7 @@ fn is_request_of_document(request: &Request) -> bool
 }
 
 fn is_change_of_entry(action: &Action) -> bool
-    ensures { result ≡ spec.is_change_of_entry action.now }
+    ensures { result ≡ entries.is_change_of_entry action.now }
 {
     match action {
         Action::Push { .. } | Action::Replace { .. } | Action::Fragment { .. } => true,

@@ -2,11 +2,14 @@
 ghost use Rattle.std.specs.Prelude.{◌≡◌, ◌==◌, ◌<◌, [], ◌∷◌, length, position, MatchOption, IfSome};
 ghost use Rattle.scenario_text.specs.Pieces.{pieces};
 
+use memchr::memchr;
+
 /// Where the first separator stands.
+#[tactic(auto, using(crate::proofs::CutLaws::position_from_first))]
 fn place_of(bytes: &[u8], separator: u8) -> Option<usize>
     ensures { result ≡ position (λ b. b == separator) bytes.now }
 {
-    bytes.iter().position(|b| *b == separator)
+    memchr(separator, bytes)
 }
 
 /// What stands before the first separator, and what stands after it, if there is one.

@@ -27,6 +27,3 @@ pub use error::{Refusal, ScenarioError};
 pub use line::{Lines, ScenarioLine};
 pub use reason::Reason;
 pub use scenario::Scenario;
-
-#[cfg(test)]
-mod tests;

@@ -54,7 +54,12 @@ fn after_counted(
 fn is_plain(line: &[u8]) -> bool
     ensures { result ≡ list_all spec.is_plain line.now }
 {
-    line.iter().all(|b| 32 <= *b && *b <= 126)
+    // With no early end, so that many bytes are looked at together.
+    let mut plain = true;
+    for b in line {
+        plain &= 32 <= *b && *b <= 126;
+    }
+    plain
 }
 
 /// Whether a line is empty or a comment.

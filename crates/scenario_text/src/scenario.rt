@@ -3,7 +3,7 @@ ghost use Rattle.std.specs.Prelude.{◌≡◌, ◌≤◌, IfOk};
 ghost use Rattle.scenario_text.specs.Grammar.{scenario_of, at_end, read_pieces, IsSpelled};
 ghost use Rattle.scenario_text.specs.Pieces.{pieces};
 ghost use Rattle.scenario_text.specs.Printed.{text_of, IsReadBack};
-ghost use Rattle.scenario_text.specs.Written.{IsWrittenPlace, AreWritten};
+ghost use Rattle.scenario_text.specs.Written.{IsWrittenPlace};
 ghost use Rattle.scenario_text.specs.Gives.{Reads};
 ghost use Rattle.scenario_text.specs.declared.place.Place.TheVariants as places;
 
@@ -18,12 +18,25 @@ use crate::reason::Reason;
 use address::{OutOfMemory, Text};
 use log_model::Header;
 use std::alloc::Global;
+use std::marker::Model;
 
 /// The settings under which a tab is opened, and the lines that are played then.
 #[derive(Drop)]
 pub struct Scenario {
     pub header: Header,
     pub lines: Lines,
+}
+
+impl Model for Scenario {
+    ghost use Rattle.scenario_text.specs.Scenarios.{Scenario};
+    ghost use Rattle.scenario_text.specs.Written.{AreWritten};
+
+    ghost Value = { Scenario };
+
+    ghost view = { λ s. record { header = s.header; lines = s.lines } };
+
+    // Its addresses are written as they are read, so what is printed is read back.
+    ghost invariant = { λ s. AreWritten (record { header = s.header; lines = s.lines }) };
 }
 
 fn refused(line: u32, reason: Reason) -> ScenarioError
@@ -37,7 +50,6 @@ fn refused(line: u32, reason: Reason) -> ScenarioError
 fn at_end(number: u32, place: Place, rest: &[u8]) -> Result<Scenario, ScenarioError>
     requires { IsWrittenPlace place }
     ensures read { Reads result (at_end number place rest.now) }
-    ensures written { IfOk result (λ scenario. AreWritten scenario) }
 {
     if !rest.is_empty() {
         if number > 65_536 {
@@ -59,7 +71,6 @@ fn read_lines(
     bytes: &[u8],
 ) -> Result<Scenario, ScenarioError>
     ensures read { Reads result (read_pieces in_run built 1 places.Start (pieces 10 bytes.now)) }
-    ensures written { IfOk result (λ scenario. AreWritten scenario) }
 {
     let mut place = Place::Start;
     let mut rest = bytes;
@@ -90,7 +101,6 @@ impl Scenario {
     ) -> Result<Scenario, ScenarioError>
         ensures read { Reads result (scenario_of in_run built bytes.now) }
         ensures spelled { IfOk result (λ scenario. IsSpelled scenario) }
-        ensures written { IfOk result (λ scenario. AreWritten scenario) }
     {
         if bytes.len() > 4_194_304 {
             return Err(refused(0, Reason::TooLong));
@@ -102,7 +112,6 @@ impl Scenario {
     #[tactic(auto, using(crate::proofs::HeaderLaws::spelled_read_back), unfolding(crate::specs::Printed::text_of))]
     pub fn print(&self, alloc: Global) -> Result<Text, OutOfMemory>
         requires spelled { IsSpelled self.now }
-        requires written { AreWritten self.now }
         ensures text { IfOk result (λ text. text ≡ text_of self.now) }
         ensures read_back { IsReadBack self.now }
     {

@@ -19,7 +19,7 @@ mod writing;
 pub use error::{Failed, ReadAllError, WriteFault};
 pub use memory_sink::MemorySink;
 pub use memory_source::MemorySource;
-pub use reading::read_all;
+pub use reading::{read_all, read_bytes};
 pub use sink::Sink;
 pub use source::Source;
 pub use std_sink::StdSink;

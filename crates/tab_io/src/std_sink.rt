@@ -1,5 +1,6 @@
 //! `StdSink`, of which a contract sees the count of faults alone.
 ghost use Rattle.std.specs.Prelude.{◌≡◌};
+ghost use Rattle.tab_io.specs.Causes.{HasCause};
 
 use crate::error::Failed;
 use crate::sink::Sink;
@@ -29,6 +30,21 @@ impl<W> StdSink<W> {
         ensures { result ≡ 0 }
     {
         StdSink { writer, faults: 0 }
+    }
+}
+
+impl<W: Write> StdSink<W> {
+    /// Lets the writer hand on what it holds back. A failure is a fault.
+    pub fn flush(&mut self) -> Result<(), Failed>
+        ensures { HasCause self.old self.new result }
+    {
+        match self.writer.flush() {
+            Ok(()) => Ok(()),
+            Err(_) => {
+                self.faults = self.faults.saturating_add(1);
+                Err(Failed)
+            }
+        }
     }
 }
 

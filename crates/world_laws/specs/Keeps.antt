@@ -9,8 +9,8 @@ use Rattle.tab_ids.specs.declared.JobId.{JobId}
 use Rattle.tab_ids.specs.declared.ReqId.{ReqId}
 use Rattle.tab_ids.specs.declared.StateId.{StateId}
 use Rattle.tab_ids.specs.declared.Step.{Step}
+use Rattle.log_model.specs.Entries.{HasPassed, is_change_of_entry, is_request_of_document}
 use Rattle.log_model.specs.declared.action.Action.{Action}
-use Rattle.log_model.specs.declared.action.Action.TheVariants as actions
 use Rattle.log_model.specs.declared.job.Job.{Job}
 use Rattle.log_model.specs.declared.job.Order.{Order}
 use Rattle.log_model.specs.declared.job.Task.{Task}
@@ -218,10 +218,7 @@ is_go_of r go = go.0.0 == r
 
 -- a push, a replace, or a fragment
 abbrev pub IsEntry : Action → Type 0
-IsEntry (actions.Push memo reference) = Unit {0}
-IsEntry (actions.Replace memo reference) = Unit {0}
-IsEntry (actions.Fragment text) = Unit {0}
-IsEntry _ = ⊥
+IsEntry action = HasPassed (is_change_of_entry action)
 
 -- the poke is of the one document, and lets it make an entry
 abbrev pub AreEntries : List Poke → Type 0
@@ -285,9 +282,7 @@ pub record Keeps (n : ℕ) (t : Single) : Type 0 where
 
 -- a poke that lets a document make an entry, or a traversal
 abbrev pub IsAsk : Request → Type 0
-IsAsk (requests.Poke nav action) = IsEntry action
-IsAsk (requests.Go delta) = Unit {0}
-IsAsk _ = ⊥
+IsAsk request = HasPassed (is_request_of_document request)
 
 -- no document is asked for the request, and no user
 pub record IsCalm (q : Asked) : Type 0 where

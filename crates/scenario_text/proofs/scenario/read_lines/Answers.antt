@@ -1,6 +1,6 @@
 use Rattle.std.proofs.Common.{sym, ◌∙◌, subst, Result, arith}
 use Rattle.scenario_text.specs.Gives.{IsRefusal, Reads}
-use Rattle.scenario_text.specs.declared.scenario.Scenario.{Scenario}
+use Rattle.scenario_text.specs.Scenarios.{Scenario}
 use Rattle.scenario_text.specs.declared.error.Refusal.{Refusal}
 use Rattle.scenario_text.proofs.LineLaws.{reads_too_many, reads_fault, reads_on, reads_end}
 use Rattle.scenario_text.proofs.scenario.read_lines.Goals as goal
@@ -9,14 +9,12 @@ pub returns-then-number-gt65536 : goal.returns-then-number-gt65536
 returns-then-number-gt65536 c =
     rw c.refused.ensures (record {
       read = sym c.lines.invariant.rest ∙ reads_too_many c.args.in_run c.args.built c.lines.number c.lines.place c.lines.rest.now _ _ c.in-Some.ensures.cut c.if-number-gt65536.true;
-      written = tt;
     })
 
 pub returns-in-Err : goal.returns-in-Err
 returns-in-Err c = record {
   read = subst (λ (total : Result Scenario Refusal). IsRefusal c.at.result total) c.lines.invariant.rest
       (reads_fault c.args.in_run c.args.built c.lines.number c.lines.place c.lines.rest.now _ _ c.in-Err.e c.at.result c.in-Some.ensures.cut c.if-number-gt65536.false c.in-Err.ensures.read c.at.ensures);
-  written = tt;
 }
 
 pub lines-preserved : goal.lines-preserved
@@ -30,5 +28,4 @@ pub returns : goal.returns
 returns c = record {
   read = subst (λ (total : Result Scenario Refusal). Reads c.at_end.result total)
       (sym (reads_end c.args.in_run c.args.built c.lines.number c.lines.place c.lines.rest.now c.in_default.ensures.cut) ∙ c.lines.invariant.rest) c.at_end.ensures.read;
-  written = c.at_end.ensures.written;
 }

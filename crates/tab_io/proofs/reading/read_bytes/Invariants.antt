@@ -1,7 +1,7 @@
 -- The bytes so far are those that the source gave.
 use Rattle.std.proofs.Common.{◌+◌, ◌-◌, ◌≤◌, ◌<◌, vec_len}
 use Rattle.std.specs.Io.KnownBytes.{Consumes}
-use Rattle.tab_io.proofs.reading.read_all.Given as goal
+use Rattle.tab_io.proofs.reading.read_bytes.Given as goal
 
 abbrev pub invariant-pieces : goal.invariant-pieces
 invariant-pieces g l = record {
