@@ -1,1 +1,3 @@
-pub mod Fitting
+pub mod DigitLaws
+pub mod ByteLaws
+pub mod LongestLaws

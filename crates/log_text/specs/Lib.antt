@@ -1,4 +1,4 @@
 pub mod Spellings
 pub mod Lines
-pub mod Pieces
 pub mod Room
+pub mod Counting

@@ -1,15 +1,15 @@
 //! The words of a change of the history.
-ghost use Rattle.std.specs.Prelude.{◌≡◌};
-ghost use Rattle.log_text.specs.Pieces.{words_text};
+ghost use Rattle.std.specs.Prelude.{◌≡◌, fold};
 ghost use Rattle.log_text.specs.Lines as spec;
 
-use crate::naming::memo_word;
-use crate::word::{Word, Words, five, one, two};
+use crate::names::{put_entry, put_nav, put_number, put_state, put_text};
+use crate::naming::put_memo;
+use crate::out::Out;
 use log_model::Change;
 
 /// A change, with its name and what it names.
-pub fn change_words(change: &Change) -> Words<'_>
-    ensures { words_text result ≡ spec.spaced (spec.change_words change.now) }
+pub fn put_change<O: Out>(out: &mut O, change: &Change)
+    ensures { out.new ≡ fold O.after out.old (spec.spaced (spec.change_words change.now)) }
 {
     match change {
         Change::Push {
@@ -18,16 +18,14 @@ pub fn change_words(change: &Change) -> Words<'_>
             state,
             address,
             memo,
-        } => [
-            Word::Plain(b"push"),
-            Word::Nav(*nav),
-            Word::Entry(*entry),
-            Word::State(*state),
-            memo_word(memo),
-            Word::Plain(address.text()),
-            Word::Nothing,
-            Word::Nothing,
-        ],
+        } => {
+            out.put(b" push");
+            put_nav(out, *nav);
+            put_entry(out, *entry);
+            put_state(out, *state);
+            put_memo(out, memo);
+            put_text(out, address.text());
+        }
         Change::Replace {
             nav,
             over,
@@ -35,33 +33,39 @@ pub fn change_words(change: &Change) -> Words<'_>
             state,
             address,
             memo,
-        } => [
-            Word::Plain(b"replace"),
-            Word::Nav(*nav),
-            Word::Entry(*over),
-            Word::Entry(*entry),
-            Word::State(*state),
-            memo_word(memo),
-            Word::Plain(address.text()),
-            Word::Nothing,
-        ],
+        } => {
+            out.put(b" replace");
+            put_nav(out, *nav);
+            put_entry(out, *over);
+            put_entry(out, *entry);
+            put_state(out, *state);
+            put_memo(out, memo);
+            put_text(out, address.text());
+        }
         Change::AddFrame {
             owner,
             nav,
             entry,
             state,
-        } => five(
-            Word::Plain(b"frame"),
-            Word::State(*owner),
-            Word::Nav(*nav),
-            Word::Entry(*entry),
-            Word::State(*state),
-        ),
-        Change::RemoveFrame { nav } => two(Word::Plain(b"remove"), Word::Nav(*nav)),
-        Change::Traverse { goal } => {
-            two(Word::Plain(b"traverse"), Word::Number(u64::from(goal.0)))
+        } => {
+            out.put(b" frame");
+            put_state(out, *owner);
+            put_nav(out, *nav);
+            put_entry(out, *entry);
+            put_state(out, *state);
         }
-        Change::Reload { nav } => two(Word::Plain(b"reload"), Word::Nav(*nav)),
-        Change::Edit => one(Word::Plain(b"edit")),
+        Change::RemoveFrame { nav } => {
+            out.put(b" remove");
+            put_nav(out, *nav);
+        }
+        Change::Traverse { goal } => {
+            out.put(b" traverse");
+            put_number(out, u64::from(goal.0));
+        }
+        Change::Reload { nav } => {
+            out.put(b" reload");
+            put_nav(out, *nav);
+        }
+        Change::Edit => out.put(b" edit"),
     }
 }

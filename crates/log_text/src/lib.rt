@@ -2,19 +2,18 @@
 #![tactic(auto)]
 
 mod changes;
+mod count;
+mod digits;
 mod length;
 mod line;
+mod names;
 mod naming;
+mod out;
 mod outcomes;
-mod put;
 mod requests;
 mod rows;
 mod tasks;
 mod things;
-mod word;
 
 pub use length::line_length;
 pub use line::{Line, row_line};
-
-#[cfg(test)]
-mod tests;

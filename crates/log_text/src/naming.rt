@@ -1,142 +1,142 @@
-//! The words of enums, and of what may be missing.
-ghost use Rattle.std.specs.Prelude.{◌≡◌, ◌++◌, codes};
-ghost use Rattle.log_text.specs.Pieces.{word_text};
+//! The words of enums, and of what may be missing, each after a space.
+ghost use Rattle.std.specs.Prelude.{◌≡◌, ◌++◌, codes, fold};
 ghost use Rattle.log_text.specs.Spellings as spec;
 
-use crate::word::Word;
+use crate::names::{put_death, put_doc, put_number, put_proc, put_req, put_text};
+use crate::out::Out;
 use address::Text;
 use log_model::{Actor, Denial, LeaveCause, Mode, Verdict, Why};
 use tab_ids::DocId;
 
 /// A memo; `-` is none.
-pub fn memo_word(memo: &Option<Text>) -> Word<'_>
-    ensures { word_text result ≡ codes " " ++ spec.memo_name memo.now }
+pub fn put_memo<O: Out>(out: &mut O, memo: &Option<Text>)
+    ensures { out.new ≡ fold O.after out.old (codes " " ++ spec.memo_name memo.now) }
 {
     match memo {
-        Some(memo) => Word::Plain(memo.bytes()),
-        None => Word::Plain(b"-"),
+        Some(memo) => put_text(out, memo.bytes()),
+        None => out.put(b" -"),
     }
 }
 
 /// A handler slot; `-` is none.
-pub fn slot_word<'a>(slot: Option<u8>) -> Word<'a>
-    ensures { word_text result ≡ codes " " ++ spec.slot_name slot }
+pub fn put_slot<O: Out>(out: &mut O, slot: Option<u8>)
+    ensures { out.new ≡ fold O.after out.old (codes " " ++ spec.slot_name slot) }
 {
     match slot {
-        Some(slot) => Word::Number(u64::from(slot)),
-        None => Word::Plain(b"-"),
+        Some(slot) => put_number(out, u64::from(slot)),
+        None => out.put(b" -"),
     }
 }
 
 /// The document that is poked; `-` is none.
-pub fn poked_word<'a>(doc: Option<DocId>) -> Word<'a>
-    ensures { word_text result ≡ codes " " ++ spec.poked_name doc }
+pub fn put_poked<O: Out>(out: &mut O, doc: Option<DocId>)
+    ensures { out.new ≡ fold O.after out.old (codes " " ++ spec.poked_name doc) }
 {
     match doc {
-        Some(doc) => Word::Doc(doc),
-        None => Word::Plain(b"-"),
+        Some(doc) => put_doc(out, doc),
+        None => out.put(b" -"),
     }
 }
 
 /// Who acts in an event.
-pub fn actor_word<'a>(actor: Actor) -> Word<'a>
-    ensures { word_text result ≡ codes " " ++ spec.actor_name actor }
+pub fn put_actor<O: Out>(out: &mut O, actor: Actor)
+    ensures { out.new ≡ fold O.after out.old (codes " " ++ spec.actor_name actor) }
 {
     match actor {
-        Actor::Start => Word::Plain(b"start"),
-        Actor::Ui => Word::Plain(b"ui"),
-        Actor::Coord => Word::Plain(b"co"),
-        Actor::Proc(proc) => Word::Proc(proc),
+        Actor::Start => out.put(b" start"),
+        Actor::Ui => out.put(b" ui"),
+        Actor::Coord => out.put(b" co"),
+        Actor::Proc(proc) => put_proc(out, proc),
     }
 }
 
 /// What an order was sent for.
-pub fn why_word<'a>(why: Why) -> Word<'a>
-    ensures { word_text result ≡ codes " " ++ spec.why_name why }
+pub fn put_why<O: Out>(out: &mut O, why: Why)
+    ensures { out.new ≡ fold O.after out.old (codes " " ++ spec.why_name why) }
 {
     match why {
-        Why::Req(req) => Word::Req(req),
-        Why::Death(death) => Word::Death(death),
-        Why::Evict => Word::Plain(b"evict"),
-        Why::Start => Word::Plain(b"start"),
+        Why::Req(req) => put_req(out, req),
+        Why::Death(death) => put_death(out, death),
+        Why::Evict => out.put(b" evict"),
+        Why::Start => out.put(b" start"),
     }
 }
 
 /// Why a request was refused.
-pub fn denial_word<'a>(reason: Denial) -> Word<'a>
-    ensures { word_text result ≡ codes " " ++ spec.denial_name reason }
+pub fn put_denial<O: Out>(out: &mut O, reason: Denial)
+    ensures { out.new ≡ fold O.after out.old (codes " " ++ spec.denial_name reason) }
 {
     match reason {
-        Denial::NoStep => Word::Plain(b"no-step"),
-        Denial::NoNavigable => Word::Plain(b"no-navigable"),
-        Denial::NotShown => Word::Plain(b"not-shown"),
-        Denial::NoDocument => Word::Plain(b"no-document"),
-        Denial::NavTaken => Word::Plain(b"nav-taken"),
-        Denial::BadAddress => Word::Plain(b"address"),
+        Denial::NoStep => out.put(b" no-step"),
+        Denial::NoNavigable => out.put(b" no-navigable"),
+        Denial::NotShown => out.put(b" not-shown"),
+        Denial::NoDocument => out.put(b" no-document"),
+        Denial::NavTaken => out.put(b" nav-taken"),
+        Denial::BadAddress => out.put(b" address"),
     }
 }
 
 /// Why a document is asked whether it may be left.
-pub fn leave_cause_word<'a>(cause: LeaveCause) -> Word<'a>
-    ensures { word_text result ≡ codes " " ++ spec.leave_cause_name cause }
+pub fn put_leave_cause<O: Out>(out: &mut O, cause: LeaveCause)
+    ensures { out.new ≡ fold O.after out.old (codes " " ++ spec.leave_cause_name cause) }
 {
     match cause {
-        LeaveCause::Load => Word::Plain(b"load"),
-        LeaveCause::Traverse => Word::Plain(b"traverse"),
-        LeaveCause::Reload => Word::Plain(b"reload"),
+        LeaveCause::Load => out.put(b" load"),
+        LeaveCause::Traverse => out.put(b" traverse"),
+        LeaveCause::Reload => out.put(b" reload"),
     }
 }
 
 /// What an asked document answers.
-pub fn verdict_word<'a>(verdict: Verdict) -> Word<'a>
-    ensures { word_text result ≡ codes " " ++ spec.verdict_name verdict }
+pub fn put_verdict<O: Out>(out: &mut O, verdict: Verdict)
+    ensures { out.new ≡ fold O.after out.old (codes " " ++ spec.verdict_name verdict) }
 {
     match verdict {
-        Verdict::Leave => Word::Plain(b"leave"),
-        Verdict::Prompt => Word::Plain(b"prompt"),
+        Verdict::Leave => out.put(b" leave"),
+        Verdict::Prompt => out.put(b" prompt"),
     }
 }
 
 /// A navigation's history handling.
-pub fn mode_word<'a>(mode: Mode) -> Word<'a>
-    ensures { word_text result ≡ codes " " ++ spec.mode_name mode }
+pub fn put_mode<O: Out>(out: &mut O, mode: Mode)
+    ensures { out.new ≡ fold O.after out.old (codes " " ++ spec.mode_name mode) }
 {
     match mode {
-        Mode::Auto => Word::Plain(b"auto"),
-        Mode::Push => Word::Plain(b"push"),
-        Mode::Replace => Word::Plain(b"replace"),
+        Mode::Auto => out.put(b" auto"),
+        Mode::Push => out.put(b" push"),
+        Mode::Replace => out.put(b" replace"),
     }
 }
 
 /// The user's answer to a prompt.
-pub fn answer_word<'a>(stay: bool) -> Word<'a>
-    ensures { word_text result ≡ codes " " ++ spec.answer_name stay }
+pub fn put_answer<O: Out>(out: &mut O, stay: bool)
+    ensures { out.new ≡ fold O.after out.old (codes " " ++ spec.answer_name stay) }
 {
     if stay {
-        Word::Plain(b"stay")
+        out.put(b" stay");
     } else {
-        Word::Plain(b"leave")
+        out.put(b" leave");
     }
 }
 
 /// Whether a document is the initial one of its navigable.
-pub fn initial_word<'a>(initial: bool) -> Word<'a>
-    ensures { word_text result ≡ codes " " ++ spec.initial_name initial }
+pub fn put_initial<O: Out>(out: &mut O, initial: bool)
+    ensures { out.new ≡ fold O.after out.old (codes " " ++ spec.initial_name initial) }
 {
     if initial {
-        Word::Plain(b"initial")
+        out.put(b" initial");
     } else {
-        Word::Plain(b"plain")
+        out.put(b" plain");
     }
 }
 
 /// Whether a document had unsaved edits.
-pub fn dirty_word<'a>(dirty: bool) -> Word<'a>
-    ensures { word_text result ≡ codes " " ++ spec.dirty_name dirty }
+pub fn put_dirty<O: Out>(out: &mut O, dirty: bool)
+    ensures { out.new ≡ fold O.after out.old (codes " " ++ spec.dirty_name dirty) }
 {
     if dirty {
-        Word::Plain(b"dirty")
+        out.put(b" dirty");
     } else {
-        Word::Plain(b"clean")
+        out.put(b" clean");
     }
 }

@@ -1,46 +1,59 @@
 //! The words of how orders and requests end, and of how orders are taken up.
-ghost use Rattle.std.specs.Prelude.{◌≡◌};
-ghost use Rattle.log_text.specs.Pieces.{words_text};
+ghost use Rattle.std.specs.Prelude.{◌≡◌, fold};
 ghost use Rattle.log_text.specs.Lines as spec;
 
-use crate::naming::{dirty_word, slot_word, verdict_word};
-use crate::word::{Word, Words, one, two};
+use crate::names::{put_death, put_req};
+use crate::naming::{put_dirty, put_slot, put_verdict};
+use crate::out::Out;
 use log_model::{Cause, Outcome};
 
 /// How a finished order went; of an asked document only its answer.
-pub fn outcome_words<'a>(outcome: Outcome) -> Words<'a>
-    ensures { words_text result ≡ spec.spaced (spec.outcome_words outcome) }
+pub fn put_outcome<O: Out>(out: &mut O, outcome: Outcome)
+    ensures { out.new ≡ fold O.after out.old (spec.spaced (spec.outcome_words outcome)) }
 {
     match outcome {
-        Outcome::Populated(slot) => two(Word::Plain(b"populated"), slot_word(slot)),
-        Outcome::Activated => one(Word::Plain(b"activated")),
-        Outcome::Updated => one(Word::Plain(b"updated")),
-        Outcome::Frozen => one(Word::Plain(b"frozen")),
-        Outcome::Discarded => one(Word::Plain(b"discarded")),
-        Outcome::Asked(verdict) => one(verdict_word(verdict)),
-        Outcome::Fragmented => one(Word::Plain(b"fragmented")),
+        Outcome::Populated(slot) => {
+            out.put(b" populated");
+            put_slot(out, slot);
+        }
+        Outcome::Activated => out.put(b" activated"),
+        Outcome::Updated => out.put(b" updated"),
+        Outcome::Frozen => out.put(b" frozen"),
+        Outcome::Discarded => out.put(b" discarded"),
+        Outcome::Asked(verdict) => put_verdict(out, verdict),
+        Outcome::Fragmented => out.put(b" fragmented"),
     }
 }
 
 /// Why a request was dropped.
-pub fn cause_words<'a>(cause: Cause) -> Words<'a>
-    ensures { words_text result ≡ spec.spaced (spec.cause_words cause) }
+pub fn put_cause<O: Out>(out: &mut O, cause: Cause)
+    ensures { out.new ≡ fold O.after out.old (spec.spaced (spec.cause_words cause)) }
 {
     match cause {
-        Cause::Stay => one(Word::Plain(b"stay")),
-        Cause::By(req) => two(Word::Plain(b"by"), Word::Req(req)),
-        Cause::Destroyed(req) => two(Word::Plain(b"destroyed"), Word::Req(req)),
-        Cause::Gone(death) => two(Word::Plain(b"gone"), Word::Death(death)),
+        Cause::Stay => out.put(b" stay"),
+        Cause::By(req) => {
+            out.put(b" by");
+            put_req(out, req);
+        }
+        Cause::Destroyed(req) => {
+            out.put(b" destroyed");
+            put_req(out, req);
+        }
+        Cause::Gone(death) => {
+            out.put(b" gone");
+            put_death(out, death);
+        }
     }
 }
 
 /// How an order was taken up; in vain where its incarnation is dead.
-pub fn taken_words<'a>(live: bool, dirty: bool) -> Words<'a>
-    ensures { words_text result ≡ spec.spaced (spec.taken_words live dirty) }
+pub fn put_taken<O: Out>(out: &mut O, live: bool, dirty: bool)
+    ensures { out.new ≡ fold O.after out.old (spec.spaced (spec.taken_words live dirty)) }
 {
     if live {
-        two(Word::Plain(b"live"), dirty_word(dirty))
+        out.put(b" live");
+        put_dirty(out, dirty);
     } else {
-        one(Word::Plain(b"void"))
+        out.put(b" void");
     }
 }

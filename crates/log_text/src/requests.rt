@@ -1,72 +1,85 @@
 //! The words of an accepted request: those of a scenario's line.
-ghost use Rattle.std.specs.Prelude.{◌≡◌, ◌∷◌, [], decimal};
-ghost use Rattle.log_text.specs.Pieces.{words_text};
+ghost use Rattle.std.specs.Prelude.{◌≡◌, ◌∷◌, decimal, fold};
 ghost use Rattle.log_text.specs.Lines as spec;
 ghost use Rattle.log_text.specs.Spellings.{memo_name};
 
-use crate::naming::{memo_word, mode_word};
-use crate::word::{Word, Words, four, three, two};
+use crate::names::{put_delta, put_number, put_text};
+use crate::naming::{put_memo, put_mode};
+use crate::out::Out;
 use address::Text;
 use log_model::{Action, Request};
 use tab_ids::NavId;
 
-/// The name of an action, NAV and MEMO, and a REF where there is one.
-fn entry_words<'a>(
-    name: &'a [u8],
-    nav: NavId,
-    memo: &'a Option<Text>,
-    reference: &'a Option<Text>,
-) -> Words<'a>
-    ensures { words_text result ≡ spec.spaced (name.now ∷ decimal nav.0 ∷ memo_name memo.now ∷ spec.reference_words reference.now) }
+/// NAV and MEMO, and a REF where there is one.
+fn put_entry_words<O: Out>(out: &mut O, nav: NavId, memo: &Option<Text>, reference: &Option<Text>)
+    ensures { out.new ≡ fold O.after out.old (spec.spaced (decimal nav.0 ∷ memo_name memo.now ∷ spec.reference_words reference.now)) }
 {
-    let name = Word::Plain(name);
-    let nav = Word::Number(u64::from(nav.0));
-    let memo = memo_word(memo);
-    match reference {
-        Some(reference) => four(name, nav, memo, Word::Plain(reference.bytes())),
-        None => three(name, nav, memo),
+    put_number(out, u64::from(nav.0));
+    put_memo(out, memo);
+    if let Some(reference) = reference {
+        put_text(out, reference.bytes());
     }
 }
 
-/// The name of an action, and two navigables.
-fn frame_words<'a>(name: &'a [u8], nav: NavId, child: NavId) -> Words<'a>
-    ensures { words_text result ≡ spec.spaced (name.now ∷ decimal nav.0 ∷ decimal child.0 ∷ []) }
-{
-    let nav = Word::Number(u64::from(nav.0));
-    three(Word::Plain(name), nav, Word::Number(u64::from(child.0)))
-}
-
 /// What the document of a navigable is to do.
-fn action_words(nav: NavId, action: &Action) -> Words<'_>
-    ensures { words_text result ≡ spec.spaced (spec.action_words nav.0 action.now) }
+fn put_action<O: Out>(out: &mut O, nav: NavId, action: &Action)
+    ensures { out.new ≡ fold O.after out.old (spec.spaced (spec.action_words nav.0 action.now)) }
 {
-    let number = Word::Number(u64::from(nav.0));
     match action {
-        Action::Push { memo, reference } => entry_words(b"push", nav, memo, reference),
-        Action::Replace { memo, reference } => entry_words(b"replace", nav, memo, reference),
-        Action::Fragment { text } => {
-            three(Word::Plain(b"fragment"), number, Word::Plain(text.bytes()))
+        Action::Push { memo, reference } => {
+            out.put(b" push");
+            put_entry_words(out, nav, memo, reference);
         }
-        Action::AddFrame { nav: child } => frame_words(b"frame", nav, *child),
-        Action::RemoveFrame { nav: child } => frame_words(b"remove", nav, *child),
-        Action::Go { delta } => three(Word::Plain(b"docgo"), number, Word::Delta(*delta)),
-        Action::Edit => two(Word::Plain(b"edit"), number),
+        Action::Replace { memo, reference } => {
+            out.put(b" replace");
+            put_entry_words(out, nav, memo, reference);
+        }
+        Action::Fragment { text } => {
+            out.put(b" fragment");
+            put_number(out, u64::from(nav.0));
+            put_text(out, text.bytes());
+        }
+        Action::AddFrame { nav: child } => {
+            out.put(b" frame");
+            put_number(out, u64::from(nav.0));
+            put_number(out, u64::from(child.0));
+        }
+        Action::RemoveFrame { nav: child } => {
+            out.put(b" remove");
+            put_number(out, u64::from(nav.0));
+            put_number(out, u64::from(child.0));
+        }
+        Action::Go { delta } => {
+            out.put(b" docgo");
+            put_number(out, u64::from(nav.0));
+            put_delta(out, *delta);
+        }
+        Action::Edit => {
+            out.put(b" edit");
+            put_number(out, u64::from(nav.0));
+        }
     }
 }
 
 /// A request as the line of a scenario that asks for it.
-pub fn request_words(request: &Request) -> Words<'_>
-    ensures { words_text result ≡ spec.spaced (spec.request_words request.now) }
+pub fn put_request<O: Out>(out: &mut O, request: &Request)
+    ensures { out.new ≡ fold O.after out.old (spec.spaced (spec.request_words request.now)) }
 {
     match request {
-        Request::Load { nav, mode, address } => four(
-            Word::Plain(b"load"),
-            Word::Number(u64::from(nav.0)),
-            mode_word(*mode),
-            Word::Plain(address.text()),
-        ),
-        Request::Go { delta } => two(Word::Plain(b"go"), Word::Delta(*delta)),
-        Request::Reload { nav } => two(Word::Plain(b"reload"), Word::Number(u64::from(nav.0))),
-        Request::Poke { nav, action } => action_words(*nav, action),
+        Request::Load { nav, mode, address } => {
+            out.put(b" load");
+            put_number(out, u64::from(nav.0));
+            put_mode(out, *mode);
+            put_text(out, address.text());
+        }
+        Request::Go { delta } => {
+            out.put(b" go");
+            put_delta(out, *delta);
+        }
+        Request::Reload { nav } => {
+            out.put(b" reload");
+            put_number(out, u64::from(nav.0));
+        }
+        Request::Poke { nav, action } => put_action(out, *nav, action),
     }
 }

@@ -1,112 +1,91 @@
-//! The words of a row: its kind with what it names, and then what it tells of.
-ghost use Rattle.std.specs.Prelude.{◌≡◌, ◌++◌, ◌∷◌, [], codes};
+//! The line of a row: the event's number, who acts, the row's kind with what it names, and then what it tells of.
+ghost use Rattle.std.specs.Prelude.{◌≡◌, ◌++◌, ◌∷◌, [], codes, fold};
 ghost use Rattle.log_model.specs.declared.row_kind.RowKind.TheVariants.{Opened, Sent, Made as MadeRow};
-ghost use Rattle.log_text.specs.Pieces.{words_text};
 ghost use Rattle.log_text.specs.Lines as spec;
-ghost use Rattle.log_text.specs.Spellings.{proc_name, req_name, job_name};
+ghost use Rattle.log_text.specs.Spellings.{job_name, proc_name, req_name};
 
-use crate::changes::change_words;
-use crate::naming::{answer_word, denial_word, poked_word, slot_word, why_word};
-use crate::outcomes::{cause_words, outcome_words, taken_words};
-use crate::requests::request_words;
-use crate::tasks::task_words;
-use crate::things::made_words;
-use crate::word::{Word, Words, five, one, three, two};
+use crate::changes::put_change;
+use crate::names::{
+    put_death, put_doc, put_entry, put_job, put_number, put_proc, put_req, put_state, put_text,
+};
+use crate::naming::{put_actor, put_answer, put_denial, put_poked, put_slot, put_why};
+use crate::out::Out;
+use crate::outcomes::{put_cause, put_outcome, put_taken};
+use crate::requests::put_request;
+use crate::tasks::put_task;
+use crate::things::put_made;
 use address::Address;
-use log_model::{Job, Made, RowKind};
+use log_model::{Job, LogRow, Made, RowKind};
 use tab_ids::{DocId, EntryId, JobId, ProcId, ReqId, StateId, Step};
 
-/// What a row says, in two parts that stand one after the other.
-pub type Parts<'a> = (Words<'a>, Words<'a>);
-
-/// The kind of a row, and the request that it tells of.
-fn of_request<'a>(kind: &'a [u8], req: ReqId) -> Words<'a>
-    ensures { words_text result ≡ spec.spaced (kind.now ∷ req_name req ∷ []) }
-{
-    two(Word::Plain(kind), Word::Req(req))
-}
-
-/// The kind of a row, and the order that it tells of, after its process.
-fn of_order<'a>(kind: &'a [u8], proc: ProcId, job: JobId) -> Words<'a>
-    ensures { words_text result ≡ spec.spaced (kind.now ∷ proc_name proc ∷ job_name job ∷ []) }
-{
-    three(Word::Plain(kind), Word::Proc(proc), Word::Job(job))
-}
-
 /// The opening of a tab: its first entry, with the document that shows it.
-fn opened_words<'a>(
+fn put_opened<O: Out>(
+    out: &mut O,
     entry: EntryId,
     state: StateId,
     doc: DocId,
     proc: ProcId,
     slot: Option<u8>,
-    address: &'a Address,
-) -> Parts<'a>
-    ensures { words_text result.0 ++ words_text result.1 ≡ spec.spaced (spec.row_words (Opened entry state doc proc slot address.now)) }
+    address: &Address,
+)
+    ensures { out.new ≡ fold O.after out.old (spec.spaced (spec.row_words (Opened entry state doc proc slot address.now))) }
 {
-    let opened = two(Word::Plain(b"opened"), Word::Plain(b"n0"));
-    let first: Words<'a> = [
-        Word::Entry(entry),
-        Word::State(state),
-        Word::Doc(doc),
-        Word::Proc(proc),
-        slot_word(slot),
-        Word::Plain(address.text()),
-        Word::Nothing,
-        Word::Nothing,
-    ];
-    (opened, first)
+    out.put(b" opened n0");
+    put_entry(out, entry);
+    put_state(out, state);
+    put_doc(out, doc);
+    put_proc(out, proc);
+    put_slot(out, slot);
+    put_text(out, address.text());
 }
 
 /// A request that begins, a traversal with its goal.
-fn started_words<'a>(req: ReqId, goal: Option<Step>) -> Parts<'a>
-    ensures { words_text result.0 ++ words_text result.1 ≡ spec.spaced (codes "started" ∷ req_name req ∷ spec.goal_words goal) }
+fn put_started<O: Out>(out: &mut O, req: ReqId, goal: Option<Step>)
+    ensures { out.new ≡ fold O.after out.old (spec.spaced (codes "started" ∷ req_name req ∷ spec.goal_words goal)) }
 {
-    let started = one(Word::Plain(b"started"));
-    match goal {
-        Some(goal) => (
-            started,
-            two(Word::Req(req), Word::Number(u64::from(goal.0))),
-        ),
-        None => (started, one(Word::Req(req))),
+    out.put(b" started");
+    put_req(out, req);
+    if let Some(goal) = goal {
+        put_number(out, u64::from(goal.0));
     }
 }
 
 /// An order, with its task.
-fn sent_words<'a>(job: &'a Job) -> Parts<'a>
-    ensures { words_text result.0 ++ words_text result.1 ≡ spec.spaced (spec.row_words (Sent job.now)) }
+fn put_sent<O: Out>(out: &mut O, job: &Job)
+    ensures { out.new ≡ fold O.after out.old (spec.spaced (spec.row_words (Sent job.now))) }
 {
-    let order: Words<'a> = [
-        Word::Plain(b"sent"),
-        Word::Job(job.nr),
-        Word::Proc(job.proc),
-        Word::Number(u64::from(job.incarnation)),
-        Word::Doc(job.doc),
-        why_word(job.why),
-        Word::Nothing,
-        Word::Nothing,
-    ];
-    let task: Words<'a> = task_words(&job.task);
-    (order, task)
+    out.put(b" sent");
+    put_job(out, job.nr);
+    put_proc(out, job.proc);
+    put_number(out, u64::from(job.incarnation));
+    put_doc(out, job.doc);
+    put_why(out, job.why);
+    put_task(out, &job.task);
+}
+
+/// The order that a row tells of, after its process.
+fn put_order<O: Out>(out: &mut O, proc: ProcId, job: JobId)
+    ensures { out.new ≡ fold O.after out.old (spec.spaced (proc_name proc ∷ job_name job ∷ [])) }
+{
+    put_proc(out, proc);
+    put_job(out, job);
 }
 
 /// What a document made, under which epoch.
-fn made_row_words<'a>(proc: ProcId, made: &'a Made) -> Parts<'a>
-    ensures { words_text result.0 ++ words_text result.1 ≡ spec.spaced (spec.row_words (MadeRow proc made.now)) }
+fn put_made_row<O: Out>(out: &mut O, proc: ProcId, made: &Made)
+    ensures { out.new ≡ fold O.after out.old (spec.spaced (spec.row_words (MadeRow proc made.now))) }
 {
-    let maker = five(
-        Word::Plain(b"made"),
-        Word::Proc(proc),
-        Word::Req(made.req),
-        Word::Doc(made.doc),
-        Word::Number(made.epoch.0),
-    );
-    (maker, made_words(&made.what))
+    out.put(b" made");
+    put_proc(out, proc);
+    put_req(out, made.req);
+    put_doc(out, made.doc);
+    put_number(out, made.epoch.0);
+    put_made(out, &made.what);
 }
 
-/// The words of a row.
-pub fn row_words<'a>(row: &'a RowKind) -> Parts<'a>
-    ensures { words_text result.0 ++ words_text result.1 ≡ spec.spaced (spec.row_words row.now) }
+/// What a row says.
+fn put_kind<O: Out>(out: &mut O, row: &RowKind)
+    ensures { out.new ≡ fold O.after out.old (spec.spaced (spec.row_words row.now)) }
 {
     match row {
         RowKind::Opened {
@@ -116,37 +95,78 @@ pub fn row_words<'a>(row: &'a RowKind) -> Parts<'a>
             proc,
             slot,
             address,
-        } => opened_words(*entry, *state, *doc, *proc, *slot, address),
+        } => put_opened(out, *entry, *state, *doc, *proc, *slot, address),
         RowKind::Accepted { req, doc, what } => {
-            let front = three(Word::Plain(b"accepted"), Word::Req(*req), poked_word(*doc));
-            (front, request_words(what))
+            out.put(b" accepted");
+            put_req(out, *req);
+            put_poked(out, *doc);
+            put_request(out, what);
         }
-        RowKind::Started { req, goal } => started_words(*req, *goal),
-        RowKind::Applied { req, change } => (of_request(b"applied", *req), change_words(change)),
+        RowKind::Started { req, goal } => put_started(out, *req, *goal),
+        RowKind::Applied { req, change } => {
+            out.put(b" applied");
+            put_req(out, *req);
+            put_change(out, change);
+        }
         RowKind::Refused { req, reason } => {
-            (of_request(b"refused", *req), one(denial_word(*reason)))
+            out.put(b" refused");
+            put_req(out, *req);
+            put_denial(out, *reason);
         }
-        RowKind::Dropped { req, cause } => (of_request(b"dropped", *req), cause_words(*cause)),
-        RowKind::Prompted { req, doc } => (of_request(b"prompted", *req), one(Word::Doc(*doc))),
+        RowKind::Dropped { req, cause } => {
+            out.put(b" dropped");
+            put_req(out, *req);
+            put_cause(out, *cause);
+        }
+        RowKind::Prompted { req, doc } => {
+            out.put(b" prompted");
+            put_req(out, *req);
+            put_doc(out, *doc);
+        }
         RowKind::Answered { req, stay } => {
-            (of_request(b"answered", *req), one(answer_word(*stay)))
+            out.put(b" answered");
+            put_req(out, *req);
+            put_answer(out, *stay);
         }
-        RowKind::Sent { job } => sent_words(job),
+        RowKind::Sent { job } => put_sent(out, job),
         RowKind::Taken {
             proc,
             job,
             live,
             dirty,
-        } => (of_order(b"taken", *proc, *job), taken_words(*live, *dirty)),
+        } => {
+            out.put(b" taken");
+            put_order(out, *proc, *job);
+            put_taken(out, *live, *dirty);
+        }
         RowKind::Finished { proc, job, outcome } => {
-            (of_order(b"finished", *proc, *job), outcome_words(*outcome))
+            out.put(b" finished");
+            put_order(out, *proc, *job);
+            put_outcome(out, *outcome);
         }
-        RowKind::Made { proc, made } => made_row_words(*proc, made),
-        RowKind::Delivered { proc } => (one(Word::Plain(b"delivered")), one(Word::Proc(*proc))),
+        RowKind::Made { proc, made } => put_made_row(out, *proc, made),
+        RowKind::Delivered { proc } => {
+            out.put(b" delivered");
+            put_proc(out, *proc);
+        }
         RowKind::Killed { proc, death } => {
-            let killed = two(Word::Plain(b"killed"), Word::Proc(*proc));
-            (killed, one(Word::Death(*death)))
+            out.put(b" killed");
+            put_proc(out, *proc);
+            put_death(out, *death);
         }
-        RowKind::Evicted { state } => (one(Word::Plain(b"evicted")), one(Word::State(*state))),
+        RowKind::Evicted { state } => {
+            out.put(b" evicted");
+            put_state(out, *state);
+        }
     }
+}
+
+/// The line of a row, its line feed with it.
+pub fn put_row<O: Out>(out: &mut O, row: &LogRow)
+    ensures { out.new ≡ fold O.after out.old (spec.line_of_row row.now) }
+{
+    out.put_number(b"", u64::from(row.event));
+    put_actor(out, row.actor);
+    put_kind(out, &row.row);
+    out.put(b"\n");
 }

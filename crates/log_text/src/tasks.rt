@@ -1,15 +1,15 @@
 //! The words of a task.
-ghost use Rattle.std.specs.Prelude.{◌≡◌};
-ghost use Rattle.log_text.specs.Pieces.{words_text};
+ghost use Rattle.std.specs.Prelude.{◌≡◌, fold};
 ghost use Rattle.log_text.specs.Lines as spec;
 
-use crate::naming::{initial_word, leave_cause_word, memo_word, mode_word};
-use crate::word::{Word, Words, five, four, one, three};
+use crate::names::{put_entry, put_nav, put_number, put_req, put_state, put_text};
+use crate::naming::{put_initial, put_leave_cause, put_memo, put_mode};
+use crate::out::Out;
 use log_model::Task;
 
 /// What an order asks of a document.
-pub fn task_words(task: &Task) -> Words<'_>
-    ensures { words_text result ≡ spec.spaced (spec.task_words task.now) }
+pub fn put_task<O: Out>(out: &mut O, task: &Task)
+    ensures { out.new ≡ fold O.after out.old (spec.spaced (spec.task_words task.now)) }
 {
     match task {
         Task::Populate {
@@ -17,13 +17,13 @@ pub fn task_words(task: &Task) -> Words<'_>
             state,
             address,
             initial,
-        } => five(
-            Word::Plain(b"populate"),
-            Word::Nav(*nav),
-            Word::State(*state),
-            initial_word(*initial),
-            Word::Plain(address.text()),
-        ),
+        } => {
+            out.put(b" populate");
+            put_nav(out, *nav);
+            put_state(out, *state);
+            put_initial(out, *initial);
+            put_text(out, address.text());
+        }
         Task::Activate {
             entry,
             epoch,
@@ -31,33 +31,32 @@ pub fn task_words(task: &Task) -> Words<'_>
             index,
             memo,
             address,
-        } => [
-            Word::Plain(b"activate"),
-            Word::Entry(*entry),
-            Word::Number(epoch.0),
-            Word::Number(u64::from(*length)),
-            Word::Number(u64::from(*index)),
-            memo_word(memo),
-            Word::Plain(address.text()),
-            Word::Nothing,
-        ],
-        Task::Update { length, index } => three(
-            Word::Plain(b"update"),
-            Word::Number(u64::from(*length)),
-            Word::Number(u64::from(*index)),
-        ),
-        Task::Freeze => one(Word::Plain(b"freeze")),
-        Task::Discard => one(Word::Plain(b"discard")),
-        Task::Ask { slot, cause } => three(
-            Word::Plain(b"ask"),
-            Word::Number(u64::from(*slot)),
-            leave_cause_word(*cause),
-        ),
-        Task::DoFragment { req, mode, address } => four(
-            Word::Plain(b"fragment"),
-            Word::Req(*req),
-            mode_word(*mode),
-            Word::Plain(address.text()),
-        ),
+        } => {
+            out.put(b" activate");
+            put_entry(out, *entry);
+            put_number(out, epoch.0);
+            put_number(out, u64::from(*length));
+            put_number(out, u64::from(*index));
+            put_memo(out, memo);
+            put_text(out, address.text());
+        }
+        Task::Update { length, index } => {
+            out.put(b" update");
+            put_number(out, u64::from(*length));
+            put_number(out, u64::from(*index));
+        }
+        Task::Freeze => out.put(b" freeze"),
+        Task::Discard => out.put(b" discard"),
+        Task::Ask { slot, cause } => {
+            out.put(b" ask");
+            put_number(out, u64::from(*slot));
+            put_leave_cause(out, *cause);
+        }
+        Task::DoFragment { req, mode, address } => {
+            out.put(b" fragment");
+            put_req(out, *req);
+            put_mode(out, *mode);
+            put_text(out, address.text());
+        }
     }
 }

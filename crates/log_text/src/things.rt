@@ -1,42 +1,51 @@
 //! The words of what a document made of an action.
-ghost use Rattle.std.specs.Prelude.{◌≡◌};
-ghost use Rattle.log_text.specs.Pieces.{words_text};
+ghost use Rattle.std.specs.Prelude.{◌≡◌, fold};
 ghost use Rattle.log_text.specs.Lines as spec;
 
-use crate::naming::memo_word;
-use crate::word::{Word, Words, five, four, one, two};
+use crate::names::{put_delta, put_entry, put_nav, put_text};
+use crate::naming::put_memo;
+use crate::out::Out;
 use log_model::What;
 
 /// What a document made of an action.
-pub fn made_words(what: &What) -> Words<'_>
-    ensures { words_text result ≡ spec.spaced (spec.made_words what.now) }
+pub fn put_made<O: Out>(out: &mut O, what: &What)
+    ensures { out.new ≡ fold O.after out.old (spec.spaced (spec.made_words what.now)) }
 {
     match what {
         What::Push {
             entry,
             memo,
             address,
-        } => four(
-            Word::Plain(b"push"),
-            Word::Entry(*entry),
-            memo_word(memo),
-            Word::Plain(address.text()),
-        ),
+        } => {
+            out.put(b" push");
+            put_entry(out, *entry);
+            put_memo(out, memo);
+            put_text(out, address.text());
+        }
         What::Replace {
             over,
             entry,
             memo,
             address,
-        } => five(
-            Word::Plain(b"replace"),
-            Word::Entry(*over),
-            Word::Entry(*entry),
-            memo_word(memo),
-            Word::Plain(address.text()),
-        ),
-        What::AddFrame { nav } => two(Word::Plain(b"frame"), Word::Nav(*nav)),
-        What::RemoveFrame { nav } => two(Word::Plain(b"remove"), Word::Nav(*nav)),
-        What::Go { delta } => two(Word::Plain(b"go"), Word::Delta(*delta)),
-        What::Edit => one(Word::Plain(b"edit")),
+        } => {
+            out.put(b" replace");
+            put_entry(out, *over);
+            put_entry(out, *entry);
+            put_memo(out, memo);
+            put_text(out, address.text());
+        }
+        What::AddFrame { nav } => {
+            out.put(b" frame");
+            put_nav(out, *nav);
+        }
+        What::RemoveFrame { nav } => {
+            out.put(b" remove");
+            put_nav(out, *nav);
+        }
+        What::Go { delta } => {
+            out.put(b" go");
+            put_delta(out, *delta);
+        }
+        What::Edit => out.put(b" edit"),
     }
 }
