@@ -10,7 +10,5 @@ mod named;
 mod order_reader;
 mod owner;
 mod prompt_reader;
-#[cfg(test)]
-mod tests;
 
 pub use log::Log;

@@ -1,4 +1,4 @@
--- The report of a world of one document, read from what it keeps.
+-- The report and the summary of a world of one document, read from what it keeps.
 -- This project's own.
 use Rattle.std.specs.Prelude.{ℕ, ◌+◌, List, [], ◌∷◌, ◌++◌, length, flat_map, slice_get, Option, if◌then◌else◌}
 use Rattle.log_model.specs.declared.outcome.Ending.{Ending}
@@ -6,6 +6,7 @@ use Rattle.log_model.specs.Logs.{is_idle}
 use Rattle.log_model.specs.Equal.{holds}
 use Rattle.world_laws.specs.Single.{Single, desk_with}
 use Rattle.report_text.specs.Reports.{quiet_line, step_line, entry_line, runs_line, moves_line, request_line, is_at}
+use Rattle.report_text.specs.Summary.{requests_line}
 
 -- the requests, numbered from here on
 abbrev pub ending_lines : ℕ → List (Option Ending) → List ℕ
@@ -26,3 +27,9 @@ plain_report t =
     ++ flat_map entry_line t.history.rows
     ++ plain_top t
     ++ ending_lines 1 t.endings
+
+abbrev pub plain_summary : Single → List ℕ
+plain_summary t =
+    requests_line t.endings
+    ++ step_line t.history.current (length t.history.rows) t.history.current
+    ++ quiet_line (is_idle (desk_with t))

@@ -48,7 +48,7 @@ fn entries(world: &World) -> Result<Rows, OutOfMemory>
 }
 
 /// The current step.
-fn current_step(world: &World) -> Step
+pub(crate) fn current_step(world: &World) -> Step
     ensures { result.0 ≡ world.now.single.history.current }
 {
     world.store().current()
