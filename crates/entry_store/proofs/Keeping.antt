@@ -1,5 +1,5 @@
 -- What stays kept where rows go, or the current step moves.
-use Rattle.std.proofs.Common.{◌≡◌, ℕ, ◌≤◌, List}
+use Rattle.std.proofs.Common.{◌≡◌, ℕ, ◌≤◌, List, sym, ◌∙◌}
 use Rattle.std.specs.Prelude.{nat_le}
 use Rattle.std.proofs.lemmas.Bool.{le-leb}
 use Rattle.tab_ids.specs.declared.NavId.{NavId}
@@ -7,7 +7,10 @@ use Rattle.tab_ids.specs.declared.Step.{Step}
 use Rattle.log_model.specs.declared.row.Row.{Row}
 use Rattle.log_model.specs.History.{History, Fits, is_of, used_steps, greatest_step}
 use Rattle.log_model.specs.declared.change.Change.TheVariants.{Traverse}
+use Rattle.log_model.specs.Order.{ordered}
 use Rattle.log_model.specs.Soundness.{IsSound}
+use Rattle.history_laws.proofs.Sorted.{ordered-any}
+use Rattle.history_laws.proofs.InOrder.{IsSound-ordered, used_steps-ordered}
 use Rattle.history_laws.proofs.Members.{IsIn, witness, list_any-none, none_passes}
 use Rattle.entry_store.specs.Kept.{IsKept}
 
@@ -43,3 +46,11 @@ IsKept-at history used current kept =
 
 pub Fits-goal : (history : History) (goal : Step) → goal.0 ≤ greatest_step history.rows → Fits history (Traverse goal)
 Fits-goal history goal within = le-leb goal.0 (greatest_step history.rows) within
+
+-- the rows put in order
+pub IsKept-ordered : (history : History) (used : List ℕ) → IsKept history used → IsKept (record { rows = ordered history.rows; current = history.current; added = history.added }) used
+IsKept-ordered history used kept =
+    IsKept-part history used kept (ordered history.rows) history.current used
+    (λ row there test passes. sym (ordered-any test history.rows) ∙ there test passes)
+    (IsSound-ordered history kept.sound)
+    (kept.used ∙ sym (used_steps-ordered history.rows kept.sound.steps))

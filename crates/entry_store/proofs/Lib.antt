@@ -16,3 +16,4 @@ pub mod ReplaceLaw
 pub mod InOrder
 pub mod Asking
 pub mod ForCallers
+pub mod SameReplay

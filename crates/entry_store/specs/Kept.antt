@@ -8,8 +8,11 @@ use Rattle.tab_ids.specs.declared.StateId.{StateId}
 use Rattle.tab_ids.specs.declared.EntryId.{EntryId}
 use Rattle.address.specs.Addresses.{blank_text}
 use Rattle.log_model.specs.declared.row.Row.{Row}
-use Rattle.log_model.specs.History.{History, is_of, has_nav, has_row, used_steps, with_step}
+use Rattle.log_model.specs.declared.change.Change.{Change}
+use Rattle.log_model.specs.History.{History, Fits, applied, is_of, has_nav, has_row, used_steps, with_step}
+use Rattle.log_model.specs.Order.{ordered, SameHistory}
 use Rattle.log_model.specs.Soundness.{IsSound}
+use Rattle.entry_store.specs.declared.changed.Changed.{Changed}
 use Rattle.entry_store.specs.declared.nested.Nested.{Nested}
 use Rattle.entry_store.specs.declared.cut.Cut.TheVariants.{Forward, Nothing}
 use Rattle.entry_store.specs.Places.{rows_at, rows_before, rows_after}
@@ -20,6 +23,10 @@ use Rattle.entry_store.specs.Nested.{rows_of, outlives, stays, AreHeld}
 abbrev pub history_in : Nested → History
 history_in lists =
     record { rows = rows_of lists.nests.items; current = lists.current.0; added = lists.added.keys }
+
+-- a history of these rows
+abbrev pub history_of : List Row → ℕ → List NavId → History
+history_of rows current added = record { rows = rows; current = current; added = added }
 
 -- the new rows are the old ones and one more, somewhere
 pub record PutsRow (old : List Row) (row : Row) (new : List Row) : Type 0 where
@@ -70,3 +77,10 @@ pub record IsPutOver (old : Nested) (place at : ℕ) (row : Row) (new : Nested) 
   pub steps : new.used.keys ≡ used_steps (filter (stays Nothing states) put)
   pub current : new.current ≡ old.current
   pub added : new.added.keys ≡ old.added.keys
+
+-- what a change made of a history, its rows in order
+pub record IsChanged (history : History) (change : Change) (new : Changed) : Type 0 where
+  pub fits : Fits history change
+  pub same : SameHistory (history_of new.rows new.current.0 new.added.keys) (applied history change)
+  pub kept : IsKept (history_of new.rows new.current.0 new.added.keys) new.used.keys
+  pub in_order : ordered new.rows ≡ new.rows

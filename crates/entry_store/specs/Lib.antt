@@ -3,4 +3,5 @@ pub mod Kept
 pub mod Nested
 pub mod Places
 pub mod Reading
+pub mod Replay
 pub mod Store

@@ -5,6 +5,7 @@ use Rattle.std.specs.Ordering.{nat_cmp, ordering_then}
 use Rattle.std.specs.BTreeMap.{insert_entry}
 use Rattle.tab_ids.specs.declared.NavId.{NavId}
 use Rattle.tab_ids.specs.declared.StateId.{StateId}
+use Rattle.tab_ids.specs.declared.Step.{Step}
 use Rattle.log_model.specs.declared.row.Row.{Row}
 use Rattle.log_model.specs.History.{is_of, later_row, with_step}
 use Rattle.log_model.specs.Soundness.{is_in_state, is_owned_by}
@@ -33,3 +34,7 @@ child_of state numbers row = if is_owned_by state row then with_step row.nav.0 n
 -- the rows so far under navigable and step, with one more in its place
 abbrev pub placed_row : List ((ℕ × ℕ) × Row) → Row → List ((ℕ × ℕ) × Row)
 placed_row rows row = insert_entry (λ one other. ordering_then (nat_cmp one.0 other.0) (nat_cmp one.1 other.1)) rows (row.nav.0, row.step.0) row
+
+-- the used steps so far, with one more
+abbrev pub step_taken : List ℕ → Step → List ℕ
+step_taken steps step = with_step step.0 steps

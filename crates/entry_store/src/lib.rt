@@ -4,6 +4,7 @@
 mod add;
 mod append;
 mod change;
+mod changed;
 mod counting;
 mod cut;
 mod entry_store;
@@ -20,14 +21,14 @@ mod push;
 mod readers;
 mod remove;
 mod replace;
+mod replaying;
 mod steps;
 mod store;
 mod swap;
 mod sweep;
 
+pub use changed::{Changed, changed_rows};
 pub use entry_store::EntryStore;
 pub use error::StoreError;
+pub use replaying::{Changes, replay};
 pub use store::Store;
-
-#[cfg(test)]
-mod tests;

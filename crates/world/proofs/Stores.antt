@@ -17,8 +17,9 @@ use Rattle.log_model.specs.Soundness.{is_entry, holds}
 use Rattle.log_model.specs.Places.{top}
 use Rattle.log_model.proofs.Refl.{same_entry_refl}
 use Rattle.history_laws.proofs.InOrder.{SameHistory-ordered, target_entry-ordered, row_of-ordered, history_length-ordered, history_index-ordered, fits-ordered, KeepsSame, applied-ordered}
-use Rattle.entry_store.specs.declared.entry_store.EntryStore.{EntryStore}
-use Rattle.entry_store.specs.Held.{history_held}
+use Rattle.step_index.specs.declared.step_index.StepIndex.{StepIndex}
+use Rattle.step_index.specs.Held.{history_held}
+use Rattle.step_index.specs.contracts.step_index.StepIndexStore.TheImpl.Laws.{sound-law, added-law}
 use Rattle.entry_store.specs.Store.{MayTake}
 use Rattle.entry_store.proofs.ForCallers.{MayTake-ordered}
 use Rattle.log_model.specs.declared.row_kind.LogRow.{LogRow}
@@ -179,20 +180,20 @@ keeps_same history changes.Edit added fit may = tt
 same_in_order : (one other : History) → SameHistory one other → in_order one ≡ in_order other
 same_in_order one other same i = record { rows = same.rows i; current = same.current i; added = same.added i }
 
-pub fits_held : (store : EntryStore) (change : Change) → Fits (history_in store) change → Fits (history_held store) change
-fits_held store change fit = sym (fits-ordered (history_held store) store.is_kept.sound change) ∙ fit
+pub fits_held : (store : StepIndex) (change : Change) → Fits (history_in store) change → Fits (history_held store) change
+fits_held store change fit = sym (fits-ordered (history_held store) (sound-law store) change) ∙ fit
 
-pub may_held : (store : EntryStore) (change : Change) → MayTake (history_in store) change → MayTake (history_held store) change
-may_held store change may = MayTake-ordered (history_held store) store.is_kept.sound change may
+pub may_held : (store : StepIndex) (change : Change) → MayTake (history_in store) change → MayTake (history_held store) change
+may_held store change may = MayTake-ordered (history_held store) (sound-law store) change may
 
-pub change_held : (old new : EntryStore) (change : Change) → Fits (history_in old) change → MayTake (history_in old) change → SameHistory (history_held new) (applied (history_held old) change) → history_in new ≡ in_order (applied (history_in old) change)
+pub change_held : (old new : StepIndex) (change : Change) → Fits (history_in old) change → MayTake (history_in old) change → SameHistory (history_held new) (applied (history_held old) change) → history_in new ≡ in_order (applied (history_in old) change)
 change_held old new change fit may same =
-    let keeps : KeepsSame (history_held old) change = keeps_same (history_held old) change old.is_kept.added (fits_held old change fit) (may_held old change may) in
-    let moved : SameHistory (applied (history_held old) change) (applied (history_in old) change) = applied-ordered (history_held old) old.is_kept.sound change keeps in
+    let keeps : KeepsSame (history_held old) change = keeps_same (history_held old) change (added-law old) (fits_held old change fit) (may_held old change may) in
+    let moved : SameHistory (applied (history_held old) change) (applied (history_in old) change) = applied-ordered (history_held old) (sound-law old) change keeps in
     same_in_order (history_held new) (applied (history_held old) change) same ∙ same_in_order (applied (history_held old) change) (applied (history_in old) change) moved
 
 -- the history after a push
-pub pushed_held : (t : Single) (store new : EntryStore) (state : StateId) (entry : EntryId) (memo : Option (List ℕ)) (address : List ℕ) → history_in store ≡ t.history → state ≡ t.state → history_in new ≡ in_order (applied (history_in store) (changes.Push top entry state address memo)) → IsStraight t.history → history_in new ≡ record t.history { rows = take (t.history.current + 1) t.history.rows ++ pushed_row t entry memo address ∷ []; current = t.history.current + 1 }
+pub pushed_held : (t : Single) (store new : StepIndex) (state : StateId) (entry : EntryId) (memo : Option (List ℕ)) (address : List ℕ) → history_in store ≡ t.history → state ≡ t.state → history_in new ≡ in_order (applied (history_in store) (changes.Push top entry state address memo)) → IsStraight t.history → history_in new ≡ record t.history { rows = take (t.history.current + 1) t.history.rows ++ pushed_row t entry memo address ∷ []; current = t.history.current + 1 }
 pushed_held t store new state entry memo address held is done straight =
     done
     ∙ ap (λ (h : History). in_order (applied h (changes.Push top entry state address memo))) held
@@ -200,7 +201,7 @@ pushed_held t store new state entry memo address held is done straight =
     ∙ pushes t entry memo address straight
 
 -- the history after a replace
-pub replaced_held : (t : Single) (store new : EntryStore) (state : StateId) (over entry : EntryId) (memo : Option (List ℕ)) (address : List ℕ) → history_in store ≡ t.history → state ≡ t.state → history_in new ≡ in_order (applied (history_in store) (changes.Replace top over entry state address memo)) → IsStraight t.history → IsAtCurrent t.history over → history_in new ≡ record t.history { rows = slice_set t.history.rows t.history.current (replaced_row_with t entry memo address) }
+pub replaced_held : (t : Single) (store new : StepIndex) (state : StateId) (over entry : EntryId) (memo : Option (List ℕ)) (address : List ℕ) → history_in store ≡ t.history → state ≡ t.state → history_in new ≡ in_order (applied (history_in store) (changes.Replace top over entry state address memo)) → IsStraight t.history → IsAtCurrent t.history over → history_in new ≡ record t.history { rows = slice_set t.history.rows t.history.current (replaced_row_with t entry memo address) }
 replaced_held t store new state over entry memo address held is done straight here =
     done
     ∙ ap (λ (h : History). in_order (applied h (changes.Replace top over entry state address memo))) held
@@ -209,35 +210,35 @@ replaced_held t store new state over entry memo address held is done straight he
 
 -- ---- what the store answers
 
-pub length_held : (store : EntryStore) → IsPlain 0 (history_in store).rows → history_length (history_held store).rows ≡ length (history_in store).rows
+pub length_held : (store : StepIndex) → IsPlain 0 (history_in store).rows → history_length (history_held store).rows ≡ length (history_in store).rows
 length_held store plain =
-    sym (history_length-ordered (history_held store).rows store.is_kept.sound.steps) ∙ history_length-plain (history_in store).rows plain
+    sym (history_length-ordered (history_held store).rows (sound-law store).steps) ∙ history_length-plain (history_in store).rows plain
 
-pub index_held : (store : EntryStore) → IsPlain 0 (history_in store).rows → (history_in store).current < length (history_in store).rows → history_index (history_held store).rows (history_held store).current ≡ (history_in store).current
+pub index_held : (store : StepIndex) → IsPlain 0 (history_in store).rows → (history_in store).current < length (history_in store).rows → history_index (history_held store).rows (history_held store).current ≡ (history_in store).current
 index_held store plain within =
-    sym (history_index-ordered (history_held store).rows store.is_kept.sound.steps (history_held store).current)
+    sym (history_index-ordered (history_held store).rows (sound-law store).steps (history_held store).current)
     ∙ history_index-plain (history_in store).rows (history_in store).current plain within
 
 -- the row at a step
-pub record IsTargetAt (store : EntryStore) (step : ℕ) : Type 0 where
+pub record IsTargetAt (store : StepIndex) (step : ℕ) : Type 0 where
   pub row : Row
   pub at : slice_get (history_in store).rows step ≡ Some row
   pub target : target_entry (history_held store).rows top step ≡ Some row
   pub found : row_of row.entry (history_held store).rows ≡ Some row
 
-pub target_held : (store : EntryStore) (step : ℕ) → IsStraight (history_in store) → step < length (history_in store).rows → IsTargetAt store step
+pub target_held : (store : StepIndex) (step : ℕ) → IsStraight (history_in store) → step < length (history_in store).rows → IsTargetAt store step
 target_held store step straight within =
     let it = get_some (history_in store).rows step within in
     record {
       row = it.0;
       at = it.1;
-      target = sym (target_entry-ordered (history_held store).rows store.is_kept.sound.steps top step) ∙ target_entry-plain (history_in store).rows step it.0 straight.plain it.1;
-      found = sym (row_of-ordered (history_held store).rows store.is_kept.sound.entries it.0.entry) ∙ row_at (history_in store).rows step it.0 straight.distinct it.1;
+      target = sym (target_entry-ordered (history_held store).rows (sound-law store).steps top step) ∙ target_entry-plain (history_in store).rows step it.0 straight.plain it.1;
+      found = sym (row_of-ordered (history_held store).rows (sound-law store).entries it.0.entry) ∙ row_at (history_in store).rows step it.0 straight.distinct it.1;
     }
 
 -- ---- the store holds the history of the log
 
-pub held_of_log : (store : EntryStore) (log : List LogRow) (t : Single) → t.history ≡ history_in store → IsWorld log t → SameHistory (history_held store) (history_of log)
+pub held_of_log : (store : StepIndex) (log : List LogRow) (t : Single) → t.history ≡ history_in store → IsWorld log t → SameHistory (history_held store) (history_of log)
 held_of_log store log t same world =
     let tied : history_of log ≡ t.history = ap (λ (seen : Seen). seen.history) world.tied in
-    subst (λ (history : History). SameHistory (history_held store) history) (sym (tied ∙ same)) (SameHistory-ordered (history_held store) store.is_kept.sound.steps)
+    subst (λ (history : History). SameHistory (history_held store) history) (sym (tied ∙ same)) (SameHistory-ordered (history_held store) (sound-law store).steps)

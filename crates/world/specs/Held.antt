@@ -9,8 +9,8 @@ use Rattle.tab_ids.specs.declared.Step.{Step}
 use Rattle.log_model.specs.History.{History}
 use Rattle.log_model.specs.Order.{ordered}
 use Rattle.log_model.specs.Places.{top}
-use Rattle.entry_store.specs.declared.entry_store.EntryStore.{EntryStore}
-use Rattle.entry_store.specs.Held.{history_held}
+use Rattle.step_index.specs.declared.step_index.StepIndex.{StepIndex}
+use Rattle.step_index.specs.Held.{history_held}
 use Rattle.nav_tree.specs.declared.nav.Nav.{Nav}
 use Rattle.nav_tree.specs.Tree.{Tree, nav_of, node_of, state_of, top_node}
 use Rattle.world_laws.specs.Single.{first_document, first_entry, first_state}
@@ -23,7 +23,7 @@ abbrev pub in_order : History → History
 in_order history = record history { rows = ordered history.rows }
 
 -- the history of a store, so put
-abbrev pub history_in : EntryStore → History
+abbrev pub history_in : StepIndex → History
 history_in store = in_order (history_held store)
 
 -- the entries are the top's, at the steps 0, 1, 2 and so on, all distinct, and one of these steps is current

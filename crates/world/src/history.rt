@@ -7,12 +7,13 @@ ghost use Rattle.world_laws.specs.Keeps.{IsPlain};
 ghost use Rattle.world.specs.Held.{in_order, history_in, IsStraight};
 
 use address::OutOfMemory;
-use entry_store::{EntryStore, Store, StoreError};
+use entry_store::{Store, StoreError};
 use log_model::{Change, Row};
+use step_index::StepIndex;
 use tab_ids::{NavId, Step};
 
 /// Makes a change that fits.
-pub(crate) fn make_change(store: &mut EntryStore, change: &Change) -> Result<(), OutOfMemory>
+pub(crate) fn make_change(store: &mut StepIndex, change: &Change) -> Result<(), OutOfMemory>
     requires fits { Fits (history_in store.old) change.now }
     requires may { MayTake (history_in store.old) change.now }
     requires room { (history_in store.old).current < 4294967294 }
@@ -37,7 +38,7 @@ fn want_of_memory(error: StoreError) -> OutOfMemory
 }
 
 /// The history object's length, and its index at the current step.
-pub(crate) fn length_index(store: &EntryStore) -> (u32, u32)
+pub(crate) fn length_index(store: &StepIndex) -> (u32, u32)
     requires plain { IsPlain 0 (history_in store.now).rows }
     requires within { (history_in store.now).current < length (history_in store.now).rows }
     ensures length { result.0 ≡ length (history_in store.now).rows }
@@ -47,7 +48,7 @@ pub(crate) fn length_index(store: &EntryStore) -> (u32, u32)
 }
 
 /// The top's target entry at a step of the history.
-pub(crate) fn target_row(store: &EntryStore, step: u32) -> &Row
+pub(crate) fn target_row(store: &StepIndex, step: u32) -> &Row
     requires straight { IsStraight (history_in store.now) }
     requires within { step < length (history_in store.now).rows }
     ensures { slice_get (history_in store.now).rows step ≡ Some result.now }

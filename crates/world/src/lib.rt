@@ -12,8 +12,6 @@ mod report;
 mod settling;
 mod state;
 mod steps;
-#[cfg(test)]
-mod tests;
 mod top;
 mod traversal;
 mod working;

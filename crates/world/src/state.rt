@@ -4,19 +4,19 @@ ghost use Rattle.world_laws.specs.Single.{opened};
 
 use address::{Address, OutOfMemory};
 use doc_view::View;
-use entry_store::EntryStore;
 use log_model::{Ending, Job, Order, Poke, Report};
 use nav_tree::NavTree;
 use std::alloc::Global;
 use std::collections::VecDeque;
 use std::marker::Model;
+use step_index::StepIndex;
 use tab_ids::{DocId, EntryId, ProcId, ReqId, Step};
 
 /// The history, the top navigable, the one document, the four lists of its process, the traversals that wait, the one that runs, and how each request ended.
 #[derive(Drop)]
 pub(crate) struct State {
     pub(crate) events: u32,
-    pub(crate) store: EntryStore,
+    pub(crate) store: StepIndex,
     pub(crate) tree: NavTree,
     pub(crate) view: View,
     pub(crate) input: VecDeque<Poke>,
@@ -62,7 +62,7 @@ pub(crate) fn opened_at(alloc: Global, address: &Address) -> Result<State, OutOf
     ensures { IfOk result (λ state. state ≡ opened address.now) }
 {
     let shown = address.copy()?;
-    let store = EntryStore::fresh(alloc, address)?;
+    let store = StepIndex::fresh(alloc, address)?;
     let tree = NavTree::fresh(alloc, DocId(1), ProcId(1), None)?;
     Ok(State {
         events: 1,

@@ -9,7 +9,7 @@ ghost use Rattle.log_model.specs.Suits.{Suits};
 ghost use Rattle.log_model.specs.Formed.{poked_document};
 ghost use Rattle.log_model.specs.Logs.{seen_of, history_of, in_hand_of, input_of, mail_of, reports_of, is_still, is_quiet, is_idle};
 ghost use Rattle.log_model.specs.Order.{SameHistory};
-ghost use Rattle.entry_store.specs.Held.{history_held};
+ghost use Rattle.step_index.specs.Held.{history_held};
 ghost use Rattle.world_laws.specs.Single.{opened, opening_row, desk_with};
 ghost use Rattle.world.specs.Held.{history_in};
 ghost use Rattle.world.specs.Kept.{row_limit, IsPlainHeader, OpensAs};
@@ -23,11 +23,11 @@ use crate::state::{State, opened_at};
 use crate::steps::{take_act, take_begin, take_deliver, take_finish, take_go, take_poke};
 use address::OutOfMemory;
 use doc_view::View;
-use entry_store::EntryStore;
 use history_log::Log;
 use log_model::{Actor, Ending, Header, LogRow, Order, RowKind};
 use std::alloc::Global;
 use std::marker::Model;
+use step_index::StepIndex;
 use tab_ids::{DocId, EntryId, NavId, ProcId, StateId};
 
 /// A tab with one document, in process 1.
@@ -229,7 +229,7 @@ impl World {
     }
 
     /// The store that keeps the history. Nothing is said of the store of a closed world.
-    pub fn store(&self) -> &EntryStore
+    pub fn store(&self) -> &StepIndex
         ensures held { history_in result.now ≡ self.now.single.history }
         ensures history { self.now.closed ≡ false → SameHistory (history_held result.now) (history_of self.now.log) }
     {

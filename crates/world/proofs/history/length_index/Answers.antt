@@ -1,7 +1,7 @@
 use Rattle.std.proofs.Common.{◌∙◌, ap}
 use Rattle.std.specs.Prelude.{ℕ}
 use Rattle.log_model.specs.History.{history_index}
-use Rattle.entry_store.specs.Held.{history_held}
+use Rattle.step_index.specs.Held.{history_held}
 use Rattle.world.proofs.Stores.{length_held, index_held}
 use Rattle.world.proofs.history.length_index.Goals as goal
 

@@ -1,4 +1,4 @@
-use Rattle.entry_store.specs.Held.{history_held}
+use Rattle.step_index.specs.Held.{history_held}
 use Rattle.entry_store.proofs.ForCallers.{refused_only_for_memory}
 use Rattle.world.proofs.Stores.{fits_held, may_held, change_held}
 use Rattle.world.proofs.history.make_change.Goals as goal

@@ -3,7 +3,7 @@ use Rattle.std.specs.Option.{option_map}
 use Rattle.tab_ids.specs.declared.EntryId.{EntryId}
 use Rattle.log_model.specs.declared.row.Row.{Row}
 use Rattle.log_model.specs.History.{row_of}
-use Rattle.entry_store.specs.Held.{history_held}
+use Rattle.step_index.specs.Held.{history_held}
 use Rattle.world.proofs.Stores.{IsTargetAt, target_held}
 use Rattle.world.proofs.history.target_row.Goals as goal
 

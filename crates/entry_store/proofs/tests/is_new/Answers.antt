@@ -1,8 +1,0 @@
-use Rattle.std.proofs.Common.{sym}
-use Rattle.log_model.specs.Soundness.{is_entry}
-use Rattle.history_laws.proofs.Members.{found_none}
-use Rattle.entry_store.specs.Held.{history_held}
-use Rattle.entry_store.proofs.tests.is_new.Goals as goal
-
-pub returns-in-None : goal.returns-in-None
-returns-in-None c = let h = c.in-None.ensures in λ _. found_none (is_entry c.args.entry) (history_held c.args.store.now).rows (sym c.in-None.ensures)

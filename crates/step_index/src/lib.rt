@@ -1,0 +1,22 @@
+//! `StepIndex`, a store of a tab's session history that finds entries by their steps: it keeps the entries of each navigable sorted by step, and the used steps sorted.
+#![tactic(auto)]
+
+mod change;
+mod keyed;
+mod listing;
+mod move_on;
+mod noted;
+mod opening;
+mod parts;
+mod places;
+mod push;
+mod readers;
+mod rebuild;
+mod replace;
+mod search;
+mod step_index;
+mod ticks;
+mod track;
+
+pub use step_index::StepIndex;
+pub use ticks::Steps;

@@ -1,0 +1,18 @@
+//! `Parts`, the entries of a `StepIndex` and what it keeps beside them.
+use crate::noted::Place;
+use crate::track::Track;
+use indexmap::{IndexMap, IndexSet};
+use tab_ids::{EntryId, NavId, Step};
+
+/// The entries, navigable by navigable in order of number, with the used steps in order.
+#[derive(Drop)]
+pub struct Parts {
+    pub tracks: Vec<Track>,
+    /// Where each entry is looked for.
+    pub noted: IndexMap<EntryId, Place>,
+    /// The used steps.
+    pub used: Vec<u32>,
+    pub current: Step,
+    /// The child navigables ever added.
+    pub added: IndexSet<NavId>,
+}

@@ -1,0 +1,56 @@
+//! Looking up a number in a sorted list by halves.
+ghost use Rattle.std.specs.Prelude.{◌≡◌, ◌≤◌, ◌-◌, ◌*◌, ◌+◌, ◌^◌, false, nat_le, nat_lt, length, take, drop};
+ghost use Rattle.std.specs.List.{list_any};
+ghost use Rattle.step_index.specs.Ascending.{IsAscending};
+
+use crate::keyed::Keyed;
+use crate::ticks::Steps;
+use std::marker::Brand;
+use std::sync::ledger::{Blank, Ledger};
+
+/// How many of the items have at most the number. Each comparison of an item with it is a tick.
+pub fn count_upto<T: Keyed, L: Ledger>(items: &[T], number: u32, steps: &mut Steps<L>) -> usize
+    requires sorted { IsAscending T.key items.now }
+    ensures within { result ≤ length items.now }
+    ensures upto { list_any (λ item. nat_lt number (T.key item)) (take result items.now) ≡ false }
+    ensures past { list_any (λ item. nat_le (T.key item) number) (drop result items.now) ≡ false }
+    ensures counted { steps.old ≤ steps.new }
+    ensures cost { 2 ^ (steps.new - steps.old) ≤ 2 * length items.now + 1 }
+{
+    let mut low = 0;
+    let mut high = items.len();
+    while low < high {
+        let middle = low + (high - low) / 2;
+        steps.tick();
+        if items[middle].key() <= number {
+            low = middle + 1;
+        } else {
+            high = middle;
+        }
+    }
+    low
+}
+
+/// The same for a caller that counts nothing.
+pub fn uncounted_upto<T: Keyed>(items: &[T], number: u32) -> usize
+    requires sorted { IsAscending T.key items.now }
+    ensures within { result ≤ length items.now }
+    ensures upto { list_any (λ item. nat_lt number (T.key item)) (take result items.now) ≡ false }
+    ensures past { list_any (λ item. nat_le (T.key item) number) (drop result items.now) ≡ false }
+{
+    blank_upto::<T, Brand>(items, number, Blank::new(1))
+}
+
+// The same with a ledger of its own.
+fn blank_upto<T: Keyed, L: Ledger>(items: &[T], number: u32, blank: Blank) -> usize
+    requires sorted { IsAscending T.key items.now }
+    requires name { blank.name ≡ L.name }
+    requires parts { blank.parts ≡ L.parts }
+    requires one { L.parts ≡ 1 }
+    ensures within { result ≤ length items.now }
+    ensures upto { list_any (λ item. nat_lt number (T.key item)) (take result items.now) ≡ false }
+    ensures past { list_any (λ item. nat_le (T.key item) number) (drop result items.now) ≡ false }
+{
+    let mut steps = Steps::<L>::new(blank);
+    count_upto(items, number, &mut steps)
+}
