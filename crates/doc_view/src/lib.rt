@@ -2,8 +2,6 @@
 #![tactic(auto)]
 
 mod error;
-#[cfg(test)]
-mod tests;
 mod view;
 
 pub use error::ActError;

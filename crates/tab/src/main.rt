@@ -1,20 +1,14 @@
 //! `tab` plays what is asked of a browser tab and reports its session history.
 #![tactic(auto)]
 
-mod call;
-mod status;
-#[cfg(test)]
-mod tests;
-mod words;
-
-use crate::call::play_call;
-use crate::status::{Status, status_line};
+use std::io::BufWriter;
 use std::process::ExitCode;
-use std::{env, io};
+use std::{env, io, mem};
+use tab_call::{Ended, Status, play_call, status_line};
 use tab_io::{StdSink, StdSource};
 
 const USAGE: &str =
-    "usage: tab play < SCENARIO\n\nPlays a scenario from standard input and prints the report of its log.\n";
+    "usage: tab play [log] < SCENARIO\n\nPlays a scenario from standard input and prints the report of its log; with `log` the log before it, a line for each row.\n";
 
 fn main(rt: HostRuntime) -> ExitCode {
     let mut words = Vec::new(rt.alloc());
@@ -33,9 +27,17 @@ fn main(rt: HostRuntime) -> ExitCode {
         return ExitCode::from(0);
     }
     let mut source = StdSource::new(rt.reader());
-    let mut sink = StdSink::new(io::writer(&rt));
-    let ended = play_call(rt.alloc(), words.as_slice(), &mut source, &mut sink);
-    end(&rt, &ended.status)
+    let Ok(writer) = BufWriter::new(rt.alloc(), io::writer(&rt)) else {
+        return end(&rt, &Status::OutOfMemory);
+    };
+    let mut sink = StdSink::new(writer);
+    let Ended { status, log } = play_call(rt.alloc(), words.as_slice(), &mut source, &mut sink);
+    // The process is about to end, which frees a long log at once, and not row by row.
+    mem::forget(log);
+    if sink.flush().is_err() {
+        return end(&rt, &Status::WriteFault);
+    }
+    end(&rt, &status)
 }
 
 /// The text of `--help` and `--version`.

@@ -1,0 +1,199 @@
+//! `play_call`, all that the program does with its words, a source and a sink.
+ghost use Rattle.std.specs.Prelude.{◌≡◌, ◌↔◌, ℕ, false, List, None, Ok, Err, IfSome, IsSome, map, string_bytes};
+ghost use Rattle.log_model.specs.ActsAtOnce.{ActsAtOnce};
+ghost use Rattle.log_model.specs.Legal.{IsLegal};
+ghost use Rattle.log_model.specs.Limits.{BeginsBelow};
+ghost use Rattle.world.specs.Kept.{row_limit};
+ghost use Rattle.report_text.specs.Reports.{report_of};
+ghost use Rattle.tab_call.specs.Words.{text_asked, work_of};
+ghost use Rattle.tab_call.specs.Writes.{text_with};
+ghost use Rattle.scenario_play.specs.Moves.{IsFault};
+ghost use Rattle.scenario_text.specs.Follows.{Follows, IsCutShort};
+ghost use Rattle.scenario_text.specs.declared.built.Built.TheVariants as builts;
+ghost use Rattle.scenario_text.specs.Grammar.{scenario_of};
+ghost use Rattle.tab_call.specs.Calls.{FollowsAs, FollowsRead, HasReadCause, HasWriteCause, IsHeard, IsPlayEnd, IsUnhindered, ReadsAs, SpellsAs};
+
+use crate::status::Status;
+use crate::words::{Work, asked_work};
+use crate::writing::{Unwritten, write_due};
+use history_log::Log;
+use report_text::report;
+use scenario_play::{Played, play};
+use scenario_text::{Built, Reason, Refusal, Scenario, ScenarioError};
+use std::alloc::Global;
+use tab_io::{ReadAllError, Sink, Source, read_bytes};
+use world::{StepError, World};
+
+/// The most bytes that a scenario may have.
+const BYTE_LIMIT: usize = 4_194_304;
+
+/// How a call ended, and the log of the tab, where one was made and the status is `Done`, `LogFull` or `WriteFault`.
+#[derive(Drop)]
+pub struct Ended {
+    pub status: Status,
+    pub log: Option<Log>,
+}
+
+/// Does what the words ask: `play` reads a scenario to its end, plays it, and writes the report of the log; `play log` writes the log before it, a line for each row.
+///
+/// Nothing is written unless all was read and played, and what takes memory is made. Each line of the log is a write of its own, and so is the report.
+pub fn play_call<S: Source, K: Sink>(
+    alloc: Global,
+    words: &[String],
+    source: &mut S,
+    sink: &mut K,
+) -> Ended
+    ensures usage { (result.status ≡ Status.Usage) ↔ (work_of (map (λ w. string_bytes w) words.now) ≡ None) }
+    ensures read { HasReadCause result.status (S.left source.old) (S.left source.new) (S.faults source.old) (S.faults source.new) }
+    ensures follows { FollowsRead result.status (S.left source.old) (S.left source.new) result.log }
+    ensures written { HasWriteCause result.status (text_asked (work_of (map (λ w. string_bytes w) words.now))) (K.taken sink.old) (K.taken sink.new) (K.faults sink.old) (K.faults sink.new) result.log }
+    ensures legal { IfSome result.log IsLegal }
+    ensures at_once { IfSome result.log ActsAtOnce }
+    ensures limited { IfSome result.log (BeginsBelow row_limit) }
+
+    // Where nothing is in the way, the call is done, or refuses what is no scenario.
+    ensures done { (bytes : List ℕ) → (scenario : Scenario)
+        → IsHeard (map (λ w. string_bytes w) words.now) bytes (S.left source.old) (S.faults source.old) (S.faults source.new) result.status
+        → scenario_of false builts.Document bytes ≡ Ok scenario
+        → IsUnhindered scenario (K.faults sink.old) (K.faults sink.new) result.log
+        → result.status ≡ Status.Done }
+    ensures refused { (bytes : List ℕ) → (refusal : Refusal)
+        → IsHeard (map (λ w. string_bytes w) words.now) bytes (S.left source.old) (S.faults source.old) (S.faults source.new) result.status
+        → scenario_of false builts.Document bytes ≡ Err refusal
+        → result.status ≡ Status.Scenario refusal }
+{
+    carry_out(alloc, words, source, sink)
+}
+
+/// `play_call` without its last two clauses, which follow from these.
+fn carry_out<S: Source, K: Sink>(
+    alloc: Global,
+    words: &[String],
+    source: &mut S,
+    sink: &mut K,
+) -> Ended
+    ensures usage { (result.status ≡ Status.Usage) ↔ (work_of (map (λ w. string_bytes w) words.now) ≡ None) }
+    ensures read { HasReadCause result.status (S.left source.old) (S.left source.new) (S.faults source.old) (S.faults source.new) }
+    ensures follows { FollowsRead result.status (S.left source.old) (S.left source.new) result.log }
+    ensures written { HasWriteCause result.status (text_asked (work_of (map (λ w. string_bytes w) words.now))) (K.taken sink.old) (K.taken sink.new) (K.faults sink.old) (K.faults sink.new) result.log }
+    ensures legal { IfSome result.log IsLegal }
+    ensures at_once { IfSome result.log ActsAtOnce }
+    ensures limited { IfSome result.log (BeginsBelow row_limit) }
+{
+    let Some(work) = asked_work(words) else {
+        return failed(Status::Usage);
+    };
+    let scenario = match read_scenario(alloc, source) {
+        Ok(scenario) => scenario,
+        Err(status) => return failed(status),
+    };
+    let played = match World::fresh(alloc, &scenario.header) {
+        Ok(world) => play(&scenario, world),
+        Err(_) => return failed(Status::OutOfMemory),
+    };
+    tell(alloc, work, &scenario, played, sink)
+}
+
+/// Reads the scenario; else the status says why there is none.
+fn read_scenario<S: Source>(alloc: Global, source: &mut S) -> Result<Scenario, Status>
+    ensures { ReadsAs result (S.left source.old) (S.left source.new) (S.faults source.old) (S.faults source.new) }
+{
+    match read_bytes(alloc, source, BYTE_LIMIT) {
+        Ok(bytes) => spelled(alloc, &bytes),
+        Err(ReadAllError::TooLong) => Err(Status::Scenario(Refusal {
+            line: 0,
+            reason: Reason::TooLong,
+        })),
+        Err(ReadAllError::ReadFault) => Err(Status::ReadFault),
+        Err(ReadAllError::OutOfMemory) => Err(Status::OutOfMemory),
+    }
+}
+
+/// The scenario that bytes spell.
+fn spelled(alloc: Global, bytes: &[u8]) -> Result<Scenario, Status>
+    ensures { SpellsAs result bytes.now }
+{
+    match Scenario::read(alloc, bytes, false, Built::Document) {
+        Ok(scenario) => Ok(scenario),
+        Err(ScenarioError::Refused(refusal)) => Err(Status::Scenario(refusal)),
+        Err(ScenarioError::UrlOverflow(overflowed)) => Err(Status::UrlOverflow(overflowed)),
+        Err(ScenarioError::OutOfMemory) => Err(Status::OutOfMemory),
+    }
+}
+
+/// Tells what was played: the report, or why not all was.
+fn tell<K: Sink>(
+    alloc: Global,
+    work: Work,
+    scenario: &Scenario,
+    played: Played,
+    sink: &mut K,
+) -> Ended
+    requires given { IsSome played.world }
+    requires open { played.fault ≡ None → IfSome played.world (λ w. w.closed ≡ false) }
+    requires follows { played.fault ≡ None → IfSome played.world (λ w. Follows w.log scenario.now) }
+    requires cut { IsSome played.fault → IfSome played.world (λ w. IsCutShort w.log scenario.now) }
+    requires faults { IfSome played.fault (λ e. IfSome played.world (λ w. IsFault w e)) }
+    ensures kind { IsPlayEnd result.status }
+    ensures follows { FollowsAs result.status result.log scenario.now }
+    ensures written { HasWriteCause result.status (λ log. text_with work log (report_of log)) (K.taken sink.old) (K.taken sink.new) (K.faults sink.old) (K.faults sink.new) result.log }
+    ensures legal { IfSome result.log IsLegal }
+    ensures at_once { IfSome result.log ActsAtOnce }
+    ensures limited { IfSome result.log (BeginsBelow row_limit) }
+{
+    let Played { world, fault } = played;
+    let Some(world) = world else { unreachable!() };
+    match fault {
+        None => write_text(alloc, work, scenario, world, sink),
+        Some(StepError::LogFull) => Ended {
+            status: Status::LogFull,
+            log: Some(world.into_log()),
+        },
+        Some(StepError::Closed) => unreachable!(),
+        Some(StepError::UrlOverflow(overflowed)) => failed(Status::UrlOverflow(overflowed)),
+        Some(StepError::OutOfMemory) => failed(Status::OutOfMemory),
+    }
+}
+
+/// Writes the report of a world's log, and before it the log where it is asked for.
+fn write_text<K: Sink>(
+    alloc: Global,
+    work: Work,
+    scenario: &Scenario,
+    world: World,
+    sink: &mut K,
+) -> Ended
+    requires open { world.closed ≡ false }
+    requires follows { Follows world.log scenario.now }
+    ensures kind { IsPlayEnd result.status }
+    ensures follows { FollowsAs result.status result.log scenario.now }
+    ensures written { HasWriteCause result.status (λ log. text_with work log (report_of log)) (K.taken sink.old) (K.taken sink.new) (K.faults sink.old) (K.faults sink.new) result.log }
+    ensures legal { IfSome result.log IsLegal }
+    ensures at_once { IfSome result.log ActsAtOnce }
+    ensures limited { IfSome result.log (BeginsBelow row_limit) }
+{
+    let text = match report(alloc, &world) {
+        Ok(text) => text,
+        Err(_) => return failed(Status::OutOfMemory),
+    };
+    let log = world.into_log();
+    match write_due(alloc, sink, work, log.rows(), text.bytes()) {
+        Ok(()) => Ended {
+            status: Status::Done,
+            log: Some(log),
+        },
+        Err(Unwritten::WriteFault) => Ended {
+            status: Status::WriteFault,
+            log: Some(log),
+        },
+        Err(Unwritten::OutOfMemory) => failed(Status::OutOfMemory),
+    }
+}
+
+/// An end with no log.
+fn failed(status: Status) -> Ended
+    ensures status { result.status ≡ status }
+    ensures log { result.log ≡ None }
+{
+    Ended { status, log: None }
+}
