@@ -24,16 +24,16 @@ use Rattle.log_model.specs.AfterPlaces.{on_place, place_arrived, places_delivere
 use Rattle.log_model.specs.AfterRequests.{made_of_report, requests_delivered, is_held_back}
 use Rattle.seen_laws.proofs.Keyed.{find_on_same, find_on_other}
 use Rattle.coord_facts.specs.Leading.{is_made_under, held_back, EachLeads}
-use Rattle.coord_facts.proofs.Leadings.{LeadsIn, leads_again}
+use Rattle.coord_facts.proofs.Leadings.{WasAwake, EachWasAwake, as_placed, LeadsIn, leads_again}
 use Rattle.coord_facts.proofs.OneDocument.{LooksAlike, leads_alike}
-use Rattle.coord_facts.proofs.Kept.{IsPlainOutcome, WasAwake, EachWasAwake, unread_stays, desk_stays_on}
+use Rattle.coord_facts.proofs.Kept.{IsPlainOutcome, unread_stays, desk_stays_on}
 
 -- the report of an order is the first
 abbrev pub IsFirstReport : Desk → Job → Outcome → Type 0
 IsFirstReport desk job outcome = slice_get desk.reports 0 ≡ Some (reports.Done job outcome None)
 
 -- it tells of nothing made
-coming_alike : (held : List Made) (desk : Desk) (job : Job) (outcome : Outcome) (d : Document) (epoch : Epoch) → IsFirstReport desk job outcome → LooksAlike held desk (desk_delivered desk) d d epoch
+pub coming_alike : (held : List Made) (desk : Desk) (job : Job) (outcome : Outcome) (d : Document) (epoch : Epoch) → IsFirstReport desk job outcome → LooksAlike held desk (desk_delivered desk) d d epoch
 coming_alike held desk job outcome d epoch first =
     record {
       pending = refl;
@@ -93,23 +93,19 @@ arrived_before s job d nav place there = by_nav (d.nav.0 == nav.0) refl
           epoch = refl;
         }
 
-unmoved : (s : Seen) (nav : NavId) (place : Place) → place_in s.places nav ≡ Some place → WasAwake s nav place
-unmoved s nav place there =
-    record { before = place; there = there; status = refl; given = refl; epoch = refl }
-
 -- only the report of an Activate tells of a place
-delivered_before : (s : Seen) (job : Job) (outcome : Outcome) (task : Task) → job.task ≡ task → (nav : NavId) (place : Place) → place_in (places_delivered s (Some (reports.Done job outcome None))) nav ≡ Some place → WasAwake s nav place
+pub delivered_before : (s : Seen) (job : Job) (outcome : Outcome) (task : Task) → job.task ≡ task → (nav : NavId) (place : Place) → place_in (places_delivered s (Some (reports.Done job outcome None))) nav ≡ Some place → WasAwake s nav place
 delivered_before s job outcome (tasks.Activate entry epoch long at memo address) is nav place there = by_document (document_of s job.doc) refl
   where
     by_document : (o : Option Document) → document_of s job.doc ≡ o → WasAwake s nav place
-    by_document None e = unmoved s nav place (sym (rw (is, e) refl) ∙ there)
+    by_document None e = as_placed s nav place (sym (rw (is, e) refl) ∙ there)
     by_document (Some d) e = arrived_before s job d nav place (sym (rw (is, e) refl) ∙ there)
-delivered_before s job outcome (tasks.Populate of state address initial) is nav place there = unmoved s nav place (sym (rw is refl) ∙ there)
-delivered_before s job outcome (tasks.Update long at) is nav place there = unmoved s nav place (sym (rw is refl) ∙ there)
-delivered_before s job outcome tasks.Freeze is nav place there = unmoved s nav place (sym (rw is refl) ∙ there)
-delivered_before s job outcome tasks.Discard is nav place there = unmoved s nav place (sym (rw is refl) ∙ there)
-delivered_before s job outcome (tasks.Ask slot cause) is nav place there = unmoved s nav place (sym (rw is refl) ∙ there)
-delivered_before s job outcome (tasks.DoFragment req mode address) is nav place there = unmoved s nav place (sym (rw is refl) ∙ there)
+delivered_before s job outcome (tasks.Populate of state address initial) is nav place there = as_placed s nav place (sym (rw is refl) ∙ there)
+delivered_before s job outcome (tasks.Update long at) is nav place there = as_placed s nav place (sym (rw is refl) ∙ there)
+delivered_before s job outcome tasks.Freeze is nav place there = as_placed s nav place (sym (rw is refl) ∙ there)
+delivered_before s job outcome tasks.Discard is nav place there = as_placed s nav place (sym (rw is refl) ∙ there)
+delivered_before s job outcome (tasks.Ask slot cause) is nav place there = as_placed s nav place (sym (rw is refl) ∙ there)
+delivered_before s job outcome (tasks.DoFragment req mode address) is nav place there = as_placed s nav place (sym (rw is refl) ∙ there)
 
 module _ (s : Seen) (event : ℕ) (proc : ProcId) (job : Job) (outcome : Outcome) (first : IsFirstReport (desk_of s proc) job outcome) (plain : IsPlainOutcome outcome) where
   abbrev after_delivery : Seen
@@ -134,9 +130,13 @@ module _ (s : Seen) (event : ℕ) (proc : ProcId) (job : Job) (outcome : Outcome
   documents_as =
       ap (λ (o : Option Report). documents_delivered s.documents o) first ∙ same_documents s.documents job outcome plain
 
+  pub held_as : held_back after_delivery.requests after_delivery.parked ≡ held_back s.requests s.parked
+  held_as =
+      ap (λ (asked : List Asked). held_back asked after_delivery.parked) requests_as ∙ ap (λ (parked : List ReqId). held_back s.requests parked) parked_as
+
   pub delivered_leads : EachLeads s → EachLeads after_delivery
   delivered_leads each =
-      leads_again s after_delivery refl (ap (λ (asked : List Asked). held_back asked after_delivery.parked) requests_as ∙ ap (λ (parked : List ReqId). held_back s.requests parked) parked_as)
+      leads_again s after_delivery refl held_as
       (unread_stays (LeadsIn s) s after_delivery
       (record {
         documents = documents_as;

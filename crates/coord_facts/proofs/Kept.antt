@@ -24,7 +24,7 @@ use Rattle.log_model.proofs.Refl.{nat_eq_refl}
 use Rattle.seen_laws.proofs.Keyed.{find_has}
 use Rattle.seen_laws.proofs.Desks.{desk_on_same, desk_on_other}
 use Rattle.coord_facts.specs.Leading.{is_live_order, once_finished, held_back, EachAwake, EachLeads}
-use Rattle.coord_facts.proofs.Leadings.{proc_same, IsOneChange, one_stays, LeadsIn, at_home, leads_again}
+use Rattle.coord_facts.proofs.Leadings.{proc_same, WasAwake, EachWasAwake, as_placed, IsOneChange, one_stays, LeadsIn, at_home, leads_again}
 use Rattle.coord_facts.proofs.OneDocument.{leads_alike, finished_own, finished_other, taken_alike, mailed, mailed_other, updated_leads}
 
 -- ---- an order is finished
@@ -86,7 +86,7 @@ module _ (s : Seen) (event : ℕ) (proc : ProcId) (order : Order) (outcome : Out
         stays = λ d. refl;
         home = in_.home;
         own = λ nav place d placed wakes there. leads_alike s.history.rows (held_back s.requests s.parked) (desk_of s proc) (desk_finished outcome (desk_of s proc)) d (once_finished d order.job) place.given place.epoch (finished_own (held_back s.requests s.parked) (desk_of s proc) order outcome d place.epoch in_.hand (is_mine d.nr (length (desk_of s proc).killed) order.job (sym (find_has (λ (x : Document). x.nr.0) order.job.doc.0 s.documents d there)) in_.lives)) (at_home s proc d place.given place.epoch (in_.home d there) (each nav place order.job.doc d placed wakes there));
-        others = λ nav place at placed wakes apart. placed;
+        others = λ nav place at placed wakes apart. as_placed s nav place placed;
         other = λ d given epoch apart leads. leads_alike s.history.rows (held_back s.requests s.parked) (desk_of s proc) (desk_finished outcome (desk_of s proc)) d d given epoch (finished_other (held_back s.requests s.parked) (desk_of s proc) order outcome d epoch in_.hand apart) leads;
       }
 
@@ -120,7 +120,7 @@ module _ (s : Seen) (event : ℕ) (actor : Actor) (job : Job) (long at : ℕ) (t
         stays = λ d. refl;
         home = sent.home;
         own = λ nav place d placed wakes there. updated_leads s.history.rows (held_back s.requests s.parked) (desk_of s job.proc) d job long at place.given place.epoch task (is_mine d.nr (length (desk_of s job.proc).killed) job (sym (find_has (λ (x : Document). x.nr.0) job.doc.0 s.documents d there)) sent.lives) (at_home s job.proc d place.given place.epoch (sent.home d there) (each nav place job.doc d (was_placed nav place placed) wakes there));
-        others = λ nav place at_ placed wakes apart. was_placed nav place placed;
+        others = λ nav place at_ placed wakes apart. as_placed s nav place (was_placed nav place placed);
         other = λ d given epoch apart leads. leads_alike s.history.rows (held_back s.requests s.parked) (desk_of s job.proc) (mailed job (desk_of s job.proc)) d d given epoch (mailed_other (held_back s.requests s.parked) (desk_of s job.proc) job d epoch apart) leads;
       }
 
@@ -130,17 +130,6 @@ module _ (s : Seen) (event : ℕ) (actor : Actor) (job : Job) (long at : ℕ) (t
       (one_stays (LeadsIn s) s after_update job.proc (mailed job) job.doc (addressed job.task) (update_change each) each)
 
 -- ---- nothing that is read changes
-
--- a navigable that is awake was so before, at the same given entry and under the same epoch
-pub record WasAwake (s : Seen) (nav : NavId) (place : Place) : Type 0 where
-  pub before : Place
-  pub there : place_of s nav ≡ Some before
-  pub status : before.status ≡ place.status
-  pub given : before.given ≡ place.given
-  pub epoch : before.epoch ≡ place.epoch
-
-abbrev pub EachWasAwake : Seen → Seen → Type 0
-EachWasAwake s next = (nav : NavId) (place : Place) → place_of next nav ≡ Some place → WasAwake s nav place
 
 -- a fact of a document that holds with one desk holds with another, whatever was given and under whatever epoch
 abbrev pub StaysOn : (Desk → Document → Option EntryId → Epoch → Type 0) → Document → Desk → Desk → Type 0

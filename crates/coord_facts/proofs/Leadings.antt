@@ -23,6 +23,24 @@ proc_same a b e = ap (λ (n : ℕ). let p : ProcId = record { 0 = n } in p) (let
 pub doc_same : (a b : DocId) → (a.0 == b.0) ≡ true → a ≡ b
 doc_same a b e = ap (λ (n : ℕ). let d : DocId = record { 0 = n } in d) (let same : a.0 ≡ b.0 = grind (arith, nat_tests, e) in same)
 
+-- ---- places
+
+-- a navigable that is awake was so before, at the same given entry and under the same epoch
+pub record WasAwake (s : Seen) (nav : NavId) (place : Place) : Type 0 where
+  pub before : Place
+  pub there : place_of s nav ≡ Some before
+  pub status : before.status ≡ place.status
+  pub given : before.given ≡ place.given
+  pub epoch : before.epoch ≡ place.epoch
+
+abbrev pub EachWasAwake : Seen → Seen → Type 0
+EachWasAwake s next = (nav : NavId) (place : Place) → place_of next nav ≡ Some place → WasAwake s nav place
+
+-- its place is as it was
+pub as_placed : (s : Seen) (nav : NavId) (place : Place) → place_of s nav ≡ Some place → WasAwake s nav place
+as_placed s nav place there =
+    record { before = place; there = there; status = refl; given = refl; epoch = refl }
+
 -- ---- one desk and one document are changed
 
 -- the others are as they were, and a navigable that is awake on another document was so before; the fact holds of the document as its navigable is given and under its epoch, and stays for each other document of that desk
@@ -34,7 +52,7 @@ pub record IsOneChange (F : Desk → Document → Option EntryId → Epoch → T
   pub stays : (d : Document) → (g d).proc ≡ d.proc
   pub home : (d : Document) → document_of s doc ≡ Some d → d.proc ≡ proc
   pub own : (nav : NavId) (place : Place) (d : Document) → place_of next nav ≡ Some place → place.status ≡ awake doc → document_of s doc ≡ Some d → F (f (desk_of s proc)) (g d) place.given place.epoch
-  pub others : (nav : NavId) (place : Place) (at : DocId) → place_of next nav ≡ Some place → place.status ≡ awake at → (doc.0 == at.0) ≡ false → place_of s nav ≡ Some place
+  pub others : (nav : NavId) (place : Place) (at : DocId) → place_of next nav ≡ Some place → place.status ≡ awake at → (doc.0 == at.0) ≡ false → WasAwake s nav place
   pub other : (d : Document) (given : Option EntryId) (epoch : Epoch) → (doc.0 == d.nr.0) ≡ false → F (desk_of s proc) d given epoch → F (f (desk_of s proc)) d given epoch
 
 module _ (F : Desk → Document → Option EntryId → Epoch → Type 0) (s next : Seen) (proc : ProcId) (f : Desk → Desk) (doc : DocId) (g : Document → Document) (is : IsOneChange F s next proc f doc g) where
@@ -78,9 +96,9 @@ module _ (F : Desk → Document → Option EntryId → Epoch → Type 0) (s next
       by_process false e =
           subst (λ (k : Desk). F k d place.given place.epoch) (sym (desk_other d.proc e)) was
 
-  -- the fact stays for the document of each awake navigable
-  pub one_stays : EachAwake F s → EachAwake F next
-  one_stays each nav place at d placed wakes found = by_document (doc.0 == at.0) refl
+  -- the fact holds for the document of each awake navigable, where it held for the other ones
+  pub one_settles : ((nav : NavId) (place : Place) (at : DocId) (d : Document) → place_of s nav ≡ Some place → place.status ≡ awake at → document_of s at ≡ Some d → (doc.0 == at.0) ≡ false → F (desk_of s d.proc) d place.given place.epoch) → EachAwake F next
+  one_settles each nav place at d placed wakes found = by_document (doc.0 == at.0) refl
     where
       by_old : (o : Option Document) → document_of s doc ≡ o → option_map g o ≡ Some d → doc ≡ at → Holds next d place
       by_old None e there same = cc
@@ -95,7 +113,15 @@ module _ (F : Desk → Document → Option EntryId → Epoch → Type 0) (s next
       by_document false e =
           let old : document_of s at ≡ Some d = sym (found_other at e) ∙ found in
           let nr : d.nr.0 ≡ at.0 = find_has (λ (x : Document). x.nr.0) at.0 s.documents d old in
-          other_holds d place (rw nr e) (each nav place at d (is.others nav place at placed wakes e) wakes old)
+          let was : WasAwake s nav place = is.others nav place at placed wakes e in
+          let before : F (desk_of s d.proc) d was.before.given was.before.epoch = each nav was.before at d was.there (was.status ∙ wakes) old e in
+          let given : F (desk_of s d.proc) d place.given was.before.epoch = subst (λ (x : Option EntryId). F (desk_of s d.proc) d x was.before.epoch) was.given before in
+          other_holds d place (rw nr e) (subst (λ (x : Epoch). F (desk_of s d.proc) d place.given x) was.epoch given)
+
+  -- so it stays
+  pub one_stays : EachAwake F s → EachAwake F next
+  one_stays each =
+      one_settles (λ nav place at d placed wakes found apart. each nav place at d placed wakes found)
 
 -- ---- what leads
 

@@ -18,7 +18,7 @@ use Rattle.seen_laws.specs.Acting.{IsToAct, IsNoEdit}
 use Rattle.seen_laws.proofs.Keyed.{find_has}
 use Rattle.coord_facts.specs.Leading.{is_made_under, held_back, coming, Leads, EachLeads}
 use Rattle.coord_facts.specs.Reaching.{Reaches, EachReaches}
-use Rattle.coord_facts.proofs.Leadings.{IsOneChange, one_stays, LeadsIn, at_home, leads_again}
+use Rattle.coord_facts.proofs.Leadings.{as_placed, IsOneChange, one_stays, LeadsIn, at_home, leads_again}
 use Rattle.coord_facts.proofs.OneDocument.{LooksAlike, leads_alike}
 use Rattle.coord_facts.proofs.OneMade.{coming_made, once_made, making_leads}
 
@@ -70,7 +70,7 @@ module _ (s : Seen) (proc : ProcId) (poke : Poke) (q : Asked) (of : NavId) (d : 
         stays = λ x. refl;
         home = λ x there. (let same : d ≡ x = (let some : Some d ≡ Some x = sym acts.there ∙ there in cc) in ap (λ (y : Document). y.proc) (sym same) ∙ acts.home);
         own = own each;
-        others = λ nav place at placed wakes apart. placed;
+        others = λ nav place at placed wakes apart. as_placed s nav place placed;
         other = λ x given epoch apart leads. leads_alike s.history.rows (held_back s.requests s.parked) (desk_of s proc) (desk_made made (desk_of s proc)) x x given epoch (made_elsewhere (held_back s.requests s.parked) (desk_of s proc) made x epoch is apart) leads;
       }
 

@@ -20,7 +20,7 @@ use Rattle.log_model.specs.Seen.{Document, Desk}
 use Rattle.log_model.specs.After.{desk_finished, desk_taken}
 use Rattle.log_model.specs.AfterDocuments.{view_finished, addressed}
 use Rattle.log_model.specs.AfterRequests.{made_of_report}
-use Rattle.coord_facts.specs.Leading.{orders_of_desk, is_live_order, orders_for, once_finished, pending_view, is_made_under, coming, Leads, face_after, is_push}
+use Rattle.coord_facts.specs.Leading.{orders_of_desk, is_live_order, orders_for, once_finished, pending_view, is_made_under, coming, Leads, LeadsUntold, face_after, is_push}
 
 -- ---- what is read
 
@@ -126,21 +126,50 @@ view_alike d e tasks.Discard nr view = refl
 view_alike d e (tasks.Ask slot cause) nr view = ap (λ (v : Option View). option_map (λ (v : View). after_task v (tasks.Ask slot cause)) v) view
 view_alike d e (tasks.DoFragment req mode address) nr view = view
 
-views_alike : (d e : Document) (jobs : List Job) → d.nr ≡ e.nr → d.view ≡ e.view → (fold once_finished d jobs).view ≡ (fold once_finished e jobs).view
+pub views_alike : (d e : Document) (jobs : List Job) → d.nr ≡ e.nr → d.view ≡ e.view → (fold once_finished d jobs).view ≡ (fold once_finished e jobs).view
 views_alike d e [] nr view = view
 views_alike d e (job ∷ jobs) nr view = views_alike (once_finished d job) (once_finished e job) jobs nr (view_alike d e job.task nr view)
 
 -- the view that one more order to the document leads to
-pending_mailed : (d : Document) (desk : Desk) (job : Job) → is_live_order d.nr (length desk.killed) job ≡ true → pending_view (addressed job.task d) (mailed job desk) ≡ view_finished (fold once_finished d (orders_for desk d.nr)) job.task
+pub pending_mailed : (d : Document) (desk : Desk) (job : Job) → is_live_order d.nr (length desk.killed) job ≡ true → pending_view (addressed job.task d) (mailed job desk) ≡ view_finished (fold once_finished d (orders_for desk d.nr)) job.task
 pending_mailed d desk job mine =
     let one : filter (is_live_order d.nr (length desk.killed)) (job ∷ []) ≡ job ∷ [] = rw mine refl in
     views_alike (addressed job.task d) d (orders_for (mailed job desk) d.nr) refl refl
     ∙ ap (λ (orders : List Job). (fold once_finished d orders).view) (orders_mailed job desk d.nr ∙ ap (λ (l : List Job). orders_for desk d.nr ++ l) one)
     ∙ ap (λ (x : Document). x.view) (fold-append once_finished d (orders_for desk d.nr) (job ∷ []))
 
--- an Update leads to a view with that length and index, and they were told last
-pub updated_leads : (rows : List Row) (held : List Made) (desk : Desk) (d : Document) (job : Job) (long at : ℕ) (given : Option EntryId) (epoch : Epoch) → job.task ≡ tasks.Update long at → is_live_order d.nr (length desk.killed) job ≡ true → Leads rows held desk d given epoch → Leads rows held (mailed job desk) (addressed job.task d) given epoch
-updated_leads rows held desk d job long at given epoch task mine is =
+-- what leads does so whatever the document was told
+pub untold : (rows : List Row) (held : List Made) (desk : Desk) (d : Document) (given : Option EntryId) (epoch : Epoch) → Leads rows held desk d given epoch → LeadsUntold rows held desk d given epoch
+untold rows held desk d given epoch is =
+    record {
+      face = is.face;
+      is_given = is.is_given;
+      is_row = is.is_row;
+      view = is.view;
+      pending = is.pending;
+      leads = is.leads;
+      runs = is.runs;
+      in_epoch = is.in_epoch;
+    }
+
+-- and where the document was told the pair of the view that its orders lead to, unless a push is coming, it leads in full
+pub with_pair : (rows : List Row) (held : List Made) (desk : Desk) (d : Document) (given : Option EntryId) (epoch : Epoch) → LeadsUntold rows held desk d given epoch → ((view : View) → pending_view d desk ≡ Some view → list_any is_push (coming held desk d.nr epoch) ≡ false → d.told ≡ Some (view.length, view.index)) → Leads rows held desk d given epoch
+with_pair rows held desk d given epoch is told =
+    record {
+      face = is.face;
+      is_given = is.is_given;
+      is_row = is.is_row;
+      view = is.view;
+      pending = is.pending;
+      leads = is.leads;
+      runs = is.runs;
+      in_epoch = is.in_epoch;
+      pair = λ none. told is.view is.pending none;
+    }
+
+-- an Update leads to a view with that length and index, and they were told last, whatever was told before
+pub told_again : (rows : List Row) (held : List Made) (desk : Desk) (d : Document) (job : Job) (long at : ℕ) (given : Option EntryId) (epoch : Epoch) → job.task ≡ tasks.Update long at → is_live_order d.nr (length desk.killed) job ≡ true → LeadsUntold rows held desk d given epoch → Leads rows held (mailed job desk) (addressed job.task d) given epoch
+told_again rows held desk d job long at given epoch task mine is =
     record {
       face = is.face;
       is_given = is.is_given;
@@ -152,6 +181,10 @@ updated_leads rows held desk d job long at given epoch task mine is =
       in_epoch = is.in_epoch;
       pair = λ none. ap (λ (t : Task). (addressed t d).told) task;
     }
+
+pub updated_leads : (rows : List Row) (held : List Made) (desk : Desk) (d : Document) (job : Job) (long at : ℕ) (given : Option EntryId) (epoch : Epoch) → job.task ≡ tasks.Update long at → is_live_order d.nr (length desk.killed) job ≡ true → Leads rows held desk d given epoch → Leads rows held (mailed job desk) (addressed job.task d) given epoch
+updated_leads rows held desk d job long at given epoch task mine is =
+    told_again rows held desk d job long at given epoch task mine (untold rows held desk d given epoch is)
 
 -- an Activate leads from the new given entry on, where nothing is coming under the new epoch
 pub activated_leads : (rows : List Row) (held : List Made) (desk : Desk) (d : Document) (job : Job) (view : View) (entry : EntryId) (epoch : Epoch) (long at : ℕ) (memo : Option (List ℕ)) (address : List ℕ) → job.task ≡ tasks.Activate entry epoch long at memo address → is_live_order d.nr (length desk.killed) job ≡ true → pending_view d desk ≡ Some view → coming held desk d.nr epoch ≡ [] → ((i : ℕ) (row : Row) → slice_get rows i ≡ Some row → row.entry ≡ entry → (row.address ≡ address) × (row.memo ≡ memo)) → Leads rows held (mailed job desk) (addressed job.task d) (Some entry) epoch

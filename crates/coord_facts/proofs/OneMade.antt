@@ -187,7 +187,7 @@ made_pair view req (whats.Go delta) no_push = refl
 made_pair view req whats.Edit no_push = refl
 
 -- all but an edit is reported
-reported : (waiting : List Report) (made : Made) (what : What) → IsNoEdit what → reports_made waiting made what ≡ waiting ++ reports.Made made ∷ []
+pub reported : (waiting : List Report) (made : Made) (what : What) → IsNoEdit what → reports_made waiting made what ≡ waiting ++ reports.Made made ∷ []
 reported waiting made (whats.Push entry memo address) is = refl
 reported waiting made (whats.Replace over entry memo address) is = refl
 reported waiting made (whats.AddFrame nav) is = refl

@@ -23,7 +23,7 @@ use Rattle.seen_laws.specs.Acting.{IsToAct, IsNoEdit}
 use Rattle.seen_laws.proofs.Keyed.{find_has}
 use Rattle.coord_facts.specs.Leading.{once_finished}
 use Rattle.coord_facts.specs.Reaching.{Reaches, EachReaches}
-use Rattle.coord_facts.proofs.Leadings.{IsOneChange, one_stays}
+use Rattle.coord_facts.proofs.Leadings.{as_placed, IsOneChange, one_stays}
 use Rattle.coord_facts.proofs.OneDocument.{mailed}
 use Rattle.coord_facts.proofs.OneMade.{once_made}
 use Rattle.coord_facts.proofs.Kept as kept
@@ -53,7 +53,7 @@ module _ (s : Seen) (event : ℕ) (proc : ProcId) (order : Order) (outcome : Out
         stays = λ d. refl;
         home = in_.home;
         own = λ nav place d placed wakes there. finished_reaches (desk_of s proc) order outcome d place.epoch in_.hand (is_mine d.nr (length (desk_of s proc).killed) order.job (sym (find_has (λ (x : Document). x.nr.0) order.job.doc.0 s.documents d there)) in_.lives) of (at_home s proc d place.epoch (in_.home d there) (each nav place order.job.doc d placed wakes there));
-        others = λ nav place at placed wakes apart. placed;
+        others = λ nav place at placed wakes apart. as_placed s nav place placed;
         other = λ d given epoch apart is. finished_elsewhere (desk_of s proc) order outcome d epoch in_.hand apart is;
       }
 
@@ -76,7 +76,7 @@ module _ (s : Seen) (event : ℕ) (actor : Actor) (job : Job) (long at : ℕ) (t
         stays = λ d. refl;
         home = sent.home;
         own = λ nav place d placed wakes there. told_reaches (desk_of s job.proc) d job place.epoch (rw task refl) (is_mine d.nr (length (desk_of s job.proc).killed) job (sym (find_has (λ (x : Document). x.nr.0) job.doc.0 s.documents d there)) sent.lives) (at_home s job.proc d place.epoch (sent.home d there) (each nav place job.doc d (kept.was_placed s event actor job long at task sent nav place placed) wakes there));
-        others = λ nav place at_ placed wakes apart. kept.was_placed s event actor job long at task sent nav place placed;
+        others = λ nav place at_ placed wakes apart. as_placed s nav place (kept.was_placed s event actor job long at task sent nav place placed);
         other = λ d given epoch apart is. mailed_elsewhere (desk_of s job.proc) d job epoch apart is;
       }
 
@@ -131,7 +131,7 @@ module _ (s : Seen) (proc : ProcId) (poke : Poke) (q : Asked) (of : NavId) (d : 
         stays = λ x. refl;
         home = λ x there. (let same : d ≡ x = (let some : Some d ≡ Some x = sym acts.there ∙ there in cc) in ap (λ (y : Document). y.proc) (sym same) ∙ acts.home);
         own = λ nav place x placed wakes there. (let same : d ≡ x = (let some : Some d ≡ Some x = sym acts.there ∙ there in cc) in let home : x.proc ≡ proc = ap (λ (y : Document). y.proc) (sym same) ∙ acts.home in making_reaches (desk_of s proc) (made_for view poke.req what) x what place.epoch (at_home s proc x place.epoch home (reaches nav place view.doc x placed wakes there)));
-        others = λ nav place at placed wakes apart. placed;
+        others = λ nav place at placed wakes apart. as_placed s nav place placed;
         other = λ x given epoch apart has. making_elsewhere (desk_of s proc) (made_for view poke.req what) x epoch has;
       }
 

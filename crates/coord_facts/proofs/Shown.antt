@@ -1,4 +1,4 @@
--- A navigable is shown a document: what is on its way for each document stays, and for this one leads on from the new given entry.
+-- A navigable is shown a document: what is on its way for each document stays, and for this one leads on from the new given entry; and where the epoch is new to it, only orders come after that leave what it shows.
 use Rattle.std.proofs.Common.{◌≡◌, ℕ, Bool, true, false, cond, ◌==◌, List, [], length, Option, Some, None, refl, sym, ap, ◌∙◌, subst, arith}
 use Rattle.std.specs.Prelude.{find, slice_get, option_map}
 use Rattle.std.specs.Option.{option_map_or}
@@ -16,22 +16,24 @@ use Rattle.log_model.specs.declared.row_kind.Actor.{Actor}
 use Rattle.log_model.specs.declared.row_kind.RowKind.TheVariants as rows
 use Rattle.log_model.specs.History.{has_nav}
 use Rattle.log_model.specs.Views.{View}
-use Rattle.log_model.specs.Seen.{Seen, Document, Place, awake, asleep, document_of, desk_of, place_in, place_of}
+use Rattle.log_model.specs.Seen.{Seen, Document, Desk, Place, awake, asleep, document_of, desk_of, place_in, place_of}
 use Rattle.log_model.specs.After.{after, on_document}
 use Rattle.log_model.specs.AfterDocuments.{addressed, documents_sent}
 use Rattle.log_model.specs.AfterPlaces.{on_place, put_to_sleep, activated, sleepers_below, places_sent}
 use Rattle.log_model.specs.AfterRequests.{requests_sent}
 use Rattle.log_model.proofs.Refl.{nat_eq_refl}
 use Rattle.seen_laws.proofs.Keyed.{find_map, find_on_same, find_on_other, find_has}
-use Rattle.coord_facts.specs.Leading.{is_live_order, held_back, coming, pending_view, Leads, EachLeads, EachIsOfItsNavigable}
-use Rattle.coord_facts.proofs.Leadings.{doc_same, IsOneChange, one_stays, LeadsIn, leads_again}
+use Rattle.coord_facts.specs.Leading.{is_live_order, orders_for, held_back, coming, pending_view, EachAwake, EachLeads, EachIsOfItsNavigable}
+use Rattle.coord_facts.specs.Reaching.{Reaches, EachReaches}
+use Rattle.coord_facts.proofs.Leadings.{doc_same, as_placed, IsOneChange, one_stays, LeadsIn, leads_again}
 use Rattle.coord_facts.proofs.OneDocument.{leads_alike, mailed, mailed_other, activated_leads}
 use Rattle.coord_facts.proofs.Kept.{IsSentHome, is_mine}
+use Rattle.coord_facts.proofs.Reached.{NoneShows, mailed_elsewhere, shown_reaches}
 
 -- ---- places once one is shown a document
 
 -- a navigable that is awake where some were put to sleep was so before
-still_awake : (navs : List NavId) (why : Why) (places : List Place) (nav : NavId) (place : Place) (at : DocId) → place_in (put_to_sleep navs why places) nav ≡ Some place → place.status ≡ awake at → place_in places nav ≡ Some place
+pub still_awake : (navs : List NavId) (why : Why) (places : List Place) (nav : NavId) (place : Place) (at : DocId) → place_in (put_to_sleep navs why places) nav ≡ Some place → place.status ≡ awake at → place_in places nav ≡ Some place
 still_awake navs why places nav place at there wakes = by_place (place_in places nav) refl
   where
     keeps : (p : Place) → (let q : Place = cond (has_nav navs p.nav) (record p { status = asleep; why = why }) p in q).nav.0 ≡ p.nav.0
@@ -114,50 +116,61 @@ module _ (s : Seen) (event : ℕ) (actor : Actor) (job : Job) (d : Document) (vi
       by_nav false e =
           still_awake (option_map_or (sleepers_below s job.doc) (place_of s d.nav) []) job.why s.places nav place doc (sym (find_on_other (λ (p : Place). p.nav.0) (activated job entry epoch d) d.nav.0 nav.0 sleeping (λ p. refl) e) ∙ found) wakes
 
-  -- only the navigable that is shown the document is awake on it
-  own_leads : (nav : NavId) (place : Place) (old : Document) → place_of after_show nav ≡ Some place → place.status ≡ awake job.doc → document_of s job.doc ≡ Some old → Leads s.history.rows (held_back s.requests s.parked) (mailed job (desk_of s job.proc)) (addressed job.task old) place.given place.epoch
-  own_leads nav place old placed wakes there = by_nav (d.nav.0 == nav.0) refl
-    where
-      found : place_in (on_place d.nav (activated job entry epoch d) sleeping) nav ≡ Some place
-      found = ap (λ (places : List Place). place_in places nav) (sym places_are) ∙ placed
+  mine : is_live_order d.nr (length (desk_of s job.proc).killed) job ≡ true
+  mine = is_mine d.nr (length (desk_of s job.proc).killed) job (sym (find_has (λ (x : Document). x.nr.0) job.doc.0 s.documents d is.there)) sent.lives
 
-      same_d : d ≡ old
-      same_d = let some : Some d ≡ Some old = sym is.there ∙ there in cc
+  -- only the navigable that is shown the document is awake on it: a fact of it is to hold under the new epoch, with the new given entry
+  module _ (F : Desk → Document → Option EntryId → Epoch → Type 0) (here : F (mailed job (desk_of s job.proc)) (addressed job.task d) (Some entry) epoch) where
+    own_holds : (nav : NavId) (place : Place) (old : Document) → place_of after_show nav ≡ Some place → place.status ≡ awake job.doc → document_of s job.doc ≡ Some old → F (mailed job (desk_of s job.proc)) (addressed job.task old) place.given place.epoch
+    own_holds nav place old placed wakes there = by_nav (d.nav.0 == nav.0) refl
+      where
+        found : place_in (on_place d.nav (activated job entry epoch d) sleeping) nav ≡ Some place
+        found = ap (λ (places : List Place). place_in places nav) (sym places_are) ∙ placed
 
-      mine : is_live_order d.nr (length (desk_of s job.proc).killed) job ≡ true
-      mine = is_mine d.nr (length (desk_of s job.proc).killed) job (sym (find_has (λ (x : Document). x.nr.0) job.doc.0 s.documents d is.there)) sent.lives
+        same_d : d ≡ old
+        same_d = let some : Some d ≡ Some old = sym is.there ∙ there in cc
 
-      here : Leads s.history.rows (held_back s.requests s.parked) (mailed job (desk_of s job.proc)) (addressed job.task d) (Some entry) epoch
-      here = activated_leads s.history.rows (held_back s.requests s.parked) (desk_of s job.proc) d job view entry epoch long at memo address task mine is.pending is.none is.shown
+        by_nav : (b : Bool) → (d.nav.0 == nav.0) ≡ b → F (mailed job (desk_of s job.proc)) (addressed job.task old) place.given place.epoch
+        by_nav true e =
+            let shown = shown_place job entry epoch d sleeping nav place e found in
+            subst (λ (x : Document). F (mailed job (desk_of s job.proc)) (addressed job.task x) place.given place.epoch) same_d
+            (subst (λ (given : Option EntryId). F (mailed job (desk_of s job.proc)) (addressed job.task d) given place.epoch) (sym shown.1)
+            (subst (λ (k : Epoch). F (mailed job (desk_of s job.proc)) (addressed job.task d) (Some entry) k) (sym shown.2) here))
+        by_nav false e =
+            let before : place_of s nav ≡ Some place = still_awake (option_map_or (sleepers_below s job.doc) (place_of s d.nav) []) job.why s.places nav place job.doc (sym (find_on_other (λ (p : Place). p.nav.0) (activated job entry epoch d) d.nav.0 nav.0 sleeping (λ p. refl) e) ∙ found) wakes in
+            let yes : (d.nav.0 == nav.0) ≡ true = rw (whose nav place job.doc d before wakes is.there) (nat_eq_refl nav.0) in
+            let no_ : true ≡ false = sym yes ∙ e in absurd cc
 
-      by_nav : (b : Bool) → (d.nav.0 == nav.0) ≡ b → Leads s.history.rows (held_back s.requests s.parked) (mailed job (desk_of s job.proc)) (addressed job.task old) place.given place.epoch
-      by_nav true e =
-          let shown = shown_place job entry epoch d sleeping nav place e found in
-          subst (λ (x : Document). Leads s.history.rows (held_back s.requests s.parked) (mailed job (desk_of s job.proc)) (addressed job.task x) place.given place.epoch) same_d
-          (subst (λ (given : Option EntryId). Leads s.history.rows (held_back s.requests s.parked) (mailed job (desk_of s job.proc)) (addressed job.task d) given place.epoch) (sym shown.1)
-          (subst (λ (k : Epoch). Leads s.history.rows (held_back s.requests s.parked) (mailed job (desk_of s job.proc)) (addressed job.task d) (Some entry) k) (sym shown.2) here))
-      by_nav false e =
-          let before : place_of s nav ≡ Some place = still_awake (option_map_or (sleepers_below s job.doc) (place_of s d.nav) []) job.why s.places nav place job.doc (sym (find_on_other (λ (p : Place). p.nav.0) (activated job entry epoch d) d.nav.0 nav.0 sleeping (λ p. refl) e) ∙ found) wakes in
-          let yes : (d.nav.0 == nav.0) ≡ true = rw (whose nav place job.doc d before wakes is.there) (nat_eq_refl nav.0) in
-          let no_ : true ≡ false = sym yes ∙ e in absurd cc
+    show_change : ((x : Document) (given : Option EntryId) (epoch : Epoch) → (job.doc.0 == x.nr.0) ≡ false → F (desk_of s job.proc) x given epoch → F (mailed job (desk_of s job.proc)) x given epoch) → IsOneChange F s after_show job.proc (mailed job) job.doc (addressed job.task)
+    show_change other =
+        record {
+          desks = refl;
+          documents = ap (λ (t : Task). documents_sent s job t) task ∙ ap (λ (t : Task). on_document job.doc (addressed t) s.documents) (sym task);
+          keeps_proc = λ desk. refl;
+          keeps_number = λ d. refl;
+          stays = λ d. refl;
+          home = sent.home;
+          own = own_holds;
+          others = λ nav place at placed wakes apart. as_placed s nav place (others_stay nav place at placed wakes apart);
+          other = other;
+        }
 
-  show_change : IsOneChange (LeadsIn s) s after_show job.proc (mailed job) job.doc (addressed job.task)
-  show_change =
-      record {
-        desks = refl;
-        documents = ap (λ (t : Task). documents_sent s job t) task ∙ ap (λ (t : Task). on_document job.doc (addressed t) s.documents) (sym task);
-        keeps_proc = λ desk. refl;
-        keeps_number = λ d. refl;
-        stays = λ d. refl;
-        home = sent.home;
-        own = own_leads;
-        others = others_stay;
-        other = λ x given epoch_ apart leads. leads_alike s.history.rows (held_back s.requests s.parked) (desk_of s job.proc) (mailed job (desk_of s job.proc)) x x given epoch_ (mailed_other (held_back s.requests s.parked) (desk_of s job.proc) job x epoch_ apart) leads;
-      }
+    show_stays : ((x : Document) (given : Option EntryId) (epoch : Epoch) → (job.doc.0 == x.nr.0) ≡ false → F (desk_of s job.proc) x given epoch → F (mailed job (desk_of s job.proc)) x given epoch) → EachAwake F s → EachAwake F after_show
+    show_stays other each =
+        one_stays F s after_show job.proc (mailed job) job.doc (addressed job.task) (show_change other) each
+
+  shown_leads : LeadsIn s (mailed job (desk_of s job.proc)) (addressed job.task d) (Some entry) epoch
+  shown_leads = activated_leads s.history.rows (held_back s.requests s.parked) (desk_of s job.proc) d job view entry epoch long at memo address task mine is.pending is.none is.shown
 
   pub show_leads : EachLeads s → EachLeads after_show
   show_leads each =
-      leads_again s after_show refl requests (one_stays (LeadsIn s) s after_show job.proc (mailed job) job.doc (addressed job.task) show_change each)
+      leads_again s after_show refl requests
+      (show_stays (LeadsIn s) shown_leads (λ x given epoch_ apart leads. leads_alike s.history.rows (held_back s.requests s.parked) (desk_of s job.proc) (mailed job (desk_of s job.proc)) x x given epoch_ (mailed_other (held_back s.requests s.parked) (desk_of s job.proc) job x epoch_ apart) leads) each)
+
+  -- the epoch is new to the document
+  pub show_reaches : ((seen : View) → d.view ≡ Some seen → seen.epoch.0 ≡ epoch.0 → ⊥) → NoneShows epoch (orders_for (desk_of s job.proc) d.nr) → EachReaches s → EachReaches after_show
+  show_reaches new none each =
+      show_stays (λ desk x given k. Reaches desk x k) (shown_reaches (desk_of s job.proc) d job epoch mine new none) (λ x given k apart reaches. mailed_elsewhere (desk_of s job.proc) x job k apart reaches) each
 
   -- the document that is shown is of the navigable that is awake on it
   pub whose_shown : EachIsOfItsNavigable after_show

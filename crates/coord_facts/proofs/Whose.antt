@@ -3,25 +3,40 @@ use Rattle.std.proofs.Common.{◌≡◌, Bool, true, false, ◌==◌, List, Opti
 use Rattle.std.specs.Prelude.{find, option_map}
 use Rattle.tab_ids.specs.declared.DocId.{DocId}
 use Rattle.tab_ids.specs.declared.NavId.{NavId}
-use Rattle.log_model.specs.Seen.{Seen, Document, document_of}
+use Rattle.log_model.specs.Seen.{Seen, Document, Place, awake, document_of, place_of}
 use Rattle.log_model.specs.After.{on_document}
 use Rattle.seen_laws.proofs.Keyed.{find_on_same, find_on_other}
 use Rattle.coord_facts.specs.Leading.{EachIsOfItsNavigable}
-use Rattle.coord_facts.proofs.Leadings.{doc_same}
-use Rattle.coord_facts.proofs.Kept.{WasAwake, EachWasAwake}
+use Rattle.coord_facts.proofs.Leadings.{doc_same, WasAwake, EachWasAwake}
+
+-- the navigable had its status before
+pub record HadStatus (s : Seen) (nav : NavId) (place : Place) : Type 0 where
+  pub before : Place
+  pub there : place_of s nav ≡ Some before
+  pub status : before.status ≡ place.status
+
+-- each navigable that is awake was so before, on the same document
+abbrev pub EachHadStatus : Seen → Seen → Type 0
+EachHadStatus s next =
+    (nav : NavId) (place : Place) (doc : DocId) → place_of next nav ≡ Some place → place.status ≡ awake doc → HadStatus s nav place
+
+pub had_status : (s next : Seen) → EachWasAwake s next → EachHadStatus s next
+had_status s next places nav place doc placed wakes =
+    let was : WasAwake s nav place = places nav place placed in
+    record { before = was.before; there = was.there; status = was.status }
 
 -- no document is changed
-pub whose_same : (s next : Seen) → next.documents ≡ s.documents → EachWasAwake s next → EachIsOfItsNavigable s → EachIsOfItsNavigable next
+pub whose_same : (s next : Seen) → next.documents ≡ s.documents → EachHadStatus s next → EachIsOfItsNavigable s → EachIsOfItsNavigable next
 whose_same s next same places whose nav place at d placed wakes found =
-    let was : WasAwake s nav place = places nav place placed in
+    let was : HadStatus s nav place = places nav place at placed wakes in
     whose nav was.before at d was.there (was.status ∙ wakes) (ap (λ (documents : List Document). document_of (record s { documents = documents }) at) (sym same) ∙ found)
 
 -- one document is changed, and stays in its navigable
-pub whose_one : (s next : Seen) (doc : DocId) (g : Document → Document) → next.documents ≡ on_document doc g s.documents → ((d : Document) → (g d).nr ≡ d.nr) → ((d : Document) → (g d).nav ≡ d.nav) → EachWasAwake s next → EachIsOfItsNavigable s → EachIsOfItsNavigable next
+pub whose_one : (s next : Seen) (doc : DocId) (g : Document → Document) → next.documents ≡ on_document doc g s.documents → ((d : Document) → (g d).nr ≡ d.nr) → ((d : Document) → (g d).nav ≡ d.nav) → EachHadStatus s next → EachIsOfItsNavigable s → EachIsOfItsNavigable next
 whose_one s next doc g documents keeps stays places whose nav place at d placed wakes found = by_document (doc.0 == at.0) refl
   where
-    was : WasAwake s nav place
-    was = places nav place placed
+    was : HadStatus s nav place
+    was = places nav place at placed wakes
 
     old_of : (old : Document) → document_of s at ≡ Some old → old.nav.0 ≡ nav.0
     old_of old there = whose nav was.before at old was.there (was.status ∙ wakes) there

@@ -48,7 +48,7 @@ put_epoch navs why p = by_test (has_nav navs p.nav)
     by_test true = refl
     by_test false = refl
 
-slept_before : (s : Seen) (navs : List NavId) (why : Why) (nav : NavId) (place : Place) → place_in (put_to_sleep navs why s.places) nav ≡ Some place → (before : Place) × (place_of s nav ≡ Some before) × (before.epoch ≡ place.epoch)
+pub slept_before : (s : Seen) (navs : List NavId) (why : Why) (nav : NavId) (place : Place) → place_in (put_to_sleep navs why s.places) nav ≡ Some place → (before : Place) × (place_of s nav ≡ Some before) × (before.epoch ≡ place.epoch)
 slept_before s navs why nav place there = by_place (place_of s nav) refl (sym (find_map (λ (p : Place). p.nav.0) (put navs why) nav.0 s.places (put_nav navs why)) ∙ there)
   where
     by_place : (o : Option Place) → place_of s nav ≡ o → option_map (put navs why) (place_of s nav) ≡ Some place → (before : Place) × (place_of s nav ≡ Some before) × (before.epoch ≡ place.epoch)

@@ -33,7 +33,7 @@ within_again s next held each doc d place found placed =
     subst (λ (l : List Made). IsWithin l (desk_of next d.proc) d place.epoch.0) (sym held) (each doc d place found placed)
 
 -- a navigable whose place is as it was has come no further
-unmoved : (s : Seen) (nav : NavId) (place : Place) → place_of s nav ≡ Some place → HadEpoch s nav place
+pub unmoved : (s : Seen) (nav : NavId) (place : Place) → place_of s nav ≡ Some place → HadEpoch s nav place
 unmoved s nav place there = record { before = place; there = there; rises = omega arith }
 
 -- an order in hand is finished

@@ -95,6 +95,25 @@ pub record Leads (rows : List Row) (held : List Made) (desk : Desk) (d : Documen
   pub in_epoch : view.epoch ≡ epoch
   pub pair : list_any is_push (coming held desk d.nr epoch) ≡ false → d.told ≡ Some (view.length, view.index)
 
+-- the same, but for what the document was told: so it is between an applied push and the order that tells of it
+pub record LeadsUntold (rows : List Row) (held : List Made) (desk : Desk) (d : Document) (given : Option EntryId) (epoch : Epoch) : Type 0 where
+  pub face : Face
+  pub is_given : Some face.entry ≡ given
+  pub is_row : (i : ℕ) (row : Row) → slice_get rows i ≡ Some row → row.entry ≡ face.entry → (row.address ≡ face.address) × (row.memo ≡ face.memo)
+  pub view : View
+  pub pending : pending_view d desk ≡ Some view
+  pub leads : fold face_after face (coming held desk d.nr epoch) ≡ face_of_view view
+  pub runs : view.running ≡ true
+  pub in_epoch : view.epoch ≡ epoch
+
+-- what is on its way leads, but that nothing is said of what one document was told
+abbrev pub LeadsBut : DocId → List Row → List Made → Desk → Document → Option EntryId → Epoch → Type 0
+LeadsBut doc rows held desk d given epoch = by_document (d.nr.0 == doc.0) rows held desk d given epoch
+  where
+    by_document : Bool → List Row → List Made → Desk → Document → Option EntryId → Epoch → Type 0
+    by_document true rows held desk d given epoch = LeadsUntold rows held desk d given epoch
+    by_document false rows held desk d given epoch = Leads rows held desk d given epoch
+
 -- a fact of the document of each awake navigable, with the desk of its process, what the navigable was given, and its epoch
 abbrev pub EachAwake : (Desk → Document → Option EntryId → Epoch → Type 0) → Seen → Type 0
 EachAwake F s =
@@ -108,3 +127,7 @@ EachLeads s = EachAwake (Leads s.history.rows (held_back s.requests s.parked)) s
 abbrev pub EachIsOfItsNavigable : Seen → Type 0
 EachIsOfItsNavigable s =
     (nav : NavId) (place : Place) (doc : DocId) (d : Document) → place_of s nav ≡ Some place → place.status ≡ awake doc → document_of s doc ≡ Some d → d.nav.0 ≡ nav.0
+
+-- so it leads for each, but for what one document was told
+abbrev pub EachLeadsBut : DocId → Seen → Type 0
+EachLeadsBut doc s = EachAwake (LeadsBut doc s.history.rows (held_back s.requests s.parked)) s

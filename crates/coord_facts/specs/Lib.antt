@@ -2,3 +2,4 @@ pub mod OnItsWay
 pub mod Leading
 pub mod Reaching
 pub mod Epochs
+pub mod Flowing
