@@ -1,0 +1,12 @@
+pub mod LookUps
+pub mod TellLaws
+pub mod TellDoor
+pub mod Nodes
+pub mod Places
+pub mod ShowLaws
+pub mod ShowDoor
+pub mod Untouched
+pub mod Delivered
+pub mod GivenLaws
+pub mod AppliedLaws
+pub mod Histories

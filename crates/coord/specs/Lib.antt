@@ -1,0 +1,4 @@
+pub mod Ties
+pub mod Sending
+pub mod Showing
+pub mod Taking

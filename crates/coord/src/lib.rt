@@ -1,0 +1,9 @@
+//! The coordinator of a tab: its tables, and the doors through which a row goes out and the tables change with it.
+#![tactic(auto)]
+
+mod addressee;
+mod tables;
+mod taking;
+
+pub use addressee::Addressee;
+pub use tables::Tables;
