@@ -1,8 +1,10 @@
 #!/usr/bin/env python3
 """What a store of session history answers after a list of changes.
 
-A plain model of the rules, one flat list of rows, that prints the table of
-crates/entry_store/src/tests.rt: `python3 bench/store_rows.py`.
+A plain model of the rules, one flat list of rows. It prints what the program of
+crates/store_examples must print on the lines of its `stdin`:
+
+    python3 bench/store_rows.py < crates/store_examples/stdin > crates/store_examples/stdout
 
 A change is a letter and its numbers, each of one digit. The entry that it
 makes has the number of its place in the list plus 2, so the first change makes
@@ -16,44 +18,21 @@ entry 2.
     l NAV                a reload
     e                    an edit
 
+and a question is one, too:
+
+    u STEP               the used step for a step
+    i STEP               the length, and the index at a step
+    s STATE              whether a row has the document state, and the navigables below it
+    a NAV                whether the child navigable was ever added
+    w ENTRY              the entry's step, address and memo
+    g NAV STEP           the navigable's target at the step
+
 The answer is the current step, length and index, then the rows by navigable
 and step, each as NAV:STEP, entry, document state and owner, with a star where
 it is its navigable's target, and then the refusals, each with the number of
-its change.
+its change, and the answers. A line that begins with # is printed as it is.
 """
-
-CASES = [
-    ("nothing changes the opening history", "e l0"),
-    ("pushes go on from the current step", "p02 p03 p04"),
-    ("a push clears the forward entries", "p02 p03 p04 t1 p05"),
-    ("an entry may share its document's state", "p01 p01 p02 t1 p01"),
-    ("a frame begins at its owner's first step", "p02 p02 f213 t1"),
-    ("a frame of the first document begins at step 0", "p01 f113 p14"),
-    ("a push clears the forward entries of frames", "f112 p13 p14 p01 t1 p01"),
-    ("a push in a frame clears the top's forward entries", "f112 p01 p01 t0 p13"),
-    ("two frames keep their own entries", "f112 f123 p14 p25 p16 t2 p27"),
-    ("a push that clears a document takes its frames with it", "p02 f213 p14 f425 t0 p06"),
-    ("nested frames go with the frame above", "f112 f223 f334 p35 x1"),
-    ("a removal keeps the frames beside", "f112 f123 p14 p25 x1"),
-    ("a removal moves the current step back", "f112 p13 x1"),
-    ("a removal keeps a step that another entry has", "f112 p13 f124 t1 p25 t1 x1"),
-    ("a removed frame's number is used up", "f112 x1 f113 f123"),
-    ("a replace keeps place and step", "p02 p03 t1 r024"),
-    ("a replace in the same document keeps its frames", "f112 p13 r011"),
-    ("a replace by another document takes the frames with it", "f112 p13 f324 r015"),
-    ("a replace leaves the frames of a document that has another entry", "p01 f112 p13 r014"),
-    ("a replace may leave the current step unused", "f112 p13 p14 r015 p06"),
-    ("a replace in a frame takes the frames below", "f112 p13 f324 p25 r136"),
-    ("a traversal goes to the used step before its goal", "p02 f213 p14 p05 t2 x1 t2 t3"),
-    ("a navigable without an entry is refused", "x0 x1 p12 r112 l1"),
-    ("an entry of another navigable is refused", "f112 r023 r113 r093 f923"),
-    ("a used number is refused after the missing owner", "f102 f902 f112 f913 f113"),
-    ("a push into a frame that it clears away is refused", "p02 f213 t0 p14 p05"),
-    ("four levels, cleared from the middle", "p02 f213 p14 f425 p26 f637 p38 t2 p19"),
-    ("a frame hangs on a document in the middle of its parent", "p02 p03 t1 f214 p15 t1 p06"),
-    ("pushes at the end go from navigable to navigable", "f112 p13 p01 f324 p25 p16 p07"),
-    ("pushes go on at the end after a traversal there and back", "f112 p13 p04 t0 t2 p15 t1 p16 p07"),
-]
+import sys
 
 
 class Refused(Exception):
@@ -98,7 +77,8 @@ def apply(history, number, change):
         if not has(left, nav):
             raise Refused("NoNavigable")
         owner = next(row["owner"] for row in left if row["nav"] == nav)
-        new = dict(owner=owner, nav=nav, entry=number, step=current + 1, state=state)
+        new = dict(owner=owner, nav=nav, entry=number, step=current + 1, state=state,
+                   address=f"http://a.test/{number}", memo="-")
         return left + [new], current + 1, added
     if kind == "r":
         nav, over, state = args
@@ -106,7 +86,7 @@ def apply(history, number, change):
             raise Refused("NoNavigable")
         if not any(row["nav"] == nav and row["entry"] == over for row in rows):
             raise Refused("NoEntry")
-        new = [dict(row, entry=number, state=state) if row["entry"] == over else row for row in rows]
+        new = [dict(row, entry=number, state=state, address=f"http://a.test/{number}", memo="memo") if row["entry"] == over else row for row in rows]
         return tidied(new), current, added
     if kind == "f":
         owner, nav, state = args
@@ -115,7 +95,7 @@ def apply(history, number, change):
             raise Refused("NoEntry")
         if nav == 0 or nav in added:
             raise Refused("NavTaken")
-        new = dict(owner=owner, nav=nav, entry=number, step=min(steps), state=state)
+        new = dict(owner=owner, nav=nav, entry=number, step=min(steps), state=state, address="about:blank", memo="-")
         return rows + [new], current, added + [nav]
     if kind == "x":
         (nav,) = args
@@ -133,14 +113,44 @@ def apply(history, number, change):
     return history
 
 
+def told(history, question):
+    """The answer to a question, or None where it is a change."""
+    rows, _, added = history
+    kind, args = question[0], [int(digit) for digit in question[1:]]
+    if kind == "u":
+        return f"used {used_at(rows, args[0])} at {args[0]}"
+    if kind == "i":
+        steps = used(rows)
+        return f"length {len(steps)} index {steps.index(used_at(rows, args[0]))} at {args[0]}"
+    if kind == "s":
+        below = sorted({row["nav"] for row in rows if row["owner"] == args[0]})
+        has_state = str(any(row["state"] == args[0] for row in rows)).lower()
+        return f"state {args[0]} {has_state}, below it" + "".join(f" {nav}" for nav in below)
+    if kind == "a":
+        return f"navigable {args[0]} was added: {str(args[0] in added).lower()}"
+    if kind == "w":
+        for row in rows:
+            if row["entry"] == args[0]:
+                return f"entry {args[0]} at {row['step']} {row['address']} {row['memo']}"
+        return "no entry"
+    if kind == "g":
+        row = target(rows, *args)
+        return f"target of {args[0]} at {args[1]}: {row['entry'] if row else 'none'}"
+    return None
+
+
 def answer(changes):
-    history = ([dict(owner=None, nav=0, entry=1, step=0, state=1)], 0, [])
-    refusals = []
+    history = ([dict(owner=None, nav=0, entry=1, step=0, state=1, address="http://a.test/", memo="-")], 0, [])
+    said = []
     for place, change in enumerate(changes.split()):
+        one = told(history, change)
+        if one is not None:
+            said.append(one)
+            continue
         try:
             history = apply(history, place + 2, change)
         except Refused as refusal:
-            refusals.append(f"!{place + 2} {refusal}")
+            said.append(f"!{place + 2} {refusal}")
     rows, current, _ = history
     steps = used(rows)
     parts = [f"{current} {len(steps)} {steps.index(used_at(rows, current))}"]
@@ -148,12 +158,12 @@ def answer(changes):
         star = "*" if target(rows, row["nav"], current) is row else ""
         owner = "-" if row["owner"] is None else row["owner"]
         parts.append(f"{row['nav']}:{row['step']} {row['entry']} {row['state']} {owner}{star}")
-    return "; ".join(parts + refusals)
+    return "; ".join(parts + said)
 
 
 def main():
-    for name, changes in CASES:
-        print(f'    (\n        "{name}",\n        "{changes}",\n        "{answer(changes)}",\n    ),')
+    for line in sys.stdin.read().splitlines():
+        print(line if line.startswith("#") else answer(line))
 
 
 if __name__ == "__main__":

@@ -17,10 +17,11 @@ class Run(NamedTuple):
     peak: float
 
 
-def proved_program() -> str:
-    """The path of the proved program, or of the program that the command line names."""
+def proved_program(words: list[str] | None = None) -> str:
+    """The path of the proved program, or of the program that the first of the words names; they are those of the command line where none are given."""
     root = os.path.dirname(os.path.dirname(os.path.abspath(__file__)))
-    program = sys.argv[1] if len(sys.argv) > 1 else os.path.join(root, "crates", "tab", "out", "tab")
+    words = sys.argv[1:] if words is None else words
+    program = words[0] if words else os.path.join(root, "crates", "tab", "out", "tab")
     if not os.access(program, os.X_OK):
         sys.exit("no proved program: run `cd crates/tab && rt run -- play < ../../docs/examples/three_pushes.txt`")
     return program
