@@ -36,7 +36,7 @@ abbrev pub noting : History → History → ReqId → Place → Place
 noting old new req place =
     cond (has_row place.nav old.rows && not (has_row place.nav new.rows)) (record place { taken_by = Some req }) place
 
-noting_takes : (old new : History) (req : ReqId) → IsTaking (noting old new req)
+pub noting_takes : (old new : History) (req : ReqId) → IsTaking (noting old new req)
 noting_takes old new req =
     record {
       nav = λ p. elim (has_row p.nav old.rows && not (has_row p.nav new.rows)) as (λ b. (let q : Place = cond b (record p { taken_by = Some req }) p in q).nav ≡ p.nav) [ true ↦ refl | false ↦ refl ];

@@ -10,3 +10,4 @@ pub mod Delivered
 pub mod GivenLaws
 pub mod AppliedLaws
 pub mod Histories
+pub mod EndLaws

@@ -2,3 +2,4 @@ pub mod Ties
 pub mod Sending
 pub mod Showing
 pub mod Taking
+pub mod Ending

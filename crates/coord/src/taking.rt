@@ -103,7 +103,11 @@ impl Tables {
 }
 
 /// Makes a change of the store that fits what the log has come to. Only memory may be wanting.
-fn make_change(store: &mut StepIndex, out: &Out, change: &Change) -> Result<(), OutOfMemory>
+pub(crate) fn make_change(
+    store: &mut StepIndex,
+    out: &Out,
+    change: &Change,
+) -> Result<(), OutOfMemory>
     ghost e: { InEvent }
     requires history { HoldsHistory (now_of e out.now) (history_held store.old) }
     requires fits { Fits (now_of e out.now).history change.now }
