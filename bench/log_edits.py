@@ -156,7 +156,7 @@ def program_says(all_texts):
         written(f"{folder}/cases/all", "\n".join(text.encode("latin-1").hex() for text in all_texts))
         written(f"{folder}/HANDLES", "Handles allowed: none.\n")
         with open(f"{folder}/cases/all") as source:
-            run = subprocess.run(["rt", "try"], cwd=crate, stdin=source, stdout=subprocess.PIPE, stderr=subprocess.PIPE, text=True)
+            run = subprocess.run(["rt", "try", "--seconds", "600"], cwd=crate, stdin=source, stdout=subprocess.PIPE, stderr=subprocess.PIPE, text=True)
         if len(run.stdout.splitlines()) < len(all_texts):
             sys.exit(run.stderr[-2000:])
         return run.stdout.splitlines()
