@@ -7,12 +7,15 @@ use Rattle.std.proofs.lemmas.List.Folds.{fold_stays}
 use Rattle.std.proofs.lemmas.List.Sums.{fold-append}
 use Rattle.log_text.specs.Room.{Held, with_byte}
 use Rattle.log_text.specs.Counting.{with_one}
-use Rattle.log_text.specs.declared.count.Count.{Count}
 
 -- bytes that are counted
-pub counted : (count : Count) (xs : List ℕ) (n : ℕ) → count.bytes ≤ 18446744073709551615 → n ≡ min (count.bytes + length xs) 18446744073709551615 → record { bytes = n } ≡ fold with_one count xs
-counted count [] n small is = let same : n ≡ count.bytes = omega (arith, is) in ap (λ (m : ℕ). record { bytes = m }) same
-counted count (x ∷ xs) n small is = counted (with_one count x) xs n (omega arith) (omega (arith, is))
+pub counted : (count : ℕ) (xs : List ℕ) → count ≤ 18446744073709551615 → min (count + length xs) 18446744073709551615 ≡ fold with_one count xs
+counted count [] small = omega (arith, small)
+counted count (x ∷ xs) small = let rest = counted (with_one count x) xs (omega arith) in omega (arith, rest, small)
+
+-- a line that is counted
+pub counted_line : (line : List ℕ) → min (length line) 18446744073709551615 ≡ fold with_one 0 line
+counted_line line = let whole = counted 0 line (omega arith) in omega (arith, whole)
 
 -- one byte, for which there is room
 written : (held : Held) (x : ℕ) → length held.text < held.room → with_byte held x ≡ record held { text = held.text ++ x ∷ [] }
@@ -29,6 +32,11 @@ fitting held (x ∷ xs) fits =
     let more = record held { text = held.text ++ x ∷ [] } in
     let rest = fitting more xs (omega (arith, length-append held.text (x ∷ []))) in
     ap (λ (t : List ℕ). record held { text = t }) (sym (append_assoc held.text (x ∷ []) xs)) ∙ rest ∙ ap (λ (h : Held). fold with_byte h xs) (sym (written held x (omega arith)))
+
+-- the same, in two parts
+pub fitting_both : (held : Held) (xs ys : List ℕ) → length held.text + length xs + length ys ≤ held.room → record held { text = held.text ++ xs ++ ys } ≡ fold with_byte held (xs ++ ys)
+fitting_both held xs ys fits =
+    ap (λ (t : List ℕ). record held { text = t }) (append_assoc held.text xs ys) ∙ fitting held (xs ++ ys) (omega (arith, length-append xs ys))
 
 -- bytes of which a part fits
 filling : (held : Held) (xs : List ℕ) (n : ℕ) → n ≤ length xs → length held.text + n ≡ held.room → record held { text = held.text ++ take n xs } ≡ fold with_byte held xs

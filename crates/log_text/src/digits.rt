@@ -5,9 +5,11 @@ use itoa::write_digits;
 
 /// How many digits a number below 10,000 has.
 #[inline(always)]
+#[tactic(auto, using(crate::proofs::DigitLaws::few_digits))]
 fn short_count(number: u64) -> usize
     requires { number < 10000 }
-    ensures { result ≡ length (decimal number) }
+    ensures value { result ≡ length (decimal number) }
+    ensures short { result ≤ 4 }
 {
     if number < 10 {
         1
@@ -20,22 +22,24 @@ fn short_count(number: u64) -> usize
     }
 }
 
-/// How many digits a number has.
+/// How many digits a number has. It has no loop, so that the compiler can leave it out where nobody reads the count.
 #[inline(always)]
+#[tactic(auto, using(crate::proofs::DigitLaws::many_digits))]
 pub fn digit_count(number: u64) -> usize
     ensures value { result ≡ length (decimal number) }
     ensures short { result ≤ 20 }
 {
-    if number < 10 {
-        return 1;
+    if number < 10_000 {
+        short_count(number)
+    } else if number < 100_000_000 {
+        4 + short_count(number / 10_000)
+    } else if number < 1_000_000_000_000 {
+        8 + short_count(number / 100_000_000)
+    } else if number < 10_000_000_000_000_000 {
+        12 + short_count(number / 1_000_000_000_000)
+    } else {
+        16 + short_count(number / 10_000_000_000_000_000)
     }
-    let mut left = number;
-    let mut count = 0;
-    while left >= 10_000 {
-        left /= 10_000;
-        count += 4;
-    }
-    count + short_count(left)
 }
 
 /// Writes a number's digits before an end.

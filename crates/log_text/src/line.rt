@@ -4,7 +4,7 @@ ghost use Rattle.log_text.specs.Room.{with_byte};
 ghost use Rattle.log_text.specs.Lines.{line_of_row};
 
 use crate::digits::{digit_count, write_before};
-use crate::length::{length_up_to_most, longest_line};
+use crate::length::{count_line, room_for_all};
 use crate::out::Out;
 use crate::rows::put_row;
 use address::{OutOfMemory, Text};
@@ -17,7 +17,7 @@ use std::marker::Model;
 pub fn row_line(alloc: Global, row: &LogRow) -> Result<Text, OutOfMemory>
     ensures { IfOk result (λ text. text ≡ line_of_row row.now) }
 {
-    let mut line = Line::with_room(alloc, length_up_to_most(row))?;
+    let mut line = Line::with_room(alloc, count_line(row).most())?;
     line.set(row);
     Ok(Text::of(alloc, line.bytes())?)
 }
@@ -62,7 +62,7 @@ impl Line {
         ensures fits { IfOk result (λ line. All (λ row. length (line_of_row row) ≤ line.room) rows.now) }
         ensures text { IfOk result (λ line. line.text ≡ []) }
     {
-        Line::with_room(alloc, longest_line(rows))
+        Line::with_room(alloc, room_for_all(rows))
     }
 
     /// How many more bytes there is room for.
@@ -99,6 +99,7 @@ impl Line {
     /// Adds as many of these bytes as there is room for.
     #[cold]
     #[inline(never)]
+    #[tactic(auto, using(crate::proofs::ByteLaws::filled))]
     fn fill(&mut self, text: &[u8])
         ensures { self.new ≡ fold with_byte self.old text.now }
     {
@@ -141,6 +142,7 @@ impl Out for Line {
     ghost after = { with_byte };
 
     #[inline(always)]
+    #[tactic(auto, using(crate::proofs::ByteLaws::fitting))]
     fn put(&mut self, text: &[u8]) {
         if text.len() <= self.left() {
             self.add(text);
@@ -150,6 +152,7 @@ impl Out for Line {
     }
 
     #[inline(always)]
+    #[tactic(auto, using(crate::proofs::ByteLaws::fitting_both))]
     fn put_number(&mut self, front: &[u8], number: u64) {
         let count = digit_count(number);
         if front.len() + count <= self.left() {

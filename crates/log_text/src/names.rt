@@ -1,4 +1,5 @@
 //! Words of a line that are numbers, or texts that a row holds, each after a space.
+//! They are inlined, so that a `Count` of which one number is read counts that one alone.
 ghost use Rattle.std.specs.Prelude.{◌≡◌, ◌++◌, codes, decimal, fold};
 ghost use Rattle.std.specs.Fmt.{signed_decimal};
 ghost use Rattle.log_text.specs.Spellings as spec;
@@ -7,6 +8,7 @@ use crate::out::Out;
 use tab_ids::{Death, DocId, EntryId, JobId, NavId, ProcId, ReqId, StateId};
 
 /// Bytes as they are.
+#[inline(always)]
 pub fn put_text<O: Out>(out: &mut O, text: &[u8])
     ensures { out.new ≡ fold O.after out.old (codes " " ++ text.now) }
 {
@@ -15,6 +17,7 @@ pub fn put_text<O: Out>(out: &mut O, text: &[u8])
 }
 
 /// A number.
+#[inline(always)]
 pub fn put_number<O: Out>(out: &mut O, number: u64)
     ensures { out.new ≡ fold O.after out.old (codes " " ++ decimal number) }
 {
@@ -22,6 +25,7 @@ pub fn put_number<O: Out>(out: &mut O, number: u64)
 }
 
 /// How far a traversal goes.
+#[inline(always)]
 pub fn put_delta<O: Out>(out: &mut O, delta: i32)
     ensures { out.new ≡ fold O.after out.old (codes " " ++ signed_decimal delta) }
 {
@@ -34,6 +38,7 @@ pub fn put_delta<O: Out>(out: &mut O, delta: i32)
 }
 
 /// A navigable.
+#[inline(always)]
 pub fn put_nav<O: Out>(out: &mut O, nav: NavId)
     ensures { out.new ≡ fold O.after out.old (codes " " ++ spec.nav_name nav) }
 {
@@ -41,6 +46,7 @@ pub fn put_nav<O: Out>(out: &mut O, nav: NavId)
 }
 
 /// An entry: its maker, and its number among that maker's entries.
+#[inline(always)]
 pub fn put_entry<O: Out>(out: &mut O, entry: EntryId)
     ensures { out.new ≡ fold O.after out.old (codes " " ++ spec.entry_name entry) }
 {
@@ -49,6 +55,7 @@ pub fn put_entry<O: Out>(out: &mut O, entry: EntryId)
 }
 
 /// A document state.
+#[inline(always)]
 pub fn put_state<O: Out>(out: &mut O, state: StateId)
     ensures { out.new ≡ fold O.after out.old (codes " " ++ spec.state_name state) }
 {
@@ -56,6 +63,7 @@ pub fn put_state<O: Out>(out: &mut O, state: StateId)
 }
 
 /// A document.
+#[inline(always)]
 pub fn put_doc<O: Out>(out: &mut O, doc: DocId)
     ensures { out.new ≡ fold O.after out.old (codes " " ++ spec.doc_name doc) }
 {
@@ -63,6 +71,7 @@ pub fn put_doc<O: Out>(out: &mut O, doc: DocId)
 }
 
 /// A process.
+#[inline(always)]
 pub fn put_proc<O: Out>(out: &mut O, proc: ProcId)
     ensures { out.new ≡ fold O.after out.old (codes " " ++ spec.proc_name proc) }
 {
@@ -70,6 +79,7 @@ pub fn put_proc<O: Out>(out: &mut O, proc: ProcId)
 }
 
 /// A request.
+#[inline(always)]
 pub fn put_req<O: Out>(out: &mut O, req: ReqId)
     ensures { out.new ≡ fold O.after out.old (codes " " ++ spec.req_name req) }
 {
@@ -77,6 +87,7 @@ pub fn put_req<O: Out>(out: &mut O, req: ReqId)
 }
 
 /// An order.
+#[inline(always)]
 pub fn put_job<O: Out>(out: &mut O, job: JobId)
     ensures { out.new ≡ fold O.after out.old (codes " " ++ spec.job_name job) }
 {
@@ -84,6 +95,7 @@ pub fn put_job<O: Out>(out: &mut O, job: JobId)
 }
 
 /// A death of a process.
+#[inline(always)]
 pub fn put_death<O: Out>(out: &mut O, death: Death)
     ensures { out.new ≡ fold O.after out.old (codes " " ++ spec.death_name death) }
 {

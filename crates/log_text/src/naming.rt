@@ -9,6 +9,7 @@ use log_model::{Actor, Denial, LeaveCause, Mode, Verdict, Why};
 use tab_ids::DocId;
 
 /// A memo; `-` is none.
+#[inline(always)]
 pub fn put_memo<O: Out>(out: &mut O, memo: &Option<Text>)
     ensures { out.new ≡ fold O.after out.old (codes " " ++ spec.memo_name memo.now) }
 {
@@ -19,6 +20,7 @@ pub fn put_memo<O: Out>(out: &mut O, memo: &Option<Text>)
 }
 
 /// A handler slot; `-` is none.
+#[inline(always)]
 pub fn put_slot<O: Out>(out: &mut O, slot: Option<u8>)
     ensures { out.new ≡ fold O.after out.old (codes " " ++ spec.slot_name slot) }
 {
@@ -29,6 +31,7 @@ pub fn put_slot<O: Out>(out: &mut O, slot: Option<u8>)
 }
 
 /// The document that is poked; `-` is none.
+#[inline(always)]
 pub fn put_poked<O: Out>(out: &mut O, doc: Option<DocId>)
     ensures { out.new ≡ fold O.after out.old (codes " " ++ spec.poked_name doc) }
 {
@@ -39,6 +42,7 @@ pub fn put_poked<O: Out>(out: &mut O, doc: Option<DocId>)
 }
 
 /// Who acts in an event.
+#[inline(always)]
 pub fn put_actor<O: Out>(out: &mut O, actor: Actor)
     ensures { out.new ≡ fold O.after out.old (codes " " ++ spec.actor_name actor) }
 {
@@ -51,6 +55,7 @@ pub fn put_actor<O: Out>(out: &mut O, actor: Actor)
 }
 
 /// What an order was sent for.
+#[inline(always)]
 pub fn put_why<O: Out>(out: &mut O, why: Why)
     ensures { out.new ≡ fold O.after out.old (codes " " ++ spec.why_name why) }
 {
@@ -63,6 +68,7 @@ pub fn put_why<O: Out>(out: &mut O, why: Why)
 }
 
 /// Why a request was refused.
+#[inline(always)]
 pub fn put_denial<O: Out>(out: &mut O, reason: Denial)
     ensures { out.new ≡ fold O.after out.old (codes " " ++ spec.denial_name reason) }
 {
@@ -77,6 +83,7 @@ pub fn put_denial<O: Out>(out: &mut O, reason: Denial)
 }
 
 /// Why a document is asked whether it may be left.
+#[inline(always)]
 pub fn put_leave_cause<O: Out>(out: &mut O, cause: LeaveCause)
     ensures { out.new ≡ fold O.after out.old (codes " " ++ spec.leave_cause_name cause) }
 {
@@ -88,6 +95,7 @@ pub fn put_leave_cause<O: Out>(out: &mut O, cause: LeaveCause)
 }
 
 /// What an asked document answers.
+#[inline(always)]
 pub fn put_verdict<O: Out>(out: &mut O, verdict: Verdict)
     ensures { out.new ≡ fold O.after out.old (codes " " ++ spec.verdict_name verdict) }
 {
@@ -98,6 +106,7 @@ pub fn put_verdict<O: Out>(out: &mut O, verdict: Verdict)
 }
 
 /// A navigation's history handling.
+#[inline(always)]
 pub fn put_mode<O: Out>(out: &mut O, mode: Mode)
     ensures { out.new ≡ fold O.after out.old (codes " " ++ spec.mode_name mode) }
 {
@@ -109,6 +118,7 @@ pub fn put_mode<O: Out>(out: &mut O, mode: Mode)
 }
 
 /// The user's answer to a prompt.
+#[inline(always)]
 pub fn put_answer<O: Out>(out: &mut O, stay: bool)
     ensures { out.new ≡ fold O.after out.old (codes " " ++ spec.answer_name stay) }
 {
@@ -120,6 +130,7 @@ pub fn put_answer<O: Out>(out: &mut O, stay: bool)
 }
 
 /// Whether a document is the initial one of its navigable.
+#[inline(always)]
 pub fn put_initial<O: Out>(out: &mut O, initial: bool)
     ensures { out.new ≡ fold O.after out.old (codes " " ++ spec.initial_name initial) }
 {
@@ -131,6 +142,7 @@ pub fn put_initial<O: Out>(out: &mut O, initial: bool)
 }
 
 /// Whether a document had unsaved edits.
+#[inline(always)]
 pub fn put_dirty<O: Out>(out: &mut O, dirty: bool)
     ensures { out.new ≡ fold O.after out.old (codes " " ++ spec.dirty_name dirty) }
 {

@@ -11,6 +11,7 @@ use log_model::{Action, Request};
 use tab_ids::NavId;
 
 /// NAV and MEMO, and a REF where there is one.
+#[inline(always)]
 fn put_entry_words<O: Out>(out: &mut O, nav: NavId, memo: &Option<Text>, reference: &Option<Text>)
     ensures { out.new ≡ fold O.after out.old (spec.spaced (decimal nav.0 ∷ memo_name memo.now ∷ spec.reference_words reference.now)) }
 {

@@ -64,6 +64,7 @@ fn put_sent<O: Out>(out: &mut O, job: &Job)
 }
 
 /// The order that a row tells of, after its process.
+#[inline(always)]
 fn put_order<O: Out>(out: &mut O, proc: ProcId, job: JobId)
     ensures { out.new ≡ fold O.after out.old (spec.spaced (proc_name proc ∷ job_name job ∷ [])) }
 {

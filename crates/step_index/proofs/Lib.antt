@@ -1,4 +1,5 @@
 pub mod Searching
+pub mod Starting
 pub mod Tracking
 pub mod Reading
 pub mod Looking
@@ -6,3 +7,6 @@ pub mod Noting
 pub mod Rebuilding
 pub mod Pushing
 pub mod Replacing
+pub mod Cutting
+pub mod First
+pub mod Framing

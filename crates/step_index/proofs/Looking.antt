@@ -125,7 +125,7 @@ all_from low bound high [] past within = refl
 all_from low bound high (step ∷ steps) past within =
     or_none _ _ (lt-leb step bound (omega (arith, past, within.0))) (all_from (suc step) bound high steps (omega (arith, past, within.0)) within.2)
 
-ascending_from : (low high : ℕ) (steps : List ℕ) → Ascends low high steps → IsAscending (λ n. n) steps
+pub ascending_from : (low high : ℕ) (steps : List ℕ) → Ascends low high steps → IsAscending (λ n. n) steps
 ascending_from low high [] within = tt
 ascending_from low high (step ∷ steps) within = (all_from (suc step) step high steps (omega arith) within.2, ascending_from (suc step) high steps within.2)
 

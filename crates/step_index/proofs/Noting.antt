@@ -25,7 +25,7 @@ use Rattle.step_index.specs.Noted.{place_of, is_noted, AreNoted, NotesOne, is_at
 use Rattle.step_index.proofs.Searching.{first_lower, not_in}
 use Rattle.step_index.proofs.Tracking.{was_not, any_insert, any_front}
 
-eqb_turned : (a b : ℕ) → (a == b) ≡ (b == a)
+pub eqb_turned : (a b : ℕ) → (a == b) ≡ (b == a)
 eqb_turned a b =
     elim (cases_Bool (a == b)) [
       | inl same ↦ same ∙ sym (eq-eqb b a (sym (eqb-true a b same)))

@@ -35,7 +35,7 @@ module _ {A : Type 0} (number : A → ℕ) where
       or_none _ _ (le-ltb bound (number first) (omega (arith, upto, first_lower first items i item sorted is))) (upto_middle items i item bound sorted.1 is upto)
 
   -- where the first is greater than a number, all are
-  all_past : (first : A) (bound : ℕ) (items : List A) → bound < number first → list_any (λ other. nat_le (number other) (number first)) items ≡ false → list_any (λ x. nat_le (number x) bound) items ≡ false
+  pub all_past : (first : A) (bound : ℕ) (items : List A) → bound < number first → list_any (λ other. nat_le (number other) (number first)) items ≡ false → list_any (λ x. nat_le (number x) bound) items ≡ false
   all_past first bound [] past none = refl
   all_past first bound (next ∷ items) past none =
       let both = or_parts (nat_le (number next) (number first)) (list_any (λ other. nat_le (number other) (number first)) items) none in

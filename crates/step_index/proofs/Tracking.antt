@@ -1,8 +1,9 @@
 -- The tracks as a whole: one of them changed, one more, and what they are as one list of rows.
-use Rattle.std.proofs.Common.{◌≡◌, ◌≢◌, ℕ, suc, zero, ◌-◌, ◌<◌, ◌≤◌, Bool, true, false, not, ◌&&◌, ◌||◌, List, [], ◌∷◌, ◌++◌, length, refl, ap, sym, ◌∙◌, filter, take, drop, get_or, arith, subst, append_assoc, Some}
-use Rattle.std.specs.Prelude.{nat_le, nat_lt, slice_get, slice_set, ◌==◌}
+use Rattle.std.proofs.Common.{◌≡◌, ◌≢◌, ℕ, suc, zero, add-one, ◌+◌, ◌-◌, ◌<◌, ◌≤◌, Bool, true, false, not, ◌&&◌, ◌||◌, List, [], ◌∷◌, ◌++◌, length, refl, ap, sym, ◌∙◌, filter, take, drop, get_or, arith, subst, append_assoc, Some}
+use Rattle.std.specs.Prelude.{nat_le, nat_lt, vec_len, vec_capacity, slice_get, slice_set, ◌==◌}
 use Rattle.std.specs.List.{list_any}
-use Rattle.std.proofs.lemmas.Bool.{false≢true, true≢false, and_from, eq-eqb, ne_eqb, eqb-true, lt-ltb, leb-false, or_parts}
+use Rattle.std.proofs.lemmas.Bool.{false≢true, true≢false, and_from, eq-eqb, ne_eqb, eqb-true, lt-ltb, ltb-true, leb-false, or_parts}
+use Rattle.std.proofs.Math.Seq.{take-suc}
 use Rattle.std.proofs.lemmas.List.{take-append-drop, set_split, append-nil}
 use Rattle.std.proofs.lemmas.List.Elements.{filter-append}
 use Rattle.std.proofs.lemmas.List.Concat.{flat_map-append}
@@ -17,6 +18,7 @@ use Rattle.entry_store.specs.Kept.{PutsRow}
 use Rattle.step_index.specs.declared.track.Track.{Track}
 use Rattle.step_index.specs.Ascending.{IsAscending}
 use Rattle.step_index.specs.Tracks.{nav_of, step_of, rows_of, IsTrack, AreTracks, IsTrackAt, IsGap, is_from}
+use Rattle.step_index.specs.Cut.{HasRowRoom}
 use Rattle.step_index.proofs.Searching.{not_in, none_at}
 
 -- ---- lists
@@ -98,6 +100,22 @@ track_part test (first ∷ tracks) zero track here none =
     subst (λ (t : Track). list_any test t.rows.items ≡ false) (some_same first track here) (any_front test first.rows.items (rows_of tracks) none)
 track_part test (first ∷ tracks) (suc i) track here none = track_part test tracks i track here (any_back test first.rows.items (rows_of tracks) none)
 
+-- the rows of one track more
+pub rows_next : (tracks : List Track) (i : ℕ) (track : Track) → i < length tracks → track ≡ get_or tracks i track → rows_of (take (i + 1) tracks) ≡ rows_of (take i tracks) ++ track.rows.items
+rows_next tracks i track within is =
+    rw add-one (
+    ap rows_of (take-suc tracks i track within)
+    ∙ flat_map-append (λ (t : Track). t.rows.items) (take i tracks) (get_or tracks i track ∷ [])
+    ∙ ap (λ (rows : List Row). rows_of (take i tracks) ++ rows) (append-nil (get_or tracks i track).rows.items ∙ ap (λ (t : Track). t.rows.items) (sym is)))
+
+-- a test that a row of a track passes, one of all passes
+pub track_any : (test : Row → Bool) (tracks : List Track) (i : ℕ) (track : Track) → slice_get tracks i ≡ Some track → list_any test track.rows.items ≡ true → list_any test (rows_of tracks) ≡ true
+track_any test [] i track here any = absurd (none-some track here)
+track_any test (first ∷ tracks) zero track here any =
+    list_any-append test first.rows.items (rows_of tracks) ∙ ap (λ b. b || list_any test (rows_of tracks)) (ap (λ (t : Track). list_any test t.rows.items) (some_same first track here) ∙ any)
+track_any test (first ∷ tracks) (suc i) track here any =
+    list_any-append test first.rows.items (rows_of tracks) ∙ or_right (list_any test first.rows.items) (list_any test (rows_of tracks)) (track_any test tracks i track here any)
+
 -- ---- one row more
 
 own_row : (rows : List Row) (nav : NavId) (step : ℕ) (own : NavId) → own.0 ≡ nav.0 → list_any (λ (row : Row). not (is_of own row)) rows ≡ false → list_any (is_from nav step) rows ≡ false → list_any (λ (row : Row). nat_le step row.step.0) rows ≡ false
@@ -129,9 +147,9 @@ track_one row = (omega arith, (or_none _ _ (ap not (eq-eqb row.nav.0 row.nav.0 r
 pub rows_split : (front : List Track) (track : Track) (back : List Track) → rows_of (front ++ track ∷ back) ≡ rows_of front ++ (track.rows.items ++ rows_of back)
 rows_split front track back = flat_map-append (λ (t : Track). t.rows.items) front (track ∷ back)
 
-module _ (tracks : List Track) (at : ℕ) (row : Row) (are : AreTracks tracks) where
-  -- behind the others
-  module _ (place : IsTrackAt tracks row.nav at) (old new : Track) (is : old ≡ get_or tracks at old) (nav : new.nav ≡ old.nav) where
+module _ (tracks : List Track) (at : ℕ) (are : AreTracks tracks) where
+  -- one track changed
+  module _ (nav : NavId) (place : IsTrackAt tracks nav at) (old new : Track) (is : old ≡ get_or tracks at old) (same : new.nav ≡ old.nav) where
     abbrev front : List Track
     front = take at tracks
 
@@ -155,22 +173,22 @@ module _ (tracks : List Track) (at : ℕ) (row : Row) (are : AreTracks tracks) w
 
     swapped : IsTrack new.nav new.rows.items → AreTracks (slice_set tracks at new)
     swapped is_track =
-        subst AreTracks (sym become) (tracks_swap front old new back (ap (λ (n : NavId). n.0) nav) is_track (subst AreTracks were are))
+        subst AreTracks (sym become) (tracks_swap front old new back (ap (λ (n : NavId). n.0) same) is_track (subst AreTracks were are))
 
     old_is : IsTrack old.nav old.rows.items
     old_is = track_is tracks at old are (place.here ∙ ap (λ (t : Track). Some t) (sym it_is))
 
     pub behind_kept : new.rows.items ≡ old.rows.items → AreTracks (slice_set tracks at new)
-    behind_kept rows = swapped (subst (λ (n : NavId). IsTrack n new.rows.items) (sym nav) (subst (λ (r : List Row). IsTrack old.nav r) (sym rows) old_is))
+    behind_kept rows = swapped (subst (λ (n : NavId). IsTrack n new.rows.items) (sym same) (subst (λ (r : List Row). IsTrack old.nav r) (sym rows) old_is))
 
-    pub behind_tracks : new.rows.items ≡ old.rows.items ++ row ∷ [] → list_any (is_from row.nav row.step.0) (rows_of tracks) ≡ false → AreTracks (slice_set tracks at new)
-    behind_tracks rows last =
-        swapped (subst (λ (n : NavId). IsTrack n new.rows.items) (sym nav) (subst (λ (r : List Row). IsTrack old.nav r) (sym rows)
-        (track_push old.rows.items old.nav row (ap (λ (t : Track). t.nav.0) it_is ∙ place.is_navs) old_is
+    pub behind_tracks : (row : Row) → nav ≡ row.nav → new.rows.items ≡ old.rows.items ++ row ∷ [] → list_any (is_from row.nav row.step.0) (rows_of tracks) ≡ false → AreTracks (slice_set tracks at new)
+    behind_tracks row mine rows last =
+        swapped (subst (λ (n : NavId). IsTrack n new.rows.items) (sym same) (subst (λ (r : List Row). IsTrack old.nav r) (sym rows)
+        (track_push old.rows.items old.nav row (ap (λ (t : Track). t.nav.0) it_is ∙ place.is_navs ∙ ap (λ (n : NavId). n.0) mine) old_is
         (track_part (is_from row.nav row.step.0) tracks at old (place.here ∙ ap (λ (t : Track). Some t) (sym it_is)) last))))
 
-    pub behind_puts : new.rows.items ≡ old.rows.items ++ row ∷ [] → PutsRow (rows_of tracks) row (rows_of (slice_set tracks at new))
-    behind_puts rows = record {
+    pub behind_puts : (row : Row) → new.rows.items ≡ old.rows.items ++ row ∷ [] → PutsRow (rows_of tracks) row (rows_of (slice_set tracks at new))
+    behind_puts row rows = record {
       front = rows_of front ++ old.rows.items;
       back = rows_of back;
       was = ap rows_of were ∙ rows_split front old back ∙ sym (append_assoc (rows_of front) old.rows.items (rows_of back));
@@ -181,8 +199,45 @@ module _ (tracks : List Track) (at : ℕ) (row : Row) (are : AreTracks tracks) w
           ∙ sym (append_assoc (rows_of front) old.rows.items (row ∷ rows_of back));
     }
 
+    -- there is room for a row, and was made
+    pub room_here : HasRowRoom nav tracks → vec_len old.rows < vec_capacity old.rows
+    room_here room =
+        let test = not_in (λ (t : Track). t.nav.0 == nav.0 && not (nat_lt (vec_len t.rows) (vec_capacity t.rows))) tracks at old (place.here ∙ ap (λ (t : Track). Some t) (sym it_is)) room in
+        ltb-true (vec_len old.rows) (vec_capacity old.rows)
+        (was_not (nat_lt (vec_len old.rows) (vec_capacity old.rows))
+        (sym (ap (λ b. b && not (nat_lt (vec_len old.rows) (vec_capacity old.rows))) (eq-eqb old.nav.0 nav.0 (ap (λ (t : Track). t.nav.0) it_is ∙ place.is_navs))) ∙ test))
+
+    pub room_made : vec_len new.rows < vec_capacity new.rows → HasRowRoom nav (slice_set tracks at new)
+    room_made room =
+        ap (list_any full) become
+        ∙ any_insert full front back new
+        ∙ or_none _ _ (ap (λ b. new.nav.0 == nav.0 && not b) (lt-ltb (vec_len new.rows) (vec_capacity new.rows) room) ∙ nothing (new.nav.0 == nav.0))
+        (others front back old (ap (λ (t : Track). t.nav.0) it_is ∙ place.is_navs) (subst AreTracks were are))
+      where
+        full : Track → Bool
+        full t = t.nav.0 == nav.0 && not (nat_lt (vec_len t.rows) (vec_capacity t.rows))
+
+        nothing : (b : Bool) → (b && false) ≡ false
+        nothing true = refl
+        nothing false = refl
+
+        other_full : (t : Track) → t.nav.0 ≢ nav.0 → (t.nav.0 == nav.0 && not (nat_lt (vec_len t.rows) (vec_capacity t.rows))) ≡ false
+        other_full t isnt = ap (λ b. b && not (nat_lt (vec_len t.rows) (vec_capacity t.rows))) (ne_eqb t.nav.0 nav.0 isnt)
+
+        above : (ts : List Track) (low : ℕ) → nav.0 ≡ low → list_any (λ (other : Track). nat_le other.nav.0 low) ts ≡ false → list_any (λ (t : Track). t.nav.0 == nav.0 && not (nat_lt (vec_len t.rows) (vec_capacity t.rows))) ts ≡ false
+        above [] low is_ none = refl
+        above (t ∷ ts) low is_ none =
+            let both = or_parts (nat_le t.nav.0 low) (list_any (λ (other : Track). nat_le other.nav.0 low) ts) none in
+            or_none _ _ (other_full t (λ e. omega (arith, e, is_, leb-false t.nav.0 low both.0))) (above ts low is_ both.1)
+
+        others : (fs bs : List Track) (mid : Track) → mid.nav.0 ≡ nav.0 → AreTracks (fs ++ mid ∷ bs) → list_any (λ (t : Track). t.nav.0 == nav.0 && not (nat_lt (vec_len t.rows) (vec_capacity t.rows))) (fs ++ bs) ≡ false
+        others [] bs mid is_ ts = above bs mid.nav.0 (sym is_) ts.0
+        others (f ∷ fs) bs mid is_ ts =
+            let mid_later : f.nav.0 < mid.nav.0 = leb-false mid.nav.0 f.nav.0 (or_parts (nat_le mid.nav.0 f.nav.0) (list_any (λ (other : Track). nat_le other.nav.0 f.nav.0) (fs ++ bs)) (sym (any_insert (λ (other : Track). nat_le other.nav.0 f.nav.0) fs bs mid) ∙ ts.0)).0 in
+            or_none _ _ (other_full f (λ e. omega (arith, e, is_, mid_later))) (others fs bs mid is_ ts.1.1)
+
   -- the first of its navigable
-  module _ (gap : IsGap tracks row.nav at) (new : Track) (nav : new.nav ≡ row.nav) (rows : new.rows.items ≡ row ∷ []) where
+  module _ (row : Row) (gap : IsGap tracks row.nav at) (new : Track) (nav : new.nav ≡ row.nav) (rows : new.rows.items ≡ row ∷ []) where
     pub first_tracks : AreTracks (take at tracks ++ new ∷ drop at tracks)
     first_tracks =
         tracks_put (take at tracks) new (drop at tracks)

@@ -1,8 +1,10 @@
 pub mod Ascending
+pub mod Cut
 pub mod Held
 pub mod Noted
 pub mod Parts
 pub mod Props
 pub mod Spots
+pub mod Starts
 pub mod Strict
 pub mod Tracks

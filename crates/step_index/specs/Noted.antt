@@ -1,6 +1,6 @@
 -- Where a `StepIndex` looks for an entry.
 -- This project's own.
-use Rattle.std.specs.Prelude.{◌≡◌, Bool, false, not, ◌&&◌, ◌==◌, List, Option, if◌then◌else◌}
+use Rattle.std.specs.Prelude.{◌≡◌, Bool, false, not, ◌&&◌, ◌==◌, List, Option, Some, None, if◌then◌else◌}
 use Rattle.std.specs.List.{list_any}
 use Rattle.std.specs.Option.{option_map_or}
 use Rattle.std.specs.Map.{lookup}
@@ -30,3 +30,9 @@ AreNoted noted rows = list_any (λ (row : Row). not (is_noted noted row)) rows �
 abbrev pub NotesOne : List (EntryId × Place) → EntryId → Option Place → List (EntryId × Place) → Type 0
 NotesOne old entry place new =
     (other : EntryId) → place_of other new ≡ (if same_entry other entry then place else place_of other old)
+
+-- a row's entry is looked for where the row stands, and another one not at all
+pub record NotesOver (old : List (EntryId × Place)) (row : Row) (over : EntryId) (new : List (EntryId × Place)) : Type 0 where
+  pub between : List (EntryId × Place)
+  pub comes : NotesOne old row.entry (Some (record { nav = row.nav; step = row.step })) between
+  pub goes : NotesOne between over None new

@@ -1,18 +1,43 @@
 -- What a `StepIndex` stands for, and what it keeps.
 -- This project's own.
-use Rattle.log_model.specs.History.{History}
+use Rattle.std.specs.Prelude.{◌≡◌, ◌<◌, ◌≤◌, ℕ, vec_len, vec_capacity, slice_get, IfSome}
+use Rattle.indexmap.specs.IndexMap.{spare}
+use Rattle.tab_ids.specs.declared.NavId.{NavId}
+use Rattle.log_model.specs.History.{History, cleared}
 use Rattle.entry_store.specs.Kept.{IsKept}
 use Rattle.step_index.specs.declared.parts.Parts.{Parts}
 use Rattle.step_index.specs.Noted.{AreNoted}
-use Rattle.step_index.specs.Tracks.{rows_of, AreTracks}
+use Rattle.step_index.specs.Starts.{AreStarted}
+use Rattle.step_index.specs.Tracks.{rows_of, AreTracks, IsTrackAt}
+use Rattle.step_index.specs.Cut.{rows_upto, HasRowRoom}
 
 -- the history: the entries of all navigables, the current step, and the child navigables ever added
 abbrev pub history_in : Parts → History
 history_in parts =
     record { rows = rows_of parts.tracks.items; current = parts.current.0; added = parts.added.keys }
 
--- the history is sound and the used steps are those of its entries, and the entries are sorted and noted
+-- the entries are sorted and noted, and so are the starts of their document states
+pub record IsFiled (parts : Parts) : Type 0 where
+  pub tracks : AreTracks parts.tracks.items
+  pub noted : AreNoted parts.noted.entries (rows_of parts.tracks.items)
+  pub started : AreStarted parts.starts.entries (rows_of parts.tracks.items)
+
+-- the history is sound and the used steps are those of its entries, and these are filed
 pub record IsIndex (parts : Parts) : Type 0 where
   pub kept : IsKept (history_in parts) parts.used.items
   pub tracks : AreTracks parts.tracks.items
   pub noted : AreNoted parts.noted.entries (rows_of parts.tracks.items)
+  pub started : AreStarted parts.starts.entries (rows_of parts.tracks.items)
+
+-- there is room for one entry more of the navigable
+pub record HasRoom (parts : Parts) (nav : NavId) : Type 0 where
+  pub note : 0 < spare parts.noted
+  pub start : 0 < spare parts.starts
+  pub used : vec_len parts.used < vec_capacity parts.used
+  pub row : HasRowRoom nav parts.tracks.items
+
+-- the navigable's entries stand at the place, the first of them up to the current step, and clearing leaves all up to there
+pub record IsLeftAt (parts : Parts) (nav : NavId) (at : ℕ) : Type 0 where
+  pub place : IsTrackAt parts.tracks.items nav at
+  pub first : IfSome (slice_get place.it.rows.items 0) (λ row. row.step.0 ≤ parts.current.0)
+  pub clean : cleared (history_in parts) ≡ rows_upto parts.current.0 (rows_of parts.tracks.items)

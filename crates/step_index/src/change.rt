@@ -6,6 +6,7 @@ ghost use Rattle.log_model.specs.declared.change.Change.TheVariants.{Reload};
 ghost use Rattle.entry_store.specs.Store.{MayTake, IsRefused};
 ghost use Rattle.step_index.specs.Parts.{history_in, IsIndex};
 
+use crate::frames::add_in;
 use crate::move_on::move_in;
 use crate::parts::Parts;
 use crate::push::push_in;
@@ -43,13 +44,19 @@ pub fn change_parts(parts: &mut Parts, change: &Change) -> Result<(), StoreError
             address,
             memo,
         } => replace_in(parts, change, *nav, *over, *entry, *state, address, memo),
+        Change::AddFrame {
+            owner,
+            nav,
+            entry,
+            state,
+        } => add_in(parts, *owner, *nav, *entry, *state),
         Change::Traverse { goal } => {
             move_in(parts, *goal);
             Ok(())
         }
         Change::Reload { nav } => reload_in(parts, *nav),
         Change::Edit => Ok(()),
-        _ => change_all(parts, change),
+        Change::RemoveFrame { .. } => change_all(parts, change),
     }
 }
 

@@ -2,6 +2,8 @@
 #![tactic(auto)]
 
 mod change;
+mod cut;
+mod frames;
 mod keyed;
 mod listing;
 mod move_on;
@@ -10,10 +12,13 @@ mod opening;
 mod parts;
 mod places;
 mod push;
+mod put;
 mod readers;
 mod rebuild;
 mod replace;
+mod room;
 mod search;
+mod starts;
 mod step_index;
 mod ticks;
 mod track;

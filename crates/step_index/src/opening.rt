@@ -1,8 +1,11 @@
 //! The history with which a tab opens.
-ghost use Rattle.std.specs.Prelude.{◌≡◌, Some, IfOk};
+ghost use Rattle.std.specs.Prelude.{◌≡◌, ◌∷◌, [], Some, IfOk};
 ghost use Rattle.log_model.specs.Opening.{opening_history};
-ghost use Rattle.step_index.specs.Noted.{place_of};
-ghost use Rattle.step_index.specs.Parts.{history_in, IsIndex};
+ghost use Rattle.entry_store.specs.Kept.{IsKept};
+ghost use Rattle.step_index.specs.Noted.{place_of, AreNoted};
+ghost use Rattle.step_index.specs.Starts.{AreStarted};
+ghost use Rattle.step_index.specs.Tracks.{rows_of, AreTracks};
+ghost use Rattle.step_index.specs.Parts.{history_in};
 
 use crate::noted::{Place, note_place};
 use crate::parts::Parts;
@@ -16,7 +19,10 @@ use tab_ids::{EntryId, NavId, StateId, Step};
 /// One navigable with one entry: the top's first, at step 0, in the document state 1.
 pub fn fresh_parts(alloc: Global, first: &Address) -> Result<Parts, OutOfMemory>
     ensures history { IfOk result (λ parts. history_in parts ≡ opening_history record { maker = 0; nr = 1 } record { 0 = 1 } first.now) }
-    ensures index { IfOk result IsIndex }
+    ensures kept { IfOk result (λ parts. IsKept (history_in parts) parts.used.items) }
+    ensures tracks { IfOk result (λ parts. AreTracks parts.tracks.items) }
+    ensures noted { IfOk result (λ parts. AreNoted parts.noted.entries (rows_of parts.tracks.items)) }
+    ensures started { IfOk result (λ parts. AreStarted parts.starts.entries (rows_of parts.tracks.items)) }
 {
     let address = first.copy()?;
     let row = Row {
@@ -29,6 +35,7 @@ pub fn fresh_parts(alloc: Global, first: &Address) -> Result<Parts, OutOfMemory>
         memo: None,
     };
     let noted = first_noted(alloc)?;
+    let starts = first_starts(alloc)?;
     let mut rows = Vec::new(alloc);
     rows.push(row)?;
     let mut tracks = Vec::new(alloc);
@@ -41,6 +48,7 @@ pub fn fresh_parts(alloc: Global, first: &Address) -> Result<Parts, OutOfMemory>
     Ok(Parts {
         tracks,
         noted,
+        starts,
         used,
         current: Step(0),
         added: IndexSet::new(alloc),
@@ -61,4 +69,13 @@ fn first_noted(alloc: Global) -> Result<IndexMap<EntryId, Place>, OutOfMemory>
         },
     )?;
     Ok(noted)
+}
+
+// Where its document state starts.
+fn first_starts(alloc: Global) -> Result<IndexMap<StateId, Step>, OutOfMemory>
+    ensures { IfOk result (λ starts. starts.entries ≡ (record { 0 = 1 }, record { 0 = 0 }) ∷ []) }
+{
+    let mut starts = IndexMap::new(alloc);
+    starts.insert(StateId(1), Step(0))?;
+    Ok(starts)
 }

@@ -2,7 +2,7 @@
 use crate::noted::Place;
 use crate::track::Track;
 use indexmap::{IndexMap, IndexSet};
-use tab_ids::{EntryId, NavId, Step};
+use tab_ids::{EntryId, NavId, StateId, Step};
 
 /// The entries, navigable by navigable in order of number, with the used steps in order.
 #[derive(Drop)]
@@ -10,6 +10,8 @@ pub struct Parts {
     pub tracks: Vec<Track>,
     /// Where each entry is looked for.
     pub noted: IndexMap<EntryId, Place>,
+    /// The least step of each document state.
+    pub starts: IndexMap<StateId, Step>,
     /// The used steps.
     pub used: Vec<u32>,
     pub current: Step,

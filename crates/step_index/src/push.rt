@@ -1,26 +1,23 @@
-//! A push: at the end of the history nothing has to be cleared, and the entry goes behind the others of its navigable.
-ghost use Rattle.std.specs.Prelude.{◌≡◌, ◌≤◌, ◌<◌, false, nat_le, length, slice_get, Some, IfSome, IsSome, IfErr, IfOk, OnOk, OnErr};
-ghost use Rattle.std.specs.List.{list_any};
+//! A push: what stands past the current step goes, and the entry goes behind the others of its navigable.
+ghost use Rattle.std.specs.Prelude.{◌≡◌, ◌<◌, true, nat_le, length, slice_get, Some, IfSome, IfErr, IfOk, OnOk, OnErr};
 ghost use Rattle.std.specs.Option.{option_map};
-ghost use Rattle.log_model.specs.History.{Fits, applied, greatest_step, with_step};
+ghost use Rattle.log_model.specs.History.{Fits, applied, cleared, greatest_step};
 ghost use Rattle.log_model.specs.Order.{SameHistory};
 ghost use Rattle.log_model.specs.declared.row.Row.{Row};
 ghost use Rattle.log_model.specs.declared.change.Change.TheVariants.{Push};
-ghost use Rattle.log_model.specs.Soundness.{is_entry};
 ghost use Rattle.entry_store.specs.Store.{MayTake, IsRefused};
-ghost use Rattle.step_index.specs.Noted.{AreNoted};
-ghost use Rattle.entry_store.specs.Kept.{PutsRow};
-ghost use Rattle.step_index.specs.Tracks.{rows_of, AreTracks, IsTrackAt, is_from};
-ghost use Rattle.step_index.specs.Parts.{history_in, IsIndex};
+ghost use Rattle.step_index.specs.Tracks.{rows_of, IsTrackAt};
+ghost use Rattle.step_index.specs.Cut.{rows_upto};
+ghost use Rattle.step_index.specs.Parts.{history_in, IsIndex, IsLeftAt};
 
-use crate::noted::{Place, forget_place, note_place};
+use crate::cut::is_clean;
 use crate::parts::Parts;
-use crate::places::{find_nav, put_last};
+use crate::places::find_nav;
+use crate::put::put_cleared;
 use crate::rebuild::change_all;
-use crate::track::Track;
+use crate::room::make_room;
 use address::{Address, OutOfMemory, Text};
 use entry_store::StoreError;
-use indexmap::IndexMap;
 use log_model::{Change, Row, copy_memo};
 use tab_ids::{EntryId, NavId, StateId, Step};
 
@@ -44,9 +41,9 @@ pub fn push_in(
     ensures refused { IfErr result (IsRefused (history_in parts.old) (Push nav entry state address.now memo.now)) }
     ensures err { OnErr result (history_in parts.new ≡ history_in parts.old) }
 {
-    match end_place(parts, nav) {
+    match left_place(parts, nav) {
         Some(at) => {
-            append_in(parts, at, nav, entry, state, address, memo)?;
+            push_at(parts, at, nav, entry, state, address, memo)?;
             Ok(())
         }
         None => change_all(parts, change),
@@ -64,23 +61,53 @@ pub fn greatest_step_in(parts: &Parts) -> Step
     }
 }
 
-// The navigable's place, where no entry stands beyond the current step.
-fn end_place(parts: &Parts, nav: NavId) -> Option<usize>
+// The navigable's place, where it has an entry up to the current step and nothing hangs on what stands past it alone.
+fn left_place(parts: &Parts, nav: NavId) -> Option<usize>
     requires index { IsIndex parts.now }
-    ensures last { IsSome result → greatest_step (history_in parts.now).rows ≤ parts.now.current.0 }
-    ensures place { IfSome result (λ at. IsTrackAt parts.now.tracks.items nav at) }
+    ensures { IfSome result (λ at. IsLeftAt parts.now nav at) }
 {
-    if parts.current < greatest_step_in(parts) {
-        return None;
-    }
     match find_nav(&parts.tracks, nav) {
-        Ok(at) => Some(at),
+        Ok(at) => left_at(parts, nav, at),
         Err(_) => None,
     }
 }
 
-// Adds an entry a step after the current one, which is the last.
-fn append_in(
+// The same of the navigable's track.
+fn left_at(parts: &Parts, nav: NavId, at: usize) -> Option<usize>
+    requires index { IsIndex parts.now }
+    requires place { IsTrackAt parts.now.tracks.items nav at }
+    ensures { IfSome result (λ at. IsLeftAt parts.now nav at) }
+{
+    if !is_first_upto(&parts.tracks[at].rows, parts.current) {
+        return None;
+    }
+    if !is_cut_clean(parts) {
+        return None;
+    }
+    Some(at)
+}
+
+// Whether a navigable's first entry stands up to a step.
+fn is_first_upto(rows: &[Row], step: Step) -> bool
+    requires { 0 < length rows.now }
+    ensures { IfSome (slice_get rows.now 0) (λ row. result ≡ nat_le row.step.0 step.0) }
+{
+    rows[0].step <= step
+}
+
+// Whether all that hangs on an entry up to the current step stays where the others go.
+fn is_cut_clean(parts: &Parts) -> bool
+    requires index { IsIndex parts.now }
+    ensures { result ≡ true → cleared (history_in parts.now) ≡ rows_upto parts.now.current.0 (rows_of parts.now.tracks.items) }
+{
+    if greatest_step_in(parts) <= parts.current {
+        return true;
+    }
+    is_clean(&parts.tracks, &parts.starts, parts.current)
+}
+
+// Adds an entry a step after the current one, past which nothing stays.
+fn push_at(
     parts: &mut Parts,
     at: usize,
     nav: NavId,
@@ -92,8 +119,7 @@ fn append_in(
     requires index { IsIndex parts.old }
     requires may { MayTake (history_in parts.old) (Push nav entry state address.now memo.now) }
     requires room { parts.old.current.0 < 4294967294 }
-    requires last { greatest_step (history_in parts.old).rows ≤ parts.old.current.0 }
-    requires place { IsTrackAt parts.old.tracks.items nav at }
+    requires left { IsLeftAt parts.old nav at }
     ensures index { IsIndex parts.new }
     ensures fits { OnOk result (Fits (history_in parts.old) (Push nav entry state address.now memo.now)) }
     ensures ok { OnOk result (SameHistory (history_in parts.new) (applied (history_in parts.old) (Push nav entry state address.now memo.now))) }
@@ -102,7 +128,8 @@ fn append_in(
     let step = Step(parts.current.0 + 1);
     let owner = first_owner(&parts.tracks[at].rows);
     let row = entry_row(owner, nav, entry, step, state, address, memo)?;
-    put_noted(&mut parts.tracks, &mut parts.noted, &mut parts.used, row)?;
+    make_room(parts, nav, at)?;
+    put_cleared(parts, row);
     parts.current = step;
     Ok(())
 }
@@ -138,59 +165,4 @@ pub fn entry_row(
         address,
         memo,
     })
-}
-
-// Puts a row behind the others, at a step beyond the used ones, and notes where it stands; without memory all stays.
-fn put_noted(
-    tracks: &mut Vec<Track>,
-    noted: &mut IndexMap<EntryId, Place>,
-    used: &mut Vec<u32>,
-    row: Row,
-) -> Result<(), OutOfMemory>
-    requires tracks { AreTracks tracks.old.items }
-    requires noted { AreNoted noted.old.entries (rows_of tracks.old.items) }
-    requires new { list_any (is_entry row.entry) (rows_of tracks.old.items) ≡ false }
-    requires last { list_any (is_from row.nav row.step.0) (rows_of tracks.old.items) ≡ false }
-    requires beyond { list_any (λ step. nat_le row.step.0 step) used.old.items ≡ false }
-    ensures tracks { AreTracks tracks.new.items }
-    ensures noted { AreNoted noted.new.entries (rows_of tracks.new.items) }
-    ensures ok { OnOk result (PutsRow (rows_of tracks.old.items) row (rows_of tracks.new.items)) }
-    ensures steps { OnOk result (used.new.items ≡ with_step row.step.0 used.old.items) }
-    ensures err { OnErr result (rows_of tracks.new.items ≡ rows_of tracks.old.items) }
-    ensures err_steps { OnErr result (used.new.items ≡ used.old.items) }
-{
-    let entry = row.entry;
-    let place = Place {
-        nav: row.nav,
-        step: row.step,
-    };
-    note_place(noted, entry, place)?;
-    match put_step(tracks, used, row) {
-        Ok(()) => Ok(()),
-        Err(error) => {
-            forget_place(noted, entry);
-            Err(error)
-        }
-    }
-}
-
-// The same without the note.
-fn put_step(tracks: &mut Vec<Track>, used: &mut Vec<u32>, row: Row) -> Result<(), OutOfMemory>
-    requires tracks { AreTracks tracks.old.items }
-    requires last { list_any (is_from row.nav row.step.0) (rows_of tracks.old.items) ≡ false }
-    requires beyond { list_any (λ step. nat_le row.step.0 step) used.old.items ≡ false }
-    ensures tracks { AreTracks tracks.new.items }
-    ensures ok { OnOk result (PutsRow (rows_of tracks.old.items) row (rows_of tracks.new.items)) }
-    ensures steps { OnOk result (used.new.items ≡ with_step row.step.0 used.old.items) }
-    ensures err { OnErr result (rows_of tracks.new.items ≡ rows_of tracks.old.items) }
-    ensures err_steps { OnErr result (used.new.items ≡ used.old.items) }
-{
-    used.push(row.step.0)?;
-    match put_last(tracks, row) {
-        Ok(()) => Ok(()),
-        Err(e) => {
-            used.pop();
-            Err(e)
-        }
-    }
 }

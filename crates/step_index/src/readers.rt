@@ -13,6 +13,7 @@ use crate::noted::{Place, place_of};
 use crate::parts::Parts;
 use crate::places::find_nav;
 use crate::search::{count_upto, uncounted_upto};
+use crate::starts::start_of;
 use crate::ticks::Steps;
 use crate::track::Track;
 use indexmap::IndexSet;
@@ -98,22 +99,11 @@ fn as_count(n: usize) -> u32
 }
 
 /// Whether a row has the document state.
-pub fn has_state_in(tracks: &[Track], state: StateId) -> bool
-    ensures { result ≡ has_state state (rows_of tracks.now) }
+pub fn has_state_in(parts: &Parts, state: StateId) -> bool
+    requires index { IsIndex parts.now }
+    ensures { result ≡ has_state state (history_in parts.now).rows }
 {
-    for track in tracks {
-        if has_state_row(&track.rows, state) {
-            return true;
-        }
-    }
-    false
-}
-
-// Whether a row of one navigable has it.
-fn has_state_row(rows: &[Row], state: StateId) -> bool
-    ensures { result ≡ has_state state rows.now }
-{
-    rows.iter().any(|row| row.state == state)
+    start_of(&parts.starts, state).is_some()
 }
 
 /// The row of an entry.

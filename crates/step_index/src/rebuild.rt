@@ -7,6 +7,7 @@ ghost use Rattle.entry_store.specs.Kept.{history_of, IsChanged, IsKept};
 ghost use Rattle.log_model.specs.Soundness.{is_entry};
 ghost use Rattle.tab_ids.specs.declared.EntryId.{EntryId};
 ghost use Rattle.step_index.specs.Noted.{AreNoted, NotesOne};
+ghost use Rattle.step_index.specs.Starts.{AreStarted};
 ghost use Rattle.step_index.specs.Strict.{IsStrict};
 ghost use Rattle.step_index.specs.Tracks.{rows_of, AreTracks};
 ghost use Rattle.step_index.specs.Parts.{history_in, IsIndex};
@@ -14,6 +15,7 @@ ghost use Rattle.step_index.specs.Parts.{history_in, IsIndex};
 use crate::noted::{Place, note_place};
 use crate::parts::Parts;
 use crate::places::put_last;
+use crate::starts::take_start;
 use crate::track::Track;
 use address::OutOfMemory;
 use entry_store::{Changed, StoreError, changed_rows};
@@ -21,7 +23,7 @@ use indexmap::{IndexMap, IndexSet};
 use log_model::{Change, Row};
 use std::alloc::Global;
 use std::collections::BTreeSet;
-use tab_ids::{EntryId, NavId};
+use tab_ids::{EntryId, NavId, StateId, Step};
 
 /// Makes a change.
 pub fn change_all(parts: &mut Parts, change: &Change) -> Result<(), StoreError>
@@ -91,10 +93,12 @@ fn parts_of(alloc: Global, changed: Changed) -> Result<Parts, OutOfMemory>
 {
     let tracks = tracks_of(alloc, changed.rows.as_slice())?;
     let noted = places_of(alloc, changed.rows.as_slice())?;
+    let starts = starts_of(alloc, changed.rows.as_slice())?;
     let used = step_list(alloc, &changed.used)?;
     Ok(Parts {
         tracks,
         noted,
+        starts,
         used,
         current: changed.current,
         added: changed.added,
@@ -139,6 +143,17 @@ fn note_row(noted: &mut IndexMap<EntryId, Place>, row: &Row) -> Result<(), OutOf
         },
     )?;
     Ok(())
+}
+
+// Where their document states start.
+fn starts_of(alloc: Global, rows: &[Row]) -> Result<IndexMap<StateId, Step>, OutOfMemory>
+    ensures { IfOk result (λ starts. AreStarted starts.entries rows.now) }
+{
+    let mut starts = IndexMap::new(alloc);
+    for row in rows {
+        take_start(&mut starts, row.state, row.step)?;
+    }
+    Ok(starts)
 }
 
 // The steps as a list.

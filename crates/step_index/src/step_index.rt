@@ -2,6 +2,7 @@
 ghost use Rattle.entry_store.specs.Kept.{IsKept};
 ghost use Rattle.step_index.specs.Parts.{history_in};
 ghost use Rattle.step_index.specs.Noted.{AreNoted};
+ghost use Rattle.step_index.specs.Starts.{AreStarted};
 ghost use Rattle.step_index.specs.Tracks.{rows_of, AreTracks};
 ghost use Rattle.step_index.specs.Props.{AreTracks-prop};
 
@@ -27,6 +28,7 @@ pub struct StepIndex {
     parts: Parts,
     ghost kept: { IsKept (history_in parts) parts.used.items },
     ghost noted: { AreNoted parts.noted.entries (rows_of parts.tracks.items) },
+    ghost started: { AreStarted parts.starts.entries (rows_of parts.tracks.items) },
     ghost sorted: { AreTracks parts.tracks.items } by { AreTracks-prop parts.tracks.items },
 }
 
@@ -103,7 +105,7 @@ impl Store for StepIndex {
     }
 
     fn has_state(&self, state: StateId) -> bool {
-        has_state_in(&self.parts.tracks, state)
+        has_state_in(&self.parts, state)
     }
 
     fn was_added(&self, nav: NavId) -> bool {

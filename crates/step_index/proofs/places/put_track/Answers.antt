@@ -10,10 +10,10 @@ pub returns-clause-tracks : goal.returns-clause-tracks
 returns-clause-tracks c =
     let new : Track = record { nav = c.args.row.nav; rows = c.push.new.self } in
     subst AreTracks (sym c.in_ok-insert.ensures.items)
-    (first_tracks c.args.tracks.now.items c.args.at c.args.row c.requires.tracks c.requires.gap new refl (c.in_ok-push.ensures.items ∙ ap (λ (rows : List Row). rows ++ c.args.row ∷ []) c.new-rows.ensures.items))
+    (first_tracks c.args.tracks.now.items c.args.at c.requires.tracks c.args.row c.requires.gap new refl (c.in_ok-push.ensures.items ∙ ap (λ (rows : List Row). rows ++ c.args.row ∷ []) c.new-rows.ensures.items))
 
 pub returns-clause-ok : goal.returns-clause-ok
 returns-clause-ok c =
     let new : Track = record { nav = c.args.row.nav; rows = c.push.new.self } in
     subst (λ (tracks : List Track). PutsRow (rows_of c.args.tracks.now.items) c.args.row (rows_of tracks)) (sym c.in_ok-insert.ensures.items)
-    (first_puts c.args.tracks.now.items c.args.at c.args.row c.requires.tracks c.requires.gap new refl (c.in_ok-push.ensures.items ∙ ap (λ (rows : List Row). rows ++ c.args.row ∷ []) c.new-rows.ensures.items))
+    (first_puts c.args.tracks.now.items c.args.at c.requires.tracks c.args.row c.requires.gap new refl (c.in_ok-push.ensures.items ∙ ap (λ (rows : List Row). rows ++ c.args.row ∷ []) c.new-rows.ensures.items))
