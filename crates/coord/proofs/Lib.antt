@@ -11,3 +11,4 @@ pub mod GivenLaws
 pub mod AppliedLaws
 pub mod Histories
 pub mod EndLaws
+pub mod BeginLaws

@@ -3,3 +3,4 @@ pub mod Sending
 pub mod Showing
 pub mod Taking
 pub mod Ending
+pub mod Beginning

@@ -2,6 +2,7 @@
 #![tactic(auto)]
 
 mod addressee;
+mod beginning;
 mod ending;
 mod tables;
 mod taking;

@@ -7,7 +7,7 @@ use Rattle.log_model.specs.Seen.{Seen}
 use Rattle.log_model.specs.After.{after}
 use Rattle.seen_laws.specs.Blocks.{Here, on_row, on_rows, EachPass, MayLog}
 use Rattle.seen_laws.specs.Sending.{leads, is_led}
-use Rattle.std.specs.List.{list_any}
+use Rattle.std.specs.List.{list_any, filter_map}
 use Rattle.tab_ids.specs.declared.ReqId.{ReqId}
 use Rattle.log_model.specs.declared.job.Job.{Job}
 use Rattle.log_model.specs.declared.job.Task.{Task}
@@ -62,6 +62,24 @@ legal_more_owing e out kind quiet legal may =
 -- one that owes nothing
 pub legal_more : (e : InEvent) (out : List RowKind) (kind : RowKind) → IsQuiet e kind → AreLegal e out → MayLog (here_of e out) (row_of e kind ∷ []) Anything → AreLegal e (out ++ kind ∷ [])
 legal_more e out kind quiet legal may = legal_more_owing e out kind quiet legal (λ later pays. may later tt)
+
+-- what the row itself asks of what comes later: a request that it begins asks no document any more
+abbrev pub AsksNoMore : RowKind → List LogRow → Type 0
+AsksNoMore kind later = (req : ReqId) → begins req kind ≡ true → filter_map (question_in req) later ≡ []
+
+any_last : (test : RowKind → Bool) (out : List RowKind) (kind : RowKind) → test kind ≡ true → list_any test (out ++ kind ∷ []) ≡ true
+any_last test [] kind e = or_left (test kind) false e
+any_last test (k ∷ out) kind e = or_right (test k) (any_last test out kind e)
+  where
+    or_right : (a : Bool) {b : Bool} → b ≡ true → (a || b) ≡ true
+    or_right true f = refl
+    or_right false f = f
+
+-- a row with which a request begins that asks no document
+pub legal_more_begun : (e : InEvent) (out : List RowKind) (kind : RowKind) → IsQuiet e kind → AreLegal e out → MayLog (here_of e out) (row_of e kind ∷ []) (AsksNoMore kind) → AreLegal e (out ++ kind ∷ [])
+unfolding AreLegal
+legal_more_begun e out kind quiet legal may =
+    subst (λ (rows : List LogRow). MayLog (start_of e) (row_of e e.own ∷ rows) (IsRest e (out ++ kind ∷ []))) (sym (map-append (row_of e) out (kind ∷ []))) (λ later rest. let parts = rest_more e out kind quiet later rest in each_pass_append (start_of e) (row_of e e.own ∷ map (row_of e) out) (row_of e kind ∷ []) later (legal (row_of e kind ∷ later) parts.0) (may later (λ req began. rest.asks req (any_last (begins req) out kind began))))
 
 -- at the event's end nothing comes later
 pub legal_end : (e : InEvent) (out : List RowKind) → AreLegal e out → IsPaid e out → EachPass (start_of e) (row_of e e.own ∷ map (row_of e) out) []
