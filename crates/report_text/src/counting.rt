@@ -21,55 +21,47 @@ pub fn summary(alloc: Global, world: &World) -> Result<Text, OutOfMemory>
 {
     let mut out = Vec::new(alloc);
     let _log = world.log();
-    write(alloc, &mut out, world)?;
+    write(&mut out, world)?;
     Ok(Text::of(alloc, out.as_slice())?)
 }
 
-fn write(alloc: Global, out: &mut Vec<u8>, world: &World) -> Result<(), OutOfMemory>
+fn write(out: &mut Vec<u8>, world: &World) -> Result<(), OutOfMemory>
     ensures { OnOk result (out.new.items ≡ out.old.items ++ plain_summary world.now.single) }
 {
     let length = world.store().rows()?.len() as u64;
     let current = u64::from(current_step(world).0);
-    put_requests(alloc, out, world.endings())?;
-    put_step(alloc, out, current, length, current)?;
+    put_requests(out, world.endings())?;
+    put_step(out, current, length, current)?;
     put_quiet(out, world.is_quiet())?;
     Ok(())
 }
 
 /// How many requests there were, and how many ended in each way.
-fn put_requests(
-    alloc: Global,
-    out: &mut Vec<u8>,
-    endings: &[Option<Ending>],
-) -> Result<(), OutOfMemory>
+fn put_requests(out: &mut Vec<u8>, endings: &[Option<Ending>]) -> Result<(), OutOfMemory>
     ensures { OnOk result (out.new.items ≡ out.old.items ++ spec.requests_line endings.now) }
 {
     put(out, b"requests")?;
-    put_number(alloc, out, endings.len() as u64)?;
-    put_outcomes(alloc, out, endings)?;
+    put_number(out, endings.len() as u64)?;
+    put_outcomes(out, endings)?;
     put(out, b"\n")?;
     Ok(())
 }
 
-fn put_outcomes(
-    alloc: Global,
-    out: &mut Vec<u8>,
-    endings: &[Option<Ending>],
-) -> Result<(), OutOfMemory>
+fn put_outcomes(out: &mut Vec<u8>, endings: &[Option<Ending>]) -> Result<(), OutOfMemory>
     ensures { OnOk result (out.new.items ≡ out.old.items ++ spec.outcome_words endings.now) }
 {
-    put_count(alloc, out, b" applied", applied(endings))?;
-    put_count(alloc, out, b" refused", refused(endings))?;
-    put_count(alloc, out, b" dropped", dropped(endings))?;
+    put_count(out, b" applied", applied(endings))?;
+    put_count(out, b" refused", refused(endings))?;
+    put_count(out, b" dropped", dropped(endings))?;
     Ok(())
 }
 
 /// A count after its word.
-fn put_count(alloc: Global, out: &mut Vec<u8>, word: &[u8], count: usize) -> Result<(), OutOfMemory>
+fn put_count(out: &mut Vec<u8>, word: &[u8], count: usize) -> Result<(), OutOfMemory>
     ensures { OnOk result (out.new.items ≡ out.old.items ++ (word.now ++ number_word count)) }
 {
     put(out, word)?;
-    put_number(alloc, out, count as u64)?;
+    put_number(out, count as u64)?;
     Ok(())
 }
 

@@ -3,10 +3,10 @@ ghost use Rattle.std.specs.Prelude.{◌≡◌, ◌++◌, OnOk, codes, decimal};
 ghost use Rattle.report_text.specs.Reports as spec;
 
 use address::OutOfMemory;
+use itoa::Buffer;
 use log_model::{Cause, Denial, Ending, Row};
-use std::alloc::Global;
 
-/// A text that grows at its end, with the allocator for its numbers.
+/// A text that grows at its end.
 pub(crate) fn put(out: &mut Vec<u8>, text: &[u8]) -> Result<(), OutOfMemory>
     ensures { OnOk result (out.new.items ≡ out.old.items ++ text.now) }
 {
@@ -15,28 +15,23 @@ pub(crate) fn put(out: &mut Vec<u8>, text: &[u8]) -> Result<(), OutOfMemory>
 }
 
 /// A number after a space.
-pub(crate) fn put_number(alloc: Global, out: &mut Vec<u8>, number: u64) -> Result<(), OutOfMemory>
+pub(crate) fn put_number(out: &mut Vec<u8>, number: u64) -> Result<(), OutOfMemory>
     ensures { OnOk result (out.new.items ≡ out.old.items ++ spec.number_word number) }
 {
-    let text = number.to_string(alloc)?;
+    let mut digits = Buffer::new();
     put(out, b" ")?;
-    put(out, text.as_bytes())?;
+    put(out, digits.format(number).as_bytes())?;
     Ok(())
 }
 
 /// A length and an index.
-pub(crate) fn put_pair(
-    alloc: Global,
-    out: &mut Vec<u8>,
-    length: u64,
-    index: u64,
-) -> Result<(), OutOfMemory>
+pub(crate) fn put_pair(out: &mut Vec<u8>, length: u64, index: u64) -> Result<(), OutOfMemory>
     ensures { OnOk result (out.new.items ≡ out.old.items ++ spec.pair_words length index) }
 {
     put(out, b" length")?;
-    put_number(alloc, out, length)?;
+    put_number(out, length)?;
     put(out, b" index")?;
-    put_number(alloc, out, index)?;
+    put_number(out, index)?;
     Ok(())
 }
 
@@ -54,7 +49,6 @@ pub(crate) fn put_quiet(out: &mut Vec<u8>, quiet: bool) -> Result<(), OutOfMemor
 
 /// The current step with length and index.
 pub(crate) fn put_step(
-    alloc: Global,
     out: &mut Vec<u8>,
     step: u64,
     length: u64,
@@ -63,19 +57,19 @@ pub(crate) fn put_step(
     ensures { OnOk result (out.new.items ≡ out.old.items ++ spec.step_line step length index) }
 {
     put(out, b"step")?;
-    put_number(alloc, out, step)?;
-    put_pair(alloc, out, length, index)?;
+    put_number(out, step)?;
+    put_pair(out, length, index)?;
     put(out, b"\n")?;
     Ok(())
 }
 
 /// An entry.
-pub(crate) fn put_entry(alloc: Global, out: &mut Vec<u8>, row: &Row) -> Result<(), OutOfMemory>
+pub(crate) fn put_entry(out: &mut Vec<u8>, row: &Row) -> Result<(), OutOfMemory>
     ensures { OnOk result (out.new.items ≡ out.old.items ++ spec.entry_line row.now) }
 {
     put(out, b"entry")?;
-    put_number(alloc, out, u64::from(row.nav.0))?;
-    put_number(alloc, out, u64::from(row.step.0))?;
+    put_number(out, u64::from(row.nav.0))?;
+    put_number(out, u64::from(row.step.0))?;
     put_memo(out, row)?;
     put_address(out, row)?;
     Ok(())
@@ -108,7 +102,6 @@ fn put_address(out: &mut Vec<u8>, row: &Row) -> Result<(), OutOfMemory>
 
 /// The top navigable, whose document shows its target.
 pub(crate) fn put_runs(
-    alloc: Global,
     out: &mut Vec<u8>,
     step: u64,
     length: u64,
@@ -117,41 +110,35 @@ pub(crate) fn put_runs(
     ensures { OnOk result (out.new.items ≡ out.old.items ++ spec.runs_line 0 step length index) }
 {
     put(out, b"nav")?;
-    put_number(alloc, out, 0)?;
+    put_number(out, 0)?;
     put(out, b" runs")?;
-    put_number(alloc, out, step)?;
-    put_pair_line(alloc, out, length, index)?;
+    put_number(out, step)?;
+    put_pair_line(out, length, index)?;
     Ok(())
 }
 
-fn put_pair_line(
-    alloc: Global,
-    out: &mut Vec<u8>,
-    length: u64,
-    index: u64,
-) -> Result<(), OutOfMemory>
+fn put_pair_line(out: &mut Vec<u8>, length: u64, index: u64) -> Result<(), OutOfMemory>
     ensures { OnOk result (out.new.items ≡ out.old.items ++ (spec.pair_words length index ++ spec.line_end)) }
 {
-    put_pair(alloc, out, length, index)?;
+    put_pair(out, length, index)?;
     put(out, b"\n")?;
     Ok(())
 }
 
 /// The top navigable, which is on its way to its target.
-pub(crate) fn put_moves(alloc: Global, out: &mut Vec<u8>, step: u64) -> Result<(), OutOfMemory>
+pub(crate) fn put_moves(out: &mut Vec<u8>, step: u64) -> Result<(), OutOfMemory>
     ensures { OnOk result (out.new.items ≡ out.old.items ++ spec.moves_line 0 step) }
 {
     put(out, b"nav")?;
-    put_number(alloc, out, 0)?;
+    put_number(out, 0)?;
     put(out, b" moves")?;
-    put_number(alloc, out, step)?;
+    put_number(out, step)?;
     put(out, b"\n")?;
     Ok(())
 }
 
 /// A request and how it ended.
 pub(crate) fn put_request(
-    alloc: Global,
     out: &mut Vec<u8>,
     nr: u64,
     ending: Option<Ending>,
@@ -159,13 +146,13 @@ pub(crate) fn put_request(
     ensures { OnOk result (out.new.items ≡ out.old.items ++ spec.request_line nr ending) }
 {
     put(out, b"request")?;
-    put_number(alloc, out, nr)?;
-    put_ending(alloc, out, ending)?;
+    put_number(out, nr)?;
+    put_ending(out, ending)?;
     put(out, b"\n")?;
     Ok(())
 }
 
-fn put_ending(alloc: Global, out: &mut Vec<u8>, ending: Option<Ending>) -> Result<(), OutOfMemory>
+fn put_ending(out: &mut Vec<u8>, ending: Option<Ending>) -> Result<(), OutOfMemory>
     ensures { OnOk result (out.new.items ≡ out.old.items ++ spec.ending_words ending) }
 {
     match ending {
@@ -184,7 +171,7 @@ fn put_ending(alloc: Global, out: &mut Vec<u8>, ending: Option<Ending>) -> Resul
         }
         Some(Ending::Dropped(cause)) => {
             put(out, b" dropped")?;
-            put_cause(alloc, out, cause)?;
+            put_cause(out, cause)?;
             Ok(())
         }
     }
@@ -203,7 +190,7 @@ fn denial_word(reason: Denial) -> &'static str
     }
 }
 
-fn put_cause(alloc: Global, out: &mut Vec<u8>, cause: Cause) -> Result<(), OutOfMemory>
+fn put_cause(out: &mut Vec<u8>, cause: Cause) -> Result<(), OutOfMemory>
     ensures { OnOk result (out.new.items ≡ out.old.items ++ spec.cause_words cause) }
 {
     match cause {
@@ -213,17 +200,17 @@ fn put_cause(alloc: Global, out: &mut Vec<u8>, cause: Cause) -> Result<(), OutOf
         }
         Cause::By(req) => {
             put(out, b" by")?;
-            put_number(alloc, out, u64::from(req.0))?;
+            put_number(out, u64::from(req.0))?;
             Ok(())
         }
         Cause::Destroyed(req) => {
             put(out, b" destroyed")?;
-            put_number(alloc, out, u64::from(req.0))?;
+            put_number(out, u64::from(req.0))?;
             Ok(())
         }
         Cause::Gone(death) => {
             put(out, b" gone")?;
-            put_number(alloc, out, u64::from(death.0))?;
+            put_number(out, u64::from(death.0))?;
             Ok(())
         }
     }

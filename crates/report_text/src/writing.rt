@@ -22,21 +22,21 @@ pub fn report(alloc: Global, world: &World) -> Result<Text, OutOfMemory>
 {
     let mut out = Vec::new(alloc);
     let _log = world.log();
-    write(alloc, &mut out, world)?;
+    write(&mut out, world)?;
     Ok(Text::of(alloc, out.as_slice())?)
 }
 
-fn write(alloc: Global, out: &mut Vec<u8>, world: &World) -> Result<(), OutOfMemory>
+fn write(out: &mut Vec<u8>, world: &World) -> Result<(), OutOfMemory>
     ensures { OnOk result (out.new.items ≡ out.old.items ++ plain_report world.now.single) }
 {
     let rows = entries(world)?;
     let length = rows.len() as u64;
     let current = u64::from(current_step(world).0);
     put_quiet(out, world.is_quiet())?;
-    put_step(alloc, out, current, length, current)?;
-    put_entries(alloc, out, rows.as_slice())?;
-    put_top(alloc, out, rows.as_slice(), world)?;
-    put_requests(alloc, out, world.endings())?;
+    put_step(out, current, length, current)?;
+    put_entries(out, rows.as_slice())?;
+    put_top(out, rows.as_slice(), world)?;
+    put_requests(out, world.endings())?;
     Ok(())
 }
 
@@ -54,30 +54,26 @@ pub(crate) fn current_step(world: &World) -> Step
     world.store().current()
 }
 
-fn put_entries(alloc: Global, out: &mut Vec<u8>, rows: &[Row]) -> Result<(), OutOfMemory>
+fn put_entries(out: &mut Vec<u8>, rows: &[Row]) -> Result<(), OutOfMemory>
     ensures { OnOk result (out.new.items ≡ out.old.items ++ flat_map spec.entry_line rows.now) }
 {
     for row in rows {
-        put_entry(alloc, out, row)?;
+        put_entry(out, row)?;
     }
     Ok(())
 }
 
-fn put_requests(
-    alloc: Global,
-    out: &mut Vec<u8>,
-    endings: &[Option<Ending>],
-) -> Result<(), OutOfMemory>
+fn put_requests(out: &mut Vec<u8>, endings: &[Option<Ending>]) -> Result<(), OutOfMemory>
     ensures { OnOk result (out.new.items ≡ out.old.items ++ ending_lines 1 endings.now) }
 {
     for (i, ending) in endings.iter().enumerate() {
-        put_request(alloc, out, i as u64 + 1, *ending)?;
+        put_request(out, i as u64 + 1, *ending)?;
     }
     Ok(())
 }
 
 /// The line of the top navigable: its document runs, and shows its target or is on its way there.
-fn put_top(alloc: Global, out: &mut Vec<u8>, rows: &[Row], world: &World) -> Result<(), OutOfMemory>
+fn put_top(out: &mut Vec<u8>, rows: &[Row], world: &World) -> Result<(), OutOfMemory>
     requires rows { rows.now ≡ world.now.single.history.rows }
     ensures { OnOk result (out.new.items ≡ out.old.items ++ plain_top world.now.single) }
 {
@@ -86,9 +82,9 @@ fn put_top(alloc: Global, out: &mut Vec<u8>, rows: &[Row], world: &World) -> Res
     let current = u64::from(step.0);
     let shown = is_shown(rows, step, world.view(NavId(0)));
     if shown {
-        put_runs(alloc, out, current, length, current)?;
+        put_runs(out, current, length, current)?;
     } else {
-        put_moves(alloc, out, current)?;
+        put_moves(out, current)?;
     }
     Ok(())
 }
