@@ -3,7 +3,7 @@ ghost use Rattle.std.specs.Prelude.{◌≡◌, ◌<◌, ◌≤◌, ◌==◌, if�
 ghost use Rattle.log_model.specs.Logs.{seen_of, is_still, is_idle, in_hand_of};
 ghost use Rattle.log_model.specs.Seen.{desk_of};
 ghost use Rattle.scenario_text.specs.declared.line.ScenarioLine.TheVariants as lines;
-ghost use Rattle.scenario_text.specs.Follows.{a_round, does, does_all, settles, turn_of};
+ghost use Rattle.scenario_text.specs.Follows.{a_round, does, does_all, is_passed, settles, turn_of};
 ghost use Rattle.world_laws.specs.Single.{desk_with};
 ghost use Rattle.world.specs.Steps.{IsBuilt, Steps, step_of};
 ghost use Rattle.scenario_play.specs.Courses.{IsOfHand, Plays, line_of, order_of};
@@ -104,10 +104,24 @@ pub(crate) fn act(world: &mut World, proc: ProcId) -> Result<(), StepError>
     ensures moves { OnOk result (MovesIf (has_poke world.old.single proc) world.old world.new) }
     ensures plays { Plays (does (lines.Act proc)) world.old.log result world.new.log }
 {
+    // Where no poke waits, the step would only say so.
+    if !has_poke(world, proc) {
+        return Ok(());
+    }
     match step(world, Event::Act { proc }) {
         Ok(_) => return Ok(()),
         Err(error) => return Err(error),
     }
+}
+
+/// Whether a poke waits in a process.
+fn has_poke(world: &World, proc: ProcId) -> bool
+    requires open { world.now.closed ≡ false }
+    ensures value { result ≡ has_poke world.now.single proc }
+    ensures log { result ≡ false → is_passed (seen_of world.now.log) (lines.Act proc) ≡ true }
+{
+    let _stands = world.log();
+    world.waiting(proc).input > 0
 }
 
 /// Lets the process finish the order in hand, or else take one up and finish it.
@@ -194,12 +208,27 @@ fn begin(world: &mut World, proc: ProcId) -> Result<(), StepError>
     ensures moves { OnOk result (MovesIf (has_mail world.old.single proc) world.old world.new) }
     ensures plays { Plays (does_all (lines.Begin proc ∷ lines.Finish proc ∷ [])) world.old.log result world.new.log }
 {
+    // Where no order waits, the step would only say so.
+    if !has_mail(world, proc) {
+        return Ok(());
+    }
     let reply = step(world, Event::Begin { proc })?;
     let _stands = world.log();
     match taken(reply) {
         Some(order) => finish(world, proc, order),
         None => Ok(()),
     }
+}
+
+/// Whether an order waits in a process that has none in hand.
+fn has_mail(world: &World, proc: ProcId) -> bool
+    requires open { world.now.closed ≡ false }
+    requires free { in_hand_of world.now.log proc ≡ None }
+    ensures value { result ≡ has_mail world.now.single proc }
+    ensures log { result ≡ false → is_passed (seen_of world.now.log) (lines.Begin proc) ≡ true }
+{
+    let _stands = world.log();
+    world.waiting(proc).mail > 0
 }
 
 /// The order that a process took up, if it did.
