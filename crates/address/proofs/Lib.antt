@@ -5,3 +5,4 @@ pub mod Fragments
 pub mod Urls
 pub mod Written
 pub mod Roots
+pub mod Parts
