@@ -136,3 +136,12 @@ fn two_addresses_are_compared(rt: HostRuntime) -> Result<(), Fail> {
     }
     Ok(())
 }
+
+#[test]
+fn a_part_of_a_text_is_what_stands_there(rt: HostRuntime) -> Result<(), Fail> {
+    let line = Text::from_vec(Vec::from_slice(rt.alloc(), b"push 0 memo")?)?;
+    let memo = line.part(7, 11)?;
+    assert_eq!(rt; memo.bytes(), b"memo".as_slice());
+    assert_eq!(rt; memo.part(1, 3)?.copy()?.bytes(), b"em".as_slice());
+    Ok(())
+}
