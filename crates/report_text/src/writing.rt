@@ -23,7 +23,7 @@ pub fn report(alloc: Global, world: &World) -> Result<Text, OutOfMemory>
     let mut out = Vec::new(alloc);
     let _log = world.log();
     write(&mut out, world)?;
-    Ok(Text::of(alloc, out.as_slice())?)
+    Text::from_vec(out)
 }
 
 fn write(out: &mut Vec<u8>, world: &World) -> Result<(), OutOfMemory>
