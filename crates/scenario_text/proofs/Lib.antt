@@ -14,3 +14,6 @@ pub mod MomentLaws
 pub mod FollowExamples
 pub mod SameRequest
 pub mod CutLaws
+pub mod StandingLaws
+pub mod CommentLaws
+pub mod PlaceLaws

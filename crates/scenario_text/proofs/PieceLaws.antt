@@ -1,9 +1,10 @@
 -- Cutting a text at its first separator, again and again.
-use Rattle.std.proofs.Common.{◌≡◌, ℕ, ◌+◌, ◌<◌, ◌≤◌, List, [], ◌∷◌, length, take, drop, Bool, true, false, cond, Some, None, refl, subst, arith}
+use Rattle.std.proofs.Common.{◌≡◌, ℕ, ◌+◌, ◌<◌, ◌≤◌, List, [], ◌∷◌, length, take, drop, All, Bool, true, false, cond, Some, None, refl, subst, arith}
 use Rattle.std.proofs.Math.Dec.{eqb, ltb}
 use Rattle.std.specs.List.{position, position_or_len, slice_split}
 use Rattle.std.proofs.lemmas.Option.{cond_some}
 use Rattle.std.proofs.lemmas.Bool.{ltb-true, ltb-false}
+use Rattle.std.proofs.lemmas.List.{get_or-take, length-take-le}
 use Rattle.std.proofs.lemmas.List.Elements.{All-from_get_or}
 use Rattle.std.proofs.lemmas.List.Sums.{fails_before_first}
 use Rattle.std.proofs.lemmas.List.Splits.{slice_split_first, slice_split_none, length-slice_split}
@@ -31,6 +32,16 @@ pieces_only separator bytes none =
     let p = λ (b : ℕ). eqb b separator in
     let outside : length bytes ≤ position_or_len p bytes = ltb-false _ _ (is_false _ _ none) in
     slice_split_none p bytes (All-from_get_or (λ b. p b ≡ false) bytes 0 (λ i inside. fails_before_first p bytes i 0 (omega arith)))
+
+-- nothing before the first separator is one
+pub none_before : (separator : ℕ) (bytes : List ℕ) (at : ℕ) → position (λ b. eqb b separator) bytes ≡ Some at → All (λ b. eqb b separator ≡ false) (take at bytes)
+none_before separator bytes at found =
+    let p = λ (b : ℕ). eqb b separator in
+    let both = cond_some (ltb (position_or_len p bytes) (length bytes)) (position_or_len p bytes) at found in
+    let inside : position_or_len p bytes < length bytes = ltb-true _ _ both.0 in
+    let first : position_or_len p bytes ≡ at = both.1 in
+    let long : length (take at bytes) ≡ at = length-take-le at bytes (omega (arith, inside, first)) in
+    All-from_get_or (λ b. p b ≡ false) (take at bytes) 0 (λ i below. rw (get_or-take at bytes i 0 (omega (arith, long, below))) (fails_before_first p bytes i 0 (omega (arith, long, below, first))))
 
 -- there is at least one piece
 pub length-pieces : (separator : ℕ) (bytes : List ℕ) → 0 < length (pieces separator bytes)

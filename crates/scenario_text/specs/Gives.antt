@@ -18,6 +18,10 @@ IsReason faults.OutOfMemory expected = Unit {0}
 abbrev pub GivesLine : {X : Type 0} → Result X LineError → Result X Reason → Type 0
 GivesLine result expected = MatchResult result (λ x. expected ≡ Ok x) (λ e. IsReason e expected)
 
+-- the same where a line is read into a value in hand
+abbrev pub LeavesPlace : {U X : Type 0} → Result U LineError → X → Result X Reason → Type 0
+LeavesPlace result new expected = MatchResult result (λ _. expected ≡ Ok new) (λ e. IsReason e expected)
+
 -- the error of a line, with the line's number
 abbrev pub IsFaultAt : ScenarioError → ℕ → LineError → Type 0
 IsFaultAt result line (faults.Faulty reason) = result ≡ errors.Refused (record { line = line; reason = reason })

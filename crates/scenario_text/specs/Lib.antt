@@ -13,3 +13,6 @@ pub mod Grammar
 pub mod Written
 pub mod Follows
 pub mod Printed
+pub mod Standing
+pub mod Comments
+pub mod Added

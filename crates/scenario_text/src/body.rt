@@ -3,11 +3,12 @@ ghost use Rattle.std.specs.Prelude.{◌≡◌, ◌&&◌, IfOk};
 ghost use Rattle.scenario_text.specs.Body as spec;
 ghost use Rattle.scenario_text.specs.Plays.{is_step};
 ghost use Rattle.scenario_text.specs.Gives.{GivesLine};
+ghost use Rattle.scenario_text.specs.Standing.{IsSplit};
 ghost use Rattle.scenario_text.specs.Written.{IsWrittenLine};
 
 use crate::built::{Built, is_step};
 use crate::fault::LineError;
-use crate::fields::words;
+use crate::fields::Split;
 use crate::line::ScenarioLine;
 use crate::reason::Reason;
 use crate::requests::{
@@ -19,22 +20,24 @@ use crate::steps::{
     settle_line,
 };
 use crate::word::Word;
+use address::Text;
 use std::alloc::Global;
 
 /// The line that bytes spell.
 #[tactic(auto, unfolding(crate::specs::Body::body_line))]
-fn body_line(alloc: Global, line: &[u8]) -> Result<ScenarioLine, LineError>
+fn body_line(alloc: Global, line: &Text, split: Split<'_>) -> Result<ScenarioLine, LineError>
+    requires words { IsSplit split line.now }
     ensures read { GivesLine result (spec.body_line line.now) }
     ensures written { IfOk result (λ line. IsWrittenLine line) }
 {
-    let (word, fields) = words(line);
+    let Split { word, fields, .. } = split;
     match Word::of(word) {
         Some(Word::Load) => load_line(alloc, fields),
         Some(Word::Go) => go_line(fields),
         Some(Word::Reload) => reload_line(fields),
-        Some(Word::Push) => push_line(alloc, fields),
-        Some(Word::Replace) => replace_line(alloc, fields),
-        Some(Word::Fragment) => fragment_line(alloc, fields),
+        Some(Word::Push) => push_line(line, fields),
+        Some(Word::Replace) => replace_line(line, fields),
+        Some(Word::Fragment) => fragment_line(line, fields),
         Some(Word::Frame) => frame_line(fields),
         Some(Word::Remove) => remove_line(fields),
         Some(Word::DocGo) => docgo_line(fields),
@@ -77,12 +80,14 @@ pub fn played_line(
     alloc: Global,
     in_run: bool,
     built: Built,
-    line: &[u8],
+    line: &Text,
+    split: Split<'_>,
 ) -> Result<ScenarioLine, LineError>
+    requires words { IsSplit split line.now }
     ensures read { GivesLine result (spec.played_line in_run built line.now) }
     ensures written { IfOk result (λ line. IsWrittenLine line) }
 {
-    let spelled = body_line(alloc, line)?;
+    let spelled = body_line(alloc, line, split)?;
     match caller_fault(in_run, built, &spelled) {
         None => Ok(spelled),
         Some(reason) => Err(LineError::Faulty(reason)),

@@ -6,7 +6,7 @@ ghost use Rattle.scenario_text.specs.Gives.{GivesLine};
 ghost use Rattle.scenario_text.specs.Written.{Each, IsWrittenOrigin, IsWrittenBase, IsWrittenSite, IsWrittenPage, AreWrittenSettings, IsWrittenPlace};
 
 use crate::fault::LineError;
-use crate::fields::{Fields, words};
+use crate::fields::{Fields, Split, words};
 use crate::head_word::HeadWord;
 use crate::line::Lines;
 use crate::place::{Place, Settings, Stage};
@@ -172,7 +172,7 @@ pub fn heading_line(
     ensures read { GivesLine result (spec.heading_line stage settings line.now) }
     ensures written { IfOk result (λ place. IsWrittenPlace place) }
 {
-    let (word, fields) = words(line);
+    let Split { word, fields, .. } = words(line);
     match HeadWord::due(stage, word) {
         Some(HeadWord::Keep) => keep_line(settings, fields),
         Some(HeadWord::Site) => site_line(alloc, settings, fields),

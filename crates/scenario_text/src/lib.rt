@@ -3,6 +3,7 @@
 
 mod body;
 mod built;
+mod comments;
 mod cut;
 mod error;
 mod fault;
@@ -18,6 +19,7 @@ mod readings;
 mod reason;
 mod requests;
 mod scenario;
+mod share;
 mod steps;
 mod word;
 mod words;

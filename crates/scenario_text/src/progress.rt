@@ -1,18 +1,24 @@
 //! What a line makes of its place.
-ghost use Rattle.std.specs.Prelude.{◌≡◌, IfOk};
+ghost use Rattle.std.specs.Prelude.{◌≡◌, IfOk, OnOk};
 ghost use Rattle.std.specs.List.{list_all};
 ghost use Rattle.scenario_text.specs.Grammar as spec;
-ghost use Rattle.scenario_text.specs.Gives.{GivesLine};
-ghost use Rattle.scenario_text.specs.Written.{IsWrittenPlace};
+ghost use Rattle.scenario_text.specs.Gives.{GivesLine, LeavesPlace};
+ghost use Rattle.scenario_text.specs.Added.{with_line};
+ghost use Rattle.scenario_text.specs.Standing.{IsSplit, Stands};
+ghost use Rattle.scenario_text.specs.Written.{Each, IsWrittenLine, IsWrittenPlace};
 
 use crate::body::played_line;
 use crate::built::Built;
-use crate::cut::cut;
 use crate::fault::LineError;
+use crate::fields::{Split, words};
 use crate::heading::{heading_line, plain_settings};
+use crate::line::Lines;
 use crate::place::{Place, Stage};
 use crate::reason::Reason;
+use crate::share::shared;
+use address::Text;
 use std::alloc::Global;
+use std::mem;
 
 /// The place after a line that isn't passed over.
 #[tactic(auto, using(crate::proofs::WrittenLaws::one_more), unfolding(crate::specs::Grammar::after_counted))]
@@ -21,37 +27,82 @@ fn after_counted(
     in_run: bool,
     built: Built,
     place: Place,
-    line: &[u8],
+    line: &Text,
+    split: Split<'_>,
 ) -> Result<Place, LineError>
-    requires { IsWrittenPlace place }
+    requires written { IsWrittenPlace place }
+    requires words { IsSplit split line.now }
     ensures read { GivesLine result (spec.after_counted in_run built place line.now) }
     ensures written { IfOk result (λ place. IsWrittenPlace place) }
 {
     match place {
         Place::Start => {
-            if line == b"session 1".as_slice() {
+            if line.bytes() == b"session 1".as_slice() {
                 Ok(Place::Heading(Stage::Version, plain_settings(alloc)))
             } else {
                 Err(LineError::Faulty(Reason::Header))
             }
         }
         Place::Heading(stage, settings) => {
-            let next = heading_line(alloc, stage, settings, line)?;
+            let next = heading_line(alloc, stage, settings, line.bytes())?;
             if !built.plays_place(&next) {
                 return Err(LineError::Faulty(Reason::Unbuilt));
             }
             Ok(next)
         }
         Place::Body(header, mut lines) => {
-            let line = played_line(alloc, in_run, built, line)?;
+            let line = played_line(alloc, in_run, built, line, split)?;
             lines.push(line)?;
             Ok(Place::Body(header, lines))
         }
     }
 }
 
+/// Adds a line after `open` to those before.
+#[tactic(auto, using(crate::proofs::WrittenLaws::one_more))]
+fn add_line(
+    alloc: Global,
+    in_run: bool,
+    built: Built,
+    lines: &mut Lines,
+    line: &Text,
+    split: Split<'_>,
+) -> Result<(), LineError>
+    requires written { Each IsWrittenLine lines.old }
+    requires words { IsSplit split line.now }
+    ensures read { LeavesPlace result lines.new (with_line in_run built lines.old line.now) }
+    ensures written { OnOk result (Each IsWrittenLine lines.new) }
+{
+    let added = played_line(alloc, in_run, built, line, split)?;
+    lines.push(added)?;
+    Ok(())
+}
+
+/// Goes on by a line that isn't passed over. The lines after `open` stay where they are.
+#[tactic(auto, unfolding(crate::specs::Grammar::after_counted))]
+fn go_on(
+    alloc: Global,
+    in_run: bool,
+    built: Built,
+    place: &mut Place,
+    line: &Text,
+    split: Split<'_>,
+) -> Result<(), LineError>
+    requires written { IsWrittenPlace place.old }
+    requires words { IsSplit split line.now }
+    ensures read { LeavesPlace result place.new (spec.after_counted in_run built place.old line.now) }
+    ensures written { OnOk result (IsWrittenPlace place.new) }
+{
+    if let Place::Body(_, lines) = place {
+        return add_line(alloc, in_run, built, lines, line, split);
+    }
+    let before = mem::replace(place, Place::Start);
+    *place = after_counted(alloc, in_run, built, before, line, split)?;
+    Ok(())
+}
+
 /// Whether all bytes of a line are such as it may have.
-fn is_plain(line: &[u8]) -> bool
+pub fn is_plain(line: &[u8]) -> bool
     ensures { result ≡ list_all spec.is_plain line.now }
 {
     // With no early end, so that many bytes are looked at together.
@@ -63,7 +114,7 @@ fn is_plain(line: &[u8]) -> bool
 }
 
 /// Whether a line is empty or a comment.
-fn is_passed_over(line: &[u8]) -> bool
+pub fn is_passed_over(line: &[u8]) -> bool
     ensures { result ≡ spec.is_passed_over line.now }
 {
     match line {
@@ -72,41 +123,32 @@ fn is_passed_over(line: &[u8]) -> bool
     }
 }
 
-/// Whether a line begins or ends with a space, or has two spaces together.
-fn has_empty_word(line: &[u8]) -> bool
-    ensures { result ≡ spec.has_empty_word line.now }
-{
-    let mut rest = line;
-    'words: while let Some((word, after)) = cut(rest, b' ') {
-        if word.is_empty() {
-            return true;
-        }
-        rest = after;
-    }
-    rest.is_empty()
-}
-
-/// The place after a line.
+/// Goes on by a line of a text, after which so many bytes of the text follow.
 #[tactic(auto, unfolding(crate::specs::Grammar::after_line))]
-pub fn after_line(
+pub fn take_line(
     alloc: Global,
     in_run: bool,
     built: Built,
-    place: Place,
+    place: &mut Place,
+    text: &Text,
     line: &[u8],
-) -> Result<Place, LineError>
-    requires { IsWrittenPlace place }
-    ensures read { GivesLine result (spec.after_line in_run built place line.now) }
-    ensures written { IfOk result (λ place. IsWrittenPlace place) }
+    after: usize,
+) -> Result<(), LineError>
+    requires written { IsWrittenPlace place.old }
+    requires stands { Stands text.now line.now after }
+    ensures read { LeavesPlace result place.new (spec.after_line in_run built place.old line.now) }
+    ensures written { OnOk result (IsWrittenPlace place.new) }
 {
     if !is_plain(line) {
         return Err(LineError::Faulty(Reason::Bytes));
     }
     if is_passed_over(line) {
-        return Ok(place);
+        return Ok(());
     }
-    if has_empty_word(line) {
+    let split = words(line);
+    if split.has_empty {
         return Err(LineError::Faulty(Reason::Spaces));
     }
-    after_counted(alloc, in_run, built, place, line)
+    let line = shared(text, line, after)?;
+    go_on(alloc, in_run, built, place, &line, split)
 }

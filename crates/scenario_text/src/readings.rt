@@ -4,10 +4,12 @@ ghost use Rattle.address.specs.Addresses.{IsAddress};
 ghost use Rattle.scenario_text.specs.Readings as spec;
 ghost use Rattle.scenario_text.specs.Written.{IsWrittenOrigin, IsWrittenBase};
 ghost use Rattle.scenario_text.specs.Gives.{GivesLine};
+ghost use Rattle.scenario_text.specs.Standing.{Stands};
 
 use crate::fault::LineError;
 use crate::number::number_of;
 use crate::reason::Reason;
+use crate::share::shared;
 use address::{Address, AddressError, OutOfMemory, Text};
 use log_model::Mode;
 use std::alloc::Global;
@@ -89,8 +91,9 @@ pub fn stay_of(bytes: &[u8]) -> Result<bool, LineError>
     }
 }
 
-/// A memo; `-` is none.
-pub fn memo_of(alloc: Global, bytes: &[u8]) -> Result<Option<Text>, LineError>
+/// A memo, after which so many bytes of the line follow; `-` is none.
+pub fn memo_of(line: &Text, bytes: &[u8], after: usize) -> Result<Option<Text>, LineError>
+    requires { Stands line.now bytes.now after }
     ensures { GivesLine result (spec.memo_of bytes.now) }
 {
     if bytes == b"-".as_slice() {
@@ -99,18 +102,19 @@ pub fn memo_of(alloc: Global, bytes: &[u8]) -> Result<Option<Text>, LineError>
     if bytes.is_empty() || bytes.len() > 64 {
         return Err(LineError::Faulty(Reason::Memo));
     }
-    let memo = Text::of(alloc, bytes)?;
+    let memo = shared(line, bytes, after)?;
     Ok(Some(memo))
 }
 
-/// A reference or the text of a fragment, which is read once a document acts on it.
-pub fn text_of(alloc: Global, bytes: &[u8]) -> Result<Text, LineError>
+/// A reference or the text of a fragment, the last word of the line, which is read once a document acts on it.
+pub fn text_of(line: &Text, bytes: &[u8]) -> Result<Text, LineError>
+    requires { Stands line.now bytes.now 0 }
     ensures { GivesLine result (spec.text_of bytes.now) }
 {
     if bytes.is_empty() || bytes.len() > 2_048 {
         return Err(LineError::Faulty(Reason::UrlLength));
     }
-    let text = Text::of(alloc, bytes)?;
+    let text = shared(line, bytes, 0)?;
     Ok(text)
 }
 

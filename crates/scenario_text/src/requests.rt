@@ -1,6 +1,6 @@
 //! The lines of requests.
 ghost use Rattle.std.specs.Prelude.{◌≡◌, IfOk};
-ghost use Rattle.scenario_text.specs.Words.{shown};
+ghost use Rattle.scenario_text.specs.Words.{shown, split_words, words_of};
 ghost use Rattle.scenario_text.specs.Body as spec;
 ghost use Rattle.scenario_text.specs.Gives.{GivesLine};
 ghost use Rattle.scenario_text.specs.Written.{IsWrittenLine};
@@ -53,23 +53,24 @@ fn nav_and_child(fields: Fields<'_>) -> Result<(NavId, NavId), LineError>
 }
 
 /// NAV MEMO, or NAV MEMO REF.
-#[tactic(auto, unfolding(crate::specs::Body::entry_fields))]
+#[tactic(auto, using(crate::proofs::StandingLaws::words_stand), unfolding(crate::specs::Body::entry_fields))]
 fn entry_fields(
-    alloc: Global,
+    line: &Text,
     fields: Fields<'_>,
 ) -> Result<(NavId, Option<Text>, Option<Text>), LineError>
+    requires fields { shown fields ≡ (split_words (words_of line.now)).1 }
     ensures { GivesLine result (spec.entry_fields (shown fields.entry)) }
 {
     match fields {
         Fields::Two(nav, memo) => {
             let nav = nav_of(nav)?;
-            let memo = memo_of(alloc, memo)?;
+            let memo = memo_of(line, memo, 0)?;
             Ok((nav, memo, None))
         }
         Fields::Three(nav, memo, reference) => {
             let nav = nav_of(nav)?;
-            let memo = memo_of(alloc, memo)?;
-            let reference = text_of(alloc, reference)?;
+            let memo = memo_of(line, memo, reference.len() + 1)?;
+            let reference = text_of(line, reference)?;
             Ok((nav, memo, Some(reference)))
         }
         Fields::Zero | Fields::One(_) | Fields::More => Err(LineError::Faulty(Reason::Count)),
@@ -120,32 +121,35 @@ pub fn reload_line(fields: Fields<'_>) -> Result<ScenarioLine, LineError>
 }
 
 #[tactic(auto, unfolding(crate::specs::Body::push_line))]
-pub fn push_line(alloc: Global, fields: Fields<'_>) -> Result<ScenarioLine, LineError>
+pub fn push_line(line: &Text, fields: Fields<'_>) -> Result<ScenarioLine, LineError>
+    requires fields { shown fields ≡ (split_words (words_of line.now)).1 }
     ensures read { GivesLine result (spec.push_line (shown fields.entry)) }
     ensures written { IfOk result (λ line. IsWrittenLine line) }
 {
-    let (nav, memo, reference) = entry_fields(alloc, fields)?;
+    let (nav, memo, reference) = entry_fields(line, fields)?;
     Ok(poke(nav, Action::Push { memo, reference }))
 }
 
 #[tactic(auto, unfolding(crate::specs::Body::replace_line))]
-pub fn replace_line(alloc: Global, fields: Fields<'_>) -> Result<ScenarioLine, LineError>
+pub fn replace_line(line: &Text, fields: Fields<'_>) -> Result<ScenarioLine, LineError>
+    requires fields { shown fields ≡ (split_words (words_of line.now)).1 }
     ensures read { GivesLine result (spec.replace_line (shown fields.entry)) }
     ensures written { IfOk result (λ line. IsWrittenLine line) }
 {
-    let (nav, memo, reference) = entry_fields(alloc, fields)?;
+    let (nav, memo, reference) = entry_fields(line, fields)?;
     Ok(poke(nav, Action::Replace { memo, reference }))
 }
 
-#[tactic(auto, unfolding(crate::specs::Body::fragment_line))]
-pub fn fragment_line(alloc: Global, fields: Fields<'_>) -> Result<ScenarioLine, LineError>
+#[tactic(auto, using(crate::proofs::StandingLaws::words_stand), unfolding(crate::specs::Body::fragment_line))]
+pub fn fragment_line(line: &Text, fields: Fields<'_>) -> Result<ScenarioLine, LineError>
+    requires fields { shown fields ≡ (split_words (words_of line.now)).1 }
     ensures read { GivesLine result (spec.fragment_line (shown fields.entry)) }
     ensures written { IfOk result (λ line. IsWrittenLine line) }
 {
     match fields {
         Fields::Two(nav, text) => {
             let nav = nav_of(nav)?;
-            let text = text_of(alloc, text)?;
+            let text = text_of(line, text)?;
             Ok(poke(nav, Action::Fragment { text }))
         }
         Fields::Zero | Fields::One(_) | Fields::Three(_, _, _) | Fields::More => {

@@ -8,12 +8,13 @@ ghost use Rattle.scenario_text.specs.Gives.{Reads};
 ghost use Rattle.scenario_text.specs.declared.place.Place.TheVariants as places;
 
 use crate::built::Built;
+use crate::comments::without_comments;
 use crate::cut::cut;
 use crate::error::{Refusal, ScenarioError};
 use crate::line::Lines;
 use crate::place::Place;
 use crate::printing::{put_header, put_lines};
-use crate::progress::after_line;
+use crate::progress::take_line;
 use crate::reason::Reason;
 use address::{OutOfMemory, Text};
 use log_model::Header;
@@ -64,25 +65,34 @@ fn at_end(number: u32, place: Place, rest: &[u8]) -> Result<Scenario, ScenarioEr
 }
 
 /// What the lines of a text give.
+#[tactic(auto, using(crate::proofs::StandingLaws::lines_stand))]
 fn read_lines(
     alloc: Global,
     in_run: bool,
     built: Built,
-    bytes: &[u8],
+    text: &Text,
 ) -> Result<Scenario, ScenarioError>
-    ensures read { Reads result (read_pieces in_run built 1 places.Start (pieces 10 bytes.now)) }
+    ensures read { Reads result (read_pieces in_run built 1 places.Start (pieces 10 text.now)) }
 {
     let mut place = Place::Start;
-    let mut rest = bytes;
+    let mut rest = text.bytes();
     let mut number: u32 = 1;
     'lines: while let Some((line, after)) = cut(rest, b'\n') {
         if number > 65_536 {
             return Err(refused(number, Reason::TooMany));
         }
-        place = match after_line(alloc, in_run, built, place, line) {
-            Ok(next) => next,
+        match take_line(
+            alloc,
+            in_run,
+            built,
+            &mut place,
+            text,
+            line,
+            after.len() + 1,
+        ) {
+            Ok(()) => (),
             Err(e) => return Err(e.at(number)),
-        };
+        }
         rest = after;
         number += 1;
     }
@@ -105,7 +115,8 @@ impl Scenario {
         if bytes.len() > 4_194_304 {
             return Err(refused(0, Reason::TooLong));
         }
-        read_lines(alloc, in_run, built, bytes)
+        let text = without_comments(alloc, bytes)?;
+        read_lines(alloc, in_run, built, &text)
     }
 
     /// The text that spells the scenario; `keep` always has its line.
