@@ -64,7 +64,7 @@ left_noted old rows gone left new less part apart are =
 
 -- ---- what lies past a number
 
-filter_none : {A : Type 0} (p : A → Bool) (xs : List A) → list_any p xs ≡ false → filter p xs ≡ []
+pub filter_none : {A : Type 0} (p : A → Bool) (xs : List A) → list_any p xs ≡ false → filter p xs ≡ []
 filter_none p [] none = refl
 filter_none p (x ∷ xs) none =
     let both = or_parts (p x) (list_any p xs) none in rw both.0 (filter_none p xs both.1)
@@ -87,7 +87,7 @@ module _ {A : Type 0} (number : A → ℕ) where
 
 -- ---- one track
 
-ascending_filter : {A : Type 0} (number : A → ℕ) (p : A → Bool) (items : List A) → IsAscending number items → IsAscending number (filter p items)
+pub ascending_filter : {A : Type 0} (number : A → ℕ) (p : A → Bool) (items : List A) → IsAscending number items → IsAscending number (filter p items)
 ascending_filter number p [] sorted = tt
 ascending_filter {A} number p (item ∷ items) sorted =
     elim (p item) as (λ b. IsAscending number (cond b (item ∷ filter p items) (filter p items))) [

@@ -8,5 +8,7 @@ pub mod Rebuilding
 pub mod Pushing
 pub mod Replacing
 pub mod Cutting
+pub mod Counting
+pub mod Removing
 pub mod First
 pub mod Framing

@@ -32,7 +32,7 @@ use Rattle.step_index.specs.Tracks.{rows_of, AreTracks, IsTrackAt, is_from}
 use Rattle.step_index.specs.Cut.{rows_upto, rows_past, NotesLess}
 use Rattle.step_index.proofs.Tracking.{rows_at}
 use Rattle.step_index.proofs.Replacing.{filter-all}
-use Rattle.step_index.proofs.Cutting.{left_noted}
+use Rattle.step_index.proofs.Counting.{count_split, rest_noted}
 
 -- a step behind all
 pub with_step-last : (step : ℕ) (steps : List ℕ) → list_any (λ other. nat_le step other) steps ≡ false → with_step step steps ≡ steps ++ step ∷ []
@@ -81,38 +81,11 @@ clean_last history sound last = cleared-last history sound last ∙ sym (all_upt
 
 -- ---- what is noted of them
 
-count_split : (p q : Row → Bool) (xs : List Row) → count_by p (filter q xs) + count_by p (filter (λ x. not (q x)) xs) ≡ count_by p xs
-count_split p q [] = refl
-count_split p q (x ∷ xs) =
-    elim (q x) as (λ b. count_by p (cond b (x ∷ filter q xs) (filter q xs)) + count_by p (cond (not b) (x ∷ filter (λ y. not (q y)) xs) (filter (λ y. not (q y)) xs)) ≡ count_by p (x ∷ xs)) [
-      | true ↦ omega (arith, count_split p q xs, sum_by-cons (λ y. cond (p y) 1 0) x (filter q xs), sum_by-cons (λ y. cond (p y) 1 0) x xs)
-      | false ↦ omega (arith, count_split p q xs, sum_by-cons (λ y. cond (p y) 1 0) x (filter (λ y. not (q y)) xs), sum_by-cons (λ y. cond (p y) 1 0) x xs)
-    ]
-
-counted : (p : Row → Bool) (xs : List Row) → list_any p xs ≡ true → 0 < count_by p xs
-counted p xs any = by_count (count_by p xs) refl
-  where
-    by_count : (n : ℕ) → count_by p xs ≡ n → 0 < count_by p xs
-    by_count zero none = absurd (false≢true (sym (list_any-zero p xs none) ∙ any))
-    by_count (suc n) some = omega (arith, some)
-
 pub upto_noted : (old new : List (EntryId × Place)) (current : ℕ) (rows : List Row) → ((entry : EntryId) → count_by (is_entry entry) rows ≤ 1) → NotesLess old (rows_past current rows) new → AreNoted old rows → AreNoted new (rows_upto current rows)
 upto_noted old new current rows once less are =
-    left_noted old rows (rows_past current rows) (rows_upto current rows) new less
-    (λ row there. IsIn-filter (λ (r : Row). nat_le r.step.0 current) rows row there)
-    (λ row there.
-    elim (cases_Bool (list_any (is_entry row.entry) (rows_past current rows))) [
-      | inl twice ↦
-          absurd (omega (
-            arith,
-            once row.entry,
-            count_split (is_entry row.entry) (λ (r : Row). nat_le r.step.0 current) rows,
-            counted (is_entry row.entry) (rows_past current rows) twice,
-            counted (is_entry row.entry) (rows_upto current rows) (there (is_entry row.entry) (Rattle.step_index.proofs.Noting.same_entry-refl row.entry)),
-          ))
-      | inr not_there ↦ not_there
-    ])
-    are
+    rest_noted old new rows (rows_past current rows) (rows_upto current rows) once
+    (λ test. count_split test (λ (r : Row). nat_le r.step.0 current) rows)
+    (λ row there. IsIn-filter (λ (r : Row). nat_le r.step.0 current) rows row there) less are
 
 -- ---- the same, in the history that stands before and after room was made
 

@@ -38,6 +38,7 @@ returns-clause-index c =
       tracks = done.filed.tracks;
       noted = done.filed.noted;
       started = done.filed.started;
+      counted = done.counted;
     }
 
 pub returns-clause-fits : goal.returns-clause-fits

@@ -49,6 +49,7 @@ returns-clause-index c =
       tracks = c.put_cleared.ensures.filed.tracks;
       noted = c.put_cleared.ensures.filed.noted;
       started = c.put_cleared.ensures.filed.started;
+      counted = c.put_cleared.ensures.counted;
     }
 
 pub returns-clause-fits : goal.returns-clause-fits

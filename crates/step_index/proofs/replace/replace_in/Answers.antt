@@ -19,6 +19,7 @@ returns-in_ok-put_over-in-Some-clause-index c =
       tracks = over.filed.tracks;
       noted = over.filed.noted;
       started = over.filed.started;
+      counted = over.counted;
     }
 
 pub returns-in_ok-put_over-in-Some-clause-ok : goal.returns-in_ok-put_over-in-Some-clause-ok
