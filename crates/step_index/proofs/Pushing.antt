@@ -32,6 +32,7 @@ use Rattle.step_index.specs.Tracks.{rows_of, AreTracks, IsTrackAt, is_from}
 use Rattle.step_index.specs.Cut.{rows_upto, rows_past, NotesLess}
 use Rattle.step_index.proofs.Tracking.{rows_at}
 use Rattle.step_index.proofs.Replacing.{filter-all}
+use Rattle.step_index.proofs.Cutting.{filter_none}
 use Rattle.step_index.proofs.Counting.{count_split, rest_noted}
 
 -- a step behind all
@@ -75,6 +76,13 @@ pub all_upto : (current : ℕ) (rows : List Row) → greatest_step rows ≤ curr
 all_upto current rows last =
     filter-all (λ (row : Row). nat_le row.step.0 current) rows (λ row there.
     le-leb row.step.0 current (ltb-false current row.step.0 (none_passes (λ (r : Row). nat_lt current r.step.0) rows (none_beyond current rows last) row there)))
+
+-- and none goes
+pub none_past : (current : ℕ) (rows : List Row) → greatest_step rows ≤ current → rows_past current rows ≡ []
+none_past current rows last =
+    filter_none (λ (row : Row). not (nat_le row.step.0 current)) rows
+    (list_any-none (λ (row : Row). not (nat_le row.step.0 current)) rows (λ row there.
+    ap not (le-leb row.step.0 current (ltb-false current row.step.0 (none_passes (λ (r : Row). nat_lt current r.step.0) rows (none_beyond current rows last) row there)))))
 
 pub clean_last : (history : History) → IsSound history → greatest_step history.rows ≤ history.current → cleared history ≡ rows_upto history.current history.rows
 clean_last history sound last = cleared-last history sound last ∙ sym (all_upto history.current history.rows last)

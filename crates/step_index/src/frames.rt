@@ -135,6 +135,7 @@ fn put_frame(parts: &mut Parts, row: Row) -> Result<(), OutOfMemory>
     ensures rows { OnOk result (PutsRow (rows_of parts.old.tracks.items) row (rows_of parts.new.tracks.items)) }
     ensures added { OnOk result (parts.new.added.keys ≡ parts.old.added.keys ++ row.nav ∷ []) }
     ensures err { OnErr result (history_in parts.new ≡ history_in parts.old) }
+    ensures counts { OnErr result (parts.new.counts.entries ≡ parts.old.counts.entries) }
     ensures used { parts.new.used.items ≡ parts.old.used.items }
     ensures current { parts.new.current ≡ parts.old.current }
 {

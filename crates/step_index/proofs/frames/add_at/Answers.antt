@@ -11,7 +11,7 @@ use Rattle.entry_store.specs.Kept.{IsKept}
 use Rattle.entry_store.proofs.AddLaw.{frame_fits}
 use Rattle.step_index.specs.Tracks.{rows_of}
 use Rattle.step_index.specs.Parts.{history_in}
-use Rattle.step_index.proofs.Framing.{new_nav, frame_kept, frame_same, history_framed}
+use Rattle.step_index.proofs.Framing.{index_filed, new_nav, frame_kept, frame_same, history_framed}
 use Rattle.step_index.proofs.frames.add_at.Goals as goal
 
 pub put_frame-requires-clause-none : goal.put_frame-requires-clause-none
@@ -40,6 +40,11 @@ returns-clause-index c =
       started = done.filed.started;
       counted = done.counted;
     }
+
+pub returns-in_err-put_frame-clause-index : goal.returns-in_err-put_frame-clause-index
+returns-in_err-put_frame-clause-index c =
+    let failed = c.in_err-put_frame.ensures in
+    index_filed c.args.parts.now c.put_frame.new.parts c.requires.index failed.filed failed.err failed.counts failed.used
 
 pub returns-clause-fits : goal.returns-clause-fits
 returns-clause-fits c =

@@ -1,8 +1,10 @@
-use Rattle.std.proofs.Common.{◌≡◌, ◌≤◌, ◌∙◌, sym, ap, subst, List, ℕ, filter, length, arith}
+use Rattle.std.proofs.Common.{◌≡◌, ◌≤◌, ◌-◌, ◌∙◌, sym, ap, subst, List, [], ℕ, filter, length, arith}
 use Rattle.std.specs.Prelude.{nat_le}
+use Rattle.std.specs.List.{count_by}
 use Rattle.log_model.specs.declared.row.Row.{Row}
 use Rattle.log_model.specs.History.{used_steps}
 use Rattle.entry_store.proofs.StepBounds.{filter-fewer}
+use Rattle.step_index.specs.Groups.{is_in, count_of}
 use Rattle.step_index.specs.Noted.{AreNoted}
 use Rattle.step_index.specs.Starts.{AreStarted}
 use Rattle.step_index.specs.Tracks.{rows_of}
@@ -10,7 +12,7 @@ use Rattle.step_index.specs.Parts.{history_in}
 use Rattle.step_index.proofs.Looking.{used_ascend}
 use Rattle.step_index.proofs.Starting.{left_started}
 use Rattle.step_index.proofs.Cutting.{used_upto}
-use Rattle.step_index.proofs.Pushing.{at_most, all_upto, upto_noted}
+use Rattle.step_index.proofs.Pushing.{at_most, all_upto, none_past, upto_noted}
 use Rattle.step_index.proofs.put.clear_forward.Goals as goal
 
 pub returns-then-le-clause-rows : goal.returns-then-le-clause-rows
@@ -22,6 +24,15 @@ pub returns-then-le-clause-used : goal.returns-then-le-clause-used
 returns-then-le-clause-used c =
     let parts = c.args.parts.now in
     c.requires.kept.used ∙ ap used_steps (sym (all_upto parts.current.0 (rows_of parts.tracks.items) (at_most _ _ c.greatest_step_in.ensures c.le.ensures c.if-le.true)))
+
+pub returns-then-le-clause-counts : goal.returns-then-le-clause-counts
+returns-then-le-clause-counts c group =
+    let parts = c.args.parts.now in
+    let none = none_past parts.current.0 (rows_of parts.tracks.items) (at_most _ _ c.greatest_step_in.ensures c.le.ensures c.if-le.true) in
+    less (count_of group parts.counts.entries) ∙ ap (λ (gone : List Row). count_of group parts.counts.entries - count_by (is_in group) gone) (sym none)
+  where
+    less : (n : ℕ) → n ≡ n - count_by (is_in group) []
+    less n = omega arith
 
 pub cut_used-requires : goal.cut_used-requires
 cut_used-requires c = record { sorted = used_ascend (history_in c.args.parts.now) c.args.parts.now.used.items c.requires.kept }
