@@ -1,6 +1,6 @@
 -- The forward session history cut off: what stays of each track, of the notes and of the used steps.
-use Rattle.std.proofs.Common.{◌≡◌, ◌≢◌, ℕ, zero, suc, ◌+◌, ◌<◌, ◌≤◌, Bool, true, false, not, ◌&&◌, ◌||◌, cond, List, [], ◌∷◌, ◌++◌, length, refl, ap, sym, ◌∙◌, filter, take, drop, set, get_or, add-one, drop-cons, arith, inl, inr, subst, Option, Some, None}
-use Rattle.std.specs.Prelude.{◌==◌, nat_le, nat_lt, IfSome, slice_get, if◌then◌else◌, vec_len, vec_capacity}
+use Rattle.std.proofs.Common.{◌≡◌, ℕ, zero, suc, ◌+◌, ◌<◌, ◌≤◌, Bool, true, false, not, ◌&&◌, ◌||◌, cond, List, [], ◌∷◌, ◌++◌, length, refl, ap, sym, ◌∙◌, filter, take, drop, set, get_or, add-one, drop-cons, arith, inl, inr, subst, Option, Some, None}
+use Rattle.std.specs.Prelude.{◌==◌, nat_le, nat_lt, IfSome, slice_get, vec_len, vec_capacity}
 use Rattle.std.specs.List.{list_any}
 use Rattle.std.specs.Option.{option_map_or}
 use Rattle.std.proofs.Math.Seq.{take-suc, take-suc-set}
@@ -16,7 +16,7 @@ use Rattle.tab_ids.specs.declared.StateId.{StateId}
 use Rattle.tab_ids.specs.declared.Step.{Step}
 use Rattle.tab_ids.specs.declared.EntryId.{EntryId}
 use Rattle.log_model.specs.declared.row.Row.{Row}
-use Rattle.log_model.specs.History.{History, same_entry, is_of, has_state, is_anchored, cleared, tidied, with_step, used_steps}
+use Rattle.log_model.specs.History.{History, same_entry, is_of, has_state, is_anchored, cleared, with_step, used_steps}
 use Rattle.log_model.specs.Soundness.{is_entry, is_in_state, is_owned_by, IsRooted}
 use Rattle.history_laws.proofs.Members.{IsIn, IsIn-head, IsIn-tail, or_right, or_none, none_passes, list_any-none, IsIn-filter, IsIn-filter_passes, IsIn-into_filter, witness, filter-filter}
 use Rattle.history_laws.proofs.Tidying.{tidied_times-same, owner_same}
@@ -25,10 +25,10 @@ use Rattle.step_index.specs.declared.noted.Place.{Place}
 use Rattle.step_index.specs.declared.track.Track.{Track}
 use Rattle.step_index.specs.Ascending.{IsAscending}
 use Rattle.step_index.specs.Noted.{place_of, is_noted, AreNoted, NotesOne}
-use Rattle.step_index.specs.Starts.{start_of, is_by, is_start, AreStarted, StartsLess}
-use Rattle.step_index.specs.Tracks.{nav_of, step_of, rows_of, IsTrack, AreTracks}
+use Rattle.step_index.specs.Starts.{start_of, is_by, is_start, AreStarted}
+use Rattle.step_index.specs.Tracks.{step_of, rows_of, IsTrack, AreTracks}
 use Rattle.step_index.specs.Cut.{rows_upto, rows_past, NotesLess, IsCut, AreCut, has_rows, HasRowRoom, is_held, AreHeld}
-use Rattle.step_index.proofs.Searching.{all_past, not_in}
+use Rattle.step_index.proofs.Searching.{all_past}
 use Rattle.step_index.proofs.Noting.{same_entry-turned}
 use Rattle.step_index.proofs.Tracking.{was_not}
 use Rattle.step_index.proofs.Looking.{ascending_from}

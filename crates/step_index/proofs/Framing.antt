@@ -1,5 +1,5 @@
 -- A new frame: one track more, with one row at the first step of its owner.
-use Rattle.std.proofs.Common.{◌≡◌, ◌≢◌, ℕ, Bool, true, false, ◌&&◌, ◌||◌, List, [], ◌∷◌, ◌++◌, refl, ap, sym, ◌∙◌, fold, subst, inl, inr, Option, Some, None}
+use Rattle.std.proofs.Common.{◌≡◌, ◌≢◌, ℕ, false, ◌&&◌, List, [], ◌∷◌, ◌++◌, refl, ap, sym, ◌∙◌, fold, subst, inl, inr, Some, None}
 use Rattle.std.specs.Prelude.{nat_le}
 use Rattle.std.specs.List.{list_any}
 use Rattle.std.proofs.lemmas.Bool.{cases_Bool, false≢true, or_parts, eq-eqb}
@@ -10,7 +10,7 @@ use Rattle.tab_ids.specs.declared.EntryId.{EntryId}
 use Rattle.tab_ids.specs.declared.Step.{Step}
 use Rattle.log_model.specs.declared.row.Row.{Row}
 use Rattle.log_model.specs.declared.change.Change.TheVariants.{AddFrame}
-use Rattle.log_model.specs.History.{History, is_of, has_row, has_nav, applied, used_steps}
+use Rattle.log_model.specs.History.{History, is_of, has_row, has_nav, applied}
 use Rattle.log_model.specs.Order.{ordered, SameHistory}
 use Rattle.history_laws.proofs.Members.{IsIn, or_right, or_none, none_passes}
 use Rattle.history_laws.proofs.Ordered.{AreApart, ordered-insert}

@@ -1,28 +1,26 @@
 -- A push: what stands past the current step goes, and the entry stands behind all others of its navigable.
-use Rattle.std.proofs.Common.{◌≡◌, ℕ, zero, suc, ◌+◌, ◌<◌, ◌≤◌, Bool, true, false, not, ◌&&◌, ◌||◌, cond, List, [], ◌∷◌, ◌++◌, length, refl, ap, sym, ◌∙◌, filter, find, subst, arith, inl, inr, is_le, nat_cmp, Option, Some, None}
+use Rattle.std.proofs.Common.{◌≡◌, ℕ, ◌+◌, ◌<◌, ◌≤◌, Bool, true, false, not, ◌&&◌, ◌||◌, List, [], ◌∷◌, ◌++◌, refl, ap, sym, ◌∙◌, filter, find, subst, arith, is_le, nat_cmp, Option, Some, None}
 use Rattle.std.specs.Prelude.{nat_le, nat_lt, slice_get, option_and_then, IfSome}
 use Rattle.std.specs.List.{list_any, count_by}
 use Rattle.std.specs.Option.{option_map}
 use Rattle.std.proofs.lemmas.Bool.{cases_Bool, false≢true, eqb-true, eq-eqb, or_parts, lt-ltb, ltb-false, lt-leb, le-leb, le-ltb, ne_eqb, leb-true, leb-false}
 use Rattle.std.proofs.lemmas.Bool.Decides.{nat_tests}
-use Rattle.std.proofs.lemmas.List.Sums.{sum_by-cons}
 use Rattle.std.proofs.lemmas.Option.{none-some}
 use Rattle.tab_ids.specs.declared.NavId.{NavId}
 use Rattle.tab_ids.specs.declared.StateId.{StateId}
 use Rattle.tab_ids.specs.declared.EntryId.{EntryId}
 use Rattle.log_model.specs.declared.row.Row.{Row}
-use Rattle.log_model.specs.History.{History, is_of, has_row, owner_of, cleared, pushed, used_steps, greatest_step, with_step}
+use Rattle.log_model.specs.History.{History, is_of, has_row, cleared, pushed, used_steps, greatest_step, with_step}
 use Rattle.log_model.specs.declared.change.Change.TheVariants.{Push}
 use Rattle.log_model.specs.Order.{SameHistory}
 use Rattle.log_model.specs.Soundness.{is_entry, IsSound}
 use Rattle.history_laws.proofs.Members.{IsIn, IsIn-head, or_none, none_passes, list_any-none, some_same, found, found_none, IsIn-filter, IsIn-filter_passes, IsIn-into_filter}
-use Rattle.history_laws.proofs.Replace.{list_any-zero}
 use Rattle.history_laws.proofs.Tidying.{owner_same}
 use Rattle.entry_store.specs.Kept.{IsKept, PutsRow}
 use Rattle.entry_store.specs.Store.{MayTake}
 use Rattle.entry_store.proofs.LastStep.{none_beyond, used_steps-any}
 use Rattle.entry_store.proofs.AppendLaw.{cleared-last}
-use Rattle.entry_store.proofs.PushLaw.{IsPlaced, pushed_row, with_rows, push_same, push_kept, push_fits}
+use Rattle.entry_store.proofs.PushLaw.{IsPlaced, pushed_row, push_same, push_kept, push_fits}
 use Rattle.step_index.specs.declared.noted.Place.{Place}
 use Rattle.step_index.specs.declared.track.Track.{Track}
 use Rattle.step_index.specs.declared.parts.Parts.{Parts}

@@ -1,11 +1,11 @@
 -- What a `StepIndex` stands for, and what it keeps.
 -- This project's own.
-use Rattle.std.specs.Prelude.{◌≡◌, ◌≢◌, ◌<◌, ◌≤◌, ℕ, Bool, false, nat_lt, filter, List, vec_len, vec_capacity, slice_get, IfSome}
+use Rattle.std.specs.Prelude.{◌≡◌, ◌≢◌, ◌<◌, ◌≤◌, ℕ, Bool, false, nat_lt, List, vec_len, vec_capacity, slice_get, IfSome}
 use Rattle.std.specs.List.{list_any}
 use Rattle.indexmap.specs.IndexMap.{spare}
 use Rattle.tab_ids.specs.declared.NavId.{NavId}
 use Rattle.log_model.specs.declared.row.Row.{Row}
-use Rattle.log_model.specs.History.{History, is_of, cleared}
+use Rattle.log_model.specs.History.{History, cleared}
 use Rattle.entry_store.specs.Kept.{IsKept}
 use Rattle.step_index.specs.declared.groups.Group.{Group}
 use Rattle.step_index.specs.declared.groups.Group.TheVariants.{On}

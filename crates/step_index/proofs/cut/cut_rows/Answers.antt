@@ -1,4 +1,4 @@
-use Rattle.std.proofs.Common.{◌≡◌, false, not, ◌∙◌, sym, ap, subst, List, take, drop, filter}
+use Rattle.std.proofs.Common.{◌≡◌, false, ◌∙◌, sym, ap, subst, List, take, drop}
 use Rattle.std.specs.Prelude.{nat_le, nat_lt}
 use Rattle.std.specs.List.{list_any}
 use Rattle.log_model.specs.declared.row.Row.{Row}

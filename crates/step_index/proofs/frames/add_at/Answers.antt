@@ -1,7 +1,5 @@
-use Rattle.std.proofs.Common.{◌≡◌, false, true, ◌∙◌, sym, ap, subst, List, ℕ, ◌++◌, ◌∷◌, []}
+use Rattle.std.proofs.Common.{◌∙◌, sym, ap, subst, List, ℕ, ◌++◌, ◌∷◌, []}
 use Rattle.std.specs.List.{list_any}
-use Rattle.tab_ids.specs.declared.NavId.{NavId}
-use Rattle.tab_ids.specs.declared.Step.{Step}
 use Rattle.log_model.specs.declared.row.Row.{Row}
 use Rattle.log_model.specs.declared.change.Change.TheVariants.{AddFrame}
 use Rattle.log_model.specs.History.{History, has_row, has_nav, applied}

@@ -1,7 +1,6 @@
-use Rattle.std.proofs.Common.{◌≡◌, ◌≢◌, ◌<◌, ◌-◌, ◌∙◌, ℕ, List, sym, ap, subst, false, take, drop, length, get_or, arith}
-use Rattle.std.specs.Prelude.{nat_le, nat_lt, slice_get, Some}
+use Rattle.std.proofs.Common.{◌≡◌, ◌<◌, ◌-◌, ◌∙◌, ℕ, List, sym, ap, subst, false, take, drop, length, arith}
+use Rattle.std.specs.Prelude.{nat_le, nat_lt, Some}
 use Rattle.std.specs.List.{list_any}
-use Rattle.std.proofs.lemmas.Bool.{eq-eqb, eqb-true, false≢true}
 use Rattle.std.proofs.lemmas.Option.{slice_get-get_or}
 use Rattle.step_index.proofs.Removing.{step_removed, step_absent, absent_first, absent_last}
 use Rattle.step_index.proofs.remove.drop_step.Goals as goal

@@ -1,9 +1,9 @@
-use Rattle.std.proofs.Common.{◌≡◌, ◌∙◌, sym, ap, subst, not, ℕ, List, filter}
+use Rattle.std.proofs.Common.{◌∙◌, sym, ap, subst, not, List, filter}
 use Rattle.tab_ids.specs.declared.NavId.{NavId}
 use Rattle.tab_ids.specs.declared.Step.{Step}
 use Rattle.log_model.specs.declared.row.Row.{Row}
 use Rattle.log_model.specs.declared.change.Change.TheVariants.{RemoveFrame}
-use Rattle.log_model.specs.History.{History, is_of, used_step_at, applied}
+use Rattle.log_model.specs.History.{is_of, used_step_at, applied}
 use Rattle.log_model.specs.Order.{SameHistory}
 use Rattle.step_index.specs.Tracks.{rows_of}
 use Rattle.step_index.specs.Parts.{history_in}

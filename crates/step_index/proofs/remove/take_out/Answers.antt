@@ -1,4 +1,4 @@
-use Rattle.std.proofs.Common.{◌≡◌, ◌∙◌, sym, ap, subst, not, ℕ, List, filter}
+use Rattle.std.proofs.Common.{◌∙◌, sym, ap, subst, not, List, filter}
 use Rattle.log_model.specs.declared.row.Row.{Row}
 use Rattle.log_model.specs.History.{is_of}
 use Rattle.entry_store.specs.Kept.{IsKept}

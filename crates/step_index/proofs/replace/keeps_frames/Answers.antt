@@ -1,6 +1,5 @@
-use Rattle.std.proofs.Common.{◌≡◌, ◌∙◌, sym, ap, subst, refl, List, Bool, true, false, not, Option}
-use Rattle.std.specs.Prelude.{IfSome, nat_lt, slice_get}
-use Rattle.std.specs.List.{list_any}
+use Rattle.std.proofs.Common.{◌≡◌, ◌∙◌, sym, ap, subst, refl, Bool, true, false, not, Option}
+use Rattle.std.specs.Prelude.{IfSome, nat_lt}
 use Rattle.std.proofs.lemmas.Bool.{false≢true}
 use Rattle.log_model.specs.declared.row.Row.{Row}
 use Rattle.log_model.specs.Soundness.{is_owned_by}

@@ -1,4 +1,4 @@
-use Rattle.std.proofs.Common.{◌≡◌, sym, subst, List, ℕ}
+use Rattle.std.proofs.Common.{sym, subst, List, ℕ}
 use Rattle.log_model.specs.History.{History, applied}
 use Rattle.log_model.specs.Order.{SameHistory}
 use Rattle.log_model.specs.declared.change.Change.TheVariants.{Replace}
