@@ -321,23 +321,6 @@ pub held_track : (whole : List Row) → IsRooted whole → (starts : List (State
 held_track whole rooted starts step nav [] part is result first holds = absurd (omega (arith, is.0))
 held_track whole rooted starts step nav (row ∷ rows) part is result first holds = held_as_first whole rooted starts step nav (row ∷ rows) part is row refl (sym first ∙ holds)
 
--- all rows of a navigable hang on what its first does
-pub owned_track : (whole : List Row) → IsRooted whole → (state : StateId) (nav : NavId) (rows : List Row) → ((row : Row) → IsIn rows row → IsIn whole row) → IsTrack nav rows → (result : Bool) → IfSome (slice_get rows 0) (λ row. result ≡ is_owned_by state row) → list_any (is_owned_by state) rows ≡ result
-owned_track whole rooted state nav [] part is result first = absurd (omega (arith, is.0))
-owned_track whole rooted state nav (row ∷ rows) part is result first = by_test (is_owned_by state row) refl ∙ sym first
-  where
-    own : (r : Row) → IsIn (row ∷ rows) r → r.nav.0 ≡ nav.0
-    own r there = eqb-true r.nav.0 nav.0 (was_not (is_of nav r) (none_passes (λ (x : Row). not (is_of nav x)) (row ∷ rows) is.1.0 r there))
-
-    alike : (r : Row) → IsIn (row ∷ rows) r → is_owned_by state r ≡ is_owned_by state row
-    alike r there =
-        ap (λ (o : Option StateId). option_map_or (λ (s : StateId). s.0 == state.0) o false)
-        (owner_same whole rooted r row (part r there) (part row (IsIn-head rows row)) (own r there ∙ sym (own row (IsIn-head rows row))))
-
-    by_test : (b : Bool) → is_owned_by state row ≡ b → list_any (is_owned_by state) (row ∷ rows) ≡ is_owned_by state row
-    by_test true is_ = ap (λ b. b || list_any (is_owned_by state) rows) is_ ∙ sym is_
-    by_test false isnt = list_any-none (is_owned_by state) (row ∷ rows) (λ r there. alike r there ∙ isnt) ∙ sym isnt
-
 -- then clearing leaves the rows up to the current step
 pub clean_cut : (history : History) (starts : List (StateId × Step)) → AreStarted starts history.rows → AreHeld starts history.current history.rows → cleared history ≡ rows_upto history.current history.rows
 clean_cut history starts are held =

@@ -1,7 +1,6 @@
 pub mod Searching
 pub mod Starting
 pub mod Tracking
-pub mod Reading
 pub mod Looking
 pub mod Noting
 pub mod Rebuilding

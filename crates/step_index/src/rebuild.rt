@@ -1,6 +1,6 @@
 //! A change by a pass along all rows: what it leaves is put together anew, and takes the place of the old at the end.
-ghost use Rattle.std.specs.Prelude.{◌≡◌, ◌≤◌, ◌<◌, ◌++◌, [], Some, count_by, IfOk, IfErr, OnOk, OnErr};
-ghost use Rattle.log_model.specs.History.{Fits, applied, used_steps};
+ghost use Rattle.std.specs.Prelude.{◌≡◌, ◌≤◌, ◌<◌, ◌++◌, Some, count_by, IfOk, IfErr, OnOk, OnErr};
+ghost use Rattle.log_model.specs.History.{Fits, applied};
 ghost use Rattle.log_model.specs.Order.{ordered, SameHistory};
 ghost use Rattle.entry_store.specs.Store.{MayTake, IsRefused};
 ghost use Rattle.entry_store.specs.Kept.{history_of, IsChanged, IsKept};

@@ -1,5 +1,5 @@
 //! A removed frame: where nothing hangs on its documents, its own entries go and no others.
-ghost use Rattle.std.specs.Prelude.{◌≡◌, ◌<◌, not, filter, nat_lt, ◌==◌, IfSome, IfErr, OnOk, OnErr};
+ghost use Rattle.std.specs.Prelude.{◌≡◌, ◌<◌, not, filter, ◌==◌, IfSome, IfErr, OnOk, OnErr};
 ghost use Rattle.std.specs.List.{list_any};
 ghost use Rattle.log_model.specs.declared.row.Row.{Row};
 ghost use Rattle.log_model.specs.History.{Fits, applied, is_of};
@@ -8,7 +8,7 @@ ghost use Rattle.log_model.specs.declared.change.Change.TheVariants.{RemoveFrame
 ghost use Rattle.entry_store.specs.Store.{MayTake, IsRefused};
 ghost use Rattle.step_index.specs.declared.groups.Group.TheVariants.{On};
 ghost use Rattle.step_index.specs.Ascending.{IsAscending};
-ghost use Rattle.step_index.specs.Groups.{count_of, is_unused};
+ghost use Rattle.step_index.specs.Groups.{is_unused};
 ghost use Rattle.step_index.specs.Tracks.{rows_of, AreTracks, IsTrackAt};
 ghost use Rattle.step_index.specs.Parts.{history_in, IsIndex, IsLeafAt, has_below};
 

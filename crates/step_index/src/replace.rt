@@ -1,12 +1,12 @@
 //! A replace: where no frame goes with the old entry's document, one row takes the place of another.
-ghost use Rattle.std.specs.Prelude.{◌≡◌, ◌+◌, ◌≤◌, ◌<◌, ◌==◌, ◌||◌, not, length, drop, find, slice_get, slice_set, Some, Bool, true, false, IfSome, IfErr, IfOk, OnOk, OnErr};
+ghost use Rattle.std.specs.Prelude.{◌≡◌, ◌+◌, ◌<◌, ◌==◌, length, drop, find, slice_get, slice_set, Some, Bool, true, false, IfSome, IfErr, IfOk, OnOk, OnErr};
 ghost use Rattle.std.specs.List.{list_any};
 ghost use Rattle.std.specs.Option.{option_map};
 ghost use Rattle.indexmap.specs.IndexMap.{spare};
 ghost use Rattle.tab_ids.specs.declared.EntryId.{EntryId};
 ghost use Rattle.log_model.specs.History.{Fits, applied};
 ghost use Rattle.log_model.specs.Order.{SameHistory};
-ghost use Rattle.log_model.specs.Soundness.{is_entry, is_in_state, is_owned_by, IsRooted};
+ghost use Rattle.log_model.specs.Soundness.{is_entry, is_in_state};
 ghost use Rattle.log_model.specs.declared.row.Row.{Row};
 ghost use Rattle.log_model.specs.declared.change.Change.TheVariants.{Replace};
 ghost use Rattle.entry_store.specs.Store.{MayTake, IsRefused};
