@@ -6,7 +6,8 @@ runs it by `rt run`, as LLVM builds it. In the first table a line is a store, it
 10,000, or as asked) and its navigables (1 or 100), then in nanoseconds the mean time of one call: apply of a push at
 the end, of a push after a traversal back by a step, of a replace of the current entry, and of a traversal; target, row,
 has_state, used_at, length_index. In the second a line is a store, a number of frames of one document, and in nanoseconds
-the time of a frame as they are added one by one, and as they are removed one by one.
+the time of a frame as they are added one by one, and as they are removed one by one. At the end it tells how many times
+as much each costs in the last line of a table as in the first.
 """
 import subprocess
 import sys
@@ -16,6 +17,7 @@ from beside import copied, written
 
 CRATES = ["entry_store", "step_index"]
 ENTRIES = ["1000", "2000", "4000", "10000"]
+MEASURES = ["push", "push_back", "replace", "traversal", "target", "row", "has_state", "used_at", "length_index"]
 
 PROGRAM = """//! Times the calls of the stores.
 #![tactic(auto)]
@@ -317,6 +319,23 @@ returns g c reached =
 """
 
 
+def growth(lines: list[str]) -> list[str]:
+    """How many times as much each call costs in the last line of a store and a number of navigables as in the first."""
+    found: dict[str, list[dict[str, int]]] = {}
+    for line in lines:
+        words = line.split()
+        name = f"{words[0]} {words[2]}"
+        names = MEASURES if words[2] != "frames" else ["added", "removed"]
+        numbers = [int(word) for word in words[3:] if word.isdigit()]
+        found.setdefault(name, []).append(dict(zip(names, numbers)))
+    told = []
+    for name, rows in found.items():
+        first, last = rows[0], rows[-1]
+        grown = [f"{measure} {last[measure] / max(first[measure], 1):.2f}" for measure in first]
+        told.append(f"{name} grows: {', '.join(grown)}")
+    return told
+
+
 def main() -> int:
     entries = sys.argv[1:] or ENTRIES
     with tempfile.TemporaryDirectory() as folder:
@@ -325,7 +344,11 @@ def main() -> int:
         written(f"{crate}/proofs/is_new/Answers.antt", IS_NEW)
         written(f"{crate}/proofs/is_free/Answers.antt", IS_FREE)
         written(f"{crate}/proofs/is_reached/Answers.antt", IS_REACHED)
-        return subprocess.run(["rt", "run", "--jobs", "1"], cwd=crate).returncode
+        done = subprocess.run(["rt", "run", "--jobs", "1"], cwd=crate, stdout=subprocess.PIPE, text=True)
+    print(done.stdout, end="")
+    lines = [line for line in done.stdout.splitlines() if line.startswith(("EntryStore", "StepIndex"))]
+    print("\n".join(growth(lines)))
+    return done.returncode
 
 
 if __name__ == "__main__":

@@ -1,6 +1,6 @@
 -- The forward session history cut off: what stays of each track, of the notes and of the used steps.
-use Rattle.std.proofs.Common.{◌≡◌, ◌≢◌, ℕ, zero, suc, ◌+◌, ◌<◌, ◌≤◌, Bool, true, false, not, ◌&&◌, ◌||◌, cond, List, [], ◌∷◌, ◌++◌, length, refl, ap, sym, ◌∙◌, filter, take, drop, set, get_or, add-one, drop-cons, arith, inl, inr, subst, Option, Some, None}
-use Rattle.std.specs.Prelude.{◌==◌, nat_le, nat_lt, IfSome, slice_get, if◌then◌else◌, vec_len, vec_capacity}
+use Rattle.std.proofs.Common.{◌≡◌, ℕ, zero, suc, ◌+◌, ◌<◌, ◌≤◌, Bool, true, false, not, ◌&&◌, ◌||◌, cond, List, [], ◌∷◌, ◌++◌, length, refl, ap, sym, ◌∙◌, filter, take, drop, set, get_or, add-one, drop-cons, arith, inl, inr, subst, Option, Some, None}
+use Rattle.std.specs.Prelude.{◌==◌, nat_le, nat_lt, IfSome, slice_get, vec_len, vec_capacity}
 use Rattle.std.specs.List.{list_any}
 use Rattle.std.specs.Option.{option_map_or}
 use Rattle.std.proofs.Math.Seq.{take-suc, take-suc-set}
@@ -16,7 +16,7 @@ use Rattle.tab_ids.specs.declared.StateId.{StateId}
 use Rattle.tab_ids.specs.declared.Step.{Step}
 use Rattle.tab_ids.specs.declared.EntryId.{EntryId}
 use Rattle.log_model.specs.declared.row.Row.{Row}
-use Rattle.log_model.specs.History.{History, same_entry, is_of, has_state, is_anchored, cleared, tidied, with_step, used_steps}
+use Rattle.log_model.specs.History.{History, same_entry, is_of, has_state, is_anchored, cleared, with_step, used_steps}
 use Rattle.log_model.specs.Soundness.{is_entry, is_in_state, is_owned_by, IsRooted}
 use Rattle.history_laws.proofs.Members.{IsIn, IsIn-head, IsIn-tail, or_right, or_none, none_passes, list_any-none, IsIn-filter, IsIn-filter_passes, IsIn-into_filter, witness, filter-filter}
 use Rattle.history_laws.proofs.Tidying.{tidied_times-same, owner_same}
@@ -25,10 +25,10 @@ use Rattle.step_index.specs.declared.noted.Place.{Place}
 use Rattle.step_index.specs.declared.track.Track.{Track}
 use Rattle.step_index.specs.Ascending.{IsAscending}
 use Rattle.step_index.specs.Noted.{place_of, is_noted, AreNoted, NotesOne}
-use Rattle.step_index.specs.Starts.{start_of, is_by, is_start, AreStarted, StartsLess}
-use Rattle.step_index.specs.Tracks.{nav_of, step_of, rows_of, IsTrack, AreTracks}
+use Rattle.step_index.specs.Starts.{start_of, is_by, is_start, AreStarted}
+use Rattle.step_index.specs.Tracks.{step_of, rows_of, IsTrack, AreTracks}
 use Rattle.step_index.specs.Cut.{rows_upto, rows_past, NotesLess, IsCut, AreCut, has_rows, HasRowRoom, is_held, AreHeld}
-use Rattle.step_index.proofs.Searching.{all_past, not_in}
+use Rattle.step_index.proofs.Searching.{all_past}
 use Rattle.step_index.proofs.Noting.{same_entry-turned}
 use Rattle.step_index.proofs.Tracking.{was_not}
 use Rattle.step_index.proofs.Looking.{ascending_from}
@@ -64,7 +64,7 @@ left_noted old rows gone left new less part apart are =
 
 -- ---- what lies past a number
 
-filter_none : {A : Type 0} (p : A → Bool) (xs : List A) → list_any p xs ≡ false → filter p xs ≡ []
+pub filter_none : {A : Type 0} (p : A → Bool) (xs : List A) → list_any p xs ≡ false → filter p xs ≡ []
 filter_none p [] none = refl
 filter_none p (x ∷ xs) none =
     let both = or_parts (p x) (list_any p xs) none in rw both.0 (filter_none p xs both.1)
@@ -87,7 +87,7 @@ module _ {A : Type 0} (number : A → ℕ) where
 
 -- ---- one track
 
-ascending_filter : {A : Type 0} (number : A → ℕ) (p : A → Bool) (items : List A) → IsAscending number items → IsAscending number (filter p items)
+pub ascending_filter : {A : Type 0} (number : A → ℕ) (p : A → Bool) (items : List A) → IsAscending number items → IsAscending number (filter p items)
 ascending_filter number p [] sorted = tt
 ascending_filter {A} number p (item ∷ items) sorted =
     elim (p item) as (λ b. IsAscending number (cond b (item ∷ filter p items) (filter p items))) [
@@ -320,23 +320,6 @@ filter-all = Rattle.step_index.proofs.Replacing.filter-all
 pub held_track : (whole : List Row) → IsRooted whole → (starts : List (StateId × Step)) (step : ℕ) (nav : NavId) (rows : List Row) → ((row : Row) → IsIn rows row → IsIn whole row) → IsTrack nav rows → (result : Bool) → IfSome (slice_get rows 0) (λ row. result ≡ is_held starts step row) → result ≡ true → AreHeld starts step rows
 held_track whole rooted starts step nav [] part is result first holds = absurd (omega (arith, is.0))
 held_track whole rooted starts step nav (row ∷ rows) part is result first holds = held_as_first whole rooted starts step nav (row ∷ rows) part is row refl (sym first ∙ holds)
-
--- all rows of a navigable hang on what its first does
-pub owned_track : (whole : List Row) → IsRooted whole → (state : StateId) (nav : NavId) (rows : List Row) → ((row : Row) → IsIn rows row → IsIn whole row) → IsTrack nav rows → (result : Bool) → IfSome (slice_get rows 0) (λ row. result ≡ is_owned_by state row) → list_any (is_owned_by state) rows ≡ result
-owned_track whole rooted state nav [] part is result first = absurd (omega (arith, is.0))
-owned_track whole rooted state nav (row ∷ rows) part is result first = by_test (is_owned_by state row) refl ∙ sym first
-  where
-    own : (r : Row) → IsIn (row ∷ rows) r → r.nav.0 ≡ nav.0
-    own r there = eqb-true r.nav.0 nav.0 (was_not (is_of nav r) (none_passes (λ (x : Row). not (is_of nav x)) (row ∷ rows) is.1.0 r there))
-
-    alike : (r : Row) → IsIn (row ∷ rows) r → is_owned_by state r ≡ is_owned_by state row
-    alike r there =
-        ap (λ (o : Option StateId). option_map_or (λ (s : StateId). s.0 == state.0) o false)
-        (owner_same whole rooted r row (part r there) (part row (IsIn-head rows row)) (own r there ∙ sym (own row (IsIn-head rows row))))
-
-    by_test : (b : Bool) → is_owned_by state row ≡ b → list_any (is_owned_by state) (row ∷ rows) ≡ is_owned_by state row
-    by_test true is_ = ap (λ b. b || list_any (is_owned_by state) rows) is_ ∙ sym is_
-    by_test false isnt = list_any-none (is_owned_by state) (row ∷ rows) (λ r there. alike r there ∙ isnt) ∙ sym isnt
 
 -- then clearing leaves the rows up to the current step
 pub clean_cut : (history : History) (starts : List (StateId × Step)) → AreStarted starts history.rows → AreHeld starts history.current history.rows → cleared history ≡ rows_upto history.current history.rows

@@ -1,5 +1,5 @@
 -- A new frame: one track more, with one row at the first step of its owner.
-use Rattle.std.proofs.Common.{◌≡◌, ◌≢◌, ℕ, Bool, true, false, ◌&&◌, ◌||◌, List, [], ◌∷◌, ◌++◌, refl, ap, sym, ◌∙◌, fold, subst, inl, inr, Option, Some, None}
+use Rattle.std.proofs.Common.{◌≡◌, ◌≢◌, ℕ, false, ◌&&◌, List, [], ◌∷◌, ◌++◌, refl, ap, sym, ◌∙◌, fold, subst, inl, inr, Some, None}
 use Rattle.std.specs.Prelude.{nat_le}
 use Rattle.std.specs.List.{list_any}
 use Rattle.std.proofs.lemmas.Bool.{cases_Bool, false≢true, or_parts, eq-eqb}
@@ -10,7 +10,7 @@ use Rattle.tab_ids.specs.declared.EntryId.{EntryId}
 use Rattle.tab_ids.specs.declared.Step.{Step}
 use Rattle.log_model.specs.declared.row.Row.{Row}
 use Rattle.log_model.specs.declared.change.Change.TheVariants.{AddFrame}
-use Rattle.log_model.specs.History.{History, is_of, has_row, has_nav, applied, used_steps}
+use Rattle.log_model.specs.History.{History, is_of, has_row, has_nav, applied}
 use Rattle.log_model.specs.Order.{ordered, SameHistory}
 use Rattle.history_laws.proofs.Members.{IsIn, or_right, or_none, none_passes}
 use Rattle.history_laws.proofs.Ordered.{AreApart, ordered-insert}
@@ -22,7 +22,12 @@ use Rattle.entry_store.specs.Store.{MayTake}
 use Rattle.entry_store.proofs.AddLaw.{frame_row, framed_same, framed_kept}
 use Rattle.step_index.specs.declared.track.Track.{Track}
 use Rattle.step_index.specs.declared.parts.Parts.{Parts}
-use Rattle.step_index.specs.Parts.{history_in, IsIndex}
+use Rattle.step_index.specs.declared.groups.Group.{Group}
+use Rattle.step_index.specs.declared.noted.Place.{Place}
+use Rattle.step_index.specs.Groups.{AreCounted}
+use Rattle.step_index.specs.Noted.{AreNoted}
+use Rattle.step_index.specs.Starts.{AreStarted}
+use Rattle.step_index.specs.Parts.{history_in, IsIndex, IsFiled}
 use Rattle.step_index.specs.Tracks.{rows_of, AreTracks, is_from}
 use Rattle.step_index.proofs.Tracking.{tracks_ordered}
 
@@ -37,6 +42,35 @@ kept_ordered history used kept = record {
 
 pub history_framed : (parts new : Parts) → new.current ≡ parts.current → history_in new ≡ record { rows = rows_of new.tracks.items; current = parts.current.0; added = new.added.keys }
 history_framed parts new current = ap (λ (step : Step). let history : History = record { rows = rows_of new.tracks.items; current = step.0; added = new.added.keys } in history) current
+
+-- ---- where the history stays
+
+pub index_filed : (parts new : Parts) → IsIndex parts → IsFiled new → history_in new ≡ history_in parts → new.counts.entries ≡ parts.counts.entries → new.used.items ≡ parts.used.items → IsIndex new
+index_filed parts new index filed same counts used = record {
+  kept =
+      subst (λ (steps : List ℕ). IsKept (history_in new) steps) (sym used)
+      (subst (λ (history : History). IsKept history parts.used.items) (sym same) index.kept);
+  tracks = filed.tracks;
+  noted = filed.noted;
+  started = filed.started;
+  counted =
+      subst (λ (entries : List (Group × ℕ)). AreCounted entries (rows_of new.tracks.items)) (sym counts)
+      (subst (λ (history : History). AreCounted parts.counts.entries history.rows) (sym same) index.counted);
+}
+
+pub index_same : (parts new : Parts) → IsIndex parts → AreTracks new.tracks.items → history_in new ≡ history_in parts → new.noted.entries ≡ parts.noted.entries → new.starts.entries ≡ parts.starts.entries → new.counts.entries ≡ parts.counts.entries → new.used.items ≡ parts.used.items → IsIndex new
+index_same parts new index tracks same noted starts =
+    index_filed parts new index (record {
+      tracks = tracks;
+      noted =
+          subst (λ (entries : List (EntryId × Place)). AreNoted entries (rows_of new.tracks.items)) (sym noted)
+          (subst (λ (history : History). AreNoted parts.noted.entries history.rows) (sym same) index.noted);
+      started =
+          subst (λ (entries : List (StateId × Step)). AreStarted entries (rows_of new.tracks.items)) (sym starts)
+          (subst (λ (history : History). AreStarted parts.starts.entries history.rows) (sym same) index.started);
+    }) same
+
+-- ---- a new frame
 
 -- a number that was never added has no row
 pub new_nav : (parts : Parts) → IsIndex parts → (nav : NavId) → nav.0 ≢ 0 → has_nav parts.added.keys nav ≡ false → has_row nav (rows_of parts.tracks.items) ≡ false

@@ -1,12 +1,13 @@
 pub mod Searching
 pub mod Starting
 pub mod Tracking
-pub mod Reading
 pub mod Looking
 pub mod Noting
 pub mod Rebuilding
 pub mod Pushing
 pub mod Replacing
 pub mod Cutting
+pub mod Counting
+pub mod Removing
 pub mod First
 pub mod Framing

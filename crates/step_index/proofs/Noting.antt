@@ -1,26 +1,24 @@
 -- Where an entry is looked for: what is found there, and what stays noted as entries come and go.
-use Rattle.std.proofs.Common.{◌≡◌, ◌≢◌, ℕ, suc, zero, ◌-◌, ◌<◌, ◌≤◌, Bool, true, false, not, ◌&&◌, ◌||◌, cond, List, [], ◌∷◌, ◌++◌, refl, ap, sym, ◌∙◌, filter, find, take, drop, length, get_or, drop-cons, arith, inl, inr, subst, Option, Some, None}
+use Rattle.std.proofs.Common.{◌≡◌, ℕ, suc, zero, ◌-◌, ◌<◌, ◌≤◌, Bool, true, false, not, ◌&&◌, cond, List, [], ◌∷◌, ◌++◌, refl, ap, sym, ◌∙◌, filter, find, take, drop, length, get_or, drop-cons, arith, inl, inr, subst, Option, Some, None}
 use Rattle.std.specs.Prelude.{◌==◌, nat_le, nat_lt, slice_get}
 use Rattle.std.specs.List.{list_any, count_by}
 use Rattle.std.specs.Option.{option_map_or}
-use Rattle.std.proofs.lemmas.Bool.{cases_Bool, false≢true, or_parts, and_parts, eq-eqb, eqb-true, ne_eqb, le-leb, ltb-false}
+use Rattle.std.proofs.lemmas.Bool.{cases_Bool, false≢true, or_parts, eq-eqb, eqb-true, ne_eqb, le-leb, ltb-false}
 use Rattle.std.proofs.lemmas.List.{take-append-drop, append-nil}
 use Rattle.std.proofs.Math.Seq.{take-suc}
 use Rattle.std.proofs.lemmas.Option.{none-some}
-use Rattle.tab_ids.specs.declared.NavId.{NavId}
 use Rattle.tab_ids.specs.declared.EntryId.{EntryId}
 use Rattle.log_model.specs.declared.row.Row.{Row}
 use Rattle.log_model.specs.History.{same_entry, is_of, row_of}
 use Rattle.log_model.specs.Soundness.{is_entry}
-use Rattle.history_laws.proofs.Members.{IsIn, IsIn-head, IsIn-tail, or_none, none_passes, list_any-none, list_any-weaker, some_same, find-filter, found, found_none}
+use Rattle.history_laws.proofs.Members.{IsIn, IsIn-head, IsIn-tail, or_none, none_passes, list_any-none, some_same, find-filter}
 use Rattle.history_laws.proofs.Joining.{entry_same}
 use Rattle.history_laws.proofs.OneMore.{AddsRow-insert}
 use Rattle.history_laws.proofs.Replace.{list_any-zero}
 use Rattle.entry_store.specs.Kept.{PutsRow}
 use Rattle.step_index.specs.declared.noted.Place.{Place}
-use Rattle.step_index.specs.declared.track.Track.{Track}
 use Rattle.step_index.specs.Ascending.{IsAscending}
-use Rattle.step_index.specs.Tracks.{step_of, rows_of, AreTracks}
+use Rattle.step_index.specs.Tracks.{step_of}
 use Rattle.step_index.specs.Noted.{place_of, is_noted, AreNoted, NotesOne, is_at_place}
 use Rattle.step_index.proofs.Searching.{first_lower, not_in}
 use Rattle.step_index.proofs.Tracking.{was_not, any_insert, any_front}

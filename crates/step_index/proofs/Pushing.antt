@@ -1,28 +1,26 @@
 -- A push: what stands past the current step goes, and the entry stands behind all others of its navigable.
-use Rattle.std.proofs.Common.{◌≡◌, ℕ, zero, suc, ◌+◌, ◌<◌, ◌≤◌, Bool, true, false, not, ◌&&◌, ◌||◌, cond, List, [], ◌∷◌, ◌++◌, length, refl, ap, sym, ◌∙◌, filter, find, subst, arith, inl, inr, is_le, nat_cmp, Option, Some, None}
+use Rattle.std.proofs.Common.{◌≡◌, ℕ, ◌+◌, ◌<◌, ◌≤◌, Bool, true, false, not, ◌&&◌, ◌||◌, List, [], ◌∷◌, ◌++◌, refl, ap, sym, ◌∙◌, filter, find, subst, arith, is_le, nat_cmp, Option, Some, None}
 use Rattle.std.specs.Prelude.{nat_le, nat_lt, slice_get, option_and_then, IfSome}
 use Rattle.std.specs.List.{list_any, count_by}
 use Rattle.std.specs.Option.{option_map}
 use Rattle.std.proofs.lemmas.Bool.{cases_Bool, false≢true, eqb-true, eq-eqb, or_parts, lt-ltb, ltb-false, lt-leb, le-leb, le-ltb, ne_eqb, leb-true, leb-false}
 use Rattle.std.proofs.lemmas.Bool.Decides.{nat_tests}
-use Rattle.std.proofs.lemmas.List.Sums.{sum_by-cons}
 use Rattle.std.proofs.lemmas.Option.{none-some}
 use Rattle.tab_ids.specs.declared.NavId.{NavId}
 use Rattle.tab_ids.specs.declared.StateId.{StateId}
 use Rattle.tab_ids.specs.declared.EntryId.{EntryId}
 use Rattle.log_model.specs.declared.row.Row.{Row}
-use Rattle.log_model.specs.History.{History, is_of, has_row, owner_of, cleared, pushed, used_steps, greatest_step, with_step}
+use Rattle.log_model.specs.History.{History, is_of, has_row, cleared, pushed, used_steps, greatest_step, with_step}
 use Rattle.log_model.specs.declared.change.Change.TheVariants.{Push}
 use Rattle.log_model.specs.Order.{SameHistory}
 use Rattle.log_model.specs.Soundness.{is_entry, IsSound}
 use Rattle.history_laws.proofs.Members.{IsIn, IsIn-head, or_none, none_passes, list_any-none, some_same, found, found_none, IsIn-filter, IsIn-filter_passes, IsIn-into_filter}
-use Rattle.history_laws.proofs.Replace.{list_any-zero}
 use Rattle.history_laws.proofs.Tidying.{owner_same}
 use Rattle.entry_store.specs.Kept.{IsKept, PutsRow}
 use Rattle.entry_store.specs.Store.{MayTake}
 use Rattle.entry_store.proofs.LastStep.{none_beyond, used_steps-any}
 use Rattle.entry_store.proofs.AppendLaw.{cleared-last}
-use Rattle.entry_store.proofs.PushLaw.{IsPlaced, pushed_row, with_rows, push_same, push_kept, push_fits}
+use Rattle.entry_store.proofs.PushLaw.{IsPlaced, pushed_row, push_same, push_kept, push_fits}
 use Rattle.step_index.specs.declared.noted.Place.{Place}
 use Rattle.step_index.specs.declared.track.Track.{Track}
 use Rattle.step_index.specs.declared.parts.Parts.{Parts}
@@ -32,7 +30,8 @@ use Rattle.step_index.specs.Tracks.{rows_of, AreTracks, IsTrackAt, is_from}
 use Rattle.step_index.specs.Cut.{rows_upto, rows_past, NotesLess}
 use Rattle.step_index.proofs.Tracking.{rows_at}
 use Rattle.step_index.proofs.Replacing.{filter-all}
-use Rattle.step_index.proofs.Cutting.{left_noted}
+use Rattle.step_index.proofs.Cutting.{filter_none}
+use Rattle.step_index.proofs.Counting.{count_split, rest_noted}
 
 -- a step behind all
 pub with_step-last : (step : ℕ) (steps : List ℕ) → list_any (λ other. nat_le step other) steps ≡ false → with_step step steps ≡ steps ++ step ∷ []
@@ -76,43 +75,23 @@ all_upto current rows last =
     filter-all (λ (row : Row). nat_le row.step.0 current) rows (λ row there.
     le-leb row.step.0 current (ltb-false current row.step.0 (none_passes (λ (r : Row). nat_lt current r.step.0) rows (none_beyond current rows last) row there)))
 
+-- and none goes
+pub none_past : (current : ℕ) (rows : List Row) → greatest_step rows ≤ current → rows_past current rows ≡ []
+none_past current rows last =
+    filter_none (λ (row : Row). not (nat_le row.step.0 current)) rows
+    (list_any-none (λ (row : Row). not (nat_le row.step.0 current)) rows (λ row there.
+    ap not (le-leb row.step.0 current (ltb-false current row.step.0 (none_passes (λ (r : Row). nat_lt current r.step.0) rows (none_beyond current rows last) row there)))))
+
 pub clean_last : (history : History) → IsSound history → greatest_step history.rows ≤ history.current → cleared history ≡ rows_upto history.current history.rows
 clean_last history sound last = cleared-last history sound last ∙ sym (all_upto history.current history.rows last)
 
 -- ---- what is noted of them
 
-count_split : (p q : Row → Bool) (xs : List Row) → count_by p (filter q xs) + count_by p (filter (λ x. not (q x)) xs) ≡ count_by p xs
-count_split p q [] = refl
-count_split p q (x ∷ xs) =
-    elim (q x) as (λ b. count_by p (cond b (x ∷ filter q xs) (filter q xs)) + count_by p (cond (not b) (x ∷ filter (λ y. not (q y)) xs) (filter (λ y. not (q y)) xs)) ≡ count_by p (x ∷ xs)) [
-      | true ↦ omega (arith, count_split p q xs, sum_by-cons (λ y. cond (p y) 1 0) x (filter q xs), sum_by-cons (λ y. cond (p y) 1 0) x xs)
-      | false ↦ omega (arith, count_split p q xs, sum_by-cons (λ y. cond (p y) 1 0) x (filter (λ y. not (q y)) xs), sum_by-cons (λ y. cond (p y) 1 0) x xs)
-    ]
-
-counted : (p : Row → Bool) (xs : List Row) → list_any p xs ≡ true → 0 < count_by p xs
-counted p xs any = by_count (count_by p xs) refl
-  where
-    by_count : (n : ℕ) → count_by p xs ≡ n → 0 < count_by p xs
-    by_count zero none = absurd (false≢true (sym (list_any-zero p xs none) ∙ any))
-    by_count (suc n) some = omega (arith, some)
-
 pub upto_noted : (old new : List (EntryId × Place)) (current : ℕ) (rows : List Row) → ((entry : EntryId) → count_by (is_entry entry) rows ≤ 1) → NotesLess old (rows_past current rows) new → AreNoted old rows → AreNoted new (rows_upto current rows)
 upto_noted old new current rows once less are =
-    left_noted old rows (rows_past current rows) (rows_upto current rows) new less
-    (λ row there. IsIn-filter (λ (r : Row). nat_le r.step.0 current) rows row there)
-    (λ row there.
-    elim (cases_Bool (list_any (is_entry row.entry) (rows_past current rows))) [
-      | inl twice ↦
-          absurd (omega (
-            arith,
-            once row.entry,
-            count_split (is_entry row.entry) (λ (r : Row). nat_le r.step.0 current) rows,
-            counted (is_entry row.entry) (rows_past current rows) twice,
-            counted (is_entry row.entry) (rows_upto current rows) (there (is_entry row.entry) (Rattle.step_index.proofs.Noting.same_entry-refl row.entry)),
-          ))
-      | inr not_there ↦ not_there
-    ])
-    are
+    rest_noted old new rows (rows_past current rows) (rows_upto current rows) once
+    (λ test. count_split test (λ (r : Row). nat_le r.step.0 current) rows)
+    (λ row there. IsIn-filter (λ (r : Row). nat_le r.step.0 current) rows row there) less are
 
 -- ---- the same, in the history that stands before and after room was made
 

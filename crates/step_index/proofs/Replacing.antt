@@ -1,5 +1,5 @@
 -- One row in the place of another of its navigable and step, where nothing hangs on the old one's document state.
-use Rattle.std.proofs.Common.{◌≡◌, ℕ, suc, zero, add-one, ◌+◌, ◌<◌, ◌≤◌, Bool, true, false, not, ◌&&◌, ◌||◌, List, [], ◌∷◌, ◌++◌, length, refl, ap, sym, ◌∙◌, filter, map, take, drop, set, get_or, arith, subst, append_assoc, inl, inr, Option, Some, None}
+use Rattle.std.proofs.Common.{◌≡◌, ℕ, suc, zero, add-one, ◌+◌, ◌<◌, ◌≤◌, Bool, true, false, not, ◌&&◌, ◌||◌, List, [], ◌∷◌, ◌++◌, length, refl, ap, sym, ◌∙◌, filter, take, drop, set, get_or, arith, subst, append_assoc, inl, inr, Option, Some, None}
 use Rattle.std.specs.Prelude.{nat_le, slice_get, slice_set, ◌==◌}
 use Rattle.std.specs.List.{list_any, count_by}
 use Rattle.std.specs.Option.{option_map_or}
@@ -12,11 +12,11 @@ use Rattle.tab_ids.specs.declared.EntryId.{EntryId}
 use Rattle.tab_ids.specs.declared.Step.{Step}
 use Rattle.log_model.specs.declared.row.Row.{Row}
 use Rattle.log_model.specs.declared.change.Change.TheVariants.{Replace}
-use Rattle.log_model.specs.History.{History, Fits, same_entry, is_of, has_row, has_state, has_nav, is_anchored, tidied, used_steps, with_step, applied}
+use Rattle.log_model.specs.History.{History, same_entry, is_of, has_state, is_anchored, tidied, used_steps, with_step, applied}
 use Rattle.log_model.specs.Order.{ordered, SameHistory}
 use Rattle.log_model.specs.Soundness.{is_entry, is_in_state, is_owned_by, holds, IsSound}
 use Rattle.history_laws.proofs.Members.{IsIn, IsIn-head, IsIn-tail, or_right, none_passes, some_same, list_any-weaker, witness}
-use Rattle.history_laws.proofs.Tidying.{hung, state_same, tidied_times-same}
+use Rattle.history_laws.proofs.Tidying.{state_same, tidied_times-same}
 use Rattle.history_laws.proofs.UsedSteps.{used_steps-insert}
 use Rattle.history_laws.proofs.Replace.{IsSound-replaced, replaced-split}
 use Rattle.entry_store.specs.Store.{MayTake}

@@ -1,5 +1,5 @@
 -- Looking up by halves: what lies before the middle is at most it, and what lies after it is greater.
-use Rattle.std.proofs.Common.{◌≡◌, ◌≢◌, ℕ, suc, zero, ◌+◌, ◌*◌, ◌^◌, ◌<◌, ◌≤◌, Bool, true, false, ◌||◌, List, [], ◌∷◌, length, refl, ap, sym, ◌∙◌, filter, take, drop, get_or, arith, Some}
+use Rattle.std.proofs.Common.{◌≡◌, ◌≢◌, ℕ, suc, zero, ◌*◌, ◌^◌, ◌<◌, ◌≤◌, Bool, true, false, ◌||◌, List, [], ◌∷◌, length, refl, ap, sym, ◌∙◌, filter, take, drop, get_or, arith, Some}
 use Rattle.std.specs.Prelude.{nat_le, nat_lt, slice_get, max}
 use Rattle.std.specs.List.{list_any}
 use Rattle.std.proofs.lemmas.Bool.{false≢true, le-ltb, le-leb, lt-leb, or_parts, leb-false, ltb-false}

@@ -3,17 +3,16 @@ use Rattle.std.proofs.Common.{◌≡◌, ◌≢◌, ℕ, suc, ◌<◌, ◌≤◌
 use Rattle.std.specs.Prelude.{◌==◌, nat_le, nat_lt, is_some, option_map, if◌then◌else◌}
 use Rattle.std.specs.List.{list_any, count_by}
 use Rattle.std.specs.Option.{option_map_or}
-use Rattle.std.proofs.lemmas.Bool.{cases_Bool, false≢true, true≢false, or_parts, or_cases, and_parts, and_from, eq-eqb, eqb-true, ne_eqb, le-leb, leb-true, leb-false, lt-ltb, le-ltb}
+use Rattle.std.proofs.lemmas.Bool.{cases_Bool, false≢true, or_parts, or_cases, and_parts, and_from, eq-eqb, eqb-true, ne_eqb, le-leb, leb-true, leb-false, lt-ltb, le-ltb}
 use Rattle.std.proofs.Math.Seq.{take-suc}
 use Rattle.std.proofs.lemmas.List.{append-nil}
 use Rattle.std.proofs.lemmas.List.Folds.{list_any-append}
-use Rattle.std.proofs.lemmas.Option.{none-some}
 use Rattle.tab_ids.specs.declared.StateId.{StateId}
 use Rattle.tab_ids.specs.declared.Step.{Step}
 use Rattle.log_model.specs.declared.row.Row.{Row}
 use Rattle.log_model.specs.History.{History, is_of, has_state}
 use Rattle.log_model.specs.Soundness.{is_in_state, stands_at, holds, IsSound}
-use Rattle.history_laws.proofs.Members.{IsIn, IsIn-head, IsIn-tail, or_right, or_none, none_passes, list_any-none, list_any-weaker, some_same, witness, found, list_any-filter, IsIn-filter, IsIn-filter_passes, IsIn-into_filter}
+use Rattle.history_laws.proofs.Members.{IsIn, IsIn-head, or_right, or_none, none_passes, list_any-none, list_any-weaker, witness, found, list_any-filter, IsIn-filter, IsIn-filter_passes, IsIn-into_filter}
 use Rattle.history_laws.proofs.OneMore.{AddsRow-insert}
 use Rattle.history_laws.proofs.Replace.{list_any-zero}
 use Rattle.history_laws.proofs.Tidying.{state_same, held}

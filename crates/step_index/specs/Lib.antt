@@ -1,5 +1,6 @@
 pub mod Ascending
 pub mod Cut
+pub mod Groups
 pub mod Held
 pub mod Noted
 pub mod Parts

@@ -11,7 +11,7 @@ use crate::move_on::move_in;
 use crate::parts::Parts;
 use crate::push::push_in;
 use crate::readers::has_row_in;
-use crate::rebuild::change_all;
+use crate::remove::remove_in;
 use crate::replace::replace_in;
 use entry_store::StoreError;
 use log_model::Change;
@@ -56,7 +56,7 @@ pub fn change_parts(parts: &mut Parts, change: &Change) -> Result<(), StoreError
         }
         Change::Reload { nav } => reload_in(parts, *nav),
         Change::Edit => Ok(()),
-        Change::RemoveFrame { .. } => change_all(parts, change),
+        Change::RemoveFrame { nav } => remove_in(parts, change, *nav),
     }
 }
 

@@ -4,10 +4,12 @@ ghost use Rattle.indexmap.specs.IndexMap.{spare};
 ghost use Rattle.tab_ids.specs.declared.NavId.{NavId};
 ghost use Rattle.log_model.specs.Soundness.{IsRooted};
 ghost use Rattle.step_index.specs.Ascending.{IsAscending};
+ghost use Rattle.step_index.specs.Groups.{CountsLess};
 ghost use Rattle.step_index.specs.Starts.{StartsLess};
 ghost use Rattle.step_index.specs.Tracks.{rows_of, step_of, AreTracks};
 ghost use Rattle.step_index.specs.Cut.{rows_upto, rows_past, NotesLess, AreCut, has_rows, HasRowRoom, is_held, AreHeld};
 
+use crate::groups::{Group, uncount_row};
 use crate::noted::{Place, forget_place};
 use crate::search::uncounted_upto;
 use crate::starts::{end_start, starts_by};
@@ -56,6 +58,7 @@ pub fn cut_tracks(
     tracks: &mut Vec<Track>,
     noted: &mut IndexMap<EntryId, Place>,
     starts: &mut IndexMap<StateId, Step>,
+    counts: &mut IndexMap<Group, usize>,
     step: Step,
 )
     requires tracks { AreTracks tracks.old.items }
@@ -63,11 +66,12 @@ pub fn cut_tracks(
     ensures rows { rows_of tracks.new.items ≡ rows_upto step.0 (rows_of tracks.old.items) }
     ensures noted { NotesLess noted.old.entries (rows_past step.0 (rows_of tracks.old.items)) noted.new.entries }
     ensures starts { StartsLess starts.old.entries (rows_past step.0 (rows_of tracks.old.items)) starts.new.entries }
+    ensures counts { CountsLess counts.old.entries (rows_past step.0 (rows_of tracks.old.items)) counts.new.entries }
     ensures room { (nav : NavId) → HasRowRoom nav tracks.old.items → HasRowRoom nav tracks.new.items }
     ensures note_room { spare noted.old ≤ spare noted.new }
     ensures start_room { spare starts.old ≤ spare starts.new }
 {
-    cut_all(tracks, noted, starts, step);
+    cut_all(tracks, noted, starts, counts, step);
     drop_empty(tracks);
 }
 
@@ -76,16 +80,18 @@ fn cut_all(
     tracks: &mut Vec<Track>,
     noted: &mut IndexMap<EntryId, Place>,
     starts: &mut IndexMap<StateId, Step>,
+    counts: &mut IndexMap<Group, usize>,
     step: Step,
 )
     requires tracks { AreTracks tracks.old.items }
     ensures cut { AreCut step.0 tracks.old.items tracks.new.items }
     ensures noted { NotesLess noted.old.entries (rows_past step.0 (rows_of tracks.old.items)) noted.new.entries }
     ensures starts { StartsLess starts.old.entries (rows_past step.0 (rows_of tracks.old.items)) starts.new.entries }
+    ensures counts { CountsLess counts.old.entries (rows_past step.0 (rows_of tracks.old.items)) counts.new.entries }
     ensures note_room { spare noted.old ≤ spare noted.new }
     ensures start_room { spare starts.old ≤ spare starts.new }
 {
-    cut_each(tracks, noted, starts, step);
+    cut_each(tracks, noted, starts, counts, step);
 }
 
 // The same of a list of tracks.
@@ -93,17 +99,19 @@ fn cut_each(
     tracks: &mut [Track],
     noted: &mut IndexMap<EntryId, Place>,
     starts: &mut IndexMap<StateId, Step>,
+    counts: &mut IndexMap<Group, usize>,
     step: Step,
 )
     requires tracks { AreTracks tracks.old }
     ensures cut { AreCut step.0 tracks.old tracks.new }
     ensures noted { NotesLess noted.old.entries (rows_past step.0 (rows_of tracks.old)) noted.new.entries }
     ensures starts { StartsLess starts.old.entries (rows_past step.0 (rows_of tracks.old)) starts.new.entries }
+    ensures counts { CountsLess counts.old.entries (rows_past step.0 (rows_of tracks.old)) counts.new.entries }
     ensures note_room { spare noted.old ≤ spare noted.new }
     ensures start_room { spare starts.old ≤ spare starts.new }
 {
     for track in tracks.iter_mut() {
-        cut_rows(&mut track.rows, noted, starts, step);
+        cut_rows(&mut track.rows, noted, starts, counts, step);
     }
 }
 
@@ -112,6 +120,7 @@ fn cut_rows(
     rows: &mut Vec<Row>,
     noted: &mut IndexMap<EntryId, Place>,
     starts: &mut IndexMap<StateId, Step>,
+    counts: &mut IndexMap<Group, usize>,
     step: Step,
 )
     requires sorted { IsAscending step_of rows.old.items }
@@ -119,11 +128,12 @@ fn cut_rows(
     ensures capacity { vec_capacity rows.new ≡ vec_capacity rows.old }
     ensures noted { NotesLess noted.old.entries (rows_past step.0 rows.old.items) noted.new.entries }
     ensures starts { StartsLess starts.old.entries (rows_past step.0 rows.old.items) starts.new.entries }
+    ensures counts { CountsLess counts.old.entries (rows_past step.0 rows.old.items) counts.new.entries }
     ensures note_room { spare noted.old ≤ spare noted.new }
     ensures start_room { spare starts.old ≤ spare starts.new }
 {
     let upto = uncounted_upto(rows.as_slice(), step.0);
-    forget_from(rows.as_slice(), upto, noted, starts);
+    forget_from(rows.as_slice(), upto, noted, starts, counts);
     rows.truncate(upto);
 }
 
@@ -133,14 +143,16 @@ fn forget_from(
     from: usize,
     noted: &mut IndexMap<EntryId, Place>,
     starts: &mut IndexMap<StateId, Step>,
+    counts: &mut IndexMap<Group, usize>,
 )
     requires { from ≤ length rows.now }
     ensures noted { NotesLess noted.old.entries (drop from rows.now) noted.new.entries }
     ensures starts { StartsLess starts.old.entries (drop from rows.now) starts.new.entries }
+    ensures counts { CountsLess counts.old.entries (drop from rows.now) counts.new.entries }
     ensures note_room { spare noted.old ≤ spare noted.new }
     ensures start_room { spare starts.old ≤ spare starts.new }
 {
-    forget_rows(&rows[from..], noted, starts);
+    forget_rows(&rows[from..], noted, starts, counts);
 }
 
 /// Forgets what is noted of the rows.
@@ -148,15 +160,18 @@ pub fn forget_rows(
     rows: &[Row],
     noted: &mut IndexMap<EntryId, Place>,
     starts: &mut IndexMap<StateId, Step>,
+    counts: &mut IndexMap<Group, usize>,
 )
     ensures noted { NotesLess noted.old.entries rows.now noted.new.entries }
     ensures starts { StartsLess starts.old.entries rows.now starts.new.entries }
+    ensures counts { CountsLess counts.old.entries rows.now counts.new.entries }
     ensures note_room { spare noted.old ≤ spare noted.new }
     ensures start_room { spare starts.old ≤ spare starts.new }
 {
     for row in rows {
         forget_place(noted, row.entry);
         end_start(starts, row);
+        uncount_row(counts, row);
     }
 }
 

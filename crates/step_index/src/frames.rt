@@ -12,9 +12,11 @@ ghost use Rattle.log_model.specs.declared.change.Change.TheVariants.{AddFrame};
 ghost use Rattle.entry_store.specs.Store.{MayTake, IsRefused};
 ghost use Rattle.entry_store.specs.Kept.{PutsRow};
 ghost use Rattle.entry_store.specs.Reading.{first_of};
+ghost use Rattle.step_index.specs.Groups.{AreCounted};
 ghost use Rattle.step_index.specs.Tracks.{rows_of};
 ghost use Rattle.step_index.specs.Parts.{history_in, IsIndex, IsFiled};
 
+use crate::groups::{count_row, reserve_counts};
 use crate::noted::{Place, note_in_room};
 use crate::parts::Parts;
 use crate::places::put_last;
@@ -129,21 +131,26 @@ fn put_frame(parts: &mut Parts, row: Row) -> Result<(), OutOfMemory>
     requires fresh { has_nav parts.old.added.keys row.nav ≡ false }
     requires new { list_any (is_entry row.entry) (rows_of parts.old.tracks.items) ≡ false }
     ensures filed { IsFiled parts.new }
+    ensures counted { OnOk result (AreCounted parts.new.counts.entries (rows_of parts.new.tracks.items)) }
     ensures rows { OnOk result (PutsRow (rows_of parts.old.tracks.items) row (rows_of parts.new.tracks.items)) }
     ensures added { OnOk result (parts.new.added.keys ≡ parts.old.added.keys ++ row.nav ∷ []) }
     ensures err { OnErr result (history_in parts.new ≡ history_in parts.old) }
+    ensures counts { OnErr result (parts.new.counts.entries ≡ parts.old.counts.entries) }
     ensures used { parts.new.used.items ≡ parts.old.used.items }
     ensures current { parts.new.current ≡ parts.old.current }
 {
     reserve_notes(&mut parts.noted, &mut parts.starts)?;
+    reserve_counts(&mut parts.counts, row.step, row.owner)?;
     reserve_added(&mut parts.added)?;
     let nav = row.nav;
     let entry = row.entry;
     let state = row.state;
     let step = row.step;
+    let owner = row.owner;
     put_last(&mut parts.tracks, row)?;
     note_in_room(&mut parts.noted, entry, Place { nav, step });
     start_in_room(&mut parts.starts, state, step);
+    count_row(&mut parts.counts, step, owner);
     add_in_room(&mut parts.added, nav);
     Ok(())
 }

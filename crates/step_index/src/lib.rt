@@ -4,6 +4,7 @@
 mod change;
 mod cut;
 mod frames;
+mod groups;
 mod keyed;
 mod listing;
 mod move_on;
@@ -15,6 +16,7 @@ mod push;
 mod put;
 mod readers;
 mod rebuild;
+mod remove;
 mod replace;
 mod room;
 mod search;

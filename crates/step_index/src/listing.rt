@@ -95,8 +95,8 @@ fn note_child(numbers: &mut BTreeSet<u32>, row: &Row, state: StateId) -> Result<
     Ok(())
 }
 
-/// Whether the row hangs on the document state.
-pub fn is_owned_by(row: &Row, state: StateId) -> bool
+// Whether the row hangs on the document state.
+fn is_owned_by(row: &Row, state: StateId) -> bool
     ensures { result ≡ is_owned_by state row.now }
 {
     match &row.owner {

@@ -1,12 +1,14 @@
 //! The history with which a tab opens.
-ghost use Rattle.std.specs.Prelude.{◌≡◌, ◌∷◌, [], Some, IfOk};
+ghost use Rattle.std.specs.Prelude.{◌≡◌, ◌∷◌, [], None, Some, IfOk};
 ghost use Rattle.log_model.specs.Opening.{opening_history};
 ghost use Rattle.entry_store.specs.Kept.{IsKept};
+ghost use Rattle.step_index.specs.Groups.{AreCounted, CountsRow};
 ghost use Rattle.step_index.specs.Noted.{place_of, AreNoted};
 ghost use Rattle.step_index.specs.Starts.{AreStarted};
 ghost use Rattle.step_index.specs.Tracks.{rows_of, AreTracks};
 ghost use Rattle.step_index.specs.Parts.{history_in};
 
+use crate::groups::{Group, take_row};
 use crate::noted::{Place, note_place};
 use crate::parts::Parts;
 use crate::track::Track;
@@ -22,6 +24,7 @@ pub fn fresh_parts(alloc: Global, first: &Address) -> Result<Parts, OutOfMemory>
     ensures kept { IfOk result (λ parts. IsKept (history_in parts) parts.used.items) }
     ensures tracks { IfOk result (λ parts. AreTracks parts.tracks.items) }
     ensures noted { IfOk result (λ parts. AreNoted parts.noted.entries (rows_of parts.tracks.items)) }
+    ensures counted { IfOk result (λ parts. AreCounted parts.counts.entries (rows_of parts.tracks.items)) }
     ensures started { IfOk result (λ parts. AreStarted parts.starts.entries (rows_of parts.tracks.items)) }
 {
     let address = first.copy()?;
@@ -36,6 +39,7 @@ pub fn fresh_parts(alloc: Global, first: &Address) -> Result<Parts, OutOfMemory>
     };
     let noted = first_noted(alloc)?;
     let starts = first_starts(alloc)?;
+    let counts = first_counts(alloc)?;
     let mut rows = Vec::new(alloc);
     rows.push(row)?;
     let mut tracks = Vec::new(alloc);
@@ -49,6 +53,7 @@ pub fn fresh_parts(alloc: Global, first: &Address) -> Result<Parts, OutOfMemory>
         tracks,
         noted,
         starts,
+        counts,
         used,
         current: Step(0),
         added: IndexSet::new(alloc),
@@ -78,4 +83,13 @@ fn first_starts(alloc: Global) -> Result<IndexMap<StateId, Step>, OutOfMemory>
     let mut starts = IndexMap::new(alloc);
     starts.insert(StateId(1), Step(0))?;
     Ok(starts)
+}
+
+// How many rows stand at its step, and how many hang on each document state.
+fn first_counts(alloc: Global) -> Result<IndexMap<Group, usize>, OutOfMemory>
+    ensures { IfOk result (λ counts. CountsRow [] (record { 0 = 0 }) None counts.entries) }
+{
+    let mut counts = IndexMap::new(alloc);
+    take_row(&mut counts, Step(0), None)?;
+    Ok(counts)
 }

@@ -1,4 +1,5 @@
 //! `Parts`, the entries of a `StepIndex` and what it keeps beside them.
+use crate::groups::Group;
 use crate::noted::Place;
 use crate::track::Track;
 use indexmap::{IndexMap, IndexSet};
@@ -12,6 +13,8 @@ pub struct Parts {
     pub noted: IndexMap<EntryId, Place>,
     /// The least step of each document state.
     pub starts: IndexMap<StateId, Step>,
+    /// How many rows stand at each step, and how many hang on each document state.
+    pub counts: IndexMap<Group, usize>,
     /// The used steps.
     pub used: Vec<u32>,
     pub current: Step,

@@ -5,6 +5,7 @@ ghost use Rattle.log_model.specs.History.{Fits, applied, cleared, greatest_step}
 ghost use Rattle.log_model.specs.Order.{SameHistory};
 ghost use Rattle.log_model.specs.declared.row.Row.{Row};
 ghost use Rattle.log_model.specs.declared.change.Change.TheVariants.{Push};
+ghost use Rattle.entry_store.specs.Kept.{IsKept};
 ghost use Rattle.entry_store.specs.Store.{MayTake, IsRefused};
 ghost use Rattle.step_index.specs.Tracks.{rows_of, IsTrackAt};
 ghost use Rattle.step_index.specs.Cut.{rows_upto};
@@ -52,7 +53,7 @@ pub fn push_in(
 
 /// The greatest used step.
 pub fn greatest_step_in(parts: &Parts) -> Step
-    requires index { IsIndex parts.now }
+    requires kept { IsKept (history_in parts.now) parts.now.used.items }
     ensures { result.0 ≡ greatest_step (history_in parts.now).rows }
 {
     match parts.used.last() {
@@ -128,7 +129,7 @@ fn push_at(
     let step = Step(parts.current.0 + 1);
     let owner = first_owner(&parts.tracks[at].rows);
     let row = entry_row(owner, nav, entry, step, state, address, memo)?;
-    make_room(parts, nav, at)?;
+    make_room(parts, nav, at, step, owner)?;
     put_cleared(parts, row);
     parts.current = step;
     Ok(())

@@ -1,15 +1,18 @@
 //! A row put where there is room for it.
-ghost use Rattle.std.specs.Prelude.{◌≡◌, ◌<◌, true, false, nat_le};
+ghost use Rattle.std.specs.Prelude.{◌≡◌, ◌<◌, ◌≤◌, true, false, nat_le};
 ghost use Rattle.std.specs.List.{list_any};
 ghost use Rattle.tab_ids.specs.declared.NavId.{NavId};
 ghost use Rattle.log_model.specs.History.{has_row, used_steps, with_step};
 ghost use Rattle.log_model.specs.Soundness.{is_entry};
-ghost use Rattle.entry_store.specs.Kept.{PutsRow};
+ghost use Rattle.indexmap.specs.IndexMap.{spare};
+ghost use Rattle.entry_store.specs.Kept.{IsKept, PutsRow};
+ghost use Rattle.step_index.specs.Groups.{AreCounted, CountsLess, AreBelow};
 ghost use Rattle.step_index.specs.Tracks.{rows_of, AreTracks, IsTrackAt, is_from};
-ghost use Rattle.step_index.specs.Cut.{rows_upto, HasRowRoom};
-ghost use Rattle.step_index.specs.Parts.{IsIndex, IsFiled, HasRoom};
+ghost use Rattle.step_index.specs.Cut.{rows_upto, rows_past, HasRowRoom};
+ghost use Rattle.step_index.specs.Parts.{history_in, IsIndex, IsFiled, HasRoom};
 
 use crate::cut::{cut_tracks, cut_used};
+use crate::groups::count_row;
 use crate::noted::{Place, note_in_room};
 use crate::parts::Parts;
 use crate::places::find_nav;
@@ -22,25 +25,31 @@ use log_model::Row;
 pub fn put_cleared(parts: &mut Parts, row: Row)
     requires index { IsIndex parts.old }
     requires room { HasRoom parts.old row.nav }
+    requires count_room { 2 ≤ spare parts.old.counts }
+    requires below { AreBelow parts.old.counts.entries row.step row.owner }
     requires left { has_row row.nav (rows_upto parts.old.current.0 (rows_of parts.old.tracks.items)) ≡ true }
     requires new { list_any (is_entry row.entry) (rows_of parts.old.tracks.items) ≡ false }
     requires past { parts.old.current.0 < row.step.0 }
     ensures filed { IsFiled parts.new }
+    ensures counted { AreCounted parts.new.counts.entries (rows_of parts.new.tracks.items) }
     ensures rows { PutsRow (rows_upto parts.old.current.0 (rows_of parts.old.tracks.items)) row (rows_of parts.new.tracks.items) }
     ensures used { parts.new.used.items ≡ with_step row.step.0 (used_steps (rows_upto parts.old.current.0 (rows_of parts.old.tracks.items))) }
     ensures current { parts.new.current ≡ parts.old.current }
     ensures added { parts.new.added.keys ≡ parts.old.added.keys }
 {
+    count_row(&mut parts.counts, row.step, row.owner);
     clear_forward(parts);
     put_row(parts, row);
 }
 
 // Takes out the entries past the current step.
 fn clear_forward(parts: &mut Parts)
-    requires index { IsIndex parts.old }
+    requires kept { IsKept (history_in parts.old) parts.old.used.items }
+    requires filed { IsFiled parts.old }
     ensures filed { IsFiled parts.new }
     ensures rows { rows_of parts.new.tracks.items ≡ rows_upto parts.old.current.0 (rows_of parts.old.tracks.items) }
     ensures used { parts.new.used.items ≡ used_steps (rows_upto parts.old.current.0 (rows_of parts.old.tracks.items)) }
+    ensures counts { CountsLess parts.old.counts.entries (rows_past parts.old.current.0 (rows_of parts.old.tracks.items)) parts.new.counts.entries }
     ensures room { (nav : NavId) → HasRoom parts.old nav → HasRoom parts.new nav }
     ensures current { parts.new.current ≡ parts.old.current }
     ensures added { parts.new.added.keys ≡ parts.old.added.keys }
@@ -52,6 +61,7 @@ fn clear_forward(parts: &mut Parts)
         &mut parts.tracks,
         &mut parts.noted,
         &mut parts.starts,
+        &mut parts.counts,
         parts.current,
     );
     cut_used(&mut parts.used, parts.current);
@@ -67,6 +77,7 @@ fn put_row(parts: &mut Parts, row: Row)
     requires beyond { list_any (λ step. nat_le row.step.0 step) parts.old.used.items ≡ false }
     ensures filed { IsFiled parts.new }
     ensures rows { PutsRow (rows_of parts.old.tracks.items) row (rows_of parts.new.tracks.items) }
+    ensures counts { parts.new.counts.entries ≡ parts.old.counts.entries }
     ensures used { parts.new.used.items ≡ with_step row.step.0 parts.old.used.items }
     ensures current { parts.new.current ≡ parts.old.current }
     ensures added { parts.new.added.keys ≡ parts.old.added.keys }

@@ -1,17 +1,19 @@
 //! A change by a pass along all rows: what it leaves is put together anew, and takes the place of the old at the end.
-ghost use Rattle.std.specs.Prelude.{◌≡◌, ◌≤◌, ◌<◌, ◌++◌, [], Some, count_by, IfOk, IfErr, OnOk, OnErr};
-ghost use Rattle.log_model.specs.History.{Fits, applied, used_steps};
+ghost use Rattle.std.specs.Prelude.{◌≡◌, ◌≤◌, ◌<◌, ◌++◌, Some, count_by, IfOk, IfErr, OnOk, OnErr};
+ghost use Rattle.log_model.specs.History.{Fits, applied};
 ghost use Rattle.log_model.specs.Order.{ordered, SameHistory};
 ghost use Rattle.entry_store.specs.Store.{MayTake, IsRefused};
 ghost use Rattle.entry_store.specs.Kept.{history_of, IsChanged, IsKept};
 ghost use Rattle.log_model.specs.Soundness.{is_entry};
 ghost use Rattle.tab_ids.specs.declared.EntryId.{EntryId};
+ghost use Rattle.step_index.specs.Groups.{AreCounted};
 ghost use Rattle.step_index.specs.Noted.{AreNoted, NotesOne};
 ghost use Rattle.step_index.specs.Starts.{AreStarted};
 ghost use Rattle.step_index.specs.Strict.{IsStrict};
 ghost use Rattle.step_index.specs.Tracks.{rows_of, AreTracks};
 ghost use Rattle.step_index.specs.Parts.{history_in, IsIndex};
 
+use crate::groups::{Group, take_row};
 use crate::noted::{Place, note_place};
 use crate::parts::Parts;
 use crate::places::put_last;
@@ -94,11 +96,13 @@ fn parts_of(alloc: Global, changed: Changed) -> Result<Parts, OutOfMemory>
     let tracks = tracks_of(alloc, changed.rows.as_slice())?;
     let noted = places_of(alloc, changed.rows.as_slice())?;
     let starts = starts_of(alloc, changed.rows.as_slice())?;
+    let counts = counts_of(alloc, changed.rows.as_slice())?;
     let used = step_list(alloc, &changed.used)?;
     Ok(Parts {
         tracks,
         noted,
         starts,
+        counts,
         used,
         current: changed.current,
         added: changed.added,
@@ -154,6 +158,17 @@ fn starts_of(alloc: Global, rows: &[Row]) -> Result<IndexMap<StateId, Step>, Out
         take_start(&mut starts, row.state, row.step)?;
     }
     Ok(starts)
+}
+
+// How many rows stand at each step, and how many hang on each document state.
+fn counts_of(alloc: Global, rows: &[Row]) -> Result<IndexMap<Group, usize>, OutOfMemory>
+    ensures { IfOk result (λ counts. AreCounted counts.entries rows.now) }
+{
+    let mut counts = IndexMap::new(alloc);
+    for row in rows {
+        take_row(&mut counts, row.step, row.owner)?;
+    }
+    Ok(counts)
 }
 
 // The steps as a list.

@@ -1,23 +1,24 @@
 //! A replace: where no frame goes with the old entry's document, one row takes the place of another.
-ghost use Rattle.std.specs.Prelude.{◌≡◌, ◌+◌, ◌≤◌, ◌<◌, ◌==◌, ◌||◌, not, length, drop, find, slice_get, slice_set, Some, Bool, true, false, IfSome, IfErr, IfOk, OnOk, OnErr};
+ghost use Rattle.std.specs.Prelude.{◌≡◌, ◌+◌, ◌<◌, ◌==◌, length, drop, find, slice_get, slice_set, Some, Bool, true, false, IfSome, IfErr, IfOk, OnOk, OnErr};
 ghost use Rattle.std.specs.List.{list_any};
 ghost use Rattle.std.specs.Option.{option_map};
 ghost use Rattle.indexmap.specs.IndexMap.{spare};
 ghost use Rattle.tab_ids.specs.declared.EntryId.{EntryId};
 ghost use Rattle.log_model.specs.History.{Fits, applied};
 ghost use Rattle.log_model.specs.Order.{SameHistory};
-ghost use Rattle.log_model.specs.Soundness.{is_entry, is_in_state, is_owned_by, IsRooted};
+ghost use Rattle.log_model.specs.Soundness.{is_entry, is_in_state};
 ghost use Rattle.log_model.specs.declared.row.Row.{Row};
 ghost use Rattle.log_model.specs.declared.change.Change.TheVariants.{Replace};
 ghost use Rattle.entry_store.specs.Store.{MayTake, IsRefused};
 ghost use Rattle.step_index.specs.Ascending.{IsAscending};
+ghost use Rattle.step_index.specs.Groups.{AreCounted};
 ghost use Rattle.step_index.specs.Noted.{NotesOver};
 ghost use Rattle.step_index.specs.Starts.{StartsOver};
 ghost use Rattle.step_index.specs.Tracks.{rows_of, step_of, AreTracks, IsTrackAt};
 ghost use Rattle.step_index.specs.Parts.{history_in, IsIndex, IsFiled};
 ghost use Rattle.step_index.specs.Spots.{IsSpotOf, IsPlace, IsEntryAt, PutsOver, track_rows, keeps_frames};
 
-use crate::listing::is_owned_by;
+use crate::groups::{Group, has_any};
 use crate::noted::{Place, forget_place, note_in_room, place_of};
 use crate::parts::Parts;
 use crate::places::find_nav;
@@ -157,7 +158,7 @@ fn keeps_frames(parts: &Parts, rows: &[Row], at: usize, state: StateId) -> bool
     if is_later(rows, at, was.state) {
         return true;
     }
-    !is_owner(&parts.tracks, was.state)
+    !has_any(&parts.counts, Group::On(was.state))
 }
 
 // Whether a row behind the place has the document state.
@@ -175,28 +176,6 @@ fn has_state_row(rows: &[Row], state: StateId) -> bool
     rows.iter().any(|row| row.state == state)
 }
 
-// Whether a navigable's entries hang on the document state.
-fn is_owner(tracks: &[Track], state: StateId) -> bool
-    requires tracks { AreTracks tracks.now }
-    requires rooted { IsRooted (rows_of tracks.now) }
-    ensures { result ≡ list_any (is_owned_by state) (rows_of tracks.now) }
-{
-    for track in tracks {
-        if is_first_owned(&track.rows, state) {
-            return true;
-        }
-    }
-    false
-}
-
-// Whether a navigable's first row hangs on it.
-fn is_first_owned(rows: &[Row], state: StateId) -> bool
-    requires { 0 < length rows.now }
-    ensures { IfSome (slice_get rows.now 0) (λ row. result ≡ is_owned_by state row) }
-{
-    is_owned_by(&rows[0], state)
-}
-
 // Puts a row in the place of the entry's, which is handed out; without memory all stays.
 fn put_over(
     parts: &mut Parts,
@@ -209,8 +188,10 @@ fn put_over(
     requires nav { nav ≡ row.nav }
     requires spot { IsSpotOf parts.old.tracks.items nav over row.state spot.place spot.at spot.owner spot.step.0 }
     requires step { spot.step ≡ row.step }
+    requires owner { spot.owner ≡ row.owner }
     requires new { list_any (is_entry row.entry) (rows_of parts.old.tracks.items) ≡ false }
     ensures filed { IsFiled parts.new }
+    ensures counted { AreCounted parts.new.counts.entries (rows_of parts.new.tracks.items) }
     ensures over { IfOk result (λ was. PutsOver parts.old.tracks.items spot.place spot.at row was parts.new.tracks.items) }
     ensures err { OnErr result (parts.new.tracks.items ≡ parts.old.tracks.items) }
     ensures used { parts.new.used.items ≡ parts.old.used.items }

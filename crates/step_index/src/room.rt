@@ -1,10 +1,12 @@
 //! Room for one entry more, made before anything is changed.
-ghost use Rattle.std.specs.Prelude.{◌≡◌, ◌<◌, vec_len, vec_capacity, OnOk};
+ghost use Rattle.std.specs.Prelude.{◌≡◌, ◌<◌, ◌≤◌, vec_len, vec_capacity, OnOk};
 ghost use Rattle.indexmap.specs.IndexMap.{spare};
 ghost use Rattle.step_index.specs.Cut.{HasRowRoom};
+ghost use Rattle.step_index.specs.Groups.{AreBelow};
 ghost use Rattle.step_index.specs.Tracks.{rows_of, AreTracks, IsTrackAt};
 ghost use Rattle.step_index.specs.Parts.{history_in, IsIndex, HasRoom};
 
+use crate::groups::reserve_counts;
 use crate::noted::Place;
 use crate::parts::Parts;
 use crate::track::Track;
@@ -12,16 +14,25 @@ use address::OutOfMemory;
 use indexmap::IndexMap;
 use tab_ids::{EntryId, NavId, StateId, Step};
 
-/// Makes room for one entry more of the navigable at the place.
-pub fn make_room(parts: &mut Parts, nav: NavId, at: usize) -> Result<(), OutOfMemory>
+/// Makes room for one entry more of the navigable at the place, at the step, which hangs on the owner.
+pub fn make_room(
+    parts: &mut Parts,
+    nav: NavId,
+    at: usize,
+    step: Step,
+    owner: Option<StateId>,
+) -> Result<(), OutOfMemory>
     requires index { IsIndex parts.old }
     requires place { IsTrackAt parts.old.tracks.items nav at }
     ensures index { IsIndex parts.new }
     ensures same { history_in parts.new ≡ history_in parts.old }
     ensures used { parts.new.used.items ≡ parts.old.used.items }
     ensures room { OnOk result (HasRoom parts.new nav) }
+    ensures count_room { OnOk result (2 ≤ spare parts.new.counts) }
+    ensures below { OnOk result (AreBelow parts.new.counts.entries step owner) }
 {
     reserve_lists(&mut parts.noted, &mut parts.starts, &mut parts.used)?;
+    reserve_counts(&mut parts.counts, step, owner)?;
     reserve_row(&mut parts.tracks, nav, at)?;
     Ok(())
 }

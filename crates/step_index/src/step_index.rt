@@ -1,6 +1,7 @@
 //! `StepIndex`, a store of a history that is sorted by step, which a contract sees as the history that it holds.
 ghost use Rattle.entry_store.specs.Kept.{IsKept};
 ghost use Rattle.step_index.specs.Parts.{history_in};
+ghost use Rattle.step_index.specs.Groups.{AreCounted};
 ghost use Rattle.step_index.specs.Noted.{AreNoted};
 ghost use Rattle.step_index.specs.Starts.{AreStarted};
 ghost use Rattle.step_index.specs.Tracks.{rows_of, AreTracks};
@@ -29,6 +30,7 @@ pub struct StepIndex {
     ghost kept: { IsKept (history_in parts) parts.used.items },
     ghost noted: { AreNoted parts.noted.entries (rows_of parts.tracks.items) },
     ghost started: { AreStarted parts.starts.entries (rows_of parts.tracks.items) },
+    ghost counted: { AreCounted parts.counts.entries (rows_of parts.tracks.items) },
     ghost sorted: { AreTracks parts.tracks.items } by { AreTracks-prop parts.tracks.items },
 }
 

@@ -1,13 +1,15 @@
-use Rattle.std.proofs.Common.{◌≡◌, ◌<◌, ◌∙◌, sym, ap, subst, List, ◌++◌, take, length, get_or, arith}
+use Rattle.std.proofs.Common.{◌≡◌, ◌<◌, ◌∙◌, sym, ap, subst, List, take, length, get_or, arith}
 use Rattle.std.proofs.lemmas.Option.{slice_get-get_or}
 use Rattle.log_model.specs.declared.row.Row.{Row}
 use Rattle.step_index.specs.declared.track.Track.{Track}
 use Rattle.step_index.specs.Ascending.{IsAscending}
+use Rattle.step_index.specs.Groups.{CountsLess}
 use Rattle.step_index.specs.Starts.{StartsLess}
 use Rattle.step_index.specs.Tracks.{rows_of, step_of}
 use Rattle.step_index.specs.Cut.{NotesLess, IsCut, rows_upto, rows_past}
 use Rattle.step_index.proofs.Tracking.{track_is}
 use Rattle.step_index.proofs.Starting.{less_and_less}
+use Rattle.step_index.proofs.Counting.{less_counted}
 use Rattle.step_index.proofs.Cutting.{notes_and_notes, cut_rest, cut_more, past_more, same_here}
 use Rattle.step_index.proofs.cut.cut_each.Goals as goal
 
@@ -51,6 +53,10 @@ loop-track-preserved c =
           subst (λ (rows : List Row). StartsLess c.args.starts.now.entries rows c.cut_rows.new.starts.entries) (sym gone)
           (less_and_less c.args.starts.now.entries c.loop-track.starts.entries c.cut_rows.new.starts.entries (rows_past step (rows_of (take i old))) (rows_past step (get_or old i it).rows.items) c.loop-track.invariant.starts
           (subst (λ (rows : List Row). StartsLess c.loop-track.starts.entries rows c.cut_rows.new.starts.entries) mine c.cut_rows.ensures.starts));
+      counts =
+          subst (λ (rows : List Row). CountsLess c.args.counts.now.entries rows c.cut_rows.new.counts.entries) (sym gone)
+          (less_counted c.args.counts.now.entries c.loop-track.counts.entries c.cut_rows.new.counts.entries (rows_past step (rows_of (take i old))) (rows_past step (get_or old i it).rows.items) c.loop-track.invariant.counts
+          (subst (λ (rows : List Row). CountsLess c.loop-track.counts.entries rows c.cut_rows.new.counts.entries) mine c.cut_rows.ensures.counts));
       note_room = omega (arith, c.loop-track.invariant.note_room, c.cut_rows.ensures.note_room);
       start_room = omega (arith, c.loop-track.invariant.start_room, c.cut_rows.ensures.start_room);
     }

@@ -1,4 +1,4 @@
-use Rattle.std.proofs.Common.{◌∙◌, sym, ap, List, ℕ, subst, ◌≡◌, false, take, drop}
+use Rattle.std.proofs.Common.{◌∙◌, sym, List, ℕ, subst, ◌≡◌, false, take, drop}
 use Rattle.std.specs.Prelude.{nat_le, nat_lt}
 use Rattle.std.specs.List.{list_any}
 use Rattle.step_index.proofs.Searching.{cut_at}

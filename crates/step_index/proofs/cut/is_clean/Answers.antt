@@ -1,12 +1,8 @@
-use Rattle.std.proofs.Common.{◌≡◌, ◌<◌, ◌∙◌, add-one, sym, ap, subst, List, ◌++◌, ◌∷◌, [], take, length, slice_get, Some}
+use Rattle.std.proofs.Common.{◌≡◌, ◌<◌, ◌∙◌, sym, subst, List, take, length, slice_get}
 use Rattle.std.specs.Prelude.{IfSome}
-use Rattle.std.proofs.Math.Seq.{take-suc}
-use Rattle.std.proofs.lemmas.List.{append-nil}
 use Rattle.std.proofs.lemmas.List.Folds.{list_any-append}
-use Rattle.std.proofs.lemmas.List.Concat.{flat_map-append}
 use Rattle.log_model.specs.declared.row.Row.{Row}
 use Rattle.history_laws.proofs.Members.{or_none}
-use Rattle.step_index.specs.declared.track.Track.{Track}
 use Rattle.step_index.specs.Tracks.{rows_of}
 use Rattle.step_index.specs.Cut.{is_held, AreHeld}
 use Rattle.step_index.proofs.Searching.{item_at}

@@ -1,7 +1,5 @@
-use Rattle.std.proofs.Common.{◌≡◌, false, true, ◌∙◌, sym, ap, subst, List, ℕ, ◌++◌, ◌∷◌, []}
+use Rattle.std.proofs.Common.{◌∙◌, sym, ap, subst, List, ℕ, ◌++◌, ◌∷◌, []}
 use Rattle.std.specs.List.{list_any}
-use Rattle.tab_ids.specs.declared.NavId.{NavId}
-use Rattle.tab_ids.specs.declared.Step.{Step}
 use Rattle.log_model.specs.declared.row.Row.{Row}
 use Rattle.log_model.specs.declared.change.Change.TheVariants.{AddFrame}
 use Rattle.log_model.specs.History.{History, has_row, has_nav, applied}
@@ -11,7 +9,7 @@ use Rattle.entry_store.specs.Kept.{IsKept}
 use Rattle.entry_store.proofs.AddLaw.{frame_fits}
 use Rattle.step_index.specs.Tracks.{rows_of}
 use Rattle.step_index.specs.Parts.{history_in}
-use Rattle.step_index.proofs.Framing.{new_nav, frame_kept, frame_same, history_framed}
+use Rattle.step_index.proofs.Framing.{index_filed, new_nav, frame_kept, frame_same, history_framed}
 use Rattle.step_index.proofs.frames.add_at.Goals as goal
 
 pub put_frame-requires-clause-none : goal.put_frame-requires-clause-none
@@ -38,7 +36,13 @@ returns-clause-index c =
       tracks = done.filed.tracks;
       noted = done.filed.noted;
       started = done.filed.started;
+      counted = done.counted;
     }
+
+pub returns-in_err-put_frame-clause-index : goal.returns-in_err-put_frame-clause-index
+returns-in_err-put_frame-clause-index c =
+    let failed = c.in_err-put_frame.ensures in
+    index_filed c.args.parts.now c.put_frame.new.parts c.requires.index failed.filed failed.err failed.counts failed.used
 
 pub returns-clause-fits : goal.returns-clause-fits
 returns-clause-fits c =

@@ -8,12 +8,12 @@ use Rattle.step_index.proofs.push.greatest_step_in.Goals as goal
 
 pub returns-in-Some : goal.returns-in-Some
 returns-in-Some c =
-    last_is_greatest (history_in c.args.parts.now) c.args.parts.now.used.items c.requires.index.kept c.in-Some.last.now
+    last_is_greatest (history_in c.args.parts.now) c.args.parts.now.used.items c.requires.kept c.in-Some.last.now
     (ap (λ (used : List ℕ). slice_get used (length used - 1)) (sym c.deref.ensures.value) ∙ sym c.in-Some.ensures.value)
 
 pub returns-in-None : goal.returns-in-None
 returns-in-None c =
     let used = c.args.parts.now.used.items in
-    let some = some_used (history_in c.args.parts.now) used c.requires.index.kept in
+    let some = some_used (history_in c.args.parts.now) used c.requires.kept in
     absurd (none-some (get_or used (length used - 1) 0)
     (c.in-None.ensures.value ∙ ap (λ (steps : List ℕ). slice_get steps (length steps - 1)) c.deref.ensures.value ∙ slice_get-get_or used (length used - 1) 0 (omega (arith, some))))

@@ -1,4 +1,4 @@
-use Rattle.std.proofs.Common.{◌≡◌, ◌∙◌, sym, subst, List}
+use Rattle.std.proofs.Common.{subst, List}
 use Rattle.step_index.specs.declared.track.Track.{Track}
 use Rattle.step_index.specs.Tracks.{rows_of}
 use Rattle.step_index.specs.Cut.{AreHeld}

@@ -1,4 +1,4 @@
-use Rattle.std.proofs.Common.{◌≡◌, ◌<◌, ◌∙◌, sym, ap, subst, List, length, Option, Some}
+use Rattle.std.proofs.Common.{◌<◌, ◌∙◌, sym, ap, subst, List, length}
 use Rattle.std.specs.Prelude.{slice_get}
 use Rattle.std.specs.Option.{option_map}
 use Rattle.std.proofs.lemmas.Option.{get_or_from_slice_get}
@@ -49,6 +49,7 @@ returns-clause-index c =
       tracks = c.put_cleared.ensures.filed.tracks;
       noted = c.put_cleared.ensures.filed.noted;
       started = c.put_cleared.ensures.filed.started;
+      counted = c.put_cleared.ensures.counted;
     }
 
 pub returns-clause-fits : goal.returns-clause-fits

@@ -1,4 +1,4 @@
-use Rattle.std.proofs.Common.{◌≡◌, ◌∙◌, sym, ap, List, subst, false, true}
+use Rattle.std.proofs.Common.{◌∙◌, sym, ap, List, subst}
 use Rattle.std.proofs.lemmas.Bool.{false≢true}
 use Rattle.log_model.specs.History.{has_row}
 use Rattle.step_index.specs.declared.track.Track.{Track}

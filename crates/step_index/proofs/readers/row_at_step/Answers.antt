@@ -1,11 +1,10 @@
-use Rattle.std.proofs.Common.{◌≡◌, ◌-◌, ◌<◌, ◌≤◌, ℕ, suc, false, ◌∙◌, ap, sym, subst, cond, drop, length, arith, List, Some, None}
-use Rattle.std.specs.Prelude.{nat_le, nat_lt}
+use Rattle.std.proofs.Common.{◌≡◌, ◌-◌, ◌<◌, ℕ, false, ◌∙◌, ap, sym, subst, cond, drop, length, arith, Some, None}
+use Rattle.std.specs.Prelude.{nat_le}
 use Rattle.std.specs.List.{list_any}
-use Rattle.std.proofs.lemmas.Bool.{ltb-false}
 use Rattle.log_model.specs.declared.row.Row.{Row}
 use Rattle.log_model.specs.Soundness.{is_entry}
-use Rattle.step_index.proofs.Searching.{item_at, not_in}
-use Rattle.step_index.proofs.Noting.{none_there, last_there, upto_last}
+use Rattle.step_index.proofs.Searching.{item_at}
+use Rattle.step_index.proofs.Noting.{none_there, upto_last}
 use Rattle.step_index.proofs.readers.row_at_step.Goals as goal
 
 pub returns-then-upto-eq0 : goal.returns-then-upto-eq0

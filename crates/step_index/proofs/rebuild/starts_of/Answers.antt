@@ -1,4 +1,4 @@
-use Rattle.std.proofs.Common.{add-one, subst, sym, ap, ◌∙◌, List}
+use Rattle.std.proofs.Common.{add-one, subst, sym, List}
 use Rattle.tab_ids.specs.declared.StateId.{StateId}
 use Rattle.tab_ids.specs.declared.Step.{Step}
 use Rattle.step_index.specs.Starts.{AreStarted}

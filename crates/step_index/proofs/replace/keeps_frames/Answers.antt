@@ -1,13 +1,13 @@
-use Rattle.std.proofs.Common.{◌≡◌, ◌∙◌, sym, ap, subst, refl, List, Bool, true, false, not, Option}
-use Rattle.std.specs.Prelude.{IfSome, slice_get}
-use Rattle.std.specs.List.{list_any}
+use Rattle.std.proofs.Common.{◌≡◌, ◌∙◌, sym, ap, subst, refl, Bool, true, false, not, Option}
+use Rattle.std.specs.Prelude.{IfSome, nat_lt}
 use Rattle.std.proofs.lemmas.Bool.{false≢true}
 use Rattle.log_model.specs.declared.row.Row.{Row}
 use Rattle.log_model.specs.Soundness.{is_owned_by}
-use Rattle.step_index.specs.declared.track.Track.{Track}
+use Rattle.step_index.specs.declared.groups.Group.TheVariants.{On}
 use Rattle.history_laws.proofs.Members.{IsIn}
 use Rattle.step_index.specs.Tracks.{rows_of}
 use Rattle.step_index.specs.Spots.{keeps_frames}
+use Rattle.step_index.proofs.Counting.{any_counted}
 use Rattle.step_index.proofs.Searching.{item_at, item_in}
 use Rattle.step_index.proofs.Replacing.{later_keeps, started_keeps, free_keeps}
 use Rattle.step_index.proofs.replace.keeps_frames.Goals as goal
@@ -37,9 +37,9 @@ returns c =
     let parts = c.args.parts.now in
     let was = c.index-rows-at.result in
     let here = item_at rows c.args.at was c.requires.within c.index-rows-at.is in
-    subst (λ (o : Option Row). IfSome o (λ r. not c.is_owner.result ≡ true → keeps_frames c.args.state r (rows_of parts.tracks.items) ≡ true)) (sym here)
+    subst (λ (o : Option Row). IfSome o (λ r. not c.has_any.result ≡ true → keeps_frames c.args.state r (rows_of parts.tracks.items) ≡ true)) (sym here)
     (λ free. free_keeps c.args.state (rows_of parts.tracks.items) was
-    (ap (λ (tracks : List Track). list_any (is_owned_by was.state) (rows_of tracks)) (sym c.deref.ensures.value) ∙ sym c.is_owner.ensures ∙ isnt c.is_owner.result free))
+    (sym (any_counted (is_owned_by was.state) (rows_of parts.tracks.items)) ∙ ap (nat_lt 0) (sym (c.requires.index.counted (On was.state))) ∙ sym c.has_any.ensures ∙ isnt c.has_any.result free))
   where
     isnt : (b : Bool) → not b ≡ true → b ≡ false
     isnt true is = absurd (false≢true is)

@@ -1,4 +1,4 @@
-use Rattle.std.proofs.Common.{◌≡◌, sym, subst, List, ℕ}
+use Rattle.std.proofs.Common.{sym, subst, List, ℕ}
 use Rattle.log_model.specs.History.{History, applied}
 use Rattle.log_model.specs.Order.{SameHistory}
 use Rattle.log_model.specs.declared.change.Change.TheVariants.{Replace}
@@ -19,6 +19,7 @@ returns-in_ok-put_over-in-Some-clause-index c =
       tracks = over.filed.tracks;
       noted = over.filed.noted;
       started = over.filed.started;
+      counted = over.counted;
     }
 
 pub returns-in_ok-put_over-in-Some-clause-ok : goal.returns-in_ok-put_over-in-Some-clause-ok

@@ -1,5 +1,5 @@
-use Rattle.std.proofs.Common.{◌≡◌, ◌<◌, ◌∙◌, sym, ap, subst, List, length, set, drop, arith, Option}
-use Rattle.std.specs.Prelude.{slice_get, find, option_map}
+use Rattle.std.proofs.Common.{◌<◌, ◌∙◌, sym, ap, subst, List, length, drop, Option}
+use Rattle.std.specs.Prelude.{find, option_map}
 use Rattle.log_model.specs.declared.row.Row.{Row}
 use Rattle.log_model.specs.Soundness.{is_in_state}
 use Rattle.tab_ids.specs.declared.Step.{Step}
