@@ -1,11 +1,11 @@
-use Rattle.std.proofs.Common.{◌≡◌, ◌∙◌, [], ◌∷◌, true, sym, ap}
+use Rattle.std.proofs.Common.{◌≡◌, ◌∙◌, [], ◌∷◌, true, refl, sym, ap}
 use Rattle.log_model.specs.Logs.{in_hand_of}
 use Rattle.scenario_text.specs.declared.line.ScenarioLine.TheVariants as lines
 use Rattle.scenario_text.specs.Follows.{does_all}
 use Rattle.world.specs.Kept.{WorldState}
 use Rattle.world.specs.declared.event.Reply.TheVariants as replies
 use Rattle.scenario_play.specs.Moves.{MovesIf, has_mail}
-use Rattle.scenario_play.proofs.LeadLaws.{all_cut, failed}
+use Rattle.scenario_play.proofs.LeadLaws.{all_cut, failed, leads_none}
 use Rattle.scenario_play.proofs.StepMoves.{begin_moves, begun_moves, on_ok}
 use Rattle.scenario_play.proofs.StepPlays.{took_is, none_taken, works, no_work}
 use Rattle.scenario_play.proofs.round.begin.Goals as goal
@@ -31,3 +31,7 @@ pub returns-in-None-clause-plays : goal.returns-in-None-clause-plays
 returns-in-None-clause-plays c =
     let same = none_taken c.args.world.now c.step.new.world c.args.proc c.in_ok-reply.reply c.in_ok-reply.ensures.steps (sym c.taken.ensures ∙ c.in-None.is) in
     no_work c.args.proc c.args.world.now.log c.step.new.world.log c.in_ok-reply.ensures.plays (ap (λ (w : WorldState). in_hand_of w.log c.args.proc) same ∙ c.requires.free)
+
+pub returns-then-not-has_mail-clause-plays : goal.returns-then-not-has_mail-clause-plays
+returns-then-not-has_mail-clause-plays c =
+    no_work c.args.proc c.args.world.now.log c.args.world.now.log (leads_none (lines.Begin c.args.proc) c.args.world.now.log (c.if-not-has_mail.ensures.log refl)) c.requires.free
