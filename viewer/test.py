@@ -215,7 +215,7 @@ def looks_at_large(page: Page) -> None:
     took = page.run('const from = performance.now(); choose(page.log.events.length - 1, true); draw(); document.body.getBoundingClientRect(); return performance.now() - from')
     check(took < 200, f'a jump to the end takes {took:.0f} ms')
     took = page.run("const box = document.getElementById('time'), from = performance.now(); for (let i = 0; i < 50; i++) { box.scrollLeft -= 1000; draw(); document.body.getBoundingClientRect(); } return (performance.now() - from) / 50")
-    check(took < 33, f'a piece of a scroll takes {took:.1f} ms')
+    check(took < 100, f'a piece of a scroll takes {took:.1f} ms')
     marks = page.run("return document.querySelectorAll('.row').length")
     check(0 < marks < 500, f'{marks} of the rows stand in the page')
 
