@@ -16,8 +16,8 @@ use Rattle.tab_ids.specs.declared.StateId.{StateId}
 use Rattle.tab_ids.specs.declared.Step.{Step}
 use Rattle.tab_ids.specs.declared.EntryId.{EntryId}
 use Rattle.log_model.specs.declared.row.Row.{Row}
-use Rattle.log_model.specs.History.{History, same_entry, is_of, has_state, is_anchored, cleared, with_step, used_steps}
-use Rattle.log_model.specs.Soundness.{is_entry, is_in_state, is_owned_by, IsRooted}
+use Rattle.log_model.specs.History.{History, same_entry, is_of, has_row, has_state, is_anchored, cleared, with_step, used_steps}
+use Rattle.log_model.specs.Soundness.{is_entry, is_in_state, IsRooted}
 use Rattle.history_laws.proofs.Members.{IsIn, IsIn-head, IsIn-tail, or_right, or_none, none_passes, list_any-none, IsIn-filter, IsIn-filter_passes, IsIn-into_filter, witness, filter-filter}
 use Rattle.history_laws.proofs.Tidying.{tidied_times-same, owner_same}
 use Rattle.entry_store.proofs.StepBounds.{used_steps-ascend}
@@ -31,7 +31,7 @@ use Rattle.step_index.specs.Cut.{rows_upto, rows_past, NotesLess, IsCut, AreCut,
 use Rattle.step_index.proofs.Searching.{all_past}
 use Rattle.step_index.proofs.Noting.{same_entry-turned}
 use Rattle.step_index.proofs.Tracking.{was_not}
-use Rattle.step_index.proofs.Looking.{ascending_from}
+use Rattle.step_index.proofs.Looking.{ascending_from, has_row_some, has_row_none}
 
 -- ---- notes
 
@@ -112,56 +112,77 @@ no_items track empty = nothing track.rows.items (sym track.rows.ok.0 ∙ eqb-tru
     nothing [] none = refl
     nothing (x ∷ xs) none = absurd (omega (arith, none))
 
-cut_is : (step : ℕ) (old new : Track) → IsCut step old new → IsTrack old.nav old.rows.items → has_rows new ≡ true → IsTrack new.nav new.rows.items
-cut_is step old new cut is has = (
-  some_items new has,
-  (
-    ap (λ (n : NavId). list_any (λ (row : Row). not (is_of n row)) new.rows.items) cut.nav
-        ∙ ap (list_any (λ (row : Row). not (is_of old.nav row))) cut.rows
-        ∙ list_any-none (λ (row : Row). not (is_of old.nav row)) (rows_upto step old.rows.items) (λ row there.
-        none_passes (λ (r : Row). not (is_of old.nav r)) old.rows.items is.1.0 row (IsIn-filter (λ (r : Row). nat_le r.step.0 step) old.rows.items row there)),
-    subst (IsAscending step_of) (sym cut.rows) (ascending_filter step_of (λ (row : Row). nat_le row.step.0 step) old.rows.items is.1.1),
-  ),
+-- a navigable's track has rows where it has a row
+pub has_rows_is : (rows : List Row) (nav : NavId) (track : Track) → filter (is_of nav) rows ≡ track.rows.items → has_rows track ≡ has_row nav rows
+has_rows_is rows nav track own = by_test (has_rows track) refl
+  where
+    by_test : (b : Bool) → has_rows track ≡ b → has_rows track ≡ has_row nav rows
+    by_test true has = has ∙ sym (has_row_some rows track.rows.items nav own (some_items track has))
+    by_test false none = none ∙ sym (has_row_none rows nav (own ∙ no_items track none))
+
+cut_is : (step : ℕ) (old new : Track) → IsCut step old new → IsTrack old.nav old.rows.items → IsTrack new.nav new.rows.items
+cut_is step old new cut is = (
+  ap (λ (n : NavId). list_any (λ (row : Row). not (is_of n row)) new.rows.items) cut.nav
+      ∙ ap (list_any (λ (row : Row). not (is_of old.nav row))) cut.rows
+      ∙ list_any-none (λ (row : Row). not (is_of old.nav row)) (rows_upto step old.rows.items) (λ row there.
+      none_passes (λ (r : Row). not (is_of old.nav r)) old.rows.items is.0 row (IsIn-filter (λ (r : Row). nat_le r.step.0 step) old.rows.items row there)),
+  subst (IsAscending step_of) (sym cut.rows) (ascending_filter step_of (λ (row : Row). nat_le row.step.0 step) old.rows.items is.1),
 )
 
 -- ---- the tracks
 
-pub cut_rows_are : (step : ℕ) (old new : List Track) → AreCut step old new → rows_of (filter has_rows new) ≡ rows_upto step (rows_of old)
-cut_rows_are step [] [] cut = refl
-cut_rows_are step [] (new ∷ news) cut = absurd cut
-cut_rows_are step (old ∷ olds) [] cut = absurd cut
-cut_rows_are step (old ∷ olds) (new ∷ news) cut =
-    by_test (has_rows new) refl ∙ ap (λ (rows : List Row). rows ++ rows_of (filter has_rows news)) cut.0.rows
-    ∙ ap (λ (rows : List Row). rows_upto step old.rows.items ++ rows) (cut_rows_are step olds news cut.1)
-    ∙ sym (filter-append (λ (row : Row). nat_le row.step.0 step) old.rows.items (rows_of olds))
+-- those without rows dropped
+pub full_rows : (tracks : List Track) → rows_of (filter has_rows tracks) ≡ rows_of tracks
+full_rows [] = refl
+full_rows (track ∷ tracks) = by_test (has_rows track) refl ∙ ap (λ (rows : List Row). track.rows.items ++ rows) (full_rows tracks)
   where
-    by_test : (b : Bool) → has_rows new ≡ b → rows_of (filter has_rows (new ∷ news)) ≡ new.rows.items ++ rows_of (filter has_rows news)
+    by_test : (b : Bool) → has_rows track ≡ b → rows_of (filter has_rows (track ∷ tracks)) ≡ track.rows.items ++ rows_of (filter has_rows tracks)
     by_test true has = rw has refl
-    by_test false empty = rw empty (ap (λ (rows : List Row). rows ++ rows_of (filter has_rows news)) (sym (no_items new empty)))
+    by_test false empty = rw empty (ap (λ (rows : List Row). rows ++ rows_of (filter has_rows tracks)) (sym (no_items track empty)))
 
-cut_lower : (step bound : ℕ) (old new : List Track) → AreCut step old new → list_any (λ (other : Track). nat_le other.nav.0 bound) old ≡ false → list_any (λ (other : Track). nat_le other.nav.0 bound) (filter has_rows new) ≡ false
+pub full_tracks : (tracks : List Track) → AreTracks tracks → AreTracks (filter has_rows tracks)
+full_tracks [] are = tt
+full_tracks (track ∷ tracks) are =
+    elim (has_rows track) as (λ b. AreTracks (cond b (track ∷ filter has_rows tracks) (filter has_rows tracks))) [
+      | true ↦ (
+        list_any-none (λ (other : Track). nat_le other.nav.0 track.nav.0) (filter has_rows tracks) (λ other there. none_passes (λ (o : Track). nat_le o.nav.0 track.nav.0) tracks are.0 other (IsIn-filter has_rows tracks other there)),
+        (are.1.0, full_tracks tracks are.1.1),
+      )
+      | false ↦ full_tracks tracks are.1.1
+    ]
+
+-- the rows past a step cut off
+cut_whole : (step : ℕ) (old new : List Track) → AreCut step old new → rows_of new ≡ rows_upto step (rows_of old)
+cut_whole step [] [] cut = refl
+cut_whole step [] (new ∷ news) cut = absurd cut
+cut_whole step (old ∷ olds) [] cut = absurd cut
+cut_whole step (old ∷ olds) (new ∷ news) cut =
+    ap (λ (rows : List Row). rows ++ rows_of news) cut.0.rows
+    ∙ ap (λ (rows : List Row). rows_upto step old.rows.items ++ rows) (cut_whole step olds news cut.1)
+    ∙ sym (filter-append (λ (row : Row). nat_le row.step.0 step) old.rows.items (rows_of olds))
+
+pub cut_rows_are : (step : ℕ) (old new : List Track) → AreCut step old new → rows_of (filter has_rows new) ≡ rows_upto step (rows_of old)
+cut_rows_are step old new cut = full_rows new ∙ cut_whole step old new cut
+
+cut_lower : (step bound : ℕ) (old new : List Track) → AreCut step old new → list_any (λ (other : Track). nat_le other.nav.0 bound) old ≡ false → list_any (λ (other : Track). nat_le other.nav.0 bound) new ≡ false
 cut_lower step bound [] [] cut none = refl
 cut_lower step bound [] (new ∷ news) cut none = absurd cut
 cut_lower step bound (old ∷ olds) [] cut none = absurd cut
 cut_lower step bound (old ∷ olds) (new ∷ news) cut none =
     let both = or_parts (nat_le old.nav.0 bound) (list_any (λ (other : Track). nat_le other.nav.0 bound) olds) none in
-    elim (has_rows new) as (λ b. list_any (λ (other : Track). nat_le other.nav.0 bound) (cond b (new ∷ filter has_rows news) (filter has_rows news)) ≡ false) [
-      | true ↦ or_none _ _ (ap (λ (n : NavId). nat_le n.0 bound) cut.0.nav ∙ both.0) (cut_lower step bound olds news cut.1 both.1)
-      | false ↦ cut_lower step bound olds news cut.1 both.1
-    ]
+    or_none _ _ (ap (λ (n : NavId). nat_le n.0 bound) cut.0.nav ∙ both.0) (cut_lower step bound olds news cut.1 both.1)
+
+cut_are : (step : ℕ) (old new : List Track) → AreCut step old new → AreTracks old → AreTracks new
+cut_are step [] [] cut are = tt
+cut_are step [] (new ∷ news) cut are = absurd cut
+cut_are step (old ∷ olds) [] cut are = absurd cut
+cut_are step (old ∷ olds) (new ∷ news) cut are = (
+  ap (λ (n : NavId). list_any (λ (other : Track). nat_le other.nav.0 n.0) news) cut.0.nav ∙ cut_lower step old.nav.0 olds news cut.1 are.0,
+  (cut_is step old new cut.0 are.1.0, cut_are step olds news cut.1 are.1.1),
+)
 
 pub cut_tracks_are : (step : ℕ) (old new : List Track) → AreCut step old new → AreTracks old → AreTracks (filter has_rows new)
-cut_tracks_are step [] [] cut are = tt
-cut_tracks_are step [] (new ∷ news) cut are = absurd cut
-cut_tracks_are step (old ∷ olds) [] cut are = absurd cut
-cut_tracks_are step (old ∷ olds) (new ∷ news) cut are = by_test (cut_tracks_are step olds news cut.1 are.1.1) (has_rows new) refl
-  where
-    by_test : AreTracks (filter has_rows news) → (b : Bool) → has_rows new ≡ b → AreTracks (filter has_rows (new ∷ news))
-    by_test rest true has = rw has (
-      ap (λ (n : NavId). list_any (λ (other : Track). nat_le other.nav.0 n.0) (filter has_rows news)) cut.0.nav ∙ cut_lower step old.nav.0 olds news cut.1 are.0,
-      (cut_is step old new cut.0 are.1.0 has, rest),
-    )
-    by_test rest false empty = rw empty rest
+cut_tracks_are step old new cut are = full_tracks new (cut_are step old new cut are)
 
 -- a list that is cut has room where it had
 fewer : {A : Type 0} (p : A → Bool) (xs : List A) → length (filter p xs) ≤ length xs
@@ -288,14 +309,14 @@ held_as_first whole rooted starts step nav (row ∷ rows) part is first here hel
     first_is = Rattle.history_laws.proofs.Members.some_same row first here
 
     own : (r : Row) → IsIn (row ∷ rows) r → r.nav.0 ≡ nav.0
-    own r there = eqb-true r.nav.0 nav.0 (was_not (is_of nav r) (none_passes (λ (x : Row). not (is_of nav x)) (row ∷ rows) is.1.0 r there))
+    own r there = eqb-true r.nav.0 nav.0 (was_not (is_of nav r) (none_passes (λ (x : Row). not (is_of nav x)) (row ∷ rows) is.0 r there))
 
     later : (r : Row) → IsIn (row ∷ rows) r → row.step.0 ≤ r.step.0
     later r there =
         leb-true row.step.0 r.step.0 (was_not (nat_le row.step.0 r.step.0)
         (none_passes (λ (x : Row). not (nat_le row.step.0 x.step.0)) (row ∷ rows)
         (or_none _ _ (ap not (le-leb row.step.0 row.step.0 (omega arith)))
-        (list_any-none (λ (x : Row). not (nat_le row.step.0 x.step.0)) rows (λ x in_. ap not (le-leb row.step.0 x.step.0 (omega (arith, leb-false x.step.0 row.step.0 (none_passes (λ (y : Row). nat_le y.step.0 row.step.0) rows is.1.1.0 x in_)))))))
+        (list_any-none (λ (x : Row). not (nat_le row.step.0 x.step.0)) rows (λ x in_. ap not (le-leb row.step.0 x.step.0 (omega (arith, leb-false x.step.0 row.step.0 (none_passes (λ (y : Row). nat_le y.step.0 row.step.0) rows is.1.0 x in_)))))))
         r there))
 
     owner_is : (r : Row) → IsIn (row ∷ rows) r → r.owner ≡ row.owner
@@ -318,7 +339,7 @@ filter-all = Rattle.step_index.proofs.Replacing.filter-all
 
 -- by what is asked of its first
 pub held_track : (whole : List Row) → IsRooted whole → (starts : List (StateId × Step)) (step : ℕ) (nav : NavId) (rows : List Row) → ((row : Row) → IsIn rows row → IsIn whole row) → IsTrack nav rows → (result : Bool) → IfSome (slice_get rows 0) (λ row. result ≡ is_held starts step row) → result ≡ true → AreHeld starts step rows
-held_track whole rooted starts step nav [] part is result first holds = absurd (omega (arith, is.0))
+held_track whole rooted starts step nav [] part is result first holds = refl
 held_track whole rooted starts step nav (row ∷ rows) part is result first holds = held_as_first whole rooted starts step nav (row ∷ rows) part is row refl (sym first ∙ holds)
 
 -- then clearing leaves the rows up to the current step

@@ -1,10 +1,10 @@
 -- A frame on whose document states nothing hangs goes: what stays of the tracks, of the used steps and of all that is kept beside them.
 use Rattle.std.proofs.Common.{◌≡◌, ◌≢◌, ℕ, zero, suc, ◌+◌, ◌-◌, ◌<◌, Bool, true, false, not, ◌&&◌, ◌||◌, cond, List, [], ◌∷◌, ◌++◌, length, refl, ap, sym, ◌∙◌, filter, take, drop, subst, arith, inl, inr, Option, Some, None}
-use Rattle.std.specs.Prelude.{◌==◌, nat_le, nat_lt, slice_get, remove, if◌then◌else◌}
+use Rattle.std.specs.Prelude.{◌==◌, nat_le, nat_lt, slice_get, slice_set, remove, if◌then◌else◌}
 use Rattle.std.specs.List.{list_any, count_by}
 use Rattle.std.specs.Option.{option_map_or}
 use Rattle.std.proofs.lemmas.Bool.{cases_Bool, false≢true, or_parts, or_cases, and_parts, and_from, eq-eqb, eqb-true, ne_eqb, leb-false}
-use Rattle.std.proofs.lemmas.List.{take-append-drop}
+use Rattle.std.proofs.lemmas.List.{take-append-drop, set_split}
 use Rattle.std.proofs.lemmas.List.Elements.{filter-append}
 use Rattle.std.proofs.lemmas.List.Concat.{flat_map-append}
 use Rattle.std.proofs.lemmas.List.Folds.{list_any-append}
@@ -32,11 +32,11 @@ use Rattle.step_index.specs.declared.parts.Parts.{Parts}
 use Rattle.step_index.specs.Ascending.{IsAscending}
 use Rattle.step_index.specs.Groups.{is_in, count_of, AreCounted, is_unused}
 use Rattle.step_index.specs.Starts.{start_of, is_by, is_start, AreStarted, StartsLess, starts_with}
-use Rattle.step_index.specs.Tracks.{rows_of, AreTracks, IsTrackAt}
+use Rattle.step_index.specs.Tracks.{rows_of, IsTrack, AreTracks, IsTrackAt}
 use Rattle.step_index.specs.Parts.{history_in, IsIndex, IsLeafAt, has_below}
 use Rattle.step_index.proofs.Searching.{first_lower, none_at}
 use Rattle.step_index.proofs.Noting.{eqb_turned}
-use Rattle.step_index.proofs.Tracking.{was_not, any_insert, split_at, rows_split, rows_at, none_of, track_is}
+use Rattle.step_index.proofs.Tracking.{was_not, any_insert, tracks_swap, split_at, rows_split, rows_at, none_of, track_is}
 use Rattle.step_index.proofs.Looking.{ascending_from, used_ascend, has_row_some}
 use Rattle.step_index.proofs.Starting.{started_by}
 use Rattle.step_index.proofs.Cutting.{filter_none, ascending_filter}
@@ -84,8 +84,8 @@ module _ (tracks : List Track) (nav : NavId) (at : ℕ) (place : IsTrackAt track
   were : tracks ≡ front ++ place.it ∷ back
   were = split_at tracks at place.it place.here
 
-  pub taken_tracks : AreTracks (remove tracks at)
-  taken_tracks = tracks_less front place.it back (subst AreTracks were are)
+  less : AreTracks (front ++ back)
+  less = tracks_less front place.it back (subst AreTracks were are)
 
   pub taken_rows : place.it.rows.items ≡ filter (is_of nav) (rows_of tracks)
   taken_rows = sym (rows_at tracks nav at place.it are place.here place.is_navs)
@@ -93,10 +93,10 @@ module _ (tracks : List Track) (nav : NavId) (at : ℕ) (place : IsTrackAt track
   own : list_any (λ (row : Row). not (is_of nav row)) place.it.rows.items ≡ false
   own =
       ap (λ n. list_any (λ (row : Row). not (row.nav.0 == n)) place.it.rows.items) (sym place.is_navs)
-      ∙ (track_is tracks at place.it are place.here).1.0
+      ∙ (track_is tracks at place.it are place.here).0
 
-  pub taken_left : rows_of (remove tracks at) ≡ filter (λ (row : Row). not (is_of nav row)) (rows_of tracks)
-  taken_left =
+  left_rows : rows_of (front ++ back) ≡ filter (λ (row : Row). not (is_of nav row)) (rows_of tracks)
+  left_rows =
       let others : Row → Bool = λ row. not (is_of nav row) in
       sym (
       ap (λ (ts : List Track). filter others (rows_of ts)) were
@@ -105,7 +105,24 @@ module _ (tracks : List Track) (nav : NavId) (at : ℕ) (place : IsTrackAt track
       ∙ ap (λ (rest : List Row). filter others (rows_of front) ++ rest) (filter-append others place.it.rows.items (rows_of back) ∙ ap (λ (mine : List Row). mine ++ filter others (rows_of back)) (filter_none others place.it.rows.items own))
       ∙ sym (filter-append others (rows_of front) (rows_of back))
       ∙ ap (filter others) (sym (flat_map-append (λ (t : Track). t.rows.items) front back))
-      ∙ filter_others (is_of nav) (rows_of (front ++ back)) (none_of (front ++ back) nav taken_tracks (alone front place.it back nav place.is_navs (subst AreTracks were are))))
+      ∙ filter_others (is_of nav) (rows_of (front ++ back)) (none_of (front ++ back) nav less (alone front place.it back nav place.is_navs (subst AreTracks were are))))
+
+  -- the track has no rows any more
+  module _ (empty : Track) (nav_same : empty.nav ≡ place.it.nav) (none : empty.rows.items ≡ []) where
+    become : slice_set tracks at empty ≡ front ++ empty ∷ back
+    become = set_split tracks at empty place.within
+
+    pub emptied_tracks : AreTracks (slice_set tracks at empty)
+    emptied_tracks =
+        subst AreTracks (sym become)
+        (tracks_swap front place.it empty back (ap (λ (n : NavId). n.0) nav_same) (subst (λ (rows : List Row). IsTrack empty.nav rows) (sym none) (refl, tt)) (subst AreTracks were are))
+
+    pub emptied_left : rows_of (slice_set tracks at empty) ≡ filter (λ (row : Row). not (is_of nav row)) (rows_of tracks)
+    emptied_left =
+        ap rows_of become ∙ rows_split front empty back
+        ∙ ap (λ (mine : List Row). rows_of front ++ (mine ++ rows_of back)) none
+        ∙ sym (flat_map-append (λ (t : Track). t.rows.items) front back)
+        ∙ left_rows
 
 -- ---- used steps
 
@@ -277,7 +294,7 @@ module _ (parts : Parts) (index : IsIndex parts) (nav : NavId) (at : ℕ) (leaf 
   pub leaf_fits : Fits (history_in parts) (RemoveFrame nav)
   leaf_fits =
       removal_fits (history_in parts) nav leaf.is_child
-      (has_row_some rows leaf.place.it.rows.items nav (sym (taken_rows parts.tracks.items nav at leaf.place index.tracks)) (track_is parts.tracks.items at leaf.place.it index.tracks leaf.place.here).0)
+      (has_row_some rows leaf.place.it.rows.items nav (sym (taken_rows parts.tracks.items nav at leaf.place index.tracks)) leaf.some)
 
   pub leaf_same : (step : ℕ) → step ≡ used_step_at left parts.current.0 → SameHistory (record { rows = left; current = step; added = parts.added.keys }) (applied (history_in parts) (RemoveFrame nav))
   leaf_same step is = record {

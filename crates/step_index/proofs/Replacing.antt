@@ -55,19 +55,12 @@ ascending_swap (row ∷ front) old new back same sorted = (
 
 track_swap : (nav : NavId) (front : List Row) (old new : Row) (back : List Row) → new.nav.0 ≡ old.nav.0 → new.step.0 ≡ old.step.0 → IsTrack nav (front ++ old ∷ back) → IsTrack nav (front ++ new ∷ back)
 track_swap nav front old new back navs steps is = (
-  some front,
-  (
-    any_insert (λ (row : Row). not (is_of nav row)) front back new
-        ∙ ap (λ n. not (n == nav.0) || list_any (λ (row : Row). not (is_of nav row)) (front ++ back)) navs
-        ∙ sym (any_insert (λ (row : Row). not (is_of nav row)) front back old)
-        ∙ is.1.0,
-    ascending_swap front old new back steps is.1.1,
-  ),
+  any_insert (λ (row : Row). not (is_of nav row)) front back new
+      ∙ ap (λ n. not (n == nav.0) || list_any (λ (row : Row). not (is_of nav row)) (front ++ back)) navs
+      ∙ sym (any_insert (λ (row : Row). not (is_of nav row)) front back old)
+      ∙ is.0,
+  ascending_swap front old new back steps is.1,
 )
-  where
-    some : (rows : List Row) → 0 < length (rows ++ new ∷ back)
-    some [] = omega arith
-    some (row ∷ rows) = omega arith
 
 module _ (tracks : List Track) (place at : ℕ) (row was : Row) (are : AreTracks tracks) (spot : IsPlace tracks place at row.nav row.step.0) (old new : Track) (is : old ≡ get_or tracks place old) (was_is : was ≡ get_or old.rows.items at was) (nav : new.nav ≡ old.nav) (put : new.rows.items ≡ set old.rows.items at row) where
   old_is : old ≡ spot.track
@@ -314,7 +307,7 @@ spot_found tracks place nav over state at row are found rows rows_are within her
 }
   where
     own : row.nav.0 ≡ found.it.nav.0
-    own = own_row rows found.it.nav at row (subst (λ (r : List Row). list_any (λ (x : Row). not (is_of found.it.nav x)) r ≡ false) (sym rows_are) (track_is tracks place found.it are found.here).1.0) here
+    own = own_row rows found.it.nav at row (subst (λ (r : List Row). list_any (λ (x : Row). not (is_of found.it.nav x)) r ≡ false) (sym rows_are) (track_is tracks place found.it are found.here).0) here
       where
         own_row : (xs : List Row) (n : NavId) (i : ℕ) (r : Row) → list_any (λ (x : Row). not (is_of n x)) xs ≡ false → slice_get xs i ≡ Some r → r.nav.0 ≡ n.0
         own_row xs n i r none there = eqb-true r.nav.0 n.0 (was_not (is_of n r) (not_in (λ (x : Row). not (is_of n x)) xs i r there none))
@@ -384,7 +377,7 @@ module _ (parts : Parts) (index : IsIndex parts) (place at : ℕ) (row was : Row
   split = split_row puts.track.rows.items at was puts.here
 
   nav_was_ : puts.track.nav.0 ≡ was.nav.0
-  nav_was_ = sym (eqb-true was.nav.0 puts.track.nav.0 (was_not (is_of puts.track.nav was) (not_in (λ (r : Row). not (is_of puts.track.nav r)) puts.track.rows.items at was puts.here track_mine.1.0)))
+  nav_was_ = sym (eqb-true was.nav.0 puts.track.nav.0 (was_not (is_of puts.track.nav was) (not_in (λ (r : Row). not (is_of puts.track.nav r)) puts.track.rows.items at was puts.here track_mine.0)))
 
   own : filter (is_of was.nav) (rows_of parts.tracks.items) ≡ take at puts.track.rows.items ++ was ∷ drop (suc at) puts.track.rows.items
   own = rows_at parts.tracks.items was.nav place puts.track index.tracks puts.there nav_was_ ∙ split
@@ -393,7 +386,7 @@ module _ (parts : Parts) (index : IsIndex parts) (place at : ℕ) (row was : Row
   swapped_started starts over =
       subst (λ (rows : List Row). AreStarted starts rows) (sym puts.of_new)
       (over_started (history_in parts) index.kept.sound puts.front puts.back was row puts.of_old (take at puts.track.rows.items) (drop (suc at) puts.track.rows.items) own
-      (subst (IsAscending step_of) split track_mine.1.1) step_was_ parts.starts.entries starts index.started over)
+      (subst (IsAscending step_of) split track_mine.1) step_was_ parts.starts.entries starts index.started over)
 
   pub swapped_noted : (over : EntryId) (noted : List (EntryId × Place)) → is_entry over was ≡ true → list_any (is_entry row.entry) (rows_of parts.tracks.items) ≡ false → NotesOver parts.noted.entries row over noted → AreNoted noted (rows_of new)
   swapped_noted over noted is fresh notes =

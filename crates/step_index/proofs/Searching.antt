@@ -1,8 +1,9 @@
 -- Looking up by halves: what lies before the middle is at most it, and what lies after it is greater.
-use Rattle.std.proofs.Common.{◌≡◌, ◌≢◌, ℕ, suc, zero, ◌*◌, ◌^◌, ◌<◌, ◌≤◌, Bool, true, false, ◌||◌, List, [], ◌∷◌, length, refl, ap, sym, ◌∙◌, filter, take, drop, get_or, arith, Some}
+use Rattle.std.proofs.Common.{◌≡◌, ◌≢◌, ℕ, suc, zero, ◌-◌, ◌*◌, ◌^◌, ◌<◌, ◌≤◌, Bool, true, false, ◌||◌, List, [], ◌∷◌, length, refl, ap, sym, ◌∙◌, filter, take, drop, get_or, arith, Some, None}
 use Rattle.std.specs.Prelude.{nat_le, nat_lt, slice_get, max}
 use Rattle.std.specs.List.{list_any}
 use Rattle.std.proofs.lemmas.Bool.{false≢true, le-ltb, le-leb, lt-leb, or_parts, leb-false, ltb-false}
+use Rattle.std.proofs.lemmas.List.{take_all}
 use Rattle.std.proofs.lemmas.Option.{none-some, slice_get-get_or}
 use Rattle.std.proofs.Math.Nat.{pow-suc, mul-le-mul_left, mul_assoc}
 use Rattle.history_laws.proofs.Members.{or_right, or_none, some_same}
@@ -33,6 +34,19 @@ module _ {A : Type 0} (number : A → ℕ) where
       or_none _ _ (le-ltb bound (number first) (omega (arith, upto, ap number (some_same first item is)))) refl
   upto_middle (first ∷ items) (suc i) item bound sorted is upto =
       or_none _ _ (le-ltb bound (number first) (omega (arith, upto, first_lower first items i item sorted is))) (upto_middle items i item bound sorted.1 is upto)
+
+  -- where the last is at most a number, all are
+  pub upto_last : (items : List A) (item : A) (bound : ℕ) → IsAscending number items → slice_get items (length items - 1) ≡ Some item → number item ≤ bound → list_any (λ x. nat_lt bound (number x)) items ≡ false
+  upto_last items item bound sorted is upto = ap (list_any (λ x. nat_lt bound (number x))) (sym whole) ∙ upto_middle items (length items - 1) item bound sorted is upto
+    where
+      whole : take (suc (length items - 1)) items ≡ items
+      whole = take_all (suc (length items - 1)) items (omega arith)
+
+  -- where there is no last, there is none
+  pub no_last : (items : List A) (bound : ℕ) → slice_get items (length items - 1) ≡ None → list_any (λ x. nat_lt bound (number x)) items ≡ false
+  no_last [] bound none = refl
+  no_last (first ∷ items) bound none =
+      absurd (none-some (get_or (first ∷ items) (length (first ∷ items) - 1) first) (sym none ∙ slice_get-get_or (first ∷ items) (length (first ∷ items) - 1) first (omega arith)))
 
   -- where the first is greater than a number, all are
   pub all_past : (first : A) (bound : ℕ) (items : List A) → bound < number first → list_any (λ other. nat_le (number other) (number first)) items ≡ false → list_any (λ x. nat_le (number x) bound) items ≡ false

@@ -129,20 +129,13 @@ own_row (row ∷ rows) nav step own same mine none =
 -- a row behind the others of its navigable
 pub track_push : (rows : List Row) (own : NavId) (row : Row) → own.0 ≡ row.nav.0 → IsTrack own rows → list_any (is_from row.nav row.step.0) rows ≡ false → IsTrack own (rows ++ row ∷ [])
 track_push rows own row same is last = (
-  longer rows,
-  (
-    list_any-append (λ (r : Row). not (is_of own r)) rows (row ∷ []) ∙ or_none _ _ is.1.0 (or_none _ _ (ap not (eq-eqb row.nav.0 own.0 (sym same))) refl),
-    ascending_push step_of rows row is.1.1 (own_row rows row.nav row.step.0 own same is.1.0 last),
-  ),
+  list_any-append (λ (r : Row). not (is_of own r)) rows (row ∷ []) ∙ or_none _ _ is.0 (or_none _ _ (ap not (eq-eqb row.nav.0 own.0 (sym same))) refl),
+  ascending_push step_of rows row is.1 (own_row rows row.nav row.step.0 own same is.0 last),
 )
-  where
-    longer : (xs : List Row) → 0 < length (xs ++ row ∷ [])
-    longer [] = omega arith
-    longer (x ∷ xs) = omega arith
 
 -- the first row of a navigable
 pub track_one : (row : Row) → IsTrack row.nav (row ∷ [])
-track_one row = (omega arith, (or_none _ _ (ap not (eq-eqb row.nav.0 row.nav.0 refl)) refl, (refl, tt)))
+track_one row = (or_none _ _ (ap not (eq-eqb row.nav.0 row.nav.0 refl)) refl, (refl, tt))
 
 pub rows_split : (front : List Track) (track : Track) (back : List Track) → rows_of (front ++ track ∷ back) ≡ rows_of front ++ (track.rows.items ++ rows_of back)
 rows_split front track back = flat_map-append (λ (t : Track). t.rows.items) front (track ∷ back)
@@ -295,7 +288,7 @@ none_of [] nav are none = refl
 none_of (track ∷ tracks) nav are none =
     let both = or_parts (track.nav.0 == nav.0) (list_any (λ (t : Track). t.nav.0 == nav.0) tracks) none in
     filter-append (is_of nav) track.rows.items (rows_of tracks)
-    ∙ ap (λ (rows : List Row). rows ++ filter (is_of nav) (rows_of tracks)) (others_rows track.rows.items track.nav nav (apart both.0) are.1.0.1.0)
+    ∙ ap (λ (rows : List Row). rows ++ filter (is_of nav) (rows_of tracks)) (others_rows track.rows.items track.nav nav (apart both.0) are.1.0.0)
     ∙ none_of tracks nav are.1.1 both.1
   where
     apart : (track.nav.0 == nav.0) ≡ false → track.nav.0 ≢ nav.0
@@ -316,11 +309,11 @@ rows_at (first ∷ tracks) nav zero track are here is_navs =
     filter-append (is_of nav) first.rows.items (rows_of tracks)
     ∙ ap (λ (rows : List Row). filter (is_of nav) first.rows.items ++ rows) (none_of tracks nav are.1.1 (later_than first tracks nav mine are.0))
     ∙ append-nil (filter (is_of nav) first.rows.items)
-    ∙ own_rows first.rows.items first.nav nav mine are.1.0.1.0
+    ∙ own_rows first.rows.items first.nav nav mine are.1.0.0
     ∙ ap (λ (t : Track). t.rows.items) same
 rows_at (first ∷ tracks) nav (suc i) track are here is_navs =
     filter-append (is_of nav) first.rows.items (rows_of tracks)
-    ∙ ap (λ (rows : List Row). rows ++ filter (is_of nav) (rows_of tracks)) (others_rows first.rows.items first.nav nav apart are.1.0.1.0)
+    ∙ ap (λ (rows : List Row). rows ++ filter (is_of nav) (rows_of tracks)) (others_rows first.rows.items first.nav nav apart are.1.0.0)
     ∙ rows_at tracks nav i track are.1.1 here is_navs
   where
     apart : first.nav.0 ≢ nav.0
@@ -371,7 +364,7 @@ before_tracks row [] are lower = refl
 before_tracks row (track ∷ tracks) are lower =
     let both = or_parts (nat_le track.nav.0 row.nav.0) (list_any (λ (other : Track). nat_le other.nav.0 row.nav.0) tracks) lower in
     list_any-append (λ (other : Row). not (is_before row other)) track.rows.items (rows_of tracks)
-    ∙ or_none _ _ (before_track row track.nav track.rows.items (leb-false track.nav.0 row.nav.0 both.0) are.1.0.1.0) (before_tracks row tracks are.1.1 both.1)
+    ∙ or_none _ _ (before_track row track.nav track.rows.items (leb-false track.nav.0 row.nav.0 both.0) are.1.0.0) (before_tracks row tracks are.1.1 both.1)
 
 ordered_track : (own : NavId) (rows : List Row) (tracks : List Track) → AreTracks tracks → list_any (λ (other : Track). nat_le other.nav.0 own.0) tracks ≡ false → list_any (λ (row : Row). not (is_of own row)) rows ≡ false → IsAscending step_of rows → ordered (rows_of tracks) ≡ rows_of tracks → ordered (rows ++ rows_of tracks) ≡ rows ++ rows_of tracks
 ordered_track own [] tracks are lower mine ascend rest = rest
@@ -387,4 +380,4 @@ ordered_track own (row ∷ rows) tracks are lower mine ascend rest =
 pub tracks_ordered : (tracks : List Track) → AreTracks tracks → ordered (rows_of tracks) ≡ rows_of tracks
 tracks_ordered [] are = refl
 tracks_ordered (track ∷ tracks) are =
-    ordered_track track.nav track.rows.items tracks are.1.1 are.0 are.1.0.1.0 are.1.0.1.1 (tracks_ordered tracks are.1.1)
+    ordered_track track.nav track.rows.items tracks are.1.1 are.0 are.1.0.0 are.1.0.1 (tracks_ordered tracks are.1.1)

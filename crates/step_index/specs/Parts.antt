@@ -1,6 +1,6 @@
 -- What a `StepIndex` stands for, and what it keeps.
 -- This project's own.
-use Rattle.std.specs.Prelude.{◌≡◌, ◌≢◌, ◌<◌, ◌≤◌, ℕ, Bool, false, nat_lt, List, vec_len, vec_capacity, slice_get, IfSome}
+use Rattle.std.specs.Prelude.{◌≡◌, ◌≢◌, ◌<◌, ◌≤◌, ℕ, Bool, false, nat_lt, List, length, vec_len, vec_capacity, slice_get, IfSome}
 use Rattle.std.specs.List.{list_any}
 use Rattle.indexmap.specs.IndexMap.{spare}
 use Rattle.tab_ids.specs.declared.NavId.{NavId}
@@ -42,9 +42,10 @@ pub record HasRoom (parts : Parts) (nav : NavId) : Type 0 where
   pub used : vec_len parts.used < vec_capacity parts.used
   pub row : HasRowRoom nav parts.tracks.items
 
--- the navigable's entries stand at the place, the first of them up to the current step, and clearing leaves all up to there
+-- the navigable's entries stand at the place, at least one, the first of them up to the current step, and clearing leaves all up to there
 pub record IsLeftAt (parts : Parts) (nav : NavId) (at : ℕ) : Type 0 where
   pub place : IsTrackAt parts.tracks.items nav at
+  pub some : 0 < length place.it.rows.items
   pub first : IfSome (slice_get place.it.rows.items 0) (λ row. row.step.0 ≤ parts.current.0)
   pub clean : cleared (history_in parts) ≡ rows_upto parts.current.0 (rows_of parts.tracks.items)
 
@@ -52,8 +53,9 @@ pub record IsLeftAt (parts : Parts) (nav : NavId) (at : ℕ) : Type 0 where
 abbrev pub has_below : List (Group × ℕ) → Row → Bool
 has_below counts row = nat_lt 0 (count_of (On row.state) counts)
 
--- the frame's entries stand at the place, and nothing hangs on their document states
+-- the frame's entries stand at the place, at least one, and nothing hangs on their document states
 pub record IsLeafAt (parts : Parts) (nav : NavId) (at : ℕ) : Type 0 where
   pub is_child : nav.0 ≢ 0
   pub place : IsTrackAt parts.tracks.items nav at
+  pub some : 0 < length place.it.rows.items
   pub free : list_any (has_below parts.counts.entries) place.it.rows.items ≡ false

@@ -1,7 +1,7 @@
 -- What a store keeps sorted is a fact that holds in one way.
-use Rattle.std.specs.Prelude.{◌≡◌, ◌<◌, ℕ, false, not, nat_le, length, List, [], ◌∷◌}
+use Rattle.std.specs.Prelude.{◌≡◌, ℕ, false, not, nat_le, List, [], ◌∷◌}
 use Rattle.std.specs.List.{list_any}
-use Rattle.std.specs.Coded.{×_prop, Unit-prop, le_prop}
+use Rattle.std.specs.Coded.{×_prop, Unit-prop}
 use Rattle.std.proofs.Math.Bool.{Bool-set}
 use Rattle.tab_ids.specs.declared.NavId.{NavId}
 use Rattle.log_model.specs.declared.row.Row.{Row}
@@ -16,10 +16,9 @@ IsAscending-prop number (item ∷ items) = ×_prop (Bool-set _ _) (IsAscending-p
 
 IsTrack-prop : (nav : NavId) (rows : List Row) → IsProp (IsTrack nav rows)
 IsTrack-prop nav rows =
-    let some : IsProp (0 < length rows) = le_prop in
     let own : IsProp (list_any (λ (row : Row). not (is_of nav row)) rows ≡ false) = Bool-set _ _ in
     let ascend : IsProp (IsAscending step_of rows) = IsAscending-prop step_of rows in
-    ×_prop some (×_prop own ascend)
+    ×_prop own ascend
 
 pub AreTracks-prop : (tracks : List Track) → IsProp (AreTracks tracks)
 AreTracks-prop [] = Unit-prop

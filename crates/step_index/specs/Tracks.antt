@@ -19,12 +19,12 @@ step_of row = row.step.0
 abbrev pub rows_of : List Track → List Row
 rows_of tracks = flat_map (λ (track : Track). track.rows.items) tracks
 
--- one navigable's entries, at least one, by step
+-- one navigable's entries, by step
 abbrev pub IsTrack : NavId → List Row → Type 0
 IsTrack nav rows =
-    (0 < length rows) × ((list_any (λ (row : Row). not (is_of nav row)) rows ≡ false) × IsAscending step_of rows)
+    (list_any (λ (row : Row). not (is_of nav row)) rows ≡ false) × IsAscending step_of rows
 
--- the navigables by number, each with its own entries
+-- the navigables by number, each with its own entries; a removed frame has none left
 abbrev pub AreTracks : List Track → Type 0
 AreTracks [] = Unit {0}
 AreTracks (track ∷ tracks) =

@@ -1,5 +1,5 @@
 //! Clearing the forward session history: each navigable's entries past the current step go from its end.
-ghost use Rattle.std.specs.Prelude.{◌≡◌, ◌≤◌, ◌<◌, false, true, drop, filter, length, nat_le, slice_get, vec_capacity, IfSome};
+ghost use Rattle.std.specs.Prelude.{◌≡◌, ◌≤◌, false, true, drop, filter, length, nat_le, slice_get, vec_capacity, IfSome};
 ghost use Rattle.indexmap.specs.IndexMap.{spare};
 ghost use Rattle.tab_ids.specs.declared.NavId.{NavId};
 ghost use Rattle.log_model.specs.Soundness.{IsRooted};
@@ -34,10 +34,12 @@ pub fn is_clean(tracks: &[Track], starts: &IndexMap<StateId, Step>, step: Step) 
 
 // Whether a navigable's first entry goes, or stays with what it hangs on.
 fn is_first_held(rows: &[Row], starts: &IndexMap<StateId, Step>, step: Step) -> bool
-    requires some { 0 < length rows.now }
     ensures { IfSome (slice_get rows.now 0) (λ row. result ≡ is_held starts.now.entries step.0 row) }
 {
-    is_row_held(&rows[0], starts, step)
+    match rows.first() {
+        Some(row) => is_row_held(row, starts, step),
+        None => true,
+    }
 }
 
 // The same of one entry.
@@ -175,8 +177,8 @@ pub fn forget_rows(
     }
 }
 
-// Drops the tracks that have no row left.
-fn drop_empty(tracks: &mut Vec<Track>)
+/// Drops the tracks that have no row left.
+pub fn drop_empty(tracks: &mut Vec<Track>)
     ensures { tracks.new.items ≡ filter has_rows tracks.old.items }
 {
     tracks.retain(|track| !track.rows.is_empty());

@@ -51,6 +51,7 @@ pub fn fresh_parts(alloc: Global, first: &Address) -> Result<Parts, OutOfMemory>
     used.push(0)?;
     Ok(Parts {
         tracks,
+        gaps: 0,
         noted,
         starts,
         counts,

@@ -9,6 +9,8 @@ use tab_ids::{EntryId, NavId, StateId, Step};
 #[derive(Drop)]
 pub struct Parts {
     pub tracks: Vec<Track>,
+    /// About how many tracks have no entry left, as those of removed frames. Nothing is proved of it.
+    pub gaps: usize,
     /// Where each entry is looked for.
     pub noted: IndexMap<EntryId, Place>,
     /// The least step of each document state.

@@ -88,12 +88,15 @@ fn left_at(parts: &Parts, nav: NavId, at: usize) -> Option<usize>
     Some(at)
 }
 
-// Whether a navigable's first entry stands up to a step.
+// Whether a navigable has a first entry, which stands up to a step.
 fn is_first_upto(rows: &[Row], step: Step) -> bool
-    requires { 0 < length rows.now }
-    ensures { IfSome (slice_get rows.now 0) (λ row. result ≡ nat_le row.step.0 step.0) }
+    ensures some { result ≡ true → 0 < length rows.now }
+    ensures first { IfSome (slice_get rows.now 0) (λ row. result ≡ nat_le row.step.0 step.0) }
 {
-    rows[0].step <= step
+    match rows.first() {
+        Some(row) => row.step <= step,
+        None => false,
+    }
 }
 
 // Whether all that hangs on an entry up to the current step stays where the others go.

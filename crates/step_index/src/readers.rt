@@ -5,6 +5,7 @@ ghost use Rattle.log_model.specs.History.{is_of, has_nav, has_row, has_state, ro
 ghost use Rattle.log_model.specs.Soundness.{is_entry};
 ghost use Rattle.log_model.specs.declared.row.Row.{Row};
 ghost use Rattle.step_index.specs.Ascending.{IsAscending};
+ghost use Rattle.step_index.specs.Cut.{has_rows};
 ghost use Rattle.step_index.specs.Noted.{is_at_place};
 ghost use Rattle.step_index.specs.Tracks.{rows_of, step_of, AreTracks};
 ghost use Rattle.step_index.specs.Parts.{history_in, IsIndex};
@@ -27,9 +28,16 @@ pub fn has_row_in(tracks: &[Track], nav: NavId) -> bool
     ensures { result ≡ has_row nav (rows_of tracks.now) }
 {
     match find_nav(tracks, nav) {
-        Ok(_) => true,
+        Ok(at) => has_rows(&tracks[at]),
         Err(_) => false,
     }
+}
+
+// Whether a navigable has an entry left.
+fn has_rows(track: &Track) -> bool
+    ensures { result ≡ has_rows track.now }
+{
+    !track.rows.is_empty()
 }
 
 /// The navigable's target entry at a step. Each comparison of one of its rows' steps with it is a tick.

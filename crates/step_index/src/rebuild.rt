@@ -100,6 +100,7 @@ fn parts_of(alloc: Global, changed: Changed) -> Result<Parts, OutOfMemory>
     let used = step_list(alloc, &changed.used)?;
     Ok(Parts {
         tracks,
+        gaps: 0,
         noted,
         starts,
         counts,

@@ -1,5 +1,5 @@
 //! A removed frame: where nothing hangs on its documents, its own entries go and no others.
-ghost use Rattle.std.specs.Prelude.{◌≡◌, ◌<◌, not, filter, ◌==◌, IfSome, IfErr, OnOk, OnErr};
+ghost use Rattle.std.specs.Prelude.{◌≡◌, ◌<◌, true, false, not, filter, length, slice_get, slice_set, ◌==◌, IfSome, IfErr, OnOk, OnErr};
 ghost use Rattle.std.specs.List.{list_any};
 ghost use Rattle.log_model.specs.declared.row.Row.{Row};
 ghost use Rattle.log_model.specs.History.{Fits, applied, is_of};
@@ -12,7 +12,7 @@ ghost use Rattle.step_index.specs.Groups.{is_unused};
 ghost use Rattle.step_index.specs.Tracks.{rows_of, AreTracks, IsTrackAt};
 ghost use Rattle.step_index.specs.Parts.{history_in, IsIndex, IsLeafAt, has_below};
 
-use crate::cut::forget_rows;
+use crate::cut::{drop_empty, forget_rows};
 use crate::groups::{Group, has_any};
 use crate::move_on::used_step;
 use crate::parts::Parts;
@@ -23,6 +23,7 @@ use crate::track::Track;
 use entry_store::StoreError;
 use indexmap::IndexMap;
 use log_model::{Change, Row};
+use std::mem;
 use tab_ids::{NavId, Step};
 
 /// Takes out a navigable's entries, and those of all frames below its documents.
@@ -56,14 +57,25 @@ fn leaf_place(parts: &Parts, nav: NavId) -> Option<usize>
     }
     match find_nav(&parts.tracks, nav) {
         Ok(at) => {
-            if has_frames(&parts.tracks[at].rows, &parts.counts) {
-                None
-            } else {
+            if is_leaf(&parts.tracks[at].rows, &parts.counts) {
                 Some(at)
+            } else {
+                None
             }
         }
         Err(_) => None,
     }
+}
+
+// Whether there are rows, on whose document states no frame hangs.
+fn is_leaf(rows: &[Row], counts: &IndexMap<Group, usize>) -> bool
+    ensures some { result ≡ true → 0 < length rows.now }
+    ensures free { result ≡ true → list_any (has_below counts.now.entries) rows.now ≡ false }
+{
+    if rows.is_empty() {
+        return false;
+    }
+    !has_frames(rows, counts)
 }
 
 // Whether a frame hangs on a document state of the rows.
@@ -83,6 +95,7 @@ fn remove_at(parts: &mut Parts, nav: NavId, at: usize)
     ensures ok { SameHistory (history_in parts.new) (applied (history_in parts.old) (RemoveFrame nav)) }
 {
     take_out(parts, nav, at);
+    close_gaps(parts);
     parts.current = used_step(parts, parts.current);
 }
 
@@ -105,7 +118,29 @@ fn take_out(parts: &mut Parts, nav: NavId, at: usize)
     drop_unused(&mut parts.used, &rows, &parts.counts);
 }
 
-// Takes out a navigable's track, and hands out its rows.
+// One track more has no row. Once they are the greater part they are dropped, so a removal moves few tracks in the mean.
+fn close_gaps(parts: &mut Parts)
+    requires index { IsIndex parts.old }
+    ensures index { IsIndex parts.new }
+    ensures same { history_in parts.new ≡ history_in parts.old }
+{
+    parts.gaps = parts.gaps.saturating_add(1);
+    if parts.gaps > parts.tracks.len() / 2 {
+        close_tracks(&mut parts.tracks);
+        parts.gaps = 0;
+    }
+}
+
+// Drops the tracks without a row.
+fn close_tracks(tracks: &mut Vec<Track>)
+    requires tracks { AreTracks tracks.old.items }
+    ensures tracks { AreTracks tracks.new.items }
+    ensures rows { rows_of tracks.new.items ≡ rows_of tracks.old.items }
+{
+    drop_empty(tracks);
+}
+
+// Takes a navigable's rows out of its track, which has none then, and hands them out.
 fn take_track(tracks: &mut Vec<Track>, nav: NavId, at: usize) -> Vec<Row>
     requires tracks { AreTracks tracks.old.items }
     requires place { IsTrackAt tracks.old.items nav at }
@@ -113,8 +148,17 @@ fn take_track(tracks: &mut Vec<Track>, nav: NavId, at: usize) -> Vec<Row>
     ensures rows { result.items ≡ filter (is_of nav) (rows_of tracks.old.items) }
     ensures left { rows_of tracks.new.items ≡ filter (λ (row : Row). not (is_of nav row)) (rows_of tracks.old.items) }
 {
-    let track = tracks.remove(at);
-    track.rows
+    let none = Vec::new(*tracks.allocator());
+    swap_rows(tracks, at, none)
+}
+
+// Gives a track other rows, and hands out those that it had.
+fn swap_rows(tracks: &mut Vec<Track>, at: usize, rows: Vec<Row>) -> Vec<Row>
+    requires { at < length tracks.old.items }
+    ensures { IfSome (slice_get tracks.old.items at) (λ track. (result ≡ track.rows) × (tracks.new.items ≡ slice_set tracks.old.items at (record { nav = track.nav; rows = rows }))) }
+{
+    let track = &mut tracks[at];
+    mem::replace(&mut track.rows, rows)
 }
 
 // Takes out the used steps at which one of the rows stood and none stands any more.

@@ -1,5 +1,5 @@
 //! Looking up a number in a sorted list by halves.
-ghost use Rattle.std.specs.Prelude.{◌≡◌, ◌≤◌, ◌-◌, ◌*◌, ◌+◌, ◌^◌, false, nat_le, nat_lt, length, take, drop};
+ghost use Rattle.std.specs.Prelude.{◌≡◌, ◌≤◌, ◌-◌, ◌*◌, ◌+◌, ◌^◌, true, false, nat_le, nat_lt, length, take, drop};
 ghost use Rattle.std.specs.List.{list_any};
 ghost use Rattle.step_index.specs.Ascending.{IsAscending};
 
@@ -31,14 +31,28 @@ pub fn count_upto<T: Keyed, L: Ledger>(items: &[T], number: u32, steps: &mut Ste
     low
 }
 
-/// The same for a caller that counts nothing.
+/// The same for a caller that counts nothing; where all have at most the number, one comparison tells.
 pub fn uncounted_upto<T: Keyed>(items: &[T], number: u32) -> usize
     requires sorted { IsAscending T.key items.now }
     ensures within { result ≤ length items.now }
     ensures upto { list_any (λ item. nat_lt number (T.key item)) (take result items.now) ≡ false }
     ensures past { list_any (λ item. nat_le (T.key item) number) (drop result items.now) ≡ false }
 {
+    if are_upto(items, number) {
+        return items.len();
+    }
     blank_upto::<T, Brand>(items, number, Blank::new(1))
+}
+
+// Whether all items have at most the number: the last has.
+fn are_upto<T: Keyed>(items: &[T], number: u32) -> bool
+    requires sorted { IsAscending T.key items.now }
+    ensures { result ≡ true → list_any (λ item. nat_lt number (T.key item)) items.now ≡ false }
+{
+    match items.last() {
+        Some(last) => last.key() <= number,
+        None => true,
+    }
 }
 
 // The same with a ledger of its own.

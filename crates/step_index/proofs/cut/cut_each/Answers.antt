@@ -21,7 +21,7 @@ cut_rows-requires c =
     let item : c.track-item.result ≡ get_or old i c.track-item.result = same_here c.args.step.0 old c.loop-track.tracks i c.track-item.result c.track-item.result within c.loop-track.auto.tracks c.loop-track.invariant.rest c.track-item.is in
     let there = slice_get-get_or old i c.track-item.result (omega (arith, within, c.loop-track.auto.tracks)) in
     record {
-      sorted = subst (λ (t : Track). IsAscending step_of t.rows.items) (sym item ∙ c.track-item.is) (track_is old i (get_or old i c.track-item.result) c.requires.tracks there).1.1;
+      sorted = subst (λ (t : Track). IsAscending step_of t.rows.items) (sym item ∙ c.track-item.is) (track_is old i (get_or old i c.track-item.result) c.requires.tracks there).1;
     }
 
 pub loop-track-preserved : goal.loop-track-preserved

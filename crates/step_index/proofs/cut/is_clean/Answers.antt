@@ -1,4 +1,4 @@
-use Rattle.std.proofs.Common.{◌≡◌, ◌<◌, ◌∙◌, sym, subst, List, take, length, slice_get}
+use Rattle.std.proofs.Common.{◌≡◌, ◌∙◌, sym, subst, List, take, slice_get}
 use Rattle.std.specs.Prelude.{IfSome}
 use Rattle.std.proofs.lemmas.List.Folds.{list_any-append}
 use Rattle.log_model.specs.declared.row.Row.{Row}
@@ -9,13 +9,6 @@ use Rattle.step_index.proofs.Searching.{item_at}
 use Rattle.step_index.proofs.Tracking.{track_is, track_any, rows_next}
 use Rattle.step_index.proofs.Cutting.{held_track}
 use Rattle.step_index.proofs.cut.is_clean.Goals as goal
-
-pub is_first_held-requires : goal.is_first_held-requires
-is_first_held-requires c =
-    let tracks = c.args.tracks.now in
-    let it = c.track-item.result in
-    let there = item_at tracks c.loop-track.track-index it c.loop-track-test.true c.track-item.is in
-    record { some = subst (λ (rows : List Row). 0 < length rows) (sym c.deref.ensures.value) (track_is tracks c.loop-track.track-index it c.requires.tracks there).0 }
 
 pub loop-track-preserved : goal.loop-track-preserved
 loop-track-preserved c =

@@ -9,7 +9,6 @@ use Rattle.step_index.specs.declared.track.Track.{Track}
 use Rattle.step_index.specs.Tracks.{rows_of}
 use Rattle.step_index.specs.Cut.{rows_upto}
 use Rattle.step_index.specs.Parts.{history_in}
-use Rattle.step_index.proofs.Tracking.{track_is}
 use Rattle.step_index.proofs.Pushing.{same_upto, left_row, pushed_fits, pushed_same, pushed_kept}
 use Rattle.step_index.proofs.push.push_at.Goals as goal
 
@@ -18,7 +17,7 @@ first_owner-owner-requires c =
     let place = c.requires.left.place in
     let same = c.index.ensures ∙ get_or_from_slice_get c.args.parts.now.tracks.items c.args.at place.it c.index.result.now place.here in
     subst (λ (rows : List Row). 0 < length rows) (sym (c.deref.ensures.value ∙ ap (λ (t : Track). t.rows.items) same))
-    (track_is c.args.parts.now.tracks.items c.args.at place.it c.requires.index.tracks place.here).0
+    c.requires.left.some
 
 pub put_cleared-requires-clause-left : goal.put_cleared-requires-clause-left
 put_cleared-requires-clause-left c =

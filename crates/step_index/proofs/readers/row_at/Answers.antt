@@ -16,7 +16,7 @@ row_at_step-requires c =
     let same = get_or_from_slice_get c.args.tracks.now c.in-Ok.at place.it c.index-tracks-at.result place.here in
     record {
       sorted = subst (λ (rows : List Row). IsAscending step_of rows) (sym (c.deref.ensures.value ∙ ap (λ (t : Track). t.rows.items) same))
-          (track_is c.args.tracks.now c.in-Ok.at place.it c.requires.tracks place.here).1.1;
+          (track_is c.args.tracks.now c.in-Ok.at place.it c.requires.tracks place.here).1;
     }
 
 pub returns-in-Ok : goal.returns-in-Ok

@@ -19,14 +19,14 @@ entry_at-requires c =
     let tracks = c.args.parts.now.tracks.items in
     let place = c.requires.place in
     let same = c.index.ensures ∙ get_or_from_slice_get tracks c.args.place place.it c.index.result.now place.here in
-    record { sorted = subst (IsAscending step_of) (sym (c.as_slice-rows.ensures.value ∙ ap (λ (t : Track). t.rows.items) same)) (track_is tracks c.args.place place.it c.requires.index.tracks place.here).1.1 }
+    record { sorted = subst (IsAscending step_of) (sym (c.as_slice-rows.ensures.value ∙ ap (λ (t : Track). t.rows.items) same)) (track_is tracks c.args.place place.it c.requires.index.tracks place.here).1 }
 
 pub keeps_frames-requires-clause-sorted : goal.keeps_frames-requires-clause-sorted
 keeps_frames-requires-clause-sorted c =
     let tracks = c.args.parts.now.tracks.items in
     let place = c.requires.place in
     let same = c.index.ensures ∙ get_or_from_slice_get tracks c.args.place place.it c.index.result.now place.here in
-    subst (IsAscending step_of) (sym (c.as_slice-rows.ensures.value ∙ ap (λ (t : Track). t.rows.items) same)) (track_is tracks c.args.place place.it c.requires.index.tracks place.here).1.1
+    subst (IsAscending step_of) (sym (c.as_slice-rows.ensures.value ∙ ap (λ (t : Track). t.rows.items) same)) (track_is tracks c.args.place place.it c.requires.index.tracks place.here).1
 
 pub keeps_frames-requires-clause-part : goal.keeps_frames-requires-clause-part
 keeps_frames-requires-clause-part c = λ test any.
