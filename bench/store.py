@@ -8,6 +8,10 @@ the end, of a push after a traversal back by a step, of a replace of the current
 has_state, used_at, length_index. In the second a line is a store, a number of frames of one document, and in nanoseconds
 the time of a frame as they are added one by one, and as they are removed one by one. At the end it tells how many times
 as much each costs in the last line of a table as in the first.
+
+Traversals and look-ups are timed by the thousand, between two readings of the clock. A push, a replace and a frame ask
+for look-ups before them, so each is timed by itself, less what two readings take; the history has as many entries all
+along, since a traversal back and a push clear what the pushes before have added.
 """
 import subprocess
 import sys
@@ -21,16 +25,15 @@ MEASURES = ["push", "push_back", "replace", "traversal", "target", "row", "has_s
 
 PROGRAM = """//! Times the calls of the stores.
 #![tactic(auto)]
-ghost use Rattle.std.specs.Prelude.{◌≡◌, ◌≤◌, true, false, nat_le, IfOk};
+ghost use Rattle.std.specs.Prelude.{◌≡◌, ◌≤◌, true, false};
 ghost use Rattle.std.specs.List.{list_any};
 ghost use Rattle.log_model.specs.History.{greatest_step};
-ghost use Rattle.log_model.specs.declared.row.Row.{Row};
 ghost use Rattle.log_model.specs.Soundness.{is_entry};
 ghost use Rattle.entry_store.specs.Store.{IsStateOf};
 
-use address::{Address, OutOfMemory};
+use address::Address;
 use entry_store::{EntryStore, Store};
-use log_model::{Change, Row};
+use log_model::Change;
 use std::alloc::Global;
 use std::process::ExitCode;
 use std::time::Instant;
@@ -53,31 +56,31 @@ fn is_free<S: Store>(store: &S, nav: NavId, state: StateId) -> bool
 }
 
 // Whether a row stands at the step or past it.
-fn is_reached<S: Store>(store: &S, goal: Step) -> Result<bool, OutOfMemory>
-    ensures { IfOk result (λ reached. reached ≡ true → goal.0 ≤ greatest_step (S.history store.now).rows) }
+fn is_reached<S: Store>(store: &S, goal: Step) -> bool
+    ensures { result ≡ true → goal.0 ≤ greatest_step (S.history store.now).rows }
 {
-    let rows = store.rows()?;
-    Ok(is_past(rows.as_slice(), goal))
+    goal <= store.used_at(Step(u32::MAX))
 }
 
-fn is_past(rows: &[Row], goal: Step) -> bool
-    ensures { result ≡ list_any (λ (row : Row). nat_le goal.0 row.step.0) rows.now }
+// A traversal to a step which is at most one where a row stands, or past which one does.
+fn go<S: Store>(store: &mut S, goal: Step, most: Step) -> bool
+    requires goal { goal.0 ≤ most.0 }
+    requires reached { most.0 ≤ greatest_step (S.history store.old).rows }
+    ensures reached { result ≡ true → most.0 ≤ greatest_step (S.history store.new).rows }
 {
-    rows.iter().any(|row| goal <= row.step)
+    if store.current().0 >= 4294967294 {
+        return false;
+    }
+    match store.apply(&Change::Traverse { goal }) {
+        Ok(()) => true,
+        Err(_) => false,
+    }
 }
 
-// A traversal to a step, in nanoseconds.
-fn go<S: Store>(rt: HostRuntime, store: &mut S, goal: Step) -> Option<u128> {
-    if !is_reached(store, goal).ok()? || store.current().0 >= 4294967294 {
-        return None;
-    }
-    let start = Instant::now(&rt).ok()?;
-    let result = store.apply(&Change::Traverse { goal });
-    let nanos = start.elapsed(&rt).ok()?.as_nanos();
-    match result {
-        Ok(()) => Some(nanos),
-        Err(_) => None,
-    }
+// A traversal back by some steps.
+fn go_back<S: Store>(store: &mut S, steps: u32) -> Option<()> {
+    let goal = Step(store.current().0.saturating_sub(steps));
+    if is_reached(store, goal) && go(store, goal, goal) { Some(()) } else { None }
 }
 
 // One push, in nanoseconds.
@@ -158,90 +161,118 @@ fn fill<S: Store>(rt: HostRuntime, store: &mut S, entries: u32, navs: u32) -> Op
     Some(())
 }
 
-// The mean time of 100 pushes from an entry's number on, each after a traversal back by a step or all at the end.
-fn push_time<S: Store>(rt: HostRuntime, store: &mut S, from: u32, navs: u32, goes_back: bool) -> Option<u128> {
+// The mean time of 100 pushes at the end, from an entry's number on, ten times over.
+fn push_time<S: Store>(rt: HostRuntime, store: &mut S, from: u32, navs: u32) -> Option<u128> {
     let mut sum: u128 = 0;
-    for i in 0..100u32 {
-        if goes_back {
-            let goal = Step(store.current().0.saturating_sub(1));
-            go(rt, store, goal)?;
+    for round in 0..10u32 {
+        let first = from.saturating_add(round.saturating_mul(101));
+        go_back(store, 101)?;
+        push(rt, store, 0, first)?;
+        for i in 1..101u32 {
+            sum = sum.wrapping_add(push(rt, store, i.checked_rem(navs)?, first.saturating_add(i))?);
         }
-        let nr = from.saturating_add(i).saturating_add(1);
-        sum = sum.wrapping_add(push(rt, store, i.checked_rem(navs)?, nr)?);
     }
-    Some(sum / 100)
+    Some(sum / 1000)
+}
+
+// The same of 1,000 pushes, each after a traversal back by a step.
+fn push_back_time<S: Store>(rt: HostRuntime, store: &mut S, from: u32, navs: u32) -> Option<u128> {
+    let mut sum: u128 = 0;
+    for i in 0..1000u32 {
+        go_back(store, 1)?;
+        sum = sum.wrapping_add(push(rt, store, i.checked_rem(navs)?, from.saturating_add(i))?);
+    }
+    Some(sum / 1000)
 }
 
 fn replace_time<S: Store>(rt: HostRuntime, store: &mut S, from: u32, navs: u32) -> Option<u128> {
     let mut sum: u128 = 0;
-    for i in 0..100u32 {
-        let nr = from.saturating_add(i).saturating_add(1);
-        sum = sum.wrapping_add(replace(rt, store, i.checked_rem(navs)?, nr)?);
+    for i in 0..1000u32 {
+        sum = sum.wrapping_add(replace(rt, store, i.checked_rem(navs)?, from.saturating_add(i))?);
     }
-    Some(sum / 100)
+    Some(sum / 1000)
 }
 
 fn go_time<S: Store>(rt: HostRuntime, store: &mut S) -> Option<u128> {
     let last = store.current();
     let half = Step(last.0 / 2);
-    let mut sum: u128 = 0;
-    for _ in 0..50u32 {
-        sum = sum.wrapping_add(go(rt, store, half)?);
-        sum = sum.wrapping_add(go(rt, store, last)?);
+    if !is_reached(store, last) {
+        return None;
     }
-    Some(sum / 100)
+    let start = Instant::now(&rt).ok()?;
+    for _ in 0..5000u32 {
+        if !go(store, half, last) {
+            return None;
+        }
+        if !go(store, last, last) {
+            return None;
+        }
+    }
+    Some(start.elapsed(&rt).ok()?.as_nanos() / 10000)
+}
+
+// What two readings of the clock take.
+fn clock_time(rt: HostRuntime) -> Option<u128> {
+    let mut sum: u128 = 0;
+    for _ in 0..10000u32 {
+        let start = Instant::now(&rt).ok()?;
+        sum = sum.wrapping_add(start.elapsed(&rt).ok()?.as_nanos());
+    }
+    Some(sum / 10000)
 }
 
 // What the look-ups cost, and a number that is made of their answers, so that none is left out.
 fn looked_up<S: Store>(rt: HostRuntime, store: &S, entries: u32, navs: u32) -> Option<([u128; 5], u64)> {
     let mut sum: u64 = 0;
     let start = Instant::now(&rt).ok()?;
-    for i in 0..1000u32 {
+    for i in 0..10000u32 {
         if let Some(entry) = store.target(NavId(i.checked_rem(navs)?), Step(entries / 2)) {
             sum = sum.wrapping_add(u64::from(entry.nr));
         }
     }
-    let target = start.elapsed(&rt).ok()?.as_nanos() / 1000;
+    let target = start.elapsed(&rt).ok()?.as_nanos() / 10000;
     let start = Instant::now(&rt).ok()?;
-    for i in 0..1000u32 {
+    for i in 0..10000u32 {
         let nr = entries.saturating_sub(i % 64);
         if let Some(row) = store.row(EntryId { maker: 0, nr }) {
             sum = sum.wrapping_add(u64::from(row.step.0));
         }
     }
-    let row = start.elapsed(&rt).ok()?.as_nanos() / 1000;
+    let row = start.elapsed(&rt).ok()?.as_nanos() / 10000;
     let start = Instant::now(&rt).ok()?;
-    for i in 0..1000u32 {
+    for i in 0..10000u32 {
         if store.has_state(StateId(entries.saturating_sub(i % 64))) {
             sum = sum.wrapping_add(1);
         }
     }
-    let has_state = start.elapsed(&rt).ok()?.as_nanos() / 1000;
+    let has_state = start.elapsed(&rt).ok()?.as_nanos() / 10000;
     let start = Instant::now(&rt).ok()?;
-    for i in 0..1000u32 {
-        sum = sum.wrapping_add(u64::from(store.used_at(Step(i)).0));
+    for i in 0..10000u32 {
+        sum = sum.wrapping_add(u64::from(store.used_at(Step(i.checked_rem(entries)?)).0));
     }
-    let used_at = start.elapsed(&rt).ok()?.as_nanos() / 1000;
+    let used_at = start.elapsed(&rt).ok()?.as_nanos() / 10000;
     let start = Instant::now(&rt).ok()?;
-    for i in 0..1000u32 {
-        sum = sum.wrapping_add(u64::from(store.length_index(Step(i)).1));
+    for i in 0..10000u32 {
+        sum = sum.wrapping_add(u64::from(store.length_index(Step(i.checked_rem(entries)?)).1));
     }
-    let length_index = start.elapsed(&rt).ok()?.as_nanos() / 1000;
+    let length_index = start.elapsed(&rt).ok()?.as_nanos() / 10000;
     Some(([target, row, has_state, used_at, length_index], sum))
 }
 
 fn times<S: Store>(rt: HostRuntime, name: &str, store: &mut S, entries: u32, navs: u32) -> Option<()> {
     fill(rt, store, entries, navs)?;
+    let clock = clock_time(rt)?;
     let ([target, row, has_state, used_at, length_index], sum) = looked_up(rt, store, entries, navs)?;
     let traversal = go_time(rt, store)?;
-    let at_end = push_time(rt, store, entries, navs, false)?;
-    let after_back = push_time(rt, store, entries.saturating_add(100), navs, true)?;
-    let over = replace_time(rt, store, entries.saturating_add(200), navs)?;
+    let at_end = push_time(rt, store, entries.saturating_add(1), navs)?.saturating_sub(clock);
+    let after_back = push_back_time(rt, store, entries.saturating_add(2001), navs)?.saturating_sub(clock);
+    let over = replace_time(rt, store, entries.saturating_add(4001), navs)?.saturating_sub(clock);
     println!(rt; "{} {} {} push {} {} replace {} traversal {} target {} row {} has_state {} used_at {} length_index {} ({})",
         name, entries, navs, at_end, after_back, over, traversal, target, row, has_state, used_at, length_index, sum % 10).ok()
 }
 
 fn frame_times<S: Store>(rt: HostRuntime, name: &str, store: &mut S, frames: u32) -> Option<()> {
+    let clock = clock_time(rt)?;
     let mut added: u128 = 0;
     for nav in 1..frames {
         added = added.wrapping_add(frame(rt, store, nav)?);
@@ -251,7 +282,9 @@ fn frame_times<S: Store>(rt: HostRuntime, name: &str, store: &mut S, frames: u32
         removed = removed.wrapping_add(removal(rt, store, nav)?);
     }
     let count = u128::from(frames);
-    println!(rt; "{} {} frames added {} removed {}", name, frames, added.checked_div(count)?, removed.checked_div(count)?).ok()
+    let added = added.checked_div(count)?.saturating_sub(clock);
+    let removed = removed.checked_div(count)?.saturating_sub(clock);
+    println!(rt; "{} {} frames added {} removed {}", name, frames, added, removed).ok()
 }
 
 fn list(alloc: Global) -> Option<EntryStore> {
@@ -292,7 +325,7 @@ pub returns-in-None : goal.returns-in-None
 returns-in-None g c = λ _. found_none (is_entry c.args.entry) (g.S.Store.history c.args.store.now).rows (sym c.in-None.ensures)
 """
 
-IS_FREE = """use Rattle.std.proofs.Common.{◌≡◌, ◌∙◌, sym, ◌&&◌}
+IS_FREE = """use Rattle.std.proofs.Common.{◌∙◌, ◌&&◌}
 use Rattle.std.proofs.lemmas.Bool.{false≢true, and_parts}
 use Rattle.log_model.specs.History.{is_of}
 use Rattle.log_model.specs.Soundness.{is_in_state}
@@ -305,17 +338,68 @@ returns-else-has_state g c free other held =
     absurd (false≢true (c.if-has_state.ensures ∙ w.is_in (is_in_state c.args.state) (and_parts (is_of other w.it) (is_in_state c.args.state w.it) w.passes).1))
 """
 
-IS_REACHED = """use Rattle.std.proofs.Common.{◌∙◌, ap, sym, List}
-use Rattle.std.specs.Prelude.{nat_le}
-use Rattle.std.specs.List.{list_any}
+IS_REACHED = """use Rattle.std.proofs.Common.{◌≡◌, ℕ, ◌≤◌, Bool, true, false, cond, List, [], ◌∷◌, filter, fold, map, is_le, nat_cmp, arith}
+use Rattle.std.specs.Prelude.{max, nat_le}
+use Rattle.std.proofs.lemmas.Bool.Decides.{nat_tests}
 use Rattle.log_model.specs.declared.row.Row.{Row}
-use Rattle.entry_store.proofs.Asking.{goal_is_reached}
+use Rattle.log_model.specs.History.{used_step_at, greatest_step}
 use Rattle.store_times.proofs.is_reached.Goals as goal
 
+fewer_most : (p : ℕ → Bool) (a b : ℕ) (steps : List ℕ) → a ≤ b → fold max a (filter p steps) ≤ fold max b steps
+fewer_most p a b [] within = within
+fewer_most p a b (step ∷ steps) within =
+    elim (p step) as (λ t. fold max a (cond t (step ∷ filter p steps) (filter p steps)) ≤ fold max (max b step) steps) [
+      | true ↦ fewer_most p (max a step) (max b step) steps (omega (arith, within))
+      | false ↦ fewer_most p a (max b step) steps (omega (arith, within))
+    ]
+
+used_most : (rows : List Row) (step : ℕ) → used_step_at rows step ≤ greatest_step rows
+used_most rows step = fewer_most (λ used. nat_le used step) 0 0 (map (λ (row : Row). row.step.0) rows) (omega arith)
+
+at_most : {result : Bool} (a b : ℕ) → result ≡ is_le (nat_cmp a b) → result ≡ true → a ≤ b
+at_most {result} a b told is = grind (arith, nat_tests, told, is)
+
 pub returns : goal.returns
-returns g c reached =
-    goal_is_reached (g.S.Store.history c.args.store.now).rows c.in_ok-rows.rows c.args.goal.0 c.in_ok-rows.ensures
-    (sym (c.is_past.ensures ∙ ap (λ (rows : List Row). list_any (λ (row : Row). nat_le c.args.goal.0 row.step.0) rows) c.as_slice.ensures) ∙ reached)
+returns g c = λ is.
+    omega (arith, at_most c.args.goal.0 c.used_at.result.0 c.le.ensures is, c.used_at.ensures, used_most (g.S.Store.history c.args.store.now).rows 4294967295)
+"""
+
+GO = """use Rattle.std.proofs.Common.{◌≡◌, ℕ, ◌∙◌, ap, sym, List, arith}
+use Rattle.std.specs.Prelude.{nat_lt}
+use Rattle.std.specs.List.{list_any}
+use Rattle.std.proofs.lemmas.Bool.{le-ltb, ltb-false}
+use Rattle.log_model.specs.declared.row.Row.{Row}
+use Rattle.log_model.specs.History.{greatest_step}
+use Rattle.log_model.specs.Order.{ordered}
+use Rattle.entry_store.proofs.InOrder.{ordered-any}
+use Rattle.entry_store.proofs.LastStep.{greatest_step-beyond}
+use Rattle.store_times.proofs.go.Goals as goal
+
+same_beyond : (a b : ℕ) → ((beyond : ℕ) → nat_lt beyond a ≡ nat_lt beyond b) → a ≡ b
+same_beyond a b same =
+    omega (arith, ltb-false a b (sym (same a) ∙ le-ltb a a (omega arith)), ltb-false b a (same b ∙ le-ltb b b (omega arith)))
+
+same_greatest : (one other : List Row) → ordered one ≡ ordered other → greatest_step one ≡ greatest_step other
+same_greatest one other same =
+    same_beyond (greatest_step one) (greatest_step other) (λ beyond.
+    greatest_step-beyond beyond one
+    ∙ sym (ordered-any (λ (row : Row). nat_lt beyond row.step.0) one)
+    ∙ ap (list_any (λ (row : Row). nat_lt beyond row.step.0)) same
+    ∙ ordered-any (λ (row : Row). nat_lt beyond row.step.0) other
+    ∙ sym (greatest_step-beyond beyond other))
+
+pub returns-in-Ok : goal.returns-in-Ok
+returns-in-Ok g c = record {
+  reached = λ _. omega (arith, c.requires.reached, same_greatest (g.S.Store.history c.apply.new.self).rows (g.S.Store.history c.args.store.now).rows c.in-Ok.ensures.ok.rows);
+}
+"""
+
+GO_TIME = """use Rattle.std.proofs.Common.{◌≤◌}
+use Rattle.log_model.specs.History.{greatest_step}
+use Rattle.store_times.proofs.go_time.Given as goal
+
+abbrev pub invariant-loop : goal.invariant-loop
+invariant-loop g l = l.last.0 ≤ greatest_step (g.S.Store.history l.store).rows
 """
 
 
@@ -344,6 +428,8 @@ def main() -> int:
         written(f"{crate}/proofs/is_new/Answers.antt", IS_NEW)
         written(f"{crate}/proofs/is_free/Answers.antt", IS_FREE)
         written(f"{crate}/proofs/is_reached/Answers.antt", IS_REACHED)
+        written(f"{crate}/proofs/go/Answers.antt", GO)
+        written(f"{crate}/proofs/go_time/Invariants.antt", GO_TIME)
         done = subprocess.run(["rt", "run", "--jobs", "1"], cwd=crate, stdout=subprocess.PIPE, text=True)
     print(done.stdout, end="")
     lines = [line for line in done.stdout.splitlines() if line.startswith(("EntryStore", "StepIndex"))]
