@@ -1,8 +1,8 @@
 -- What a look-up by halves finds: the last entry up to a step, and the used step, its place and how many there are.
 use Rattle.std.proofs.Common.{inl, inr, cond, ◌≡◌, ℕ, suc, zero, ◌-◌, ◌<◌, ◌≤◌, Bool, true, false, ◌&&◌, ◌||◌, List, [], ◌∷◌, length, refl, ap, sym, ◌∙◌, filter, map, fold, take, drop, get_or, arith, subst, Some, None}
-use Rattle.std.specs.Prelude.{max, nat_le, nat_lt, slice_get}
+use Rattle.std.specs.Prelude.{max, nat_le, nat_lt, slice_get, ◌==◌}
 use Rattle.std.specs.List.{list_any}
-use Rattle.std.proofs.lemmas.Bool.{lt-ltb, le-ltb, lt-leb, le-leb, ltb-false, leb-false, or_parts, cases_Bool}
+use Rattle.std.proofs.lemmas.Bool.{false≢true, lt-ltb, le-ltb, lt-leb, le-leb, leb-true, ltb-false, leb-false, eqb-true, or_parts, or_cases, cases_Bool}
 use Rattle.std.proofs.lemmas.Option.{none-some, slice_get-get_or}
 use Rattle.tab_ids.specs.declared.NavId.{NavId}
 use Rattle.log_model.specs.declared.row.Row.{Row}
@@ -81,6 +81,36 @@ used_beyond rows step beyond =
     ∙ list_any-filter (λ (row : Row). nat_lt beyond row.step.0) (λ (row : Row). nat_le row.step.0 step) rows
     ∙ sym (used_steps-any (λ used. nat_le used step && nat_lt beyond used) rows)
     ∙ sym (list_any-filter (λ used. nat_lt beyond used) (λ used. nat_le used step) (used_steps rows))
+
+-- where a row stands at a step, that is the used step
+upto_bound : (step best : ℕ) (steps : List ℕ) → best ≤ step → fold max best (filter (λ used. nat_le used step) steps) ≤ step
+upto_bound step best [] within = within
+upto_bound step best (first ∷ steps) within =
+    elim (cases_Bool (nat_le first step)) [
+      | inl in_ ↦ rw in_ (upto_bound step (max best first) steps (omega (arith, within, leb-true first step in_)))
+      | inr out ↦ rw out (upto_bound step best steps within)
+    ]
+
+from_best : (best : ℕ) (steps : List ℕ) → best ≤ fold max best steps
+from_best best [] = omega arith
+from_best best (first ∷ steps) = omega (arith, from_best (max best first) steps)
+
+upto_reached : (step best : ℕ) (rows : List Row) → list_any (λ (row : Row). row.step.0 == step) rows ≡ true → step ≤ fold max best (filter (λ used. nat_le used step) (map (λ (row : Row). row.step.0) rows))
+upto_reached step best [] any = absurd (false≢true any)
+upto_reached step best (row ∷ rows) any =
+    elim (or_cases (row.step.0 == step) (list_any (λ (r : Row). r.step.0 == step) rows) any) [
+      | inl here ↦
+          rw (le-leb row.step.0 step (omega (arith, eqb-true row.step.0 step here)))
+          (omega (arith, eqb-true row.step.0 step here, from_best (max best row.step.0) (filter (λ used. nat_le used step) (map (λ (r : Row). r.step.0) rows))))
+      | inr there ↦
+          elim (cases_Bool (nat_le row.step.0 step)) [
+            | inl in_ ↦ rw in_ (upto_reached step (max best row.step.0) rows there)
+            | inr out ↦ rw out (upto_reached step best rows there)
+          ]
+    ]
+
+pub used_here : (rows : List Row) (step : ℕ) → list_any (λ (row : Row). row.step.0 == step) rows ≡ true → used_step_at rows step ≡ step
+used_here rows step any = omega (arith, upto_bound step 0 (map (λ (row : Row). row.step.0) rows) (omega arith), upto_reached step 0 rows any)
 
 same_beyond : (a b : ℕ) → ((beyond : ℕ) → nat_lt beyond a ≡ nat_lt beyond b) → a ≡ b
 same_beyond a b same =

@@ -7,6 +7,7 @@ ghost use Rattle.log_model.specs.declared.change.Change.TheVariants.{Traverse};
 ghost use Rattle.step_index.specs.Tracks.{rows_of, AreTracks};
 ghost use Rattle.step_index.specs.Parts.{history_in, IsIndex};
 
+use crate::groups::{Group, has_any};
 use crate::parts::Parts;
 use crate::readers::{target_in, used_step_in};
 use crate::ticks::Steps;
@@ -27,11 +28,14 @@ pub fn move_in(parts: &mut Parts, goal: Step)
     parts.current = used_step(parts, goal);
 }
 
-/// The used step for a step, for a caller that counts nothing.
+/// The used step for a step, for a caller that counts nothing: the step itself where an entry stands at it.
 pub fn used_step(parts: &Parts, s: Step) -> Step
     requires index { IsIndex parts.now }
     ensures { result.0 ≡ used_step_at (history_in parts.now).rows s.0 }
 {
+    if has_any(&parts.counts, Group::At(s)) {
+        return s;
+    }
     blank_step::<Brand>(parts, s, Blank::new(1))
 }
 
