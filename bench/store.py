@@ -10,7 +10,7 @@ the time of a frame as they are added one by one, and as they are removed one by
 as much each costs in the last line of a table as in the first.
 
 Traversals and look-ups are timed by the thousand, between two readings of the clock. A push, a replace and a frame ask
-for look-ups before them, so each is timed by itself, less what two readings take; the history has as many entries all
+for look-ups before them, so each is timed by itself, less what two readings take at least; the history has as many entries all
 along, since a traversal back and a push clear what the pushes before have added.
 """
 import subprocess
@@ -211,14 +211,17 @@ fn go_time<S: Store>(rt: HostRuntime, store: &mut S) -> Option<u128> {
     Some(start.elapsed(&rt).ok()?.as_nanos() / 10000)
 }
 
-// What two readings of the clock take.
+// What two readings of the clock take at least.
 fn clock_time(rt: HostRuntime) -> Option<u128> {
-    let mut sum: u128 = 0;
-    for _ in 0..10000u32 {
+    let mut least: u128 = 1000000;
+    for _ in 0..1000u32 {
         let start = Instant::now(&rt).ok()?;
-        sum = sum.wrapping_add(start.elapsed(&rt).ok()?.as_nanos());
+        let nanos = start.elapsed(&rt).ok()?.as_nanos();
+        if nanos < least {
+            least = nanos;
+        }
     }
-    Some(sum / 10000)
+    Some(least)
 }
 
 // What the look-ups cost, and a number that is made of their answers, so that none is left out.
