@@ -15,5 +15,4 @@ pub mod FollowExamples
 pub mod SameRequest
 pub mod CutLaws
 pub mod StandingLaws
-pub mod CommentLaws
 pub mod PlaceLaws

@@ -2,7 +2,7 @@
 use Rattle.std.proofs.Common.{◌≡◌, ℕ, ◌+◌, ◌-◌, ◌<◌, ◌≤◌, List, [], ◌∷◌, ◌++◌, length, take, drop, refl, sym, ap, subst, ◌∙◌, arith}
 use Rattle.std.specs.List.{join_with_byte}
 use Rattle.std.proofs.Math.Seq.{drop-append-add, take-append_seam, take-length}
-use Rattle.std.proofs.lemmas.List.{take-append-drop, length-append, drop-drop}
+use Rattle.std.proofs.lemmas.List.{take-append-drop, length-append, length-take-le, append_assoc, drop-drop}
 use Rattle.std.proofs.lemmas.List.Splits.{join_with_byte-slice_split}
 use Rattle.scenario_text.specs.Pieces.{pieces}
 use Rattle.scenario_text.specs.Standing.{Stands}
@@ -34,12 +34,41 @@ later before rest word after stands =
       is = rw (from, drop-append-add before rest (length rest - after - length word)) stands.is;
     }
 
--- the part that a word stands at
-pub part_is : (line word : List ℕ) (after : ℕ) → Stands line word after
-    → take ((length line - after) - (length line - after - length word)) (drop (length line - after - length word) line) ≡ word
-part_is line word after stands =
-    let long : (length line - after) - (length line - after - length word) ≡ length word = omega (arith, stands.within) in
-    rw long stands.is
+-- a list before and behind a word of it
+around : (line word : List ℕ) (after : ℕ) → Stands line word after
+    → line ≡ take (length line - after - length word) line ++ (word ++ drop (length word) (drop (length line - after - length word) line))
+around line word after stands =
+    let from = length line - after - length word in
+    sym (take-append-drop from line)
+    ∙ ap (λ (rest : List ℕ). take from line ++ rest) (sym (take-append-drop (length word) (drop from line)) ∙ ap (λ (first : List ℕ). first ++ drop (length word) (drop from line)) stands.is)
+
+-- a word of a line of a text stands in the text
+stands_in_text : (text line word : List ℕ) (behind after : ℕ) → Stands text line behind → Stands line word after → Stands text word (behind + after)
+stands_in_text text line word behind after outer inner =
+    let before = take (length text - behind - length line) text in
+    let last = drop (length line) (drop (length text - behind - length line) text) in
+    let first = take (length line - after - length word) line in
+    let rest = drop (length word) (drop (length line - after - length word) line) in
+    let is : text ≡ before ++ (first ++ (word ++ (rest ++ last))) =
+    around text line behind outer ∙ ap (λ (l : List ℕ). before ++ (l ++ last)) (around line word after inner)
+    ∙ ap (λ (l : List ℕ). before ++ l) (append_assoc first (word ++ rest) last ∙ ap (λ (l : List ℕ). first ++ l) (append_assoc word rest last)) in
+    let stands : Stands (before ++ (first ++ (word ++ (rest ++ last)))) word (length (rest ++ last)) =
+    later before (first ++ (word ++ (rest ++ last))) word (length (rest ++ last)) (later first (word ++ (rest ++ last)) word (length (rest ++ last)) (here word (rest ++ last))) in
+    let long : length text ≡ length before + (length first + (length word + length (rest ++ last))) =
+    ap (λ (l : List ℕ). length l) is ∙ length-append before (first ++ (word ++ (rest ++ last)))
+    ∙ ap (λ (n : ℕ). length before + n) (length-append first (word ++ (rest ++ last)) ∙ ap (λ (n : ℕ). length first + n) (length-append word (rest ++ last))) in
+    let count : length (rest ++ last) ≡ behind + after =
+    omega (arith, long, outer.within, inner.within, length-take-le (length text - behind - length line) text (omega arith), length-take-le (length line - after - length word) line (omega arith)) in
+    subst (λ (n : ℕ). Stands text word n) count (subst (λ (t : List ℕ). Stands t word (length (rest ++ last))) (sym is) stands)
+
+-- the part of a text that a word of a line of it stands at
+pub part_is : (text line word : List ℕ) (behind after : ℕ) → Stands text line behind → Stands line word after
+    → take ((length text - behind - after) - (length text - behind - after - length word)) (drop (length text - behind - after - length word) text) ≡ word
+part_is text line word behind after outer inner =
+    let stands = stands_in_text text line word behind after outer inner in
+    let from : length text - behind - after - length word ≡ length text - (behind + after) - length word = omega arith in
+    let long : (length text - behind - after) - (length text - behind - after - length word) ≡ length word = omega (arith, stands.within) in
+    rw (long, from) stands.is
 
 -- ---- words of a line
 

@@ -14,5 +14,4 @@ pub mod Written
 pub mod Follows
 pub mod Printed
 pub mod Standing
-pub mod Comments
 pub mod Added

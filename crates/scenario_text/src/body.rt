@@ -3,7 +3,7 @@ ghost use Rattle.std.specs.Prelude.{◌≡◌, ◌&&◌, IfOk};
 ghost use Rattle.scenario_text.specs.Body as spec;
 ghost use Rattle.scenario_text.specs.Plays.{is_step};
 ghost use Rattle.scenario_text.specs.Gives.{GivesLine};
-ghost use Rattle.scenario_text.specs.Standing.{IsSplit};
+ghost use Rattle.scenario_text.specs.Standing.{IsSplit, IsStanding};
 ghost use Rattle.scenario_text.specs.Written.{IsWrittenLine};
 
 use crate::built::{Built, is_step};
@@ -15,19 +15,24 @@ use crate::requests::{
     docgo_line, edit_line, fragment_line, frame_line, go_line, load_line, push_line, reload_line,
     remove_line, replace_line,
 };
+use crate::share::StandingLine;
 use crate::steps::{
     act_line, answer_line, begin_line, deliver_line, evict_line, finish_line, kill_line,
     settle_line,
 };
 use crate::word::Word;
-use address::Text;
 use std::alloc::Global;
 
 /// The line that bytes spell.
 #[tactic(auto, unfolding(crate::specs::Body::body_line))]
-fn body_line(alloc: Global, line: &Text, split: Split<'_>) -> Result<ScenarioLine, LineError>
-    requires words { IsSplit split line.now }
-    ensures read { GivesLine result (spec.body_line line.now) }
+fn body_line(
+    alloc: Global,
+    line: StandingLine<'_>,
+    split: Split<'_>,
+) -> Result<ScenarioLine, LineError>
+    requires stands { IsStanding line }
+    requires words { IsSplit split line.bytes.now }
+    ensures read { GivesLine result (spec.body_line line.entry.bytes.now) }
     ensures written { IfOk result (λ line. IsWrittenLine line) }
 {
     let Split { word, fields, .. } = split;
@@ -80,11 +85,12 @@ pub fn played_line(
     alloc: Global,
     in_run: bool,
     built: Built,
-    line: &Text,
+    line: StandingLine<'_>,
     split: Split<'_>,
 ) -> Result<ScenarioLine, LineError>
-    requires words { IsSplit split line.now }
-    ensures read { GivesLine result (spec.played_line in_run built line.now) }
+    requires stands { IsStanding line }
+    requires words { IsSplit split line.bytes.now }
+    ensures read { GivesLine result (spec.played_line in_run built line.entry.bytes.now) }
     ensures written { IfOk result (λ line. IsWrittenLine line) }
 {
     let spelled = body_line(alloc, line, split)?;

@@ -3,7 +3,6 @@
 
 mod body;
 mod built;
-mod comments;
 mod cut;
 mod error;
 mod fault;

@@ -4,7 +4,7 @@ ghost use Rattle.std.specs.List.{list_all};
 ghost use Rattle.scenario_text.specs.Grammar as spec;
 ghost use Rattle.scenario_text.specs.Gives.{GivesLine, LeavesPlace};
 ghost use Rattle.scenario_text.specs.Added.{with_line};
-ghost use Rattle.scenario_text.specs.Standing.{IsSplit, Stands};
+ghost use Rattle.scenario_text.specs.Standing.{IsSplit, IsStanding, Stands};
 ghost use Rattle.scenario_text.specs.Written.{Each, IsWrittenLine, IsWrittenPlace};
 
 use crate::body::played_line;
@@ -15,7 +15,7 @@ use crate::heading::{heading_line, plain_settings};
 use crate::line::Lines;
 use crate::place::{Place, Stage};
 use crate::reason::Reason;
-use crate::share::shared;
+use crate::share::StandingLine;
 use address::Text;
 use std::alloc::Global;
 use std::mem;
@@ -27,24 +27,25 @@ fn after_counted(
     in_run: bool,
     built: Built,
     place: Place,
-    line: &Text,
+    line: StandingLine<'_>,
     split: Split<'_>,
 ) -> Result<Place, LineError>
     requires written { IsWrittenPlace place }
-    requires words { IsSplit split line.now }
-    ensures read { GivesLine result (spec.after_counted in_run built place line.now) }
+    requires stands { IsStanding line }
+    requires words { IsSplit split line.bytes.now }
+    ensures read { GivesLine result (spec.after_counted in_run built place line.entry.bytes.now) }
     ensures written { IfOk result (λ place. IsWrittenPlace place) }
 {
     match place {
         Place::Start => {
-            if line.bytes() == b"session 1".as_slice() {
+            if line.bytes == b"session 1".as_slice() {
                 Ok(Place::Heading(Stage::Version, plain_settings(alloc)))
             } else {
                 Err(LineError::Faulty(Reason::Header))
             }
         }
         Place::Heading(stage, settings) => {
-            let next = heading_line(alloc, stage, settings, line.bytes())?;
+            let next = heading_line(alloc, stage, settings, line.bytes)?;
             if !built.plays_place(&next) {
                 return Err(LineError::Faulty(Reason::Unbuilt));
             }
@@ -65,12 +66,13 @@ fn add_line(
     in_run: bool,
     built: Built,
     lines: &mut Lines,
-    line: &Text,
+    line: StandingLine<'_>,
     split: Split<'_>,
 ) -> Result<(), LineError>
     requires written { Each IsWrittenLine lines.old }
-    requires words { IsSplit split line.now }
-    ensures read { LeavesPlace result lines.new (with_line in_run built lines.old line.now) }
+    requires stands { IsStanding line }
+    requires words { IsSplit split line.bytes.now }
+    ensures read { LeavesPlace result lines.new (with_line in_run built lines.old line.entry.bytes.now) }
     ensures written { OnOk result (Each IsWrittenLine lines.new) }
 {
     let added = played_line(alloc, in_run, built, line, split)?;
@@ -85,12 +87,13 @@ fn go_on(
     in_run: bool,
     built: Built,
     place: &mut Place,
-    line: &Text,
+    line: StandingLine<'_>,
     split: Split<'_>,
 ) -> Result<(), LineError>
     requires written { IsWrittenPlace place.old }
-    requires words { IsSplit split line.now }
-    ensures read { LeavesPlace result place.new (spec.after_counted in_run built place.old line.now) }
+    requires stands { IsStanding line }
+    requires words { IsSplit split line.bytes.now }
+    ensures read { LeavesPlace result place.new (spec.after_counted in_run built place.old line.entry.bytes.now) }
     ensures written { OnOk result (IsWrittenPlace place.new) }
 {
     if let Place::Body(_, lines) = place {
@@ -131,24 +134,24 @@ pub fn take_line(
     built: Built,
     place: &mut Place,
     text: &Text,
-    line: &[u8],
+    bytes: &[u8],
     after: usize,
 ) -> Result<(), LineError>
     requires written { IsWrittenPlace place.old }
-    requires stands { Stands text.now line.now after }
-    ensures read { LeavesPlace result place.new (spec.after_line in_run built place.old line.now) }
+    requires stands { Stands text.now bytes.now after }
+    ensures read { LeavesPlace result place.new (spec.after_line in_run built place.old bytes.now) }
     ensures written { OnOk result (IsWrittenPlace place.new) }
 {
-    if !is_plain(line) {
+    if !is_plain(bytes) {
         return Err(LineError::Faulty(Reason::Bytes));
     }
-    if is_passed_over(line) {
+    if is_passed_over(bytes) {
         return Ok(());
     }
-    let split = words(line);
+    let split = words(bytes);
     if split.has_empty {
         return Err(LineError::Faulty(Reason::Spaces));
     }
-    let line = shared(text, line, after)?;
-    go_on(alloc, in_run, built, place, &line, split)
+    let line = StandingLine { text, bytes, after };
+    go_on(alloc, in_run, built, place, line, split)
 }

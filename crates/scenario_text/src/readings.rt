@@ -4,12 +4,13 @@ ghost use Rattle.address.specs.Addresses.{IsAddress};
 ghost use Rattle.scenario_text.specs.Readings as spec;
 ghost use Rattle.scenario_text.specs.Written.{IsWrittenOrigin, IsWrittenBase};
 ghost use Rattle.scenario_text.specs.Gives.{GivesLine};
-ghost use Rattle.scenario_text.specs.Standing.{Stands};
+ghost use Rattle.scenario_text.specs.Standing.{IsStanding, Stands};
 
 use crate::fault::LineError;
 use crate::number::number_of;
 use crate::reason::Reason;
-use crate::share::shared;
+use crate::share::{StandingLine, shared};
+use crate::word::is_word;
 use address::{Address, AddressError, OutOfMemory, Text};
 use log_model::Mode;
 use std::alloc::Global;
@@ -92,11 +93,16 @@ pub fn stay_of(bytes: &[u8]) -> Result<bool, LineError>
 }
 
 /// A memo, after which so many bytes of the line follow; `-` is none.
-pub fn memo_of(line: &Text, bytes: &[u8], after: usize) -> Result<Option<Text>, LineError>
-    requires { Stands line.now bytes.now after }
+pub fn memo_of(
+    line: StandingLine<'_>,
+    bytes: &[u8],
+    after: usize,
+) -> Result<Option<Text>, LineError>
+    requires line { IsStanding line }
+    requires word { Stands line.bytes.now bytes.now after }
     ensures { GivesLine result (spec.memo_of bytes.now) }
 {
-    if bytes == b"-".as_slice() {
+    if is_word(bytes, b"-".as_slice()) {
         return Ok(None);
     }
     if bytes.is_empty() || bytes.len() > 64 {
@@ -107,8 +113,9 @@ pub fn memo_of(line: &Text, bytes: &[u8], after: usize) -> Result<Option<Text>, 
 }
 
 /// A reference or the text of a fragment, the last word of the line, which is read once a document acts on it.
-pub fn text_of(line: &Text, bytes: &[u8]) -> Result<Text, LineError>
-    requires { Stands line.now bytes.now 0 }
+pub fn text_of(line: StandingLine<'_>, bytes: &[u8]) -> Result<Text, LineError>
+    requires line { IsStanding line }
+    requires word { Stands line.bytes.now bytes.now 0 }
     ensures { GivesLine result (spec.text_of bytes.now) }
 {
     if bytes.is_empty() || bytes.len() > 2_048 {

@@ -3,6 +3,7 @@ ghost use Rattle.std.specs.Prelude.{◌≡◌, IfOk};
 ghost use Rattle.scenario_text.specs.Words.{shown, split_words, words_of};
 ghost use Rattle.scenario_text.specs.Body as spec;
 ghost use Rattle.scenario_text.specs.Gives.{GivesLine};
+ghost use Rattle.scenario_text.specs.Standing.{IsStanding};
 ghost use Rattle.scenario_text.specs.Written.{IsWrittenLine};
 
 use crate::fault::LineError;
@@ -11,6 +12,7 @@ use crate::line::ScenarioLine;
 use crate::number::delta_of;
 use crate::readings::{address_of, child_of, memo_of, mode_of, nav_of, text_of};
 use crate::reason::Reason;
+use crate::share::StandingLine;
 use address::Text;
 use log_model::{Action, Request};
 use std::alloc::Global;
@@ -55,10 +57,11 @@ fn nav_and_child(fields: Fields<'_>) -> Result<(NavId, NavId), LineError>
 /// NAV MEMO, or NAV MEMO REF.
 #[tactic(auto, using(crate::proofs::StandingLaws::words_stand), unfolding(crate::specs::Body::entry_fields))]
 fn entry_fields(
-    line: &Text,
+    line: StandingLine<'_>,
     fields: Fields<'_>,
 ) -> Result<(NavId, Option<Text>, Option<Text>), LineError>
-    requires fields { shown fields ≡ (split_words (words_of line.now)).1 }
+    requires stands { IsStanding line }
+    requires fields { shown fields ≡ (split_words (words_of line.bytes.now)).1 }
     ensures { GivesLine result (spec.entry_fields (shown fields.entry)) }
 {
     match fields {
@@ -121,8 +124,9 @@ pub fn reload_line(fields: Fields<'_>) -> Result<ScenarioLine, LineError>
 }
 
 #[tactic(auto, unfolding(crate::specs::Body::push_line))]
-pub fn push_line(line: &Text, fields: Fields<'_>) -> Result<ScenarioLine, LineError>
-    requires fields { shown fields ≡ (split_words (words_of line.now)).1 }
+pub fn push_line(line: StandingLine<'_>, fields: Fields<'_>) -> Result<ScenarioLine, LineError>
+    requires stands { IsStanding line }
+    requires fields { shown fields ≡ (split_words (words_of line.bytes.now)).1 }
     ensures read { GivesLine result (spec.push_line (shown fields.entry)) }
     ensures written { IfOk result (λ line. IsWrittenLine line) }
 {
@@ -131,8 +135,9 @@ pub fn push_line(line: &Text, fields: Fields<'_>) -> Result<ScenarioLine, LineEr
 }
 
 #[tactic(auto, unfolding(crate::specs::Body::replace_line))]
-pub fn replace_line(line: &Text, fields: Fields<'_>) -> Result<ScenarioLine, LineError>
-    requires fields { shown fields ≡ (split_words (words_of line.now)).1 }
+pub fn replace_line(line: StandingLine<'_>, fields: Fields<'_>) -> Result<ScenarioLine, LineError>
+    requires stands { IsStanding line }
+    requires fields { shown fields ≡ (split_words (words_of line.bytes.now)).1 }
     ensures read { GivesLine result (spec.replace_line (shown fields.entry)) }
     ensures written { IfOk result (λ line. IsWrittenLine line) }
 {
@@ -141,8 +146,9 @@ pub fn replace_line(line: &Text, fields: Fields<'_>) -> Result<ScenarioLine, Lin
 }
 
 #[tactic(auto, using(crate::proofs::StandingLaws::words_stand), unfolding(crate::specs::Body::fragment_line))]
-pub fn fragment_line(line: &Text, fields: Fields<'_>) -> Result<ScenarioLine, LineError>
-    requires fields { shown fields ≡ (split_words (words_of line.now)).1 }
+pub fn fragment_line(line: StandingLine<'_>, fields: Fields<'_>) -> Result<ScenarioLine, LineError>
+    requires stands { IsStanding line }
+    requires fields { shown fields ≡ (split_words (words_of line.bytes.now)).1 }
     ensures read { GivesLine result (spec.fragment_line (shown fields.entry)) }
     ensures written { IfOk result (λ line. IsWrittenLine line) }
 {

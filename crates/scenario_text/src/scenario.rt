@@ -8,7 +8,6 @@ ghost use Rattle.scenario_text.specs.Gives.{Reads};
 ghost use Rattle.scenario_text.specs.declared.place.Place.TheVariants as places;
 
 use crate::built::Built;
-use crate::comments::without_comments;
 use crate::cut::cut;
 use crate::error::{Refusal, ScenarioError};
 use crate::line::Lines;
@@ -115,7 +114,28 @@ impl Scenario {
         if bytes.len() > 4_194_304 {
             return Err(refused(0, Reason::TooLong));
         }
-        let text = without_comments(alloc, bytes)?;
+        let Ok(bytes) = Vec::from_slice(alloc, bytes) else {
+            return Err(ScenarioError::OutOfMemory);
+        };
+        Scenario::read_vec(alloc, bytes, in_run, built)
+    }
+
+    /// The same of a list of bytes, none of which is copied.
+    ///
+    /// The list stays as long as a memo, a reference or a fragment of the scenario is used.
+    pub fn read_vec(
+        alloc: Global,
+        bytes: Vec<u8>,
+        in_run: bool,
+        built: Built,
+    ) -> Result<Scenario, ScenarioError>
+        ensures read { Reads result (scenario_of in_run built bytes.items) }
+        ensures spelled { IfOk result (λ scenario. IsSpelled scenario) }
+    {
+        if bytes.as_slice().len() > 4_194_304 {
+            return Err(refused(0, Reason::TooLong));
+        }
+        let text = Text::from_vec(bytes)?;
         read_lines(alloc, in_run, built, &text)
     }
 
