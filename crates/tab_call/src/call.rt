@@ -99,7 +99,7 @@ fn read_scenario<S: Source>(alloc: Global, source: &mut S) -> Result<Scenario, S
     ensures { ReadsAs result (S.left source.old) (S.left source.new) (S.faults source.old) (S.faults source.new) }
 {
     match read_bytes(alloc, source, BYTE_LIMIT) {
-        Ok(bytes) => spelled(alloc, &bytes),
+        Ok(bytes) => spelled(alloc, bytes),
         Err(ReadAllError::TooLong) => Err(Status::Scenario(Refusal {
             line: 0,
             reason: Reason::TooLong,
@@ -110,10 +110,10 @@ fn read_scenario<S: Source>(alloc: Global, source: &mut S) -> Result<Scenario, S
 }
 
 /// The scenario that bytes spell.
-fn spelled(alloc: Global, bytes: &[u8]) -> Result<Scenario, Status>
-    ensures { SpellsAs result bytes.now }
+fn spelled(alloc: Global, bytes: Vec<u8>) -> Result<Scenario, Status>
+    ensures { SpellsAs result bytes.items }
 {
-    match Scenario::read(alloc, bytes, false, Built::Document) {
+    match Scenario::read_vec(alloc, bytes, false, Built::Document) {
         Ok(scenario) => Ok(scenario),
         Err(ScenarioError::Refused(refusal)) => Err(Status::Scenario(refusal)),
         Err(ScenarioError::UrlOverflow(overflowed)) => Err(Status::UrlOverflow(overflowed)),
