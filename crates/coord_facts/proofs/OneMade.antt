@@ -46,7 +46,7 @@ abbrev pub with_pair : View → ℕ × ℕ → View
 with_pair view pair = record view { length = pair.0; index = pair.1 }
 
 -- they change the pair alone
-tells : (d : Document) (view : View) (jobs : List Job) → AllTell jobs → d.view ≡ Some view → (fold once_finished d jobs).view ≡ Some (with_pair view (fold pair_after (view.length, view.index) jobs))
+pub tells : (d : Document) (view : View) (jobs : List Job) → AllTell jobs → d.view ≡ Some view → (fold once_finished d jobs).view ≡ Some (with_pair view (fold pair_after (view.length, view.index) jobs))
 tells d view [] all has = has
 tells d view (job ∷ jobs) all has = by_task job.task refl all.0 (λ next more. tells (once_finished d job) next jobs all.1 more)
   where

@@ -41,7 +41,7 @@ DesksLeft s next =
     (proc : ProcId) → (input : List Poke) × (desk_of next proc ≡ record (desk_of s proc) { input = input })
 
 -- all desks are changed, none but in its input
-desk_mapped : (f : Desk → Desk) (desks : List Desk) (proc : ProcId) → ((desk : Desk) → (f desk).proc ≡ desk.proc) → f (empty_desk proc) ≡ empty_desk proc → desk_in (map f desks) proc ≡ f (desk_in desks proc)
+pub desk_mapped : (f : Desk → Desk) (desks : List Desk) (proc : ProcId) → ((desk : Desk) → (f desk).proc ≡ desk.proc) → f (empty_desk proc) ≡ empty_desk proc → desk_in (map f desks) proc ≡ f (desk_in desks proc)
 desk_mapped f [] proc keeps empty = sym empty
 desk_mapped f (desk ∷ desks) proc keeps empty =
     ap (λ (p : ProcId). let d : Desk = cond (p.0 == proc.0) (f desk) (desk_in (map f desks) proc) in d) (keeps desk)

@@ -9,7 +9,7 @@ use Rattle.log_model.specs.Logs.{is_quiet, is_idle}
 use Rattle.world_laws.specs.Single.{Single, Past, seen_with, desk_with}
 use Rattle.world_laws.proofs.SettledLaws.{quiet_is}
 use Rattle.world_laws.specs.Keeps.{IsPlain, IsWorld}
-use Rattle.world_laws.proofs.Plain.{ordered-plain, get_some, plain_at, history_length-plain, history_index-plain, target_entry-plain}
+use Rattle.straight_rows.proofs.Plain.{ordered-plain, get_some, plain_at, history_length-plain, history_index-plain, target_entry-plain}
 use Rattle.log_model.specs.History.{history_length, history_index}
 use Rattle.report_text.specs.Reports.{quiet_line, request_line, step_line, top_line, request_lines, report_with, report_of}
 use Rattle.report_text.specs.Summary.{requests_line, summary_with, summary_of}

@@ -30,7 +30,7 @@ use Rattle.log_model.specs.Soundness.{is_entry}
 use Rattle.log_model.specs.Views.{made_by}
 use Rattle.history_laws.proofs.Members.{or_none}
 use Rattle.history_laws.proofs.Joining.{entry_same}
-use Rattle.world_laws.proofs.Plain.{get_within}
+use Rattle.straight_rows.proofs.Plain.{get_within}
 use Rattle.world_laws.specs.Single.{Single, first_document}
 use Rattle.world_laws.specs.Keeps.{face_of_row, face_of_view, MayMake, Leads, AreKnown, IsAbove, AreNumbered, spot, orders_of, IsUpdate, AreUpdates, IsSent, IsCome, IsShowing, IsOnItsWay, Coming, sent, told, old, come, is_poke_of, is_report_of, is_go_of, run_of, places, open_from, tally, Keeps, IsWorld}
 use Rattle.world_laws.proofs.Waits.{count_by_cons, tally_same, open_at}

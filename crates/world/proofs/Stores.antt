@@ -27,7 +27,7 @@ use Rattle.log_model.specs.Logs.{history_of}
 use Rattle.log_model.specs.Seen.{Seen}
 use Rattle.world_laws.specs.Single.{Single, pushed_row, replaced_row_with}
 use Rattle.world_laws.specs.Keeps.{IsPlain, AreDistinct, IsWorld}
-use Rattle.world_laws.proofs.Plain.{ordered-plain, get_some, IsPlain-append, IsPlain-take, IsPlain-set, cleared-plain, owner_of-plain, has_top, tidied-plain, greatest_step-plain, used_step_at-plain, history_length-plain, history_index-plain, target_entry-plain, length-take, plain_at}
+use Rattle.straight_rows.proofs.Plain.{ordered-plain, get_some, IsPlain-append, IsPlain-take, IsPlain-set, cleared-plain, owner_of-plain, has_top, tidied-plain, greatest_step-plain, used_step_at-plain, history_length-plain, history_index-plain, target_entry-plain, length-take, plain_at}
 use Rattle.world_laws.proofs.Known.{replaced_at}
 use Rattle.world.specs.Held.{in_order, history_in, IsStraight}
 

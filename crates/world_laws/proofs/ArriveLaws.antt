@@ -37,7 +37,7 @@ use Rattle.world_laws.specs.Single.{Single, Past, seen_with, seen_shown, logged,
 use Rattle.world_laws.specs.Pasts as past
 use Rattle.world_laws.specs.Going.{arrived, start_kinds, start_state, arrive_rows, arrive_state}
 use Rattle.world_laws.specs.Keeps.{face_of_row, face_of_view, Leads, is_made_push, is_poke_of, is_report_of, is_go_of, run_of, run_number, pair_after, places, open_from, tally, spot, AreUpdates, AreCalm, AreReportsFor, AreNumbered, IsSent, IsCome, IsShowing, Coming, sent, told, old, come, IsOnItsWay, IsRunFor, IsRunIn, Keeps, KeepsPast, IsWorld}
-use Rattle.world_laws.proofs.Plain.{get_within, greatest_step-plain, used_step_at-plain, has_top}
+use Rattle.straight_rows.proofs.Plain.{get_within, greatest_step-plain, used_step_at-plain, has_top}
 use Rattle.world_laws.proofs.Waits.{count_by_cons, tally_same, open_from_few}
 use Rattle.world_laws.proofs.Asks.{calm_request, one_runs, passed_calm, passed_runs, implies_true}
 use Rattle.world_laws.proofs.AfterLaws.{after_delivered_showing, after_arrived}

@@ -11,7 +11,7 @@ use Rattle.log_model.specs.History.{same_entry, is_of, replaced_row}
 use Rattle.log_model.specs.Places.{top}
 use Rattle.log_model.proofs.Refl.{same_entry_refl}
 use Rattle.world_laws.specs.Keeps.{IsPlain, AreDistinct, AreKnown}
-use Rattle.world_laws.proofs.Plain.{IsPlain-append, IsPlain-take, IsPlain-set, plain_at, length-take}
+use Rattle.straight_rows.proofs.Plain.{IsPlain-append, IsPlain-take, IsPlain-set, plain_at, length-take}
 
 -- ---- items of lists that change
 

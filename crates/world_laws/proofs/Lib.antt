@@ -1,4 +1,3 @@
-pub mod Plain
 pub mod Waits
 pub mod Rows
 pub mod Known

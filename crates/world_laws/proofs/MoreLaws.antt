@@ -27,7 +27,7 @@ use Rattle.log_model.proofs.LegalLaws.{legal_more}
 use Rattle.log_model.proofs.FurtherLaws.{at_once_more, suits_more, opened_before}
 use Rattle.world_laws.specs.Single.{Single, Past, seen_with, place_with, joined_with}
 use Rattle.world_laws.specs.Keeps.{spot, due, AreCalm, run_number, IsOnItsWay, IsRunIn, IsRunFor, Keeps, KeepsPast, IsWorld}
-use Rattle.world_laws.proofs.Plain.{get_within, used_step_at-plain}
+use Rattle.straight_rows.proofs.Plain.{get_within, used_step_at-plain}
 use Rattle.world_laws.proofs.Asks.{none_runs, one_runs, passed_runs, no_load}
 use Rattle.world_laws.proofs.Resting.{way_rests}
 use Rattle.world_laws.proofs.SettledLaws.{shown_top, pair_of}

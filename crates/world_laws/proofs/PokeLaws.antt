@@ -19,7 +19,7 @@ use Rattle.log_model.proofs.Refl.{nat_eq_refl}
 use Rattle.world_laws.specs.Single.{Single, Past, seen_with, poke_rows, poked, next_request, first_document}
 use Rattle.world_laws.specs.Pasts as past
 use Rattle.world_laws.specs.Keeps.{IsEntry, AreEntries, is_poke_of, is_report_of, is_go_of, run_of, run_number, open_from, tally, IsOnItsWay, IsRunFor, Keeps, KeepsPast, IsWorld}
-use Rattle.world_laws.proofs.Plain.{has_top}
+use Rattle.straight_rows.proofs.Plain.{has_top}
 use Rattle.world_laws.proofs.Waits.{count_by_push, open_from_append, open_within, tally_same}
 use Rattle.world_laws.proofs.Asks.{calm_pushed, pokes_pushed, pokes_more, reports_pushed, goes_pushed, request_new, request_pushed}
 use Rattle.world_laws.proofs.AfterLaws.{after_accepted}

@@ -43,7 +43,7 @@ use Rattle.world_laws.specs.Single.{Single, Past, seen_with, first_process, firs
 use Rattle.world_laws.specs.Pasts as past
 use Rattle.world_laws.specs.Pasts.{requests_applied}
 use Rattle.world_laws.specs.Keeps.{IsPlain, face_of_row, face_of_view, face_after_what, MayMake, Leads, orders_of, pair_after, due, spot, IsUpdate, AreUpdates, IsMadeFor, AreReportsFor, IsAbove, number_made, AreNumbered, is_poke_of, is_report_of, is_go_of, run_of, run_number, places, open_from, tally, AreCalm, IsResting, IsOnItsWay, Keeps, KeepsPast, IsWorld}
-use Rattle.world_laws.proofs.Plain.{IsPlain-append, IsPlain-take, cleared-plain, owner_of-plain, has_top, length-take}
+use Rattle.straight_rows.proofs.Plain.{IsPlain-append, IsPlain-take, cleared-plain, owner_of-plain, has_top, length-take}
 use Rattle.world_laws.proofs.Known.{get_last, known_pushed}
 use Rattle.world_laws.proofs.Waits.{count_by_cons, tally_same}
 use Rattle.world_laws.proofs.Asks.{request_at, none_runs, entry_goes, implies_true}

@@ -41,7 +41,7 @@ use Rattle.world_laws.specs.Single.{Single, Past, seen_with, first_process, firs
 use Rattle.world_laws.specs.Pasts as past
 use Rattle.world_laws.specs.Pasts.{requests_applied}
 use Rattle.world_laws.specs.Keeps.{IsPlain, face_of_row, face_of_view, face_after_what, MayMake, Leads, orders_of, due, spot, IsMadeFor, AreReportsFor, IsAbove, number_made, AreNumbered, is_push, is_made_push, is_poke_of, is_report_of, is_go_of, run_of, run_number, places, open_from, tally, AreCalm, IsResting, IsOnItsWay, Keeps, KeepsPast, IsWorld}
-use Rattle.world_laws.proofs.Plain.{IsPlain-set, plain_at, tidied-plain, has_top}
+use Rattle.straight_rows.proofs.Plain.{IsPlain-set, plain_at, tidied-plain, has_top}
 use Rattle.world_laws.proofs.Known.{get_set_here, known_set, replaced_at}
 use Rattle.world_laws.proofs.PushLaws.{made_is}
 use Rattle.world_laws.proofs.Waits.{count_by_cons, tally_same}

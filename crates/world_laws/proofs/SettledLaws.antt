@@ -21,7 +21,7 @@ use Rattle.log_model.specs.Settled.{shows, is_settled, is_settled_if_quiet}
 use Rattle.log_model.proofs.Refl.{nat_eq_refl, bytes_eq_refl, same_memo_refl, same_entry_refl}
 use Rattle.world_laws.specs.Single.{Single, Past, seen_with, seen_shown, desk_with}
 use Rattle.world_laws.specs.Keeps.{IsPlain, Face, face_of_row, face_of_view, spot, due, orders_of, places, open_from, AreUpdates, IsUpdate, IsShowing, IsSent, IsCome, Coming, sent, IsResting, IsRunning, IsOnItsWay, AreCalm, Keeps, KeepsPast, IsWorld}
-use Rattle.world_laws.proofs.Plain.{history_length-plain, history_index-plain, target_entry-plain}
+use Rattle.straight_rows.proofs.Plain.{history_length-plain, history_index-plain, target_entry-plain}
 use Rattle.world_laws.proofs.Waits.{all_ended}
 
 -- the top is shown at any step

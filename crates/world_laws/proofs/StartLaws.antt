@@ -23,7 +23,7 @@ use Rattle.world_laws.specs.Single.{Single, Past, seen_with, logged, joined_with
 use Rattle.world_laws.specs.Pasts as past
 use Rattle.world_laws.specs.Going.{goal_at, activate_job, shown, start_kinds, start_state}
 use Rattle.world_laws.specs.Keeps.{Keeps, KeepsPast}
-use Rattle.world_laws.proofs.Plain.{get_some, used_step_at-plain, has_top}
+use Rattle.straight_rows.proofs.Plain.{get_some, used_step_at-plain, has_top}
 use Rattle.world_laws.proofs.AfterLaws.{IsWorker, after_denied, after_started, after_traversed, after_sent_showing}
 use Rattle.world_laws.proofs.Kept.{first_leaves}
 use Rattle.world_laws.proofs.Idle.{IsIdle, first_alone, begun_at, begun_calm, idle_keeps, idle_refused, idle_passed, idle_more, past_on_way, shown_keeps}

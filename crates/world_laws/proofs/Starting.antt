@@ -37,7 +37,7 @@ use Rattle.world_laws.specs.Single.{Single, Past, seen_with}
 use Rattle.world_laws.specs.Pasts as past
 use Rattle.world_laws.specs.Going.{goal_at, activate_job}
 use Rattle.world_laws.specs.Keeps.{IsPlain, AreCalm}
-use Rattle.world_laws.proofs.Plain.{get_beyond, steps_from, length-steps_from, used_steps-plain, get-steps_from, used_step_at-plain, greatest_step-plain, history_length-plain, history_index-plain, target_entry-plain}
+use Rattle.straight_rows.proofs.Plain.{get_beyond, steps_from, length-steps_from, used_steps-plain, get-steps_from, used_step_at-plain, greatest_step-plain, history_length-plain, history_index-plain, target_entry-plain}
 use Rattle.world_laws.proofs.Asks.{calm_request, no_load, one_runs, passed_calm, passed_runs, implies_true}
 use Rattle.world_laws.proofs.AfterLaws.{IsWorker}
 use Rattle.world_laws.proofs.SettledLaws.{all_stand_at, shown_top}

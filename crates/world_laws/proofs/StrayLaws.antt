@@ -25,7 +25,7 @@ use Rattle.log_model.proofs.Refl.{nat_eq_refl}
 use Rattle.world_laws.specs.Single.{Single, Past, seen_with, stray_rows, strayed, next_request}
 use Rattle.world_laws.specs.Pasts as past
 use Rattle.world_laws.specs.Keeps.{IsEntry, is_poke_of, is_report_of, is_go_of, run_of, run_number, places, open_from, AreCalm, IsOnItsWay, Keeps, KeepsPast, IsWorld}
-use Rattle.world_laws.proofs.Plain.{has_no_other}
+use Rattle.straight_rows.proofs.Plain.{has_no_other}
 use Rattle.world_laws.proofs.Waits.{open_from_past, open_within, tally_same}
 use Rattle.world_laws.proofs.Asks.{calm_pushed, calm_ended, endings_ended, pokes_pushed, pokes_other, reports_pushed, reports_other, goes_pushed, goes_other, request_new, entry_goes}
 use Rattle.world_laws.proofs.AfterLaws.{after_strayed, after_denied}

@@ -20,7 +20,7 @@ use Rattle.world_laws.specs.Single.{Single, first_document, first_process}
 use Rattle.world_laws.specs.Keeps.{Face, face_after, is_made_push, MayReport, Leads, orders_of, IsUpdate, AreUpdates, IsShowing, IsSent, IsCome, Coming, sent, told, old, come, IsOnItsWay, IsRunFor, IsRunIn, pair_after, spot, run_of, run_number, tally, Keeps}
 use Rattle.log_model.specs.AfterRequests.{on_request}
 use Rattle.log_model.specs.After.{ended}
-use Rattle.world_laws.proofs.Plain.{get_within}
+use Rattle.straight_rows.proofs.Plain.{get_within}
 use Rattle.world_laws.proofs.Asks.{request_at, request_other}
 use Rattle.world_laws.proofs.SettledLaws.{AreUpdates_more}
 

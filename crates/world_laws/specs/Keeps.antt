@@ -38,15 +38,10 @@ use Rattle.log_model.specs.Legal.{IsLegal}
 use Rattle.log_model.specs.ActsAtOnce.{ActsAtOnce}
 use Rattle.log_model.specs.Suits.{Suits, opens_as}
 use Rattle.log_model.specs.declared.header.Header.{Header}
+pub use Rattle.straight_rows.specs.Straight.{IsPlain}
 use Rattle.world_laws.specs.Single.{Single, Past, seen_with, first_process, first_document}
 
 -- ---- the history: the top's entries alone, at the steps 0, 1, 2 and so on
-
--- the rows are the top's, at consecutive steps from this one on
-abbrev pub IsPlain : ℕ → List Row → Type 0
-IsPlain step [] = Unit {0}
-IsPlain step (row ∷ rows) =
-    ((row.nav.0 ≡ 0) × (row.owner ≡ None) × (row.step.0 ≡ step)) × IsPlain (step + 1) rows
 
 -- no two rows have the same entry
 abbrev pub AreDistinct : List Row → Type 0

@@ -7,7 +7,7 @@ use Rattle.log_model.specs.declared.row.Row.{Row}
 use Rattle.log_model.specs.History.{History, is_of, has_row, owner_of, with_step, used_steps, used_step_at, greatest_step, history_length, history_index, later_row, target_entry, is_anchored, tidied_times, tidied, cleared}
 use Rattle.log_model.specs.Order.{is_before, with_row, ordered}
 use Rattle.log_model.specs.Places.{top}
-use Rattle.world_laws.specs.Keeps.{IsPlain}
+use Rattle.straight_rows.specs.Straight.{IsPlain}
 
 -- ---- items of a list
 

@@ -1,0 +1,11 @@
+pub mod LookUps
+pub mod Readers
+pub mod Cores
+pub mod Times
+pub mod Onces
+pub mod Placings
+pub mod Endings
+pub mod Alls
+pub mod KnownRows
+pub mod KnownMoved
+pub mod KnownEnded

@@ -1,0 +1,3 @@
+pub mod Whereabouts
+pub mod Cores
+pub mod Knowns
