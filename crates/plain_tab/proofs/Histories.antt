@@ -22,7 +22,7 @@ some_same : {A : Type 0} {a b : A} → (let o : Option A = Some a in o) ≡ Some
 some_same e = cc
 
 -- entries that are the same by the test are the same
-same_entry_true : (x y : EntryId) → same_entry x y ≡ true → x ≡ y
+pub same_entry_true : (x y : EntryId) → same_entry x y ≡ true → x ≡ y
 same_entry_true x y is = by_tests (x.maker == y.maker) (x.nr == y.nr) refl refl is
   where
     by_tests : (a b : Bool) → (x.maker == y.maker) ≡ a → (x.nr == y.nr) ≡ b → (a && b) ≡ true → x ≡ y

@@ -20,3 +20,5 @@ pub mod Readings
 pub mod TabOpened
 pub mod Turns
 pub mod Takings
+pub mod Lates
+pub mod Shows

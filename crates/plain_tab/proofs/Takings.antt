@@ -50,13 +50,13 @@ entry_changes doc (whats.Push entry memo address) is = refl
 entry_changes doc (whats.Replace over_ entry memo address) is = refl
 entry_changes doc _ is = elim is [ ]
 
-entry_no_step : (doc : DocId) (what : What) → IsEntryOf doc what → is_go what ≡ false
+pub entry_no_step : (doc : DocId) (what : What) → IsEntryOf doc what → is_go what ≡ false
 entry_no_step doc (whats.Push entry memo address) is = refl
 entry_no_step doc (whats.Replace over_ entry memo address) is = refl
 entry_no_step doc _ is = elim is [ ]
 
 -- a plain request that hasn't to begin is checked for nothing
-unbegun : (what : Request) → IsPlainRequest what → has_to_begin what ≡ false → (is_traversal what ≡ false) × ((is_load what || is_traversal what || is_reload what) ≡ false)
+pub unbegun : (what : Request) → IsPlainRequest what → has_to_begin what ≡ false → (is_traversal what ≡ false) × ((is_load what || is_traversal what || is_reload what) ≡ false)
 unbegun (requests.Go delta) is none = cc
 unbegun (requests.Poke nav (actions.Push memo reference)) is none = (refl, refl)
 unbegun (requests.Poke nav (actions.Replace memo reference)) is none = (refl, refl)
