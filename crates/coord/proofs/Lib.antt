@@ -12,3 +12,6 @@ pub mod AppliedLaws
 pub mod Histories
 pub mod EndLaws
 pub mod BeginLaws
+pub mod IdleLaws
+pub mod ReadLaws
+pub mod ShowFirst

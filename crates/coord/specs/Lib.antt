@@ -4,3 +4,4 @@ pub mod Showing
 pub mod Taking
 pub mod Ending
 pub mod Beginning
+pub mod Idling

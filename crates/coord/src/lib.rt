@@ -4,8 +4,10 @@
 mod addressee;
 mod beginning;
 mod ending;
+mod reading;
 mod tables;
 mod taking;
+mod turns;
 
 pub use addressee::Addressee;
 pub use tables::Tables;

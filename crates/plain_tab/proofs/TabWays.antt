@@ -135,6 +135,14 @@ module _ (s : Seen) (d : Document) (place : Place) (event : ℕ) (actor : Actor)
         mine : (navs : List NavId) → has_nav (d.nav ∷ navs) top ≡ true
         mine navs = rw tab.sole.there.nav refl
 
+    pub going_req : showing_going.req ≡ req
+    unfolding showing_going
+    going_req = refl
+
+    pub going_goal : showing_going.goal ≡ goal
+    unfolding showing_going
+    going_goal = refl
+
 -- ---- a traversal that leads nowhere is refused
 
 module _ (s : Seen) (d : Document) (place : Place) (event : ℕ) (tab : IsTab s d place) (idle : IsIdle s place) (req : ReqId) (reason : Denial) (off_ : over (times_at req) s.desks ≡ 0) where

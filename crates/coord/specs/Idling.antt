@@ -1,0 +1,63 @@
+-- A coordinator that works in an event of a tab of one document: its tables stand for the log, and either no traversal runs, or the entry of one is on its way.
+-- HTML Standard, "session history traversal queue"; the premise of one document is this project's own.
+use Rattle.std.specs.Prelude.{◌≡◌, ℤ, true, List, [], ◌∷◌, slice_get, Some}
+use Rattle.tab_ids.specs.declared.ReqId.{ReqId}
+use Rattle.tab_ids.specs.declared.Step.{Step}
+use Rattle.log_model.specs.declared.request.Request.TheVariants as requests
+use Rattle.log_model.specs.declared.row_kind.RowKind.{RowKind}
+use Rattle.log_model.specs.declared.row.Row.{Row}
+use Rattle.log_model.specs.History.{History}
+use Rattle.log_model.specs.Order.{ordered}
+use Rattle.log_model.specs.Seen.{Seen, Document, Asked, Place, request_in}
+use Rattle.step_index.specs.Held.{history_held}
+use Rattle.seen_laws.specs.InEvent.{InEvent, now_of, AreLegal}
+use Rattle.seen_laws.specs.Sending.{leads}
+use Rattle.plain_tab.specs.Between.{IsTab, IsIdle, IsGoing}
+use Rattle.coord.specs.Ties.{Ties, HoldsHistory}
+use Rattle.coord.specs.Ending.{IsWorker}
+use Rattle.coord.specs.declared.addressee.Addressee.{Addressee}
+use Rattle.coord.specs.declared.tables.Tables.{Tables}
+
+-- the tables stand for what the log has come to, the event so far is legal, and the tab has one document
+pub record IsWorking (e : InEvent) (out : List RowKind) (tables : Tables) (d : Document) (place : Place) : Type 0 where
+  pub own : leads e.own ≡ true
+  pub worker : IsWorker e.actor
+  pub ties : Ties (now_of e out) tables.tree tables.jobs
+  pub history : HoldsHistory (now_of e out) (history_held tables.store)
+  pub legal : AreLegal e out
+  pub tab : IsTab (now_of e out) d place
+
+-- and no traversal runs
+pub record IsIdling (e : InEvent) (out : List RowKind) (tables : Tables) : Type 0 where
+  pub d : Document
+  pub place : Place
+  pub works : IsWorking e out tables d place
+  pub idle : IsIdle (now_of e out) place
+
+-- the traversal is the first that waits, by this delta
+pub record IsFirst (s : Seen) (req : ReqId) (delta : ℤ) : Type 0 where
+  pub first : slice_get s.joined 0 ≡ Some req
+  pub q : Asked
+  pub there : request_in s.requests req ≡ Some q
+  pub asks : q.what ≡ requests.Go delta
+
+-- and the entry at the traversal's goal is on its way
+pub record IsShowing (e : InEvent) (out : List RowKind) (tables : Tables) (req : ReqId) (goal : Step) : Type 0 where
+  pub d : Document
+  pub place : Place
+  pub works : IsWorking e out tables d place
+  pub going : IsGoing (now_of e out) place
+  pub its : going.req ≡ req
+  pub leads_to : going.goal ≡ goal
+
+-- where the one document is
+pub record IsHome (s : Seen) (home : Addressee) : Type 0 where
+  pub d : Document
+  pub only : s.documents ≡ d ∷ []
+  pub doc : home.doc ≡ d.nr
+  pub proc : home.proc ≡ d.proc
+  pub incarnation : home.incarnation ≡ 0
+
+-- the entries of a store, put in order, are the top's at consecutive steps, and no two are the same
+abbrev pub rows_in_order : History → List Row
+rows_in_order history = ordered history.rows
