@@ -15,3 +15,5 @@ pub mod BeginLaws
 pub mod IdleLaws
 pub mod ReadLaws
 pub mod ShowFirst
+pub mod QueueLaws
+pub mod TurnLaws

@@ -1,6 +1,6 @@
 -- A coordinator that works in an event of a tab of one document: its tables stand for the log, and either no traversal runs, or the entry of one is on its way.
 -- HTML Standard, "session history traversal queue"; the premise of one document is this project's own.
-use Rattle.std.specs.Prelude.{◌≡◌, ℤ, true, List, [], ◌∷◌, slice_get, Some}
+use Rattle.std.specs.Prelude.{◌≡◌, ℕ, ℤ, pos, true, nat_lt, List, [], ◌∷◌, slice_get, Option, Some, None, if◌then◌else◌}
 use Rattle.tab_ids.specs.declared.ReqId.{ReqId}
 use Rattle.tab_ids.specs.declared.Step.{Step}
 use Rattle.log_model.specs.declared.request.Request.TheVariants as requests
@@ -61,3 +61,8 @@ pub record IsHome (s : Seen) (home : Addressee) : Type 0 where
 -- the entries of a store, put in order, are the top's at consecutive steps, and no two are the same
 abbrev pub rows_in_order : History → List Row
 rows_in_order history = ordered history.rows
+
+-- the used step that is the n-th of so many, 0, 1, 2 and so on: none below the first or beyond the last
+abbrev pub leads_in : ℕ → ℤ → Option ℕ
+leads_in count (pos n) = if nat_lt n count then Some n else None
+leads_in count _ = None

@@ -5,3 +5,4 @@ pub mod Taking
 pub mod Ending
 pub mod Beginning
 pub mod Idling
+pub mod Queueing
