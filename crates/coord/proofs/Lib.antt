@@ -17,3 +17,5 @@ pub mod ReadLaws
 pub mod ShowFirst
 pub mod QueueLaws
 pub mod TurnLaws
+pub mod ArriveLaws
+pub mod Arrives

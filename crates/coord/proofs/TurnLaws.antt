@@ -111,9 +111,11 @@ module _ (e : InEvent) (old : List RowKind) (before : Tables) (home : Addressee)
       turn_shows goal going =
           record {
             shows = going.shows;
-            rest = its.rest;
-            joined = going.joined ∙ its.joined;
-            queued = queued_on (now_of e old).requests (now_of e new).requests its.rest waiting going.asks its.queued;
+            behind = record {
+              rest = its.rest;
+              joined = going.joined ∙ its.joined;
+              queued = queued_on (now_of e old).requests (now_of e new).requests its.rest waiting going.asks its.queued;
+            };
           }
 
 -- none waits

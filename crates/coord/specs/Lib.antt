@@ -6,3 +6,4 @@ pub mod Ending
 pub mod Beginning
 pub mod Idling
 pub mod Queueing
+pub mod Arriving

@@ -63,12 +63,16 @@ abbrev pub Went : InEvent → List RowKind → List RowKind → Tables → Addre
 Went e old new tables home req None = IsReady e new tables home × IsOneOn (now_of e old) (now_of e new) req
 Went e old new tables home req (Some goal) = IsGoingFirst e old new tables req goal
 
+-- the request is the first that joined, and the queue has those behind it
+pub record IsBehind (s : Seen) (req : ReqId) (waiting : List QueueStep) : Type 0 where
+  pub rest : List ReqId
+  pub joined : s.joined ≡ req ∷ rest
+  pub queued : AreQueued s.requests rest waiting
+
 -- the request's entry is on its way, and the queue has those that wait behind it
 pub record IsUnderWay (e : InEvent) (out : List RowKind) (tables : Tables) (waiting : List QueueStep) (req : ReqId) (goal : Step) : Type 0 where
   pub shows : IsShowing e out tables req goal
-  pub rest : List ReqId
-  pub joined : (now_of e out).joined ≡ req ∷ rest
-  pub queued : AreQueued (now_of e out).requests rest waiting
+  pub behind : IsBehind (now_of e out) req waiting
 
 -- no traversal runs, and the queue has those that wait
 pub record IsQueueing (e : InEvent) (out : List RowKind) (tables : Tables) (home : Addressee) (waiting : List QueueStep) : Type 0 where

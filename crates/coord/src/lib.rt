@@ -2,6 +2,7 @@
 #![tactic(auto)]
 
 mod addressee;
+mod arriving;
 mod beginning;
 mod ending;
 mod reading;

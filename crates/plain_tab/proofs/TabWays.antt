@@ -162,7 +162,7 @@ module _ (s : Seen) (d : Document) (place : Place) (event : ℕ) (tab : IsTab s 
   abbrev pub come : Seen
   come = next s event actors.Coord (rows.Delivered d.proc)
 
-  come_requests : come.requests ≡ s.requests
+  pub come_requests : come.requests ≡ s.requests
   come_requests = work.delivered_requests s d place event tab job outcome first is
 
   pub come_tab : IsTab come d (place_arrived job place)
@@ -171,7 +171,7 @@ module _ (s : Seen) (d : Document) (place : Place) (event : ℕ) (tab : IsTab s 
   pub come_delivered : (place_arrived job place).is_delivered ≡ true
   come_delivered = has_come (desk_of s d.proc) d place job outcome first tab.flowing.own entry epoch long at memo address task
 
-  come_runs : OnlyRuns (Some going.req) come
+  pub come_runs : OnlyRuns (Some going.req) come
   come_runs = runs_again (Some going.req) s.requests come.requests (same_requests is_run s come come_requests) going.only
 
   low : going.goal.0 < length s.history.rows

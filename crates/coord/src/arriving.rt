@@ -1,0 +1,56 @@
+//! The end of the traversal that runs, in a tab of one document.
+ghost use Rattle.std.specs.Prelude.{◌≡◌, ◌<◌, ◌+◌, ◌^◌, OnOk, IfOk, IfSome};
+ghost use Rattle.log_model.specs.Places.{top};
+ghost use Rattle.log_model.specs.Seen.{place_of};
+ghost use Rattle.seen_laws.specs.InEvent.{InEvent, now_of};
+ghost use Rattle.coord.specs.Arriving.{HasArrived, IsOneOff};
+ghost use Rattle.coord.specs.Idling.{IsIdling, IsHome};
+ghost use Rattle.coord.specs.Queueing.{IsBehind, CameOut};
+
+use crate::addressee::Addressee;
+use crate::tables::Tables;
+use address::OutOfMemory;
+use log_model::Out;
+use move_queue::MoveQueue;
+use std::alloc::Global;
+use tab_ids::{ReqId, Step};
+
+impl Tables {
+    /// The document has shown the entry at the goal of the traversal that runs, which ends.
+    pub fn end_first(&mut self, out: &mut Out, req: ReqId, goal: Step) -> Result<(), OutOfMemory>
+        ghost e: { InEvent }
+        requires arrived { HasArrived e out.old self.old req goal }
+        requires room { (now_of e out.old).history.current < 4294967294 }
+        ensures idle { OnOk result (IsIdling e out.new self.new) }
+        ensures one_off { OnOk result (IsOneOff (now_of e out.old) (now_of e out.new) req goal) }
+        ensures jobs { OnOk result (self.new.jobs ≡ self.old.jobs) }
+    {
+        self.traverse(out, req, goal)?;
+        Ok(())
+    }
+
+    /// The traversal that runs ends, and those that wait behind it have their turns, up to the first whose entry is to be shown: answers that one, and the step that it leads to.
+    pub fn arrive(
+        &mut self,
+        alloc: Global,
+        out: &mut Out,
+        queue: &mut MoveQueue,
+        home: Addressee,
+        req: ReqId,
+        goal: Step,
+    ) -> Result<Option<(ReqId, Step)>, OutOfMemory>
+        ghost e: { InEvent }
+        requires arrived { HasArrived e out.old self.old req goal }
+        requires behind { IsBehind (now_of e out.old) req queue.old.waiting }
+        requires home { IsHome (now_of e out.old) home }
+        requires jobs { self.old.jobs + 1 < 2 ^ 64 }
+        requires epochs { IfSome (place_of (now_of e out.old) top) (λ place. place.epoch.0 + 1 < 2 ^ 64) }
+        requires steps { (now_of e out.old).history.current < 4294967294 }
+        requires room { goal.0 < 4294967294 }
+        ensures came_out { IfOk result (λ went. CameOut e out.new self.new home queue.new.waiting went) }
+        ensures parked { queue.new.parked ≡ queue.old.parked }
+    {
+        self.end_first(out, req, goal)?;
+        self.take_turns(alloc, out, queue, home)
+    }
+}
