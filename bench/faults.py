@@ -4,10 +4,11 @@ printed scenario.
 
     python3 bench/faults.py MODEL [FIRST COUNT]
 
-MODEL is a folder with the plain model of the engine. The seeds are 1 to 20,000, or COUNT from FIRST on. Each seed gives a
-scenario with lines of every kind and up to three edits of it; a third is read for each caller: one that plays all lines,
-one that plays the lines of one document, and one that runs threads. In a folder of its own, beside copies of the crates,
-a program reads the scenarios, one a line, and prints what came of each. It is run by `rt try`, so no proof is needed.
+MODEL is a folder with the plain model of the engine. The seeds are 1 to 20,000, or COUNT from FIRST on; where `rt try`'s
+minute is too short for all, ask for 3,000 at a time. Each seed gives a scenario with lines of every kind and up to
+three edits of it; a third is read for each caller: one that plays all lines, one that plays the lines of one document,
+and one that runs threads. In a folder of its own, beside copies of the crates, a program reads the scenarios, one a
+line, and prints what came of each. It is run by `rt try`, so no proof is needed.
 """
 import random
 import subprocess
