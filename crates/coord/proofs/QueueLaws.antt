@@ -1,5 +1,5 @@
 -- What the turn of a traversal leaves of the queue, and what the next turn reads.
-use Rattle.std.proofs.Common.{◌≡◌, ℤ, pos, negsuc, ◌+ℤ◌, ℕ, zero, suc, ◌+◌, ◌<◌, ◌≤◌, Bool, true, false, ◌==◌, List, [], ◌∷◌, ◌++◌, length, Option, Some, None, refl, sym, ap, ◌∙◌, subst, arith}
+use Rattle.std.proofs.Common.{◌≡◌, ℤ, pos, negsuc, ◌+ℤ◌, ℕ, zero, suc, ◌+◌, ◌<◌, ◌≤◌, Bool, true, false, ◌==◌, List, [], ◌∷◌, ◌++◌, length, Option, Some, None, refl, sym, ap, ◌∙◌, subst, arith, append_assoc}
 use Rattle.std.proofs.lemmas.Bool.Decides.{nat_tests}
 use Rattle.std.specs.Prelude.{slice_get, option_map, nat_lt, IfSome}
 use Rattle.tab_ids.specs.declared.ReqId.{ReqId}
@@ -39,7 +39,7 @@ use Rattle.nav_tree.specs.Tree.{nav_of}
 use Rattle.plain_tab.proofs.Soles.{place_found}
 use Rattle.tab_ids.specs.declared.Epoch.{Epoch}
 use Rattle.coord.specs.Idling.{IsIdling, IsFirst, leads_in}
-use Rattle.coord.specs.Queueing.{what_in, IsOneOn, IsReady}
+use Rattle.coord.specs.Queueing.{IsLonger, what_in, IsOneOn, IsReady}
 use Rattle.coord.specs.declared.addressee.Addressee.{Addressee}
 use Rattle.coord.specs.declared.tables.Tables.{Tables}
 
@@ -178,3 +178,8 @@ is_apart a b c apart same = subst (λ (n : ℕ). (a == n) ≡ false) same (let i
 
 pub first_with : (s : Seen) (req : ReqId) (delta z : ℤ) → z ≡ delta → IsFirst s req delta → IsFirst s req z
 first_with s req delta z same first = subst (λ (d : ℤ). IsFirst s req d) (sym same) first
+
+-- ---- what was put out before
+
+pub longer_then : (a b c : List RowKind) → IsLonger a b → IsLonger b c → IsLonger a c
+longer_then a b c (more, is) (then_, next_is) = (more ++ then_, next_is ∙ (ap (λ (l : List RowKind). l ++ then_) is ∙ append_assoc a more then_))

@@ -1,6 +1,6 @@
 -- The queue of a coordinator in a tab of one document: the traversals that wait, in the order in which they joined, each by its delta.
 -- HTML Standard, "session history traversal queue"; the premise of one document is this project's own.
-use Rattle.std.specs.Prelude.{◌≡◌, ◌+◌, ◌<◌, ◌^◌, List, [], ◌∷◌, Option, Some, None, option_map, IfSome}
+use Rattle.std.specs.Prelude.{◌≡◌, ◌+◌, ◌<◌, ◌^◌, List, [], ◌∷◌, ◌++◌, Option, Some, None, option_map, IfSome}
 use Rattle.tab_ids.specs.declared.ReqId.{ReqId}
 use Rattle.tab_ids.specs.declared.Step.{Step}
 use Rattle.log_model.specs.declared.request.Request.{Request}
@@ -35,6 +35,10 @@ abbrev pub AreQueued : List Asked → List ReqId → List QueueStep → Type 0
 AreQueued asked [] [] = Unit {0}
 AreQueued asked (req ∷ joined) (step ∷ steps) = IsQueued asked req step × AreQueued asked joined steps
 AreQueued asked _ _ = ⊥
+
+-- what was put out before stands at the front still
+abbrev pub IsLonger : List RowKind → List RowKind → Type 0
+IsLonger old new = (more : List RowKind) × (new ≡ old ++ more)
 
 -- a request is off the queue; nothing else that the next turn reads has changed
 pub record IsOneOn (old new : Seen) (req : ReqId) : Type 0 where

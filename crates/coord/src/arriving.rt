@@ -5,7 +5,7 @@ ghost use Rattle.log_model.specs.Seen.{place_of};
 ghost use Rattle.seen_laws.specs.InEvent.{InEvent, now_of};
 ghost use Rattle.coord.specs.Arriving.{HasArrived, IsOneOff};
 ghost use Rattle.coord.specs.Idling.{IsIdling, IsHome};
-ghost use Rattle.coord.specs.Queueing.{IsBehind, CameOut};
+ghost use Rattle.coord.specs.Queueing.{IsBehind, IsLonger, CameOut};
 
 use crate::addressee::Addressee;
 use crate::tables::Tables;
@@ -24,6 +24,7 @@ impl Tables {
         ensures idle { OnOk result (IsIdling e out.new self.new) }
         ensures one_off { OnOk result (IsOneOff (now_of e out.old) (now_of e out.new) req goal) }
         ensures jobs { OnOk result (self.new.jobs ≡ self.old.jobs) }
+        ensures longer { OnOk result (IsLonger out.old out.new) }
     {
         self.traverse(out, req, goal)?;
         Ok(())
@@ -49,6 +50,7 @@ impl Tables {
         requires room { goal.0 < 4294967294 }
         ensures came_out { IfOk result (λ went. CameOut e out.new self.new home queue.new.waiting went) }
         ensures parked { queue.new.parked ≡ queue.old.parked }
+        ensures longer { OnOk result (IsLonger out.old out.new) }
     {
         self.end_first(out, req, goal)?;
         self.take_turns(alloc, out, queue, home)

@@ -5,7 +5,7 @@ ghost use Rattle.seen_laws.specs.InEvent.{InEvent, now_of};
 ghost use Rattle.log_model.specs.Places.{top};
 ghost use Rattle.nav_tree.specs.Tree.{nav_of};
 ghost use Rattle.coord.specs.Idling.{IsIdling, IsFirst, IsHome, IsShowing};
-ghost use Rattle.coord.specs.Queueing.{IsReady, IsOneOn, IsGoingFirst, IsQueueing, IsTraversal, Went, CameOut};
+ghost use Rattle.coord.specs.Queueing.{IsReady, IsLonger, IsOneOn, IsGoingFirst, IsQueueing, IsTraversal, Went, CameOut};
 ghost use Rattle.move_queue.specs.declared.queue_step.QueueStep.TheVariants.{Traverse};
 
 use crate::addressee::Addressee;
@@ -28,6 +28,7 @@ impl Tables {
         ensures idle { OnOk result (IsIdling e out.new self.new) }
         ensures one_on { OnOk result (IsOneOn (now_of e out.old) (now_of e out.new) req) }
         ensures jobs { OnOk result (self.new.jobs ≡ self.old.jobs) }
+        ensures longer { OnOk result (IsLonger out.old out.new) }
     {
         self.refuse(out, req)?;
         Ok(())
@@ -50,6 +51,7 @@ impl Tables {
         ensures idle { OnOk result (IsIdling e out.new self.new) }
         ensures one_on { OnOk result (IsOneOn (now_of e out.old) (now_of e out.new) req) }
         ensures jobs { OnOk result (self.new.jobs ≡ self.old.jobs) }
+        ensures longer { OnOk result (IsLonger out.old out.new) }
     {
         self.start(out, req, goal)?;
         self.traverse(out, req, goal)?;
@@ -75,6 +77,7 @@ impl Tables {
         requires room { self.old.jobs + 1 < 2 ^ 64 }
         requires epochs { IfSome (nav_of top self.old.tree) (λ nav. nav.epoch.0 + 1 < 2 ^ 64) }
         ensures shows { OnOk result (IsGoingFirst e out.old out.new self.new req goal) }
+        ensures longer { OnOk result (IsLonger out.old out.new) }
     {
         let nobody = Navs::new(alloc);
         let (length, index) = self.store.length_index(goal);
@@ -113,6 +116,7 @@ impl Tables {
         requires ready { IsReady e out.old self.old home }
         requires first { IsFirst (now_of e out.old) req delta }
         ensures went { IfOk result (λ goal. Went e out.old out.new self.new home req goal) }
+        ensures longer { OnOk result (IsLonger out.old out.new) }
     {
         match step_at(&self.store, delta) {
             None => {
@@ -142,6 +146,7 @@ impl Tables {
         requires queueing { IsQueueing e out.old self.old home queue.old.waiting }
         ensures came_out { IfOk result (λ went. CameOut e out.new self.new home queue.new.waiting went) }
         ensures parked { queue.new.parked ≡ queue.old.parked }
+        ensures longer { OnOk result (IsLonger out.old out.new) }
     {
         'waiting: while let Some(step) = queue.next() {
             let (req, delta) = traversal_of(step);

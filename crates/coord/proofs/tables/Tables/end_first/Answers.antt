@@ -11,4 +11,5 @@ returns g c =
       idle = idles_ended _ _ _ _ _ c.requires.0 _ c.in_ok-traverse.ensures.out _ c.in_ok-traverse.ensures.ties c.in_ok-traverse.ensures.history c.in_ok-traverse.ensures.legal;
       one_off = one_off _ _ _ _ _ c.requires.0 _ c.in_ok-traverse.ensures.out;
       jobs = c.in_ok-traverse.ensures.jobs;
+      longer = (_, c.in_ok-traverse.ensures.out);
     }

@@ -1,6 +1,6 @@
 use Rattle.std.proofs.Common.{ap, ◌∙◌}
 use Rattle.coord.specs.declared.tables.Tables.{Tables}
-use Rattle.coord.proofs.QueueLaws.{one_on_passed}
+use Rattle.coord.proofs.QueueLaws.{one_on_passed, longer_then}
 use Rattle.coord.proofs.IdleLaws.{may_begin, may_pass, room_on, idles_passed}
 use Rattle.coord.proofs.tables.Tables.pass_first.Goals as goal
 
@@ -14,4 +14,4 @@ traverse-requires g c =
 
 pub returns : goal.returns
 returns g c =
-    record { idle = idles_passed _ _ _ _ _ c.requires.0 c.requires.1.0 _ c.requires.1.1.0 c.requires.1.1.1.0 _ c.in_ok-start.ensures.out _ _ c.in_ok-traverse.ensures.out c.in_ok-traverse.ensures.ties c.in_ok-traverse.ensures.history c.in_ok-traverse.ensures.legal; one_on = one_on_passed _ _ _ _ _ _ _ c.requires.0 c.requires.1.0 _ c.requires.1.1.0 c.requires.1.1.1.0 c.in_ok-start.ensures.out c.in_ok-traverse.ensures.out; jobs = c.in_ok-traverse.ensures.jobs ∙ ap (λ (t : Tables). t.jobs) c.in_ok-start.ensures.tables }
+    record { idle = idles_passed _ _ _ _ _ c.requires.0 c.requires.1.0 _ c.requires.1.1.0 c.requires.1.1.1.0 _ c.in_ok-start.ensures.out _ _ c.in_ok-traverse.ensures.out c.in_ok-traverse.ensures.ties c.in_ok-traverse.ensures.history c.in_ok-traverse.ensures.legal; longer = longer_then _ _ _ (_, c.in_ok-start.ensures.out) (_, c.in_ok-traverse.ensures.out); one_on = one_on_passed _ _ _ _ _ _ _ c.requires.0 c.requires.1.0 _ c.requires.1.1.0 c.requires.1.1.1.0 c.in_ok-start.ensures.out c.in_ok-traverse.ensures.out; jobs = c.in_ok-traverse.ensures.jobs ∙ ap (λ (t : Tables). t.jobs) c.in_ok-start.ensures.tables }

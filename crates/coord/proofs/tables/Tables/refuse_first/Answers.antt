@@ -10,4 +10,4 @@ refuse-requires g c =
 
 pub returns : goal.returns
 returns g c =
-    record { idle = idles_refused _ _ _ _ _ _ _ c.requires.0 c.requires.1.0 c.in_ok-refuse.ensures.out c.in_ok-refuse.ensures.ties c.in_ok-refuse.ensures.history c.in_ok-refuse.ensures.legal; one_on = refused_on _ _ _ _ c.in_ok-refuse.ensures.out; jobs = ap (λ (t : Tables). t.jobs) c.in_ok-refuse.ensures.tables }
+    record { idle = idles_refused _ _ _ _ _ _ _ c.requires.0 c.requires.1.0 c.in_ok-refuse.ensures.out c.in_ok-refuse.ensures.ties c.in_ok-refuse.ensures.history c.in_ok-refuse.ensures.legal; longer = (_, c.in_ok-refuse.ensures.out); one_on = refused_on _ _ _ _ c.in_ok-refuse.ensures.out; jobs = ap (λ (t : Tables). t.jobs) c.in_ok-refuse.ensures.tables }

@@ -5,7 +5,7 @@ use mir.Val.{SFits}
 use mir.Syntax.{w32}
 use Rattle.std.proofs.lemmas.Int.{to_z-of_z}
 use Rattle.move_queue.specs.Queue.{Queue}
-use Rattle.coord.proofs.QueueLaws.{first_with}
+use Rattle.coord.proofs.QueueLaws.{first_with, longer_then}
 use Rattle.coord.proofs.TurnLaws.{its_traversal, its_first, turn_over, turn_shows, none_waits}
 use Rattle.coord.proofs.tables.Tables.take_turns.Goals as goal
 
@@ -24,7 +24,7 @@ returns-in-Some-2-clause-came_out g c =
 
 pub waiting-preserved : goal.waiting-preserved
 waiting-preserved g c =
-    (turn_over _ _ _ _ _ _ _ (ap (λ (q : Queue). q.waiting) c.in-Some.ensures.first) c.waiting.invariant.0 _ _ c.traversal_of-delta.ensures _ _ (subst (λ (o : Option Step). Went g.e c.waiting.out c.take_turn.new.out c.take_turn.new.self c.args.home c.traversal_of-delta.result.0 o) c.in_default-2.is c.in_ok-goal.ensures.went), sym (ap (λ (q : Queue). q.parked) c.in-Some.ensures.first) ∙ c.waiting.invariant.1)
+    (turn_over _ _ _ _ _ _ _ (ap (λ (q : Queue). q.waiting) c.in-Some.ensures.first) c.waiting.invariant.0 _ _ c.traversal_of-delta.ensures _ _ (subst (λ (o : Option Step). Went g.e c.waiting.out c.take_turn.new.out c.take_turn.new.self c.args.home c.traversal_of-delta.result.0 o) c.in_default-2.is c.in_ok-goal.ensures.went), sym (ap (λ (q : Queue). q.parked) c.in-Some.ensures.first) ∙ c.waiting.invariant.1, longer_then _ _ _ c.waiting.invariant.2 c.in_ok-goal.ensures.longer)
 
 pub returns-clause-came_out : goal.returns-clause-came_out
 returns-clause-came_out g c =
