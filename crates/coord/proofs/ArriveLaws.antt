@@ -1,6 +1,6 @@
 -- That the traversal whose entry is shown may end, and what the coordinator keeps then.
-use Rattle.std.proofs.Common.{◌≡◌, ℕ, ◌+◌, ◌<◌, Bool, true, false, List, [], ◌∷◌, ◌++◌, length, Some, None, refl, sym, ap, ◌∙◌, subst}
-use Rattle.std.specs.Prelude.{slice_get, IfSome}
+use Rattle.std.proofs.Common.{◌≡◌, ℕ, ◌<◌, Bool, true, false, List, [], ◌∷◌, ◌++◌, length, Some, None, refl, sym, ap, ◌∙◌, subst, arith}
+use Rattle.std.specs.Prelude.{slice_get}
 use Rattle.tab_ids.specs.declared.ReqId.{ReqId}
 use Rattle.tab_ids.specs.declared.Step.{Step}
 use Rattle.log_model.specs.declared.change.Change.TheVariants as changes
@@ -10,10 +10,10 @@ use Rattle.log_model.specs.declared.row_kind.RowKind.{RowKind}
 use Rattle.log_model.specs.declared.row_kind.RowKind.TheVariants as rows
 use Rattle.log_model.specs.After.{ended}
 use Rattle.log_model.specs.AfterRequests.{on_request, entries_taken}
-use Rattle.log_model.specs.Places.{top}
-use Rattle.log_model.specs.Seen.{Seen, Asked, Place, place_in, place_of}
+use Rattle.log_model.specs.Seen.{Seen, Asked}
 use Rattle.log_model.proofs.Refl.{nat_eq_refl}
-use Rattle.seen_laws.specs.InEvent.{InEvent, now_of, AreLegal}
+use Rattle.seen_laws.specs.InEvent.{InEvent, now_of, AreLegal, IsClear}
+use Rattle.seen_laws.proofs.InEvents.{clear_more}
 use Rattle.seen_laws.proofs.Sums.{over}
 use Rattle.coord_facts.proofs.Unread.{next}
 use Rattle.request_facts.proofs.Readers.{SameReads, reads_then, on_read}
@@ -29,11 +29,12 @@ use Rattle.step_index.specs.Held.{history_held}
 use Rattle.coord.specs.Ties.{Ties, HoldsHistory}
 use Rattle.coord.specs.Ending.{MayEnd}
 use Rattle.coord.specs.Idling.{IsIdling, IsHome}
-use Rattle.coord.specs.Queueing.{what_in, AreQueued, IsBehind, IsQueueing}
+use Rattle.coord.specs.Queueing.{what_in, AreQueued, HasRoom, IsOneOn, IsBehind, IsQueueing}
 use Rattle.coord.proofs.TurnLaws.{rest_left, queued_on}
 use Rattle.coord.specs.declared.addressee.Addressee.{Addressee}
 use Rattle.move_queue.specs.declared.queue_step.QueueStep.{QueueStep}
-use Rattle.coord.specs.Arriving.{HasArrived, IsOneOff}
+use Rattle.coord.specs.Arriving.{HasArrived}
+use Rattle.coord.proofs.QueueLaws.{home_on, room_left}
 use Rattle.coord.specs.declared.tables.Tables.{Tables}
 use Rattle.coord.proofs.IdleLaws.{next_now, first_off}
 
@@ -122,34 +123,41 @@ module _ (e : InEvent) (out : List RowKind) (tables : Tables) (req : ReqId) (goa
             ties = ties;
             history = history;
             legal = legal;
+            clear = subst (λ (l : List RowKind). IsClear e l) (sym is) (clear_more e out (rows.Applied req (changes.Traverse goal)) (λ h end. refl) arrived.works.clear);
             tab = subst (λ (x : Seen). IsTab x arrived.d arrived.place) (sym now) ended_tab;
           };
           idle = subst (λ (x : Seen). IsIdle x arrived.place) (sym now) ended_idle;
         }
 
-    pub one_off : IsOneOff s (now_of e more) req goal
-    one_off =
+    pub one_on : IsOneOn s (now_of e more) req goal.0
+    one_on =
         record {
           joined = ap (λ (x : Seen). x.joined) now;
           asks = λ r. ap (λ (x : Seen). what_in x.requests r) now ∙ ended_asks r;
           documents = ap (λ (x : Seen). x.documents) now ∙ (ended_tab.sole.documents ∙ sym arrived.works.tab.sole.documents);
           places = ap (λ (x : Seen). x.places) now ∙ (ended_tab.sole.places ∙ sym arrived.works.tab.sole.places);
+          jobs = ap (λ (x : Seen). x.jobs) now;
+          rows = ap (λ (x : Seen). length x.history.rows) now;
           current = ap (λ (x : Seen). x.history.current) now ∙ at_current;
         }
 
 -- ---- those behind it have their turns
 
-pub behind_on : (e : InEvent) (old new : List RowKind) (before after_ : Tables) (home : Addressee) (req : ReqId) (goal : Step) (waiting : List QueueStep) → HasArrived e old before req goal → IsBehind (now_of e old) req waiting → IsHome (now_of e old) home → before.jobs + 1 < 18446744073709551616 → IfSome (place_of (now_of e old) top) (λ (place : Place). place.epoch.0 + 1 < 18446744073709551616) → goal.0 < 4294967294 → IsIdling e new after_ → IsOneOff (now_of e old) (now_of e new) req goal → after_.jobs ≡ before.jobs → IsQueueing e new after_ home waiting
-behind_on e old new before after_ home req goal waiting arrived behind lives jobs epochs steps idling off_ same_jobs =
+pub behind_on : (e : InEvent) (old new : List RowKind) (before after_ : Tables) (home : Addressee) (req : ReqId) (goal : Step) (waiting : List QueueStep) → HasArrived e old before req goal → IsBehind (now_of e old) req waiting → IsHome (now_of e old) home → HasRoom (now_of e old) → IsIdling e new after_ → IsOneOn (now_of e old) (now_of e new) req goal.0 → IsQueueing e new after_ home waiting
+behind_on e old new before after_ home req goal waiting arrived behind lives room idling on =
     record {
       ready = record {
         idling = idling;
-        lives = record { d = lives.d; only = off_.documents ∙ lives.only; doc = lives.doc; proc = lives.proc; incarnation = lives.incarnation };
-        jobs = subst (λ (n : ℕ). n + 1 < 18446744073709551616) (sym same_jobs) jobs;
-        epochs = subst (λ (l : List Place). IfSome (place_in l top) (λ (place : Place). place.epoch.0 + 1 < 18446744073709551616)) (sym off_.places) epochs;
-        steps = subst (λ (n : ℕ). n < 4294967294) (sym off_.current) steps;
+        lives = home_on (now_of e old) (now_of e new) home req goal.0 on lives;
+        room = room_left (now_of e old) (now_of e new) req goal.0 on room;
       };
       queued = subst (λ (l : List ReqId). AreQueued (now_of e new).requests l waiting)
-          (sym (off_.joined ∙ rest_left (now_of e old) arrived.d arrived.place arrived.works.tab req behind.rest behind.joined))
-          (queued_on (now_of e old).requests (now_of e new).requests behind.rest waiting off_.asks behind.queued);
+          (sym (on.joined ∙ rest_left (now_of e old) arrived.d arrived.place arrived.works.tab req behind.rest behind.joined))
+          (queued_on (now_of e old).requests (now_of e new).requests behind.rest waiting on.asks behind.queued);
     }
+
+-- the current step leaves room
+pub current_low : (e : InEvent) (out : List RowKind) (tables : Tables) (req : ReqId) (goal : Step) → HasArrived e out tables req goal → HasRoom (now_of e out) → (now_of e out).history.current < 4294967294
+current_low e out tables req goal arrived room =
+    let within : (now_of e out).history.current < length (now_of e out).history.rows = arrived.works.tab.sole.history.within in
+    omega (arith, within, room.rows)

@@ -1,5 +1,5 @@
 -- The report that the document has shown the entry at the goal is delivered: the traversal that runs may end.
-use Rattle.std.proofs.Common.{◌≡◌, ℕ, true, ◌==◌, List, [], Option, Some, None, refl, sym, ap, ◌∙◌, subst}
+use Rattle.std.proofs.Common.{◌≡◌, ℕ, true, ◌==◌, List, [], ◌∷◌, Option, Some, None, refl, sym, ap, ◌∙◌, subst}
 use Rattle.std.specs.Prelude.{slice_get}
 use Rattle.tab_ids.specs.declared.EntryId.{EntryId}
 use Rattle.tab_ids.specs.declared.Epoch.{Epoch}
@@ -18,7 +18,8 @@ use Rattle.log_model.specs.declared.row_kind.RowKind.TheVariants as rows
 use Rattle.log_model.specs.AfterPlaces.{place_arrived, on_place}
 use Rattle.log_model.specs.Seen.{Seen, Document, Asked, Place, desk_of, request_in}
 use Rattle.log_model.proofs.Refl.{nat_eq_refl}
-use Rattle.seen_laws.specs.InEvent.{InEvent, now_of, AreLegal}
+use Rattle.seen_laws.specs.InEvent.{InEvent, row_of, start_of, now_of, AreLegal}
+use Rattle.seen_laws.specs.Owing.{owes}
 use Rattle.seen_laws.specs.Sending.{leads}
 use Rattle.coord_facts.proofs.Unread.{next}
 use Rattle.plain_tab.specs.Between.{IsTab, IsGoing}
@@ -34,7 +35,7 @@ use Rattle.coord.specs.declared.tables.Tables.{Tables}
 use Rattle.coord.proofs.Delivered.{delivered_activated}
 
 -- the event's own row alone
-now_own : (e : InEvent) → now_of e [] ≡ next e.start e.event e.actor e.own
+pub now_own : (e : InEvent) → now_of e [] ≡ next e.start e.event e.actor e.own
 unfolding now_of
 now_own e = refl
 
@@ -79,6 +80,7 @@ module _ (e : InEvent) (tables : Tables) (d : Document) (place : Place) (tab : I
           ties = subst (λ (x : Seen). Ties x tables.tree tables.jobs) (sym now) (delivered_activated e.start tables.tree tables.jobs e.event actors.Coord d.proc ties job None d activated places);
           history = subst (λ (x : Seen). HoldsHistory x (history_held tables.store)) (sym now) history;
           legal = legal;
+          clear = λ end. subst (λ (k : RowKind). owes (start_of e) (row_of e k ∷ []) end ≡ true) (sym own) refl;
           tab = subst (λ (x : Seen). IsTab x d (place_arrived job place)) (sym now) tab_;
         };
         first = subst (λ (x : Seen). slice_get x.joined 0 ≡ Some going.req) (sym now) (ap (λ (l : List ReqId). slice_get l 0) (work.delivered_joined e.start d place e.event tab job outcome first is) ∙ going.first);

@@ -13,8 +13,8 @@ use Rattle.log_model.specs.Equal.{has_req}
 use Rattle.log_model.specs.Once.{step_at_delta}
 use Rattle.log_model.specs.Seen.{Seen, Document, Asked, Place, request_in}
 use Rattle.log_model.specs.Places.{is_traversal}
-use Rattle.seen_laws.specs.InEvent.{InEvent, now_of, AreLegal}
-use Rattle.seen_laws.proofs.InEvents.{now_more}
+use Rattle.seen_laws.specs.InEvent.{InEvent, now_of, AreLegal, IsClear}
+use Rattle.seen_laws.proofs.InEvents.{now_more, clear_more}
 use Rattle.seen_laws.proofs.Sums.{over}
 use Rattle.coord_facts.proofs.Unread.{next}
 use Rattle.request_facts.specs.Whereabouts.{times, times_at}
@@ -96,6 +96,7 @@ idles_refused e out more old new req delta idling first is ties history legal =
         ties = ties;
         history = history;
         legal = legal;
+        clear = subst (λ (l : List RowKind). IsClear e l) (sym is) (clear_more e out (rows.Refused req denials.NoStep) (λ h end. refl) idling.works.clear);
         tab = subst (λ (s : Seen). IsTab s idling.d idling.place) (sym now) on.0;
       };
       idle = subst (λ (s : Seen). IsIdle s idling.place) (sym now) on.1;
@@ -214,6 +215,7 @@ module _ (e : InEvent) (out : List RowKind) (tables : Tables) (req : ReqId) (del
             ties = ties;
             history = history;
             legal = legal;
+            clear = subst (λ (l : List RowKind). IsClear e l) (sym ended) (clear_more e begun (rows.Applied req (changes.Traverse goal)) (λ h end. refl) (subst (λ (l : List RowKind). IsClear e l) (sym is) (clear_more e out (rows.Started req (Some goal)) (λ h end. refl) idling.works.clear)));
             tab = subst (λ (x : Seen). IsTab x idling.d idling.place) (sym now) (passed_tab s idling.d idling.place e.event e.actor idling.works.tab idling.idle req first.q first.there first_traverses first_open goal low off);
           };
           idle = subst (λ (x : Seen). IsIdle x idling.place) (sym now) (passed_idle s idling.d idling.place e.event e.actor idling.works.tab idling.idle req first.q first.there first_traverses first_open goal low off here);

@@ -19,3 +19,8 @@ pub mod QueueLaws
 pub mod TurnLaws
 pub mod ArriveLaws
 pub mod Arrives
+pub mod Asks
+pub mod Reports
+pub mod DoneLaws
+pub mod MadeLaws
+pub mod TakeLaws

@@ -18,7 +18,7 @@ use Rattle.log_model.specs.After.{ended}
 use Rattle.log_model.specs.AfterRequests.{on_request, request_begun, entries_taken}
 use Rattle.log_model.specs.Once.{step_at_delta}
 use Rattle.log_model.specs.Places.{top}
-use Rattle.log_model.specs.Seen.{Seen, Asked, Place}
+use Rattle.log_model.specs.Seen.{Seen, Asked, Place, place_in}
 use Rattle.seen_laws.specs.InEvent.{InEvent, now_of}
 use Rattle.seen_laws.proofs.Sums.{over}
 use Rattle.coord_facts.proofs.Unread.{next}
@@ -38,8 +38,8 @@ use Rattle.nav_tree.specs.declared.nav.Nav.{Nav}
 use Rattle.nav_tree.specs.Tree.{nav_of}
 use Rattle.plain_tab.proofs.Soles.{place_found}
 use Rattle.tab_ids.specs.declared.Epoch.{Epoch}
-use Rattle.coord.specs.Idling.{IsIdling, IsFirst, leads_in}
-use Rattle.coord.specs.Queueing.{IsLonger, what_in, IsOneOn, IsReady}
+use Rattle.coord.specs.Idling.{IsIdling, IsFirst, IsHome, leads_in}
+use Rattle.coord.specs.Queueing.{IsLonger, what_in, HasRoom, IsOneOn, IsReady}
 use Rattle.coord.specs.declared.addressee.Addressee.{Addressee}
 use Rattle.coord.specs.declared.tables.Tables.{Tables}
 
@@ -60,13 +60,15 @@ module _ (s : Seen) (event : ℕ) (actor : Actor) (req : ReqId) where
       reads_then what s.requests (on_request req (λ q. record q { is_started = true; goal = goal }) s.requests) _ (on_read what s.requests req (λ q. record q { is_started = true; goal = goal }) (λ q. refl))
       (on_read what (on_request req (λ q. record q { is_started = true; goal = goal }) s.requests) req (request_begun s) (λ q. refl))
 
-pub refused_on : (e : InEvent) (out more : List RowKind) (req : ReqId) → more ≡ out ++ rows.Refused req denials.NoStep ∷ [] → IsOneOn (now_of e out) (now_of e more) req
+pub refused_on : (e : InEvent) (out more : List RowKind) (req : ReqId) → more ≡ out ++ rows.Refused req denials.NoStep ∷ [] → IsOneOn (now_of e out) (now_of e more) req (now_of e out).history.current
 refused_on e out more req is =
-    subst (λ (s : Seen). IsOneOn (now_of e out) s req) (sym (next_now e out more (rows.Refused req denials.NoStep) is)) (record {
+    subst (λ (s : Seen). IsOneOn (now_of e out) s req (now_of e out).history.current) (sym (next_now e out more (rows.Refused req denials.NoStep) is)) (record {
       joined = refl;
       asks = refused_asks (now_of e out) e.event e.actor req;
       documents = refl;
       places = refl;
+      jobs = refl;
+      rows = refl;
       current = refl;
     })
 
@@ -123,13 +125,15 @@ module _ (e : InEvent) (out begun more : List RowKind) (tables : Tables) (req : 
   passed_now : now_of e more ≡ passed_
   passed_now = next_now e begun more (rows.Applied req (changes.Traverse goal)) ended_ ∙ ap (λ (x : Seen). next x e.event e.actor (rows.Applied req (changes.Traverse goal))) (begun_is e out begun more req goal is)
 
-  pub one_on_passed : IsOneOn (now_of e out) (now_of e more) req
+  pub one_on_passed : IsOneOn (now_of e out) (now_of e more) req (now_of e out).history.current
   one_on_passed =
       record {
         joined = ap (λ (x : Seen). x.joined) passed_now;
         asks = λ r. ap (λ (x : Seen). what_in x.requests r) passed_now ∙ (applied_asks e out begun more req goal is r ∙ begun_asks e out begun more req goal is r);
         documents = ap (λ (x : Seen). x.documents) passed_now ∙ (passed_is.sole.documents ∙ sym idling.works.tab.sole.documents);
         places = ap (λ (x : Seen). x.places) passed_now ∙ (passed_is.sole.places ∙ sym idling.works.tab.sole.places);
+        jobs = ap (λ (x : Seen). x.jobs) passed_now;
+        rows = ap (λ (x : Seen). length x.history.rows) passed_now;
         current = ap (λ (x : Seen). x.history.current) passed_now ∙ (traversed_current began_ idling.d idling.place e.event e.actor began_is.sole began_is.flowing req goal low ∙ here);
       }
 
@@ -166,12 +170,49 @@ module _ (e : InEvent) (out : List RowKind) (tables : Tables) (home : Addressee)
   pub its_current : (at : ℕ) → at ≡ (history_held tables.store).current → at ≡ (now_of e out).history.current
   its_current at is = is ∙ ready.idling.works.history.current
 
+  -- there is room
+  pub its_steps : (now_of e out).history.current < 4294967294
+  its_steps =
+      let within : (now_of e out).history.current < length (now_of e out).history.rows = ready.idling.works.tab.sole.history.within in
+      omega (arith, within, ready.room.rows)
+
+  pub its_jobs : tables.jobs + 1 < 18446744073709551616
+  its_jobs = let same : tables.jobs ≡ (now_of e out).jobs = ready.idling.works.ties.jobs_are in omega (arith, same, ready.room.jobs)
+
   pub its_epochs : IfSome (nav_of top tables.tree) (λ (nav : Nav). nav.epoch.0 + 1 < 18446744073709551616)
   its_epochs =
       let node : IsTopNode tables.tree ready.idling.place = top_node (now_of e out) tables.tree tables.jobs ready.idling.d ready.idling.place ready.idling.works.tab ready.idling.works.ties in
       let found : nav_of top tables.tree ≡ Some node.node.nav = ap (λ (o : Option Node). option_map (λ (n : Node). n.nav) o) node.there in
-      let low : ready.idling.place.epoch.0 + 1 < 18446744073709551616 = subst (λ (o : Option Place). IfSome o (λ (place : Place). place.epoch.0 + 1 < 18446744073709551616)) (place_found (now_of e out) ready.idling.d ready.idling.place ready.idling.works.tab.sole) ready.epochs in
+      let paced : ready.idling.place.epoch.0 ≤ (now_of e out).jobs + 1 = subst (λ (o : Option Place). IfSome o (λ (place : Place). place.epoch.0 ≤ (now_of e out).jobs + 1)) (place_found (now_of e out) ready.idling.d ready.idling.place ready.idling.works.tab.sole) ready.lives.paced in
+      let low : ready.idling.place.epoch.0 + 1 < 18446744073709551616 = omega (arith, paced, ready.room.jobs) in
       subst (λ (o : Option Nav). IfSome o (λ (nav : Nav). nav.epoch.0 + 1 < 18446744073709551616)) (sym found) (subst (λ (x : Epoch). x.0 + 1 < 18446744073709551616) (sym node.epoch) low)
+
+-- so it is once a request is off the queue
+pub home_on : (s t : Seen) (home : Addressee) (req : ReqId) (at : ℕ) → IsOneOn s t req at → IsHome s home → IsHome t home
+home_on s t home req at on lives =
+    record {
+      d = lives.d;
+      only = on.documents ∙ lives.only;
+      doc = lives.doc;
+      proc = lives.proc;
+      incarnation = lives.incarnation;
+      paced = subst (λ (l : List Place). IfSome (place_in l top) (λ (place : Place). place.epoch.0 ≤ t.jobs + 1)) (sym on.places) (subst (λ (n : ℕ). IfSome (place_in s.places top) (λ (place : Place). place.epoch.0 ≤ n + 1)) (sym on.jobs) lives.paced);
+    }
+
+pub room_left : (s t : Seen) (req : ReqId) (at : ℕ) → IsOneOn s t req at → HasRoom s → HasRoom t
+room_left s t req at on room =
+    record {
+      jobs = subst (λ (n : ℕ). n + 2 < 18446744073709551616) (sym on.jobs) room.jobs;
+      rows = subst (λ (n : ℕ). n < 4294967294) (sym on.rows) room.rows;
+    }
+
+pub ready_on : (e : InEvent) (old new : List RowKind) (before after_ : Tables) (home : Addressee) (req : ReqId) (at : ℕ) → IsReady e old before home → IsIdling e new after_ → IsOneOn (now_of e old) (now_of e new) req at → IsReady e new after_ home
+ready_on e old new before after_ home req at ready idling on =
+    record {
+      idling = idling;
+      lives = home_on (now_of e old) (now_of e new) home req at on ready.lives;
+      room = room_left (now_of e old) (now_of e new) req at on ready.room;
+    }
 
 pub is_apart : (a b c : ℕ) → (a ≡ b → ⊥) → b ≡ c → (a == c) ≡ false
 is_apart a b c apart same = subst (λ (n : ℕ). (a == n) ≡ false) same (let is : (a == b) ≡ false = grind (arith, nat_tests, apart) in is)

@@ -1,5 +1,5 @@
 -- That the entry at the goal of the first traversal that waits may be shown, and what the coordinator keeps then.
-use Rattle.std.proofs.Common.{◌≡◌, ℤ, ℕ, ◌+◌, ◌<◌, true, false, ◌==◌, List, [], ◌∷◌, ◌++◌, length, Option, Some, None, refl, sym, ap, ◌∙◌, subst, arith}
+use Rattle.std.proofs.Common.{◌≡◌, ℤ, ℕ, ◌+◌, ◌≤◌, ◌<◌, true, false, ◌==◌, List, [], ◌∷◌, ◌++◌, length, Option, Some, None, refl, sym, ap, ◌∙◌, subst, arith}
 use Rattle.std.specs.Prelude.{slice_get, option_map, IfSome}
 use Rattle.tab_ids.specs.declared.NavId.{NavId}
 use Rattle.tab_ids.specs.declared.ReqId.{ReqId}
@@ -9,7 +9,8 @@ use Rattle.log_model.specs.declared.row_kind.RowKind.TheVariants as rows
 use Rattle.log_model.specs.Once.{step_at_delta}
 use Rattle.log_model.specs.Seen.{Seen, Document, Place, place_of}
 use Rattle.log_model.specs.Places.{top, pair_at}
-use Rattle.seen_laws.specs.InEvent.{InEvent, now_of, AreLegal}
+use Rattle.seen_laws.specs.InEvent.{InEvent, now_of, AreLegal, IsClear}
+use Rattle.seen_laws.proofs.InEvents.{clear_more}
 use Rattle.coord_facts.proofs.Unread.{next}
 use Rattle.plain_tab.specs.Between.{IsTab, IsGoing}
 use Rattle.plain_tab.proofs.TabWays.{going_goal, going_req, began, showing, showing_tab, showing_going}
@@ -51,6 +52,7 @@ pub record IsTopNode (tree : Tree) (place : Place) : Type 0 where
   pub node : Node
   pub there : node_of top tree ≡ Some node
   pub epoch : node.nav.epoch ≡ place.epoch
+  pub why : node.nav.why ≡ place.why
 
 pub top_node : (s : Seen) (tree : Tree) (jobs : ℕ) (d : Document) (place : Place) → IsTab s d place → Ties s tree jobs → IsTopNode tree place
 top_node s tree jobs d place tab ties =
@@ -58,7 +60,7 @@ top_node s tree jobs d place tab ties =
   where
     by_node : (o : Option Node) → node_of top tree ≡ o → AreTied s.documents top o (Some place) → IsTopNode tree place
     by_node None e tied = elim tied [ ]
-    by_node (Some node) e tied = record { node = node; there = e; epoch = tied.1.epoch }
+    by_node (Some node) e tied = record { node = node; there = e; epoch = tied.1.epoch; why = tied.1.why }
 
 -- ---- what the store answers
 
@@ -173,9 +175,35 @@ module _ (e : InEvent) (out : List RowKind) (tables : Tables) (idling : IsIdling
             ties = ties;
             history = history;
             legal = legal;
+            clear = subst (λ (l : List RowKind). IsClear e l) (sym sent) (clear_more e begun (rows.Sent job) (λ h end. refl) (subst (λ (l : List RowKind). IsClear e l) (sym is) (clear_more e out (rows.Started req (Some goal)) (λ h end. refl) idling.works.clear)));
             tab = subst (λ (x : Seen). IsTab x shown_d shown_place_) (sym now) (showing_tab s idling.d idling.place e.event e.actor idling.works.tab idling.idle req first.q first.there (first_traverses e out tables req delta idling first) (first_open e out tables req delta idling first) goal job to row.entry epoch pair.0 pair.1 row.memo row.address refl later refl row at_row refl refl refl first.first apart);
           };
           going = on.0;
           its = on.1;
           leads_to = on.2;
         }
+
+    -- the document is where it was, and the new epoch came with the order
+    pub home_shown : (more : List RowKind) → more ≡ begun ++ rows.Sent job ∷ [] → IsHome (now_of e more) home
+    home_shown more sent =
+        record {
+          d = shown_d;
+          only = tab.sole.documents;
+          doc = to.doc;
+          proc = to.proc;
+          incarnation = to.incarnation;
+          paced = subst (λ (o : Option Place). IfSome o (λ (place : Place). place.epoch.0 ≤ (now_of e more).jobs + 1)) (sym (place_found (now_of e more) shown_d shown_place_ tab.sole)) low;
+        }
+      where
+        now : now_of e more ≡ showing s idling.d idling.place e.event e.actor idling.works.tab idling.idle req first.q first.there (first_traverses e out tables req delta idling first) (first_open e out tables req delta idling first) goal job to row.entry epoch pair.0 pair.1 row.memo row.address refl later refl row at_row refl refl refl first.first apart
+        now = next_now e begun more (rows.Sent job) sent ∙ ap (λ (x : Seen). next x e.event e.actor (rows.Sent job)) begun_now
+
+        tab : IsTab (now_of e more) shown_d shown_place_
+        tab = subst (λ (x : Seen). IsTab x shown_d shown_place_) (sym now) (showing_tab s idling.d idling.place e.event e.actor idling.works.tab idling.idle req first.q first.there (first_traverses e out tables req delta idling first) (first_open e out tables req delta idling first) goal job to row.entry epoch pair.0 pair.1 row.memo row.address refl later refl row at_row refl refl refl first.first apart)
+
+        low : shown_place_.epoch.0 ≤ (now_of e more).jobs + 1
+        low =
+            let jobs : (now_of e more).jobs ≡ s.jobs + 1 = ap (λ (x : Seen). x.jobs) now in
+            let was : idling.place.epoch.0 ≤ s.jobs + 1 = subst (λ (o : Option Place). IfSome o (λ (place : Place). place.epoch.0 ≤ s.jobs + 1)) (place_found s idling.d idling.place idling.works.tab.sole) is_home.paced in
+            let n : epoch.0 ≡ idling.place.epoch.0 + 1 = ap (λ (x : Epoch). x.0) epoch_is in
+            omega (arith, jobs, was, n)

@@ -97,7 +97,7 @@ module _ (e : InEvent) (old : List RowKind) (before : Tables) (home : Addressee)
 
     module _ (new : List RowKind) (after_ : Tables) where
       -- it is over
-      pub turn_over : IsReady e new after_ home × IsOneOn (now_of e old) (now_of e new) req → IsQueueing e new after_ home waiting
+      pub turn_over : IsReady e new after_ home × IsOneOn (now_of e old) (now_of e new) req (now_of e old).history.current → IsQueueing e new after_ home waiting
       turn_over (ready, on) =
           record {
             ready = ready;
@@ -107,10 +107,11 @@ module _ (e : InEvent) (old : List RowKind) (before : Tables) (home : Addressee)
           }
 
       -- or its entry is on its way
-      pub turn_shows : (goal : Step) → IsGoingFirst e old new after_ req goal → IsUnderWay e new after_ waiting req goal
+      pub turn_shows : (goal : Step) → IsGoingFirst e old new after_ home req goal → IsUnderWay e new after_ home waiting req goal
       turn_shows goal going =
           record {
             shows = going.shows;
+            lives = going.lives;
             behind = record {
               rest = its.rest;
               joined = going.joined ∙ its.joined;

@@ -5,12 +5,10 @@ use Rattle.tab_ids.specs.declared.ReqId.{ReqId}
 use Rattle.tab_ids.specs.declared.Step.{Step}
 use Rattle.log_model.specs.declared.row.Row.{Row}
 use Rattle.log_model.specs.declared.row_kind.RowKind.{RowKind}
-use Rattle.log_model.specs.AfterRequests.{without_req}
-use Rattle.log_model.specs.Seen.{Seen, Document, Asked, Place, request_in}
+use Rattle.log_model.specs.Seen.{Document, Asked, Place, request_in}
 use Rattle.plain_tab.specs.Calm.{OnlyRuns}
 use Rattle.seen_laws.specs.InEvent.{InEvent, now_of}
 use Rattle.coord.specs.Idling.{IsWorking}
-use Rattle.coord.specs.Queueing.{what_in}
 use Rattle.coord.specs.declared.tables.Tables.{Tables}
 
 -- the traversal runs, and the document has shown the entry at its goal
@@ -27,11 +25,3 @@ pub record HasArrived (e : InEvent) (out : List RowKind) (tables : Tables) (req 
   pub at : slice_get (now_of e out).history.rows goal.0 ≡ Some row
   pub given : place.given ≡ Some row.entry
   pub delivered : place.is_delivered ≡ true
-
--- the traversal is off the queue, and its goal is the current step; nothing else that the next turn reads has changed
-pub record IsOneOff (old new : Seen) (req : ReqId) (goal : Step) : Type 0 where
-  pub joined : new.joined ≡ without_req req old.joined
-  pub asks : (r : ReqId) → what_in new.requests r ≡ what_in old.requests r
-  pub documents : new.documents ≡ old.documents
-  pub places : new.places ≡ old.places
-  pub current : new.history.current ≡ goal.0

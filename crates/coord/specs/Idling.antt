@@ -1,6 +1,6 @@
 -- A coordinator that works in an event of a tab of one document: its tables stand for the log, and either no traversal runs, or the entry of one is on its way.
 -- HTML Standard, "session history traversal queue"; the premise of one document is this project's own.
-use Rattle.std.specs.Prelude.{◌≡◌, ℕ, ℤ, pos, true, nat_lt, List, [], ◌∷◌, slice_get, Option, Some, None, if◌then◌else◌}
+use Rattle.std.specs.Prelude.{◌≡◌, ℕ, ◌+◌, ◌≤◌, ℤ, pos, true, nat_lt, List, [], ◌∷◌, slice_get, Option, Some, None, IfSome, if◌then◌else◌}
 use Rattle.tab_ids.specs.declared.ReqId.{ReqId}
 use Rattle.tab_ids.specs.declared.Step.{Step}
 use Rattle.log_model.specs.declared.request.Request.TheVariants as requests
@@ -8,9 +8,10 @@ use Rattle.log_model.specs.declared.row_kind.RowKind.{RowKind}
 use Rattle.log_model.specs.declared.row.Row.{Row}
 use Rattle.log_model.specs.History.{History}
 use Rattle.log_model.specs.Order.{ordered}
-use Rattle.log_model.specs.Seen.{Seen, Document, Asked, Place, request_in}
+use Rattle.log_model.specs.Places.{top}
+use Rattle.log_model.specs.Seen.{Seen, Document, Asked, Place, place_of, request_in}
 use Rattle.step_index.specs.Held.{history_held}
-use Rattle.seen_laws.specs.InEvent.{InEvent, now_of, AreLegal}
+use Rattle.seen_laws.specs.InEvent.{InEvent, now_of, AreLegal, IsClear}
 use Rattle.seen_laws.specs.Sending.{leads}
 use Rattle.plain_tab.specs.Between.{IsTab, IsIdle, IsGoing}
 use Rattle.coord.specs.Ties.{Ties, HoldsHistory}
@@ -18,13 +19,14 @@ use Rattle.coord.specs.Ending.{IsWorker}
 use Rattle.coord.specs.declared.addressee.Addressee.{Addressee}
 use Rattle.coord.specs.declared.tables.Tables.{Tables}
 
--- the tables stand for what the log has come to, the event so far is legal, and the tab has one document
+-- the tables stand for what the log has come to, the event so far is legal and owes nothing to its end, and the tab has one document
 pub record IsWorking (e : InEvent) (out : List RowKind) (tables : Tables) (d : Document) (place : Place) : Type 0 where
   pub own : leads e.own ≡ true
   pub worker : IsWorker e.actor
   pub ties : Ties (now_of e out) tables.tree tables.jobs
   pub history : HoldsHistory (now_of e out) (history_held tables.store)
   pub legal : AreLegal e out
+  pub clear : IsClear e out
   pub tab : IsTab (now_of e out) d place
 
 -- and no traversal runs
@@ -50,13 +52,14 @@ pub record IsShowing (e : InEvent) (out : List RowKind) (tables : Tables) (req :
   pub its : going.req ≡ req
   pub leads_to : going.goal ≡ goal
 
--- where the one document is
+-- where the one document is; and each epoch of the top but the first came with an order
 pub record IsHome (s : Seen) (home : Addressee) : Type 0 where
   pub d : Document
   pub only : s.documents ≡ d ∷ []
   pub doc : home.doc ≡ d.nr
   pub proc : home.proc ≡ d.proc
   pub incarnation : home.incarnation ≡ 0
+  pub paced : IfSome (place_of s top) (λ place. place.epoch.0 ≤ s.jobs + 1)
 
 -- the entries of a store, put in order, are the top's at consecutive steps, and no two are the same
 abbrev pub rows_in_order : History → List Row

@@ -7,3 +7,5 @@ pub mod Beginning
 pub mod Idling
 pub mod Queueing
 pub mod Arriving
+pub mod Standing
+pub mod Delivering

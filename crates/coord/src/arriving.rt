@@ -1,11 +1,9 @@
 //! The end of the traversal that runs, in a tab of one document.
-ghost use Rattle.std.specs.Prelude.{◌≡◌, ◌<◌, ◌+◌, ◌^◌, OnOk, IfOk, IfSome};
-ghost use Rattle.log_model.specs.Places.{top};
-ghost use Rattle.log_model.specs.Seen.{place_of};
+ghost use Rattle.std.specs.Prelude.{◌≡◌, ◌<◌, OnOk, IfOk};
 ghost use Rattle.seen_laws.specs.InEvent.{InEvent, now_of};
-ghost use Rattle.coord.specs.Arriving.{HasArrived, IsOneOff};
+ghost use Rattle.coord.specs.Arriving.{HasArrived};
 ghost use Rattle.coord.specs.Idling.{IsIdling, IsHome};
-ghost use Rattle.coord.specs.Queueing.{IsBehind, IsLonger, CameOut};
+ghost use Rattle.coord.specs.Queueing.{HasRoom, IsOneOn, IsBehind, IsLonger, CameOut};
 
 use crate::addressee::Addressee;
 use crate::tables::Tables;
@@ -22,7 +20,7 @@ impl Tables {
         requires arrived { HasArrived e out.old self.old req goal }
         requires room { (now_of e out.old).history.current < 4294967294 }
         ensures idle { OnOk result (IsIdling e out.new self.new) }
-        ensures one_off { OnOk result (IsOneOff (now_of e out.old) (now_of e out.new) req goal) }
+        ensures one_on { OnOk result (IsOneOn (now_of e out.old) (now_of e out.new) req goal.0) }
         ensures jobs { OnOk result (self.new.jobs ≡ self.old.jobs) }
         ensures longer { OnOk result (IsLonger out.old out.new) }
     {
@@ -44,10 +42,7 @@ impl Tables {
         requires arrived { HasArrived e out.old self.old req goal }
         requires behind { IsBehind (now_of e out.old) req queue.old.waiting }
         requires home { IsHome (now_of e out.old) home }
-        requires jobs { self.old.jobs + 1 < 2 ^ 64 }
-        requires epochs { IfSome (place_of (now_of e out.old) top) (λ place. place.epoch.0 + 1 < 2 ^ 64) }
-        requires steps { (now_of e out.old).history.current < 4294967294 }
-        requires room { goal.0 < 4294967294 }
+        requires room { HasRoom (now_of e out.old) }
         ensures came_out { IfOk result (λ went. CameOut e out.new self.new home queue.new.waiting went) }
         ensures parked { queue.new.parked ≡ queue.old.parked }
         ensures longer { OnOk result (IsLonger out.old out.new) }

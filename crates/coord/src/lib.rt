@@ -4,6 +4,8 @@
 mod addressee;
 mod arriving;
 mod beginning;
+mod coordinator;
+mod delivering;
 mod ending;
 mod reading;
 mod tables;
@@ -11,4 +13,5 @@ mod taking;
 mod turns;
 
 pub use addressee::Addressee;
+pub use coordinator::Coordinator;
 pub use tables::Tables;

@@ -26,7 +26,7 @@ impl Tables {
         requires first { IsFirst (now_of e out.old) req delta }
         requires nowhere { step_at_delta (now_of e out.old) delta ≡ None }
         ensures idle { OnOk result (IsIdling e out.new self.new) }
-        ensures one_on { OnOk result (IsOneOn (now_of e out.old) (now_of e out.new) req) }
+        ensures one_on { OnOk result (IsOneOn (now_of e out.old) (now_of e out.new) req (now_of e out.old).history.current) }
         ensures jobs { OnOk result (self.new.jobs ≡ self.old.jobs) }
         ensures longer { OnOk result (IsLonger out.old out.new) }
     {
@@ -49,7 +49,7 @@ impl Tables {
         requires here { goal.0 ≡ (now_of e out.old).history.current }
         requires room { (now_of e out.old).history.current < 4294967294 }
         ensures idle { OnOk result (IsIdling e out.new self.new) }
-        ensures one_on { OnOk result (IsOneOn (now_of e out.old) (now_of e out.new) req) }
+        ensures one_on { OnOk result (IsOneOn (now_of e out.old) (now_of e out.new) req (now_of e out.old).history.current) }
         ensures jobs { OnOk result (self.new.jobs ≡ self.old.jobs) }
         ensures longer { OnOk result (IsLonger out.old out.new) }
     {
@@ -76,7 +76,7 @@ impl Tables {
         requires home { IsHome (now_of e out.old) home }
         requires room { self.old.jobs + 1 < 2 ^ 64 }
         requires epochs { IfSome (nav_of top self.old.tree) (λ nav. nav.epoch.0 + 1 < 2 ^ 64) }
-        ensures shows { OnOk result (IsGoingFirst e out.old out.new self.new req goal) }
+        ensures shows { OnOk result (IsGoingFirst e out.old out.new self.new home req goal) }
         ensures longer { OnOk result (IsLonger out.old out.new) }
     {
         let nobody = Navs::new(alloc);

@@ -43,12 +43,13 @@ use Rattle.plain_tab.proofs.Takings.{entry_no_step, unbegun}
 use Rattle.log_model.specs.Causes.{by_mover, is_outdated, has_moved_away, is_passed_traversal}
 use Rattle.log_model.specs.Points.{nav_of_request}
 
--- the other request, as it is found once the report is delivered
-pub record IsItsMover (s : Seen) (q : Asked) : Type 0 where
+-- the other request, as it is found once the report is delivered: it is the reason why the navigable is as it is
+pub record IsItsMover (s : Seen) (q : Asked) (place : Place) : Type 0 where
   pub req : ReqId
   pub other : Asked
   pub found : request_in s.requests req ≡ Some other
   pub moved : by_mover s q other ≡ true
+  pub why : place.why ≡ whys.Req req
 
 module _ (s : Seen) (d : Document) (place : Place) (event : ℕ) (tab : IsTab s d place) (made : Made) (first : slice_get (desk_of s d.proc).reports 0 ≡ Some (reports.Made made)) (outdated : (made.epoch.0 == place.epoch.0) ≡ false) (cause : Cause) where
   abbrev pub told_of : Seen
@@ -134,10 +135,10 @@ module _ (s : Seen) (d : Document) (place : Place) (event : ℕ) (tab : IsTab s 
       by_what _ e is = elim is [ ]
 
   -- the traversal that moved it
-  pub mover : IsItsMover told_of late_request.q
+  pub mover : IsItsMover told_of late_request.q place
   mover = by_reason tab.reason
     where
-      by_reason : IsAsOpened place ⊎ IsMover s place → IsItsMover told_of late_request.q
+      by_reason : IsAsOpened place ⊎ IsMover s place → IsItsMover told_of late_request.q place
       by_reason (inl opened) = (let never : ⊥ = omega (arith, opened.epoch, earlier, by_it.epoch) in elim never [ ])
       by_reason (inr m) =
           record {
@@ -145,6 +146,7 @@ module _ (s : Seen) (d : Document) (place : Place) (event : ℕ) (tab : IsTab s 
             other = m.q;
             found = there;
             moved = both late moved_away;
+            why = m.why;
           }
         where
           there : request_in told_of.requests m.req ≡ Some m.q

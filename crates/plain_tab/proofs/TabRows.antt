@@ -52,7 +52,7 @@ mover_same s t place same (inr m) =
     })
 
 -- a request that is there isn't the next one
-old_apart : (asked : List Asked) (new q : Asked) (req old : ReqId) → req.0 ≡ length asked + 1 → request_in asked old ≡ Some q → (req.0 == old.0) ≡ false
+pub old_apart : (asked : List Asked) (new q : Asked) (req old : ReqId) → req.0 ≡ length asked + 1 → request_in asked old ≡ Some q → (req.0 == old.0) ≡ false
 old_apart asked new q req old nr at = by_test (req.0 == old.0) refl
   where
     by_test : (b : Bool) → (req.0 == old.0) ≡ b → (req.0 == old.0) ≡ false
@@ -129,7 +129,7 @@ module _ (s : Seen) (d : Document) (place : Place) (event : ℕ) (actor : Actor)
         given = idle.given;
       }
 
-  pub going_more : (doc : Option DocId) (what : Request) (t : Seen) (more : List ReqId) → t.requests ≡ s.requests ++ new_request req doc what ∷ [] → t.history ≡ s.history → t.joined ≡ s.joined ++ more → IsGoing s place → IsGoing t place
+  unfoldable pub going_more : (doc : Option DocId) (what : Request) (t : Seen) (more : List ReqId) → t.requests ≡ s.requests ++ new_request req doc what ∷ [] → t.history ≡ s.history → t.joined ≡ s.joined ++ more → IsGoing s place → IsGoing t place
   going_more doc what t more requests history joined going =
       record {
         req = going.req;
@@ -166,7 +166,7 @@ idle_same s t place runs history idle =
       given = idle.given;
     }
 
-pub going_same : (s t : Seen) (place : Place) → SameReads course s.requests t.requests → ((run : ReqId) (q : Asked) → request_in s.requests run ≡ Some q → OnlyRuns (Some run) s → OnlyRuns (Some run) t) → t.history ≡ s.history → ((run : ReqId) → slice_get s.joined 0 ≡ Some run → slice_get t.joined 0 ≡ Some run) → IsGoing s place → IsGoing t place
+unfoldable pub going_same : (s t : Seen) (place : Place) → SameReads course s.requests t.requests → ((run : ReqId) (q : Asked) → request_in s.requests run ≡ Some q → OnlyRuns (Some run) s → OnlyRuns (Some run) t) → t.history ≡ s.history → ((run : ReqId) → slice_get s.joined 0 ≡ Some run → slice_get t.joined 0 ≡ Some run) → IsGoing s place → IsGoing t place
 going_same s t place courses runs history joined going =
     let now : (q : Asked) × (request_in t.requests going.req ≡ Some q) × (course q ≡ course going.q) = is_asked course s.requests t.requests courses going.req going.q going.there in
     record {

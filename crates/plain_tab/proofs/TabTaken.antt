@@ -166,7 +166,7 @@ module _ (s : Seen) (d : Document) (place : Place) (event : ℕ) (tab : IsTab s 
   told_calm : EachIsCalm told_of
   told_calm = calm_again s.requests told_of.requests (same_requests course s told_of told_requests) tab.sole.calm
 
-  told_once : AreOnce told_of (made.req ∷ [])
+  pub told_once : AreOnce told_of (made.req ∷ [])
   told_once =
       at_hand_once s [] event actors.Coord d.proc (reports.Made made) made first refl no_go unheld tab.once
 

@@ -1,5 +1,5 @@
 -- One row more in an event.
-use Rattle.std.proofs.Common.{◌≡◌, Bool, true, false, cond, ◌||◌, Option, None, List, [], ◌∷◌, ◌++◌, map, refl, sym, ap, ◌∙◌, subst}
+use Rattle.std.proofs.Common.{◌≡◌, Bool, true, false, cond, ◌||◌, Option, None, List, [], ◌∷◌, ◌++◌, map, refl, sym, ap, ◌∙◌, subst, append_assoc, append-nil}
 use Rattle.std.proofs.lemmas.List.{map-append}
 use Rattle.log_model.specs.declared.row_kind.LogRow.{LogRow}
 use Rattle.log_model.specs.declared.row_kind.RowKind.{RowKind}
@@ -15,8 +15,8 @@ use Rattle.log_model.specs.declared.job.Task.TheVariants as tasks
 use Rattle.log_model.specs.declared.row_kind.RowKind.TheVariants as rows
 use Rattle.log_model.specs.Orders.{Question, is_for, question_in}
 use Rattle.seen_laws.specs.Sending.{IsToldTask}
-use Rattle.seen_laws.specs.InEvent.{InEvent, row_of, start_of, first_of, here_of, now_of, begins, IsRest, IsPaid, Anything, AreLegal}
-use Rattle.seen_laws.specs.Owing.{Pays, owes, MayLogOwing}
+use Rattle.seen_laws.specs.InEvent.{InEvent, row_of, start_of, first_of, here_of, now_of, begins, IsTakenIn, IsRest, IsPaid, IsClear, Anything, AreLegal}
+use Rattle.seen_laws.specs.Owing.{Pays, owes, owes_row, MayLogOwing}
 use Rattle.seen_laws.proofs.BlockLaws.{each_pass_append}
 use Rattle.seen_laws.proofs.Owings.{pays_append, owes_append}
 
@@ -47,11 +47,23 @@ any_more test (k ∷ out) kind e = by_test (test k) (any_more test out kind) e
     by_test true more f = refl
     by_test false more f = more f
 
+-- a row more, or one row before those that come later
+one_later : (e : InEvent) (out : List RowKind) (kind : RowKind) (later : List LogRow) → (map (row_of e) (out ++ kind ∷ []) ++ later) ≡ (map (row_of e) out ++ row_of e kind ∷ later)
+one_later e out kind later =
+    ap (λ (rows : List LogRow). rows ++ later) (map-append (row_of e) out (kind ∷ []))
+    ∙ append_assoc (map (row_of e) out) (row_of e kind ∷ []) later
+
 -- it keeps what the rows before it ask of what comes later
 rest_more : (e : InEvent) (out : List RowKind) (kind : RowKind) → IsQuiet e kind → (later : List LogRow) → IsRest e (out ++ kind ∷ []) later → IsRest e out (row_of e kind ∷ later) × Pays (here_of e out) (row_of e kind ∷ []) later
 rest_more e out kind quiet later rest =
-    let parts = pays_append (start_of e) (row_of e e.own ∷ map (row_of e) out) (row_of e kind ∷ []) later (subst (λ (rows : List LogRow). Pays (start_of e) (row_of e e.own ∷ rows) later) (map-append (row_of e) out (kind ∷ [])) rest.owed) in
-    (record { asks = λ req began. rw (quiet req) (rest.asks req (any_more (begins req) out kind began)); owed = parts.0 }, parts.1)
+    let parts = pays_append (start_of e) (row_of e e.own ∷ map (row_of e) out) (row_of e kind ∷ []) later (subst (λ (rows : List LogRow). Pays (start_of e) (row_of e e.own ∷ rows) later) (map-append (row_of e) out (kind ∷ [])) rest.owed) in (
+      record {
+        asks = λ req began. rw (quiet req) (rest.asks req (any_more (begins req) out kind began));
+        taken = subst (λ (rows : List LogRow). IsTakenIn e rows) (one_later e out kind later) rest.taken;
+        owed = parts.0;
+      },
+      parts.1,
+    )
 
 -- a row that may be logged, if the event's end pays what it owes
 pub legal_more_owing : (e : InEvent) (out : List RowKind) (kind : RowKind) → IsQuiet e kind → AreLegal e out → MayLogOwing (here_of e out) (row_of e kind ∷ []) → AreLegal e (out ++ kind ∷ [])
@@ -82,9 +94,14 @@ legal_more_begun e out kind quiet legal may =
     subst (λ (rows : List LogRow). MayLog (start_of e) (row_of e e.own ∷ rows) (IsRest e (out ++ kind ∷ []))) (sym (map-append (row_of e) out (kind ∷ []))) (λ later rest. let parts = rest_more e out kind quiet later rest in each_pass_append (start_of e) (row_of e e.own ∷ map (row_of e) out) (row_of e kind ∷ []) later (legal (row_of e kind ∷ later) parts.0) (may later (λ req began. rest.asks req (any_last (begins req) out kind began))))
 
 -- at the event's end nothing comes later
-pub legal_end : (e : InEvent) (out : List RowKind) → AreLegal e out → IsPaid e out → EachPass (start_of e) (row_of e e.own ∷ map (row_of e) out) []
+pub legal_end : (e : InEvent) (out : List RowKind) → AreLegal e out → IsPaid e out → IsTakenIn e (map (row_of e) out) → EachPass (start_of e) (row_of e e.own ∷ map (row_of e) out) []
 unfolding AreLegal
-legal_end e out legal paid = legal [] (record { asks = λ req began. refl; owed = paid })
+legal_end e out legal paid taken =
+    legal [] (record {
+      asks = λ req began. refl;
+      taken = subst (λ (rows : List LogRow). IsTakenIn e rows) (sym (append-nil (map (row_of e) out))) taken;
+      owed = paid;
+    })
 
 both_none : (b : Bool) → (let o : Option Question = cond b None None in o) ≡ None
 both_none true = refl
@@ -110,11 +127,11 @@ led_here e out own = done_led (first_of e) (map (row_of e) out) own
 
 -- ---- where nothing is owed
 
--- the rows so far owe nothing, whatever the event's end is
-abbrev pub IsClear : InEvent → List RowKind → Type 0
-IsClear e out = (end : Seen) → owes (start_of e) (row_of e e.own ∷ map (row_of e) out) end ≡ true
+-- a row that owes nothing
+pub clear_more : (e : InEvent) (out : List RowKind) (kind : RowKind) → ((h : Here) (end : Seen) → owes_row h (row_of e kind) end ≡ true) → IsClear e out → IsClear e (out ++ kind ∷ [])
+clear_more e out kind none clear end =
+    subst (λ (l : List LogRow). owes (start_of e) (row_of e e.own ∷ l) end ≡ true) (sym (map-append (row_of e) out (kind ∷ []))) (owes_append (start_of e) (row_of e e.own ∷ map (row_of e) out) (row_of e kind ∷ []) end ∙ rw (clear end) (rw (none (on_rows (start_of e) (row_of e e.own ∷ map (row_of e) out)) end) refl))
 
--- an order owes nothing
-pub clear_more : (e : InEvent) (out : List RowKind) (job : Job) → IsClear e out → IsClear e (out ++ rows.Sent job ∷ [])
-clear_more e out job clear end =
-    subst (λ (l : List LogRow). owes (start_of e) (row_of e e.own ∷ l) end ≡ true) (sym (map-append (row_of e) out (rows.Sent job ∷ []))) (owes_append (start_of e) (row_of e e.own ∷ map (row_of e) out) (row_of e (rows.Sent job) ∷ []) end ∙ rw (clear end) refl)
+-- then all is paid
+pub clear_paid : (e : InEvent) (out : List RowKind) → IsClear e out → IsPaid e out
+clear_paid e out clear = clear (here_of e out).now

@@ -1,6 +1,6 @@
 -- An event in which the coordinator works: its own row, and the rows put out so far.
 -- This project's own.
-use Rattle.std.specs.Prelude.{◌≡◌, ℕ, Bool, true, false, ◌==◌, List, [], ◌∷◌, map}
+use Rattle.std.specs.Prelude.{◌≡◌, ℕ, Bool, true, false, ◌==◌, List, [], ◌∷◌, ◌++◌, map}
 use Rattle.std.specs.List.{list_any, filter_map}
 use Rattle.tab_ids.specs.declared.ReqId.{ReqId}
 use Rattle.log_model.specs.declared.header.Header.{Header}
@@ -10,7 +10,8 @@ use Rattle.log_model.specs.declared.row_kind.RowKind.{RowKind}
 use Rattle.log_model.specs.declared.row_kind.RowKind.TheVariants as rows
 use Rattle.log_model.specs.Seen.{Seen}
 use Rattle.log_model.specs.Orders.{question_in}
-use Rattle.seen_laws.specs.Blocks.{Here, on_row, on_rows, MayLog}
+use Rattle.log_model.specs.Queue.{is_delivered_duly}
+use Rattle.seen_laws.specs.Blocks.{Here, point_at, on_row, on_rows, MayLog}
 use Rattle.seen_laws.specs.Owing.{owes, Pays}
 
 -- the settings, what the log had come to as the event began, its number, its actor and its own row
@@ -48,10 +49,16 @@ abbrev pub begins : ReqId → RowKind → Bool
 begins req (rows.Started r goal) = r.0 == req.0
 begins req _ = false
 
--- what the rows put out so far ask of what comes later in the event
+-- where a report is delivered that is to be taken up at once, these rows of the event take it up
+abbrev pub IsTakenIn : InEvent → List LogRow → Type 0
+IsTakenIn e later = is_delivered_duly (point_at (start_of e) later) (row_of e e.own) ≡ true
+
+-- what the event's rows so far ask of what comes later in it
 pub record IsRest (e : InEvent) (out : List RowKind) (later : List LogRow) : Type 0 where
   -- a request that began among them asks no document any more
   pub asks : (req : ReqId) → list_any (begins req) out ≡ true → filter_map (question_in req) later ≡ []
+  -- what the event delivers is taken up among them or later
+  pub taken : IsTakenIn e (map (row_of e) out ++ later)
   -- and the event's end pays what they owe to it
   pub owed : Pays (start_of e) (row_of e e.own ∷ map (row_of e) out) later
 
@@ -62,3 +69,7 @@ AreLegal e out = MayLog (start_of e) (row_of e e.own ∷ map (row_of e) out) (Is
 -- what is owed is paid by what the log has come to
 abbrev pub IsPaid : InEvent → List RowKind → Type 0
 IsPaid e out = owes (start_of e) (row_of e e.own ∷ map (row_of e) out) (here_of e out).now ≡ true
+
+-- they owe nothing, whatever the event's end is
+abbrev pub IsClear : InEvent → List RowKind → Type 0
+IsClear e out = (end : Seen) → owes (start_of e) (row_of e e.own ∷ map (row_of e) out) end ≡ true

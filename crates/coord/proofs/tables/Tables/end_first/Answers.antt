@@ -1,4 +1,4 @@
-use Rattle.coord.proofs.ArriveLaws.{may_end, idles_ended, one_off}
+use Rattle.coord.proofs.ArriveLaws.{may_end, idles_ended, one_on}
 use Rattle.coord.proofs.tables.Tables.end_first.Goals as goal
 
 pub traverse-requires : goal.traverse-requires
@@ -9,7 +9,7 @@ pub returns : goal.returns
 returns g c =
     record {
       idle = idles_ended _ _ _ _ _ c.requires.0 _ c.in_ok-traverse.ensures.out _ c.in_ok-traverse.ensures.ties c.in_ok-traverse.ensures.history c.in_ok-traverse.ensures.legal;
-      one_off = one_off _ _ _ _ _ c.requires.0 _ c.in_ok-traverse.ensures.out;
+      one_on = one_on _ _ _ _ _ c.requires.0 _ c.in_ok-traverse.ensures.out;
       jobs = c.in_ok-traverse.ensures.jobs;
       longer = (_, c.in_ok-traverse.ensures.out);
     }
