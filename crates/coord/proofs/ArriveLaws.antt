@@ -1,5 +1,5 @@
 -- That the traversal whose entry is shown may end, and what the coordinator keeps then.
-use Rattle.std.proofs.Common.{◌≡◌, ℕ, ◌<◌, Bool, true, false, List, [], ◌∷◌, ◌++◌, length, Some, None, refl, sym, ap, ◌∙◌, subst, arith}
+use Rattle.std.proofs.Common.{Option, ◌≡◌, ℕ, ◌<◌, Bool, true, false, List, [], ◌∷◌, ◌++◌, length, Some, None, refl, sym, ap, ◌∙◌, subst, arith}
 use Rattle.std.specs.Prelude.{slice_get}
 use Rattle.tab_ids.specs.declared.ReqId.{ReqId}
 use Rattle.tab_ids.specs.declared.Step.{Step}
@@ -10,6 +10,7 @@ use Rattle.log_model.specs.declared.row_kind.RowKind.{RowKind}
 use Rattle.log_model.specs.declared.row_kind.RowKind.TheVariants as rows
 use Rattle.log_model.specs.After.{ended}
 use Rattle.log_model.specs.AfterRequests.{on_request, entries_taken}
+use Rattle.log_model.specs.Places.{pair_at}
 use Rattle.log_model.specs.Seen.{Seen, Asked}
 use Rattle.log_model.proofs.Refl.{nat_eq_refl}
 use Rattle.seen_laws.specs.InEvent.{InEvent, now_of, AreLegal, IsClear}
@@ -127,6 +128,7 @@ module _ (e : InEvent) (out : List RowKind) (tables : Tables) (req : ReqId) (goa
             tab = subst (λ (x : Seen). IsTab x arrived.d arrived.place) (sym now) ended_tab;
           };
           idle = subst (λ (x : Seen). IsIdle x arrived.place) (sym now) ended_idle;
+          told = subst (λ (x : Seen). arrived.d.told ≡ Some (pair_at x x.history.current)) (sym now) (arrived.told ∙ ap (λ (n : ℕ). let o : Option (ℕ × ℕ) = Some (pair_at s n) in o) (sym at_current));
         }
 
     pub one_on : IsOneOn s (now_of e more) req goal.0

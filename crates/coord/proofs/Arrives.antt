@@ -16,6 +16,7 @@ use Rattle.log_model.specs.declared.row_kind.Actor.TheVariants as actors
 use Rattle.log_model.specs.declared.row_kind.RowKind.{RowKind}
 use Rattle.log_model.specs.declared.row_kind.RowKind.TheVariants as rows
 use Rattle.log_model.specs.AfterPlaces.{place_arrived, on_place}
+use Rattle.log_model.specs.Places.{pair_at}
 use Rattle.log_model.specs.Seen.{Seen, Document, Asked, Place, desk_of, request_in}
 use Rattle.log_model.proofs.Refl.{nat_eq_refl}
 use Rattle.seen_laws.specs.InEvent.{InEvent, row_of, start_of, now_of, AreLegal}
@@ -69,8 +70,8 @@ module _ (e : InEvent) (tables : Tables) (d : Document) (place : Place) (tab : I
       ∙ sym (ap (λ (l : List Place). on_place d.nav (place_arrived job) l) tab.sole.places
       ∙ (let own_ : (place.nav.0 == d.nav.0) ≡ true = subst (λ (n : NavId). (place.nav.0 == n.0) ≡ true) (tab.sole.stands.nav ∙ sym tab.sole.there.nav) (nat_eq_refl place.nav.0) in rw own_ refl))
 
-  pub arrives : Ties e.start tables.tree tables.jobs → HoldsHistory e.start (history_held tables.store) → AreLegal e [] → HasArrived e [] tables going.req going.goal
-  arrives ties history legal =
+  pub arrives : Ties e.start tables.tree tables.jobs → HoldsHistory e.start (history_held tables.store) → AreLegal e [] → d.told ≡ Some (pair_at e.start going.goal.0) → HasArrived e [] tables going.req going.goal
+  arrives ties history legal told =
       record {
         d = d;
         place = place_arrived job place;
@@ -92,4 +93,5 @@ module _ (e : InEvent) (tables : Tables) (d : Document) (place : Place) (tab : I
         at = subst (λ (x : Seen). slice_get x.history.rows going.goal.0 ≡ Some going.row) (sym now) going.at;
         given = going.given;
         delivered = come_delivered e.start d place e.event tab going job outcome first is entry epoch long at memo address task;
+        told = subst (λ (x : Seen). d.told ≡ Some (pair_at x going.goal.0)) (sym now) told;
       }

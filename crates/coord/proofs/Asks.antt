@@ -11,6 +11,7 @@ use Rattle.log_model.specs.declared.row_kind.LogRow.{LogRow}
 use Rattle.log_model.specs.declared.row_kind.RowKind.{RowKind}
 use Rattle.log_model.specs.declared.row_kind.RowKind.TheVariants as rows
 use Rattle.log_model.specs.After.{new_request}
+use Rattle.log_model.specs.Places.{pair_at}
 use Rattle.log_model.specs.Seen.{Seen, Asked, request_in}
 use Rattle.seen_laws.specs.Blocks.{Passes, point_at}
 use Rattle.log_model.specs.Queue.{is_delivered_duly}
@@ -31,7 +32,7 @@ use Rattle.coord.specs.Ties.{Ties, HoldsHistory}
 use Rattle.move_queue.specs.Queue.{Queue}
 use Rattle.coord.specs.Idling.{IsHome}
 use Rattle.coord.specs.Queueing.{what_in, AreQueued, HasRoom, IsQueueing, CameOut}
-use Rattle.coord.specs.Standing.{IsBusy, GoesOn, StandsFor, HasActed, IsAsk}
+use Rattle.coord.specs.Standing.{heads_for, IsBusy, GoesOn, StandsFor, HasActed, IsAsk}
 use Rattle.coord.specs.declared.addressee.Addressee.{Addressee}
 use Rattle.coord.specs.declared.coordinator.Coordinator.{Coordinator}
 use Rattle.coord.specs.declared.tables.Tables.{Tables}
@@ -128,6 +129,7 @@ module _ (e : InEvent) (req : ReqId) (delta : ℤ) (asks : IsAsk e req delta) wh
                   clear = ask_clear;
                   tab = subst (λ (x : Seen). IsTab x stands.d stands.place) (sym now) asked_tab;
                 };
+                told = subst (λ (x : Seen). stands.d.told ≡ Some (pair_at x x.history.current)) (sym now) (subst (λ (r : Option (ReqId × Step)). stands.d.told ≡ Some (pair_at e.start (heads_for r e.start.history.current))) idle stands.told);
                 idle = subst (λ (x : Seen). IsIdle x stands.place) (sym now) (idle_more e.start stands.d stands.place e.event actors.Ui stands.tab req asks.next None (requests.Go delta) asked_ refl refl at_rest.0.idle);
               };
               lives = subst (λ (x : Seen). IsHome x c.home) (sym now) asked_lives;
@@ -169,6 +171,7 @@ module _ (e : InEvent) (req : ReqId) (delta : ℤ) (asks : IsAsk e req delta) wh
               history = subst (λ (t : Tables). HoldsHistory asked_ (history_held t.store)) (sym same_tables) stands.history;
               goes_on = subst (λ (r : Option (ReqId × Step)). GoesOn asked_ stands.place new.queue.waiting r) (sym (same_run ∙ runs)) still_busy;
               lives = subst (λ (h : Addressee). IsHome asked_ h) (sym same_home) asked_lives;
+              told = subst (λ (r : Option (ReqId × Step)). stands.d.told ≡ Some (pair_at e.start (heads_for r e.start.history.current))) (sym same_run) stands.told;
               unparked = ap (λ (q : Queue). q.parked) queue ∙ stands.unparked;
             });
             passes = legal_end e [] ask_legal (clear_paid e [] ask_clear) (ask_takes []);
@@ -201,6 +204,7 @@ came_out_acted e out c came unparked takes = by_running c.running refl came
             history = through.ready.idling.works.history;
             goes_on = subst (λ (r : Option (ReqId × Step)). GoesOn (now_of e out) through.ready.idling.place c.queue.waiting r) (sym is) (record { idle = through.ready.idling.idle; none_waits = through.none_joined }, through.none_waits);
             lives = through.ready.lives;
+            told = subst (λ (r : Option (ReqId × Step)). through.ready.idling.d.told ≡ Some (pair_at (now_of e out) (heads_for r (now_of e out).history.current))) (sym is) through.ready.idling.told;
             unparked = unparked;
           };
           passes = legal_end e out through.ready.idling.works.legal (clear_paid e out through.ready.idling.works.clear) (takes (map (row_of e) out));
@@ -215,6 +219,7 @@ came_out_acted e out c came unparked takes = by_running c.running refl came
             history = way.shows.works.history;
             goes_on = subst (λ (r : Option (ReqId × Step)). GoesOn (now_of e out) way.shows.place c.queue.waiting r) (sym is) (record { going = way.shows.going; its = way.shows.its; leads_to = way.shows.leads_to; behind = way.behind });
             lives = way.lives;
+            told = subst (λ (r : Option (ReqId × Step)). way.shows.d.told ≡ Some (pair_at (now_of e out) (heads_for r (now_of e out).history.current))) (sym is) way.shows.told;
             unparked = unparked;
           };
           passes = legal_end e out way.shows.works.legal (clear_paid e out way.shows.works.clear) (takes (map (row_of e) out));

@@ -20,6 +20,7 @@ use Rattle.log_model.specs.declared.row_kind.RowKind.TheVariants as rows
 use Rattle.log_model.specs.declared.row_kind.Actor.TheVariants as actors
 use Rattle.log_model.specs.AfterPlaces.{place_arrived}
 use Rattle.log_model.specs.Queue.{is_delivered_duly}
+use Rattle.log_model.specs.Places.{pair_at}
 use Rattle.log_model.specs.Seen.{Seen, Asked, Document, Place, desk_of}
 use Rattle.seen_laws.specs.Blocks.{point_at}
 use Rattle.seen_laws.specs.InEvent.{InEvent, start_of, now_of, AreLegal, IsTakenIn}
@@ -38,7 +39,7 @@ use Rattle.plain_tab.proofs.TabWays.{come_requests, come_tab}
 use Rattle.coord.specs.Arriving.{HasArrived}
 use Rattle.coord.specs.Idling.{IsHome}
 use Rattle.coord.specs.Queueing.{AreQueued, HasRoom, IsBehind}
-use Rattle.coord.specs.Standing.{IsBusy, GoesOn, StandsFor, HasActed}
+use Rattle.coord.specs.Standing.{heads_for, IsBusy, GoesOn, StandsFor, HasActed}
 use Rattle.coord.specs.Delivering.{IsDone}
 use Rattle.coord.specs.declared.coordinator.Coordinator.{Coordinator}
 use Rattle.coord.proofs.Arrives.{arrives}
@@ -171,6 +172,7 @@ module _ (e : InEvent) (c : Coordinator) (outcome : Outcome) (done : IsDone e c 
               incarnation = done.stands.lives.incarnation;
               paced = subst (λ (o : Option Place). IfSome o (λ (p : Place). p.epoch.0 ≤ e.start.jobs + 1)) (place_found e.start d place done.stands.tab.sole ∙ sym (place_found told_ d place its_tab.sole)) done.stands.lives.paced;
             };
+            told = done.stands.told;
             unparked = done.stands.unparked;
           });
           passes = legal_end e [] legal (clear_paid e [] (come_clear e c.home.proc (reports.Done done.job outcome done.made) done.delivery)) (done_takes []);
@@ -219,7 +221,7 @@ module _ (e : InEvent) (c : Coordinator) (outcome : Outcome) (done : IsDone e c 
 
       pub its_arrival : HasArrived e [] c.tables req goal
       its_arrival =
-          subst (λ (g : Step). HasArrived e [] c.tables req g) busy.leads_to (subst (λ (r : ReqId). HasArrived e [] c.tables r busy.going.goal) busy.its (arrives e c.tables d place done.stands.tab busy.going done.job outcome plain.first plain.is shown.entry shown.epoch shown.long shown.at shown.memo shown.address shown.is done.delivery.by_coord (its_own e c done.stands (reports.Done done.job outcome done.made) done.delivery) done.stands.ties done.stands.history legal))
+          subst (λ (g : Step). HasArrived e [] c.tables req g) busy.leads_to (subst (λ (r : ReqId). HasArrived e [] c.tables r busy.going.goal) busy.its (arrives e c.tables d place done.stands.tab busy.going done.job outcome plain.first plain.is shown.entry shown.epoch shown.long shown.at shown.memo shown.address shown.is done.delivery.by_coord (its_own e c done.stands (reports.Done done.job outcome done.made) done.delivery) done.stands.ties done.stands.history legal (subst (λ (g : Step). d.told ≡ Some (pair_at e.start g.0)) (sym busy.leads_to) (subst (λ (r : Option (ReqId × Step)). d.told ≡ Some (pair_at e.start (heads_for r e.start.history.current))) runs done.stands.told))))
 
       pub its_behind : IsBehind (now_of e []) req c.queue.waiting
       its_behind =

@@ -11,8 +11,9 @@ use Rattle.log_model.specs.declared.row_kind.RowKind.{RowKind}
 use Rattle.log_model.specs.declared.row_kind.RowKind.TheVariants as rows
 use Rattle.log_model.specs.Equal.{has_req}
 use Rattle.log_model.specs.Once.{step_at_delta}
+use Rattle.plain_tab.proofs.SoleRows.{traversed_current}
 use Rattle.log_model.specs.Seen.{Seen, Document, Asked, Place, request_in}
-use Rattle.log_model.specs.Places.{is_traversal}
+use Rattle.log_model.specs.Places.{is_traversal, pair_at}
 use Rattle.seen_laws.specs.InEvent.{InEvent, now_of, AreLegal, IsClear}
 use Rattle.seen_laws.proofs.InEvents.{now_more, clear_more}
 use Rattle.seen_laws.proofs.Sums.{over}
@@ -100,6 +101,7 @@ idles_refused e out more old new req delta idling first is ties history legal =
         tab = subst (λ (s : Seen). IsTab s idling.d idling.place) (sym now) on.0;
       };
       idle = subst (λ (s : Seen). IsIdle s idling.place) (sym now) on.1;
+      told = subst (λ (s : Seen). idling.d.told ≡ Some (pair_at s s.history.current)) (sym now) idling.told;
     }
 
 -- ---- it begins
@@ -219,4 +221,5 @@ module _ (e : InEvent) (out : List RowKind) (tables : Tables) (req : ReqId) (del
             tab = subst (λ (x : Seen). IsTab x idling.d idling.place) (sym now) (passed_tab s idling.d idling.place e.event e.actor idling.works.tab idling.idle req first.q first.there first_traverses first_open goal low off);
           };
           idle = subst (λ (x : Seen). IsIdle x idling.place) (sym now) (passed_idle s idling.d idling.place e.event e.actor idling.works.tab idling.idle req first.q first.there first_traverses first_open goal low off here);
+          told = subst (λ (x : Seen). idling.d.told ≡ Some (pair_at x x.history.current)) (sym now) (idling.told ∙ ap (λ (n : ℕ). let o : Option (ℕ × ℕ) = Some (pair_at s n) in o) (sym (traversed_current began_ idling.d idling.place e.event e.actor began_is.sole began_is.flowing req goal low ∙ here)));
         }

@@ -23,7 +23,7 @@ use Rattle.log_model.specs.After.{after}
 use Rattle.log_model.specs.AfterRequests.{changes_history, is_held_back, is_held_up, without_req}
 use Rattle.log_model.specs.Causes.{by_event, by_mover}
 use Rattle.log_model.specs.Equal.{has_req, implies}
-use Rattle.log_model.specs.Places.{top, is_awake, is_present, is_traversal, is_under_way}
+use Rattle.log_model.specs.Places.{pair_at, top, is_awake, is_present, is_traversal, is_under_way}
 use Rattle.log_model.specs.Queue.{is_delivered_duly}
 use Rattle.log_model.specs.Seen.{Seen, Asked, Document, Place, desk_of, place_of, request_in, request_of}
 use Rattle.seen_laws.specs.Blocks.{Here, point_at}
@@ -58,7 +58,7 @@ use Rattle.coord.specs.Ties.{Ties, HoldsHistory}
 use Rattle.coord.specs.Ending.{IsOutdated}
 use Rattle.coord.specs.Idling.{IsHome}
 use Rattle.coord.specs.Queueing.{what_in}
-use Rattle.coord.specs.Standing.{GoesOn, HasActed}
+use Rattle.coord.specs.Standing.{heads_for, GoesOn, HasActed}
 use Rattle.coord.specs.Delivering.{IsMade, IsMadeNow}
 use Rattle.coord.specs.declared.coordinator.Coordinator.{Coordinator}
 use Rattle.coord.specs.declared.tables.Tables.{Tables}
@@ -338,6 +338,7 @@ module _ (e : InEvent) (c : Coordinator) (made : Made) (is : IsMade e c made) wh
                 history = history;
                 goes_on = subst (λ (x : Seen). GoesOn x place c.queue.waiting c.running) (sym now) (goes_on c.running is.stands.goes_on);
                 lives = subst (λ (x : Seen). IsHome x c.home) (sym now) lives;
+                told = subst (λ (x : Seen). d.told ≡ Some (pair_at x (heads_for c.running x.history.current))) (sym now) is.stands.told;
                 unparked = is.stands.unparked;
               };
               passes = legal_end e out legal (subst (λ (l : List RowKind). IsPaid e l) (sym out_is) paid) (subst (λ (l : List RowKind). IsTakenIn e (map (row_of e) l)) (sym out_is) takes);

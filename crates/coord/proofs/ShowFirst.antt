@@ -181,6 +181,7 @@ module _ (e : InEvent) (out : List RowKind) (tables : Tables) (idling : IsIdling
           going = on.0;
           its = on.1;
           leads_to = on.2;
+          told = subst (λ (x : Seen). shown_d.told ≡ Some (pair_at x goal.0)) (sym now) (ap (λ (p : ℕ × ℕ). let o : Option (ℕ × ℕ) = Some p in o) pair_is);
         }
 
     -- the document is where it was, and the new epoch came with the order

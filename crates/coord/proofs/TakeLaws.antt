@@ -26,7 +26,7 @@ use Rattle.log_model.specs.declared.row_kind.RowKind.TheVariants as rows
 use Rattle.log_model.specs.AfterRequests.{changes_history, is_held_back, is_held_up, is_in_place, made_of_report, without_req}
 use Rattle.log_model.specs.Equal.{holds, implies}
 use Rattle.log_model.specs.History.{History, same_entry, history_length, history_index}
-use Rattle.log_model.specs.Places.{top, due_pair, running_in}
+use Rattle.log_model.specs.Places.{top, due_pair, pair_at, pair_in, running_in}
 use Rattle.log_model.specs.declared.job.Why.TheVariants as whys
 use Rattle.seen_laws.specs.Sending.{IsUpdateDue}
 use Rattle.coord.specs.Sending.{IsAddressed, update_order}
@@ -51,7 +51,8 @@ use Rattle.plain_tab.specs.Sole.{IsSole, IsOneHistory, IsRowOf, AreApart, Each}
 use Rattle.plain_tab.specs.Flow.{IsEntryOf, IsNext}
 use Rattle.plain_tab.proofs.Deliveries.{next_applied}
 use Rattle.plain_tab.proofs.Eaches.{each_on, each_at}
-use Rattle.plain_tab.proofs.Histories.{newer, same_entry_true}
+use Rattle.plain_tab.proofs.Histories.{newer, same_entry_true, same_long}
+use Rattle.straight_rows.proofs.Plain.{history_length-plain, history_index-plain}
 use Rattle.plain_tab.proofs.Readings.{none_runs}
 use Rattle.plain_tab.proofs.SoleMade.{its_document}
 use Rattle.plain_tab.proofs.Soles.{doc_found, place_found}
@@ -73,7 +74,7 @@ use Rattle.coord.specs.Idling.{IsHome, rows_in_order}
 use Rattle.coord.specs.Queueing.{HasRoom}
 use Rattle.step_index.specs.Held.{history_held}
 use Rattle.coord.specs.Taking.{maker_of, MayTakeUp}
-use Rattle.coord.specs.Standing.{GoesOn, HasActed}
+use Rattle.coord.specs.Standing.{heads_for, GoesOn, HasActed}
 use Rattle.coord.specs.declared.tables.Tables.{Tables}
 use Rattle.coord.specs.Delivering.{IsMadeNow}
 use Rattle.coord.specs.declared.coordinator.Coordinator.{Coordinator}
@@ -122,6 +123,11 @@ is_fit history d one entry greater maker = (
   none_has history.rows entry (each_on (IsRowOf d.state d.last_applied d.nr) (λ (row : Row). row.entry ≡ entry → ⊥) history.rows (λ row is same. newer d.nr d.last_applied entry greater maker row.entry is.1 same) one.rows),
   λ other held. is_top 0 history.rows d.state other one.plain held,
 )
+
+-- the length and index of a straight history
+plain_pair : (history : History) (d : Document) → IsOneHistory history d → pair_in history.rows history.current ≡ (length history.rows, history.current)
+plain_pair history d one =
+    rw (history_length-plain history.rows one.plain, history_index-plain history.rows history.current one.plain one.within) refl
 
 -- ---- no traversal runs
 
@@ -223,6 +229,9 @@ module _ (e : InEvent) (c : Coordinator) (made : Made) (now : IsMadeNow e c made
   state_is at row there =
       (each_at (IsRowOf d.state d.last_applied d.nr) e.start.history.rows at row (ap (λ (l : List Row). slice_get l at) (sym its_rows) ∙ there) tab.sole.history.rows).0
 
+  was_told : d.told ≡ Some (pair_at e.start e.start.history.current)
+  was_told = subst (λ (r : Option (ReqId × Step)). d.told ≡ Some (pair_at e.start (heads_for r e.start.history.current))) none_is_running now.is.stands.told
+
   pub its_room : HasRoom e.start → e.start.history.current < 4294967294
   its_room room = let within : e.start.history.current < length e.start.history.rows = tab.sole.history.within in omega (arith, within, room.rows)
 
@@ -285,6 +294,13 @@ module _ (e : InEvent) (c : Coordinator) (made : Made) (now : IsMadeNow e c made
       replaced_is : IsTab replaced (once_replaced entry d) (given_entry entry place)
       replaced_is = replaced_tab e.start d place e.event tab made first_ unheld now.under rests.0.idle over_ entry memo address what
 
+      -- with as many entries, the current step has the same length and index
+      replaced_pair : pair_at e.start e.start.history.current ≡ pair_at replaced replaced.history.current
+      replaced_pair =
+          plain_pair e.start.history d tab.sole.history
+          ∙ (ap (λ (n : ℕ). let p : ℕ × ℕ = (n, e.start.history.current) in p) (sym (same_long e.start.history d (once_replaced entry d) tab.sole.history over_ entry address memo refl refl refl replace_greater replace_maker tab.sole.there.nav))
+          ∙ sym (plain_pair replaced.history (once_replaced entry d) replaced_is.sole.history))
+
       pub replace_acted : HasActed e out (record c { tables = tables })
       replace_acted =
           record {
@@ -303,6 +319,7 @@ module _ (e : InEvent) (c : Coordinator) (made : Made) (now : IsMadeNow e c made
                 incarnation = now.is.stands.lives.incarnation;
                 paced = subst (λ (o : Option Place). IfSome o (λ (p : Place). p.epoch.0 ≤ e.start.jobs + 1)) (sym (place_found replaced (once_replaced entry d) (given_entry entry place) replaced_is.sole)) (subst (λ (o : Option Place). IfSome o (λ (p : Place). p.epoch.0 ≤ e.start.jobs + 1)) (place_found e.start d place tab.sole) now.is.stands.lives.paced);
               });
+              told = subst (λ (r : Option (ReqId × Step)). d.told ≡ Some (pair_at (now_of e out) (heads_for r (now_of e out).history.current))) (sym none_is_running) (subst (λ (x : Seen). d.told ≡ Some (pair_at x x.history.current)) (sym replaced_now) (was_told ∙ ap (λ (p : ℕ × ℕ). let o : Option (ℕ × ℕ) = Some p in o) replaced_pair));
               unparked = now.is.stands.unparked;
             };
             passes = legal_end e out legal (clear_paid e out (subst (λ (l : List RowKind). IsClear e l) (sym out_is) (applied_clear (replacing state)))) (subst (λ (l : List RowKind). IsTakenIn e (map (row_of e) l)) (sym out_is) (taken_in (replacing state) []));
@@ -369,23 +386,25 @@ module _ (e : InEvent) (c : Coordinator) (made : Made) (now : IsMadeNow e c made
           })
 
       -- the pair is that of the current step
-      due : (long at : ℕ) (current : ℕ) → current ≡ (history_held tables.store).current → long ≡ history_length (history_held tables.store).rows → at ≡ history_index (history_held tables.store).rows current → (let p : ℕ × ℕ = (long, at) in p) ≡ due_pair pushed top
-      due long at current is_current is_long is_at =
+      pub current_pair : (long at : ℕ) (current : ℕ) → current ≡ (history_held tables.store).current → long ≡ history_length (history_held tables.store).rows → at ≡ history_index (history_held tables.store).rows current → (let p : ℕ × ℕ = (long, at) in p) ≡ pair_at pushed pushed.history.current
+      current_pair long at current is_current is_long is_at =
           let held : HoldsHistory pushed (history_held tables.store) = subst (λ (x : Seen). HoldsHistory x (history_held tables.store)) pushed_now history in
           let same : (history_length (history_held tables.store).rows ≡ history_length pushed.history.rows) × (history_index (history_held tables.store).rows current ≡ history_index pushed.history.rows current) = held_pair tables.store pushed.history held parts.sole.history.plain current in
           let here : current ≡ pushed.history.current = is_current ∙ held.current in
-          let none : running_in pushed.requests ≡ None = none_passes is_run pushed.requests parts.only in
           ap (λ (n : ℕ). let p : ℕ × ℕ = (n, at) in p) (is_long ∙ same.0)
-          ∙ (ap (λ (n : ℕ). let p : ℕ × ℕ = (history_length pushed.history.rows, n) in p) (is_at ∙ (same.1 ∙ ap (λ (n : ℕ). history_index pushed.history.rows n) here))
-          ∙ rw none refl)
+          ∙ ap (λ (n : ℕ). let p : ℕ × ℕ = (history_length pushed.history.rows, n) in p) (is_at ∙ (same.1 ∙ ap (λ (n : ℕ). history_index pushed.history.rows n) here))
+
+      -- which is due, since no traversal runs
+      pair_due : pair_at pushed pushed.history.current ≡ due_pair pushed top
+      pair_due = let none : running_in pushed.requests ≡ None = none_passes is_run pushed.requests parts.only in rw none refl
 
       pub told_due : (long at : ℕ) (current : ℕ) → current ≡ (history_held tables.store).current → long ≡ history_length (history_held tables.store).rows → at ≡ history_index (history_held tables.store).rows current → IsUpdateDue (now_of e out) (update_order tables.jobs c.home (whys.Req made.req) (long, at)) (long, at)
       told_due long at current is_current is_long is_at =
-          subst (λ (x : Seen). IsUpdateDue x (update_order tables.jobs c.home (whys.Req made.req) (long, at)) (long, at)) (sym pushed_now) (tell_due pushed (once_pushed entry d) (given_entry entry place) parts.sole refl (update_order tables.jobs c.home (whys.Req made.req) (long, at)) (now.is.stands.lives.doc ∙ ap (λ (x : Document). x.nr) same_d) (long, at) (due long at current is_current is_long is_at))
+          subst (λ (x : Seen). IsUpdateDue x (update_order tables.jobs c.home (whys.Req made.req) (long, at)) (long, at)) (sym pushed_now) (tell_due pushed (once_pushed entry d) (given_entry entry place) parts.sole refl (update_order tables.jobs c.home (whys.Req made.req) (long, at)) (now.is.stands.lives.doc ∙ ap (λ (x : Document). x.nr) same_d) (long, at) (current_pair long at current is_current is_long is_at ∙ pair_due))
 
       -- ---- and is told
 
-      module _ (long at : ℕ) (more : List RowKind) (more_is : more ≡ out ++ rows.Sent (update_order tables.jobs c.home (whys.Req made.req) (long, at)) ∷ []) (last : Tables) (last_ties : Ties (now_of e more) last.tree last.jobs) (last_history : HoldsHistory (now_of e more) (history_held last.store)) (legal : AreLegal e more) where
+      module _ (long at : ℕ) (pair_is : (let p : ℕ × ℕ = (long, at) in p) ≡ pair_at pushed pushed.history.current) (more : List RowKind) (more_is : more ≡ out ++ rows.Sent (update_order tables.jobs c.home (whys.Req made.req) (long, at)) ∷ []) (last : Tables) (last_ties : Ties (now_of e more) last.tree last.jobs) (last_history : HoldsHistory (now_of e more) (history_held last.store)) (legal : AreLegal e more) where
         abbrev job : Job
         job = update_order tables.jobs c.home (whys.Req made.req) (long, at)
 
@@ -431,6 +450,7 @@ module _ (e : InEvent) (c : Coordinator) (made : Made) (now : IsMadeNow e c made
                   incarnation = to.incarnation;
                   paced = subst (λ (o : Option Place). IfSome o (λ (p : Place). p.epoch.0 ≤ last_seen.jobs + 1)) (sym (place_found last_seen last_d (given_entry entry place) last_tab.sole)) (let was : place.epoch.0 ≤ e.start.jobs + 1 = subst (λ (o : Option Place). IfSome o (λ (p : Place). p.epoch.0 ≤ e.start.jobs + 1)) (place_found e.start d place tab.sole) now.is.stands.lives.paced in omega (arith, was));
                 });
+                told = subst (λ (r : Option (ReqId × Step)). last_d.told ≡ Some (pair_at (now_of e more) (heads_for r (now_of e more).history.current))) (sym none_is_running) (subst (λ (x : Seen). last_d.told ≡ Some (pair_at x x.history.current)) (sym last_now) (ap (λ (p : ℕ × ℕ). let o : Option (ℕ × ℕ) = Some p in o) pair_is));
                 unparked = now.is.stands.unparked;
               };
               passes = legal_end e more legal (clear_paid e more more_clear) (subst (λ (l : List RowKind). IsTakenIn e (map (row_of e) l)) (sym (more_is ∙ ap (λ (l : List RowKind). l ++ rows.Sent job ∷ []) out_is)) (taken_in (pushing state) (rows.Sent job ∷ [])));

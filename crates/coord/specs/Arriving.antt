@@ -5,6 +5,7 @@ use Rattle.tab_ids.specs.declared.ReqId.{ReqId}
 use Rattle.tab_ids.specs.declared.Step.{Step}
 use Rattle.log_model.specs.declared.row.Row.{Row}
 use Rattle.log_model.specs.declared.row_kind.RowKind.{RowKind}
+use Rattle.log_model.specs.Places.{pair_at}
 use Rattle.log_model.specs.Seen.{Document, Asked, Place, request_in}
 use Rattle.plain_tab.specs.Calm.{OnlyRuns}
 use Rattle.seen_laws.specs.InEvent.{InEvent, now_of}
@@ -25,3 +26,4 @@ pub record HasArrived (e : InEvent) (out : List RowKind) (tables : Tables) (req 
   pub at : slice_get (now_of e out).history.rows goal.0 ≡ Some row
   pub given : place.given ≡ Some row.entry
   pub delivered : place.is_delivered ≡ true
+  pub told : d.told ≡ Some (pair_at (now_of e out) goal.0)

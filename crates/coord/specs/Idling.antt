@@ -8,7 +8,7 @@ use Rattle.log_model.specs.declared.row_kind.RowKind.{RowKind}
 use Rattle.log_model.specs.declared.row.Row.{Row}
 use Rattle.log_model.specs.History.{History}
 use Rattle.log_model.specs.Order.{ordered}
-use Rattle.log_model.specs.Places.{top}
+use Rattle.log_model.specs.Places.{top, pair_at}
 use Rattle.log_model.specs.Seen.{Seen, Document, Asked, Place, place_of, request_in}
 use Rattle.step_index.specs.Held.{history_held}
 use Rattle.seen_laws.specs.InEvent.{InEvent, now_of, AreLegal, IsClear}
@@ -29,12 +29,13 @@ pub record IsWorking (e : InEvent) (out : List RowKind) (tables : Tables) (d : D
   pub clear : IsClear e out
   pub tab : IsTab (now_of e out) d place
 
--- and no traversal runs
+-- and no traversal runs; the document was told the length and index of the current step
 pub record IsIdling (e : InEvent) (out : List RowKind) (tables : Tables) : Type 0 where
   pub d : Document
   pub place : Place
   pub works : IsWorking e out tables d place
   pub idle : IsIdle (now_of e out) place
+  pub told : d.told ≡ Some (pair_at (now_of e out) (now_of e out).history.current)
 
 -- the traversal is the first that waits, by this delta
 pub record IsFirst (s : Seen) (req : ReqId) (delta : ℤ) : Type 0 where
@@ -43,7 +44,7 @@ pub record IsFirst (s : Seen) (req : ReqId) (delta : ℤ) : Type 0 where
   pub there : request_in s.requests req ≡ Some q
   pub asks : q.what ≡ requests.Go delta
 
--- and the entry at the traversal's goal is on its way
+-- and the entry at the traversal's goal is on its way, with the length and index there
 pub record IsShowing (e : InEvent) (out : List RowKind) (tables : Tables) (req : ReqId) (goal : Step) : Type 0 where
   pub d : Document
   pub place : Place
@@ -51,6 +52,7 @@ pub record IsShowing (e : InEvent) (out : List RowKind) (tables : Tables) (req :
   pub going : IsGoing (now_of e out) place
   pub its : going.req ≡ req
   pub leads_to : going.goal ≡ goal
+  pub told : d.told ≡ Some (pair_at (now_of e out) goal.0)
 
 -- where the one document is; and each epoch of the top but the first came with an order
 pub record IsHome (s : Seen) (home : Addressee) : Type 0 where

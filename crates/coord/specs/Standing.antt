@@ -1,6 +1,6 @@
 -- What a coordinator of a tab of one document keeps between two events, and how an event begins.
 -- HTML Standard, "session history traversal queue"; the premise of one document is this project's own.
-use Rattle.std.specs.Prelude.{◌≡◌, ◌+◌, ℤ, List, [], ◌∷◌, map, length, slice_get, Option, Some, None}
+use Rattle.std.specs.Prelude.{ℕ, ◌≡◌, ◌+◌, ℤ, List, [], ◌∷◌, map, length, slice_get, Option, Some, None}
 use Rattle.tab_ids.specs.declared.ReqId.{ReqId}
 use Rattle.tab_ids.specs.declared.ProcId.{ProcId}
 use Rattle.tab_ids.specs.declared.Step.{Step}
@@ -9,6 +9,7 @@ use Rattle.log_model.specs.declared.request.Request.TheVariants as requests
 use Rattle.log_model.specs.declared.row_kind.Actor.TheVariants as actors
 use Rattle.log_model.specs.declared.row_kind.RowKind.{RowKind}
 use Rattle.log_model.specs.declared.row_kind.RowKind.TheVariants as rows
+use Rattle.log_model.specs.Places.{pair_at}
 use Rattle.log_model.specs.Seen.{Seen, Document, Place, desk_of}
 use Rattle.step_index.specs.Held.{history_held}
 use Rattle.move_queue.specs.declared.queue_step.QueueStep.{QueueStep}
@@ -32,7 +33,12 @@ abbrev pub GoesOn : Seen → Place → List QueueStep → Option (ReqId × Step)
 GoesOn s place waiting None = IsAtRest s place × (waiting ≡ [])
 GoesOn s place waiting (Some run) = IsBusy s place waiting run
 
--- the coordinator stands for what the log has come to, in a tab of one document
+-- the step that it heads for: the goal of the traversal that runs, or the current one
+abbrev pub heads_for : Option (ReqId × Step) → ℕ → ℕ
+heads_for None current = current
+heads_for (Some run) current = run.1.0
+
+-- the coordinator stands for what the log has come to, in a tab of one document, which was told the length and index of the step that it heads for
 pub record StandsFor (s : Seen) (c : Coordinator) : Type 0 where
   pub d : Document
   pub place : Place
@@ -41,6 +47,7 @@ pub record StandsFor (s : Seen) (c : Coordinator) : Type 0 where
   pub history : HoldsHistory s (history_held c.tables.store)
   pub goes_on : GoesOn s place c.queue.waiting c.running
   pub lives : IsHome s c.home
+  pub told : d.told ≡ Some (pair_at s (heads_for c.running s.history.current))
   pub unparked : c.queue.parked ≡ []
 
 -- so it does as the event ends with these rows, each of which passes

@@ -12,7 +12,7 @@ use Rattle.coord.specs.Ties.{Ties, IsAwakeIn}
 use Rattle.coord.specs.Taking.{maker_of, MayTakeUp}
 use Rattle.coord.proofs.Reports.{come_leads}
 use Rattle.coord.proofs.MadeLaws.{made_legal, made_ties, made_history, made_room}
-use Rattle.coord.proofs.TakeLaws.{store_plain, store_apart, store_within, state_is, may_push, push_awake, push_fit, its_room, told_room, told_awake, told_addressed, told_due, push_acted}
+use Rattle.coord.proofs.TakeLaws.{store_plain, store_apart, store_within, state_is, may_push, push_awake, push_fit, its_room, told_room, told_awake, told_addressed, told_due, current_pair, push_acted}
 use Rattle.coord.proofs.coordinator.Coordinator.take_push.Goals as goal
 
 pub row_at-requires-clause-plain : goal.row_at-requires-clause-plain
@@ -39,4 +39,4 @@ pub returns : goal.returns
 returns g c =
     let state = state_is _ _ _ c.requires.0 _ _ c.row_at.ensures in
     let out = subst (λ (l : List RowKind). c.push.new.out ≡ l ++ rows.Applied c.args.made.now.req (changes.Push top c.args.entry c.row_at.result.now.state c.args.address c.args.memo) ∷ []) c.requires.1.1.1 c.in_ok-push.ensures.out in
-    record { acted = push_acted _ _ _ c.requires.0 _ _ _ c.requires.1.0 _ state _ out c.push.new.self c.in_ok-push.ensures.jobs c.in_ok-push.ensures.ties c.in_ok-push.ensures.history _ _ _ c.in_ok-tell.ensures.out c.tell.new.self c.in_ok-tell.ensures.ties c.in_ok-tell.ensures.history c.in_ok-tell.ensures.legal }
+    record { acted = push_acted _ _ _ c.requires.0 _ _ _ c.requires.1.0 _ state _ out c.push.new.self c.in_ok-push.ensures.jobs c.in_ok-push.ensures.ties c.in_ok-push.ensures.history _ _ (current_pair _ _ _ c.requires.0 _ _ _ c.requires.1.0 _ state _ out c.push.new.self c.in_ok-push.ensures.jobs c.in_ok-push.ensures.ties c.in_ok-push.ensures.history _ _ _ c.current-current.ensures c.length_index-length.ensures.length c.length_index-length.ensures.index) _ c.in_ok-tell.ensures.out c.tell.new.self c.in_ok-tell.ensures.ties c.in_ok-tell.ensures.history c.in_ok-tell.ensures.legal }
