@@ -1,4 +1,5 @@
 -- An order was done: the document was told length and index, or it shows the entry at the goal of the traversal that runs.
+use Rattle.coord.specs.Ties.{Ties}
 use Rattle.std.proofs.Common.{◌≡◌, ◌⊎◌, inl, inr, ℕ, ◌+◌, ◌≤◌, ◌<◌, true, List, [], ◌∷◌, Option, Some, None, refl, sym, ap, ◌∙◌, subst, arith}
 use Rattle.std.specs.Prelude.{slice_get, IfSome}
 use Rattle.std.proofs.lemmas.List.{map-id}
@@ -33,7 +34,6 @@ use Rattle.plain_tab.specs.Calm.{is_run, is_this, EachAsked}
 use Rattle.plain_tab.specs.Courses.{course}
 use Rattle.plain_tab.specs.Flow.{IsOutcome, IsOrderOf, IsReportOf, shows_once, shows_sent, shows_told, shows_due}
 use Rattle.plain_tab.proofs.Soles.{place_found}
-use Rattle.plain_tab.proofs.TabRows.{idle_same, going_same}
 use Rattle.plain_tab.proofs.TabWork.{same_requests, delivered_requests, delivered_joined, told_tab}
 use Rattle.plain_tab.proofs.TabWays.{come_requests, come_tab}
 use Rattle.coord.specs.Arriving.{HasArrived}
@@ -44,6 +44,7 @@ use Rattle.coord.specs.Delivering.{IsDone}
 use Rattle.coord.specs.declared.coordinator.Coordinator.{Coordinator}
 use Rattle.coord.proofs.Arrives.{arrives}
 use Rattle.coord.proofs.Reports.{come_row, come_clear, come_legal, same_document, its_process, first_report, its_report, its_own, its_come}
+use Rattle.coord.proofs.StandLaws.{LeavesRuns, goes_on_left, stands_on}
 use Rattle.coord.proofs.Untouched.{ties_unseen}
 
 -- the outcome is one of the order, and nothing was made with it
@@ -138,43 +139,24 @@ module _ (e : InEvent) (c : Coordinator) (outcome : Outcome) (done : IsDone e c 
     its_joined : told_.joined ≡ e.start.joined
     its_joined = delivered_joined e.start d place e.event done.stands.tab done.job outcome plain.first plain.is
 
-    goes_on : (running : Option (ReqId × Step)) → GoesOn e.start place c.queue.waiting running → GoesOn told_ place c.queue.waiting running
-    unfolding going_same
-    goes_on None (rests, none) =
-        (record { idle = idle_same e.start told_ place (same_requests is_run e.start told_ its_requests) refl rests.idle; none_waits = its_joined ∙ rests.none_waits }, none)
-    goes_on (Some run) busy =
+    left : LeavesRuns e.start told_
+    left =
         record {
-          going = going_same e.start told_ place (same_requests course e.start told_ its_requests) (λ r q at only. subst (λ (l : List Asked). EachAsked (λ x y. is_run y ≡ is_this (Some r) x) l) (sym its_requests) only) refl (λ r first. ap (λ (l : List ReqId). slice_get l 0) its_joined ∙ first) busy.going;
-          its = busy.its;
-          leads_to = busy.leads_to;
-          behind = record {
-            rest = busy.behind.rest;
-            joined = its_joined ∙ busy.behind.joined;
-            queued = subst (λ (l : List Asked). AreQueued l busy.behind.rest c.queue.waiting) (sym its_requests) busy.behind.queued;
-          };
+          courses = same_requests course e.start told_ its_requests;
+          none = λ only. subst (λ (l : List Asked). EachAsked (λ x y. is_run y ≡ is_this None x) l) (sym its_requests) only;
+          one = λ r q at only. subst (λ (l : List Asked). EachAsked (λ x y. is_run y ≡ is_this (Some r) x) l) (sym its_requests) only;
+          history = refl;
+          joined = its_joined;
         }
+
+    told_ties : Ties told_ c.tables.tree c.tables.jobs
+    told_ties =
+        ties_unseen e.start told_ (λ x. x) c.tables.tree c.tables.jobs refl (its_tab.sole.places ∙ sym done.stands.tab.sole.places) (its_tab.sole.documents ∙ sym done.stands.tab.sole.documents ∙ sym (map-id e.start.documents)) (record { nr = λ x. refl; nav = λ x. refl; told = λ x. refl }) done.stands.ties
 
     pub told_acted : HasActed e [] c
     told_acted =
         record {
-          stands = subst (λ (x : Seen). StandsFor x c) (sym now) (record {
-            d = d;
-            place = place;
-            tab = its_tab;
-            ties = ties_unseen e.start told_ (λ x. x) c.tables.tree c.tables.jobs refl (its_tab.sole.places ∙ sym done.stands.tab.sole.places) (its_tab.sole.documents ∙ sym done.stands.tab.sole.documents ∙ sym (map-id e.start.documents)) (record { nr = λ x. refl; nav = λ x. refl; told = λ x. refl }) done.stands.ties;
-            history = done.stands.history;
-            goes_on = goes_on c.running done.stands.goes_on;
-            lives = record {
-              d = d;
-              only = its_tab.sole.documents;
-              doc = done.stands.lives.doc ∙ ap (λ (x : Document). x.nr) same_d;
-              proc = done.stands.lives.proc ∙ ap (λ (x : Document). x.proc) same_d;
-              incarnation = done.stands.lives.incarnation;
-              paced = subst (λ (o : Option Place). IfSome o (λ (p : Place). p.epoch.0 ≤ e.start.jobs + 1)) (place_found e.start d place done.stands.tab.sole ∙ sym (place_found told_ d place its_tab.sole)) done.stands.lives.paced;
-            };
-            told = done.stands.told;
-            unparked = done.stands.unparked;
-          });
+          stands = subst (λ (x : Seen). StandsFor x c) (sym now) (stands_on e.start told_ c done.stands d (record { nr = refl; proc = refl; told = refl }) its_tab told_ties refl refl (goes_on_left e.start told_ place c.queue.waiting c.running left done.stands.goes_on));
           passes = legal_end e [] legal (clear_paid e [] (come_clear e c.home.proc (reports.Done done.job outcome done.made) done.delivery)) (done_takes []);
         }
 

@@ -20,6 +20,7 @@ pub mod TurnLaws
 pub mod ArriveLaws
 pub mod Arrives
 pub mod Asks
+pub mod StandLaws
 pub mod Reports
 pub mod DoneLaws
 pub mod MadeLaws

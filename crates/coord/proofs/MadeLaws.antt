@@ -1,11 +1,10 @@
 -- The document made a new entry: what the tables tell of it, and that it is dropped where another entry is shown by now.
-use Rattle.std.proofs.Common.{◌≡◌, ◌⊎◌, inl, inr, ℕ, ◌+◌, ◌≤◌, ◌<◌, Bool, true, false, not, ◌&&◌, ◌||◌, ◌==◌, List, [], ◌∷◌, map, Option, Some, None, refl, sym, ap, ◌∙◌, subst, arith}
+use Rattle.std.proofs.Common.{◌≡◌, ◌⊎◌, inl, inr, ℕ, ◌<◌, Bool, true, false, not, ◌&&◌, ◌||◌, ◌==◌, List, [], ◌∷◌, map, Option, Some, None, refl, sym, ap, ◌∙◌, subst, arith}
 use Rattle.std.proofs.lemmas.Bool.Decides.{nat_tests}
-use Rattle.std.specs.Prelude.{slice_get, option_map, IfSome}
+use Rattle.std.specs.Prelude.{slice_get, option_map}
 use Rattle.std.specs.Option.{IsSome}
 use Rattle.tab_ids.specs.declared.Death.{Death}
 use Rattle.tab_ids.specs.declared.ReqId.{ReqId}
-use Rattle.tab_ids.specs.declared.Step.{Step}
 use Rattle.log_model.specs.declared.job.Why.{Why}
 use Rattle.log_model.specs.declared.job.Why.TheVariants as whys
 use Rattle.log_model.specs.declared.made.Made.{Made}
@@ -23,7 +22,7 @@ use Rattle.log_model.specs.After.{after}
 use Rattle.log_model.specs.AfterRequests.{changes_history, is_held_back, is_held_up, without_req}
 use Rattle.log_model.specs.Causes.{by_event, by_mover}
 use Rattle.log_model.specs.Equal.{has_req, implies}
-use Rattle.log_model.specs.Places.{pair_at, top, is_awake, is_present, is_traversal, is_under_way}
+use Rattle.log_model.specs.Places.{top, is_awake, is_present, is_traversal, is_under_way}
 use Rattle.log_model.specs.Queue.{is_delivered_duly}
 use Rattle.log_model.specs.Seen.{Seen, Asked, Document, Place, desk_of, place_of, request_in, request_of}
 use Rattle.seen_laws.specs.Blocks.{Here, point_at}
@@ -39,14 +38,13 @@ use Rattle.request_facts.proofs.Times.{itself, times_none}
 use Rattle.request_facts.specs.Whereabouts.{times, times_due, times_found, is_of_load}
 use Rattle.plain_tab.specs.Between.{IsTab}
 use Rattle.plain_tab.specs.Calm.{IsCalm, is_run, is_this, OnlyRuns}
-use Rattle.plain_tab.specs.Courses.{Course, course}
+use Rattle.plain_tab.specs.Courses.{course}
 use Rattle.plain_tab.specs.Flow.{IsMadeBy, IsEntryOf}
 use Rattle.plain_tab.proofs.Courses.{told_same, runs_again, runs_ended_other}
 use Rattle.plain_tab.proofs.Deliveries.{made_by_it}
 use Rattle.plain_tab.proofs.Lates.{IsItsMover, late_request, mover, unheld}
 use Rattle.plain_tab.proofs.SoleMade.{its_document}
 use Rattle.plain_tab.proofs.Soles.{place_found}
-use Rattle.plain_tab.proofs.TabRows.{going_same}
 use Rattle.plain_tab.proofs.TabTaken.{IsMadeRequest, calm_no_load, told_once, not_parked, dropping, dropped_tab, dropped_courses}
 use Rattle.plain_tab.proofs.TabWork.{same_requests}
 use Rattle.plain_tab.proofs.Takings.{entry_no_step, unbegun}
@@ -56,18 +54,20 @@ use Rattle.nav_tree.specs.Tree.{nav_of}
 use Rattle.step_index.specs.Held.{history_held}
 use Rattle.coord.specs.Ties.{Ties, HoldsHistory}
 use Rattle.coord.specs.Ending.{IsOutdated}
-use Rattle.coord.specs.Idling.{IsHome}
-use Rattle.coord.specs.Queueing.{what_in}
-use Rattle.coord.specs.Standing.{heads_for, GoesOn, HasActed}
+use Rattle.coord.specs.Standing.{StandsFor, HasActed}
 use Rattle.coord.specs.Delivering.{IsMade, IsMadeNow}
 use Rattle.coord.specs.declared.coordinator.Coordinator.{Coordinator}
 use Rattle.coord.specs.declared.tables.Tables.{Tables}
 use Rattle.coord.proofs.Delivered.{delivered_made}
 use Rattle.coord.proofs.IdleLaws.{next_now}
-use Rattle.coord.proofs.Reports.{come_legal, same_document, first_report, its_own, its_come}
+use Rattle.coord.proofs.Reports.{come_legal, first_report, its_own, its_come}
 use Rattle.coord.proofs.QueueLaws.{is_apart}
 use Rattle.coord.proofs.ShowFirst.{IsTopNode, top_node}
-use Rattle.coord.proofs.TurnLaws.{queued_on}
+use Rattle.coord.proofs.StandLaws.{LeavesRuns, goes_on_left, stands_on}
+
+-- with the same tables it is the same coordinator
+stands_with : (c : Coordinator) (tables : Tables) → tables ≡ c.tables → (s : Seen) → StandsFor s c → StandsFor s (record c { tables = tables })
+stands_with c tables same s stands = subst (λ (t : Tables). StandsFor s (record c { tables = t })) (sym same) stands
 
 -- a drop by what moved its navigable owes nothing
 owed_by : (h : Here) (event : ℕ) (actor : Actor) (req by : ReqId) (q other : Asked) (end : Seen) → request_of h.now req ≡ Some q → request_of h.now by ≡ Some other → by_mover h.now q other ≡ true → owes_row h (record { event = event; actor = actor; row = rows.Dropped req (drops.By by) }) end ≡ true
@@ -286,60 +286,19 @@ module _ (e : InEvent) (c : Coordinator) (made : Made) (is : IsMade e c made) wh
         runs_on run away only =
             runs_ended_other run told_.requests made.req (endings.Dropped (drops.By by)) away (runs_again run e.start.requests told_.requests (same_requests is_run e.start told_ told_requests) only)
 
-        asks : (r : ReqId) → what_in dropped_.requests r ≡ what_in e.start.requests r
-        asks r =
-            sym (read (request_in dropped_.requests r)) ∙ (ap (λ (o : Option Course). option_map (λ (x : Course). x.what) o) (courses r) ∙ read (request_in e.start.requests r))
-          where
-            read : (o : Option Asked) → option_map (λ (x : Course). x.what) (option_map course o) ≡ option_map (λ (q : Asked). q.what) o
-            read None = refl
-            read (Some q) = refl
-
-        goes_on : (running : Option (ReqId × Step)) → GoesOn e.start place c.queue.waiting running → GoesOn dropped_ place c.queue.waiting running
-        unfolding going_same
-        goes_on None (rests, none) = (
-          record {
-            idle = record { only = runs_on None refl rests.idle.only; delivered = rests.idle.delivered; row = rests.idle.row; at = rests.idle.at; given = rests.idle.given };
-            none_waits = joined_is ∙ rests.none_waits;
-          },
-          none,
-        )
-        goes_on (Some run) busy =
+        left : LeavesRuns e.start dropped_
+        left =
             record {
-              going = going_same e.start dropped_ place courses (λ r q at only. runs_on (Some r) (apart r q at (only r q at ∙ itself r)) only) refl (λ r in_front. ap (λ (l : List ReqId). slice_get l 0) joined_is ∙ in_front) busy.going;
-              its = busy.its;
-              leads_to = busy.leads_to;
-              behind = record {
-                rest = busy.behind.rest;
-                joined = joined_is ∙ busy.behind.joined;
-                queued = queued_on e.start.requests dropped_.requests busy.behind.rest c.queue.waiting asks busy.behind.queued;
-              };
-            }
-
-        lives : IsHome dropped_ c.home
-        lives =
-            let same_d : is.stands.lives.d ≡ d = same_document e c is.stands (reports.Made made) is.delivery in
-            record {
-              d = d;
-              only = its_tab.sole.documents;
-              doc = is.stands.lives.doc ∙ ap (λ (x : Document). x.nr) same_d;
-              proc = is.stands.lives.proc ∙ ap (λ (x : Document). x.proc) same_d;
-              incarnation = is.stands.lives.incarnation;
-              paced = subst (λ (o : Option Place). IfSome o (λ (p : Place). p.epoch.0 ≤ e.start.jobs + 1)) (place_found e.start d place tab.sole ∙ sym (place_found dropped_ d place its_tab.sole)) is.stands.lives.paced;
+              courses = courses;
+              none = runs_on None refl;
+              one = λ r q at only. runs_on (Some r) (apart r q at (only r q at ∙ itself r)) only;
+              history = refl;
+              joined = joined_is;
             }
 
         pub drop_acted : HasActed e out (record c { tables = tables })
         drop_acted =
             record {
-              stands = record {
-                d = d;
-                place = place;
-                tab = subst (λ (x : Seen). IsTab x d place) (sym now) its_tab;
-                ties = ties;
-                history = history;
-                goes_on = subst (λ (x : Seen). GoesOn x place c.queue.waiting c.running) (sym now) (goes_on c.running is.stands.goes_on);
-                lives = subst (λ (x : Seen). IsHome x c.home) (sym now) lives;
-                told = subst (λ (x : Seen). d.told ≡ Some (pair_at x (heads_for c.running x.history.current))) (sym now) is.stands.told;
-                unparked = is.stands.unparked;
-              };
+              stands = stands_with c tables same (now_of e out) (subst (λ (x : Seen). StandsFor x c) (sym now) (stands_on e.start dropped_ c is.stands d (record { nr = refl; proc = refl; told = refl }) its_tab (subst (λ (x : Seen). Ties x c.tables.tree c.tables.jobs) now (subst (λ (t : Tables). Ties (now_of e out) t.tree t.jobs) same ties)) refl refl (goes_on_left e.start dropped_ place c.queue.waiting c.running left is.stands.goes_on)));
               passes = legal_end e out legal (subst (λ (l : List RowKind). IsPaid e l) (sym out_is) paid) (subst (λ (l : List RowKind). IsTakenIn e (map (row_of e) l)) (sym out_is) takes);
             }

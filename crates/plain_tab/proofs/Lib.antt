@@ -22,3 +22,4 @@ pub mod Turns
 pub mod Takings
 pub mod Lates
 pub mod Shows
+pub mod Quiets

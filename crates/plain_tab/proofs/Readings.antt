@@ -92,7 +92,7 @@ module _ (s : Seen) (d : Document) (place : Place) (tab : IsTab s d place) where
 
   -- ---- the queue
 
-  all_of : (test : Asked → Bool) → EachAsked (λ req q. test q ≡ true) s.requests → list_all test s.requests ≡ true
+  pub all_of : (test : Asked → Bool) → EachAsked (λ req q. test q ≡ true) s.requests → list_all test s.requests ≡ true
   all_of test each = along s.requests (λ i q at. each (record { 0 = i + 1 }) q (at_place s.requests i ∙ at))
     where
       along : (l : List Asked) → ((i : ℕ) (q : Asked) → slice_get l i ≡ Some q → test q ≡ true) → list_all test l ≡ true

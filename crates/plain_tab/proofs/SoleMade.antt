@@ -64,7 +64,7 @@ module _ (s : Seen) (d : Document) (place : Place) (event : ℕ) (actor : Actor)
         record {
           documents = on_sole s.documents d made.doc (once_made what) sole.documents flowing.own.running.doc;
           places = sole.places;
-          there = same_there d (once_made what d) refl refl refl refl refl sole.there;
+          there = same_there d (once_made what d) refl refl refl refl refl refl sole.there;
           stands = record {
             nav = sole.stands.nav;
             above = sole.stands.above;
@@ -118,7 +118,7 @@ module _ (s : Seen) (d : Document) (place : Place) (event : ℕ) (sole : IsSole 
     taken_ =
         taken.after_change s event d.proc made.req q made d place entry memo address c g taken_now its face_is
 
-    module _ (asked : request_of told_of made.req ≡ Some q) (makes : q.made ≡ Some made) (kept_row : has_row top (applied s.history c).rows ≡ true) (nav : (g d).nav ≡ d.nav) (discarded : (g d).is_discarded ≡ d.is_discarded) (known : (g d).is_known_dead ≡ d.is_known_dead) (incarnation : (g d).incarnation ≡ d.incarnation) (ready : (g d).is_ready ≡ d.is_ready) (rises : d.last_applied ≤ (g d).last_applied) (its_number : IsUpTo (g d).last_applied d.nr entry) where
+    module _ (asked : request_of told_of made.req ≡ Some q) (makes : q.made ≡ Some made) (kept_row : has_row top (applied s.history c).rows ≡ true) (nav : (g d).nav ≡ d.nav) (discarded : (g d).is_discarded ≡ d.is_discarded) (known : (g d).is_known_dead ≡ d.is_known_dead) (incarnation : (g d).incarnation ≡ d.incarnation) (ready : (g d).is_ready ≡ d.is_ready) (dead : (g d).dead_by ≡ d.dead_by) (rises : d.last_applied ≤ (g d).last_applied) (its_number : IsUpTo (g d).last_applied d.nr entry) where
       taken_places : taken_.places ≡ given_entry entry place ∷ []
       taken_places =
           taken.places_are s event d.proc made.req q made d place entry memo address c g taken_now its face_is asked makes
@@ -135,7 +135,7 @@ module _ (s : Seen) (d : Document) (place : Place) (event : ℕ) (sole : IsSole 
           record {
             documents = taken.documents_are s event d.proc made.req q made d place entry memo address c g taken_now its face_is ∙ on_sole s.documents d made.doc g sole.documents by_it.of_doc;
             places = taken_places;
-            there = same_there d (g d) nav discarded known incarnation ready sole.there;
+            there = same_there d (g d) nav discarded known incarnation ready dead sole.there;
             stands = record {
               nav = sole.stands.nav;
               above = sole.stands.above;

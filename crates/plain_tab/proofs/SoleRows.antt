@@ -37,14 +37,15 @@ use Rattle.log_model.specs.History.{has_row, applied}
 use Rattle.straight_rows.proofs.Plain.{used_step_at-plain}
 use Rattle.plain_tab.proofs.Soles.{doc_found, place_found, on_sole, on_sole_place, flowing_on, died_on}
 
-pub same_there : (d next : Document) → next.nav ≡ d.nav → next.is_discarded ≡ d.is_discarded → next.is_known_dead ≡ d.is_known_dead → next.incarnation ≡ d.incarnation → next.is_ready ≡ d.is_ready → IsThere d → IsThere next
-same_there d next nav discarded known incarnation ready there =
+pub same_there : (d next : Document) → next.nav ≡ d.nav → next.is_discarded ≡ d.is_discarded → next.is_known_dead ≡ d.is_known_dead → next.incarnation ≡ d.incarnation → next.is_ready ≡ d.is_ready → next.dead_by ≡ d.dead_by → IsThere d → IsThere next
+same_there d next nav discarded known incarnation ready dead there =
     record {
       nav = nav ∙ there.nav;
       undiscarded = discarded ∙ there.undiscarded;
       unknown = known ∙ there.unknown;
       incarnation = incarnation ∙ there.incarnation;
       ready = ready ∙ there.ready;
+      lives = dead ∙ there.lives;
     }
 
 -- ---- the report of a finished order
@@ -149,7 +150,7 @@ module _ (s : Seen) (d : Document) (place : Place) (event : ℕ) (actor : Actor)
         record {
           documents = ap (λ (t : Task). documents_sent s job t) task ∙ on_sole s.documents d job.doc (addressed (tasks.Update long at)) sole.documents to.doc;
           places = ap (λ (t : Task). places_sent s job t) task ∙ sole.places;
-          there = same_there d told_ refl refl refl refl refl sole.there;
+          there = same_there d told_ refl refl refl refl refl refl sole.there;
           stands = record {
             nav = sole.stands.nav;
             above = sole.stands.above;
@@ -196,7 +197,7 @@ module _ (s : Seen) (d : Document) (place : Place) (event : ℕ) (actor : Actor)
         record {
           documents = ap (λ (t : Task). documents_sent s job t) task ∙ on_sole s.documents d job.doc (addressed (tasks.Activate entry epoch long at memo address)) sole.documents to.doc;
           places = shown_places;
-          there = same_there d shown_ refl refl refl refl refl sole.there;
+          there = same_there d shown_ refl refl refl refl refl refl sole.there;
           stands = record {
             nav = sole.stands.nav;
             above = sole.stands.above;

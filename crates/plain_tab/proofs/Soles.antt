@@ -145,7 +145,7 @@ module _ (s : Seen) (d : Document) (place : Place) (event : ℕ) (actor : Actor)
         record {
           documents = finished_documents;
           places = sole.places;
-          there = record { nav = sole.there.nav; undiscarded = sole.there.undiscarded; unknown = sole.there.unknown; incarnation = sole.there.incarnation; ready = sole.there.ready };
+          there = record { nav = sole.there.nav; undiscarded = sole.there.undiscarded; unknown = sole.there.unknown; incarnation = sole.there.incarnation; ready = sole.there.ready; lives = sole.there.lives };
           stands = same_place;
           history = record { plain = sole.history.plain; rows = sole.history.rows; within = sole.history.within; added = sole.history.added; apart = sole.history.apart };
           died = died_on s finished_ d.proc (desk_finished outcome) refl (λ desk. refl) refl refl sole.died;

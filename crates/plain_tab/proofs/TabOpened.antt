@@ -60,7 +60,7 @@ module _ (event : ℕ) (actor : Actor) (entry : EntryId) (state : StateId) (doc 
       record {
         documents = refl;
         places = refl;
-        there = record { nav = refl; undiscarded = refl; unknown = refl; incarnation = refl; ready = refl };
+        there = record { nav = refl; undiscarded = refl; unknown = refl; incarnation = refl; ready = refl; lives = refl };
         stands = record { nav = refl; above = refl; owners = refl; wakes = refl; last = refl; met = refl; ever = (older, tt) };
         history = record { plain = ((refl, refl, refl), tt); rows = ((refl, older), tt); within = omega arith; added = refl; apart = (tt, tt) };
         died = λ p. (ap (λ (desk : Desk). desk.known) (each_empty p), ap (λ (desk : Desk). desk.killed) (each_empty p));

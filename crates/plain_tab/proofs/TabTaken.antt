@@ -143,6 +143,7 @@ pub record IsItsTaking (s : Seen) (d next_ : Document) (given : EntryId) (made :
   pub known : next_.is_known_dead ≡ d.is_known_dead
   pub incarnation : next_.incarnation ≡ d.incarnation
   pub ready : next_.is_ready ≡ d.is_ready
+  pub dead : next_.dead_by ≡ d.dead_by
   pub number : next_.last_applied ≡ entry.nr
   pub greater : d.last_applied < entry.nr
   pub its_maker : entry.maker ≡ d.nr.0
@@ -244,10 +245,10 @@ module _ (s : Seen) (d : Document) (place : Place) (event : ℕ) (tab : IsTab s 
         let its_number : IsUpTo (g d).last_applied d.nr entry = (λ its_. (let low : entry.nr ≤ entry.nr = omega arith in subst (λ (n : ℕ). entry.nr ≤ n) (sym is.number) low)) in
         let rises : d.last_applied ≤ (g d).last_applied = omega (arith, is.number, is.greater) in
         let kept_row : has_row top (applied s.history c).rows ≡ true = has_top (applied s.history c).rows is.history.plain (let low : (applied s.history c).current < length (applied s.history c).rows = is.history.within in omega (arith, low)) in
-        let sole : IsSole taking (g d) (given_entry entry place) = sole_made.taken_sole s d place event tab.sole tab.flowing made first under unheld its_request.q entry memo address c g its face_is its_request.there its_request.makes kept_row is.nav is.discarded is.known is.incarnation is.ready rises its_number is.history (calm_again s.requests taking.requests taken_courses tab.sole.calm) in
+        let sole : IsSole taking (g d) (given_entry entry place) = sole_made.taken_sole s d place event tab.sole tab.flowing made first under unheld its_request.q entry memo address c g its face_is its_request.there its_request.makes kept_row is.nav is.discarded is.known is.incarnation is.ready is.dead rises its_number is.history (calm_again s.requests taking.requests taken_courses tab.sole.calm) in
         record {
           sole = sole;
-          flowing = sole_made.taken_flowing s d place event tab.sole tab.flowing made first under unheld its_request.q entry memo address c g its face_is its_request.there its_request.makes kept_row is.nav is.discarded is.known is.incarnation is.ready rises its_number is.numbered is.is_entry;
+          flowing = sole_made.taken_flowing s d place event tab.sole tab.flowing made first under unheld its_request.q entry memo address c g its face_is its_request.there its_request.makes kept_row is.nav is.discarded is.known is.incarnation is.ready is.dead rises its_number is.numbered is.is_entry;
           pokes = pokes_on s taking d (g d) d.proc desk_delivered refl (λ desk. refl) (its.keeps_number d) (its.stays d) (λ all. all) tab.pokes;
           reason = given_reason (mover_same s taking place taken_courses tab.reason);
           once = subst (λ (l : List ReqId). AreOnce taking l) (without_itself made.req) (applied_once told_of (made.req ∷ []) event made.req actors.Coord c (λ no_load. off) told_once);
@@ -310,6 +311,7 @@ module _ (s : Seen) (d : Document) (place : Place) (event : ℕ) (tab : IsTab s 
         known = refl;
         incarnation = refl;
         ready = refl;
+        dead = refl;
         number = refl;
         greater = replaced_next;
         its_maker = replaced_maker;
@@ -379,6 +381,7 @@ module _ (s : Seen) (d : Document) (place : Place) (event : ℕ) (tab : IsTab s 
         known = refl;
         incarnation = refl;
         ready = refl;
+        dead = refl;
         number = refl;
         greater = pushed_next;
         its_maker = pushed_maker;

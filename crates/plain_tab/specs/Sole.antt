@@ -1,6 +1,6 @@
 -- A tab of one document: the top is awake on it, and all entries are the top's, in its document state.
 -- This project's own.
-use Rattle.std.specs.Prelude.{◌≡◌, ℕ, ◌≤◌, ◌<◌, true, false, List, [], ◌∷◌, length, Some}
+use Rattle.std.specs.Prelude.{◌≡◌, ℕ, ◌≤◌, ◌<◌, true, false, List, [], ◌∷◌, length, Some, None}
 use Rattle.tab_ids.specs.declared.DocId.{DocId}
 use Rattle.tab_ids.specs.declared.EntryId.{EntryId}
 use Rattle.tab_ids.specs.declared.ProcId.{ProcId}
@@ -55,6 +55,7 @@ pub record IsThere (d : Document) : Type 0 where
   pub unknown : d.is_known_dead ≡ false
   pub incarnation : d.incarnation ≡ 0
   pub ready : d.is_ready ≡ true
+  pub lives : d.dead_by ≡ None
 
 -- no process has died
 abbrev pub NoneDied : Seen → Type 0

@@ -1,0 +1,112 @@
+-- What the coordinator of a tab of one document keeps, from row to row, and that quiet is settled then.
+use Rattle.std.proofs.Common.{◌≡◌, ℕ, ◌+◌, ◌≤◌, true, List, [], ◌∷◌, Option, Some, None, refl, sym, ap, ◌∙◌, subst}
+use Rattle.std.specs.Prelude.{slice_get, option_map, IfSome}
+use Rattle.tab_ids.specs.declared.ReqId.{ReqId}
+use Rattle.tab_ids.specs.declared.Step.{Step}
+use Rattle.log_model.specs.History.{History}
+use Rattle.log_model.specs.Logs.{is_still}
+use Rattle.log_model.specs.Places.{top, pair_at, pair_in}
+use Rattle.log_model.specs.Order.{SameHistory}
+use Rattle.log_model.specs.Seen.{Seen, Asked, Document, Place, place_of, request_in}
+use Rattle.log_model.specs.Settled.{is_settled, is_settled_if_quiet}
+use Rattle.request_facts.proofs.Readers.{SameReads}
+use Rattle.plain_tab.specs.Between.{IsTab}
+use Rattle.plain_tab.specs.Calm.{OnlyRuns}
+use Rattle.plain_tab.specs.Courses.{Course, course}
+use Rattle.plain_tab.proofs.Quiets.{none_goes, rests_settled, settled_if_still}
+use Rattle.plain_tab.proofs.Soles.{place_found}
+use Rattle.plain_tab.proofs.TabRows.{going_same}
+use Rattle.step_index.specs.Held.{history_held}
+use Rattle.move_queue.specs.declared.queue_step.QueueStep.{QueueStep}
+use Rattle.coord.specs.Ties.{Ties}
+use Rattle.coord.specs.Queueing.{what_in}
+use Rattle.coord.specs.Standing.{heads_for, GoesOn, StandsFor}
+use Rattle.coord.specs.declared.coordinator.Coordinator.{Coordinator}
+use Rattle.coord.proofs.TurnLaws.{queued_on}
+
+-- ---- the queue goes on
+
+-- requests whose courses are the same ask the same
+asks_same : (s t : Seen) → SameReads course s.requests t.requests → (r : ReqId) → what_in t.requests r ≡ what_in s.requests r
+asks_same s t courses r =
+    sym (read (request_in t.requests r)) ∙ (ap (λ (o : Option Course). option_map (λ (x : Course). x.what) o) (courses r) ∙ read (request_in s.requests r))
+  where
+    read : (o : Option Asked) → option_map (λ (x : Course). x.what) (option_map course o) ≡ option_map (λ (q : Asked). q.what) o
+    read None = refl
+    read (Some q) = refl
+
+-- a row that leaves the courses of the requests, which of them runs, the history and the queue
+pub record LeavesRuns (s t : Seen) : Type 0 where
+  pub courses : SameReads course s.requests t.requests
+  pub none : OnlyRuns None s → OnlyRuns None t
+  pub one : (run : ReqId) (q : Asked) → request_in s.requests run ≡ Some q → OnlyRuns (Some run) s → OnlyRuns (Some run) t
+  pub history : t.history ≡ s.history
+  pub joined : t.joined ≡ s.joined
+
+pub goes_on_left : (s t : Seen) (place : Place) (waiting : List QueueStep) (running : Option (ReqId × Step)) → LeavesRuns s t → GoesOn s place waiting running → GoesOn t place waiting running
+unfolding going_same
+goes_on_left s t place waiting None left (rests, none) = (
+  record {
+    idle = record {
+      only = left.none rests.idle.only;
+      delivered = rests.idle.delivered;
+      row = rests.idle.row;
+      at = ap (λ (h : History). slice_get h.rows h.current) left.history ∙ rests.idle.at;
+      given = rests.idle.given;
+    };
+    none_waits = left.joined ∙ rests.none_waits;
+  },
+  none,
+)
+goes_on_left s t place waiting (Some run) left busy =
+    record {
+      going = going_same s t place left.courses left.one left.history (λ r first. ap (λ (l : List ReqId). slice_get l 0) left.joined ∙ first) busy.going;
+      its = busy.its;
+      leads_to = busy.leads_to;
+      behind = record {
+        rest = busy.behind.rest;
+        joined = left.joined ∙ busy.behind.joined;
+        queued = queued_on s.requests t.requests busy.behind.rest waiting (asks_same s t left.courses) busy.behind.queued;
+      };
+    }
+
+-- ---- the coordinator stands for the log still
+
+-- the document is the same one, in the same process, and was told the same
+pub record IsSameHome (d next : Document) : Type 0 where
+  pub nr : next.nr ≡ d.nr
+  pub proc : next.proc ≡ d.proc
+  pub told : next.told ≡ d.told
+
+pub stands_on : (s t : Seen) (c : Coordinator) (stands : StandsFor s c) (next : Document) → IsSameHome stands.d next → IsTab t next stands.place → Ties t c.tables.tree c.tables.jobs → t.jobs ≡ s.jobs → t.history ≡ s.history → GoesOn t stands.place c.queue.waiting c.running → StandsFor t c
+stands_on s t c stands next same tab ties jobs history goes_on =
+    record {
+      d = next;
+      place = stands.place;
+      tab = tab;
+      ties = ties;
+      history = subst (λ (h : History). SameHistory (history_held c.tables.store) h) (sym history) stands.history;
+      goes_on = goes_on;
+      lives = record {
+        d = next;
+        only = tab.sole.documents;
+        doc = stands.lives.doc ∙ (ap (λ (x : Document). x.nr) same_d ∙ sym same.nr);
+        proc = stands.lives.proc ∙ (ap (λ (x : Document). x.proc) same_d ∙ sym same.proc);
+        incarnation = stands.lives.incarnation;
+        paced = subst (λ (o : Option Place). IfSome o (λ (p : Place). p.epoch.0 ≤ t.jobs + 1)) (place_found s stands.d stands.place stands.tab.sole ∙ sym (place_found t next stands.place tab.sole)) (subst (λ (n : ℕ). IfSome (place_of s top) (λ (p : Place). p.epoch.0 ≤ n + 1)) (sym jobs) stands.lives.paced);
+      };
+      told = same.told ∙ (stands.told ∙ ap (λ (h : History). let o : Option (ℕ × ℕ) = Some (pair_in h.rows (heads_for c.running h.current)) in o) (sym history));
+      unparked = stands.unparked;
+    }
+  where
+    same_d : stands.lives.d ≡ stands.d
+    same_d = let both_ : stands.lives.d ∷ [] ≡ stands.d ∷ [] = sym stands.lives.only ∙ stands.tab.sole.documents in cc
+
+-- ---- quiet is settled
+
+pub stands_settled : (s : Seen) (c : Coordinator) → StandsFor s c → is_settled_if_quiet s ≡ true
+stands_settled s c stands = settled_if_still s (λ still. by_running still c.running stands.goes_on stands.told)
+  where
+    by_running : is_still s ≡ true → (running : Option (ReqId × Step)) → GoesOn s stands.place c.queue.waiting running → stands.d.told ≡ Some (pair_at s (heads_for running s.history.current)) → is_settled s ≡ true
+    by_running still None (rests, none) told = rests_settled s stands.d stands.place stands.tab still rests told
+    by_running still (Some run) busy told = elim (none_goes s stands.d stands.place stands.tab still busy.going.undelivered) [ ]
