@@ -469,8 +469,7 @@ def imports(body):
     return '\n'.join(out) + '\n'
 
 
-def log_of(name, sentence, rows):
-    return '-- %s\nabbrev pub %s : List LogRow\n%s =\n    %s\n\n' % (sentence, name, name, log_rows.terms(rows))
+PLAIN = 'record { keep = 3; sites = []; pages = []; first = codes "http://a.test/" }'
 
 
 def setting(header):
@@ -481,39 +480,129 @@ def setting(header):
 
 
 def header_of(name, header):
-    return 'abbrev pub %s_header : Header\n%s_header = %s\n\n' % (name, name, setting(header))
+    """The name of the settings, and their definition where they need one."""
+    if setting(header) == PLAIN:
+        return 'plain_settings', ''
+    return '%s_header' % name, 'abbrev pub %s_header : Header\n%s_header = %s\n\n' % (name, name, setting(header))
+
+
+def events(lines):
+    """The events of a log, or None where they aren't numbered by their places."""
+    out = []
+    for line in lines:
+        number, actor, _ = line.split(' ', 2)
+        if out and out[-1][0].split(' ')[:2] == [number, actor]:
+            out[-1].append(line)
+        elif int(number) == len(out):
+            out.append([line])
+        else:
+            return None
+    return out
+
+
+class Logs:
+    """The logs that were written so far: each is its events, or parts of an earlier one and events between them."""
+
+    # at least so many events are worth a name
+    LEAST = 3
+
+    def __init__(self, model):
+        self.model = model
+        self.written = {}
+        self.homes = {}
+
+    def term(self, lines, base):
+        """The log as a term; a broken one is the log of its scenario, the base, but for what was edited."""
+        found = events(lines)
+        if found is None:
+            return None
+        told = [[line.split(' ', 1)[1] for line in event] for event in found]
+        parts, at = [], 0
+        while at < len(told):
+            length, name, start = self.longest(told, at, base)
+            if length >= self.LEAST:
+                parts.append(self.part(name, start, start + length))
+                at += length
+            else:
+                parts.append(log_rows.event(self.model.rows(found[at])))
+                at += 1
+        return told, parts
+
+    def longest(self, told, at, base):
+        """The longest part of an earlier log that stands there: of the base any, of another its beginning."""
+        best = 0, None, None
+        for name, other in ([(base, self.written[base])] if base else []) + list(self.written.items()):
+            for start in range(len(other)) if name == base else ([0] if at == 0 else []):
+                length = 0
+                while at + length < len(told) and start + length < len(other) and told[at + length] == other[start + length]:
+                    length += 1
+                if length > best[0]:
+                    best = length, name, start
+        return best
+
+    def part(self, name, start, end):
+        whole = len(self.written[name])
+        if end == whole:
+            return 'since %d %s' % (start, name) if start else name
+        return 'between %d %d %s' % (start, end, name) if start else 'before %d %s' % (end, name)
+
+    def defined(self, name, sentence, lines, base=None):
+        """The definition of a log, and the term of its rows."""
+        found = self.term(lines, base)
+        if found is None:
+            return '-- %s\nabbrev pub %s : List LogRow\n%s =\n    %s\n\n' % (sentence, name, name, log_rows.terms(self.model.rows(lines))), name
+        self.written[name], parts = found
+        term = '[]' if parts[-1].startswith('by_') else parts.pop()
+        for part in reversed(parts):
+            term = '%s\n    %s %s' % (part, '∷' if part.startswith('by_') else '++', term)
+        return '-- %s\nabbrev pub %s : List Event\n%s =\n    %s\n\n' % (sentence, name, name, term), '(log_of %s)' % name
+
+    def header(self, title, body, module):
+        """The head of a file, with what it takes from others."""
+        taken = {}
+        for name, home in self.homes.items():
+            if is_used(name, body):
+                taken.setdefault(home, []).append(name)
+        for name in self.written:
+            self.homes.setdefault(name, module)
+        uses = ''.join('use Rattle.log_examples.proofs.%s.{%s}\n' % (home, ', '.join(names)) for home, names in taken.items())
+        return '-- %s\n-- A log is its events: those before one of another log, since one, or between two, and its own.\n%s%s\n' % (title, imports(body), uses)
 
 
 def lemma_of(name, what, claim, proof):
     return 'pub %s_%s : %s\n%s\n%s_%s = %s\n' % (name, what, claim, log_rows.UNFOLDING, name, what, proof)
 
 
-def legal_lemma(name, sentence, rows, header):
+def legal_lemma(logs, name, sentence, lines, header):
     fields = '; '.join('%s = refl' % field for field in FIELDS)
+    defined, log = logs.defined(name, sentence, lines)
+    settings, also = header_of(name, header)
     lemmas = [
-        ('is_legal', 'IsLegal %s' % name, 'record { %s }' % fields),
-        ('ends_loads', 'LoadsEndInTime %s' % name, 'refl'),
-        ('acts_at_once', 'ActsAtOnce %s' % name, 'record { told = refl; stepped = refl; in_time = refl }'),
-        ('suits', 'Suits %s_header %s' % (name, name), 'record { opened = refl; placed = refl; kept = refl }'),
+        ('is_legal', 'IsLegal %s' % log, 'record { %s }' % fields),
+        ('ends_loads', 'LoadsEndInTime %s' % log, 'refl'),
+        ('acts_at_once', 'ActsAtOnce %s' % log, 'record { told = refl; stepped = refl; in_time = refl }'),
+        ('suits', 'Suits %s %s' % (settings, log), 'record { opened = refl; placed = refl; kept = refl }'),
     ]
-    return log_of(name, sentence, rows) + header_of(name, header) + '\n'.join(lemma_of(name, *lemma) for lemma in lemmas)
+    return defined + also + '\n'.join(lemma_of(name, *lemma) for lemma in lemmas)
 
 
-def broken_lemma(name, sentence, rows, claim, fact, header=None):
-    return log_of(name, sentence, rows) + (header_of(name, header) if header else '') + 'pub %s_is_refused : %s → ⊥\n%s\n%s_is_refused holds = false≢true %s\n' % (
-        name, claim, log_rows.UNFOLDING, name, fact)
+def broken_lemma(logs, name, sentence, lines, base, claim, fact):
+    """The lemma that a claim, with the log in the place of its `%s`, is refuted."""
+    defined, log = logs.defined(name, sentence, lines, base)
+    return defined + 'pub %s_is_refused : %s → ⊥\n%s\n%s_is_refused holds = false≢true %s\n' % (
+        name, claim % log, log_rows.UNFOLDING, name, fact), log
 
 
-def module(folder, name, title, lemmas):
+def module(logs, folder, name, title, lemmas):
     body = '\n'.join(lemmas)
     with open(os.path.join(folder, name + '.antt'), 'w') as file:
-        file.write('-- %s\n%s\n%s' % (title, imports(body), body))
+        file.write(logs.header(title, body, name) + body)
     return name
 
 
 def gate(model):
     folder = os.path.join(TOP, 'crates', 'log_examples', 'proofs')
-    names, played, texts, legal, broken = [], {}, {}, 0, 0
+    names, played, texts, legal, broken, logs = [], {}, {}, 0, 0, Logs(model)
     for topic, scenarios in SCENARIOS:
         lemmas = []
         for name, sentence, text in scenarios:
@@ -521,39 +610,41 @@ def gate(model):
             if model.verdict(lines) is not None:
                 raise SystemExit('%s: the checker finds clause %s' % (name, model.verdict(lines)))
             header, _ = model.check.read_scenario(text.replace('|', '\n'))
-            lemmas.append(legal_lemma(name, sentence, model.rows(lines), header))
+            lemmas.append(legal_lemma(logs, name, sentence, lines, header))
             texts[name] = text
             legal += 1
-        names.append(module(folder, topic, 'Legal logs: %s.' % topic.lower(), lemmas))
+        names.append(module(logs, folder, topic, 'Legal logs: %s.' % topic.lower(), lemmas))
     for field, examples in BROKEN:
         lemmas = []
         for name, sentence, scenario, edits in examples:
             lines = edited(played[scenario], edits)
             if (model.verdict(lines) is None) != (name in BEYOND_THE_CHECKER):
                 raise SystemExit('%s: the checker judges otherwise' % name)
-            lemmas.append(broken_lemma(name, sentence, model.rows(lines), 'IsLegal %s' % name, 'holds.' + field))
+            lemmas.append(broken_lemma(logs, name, sentence, lines, scenario, 'IsLegal %s', 'holds.' + field)[0])
             broken += 1
-        names.append(module(folder, 'Not' + field.capitalize(), 'Broken logs, each refused by the field `%s`.' % field, lemmas))
-    late = [broken_lemma(name, sentence, model.rows(edited(played[scenario], edits)), 'LoadsEndInTime ' + name, 'holds')
+        names.append(module(logs, folder, 'Not' + field.capitalize(), 'Broken logs, each refused by the field `%s`.' % field, lemmas))
+    late = [broken_lemma(logs, name, sentence, edited(played[scenario], edits), scenario, 'LoadsEndInTime %s', 'holds')[0]
             for name, sentence, scenario, edits in LATE]
-    names.append(module(folder, 'NotEnding', 'Logs in which a load ends too late.', late))
+    names.append(module(logs, folder, 'NotEnding', 'Logs in which a load ends too late.', late))
     put_off, lawful = [], 0
     for name, sentence, scenario, field, edits in PUT_OFF:
-        rows, lemma = model.rows(edited(played[scenario], edits)), ''
-        if model.verdict(edited(played[scenario], edits)) is None:
+        lines = edited(played[scenario], edits)
+        lemma, log = broken_lemma(logs, name, sentence, lines, scenario, 'ActsAtOnce %s', 'holds.' + field)
+        if model.verdict(lines) is None:
             lawful += 1
-            lemma = '\n-- a legal log, so that nothing else refuses it\n' + lemma_of(name, 'is_legal', 'IsLegal %s' % name, 'record { %s }' % '; '.join('%s = refl' % f for f in FIELDS))
-        put_off.append(broken_lemma(name, sentence, rows, 'ActsAtOnce ' + name, 'holds.' + field) + lemma)
-    names.append(module(folder, 'NotAtOnce', 'Logs in which the tab puts off what it could do, or does it in vain.', put_off))
+            lemma += '\n-- a legal log, so that nothing else refuses it\n' + lemma_of(name, 'is_legal', 'IsLegal %s' % log, 'record { %s }' % '; '.join('%s = refl' % f for f in FIELDS))
+        put_off.append(lemma)
+    names.append(module(logs, folder, 'NotAtOnce', 'Logs in which the tab puts off what it could do, or does it in vain.', put_off))
     unsuited = []
     for name, sentence, scenario, field, (part, value) in UNSUITED:
         header, _ = model.check.read_scenario(texts[scenario].replace('|', '\n'))
         setattr(header, part, value)
-        rows = model.rows(played[scenario])
-        if not model.check.suits(rows, header):
+        if not model.check.suits(model.rows(played[scenario]), header):
             raise SystemExit('%s: the checker finds that it suits' % name)
-        unsuited.append(broken_lemma(name, sentence, rows, 'Suits %s_header %s' % (name, name), 'holds.' + field, header))
-    names.append(module(folder, 'NotSuited', 'Logs that do not suit other settings than their own.', unsuited))
+        settings, also = header_of(name, header)
+        unsuited.append('-- %s\n%spub %s_is_refused : Suits %s (log_of %s) → ⊥\n%s\n%s_is_refused holds = false≢true holds.%s\n' % (
+            sentence, also, name, settings, scenario, log_rows.UNFOLDING, name, field))
+    names.append(module(logs, folder, 'NotSuited', 'Logs that do not suit other settings than their own.', unsuited))
     with open(os.path.join(folder, 'Lib.antt'), 'w') as file:
         file.write(''.join('pub mod %s\n' % name for name in names))
     print('%d legal logs, %d broken ones, %d in which a load ends late, %d that do not act at once (%d of them legal), %d that do not suit' % (

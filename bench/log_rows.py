@@ -1,4 +1,4 @@
-"""Rows of a log text as terms of the definitions: `term(row)` for one row, `terms(rows)` for a log."""
+"""Rows and events of a log text as terms of the definitions: `term(row)` for one row, `event(rows)` for an event."""
 import os
 import re
 
@@ -174,6 +174,14 @@ def terms(rows):
     return '\n    ∷ '.join([term(row) for row in rows] + ['[]'])
 
 
+def event(rows):
+    """The event of these rows, which have one number and one actor: its own row, and those after it."""
+    actor = rows[0].actor
+    who = 'by_proc %s' % actor[1:] if actor[0] == 'p' else {'start': 'by_start', 'ui': 'by_ui', 'co': 'by_coord'}[actor]
+    rest = '[]' if len(rows) == 1 else '(%s)' % ' ∷ '.join([kind(row) for row in rows[1:]] + ['[]'])
+    return '%s (%s) %s' % (who, kind(rows[0]), rest)
+
+
 # the words that a proof by computing unfolds, by the file of definitions that has them
 OPAQUE = ['address/Addresses', 'log_model/Events', 'log_model/Formed', 'log_model/Legal', 'log_model/LoadsEndInTime', 'log_model/ActsAtOnce']
 
@@ -196,7 +204,7 @@ def imported(file, more=()):
 
 
 # what a file of logs imports
-HEAD = '''use Rattle.std.proofs.Common.{◌≡◌, ℕ, ℤ, pos, negsuc, Bool, true, false, List, [], ◌∷◌, codes, refl, Option, Some, None}
+HEAD = '''use Rattle.std.proofs.Common.{◌≡◌, ℕ, ℤ, pos, negsuc, Bool, true, false, List, [], ◌∷◌, ◌++◌, codes, refl, Option, Some, None}
 use Rattle.std.proofs.lemmas.Bool.{false≢true}
 use Rattle.url.proofs.OnLiterals.{url_on_literals}
 ''' + imported('address/Addresses') + '''use Rattle.log_model.specs.declared.action.Action.TheVariants as actions
@@ -217,4 +225,5 @@ use Rattle.log_model.specs.declared.row_kind.RowKind.TheVariants as rows
 ''' + imported('log_model/Events') + imported('log_model/Formed') + imported('log_model/Legal', ['IsLegal']) + imported('log_model/LoadsEndInTime', ['LoadsEndInTime']) + imported('log_model/ActsAtOnce', ['ActsAtOnce']) + '''use Rattle.log_model.specs.Suits.{Suits}
 use Rattle.log_model.specs.declared.header.Header.{Header}
 use Rattle.log_examples.specs.Rows.{n, s, r, p, t, x, d, j, e, epoch, at, sent, made}
+use Rattle.log_examples.specs.Logs.{Event, by_start, by_ui, by_coord, by_proc, log_of, before, since, between, plain_settings}
 '''

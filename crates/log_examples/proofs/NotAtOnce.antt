@@ -1,390 +1,197 @@
 -- Logs in which the tab puts off what it could do, or does it in vain.
-use Rattle.std.proofs.Common.{negsuc, true, false, List, [], ◌∷◌, codes, refl, Some, None}
+-- A log is its events: those before one of another log, since one, or between two, and its own.
+use Rattle.std.proofs.Common.{negsuc, false, List, [], ◌∷◌, ◌++◌, codes, refl, Some, None}
 use Rattle.std.proofs.lemmas.Bool.{false≢true}
 use Rattle.url.proofs.OnLiterals.{url_on_literals}
 use Rattle.address.specs.Addresses.{is_web, is_blank_url, judged, judged_parse, read_against, address_of, url_of, resolved, with_fragment, base_of, fragment_of, origin_text, origin_of, has_same_base, is_rewritable}
-use Rattle.log_model.specs.declared.action.Action.TheVariants as actions
 use Rattle.log_model.specs.declared.change.Change.TheVariants as changes
 use Rattle.log_model.specs.declared.job.Task.TheVariants as tasks
 use Rattle.log_model.specs.declared.job.Why.TheVariants as whys
-use Rattle.log_model.specs.declared.made.What.TheVariants as whats
-use Rattle.log_model.specs.declared.outcome.Cause.TheVariants as drops
-use Rattle.log_model.specs.declared.outcome.Outcome.TheVariants as outcomes
 use Rattle.log_model.specs.declared.request.Mode.TheVariants as modes
 use Rattle.log_model.specs.declared.request.Request.TheVariants as requests
-use Rattle.log_model.specs.declared.row_kind.Actor.TheVariants as actors
-use Rattle.log_model.specs.declared.row_kind.LogRow.{LogRow}
 use Rattle.log_model.specs.declared.row_kind.RowKind.TheVariants as rows
 use Rattle.log_model.specs.Events.{events_of, each_event, after_opening, AtEachEvent}
 use Rattle.log_model.specs.Formed.{is_numbered}
 use Rattle.log_model.specs.Legal.{IsLegal, opens, is_formed, is_once, is_caused, is_queued, is_ordered, is_checked, ends_settled}
 use Rattle.log_model.specs.LoadsEndInTime.{loads_end}
 use Rattle.log_model.specs.ActsAtOnce.{ActsAtOnce, ends_told, ends_stepped, goes_in_time}
-use Rattle.log_examples.specs.Rows.{n, s, r, p, t, d, j, e, epoch, at, sent, made}
+use Rattle.log_examples.specs.Rows.{n, s, r, p, t, d, e, epoch, sent}
+use Rattle.log_examples.specs.Logs.{Event, by_start, by_ui, by_coord, log_of, before, since}
+use Rattle.log_examples.proofs.Loads.{no_document_kept}
+use Rattle.log_examples.proofs.Pending.{two_pushes_on_their_way, push_behind_a_traversal, traversal_beside_a_push, load_beside_a_push, load_over_a_frame, reload_of_a_removed_frame}
 
 -- A push is applied, and its update waits for the next one.
-abbrev pub update_put_off : List LogRow
+abbrev pub update_put_off : List Event
 update_put_off =
-    at 0 actors.Start (rows.Opened (e 0 1) (s 1) (d 1) (p 1) None (codes "http://a.test/"))
-    ∷ at 1 actors.Ui (rows.Accepted (r 1) (Some (d 1)) (requests.Poke (n 0) (actions.Push (Some (codes "s")) (Some (codes "/1")))))
-    ∷ at 2 actors.Ui (rows.Accepted (r 2) (Some (d 1)) (requests.Poke (n 0) (actions.Push (Some (codes "t")) (Some (codes "/2")))))
-    ∷ at 3 (actors.Proc (p 1)) (made 1 1 1 1 (whats.Push (e 1 1) (Some (codes "s")) (codes "http://a.test/1")))
-    ∷ at 4 (actors.Proc (p 1)) (made 1 2 1 1 (whats.Push (e 1 2) (Some (codes "t")) (codes "http://a.test/2")))
-    ∷ at 5 actors.Coord (rows.Delivered (p 1))
-    ∷ at 5 actors.Coord (rows.Applied (r 1) (changes.Push (n 0) (e 1 1) (s 1) (codes "http://a.test/1") (Some (codes "s"))))
+    before 5 two_pushes_on_their_way
+    ++ by_coord (rows.Delivered (p 1)) (rows.Applied (r 1) (changes.Push (n 0) (e 1 1) (s 1) (codes "http://a.test/1") (Some (codes "s"))) ∷ [])
     ∷ []
 
-pub update_put_off_is_refused : ActsAtOnce update_put_off → ⊥
+pub update_put_off_is_refused : ActsAtOnce (log_of update_put_off) → ⊥
 unfolding url_on_literals is_web is_blank_url judged judged_parse read_against address_of url_of resolved with_fragment base_of fragment_of origin_text origin_of has_same_base is_rewritable events_of each_event after_opening AtEachEvent is_numbered opens is_formed is_once is_caused is_queued is_ordered is_checked ends_settled loads_end ends_told ends_stepped goes_in_time
 update_put_off_is_refused holds = false≢true holds.told
 
 -- a legal log, so that nothing else refuses it
-pub update_put_off_is_legal : IsLegal update_put_off
+pub update_put_off_is_legal : IsLegal (log_of update_put_off)
 unfolding url_on_literals is_web is_blank_url judged judged_parse read_against address_of url_of resolved with_fragment base_of fragment_of origin_text origin_of has_same_base is_rewritable events_of each_event after_opening AtEachEvent is_numbered opens is_formed is_once is_caused is_queued is_ordered is_checked ends_settled loads_end ends_told ends_stepped goes_in_time
 update_put_off_is_legal = record { opened = refl; numbered = refl; formed = refl; once = refl; caused = refl; queued = refl; ordered = refl; checked = refl; settled = refl }
 
 -- A traversal runs on though all stand at its goal.
-abbrev pub traversal_not_applied : List LogRow
+abbrev pub traversal_not_applied : List Event
 traversal_not_applied =
-    at 0 actors.Start (rows.Opened (e 0 1) (s 1) (d 1) (p 1) None (codes "http://a.test/"))
-    ∷ at 1 actors.Ui (rows.Accepted (r 1) (Some (d 1)) (requests.Poke (n 0) (actions.Push (Some (codes "s")) (Some (codes "/1")))))
-    ∷ at 2 (actors.Proc (p 1)) (made 1 1 1 1 (whats.Push (e 1 1) (Some (codes "s")) (codes "http://a.test/1")))
-    ∷ at 3 actors.Coord (rows.Delivered (p 1))
-    ∷ at 3 actors.Coord (rows.Applied (r 1) (changes.Push (n 0) (e 1 1) (s 1) (codes "http://a.test/1") (Some (codes "s"))))
-    ∷ at 3 actors.Coord (sent 1 1 0 1 (whys.Req (r 1)) (tasks.Update 2 1))
-    ∷ at 4 (actors.Proc (p 1)) (rows.Taken (p 1) (j 1) true false)
-    ∷ at 5 (actors.Proc (p 1)) (rows.Finished (p 1) (j 1) outcomes.Updated)
-    ∷ at 6 actors.Coord (rows.Delivered (p 1))
-    ∷ at 7 actors.Ui (rows.Accepted (r 2) None (requests.Go (negsuc 0)))
-    ∷ at 7 actors.Ui (rows.Started (r 2) (Some (t 0)))
-    ∷ at 7 actors.Ui (sent 2 1 0 1 (whys.Req (r 2)) (tasks.Activate (e 0 1) (epoch 2) 2 0 None (codes "http://a.test/")))
-    ∷ at 8 (actors.Proc (p 1)) (rows.Taken (p 1) (j 2) true false)
-    ∷ at 9 (actors.Proc (p 1)) (rows.Finished (p 1) (j 2) outcomes.Activated)
-    ∷ at 10 actors.Ui (rows.Accepted (r 3) (Some (d 1)) (requests.Poke (n 0) (actions.Push (Some (codes "t")) (Some (codes "/2")))))
-    ∷ at 11 actors.Coord (rows.Delivered (p 1))
+    before 11 push_behind_a_traversal
+    ++ by_coord (rows.Delivered (p 1)) []
     ∷ []
 
-pub traversal_not_applied_is_refused : ActsAtOnce traversal_not_applied → ⊥
+pub traversal_not_applied_is_refused : ActsAtOnce (log_of traversal_not_applied) → ⊥
 unfolding url_on_literals is_web is_blank_url judged judged_parse read_against address_of url_of resolved with_fragment base_of fragment_of origin_text origin_of has_same_base is_rewritable events_of each_event after_opening AtEachEvent is_numbered opens is_formed is_once is_caused is_queued is_ordered is_checked ends_settled loads_end ends_told ends_stepped goes_in_time
 traversal_not_applied_is_refused holds = false≢true holds.stepped
 
 -- a legal log, so that nothing else refuses it
-pub traversal_not_applied_is_legal : IsLegal traversal_not_applied
+pub traversal_not_applied_is_legal : IsLegal (log_of traversal_not_applied)
 unfolding url_on_literals is_web is_blank_url judged judged_parse read_against address_of url_of resolved with_fragment base_of fragment_of origin_text origin_of has_same_base is_rewritable events_of each_event after_opening AtEachEvent is_numbered opens is_formed is_once is_caused is_queued is_ordered is_checked ends_settled loads_end ends_told ends_stepped goes_in_time
 traversal_not_applied_is_legal = record { opened = refl; numbered = refl; formed = refl; once = refl; caused = refl; queued = refl; ordered = refl; checked = refl; settled = refl }
 
 -- A traversal waits though none runs and all stand.
-abbrev pub traversal_not_begun : List LogRow
+abbrev pub traversal_not_begun : List Event
 traversal_not_begun =
-    at 0 actors.Start (rows.Opened (e 0 1) (s 1) (d 1) (p 1) None (codes "http://a.test/"))
-    ∷ at 1 actors.Ui (rows.Accepted (r 1) (Some (d 1)) (requests.Poke (n 0) (actions.Push (Some (codes "s")) (Some (codes "/1")))))
-    ∷ at 2 (actors.Proc (p 1)) (made 1 1 1 1 (whats.Push (e 1 1) (Some (codes "s")) (codes "http://a.test/1")))
-    ∷ at 3 actors.Coord (rows.Delivered (p 1))
-    ∷ at 3 actors.Coord (rows.Applied (r 1) (changes.Push (n 0) (e 1 1) (s 1) (codes "http://a.test/1") (Some (codes "s"))))
-    ∷ at 3 actors.Coord (sent 1 1 0 1 (whys.Req (r 1)) (tasks.Update 2 1))
-    ∷ at 4 (actors.Proc (p 1)) (rows.Taken (p 1) (j 1) true false)
-    ∷ at 5 (actors.Proc (p 1)) (rows.Finished (p 1) (j 1) outcomes.Updated)
-    ∷ at 6 actors.Coord (rows.Delivered (p 1))
-    ∷ at 7 actors.Ui (rows.Accepted (r 2) (Some (d 1)) (requests.Poke (n 0) (actions.Push (Some (codes "t")) (Some (codes "/2")))))
-    ∷ at 8 actors.Ui (rows.Accepted (r 3) None (requests.Go (negsuc 0)))
+    before 8 traversal_beside_a_push
+    ++ by_ui (rows.Accepted (r 3) None (requests.Go (negsuc 0))) []
     ∷ []
 
-pub traversal_not_begun_is_refused : ActsAtOnce traversal_not_begun → ⊥
+pub traversal_not_begun_is_refused : ActsAtOnce (log_of traversal_not_begun) → ⊥
 unfolding url_on_literals is_web is_blank_url judged judged_parse read_against address_of url_of resolved with_fragment base_of fragment_of origin_text origin_of has_same_base is_rewritable events_of each_event after_opening AtEachEvent is_numbered opens is_formed is_once is_caused is_queued is_ordered is_checked ends_settled loads_end ends_told ends_stepped goes_in_time
 traversal_not_begun_is_refused holds = false≢true holds.stepped
 
 -- a legal log, so that nothing else refuses it
-pub traversal_not_begun_is_legal : IsLegal traversal_not_begun
+pub traversal_not_begun_is_legal : IsLegal (log_of traversal_not_begun)
 unfolding url_on_literals is_web is_blank_url judged judged_parse read_against address_of url_of resolved with_fragment base_of fragment_of origin_text origin_of has_same_base is_rewritable events_of each_event after_opening AtEachEvent is_numbered opens is_formed is_once is_caused is_queued is_ordered is_checked ends_settled loads_end ends_told ends_stepped goes_in_time
 traversal_not_begun_is_legal = record { opened = refl; numbered = refl; formed = refl; once = refl; caused = refl; queued = refl; ordered = refl; checked = refl; settled = refl }
 
 -- A load waits though its document is there and all stand.
-abbrev pub ready_load_not_applied : List LogRow
+abbrev pub ready_load_not_applied : List Event
 ready_load_not_applied =
-    at 0 actors.Start (rows.Opened (e 0 1) (s 1) (d 1) (p 1) None (codes "http://a.test/"))
-    ∷ at 1 actors.Ui (rows.Accepted (r 1) None (requests.Load (n 0) modes.Auto (codes "http://a.test/1")))
-    ∷ at 1 actors.Ui (rows.Started (r 1) None)
-    ∷ at 1 actors.Ui (sent 1 1 0 2 (whys.Req (r 1)) (tasks.Populate (n 0) (s 2) (codes "http://a.test/1") false))
-    ∷ at 2 (actors.Proc (p 1)) (rows.Taken (p 1) (j 1) true false)
-    ∷ at 3 (actors.Proc (p 1)) (rows.Finished (p 1) (j 1) (outcomes.Populated None))
-    ∷ at 4 actors.Ui (rows.Accepted (r 2) (Some (d 1)) (requests.Poke (n 0) (actions.Push (Some (codes "s")) (Some (codes "/2")))))
-    ∷ at 5 actors.Coord (rows.Delivered (p 1))
+    before 5 load_beside_a_push
+    ++ by_coord (rows.Delivered (p 1)) []
     ∷ []
 
-pub ready_load_not_applied_is_refused : ActsAtOnce ready_load_not_applied → ⊥
+pub ready_load_not_applied_is_refused : ActsAtOnce (log_of ready_load_not_applied) → ⊥
 unfolding url_on_literals is_web is_blank_url judged judged_parse read_against address_of url_of resolved with_fragment base_of fragment_of origin_text origin_of has_same_base is_rewritable events_of each_event after_opening AtEachEvent is_numbered opens is_formed is_once is_caused is_queued is_ordered is_checked ends_settled loads_end ends_told ends_stepped goes_in_time
 ready_load_not_applied_is_refused holds = false≢true holds.stepped
 
 -- a legal log, so that nothing else refuses it
-pub ready_load_not_applied_is_legal : IsLegal ready_load_not_applied
+pub ready_load_not_applied_is_legal : IsLegal (log_of ready_load_not_applied)
 unfolding url_on_literals is_web is_blank_url judged judged_parse read_against address_of url_of resolved with_fragment base_of fragment_of origin_text origin_of has_same_base is_rewritable events_of each_event after_opening AtEachEvent is_numbered opens is_formed is_once is_caused is_queued is_ordered is_checked ends_settled loads_end ends_told ends_stepped goes_in_time
 ready_load_not_applied_is_legal = record { opened = refl; numbered = refl; formed = refl; once = refl; caused = refl; queued = refl; ordered = refl; checked = refl; settled = refl }
 
 -- A document is sent a Discard, and another one.
-abbrev pub order_to_a_discarded_document : List LogRow
+abbrev pub order_to_a_discarded_document : List Event
 order_to_a_discarded_document =
-    at 0 actors.Start (rows.Opened (e 0 1) (s 1) (d 1) (p 1) None (codes "http://a.test/"))
-    ∷ at 1 actors.Ui (rows.Accepted (r 1) None (requests.Load (n 0) modes.Auto (codes "http://a.test/1")))
-    ∷ at 1 actors.Ui (rows.Started (r 1) None)
-    ∷ at 1 actors.Ui (sent 1 1 0 2 (whys.Req (r 1)) (tasks.Populate (n 0) (s 2) (codes "http://a.test/1") false))
-    ∷ at 2 (actors.Proc (p 1)) (rows.Taken (p 1) (j 1) true false)
-    ∷ at 3 (actors.Proc (p 1)) (rows.Finished (p 1) (j 1) (outcomes.Populated None))
-    ∷ at 4 actors.Coord (rows.Delivered (p 1))
-    ∷ at 4 actors.Coord (rows.Applied (r 1) (changes.Push (n 0) (e 0 2) (s 2) (codes "http://a.test/1") None))
-    ∷ at 4 actors.Coord (sent 2 1 0 1 (whys.Req (r 1)) tasks.Discard)
-    ∷ at 4 actors.Coord (sent 3 1 0 1 (whys.Req (r 1)) tasks.Discard)
-    ∷ at 4 actors.Coord (sent 4 1 0 2 (whys.Req (r 1)) (tasks.Activate (e 0 2) (epoch 2) 2 1 None (codes "http://a.test/1")))
+    before 4 no_document_kept
+    ++ by_coord (rows.Delivered (p 1)) (rows.Applied (r 1) (changes.Push (n 0) (e 0 2) (s 2) (codes "http://a.test/1") None) ∷ sent 2 1 0 1 (whys.Req (r 1)) tasks.Discard ∷ sent 3 1 0 1 (whys.Req (r 1)) tasks.Discard ∷ sent 4 1 0 2 (whys.Req (r 1)) (tasks.Activate (e 0 2) (epoch 2) 2 1 None (codes "http://a.test/1")) ∷ [])
     ∷ []
 
-pub order_to_a_discarded_document_is_refused : ActsAtOnce order_to_a_discarded_document → ⊥
+pub order_to_a_discarded_document_is_refused : ActsAtOnce (log_of order_to_a_discarded_document) → ⊥
 unfolding url_on_literals is_web is_blank_url judged judged_parse read_against address_of url_of resolved with_fragment base_of fragment_of origin_text origin_of has_same_base is_rewritable events_of each_event after_opening AtEachEvent is_numbered opens is_formed is_once is_caused is_queued is_ordered is_checked ends_settled loads_end ends_told ends_stepped goes_in_time
 order_to_a_discarded_document_is_refused holds = false≢true holds.in_time
 
 -- a legal log, so that nothing else refuses it
-pub order_to_a_discarded_document_is_legal : IsLegal order_to_a_discarded_document
+pub order_to_a_discarded_document_is_legal : IsLegal (log_of order_to_a_discarded_document)
 unfolding url_on_literals is_web is_blank_url judged judged_parse read_against address_of url_of resolved with_fragment base_of fragment_of origin_text origin_of has_same_base is_rewritable events_of each_event after_opening AtEachEvent is_numbered opens is_formed is_once is_caused is_queued is_ordered is_checked ends_settled loads_end ends_told ends_stepped goes_in_time
 order_to_a_discarded_document_is_legal = record { opened = refl; numbered = refl; formed = refl; once = refl; caused = refl; queued = refl; ordered = refl; checked = refl; settled = refl }
 
 -- A document is frozen twice.
-abbrev pub frozen_twice : List LogRow
+abbrev pub frozen_twice : List Event
 frozen_twice =
-    at 0 actors.Start (rows.Opened (e 0 1) (s 1) (d 1) (p 1) None (codes "http://a.test/"))
-    ∷ at 1 actors.Ui (rows.Accepted (r 1) None (requests.Load (n 0) modes.Auto (codes "http://a.test/1")))
-    ∷ at 1 actors.Ui (rows.Started (r 1) None)
-    ∷ at 1 actors.Ui (sent 1 1 0 2 (whys.Req (r 1)) (tasks.Populate (n 0) (s 2) (codes "http://a.test/1") false))
-    ∷ at 2 (actors.Proc (p 1)) (rows.Taken (p 1) (j 1) true false)
-    ∷ at 3 (actors.Proc (p 1)) (rows.Finished (p 1) (j 1) (outcomes.Populated None))
-    ∷ at 4 actors.Ui (rows.Accepted (r 2) (Some (d 1)) (requests.Poke (n 0) (actions.Push (Some (codes "s")) (Some (codes "/2")))))
-    ∷ at 5 actors.Coord (rows.Delivered (p 1))
-    ∷ at 5 actors.Coord (rows.Applied (r 1) (changes.Push (n 0) (e 0 2) (s 2) (codes "http://a.test/1") None))
-    ∷ at 5 actors.Coord (sent 2 1 0 1 (whys.Req (r 1)) tasks.Freeze)
-    ∷ at 5 actors.Coord (sent 3 1 0 1 (whys.Req (r 1)) tasks.Freeze)
-    ∷ at 5 actors.Coord (sent 4 1 0 2 (whys.Req (r 1)) (tasks.Activate (e 0 2) (epoch 2) 2 1 None (codes "http://a.test/1")))
+    before 5 load_beside_a_push
+    ++ by_coord (rows.Delivered (p 1)) (rows.Applied (r 1) (changes.Push (n 0) (e 0 2) (s 2) (codes "http://a.test/1") None) ∷ sent 2 1 0 1 (whys.Req (r 1)) tasks.Freeze ∷ sent 3 1 0 1 (whys.Req (r 1)) tasks.Freeze ∷ sent 4 1 0 2 (whys.Req (r 1)) (tasks.Activate (e 0 2) (epoch 2) 2 1 None (codes "http://a.test/1")) ∷ [])
     ∷ []
 
-pub frozen_twice_is_refused : ActsAtOnce frozen_twice → ⊥
+pub frozen_twice_is_refused : ActsAtOnce (log_of frozen_twice) → ⊥
 unfolding url_on_literals is_web is_blank_url judged judged_parse read_against address_of url_of resolved with_fragment base_of fragment_of origin_text origin_of has_same_base is_rewritable events_of each_event after_opening AtEachEvent is_numbered opens is_formed is_once is_caused is_queued is_ordered is_checked ends_settled loads_end ends_told ends_stepped goes_in_time
 frozen_twice_is_refused holds = false≢true holds.in_time
 
 -- a legal log, so that nothing else refuses it
-pub frozen_twice_is_legal : IsLegal frozen_twice
+pub frozen_twice_is_legal : IsLegal (log_of frozen_twice)
 unfolding url_on_literals is_web is_blank_url judged judged_parse read_against address_of url_of resolved with_fragment base_of fragment_of origin_text origin_of has_same_base is_rewritable events_of each_event after_opening AtEachEvent is_numbered opens is_formed is_once is_caused is_queued is_ordered is_checked ends_settled loads_end ends_told ends_stepped goes_in_time
 frozen_twice_is_legal = record { opened = refl; numbered = refl; formed = refl; once = refl; caused = refl; queued = refl; ordered = refl; checked = refl; settled = refl }
 
 -- While a traversal runs an entry is shown for a request that has ended.
-abbrev pub shown_for_another_request : List LogRow
+abbrev pub shown_for_another_request : List Event
 shown_for_another_request =
-    at 0 actors.Start (rows.Opened (e 0 1) (s 1) (d 1) (p 1) None (codes "http://a.test/"))
-    ∷ at 1 actors.Ui (rows.Accepted (r 1) (Some (d 1)) (requests.Poke (n 0) (actions.Push (Some (codes "s")) (Some (codes "/1")))))
-    ∷ at 2 (actors.Proc (p 1)) (made 1 1 1 1 (whats.Push (e 1 1) (Some (codes "s")) (codes "http://a.test/1")))
-    ∷ at 3 actors.Coord (rows.Delivered (p 1))
-    ∷ at 3 actors.Coord (rows.Applied (r 1) (changes.Push (n 0) (e 1 1) (s 1) (codes "http://a.test/1") (Some (codes "s"))))
-    ∷ at 3 actors.Coord (sent 1 1 0 1 (whys.Req (r 1)) (tasks.Update 2 1))
-    ∷ at 4 (actors.Proc (p 1)) (rows.Taken (p 1) (j 1) true false)
-    ∷ at 5 (actors.Proc (p 1)) (rows.Finished (p 1) (j 1) outcomes.Updated)
-    ∷ at 6 actors.Coord (rows.Delivered (p 1))
-    ∷ at 7 actors.Ui (rows.Accepted (r 2) (Some (d 1)) (requests.Poke (n 0) (actions.Push (Some (codes "t")) (Some (codes "/2")))))
-    ∷ at 8 actors.Ui (rows.Accepted (r 3) None (requests.Go (negsuc 0)))
-    ∷ at 8 actors.Ui (rows.Started (r 3) (Some (t 0)))
-    ∷ at 8 actors.Ui (sent 2 1 0 1 (whys.Req (r 1)) (tasks.Activate (e 0 1) (epoch 2) 2 0 None (codes "http://a.test/")))
+    before 8 traversal_beside_a_push
+    ++ by_ui (rows.Accepted (r 3) None (requests.Go (negsuc 0))) (rows.Started (r 3) (Some (t 0)) ∷ sent 2 1 0 1 (whys.Req (r 1)) (tasks.Activate (e 0 1) (epoch 2) 2 0 None (codes "http://a.test/")) ∷ [])
     ∷ []
 
-pub shown_for_another_request_is_refused : ActsAtOnce shown_for_another_request → ⊥
+pub shown_for_another_request_is_refused : ActsAtOnce (log_of shown_for_another_request) → ⊥
 unfolding url_on_literals is_web is_blank_url judged judged_parse read_against address_of url_of resolved with_fragment base_of fragment_of origin_text origin_of has_same_base is_rewritable events_of each_event after_opening AtEachEvent is_numbered opens is_formed is_once is_caused is_queued is_ordered is_checked ends_settled loads_end ends_told ends_stepped goes_in_time
 shown_for_another_request_is_refused holds = false≢true holds.in_time
 
 -- a legal log, so that nothing else refuses it
-pub shown_for_another_request_is_legal : IsLegal shown_for_another_request
+pub shown_for_another_request_is_legal : IsLegal (log_of shown_for_another_request)
 unfolding url_on_literals is_web is_blank_url judged judged_parse read_against address_of url_of resolved with_fragment base_of fragment_of origin_text origin_of has_same_base is_rewritable events_of each_event after_opening AtEachEvent is_numbered opens is_formed is_once is_caused is_queued is_ordered is_checked ends_settled loads_end ends_told ends_stepped goes_in_time
 shown_for_another_request_is_legal = record { opened = refl; numbered = refl; formed = refl; once = refl; caused = refl; queued = refl; ordered = refl; checked = refl; settled = refl }
 
 -- While a traversal runs a document is frozen for a request that has ended.
-abbrev pub frozen_for_another_request : List LogRow
+abbrev pub frozen_for_another_request : List Event
 frozen_for_another_request =
-    at 0 actors.Start (rows.Opened (e 0 1) (s 1) (d 1) (p 1) None (codes "http://a.test/"))
-    ∷ at 1 actors.Ui (rows.Accepted (r 1) (Some (d 1)) (requests.Poke (n 0) (actions.AddFrame (n 1))))
-    ∷ at 2 actors.Ui (rows.Accepted (r 2) (Some (d 1)) (requests.Poke (n 0) (actions.AddFrame (n 2))))
-    ∷ at 3 (actors.Proc (p 1)) (made 1 1 1 1 (whats.AddFrame (n 1)))
-    ∷ at 4 actors.Coord (rows.Delivered (p 1))
-    ∷ at 4 actors.Coord (rows.Applied (r 1) (changes.AddFrame (s 1) (n 1) (e 0 2) (s 2)))
-    ∷ at 4 actors.Coord (sent 1 1 0 2 (whys.Req (r 1)) (tasks.Populate (n 1) (s 2) (codes "about:blank") true))
-    ∷ at 5 (actors.Proc (p 1)) (made 1 2 1 1 (whats.AddFrame (n 2)))
-    ∷ at 6 (actors.Proc (p 1)) (rows.Taken (p 1) (j 1) true false)
-    ∷ at 7 (actors.Proc (p 1)) (rows.Finished (p 1) (j 1) (outcomes.Populated None))
-    ∷ at 8 actors.Coord (rows.Delivered (p 1))
-    ∷ at 8 actors.Coord (rows.Applied (r 2) (changes.AddFrame (s 1) (n 2) (e 0 3) (s 3)))
-    ∷ at 8 actors.Coord (sent 2 1 0 3 (whys.Req (r 2)) (tasks.Populate (n 2) (s 3) (codes "about:blank") true))
-    ∷ at 9 (actors.Proc (p 1)) (rows.Taken (p 1) (j 2) true false)
-    ∷ at 10 (actors.Proc (p 1)) (rows.Finished (p 1) (j 2) (outcomes.Populated None))
-    ∷ at 11 actors.Coord (rows.Delivered (p 1))
-    ∷ at 11 actors.Coord (sent 3 1 0 2 (whys.Req (r 1)) (tasks.Activate (e 0 2) (epoch 1) 1 0 None (codes "about:blank")))
-    ∷ at 12 (actors.Proc (p 1)) (rows.Taken (p 1) (j 3) true false)
-    ∷ at 13 (actors.Proc (p 1)) (rows.Finished (p 1) (j 3) outcomes.Activated)
-    ∷ at 14 actors.Coord (rows.Delivered (p 1))
-    ∷ at 14 actors.Coord (sent 4 1 0 3 (whys.Req (r 2)) (tasks.Activate (e 0 3) (epoch 1) 1 0 None (codes "about:blank")))
-    ∷ at 15 (actors.Proc (p 1)) (rows.Taken (p 1) (j 4) true false)
-    ∷ at 16 (actors.Proc (p 1)) (rows.Finished (p 1) (j 4) outcomes.Activated)
-    ∷ at 17 actors.Coord (rows.Delivered (p 1))
-    ∷ at 18 actors.Coord (rows.Delivered (p 1))
-    ∷ at 19 actors.Ui (rows.Accepted (r 3) None (requests.Load (n 1) modes.Auto (codes "http://a.test/f")))
-    ∷ at 19 actors.Ui (rows.Started (r 3) None)
-    ∷ at 19 actors.Ui (sent 5 1 0 4 (whys.Req (r 3)) (tasks.Populate (n 1) (s 4) (codes "http://a.test/f") false))
-    ∷ at 20 (actors.Proc (p 1)) (rows.Taken (p 1) (j 5) true false)
-    ∷ at 21 (actors.Proc (p 1)) (rows.Finished (p 1) (j 5) (outcomes.Populated None))
-    ∷ at 22 actors.Coord (rows.Delivered (p 1))
-    ∷ at 22 actors.Coord (rows.Applied (r 3) (changes.Replace (n 1) (e 0 2) (e 0 4) (s 4) (codes "http://a.test/f") None))
-    ∷ at 22 actors.Coord (sent 6 1 0 2 (whys.Req (r 3)) tasks.Discard)
-    ∷ at 22 actors.Coord (sent 7 1 0 4 (whys.Req (r 3)) (tasks.Activate (e 0 4) (epoch 2) 1 0 None (codes "http://a.test/f")))
-    ∷ at 23 (actors.Proc (p 1)) (rows.Taken (p 1) (j 6) true false)
-    ∷ at 24 (actors.Proc (p 1)) (rows.Finished (p 1) (j 6) outcomes.Discarded)
-    ∷ at 25 actors.Coord (rows.Delivered (p 1))
-    ∷ at 26 (actors.Proc (p 1)) (rows.Taken (p 1) (j 7) true false)
-    ∷ at 27 (actors.Proc (p 1)) (rows.Finished (p 1) (j 7) outcomes.Activated)
-    ∷ at 28 actors.Coord (rows.Delivered (p 1))
-    ∷ at 29 actors.Ui (rows.Accepted (r 4) None (requests.Load (n 1) modes.Auto (codes "http://a.test/g")))
-    ∷ at 29 actors.Ui (rows.Started (r 4) None)
-    ∷ at 29 actors.Ui (sent 8 1 0 5 (whys.Req (r 4)) (tasks.Populate (n 1) (s 5) (codes "http://a.test/g") false))
-    ∷ at 30 (actors.Proc (p 1)) (rows.Taken (p 1) (j 8) true false)
-    ∷ at 31 (actors.Proc (p 1)) (rows.Finished (p 1) (j 8) (outcomes.Populated None))
-    ∷ at 32 actors.Coord (rows.Delivered (p 1))
-    ∷ at 32 actors.Coord (rows.Applied (r 4) (changes.Push (n 1) (e 0 5) (s 5) (codes "http://a.test/g") None))
-    ∷ at 32 actors.Coord (sent 9 1 0 4 (whys.Req (r 4)) tasks.Freeze)
-    ∷ at 32 actors.Coord (sent 10 1 0 5 (whys.Req (r 4)) (tasks.Activate (e 0 5) (epoch 3) 2 1 None (codes "http://a.test/g")))
-    ∷ at 32 actors.Coord (sent 11 1 0 1 (whys.Req (r 4)) (tasks.Update 2 1))
-    ∷ at 32 actors.Coord (sent 12 1 0 3 (whys.Req (r 4)) (tasks.Update 2 1))
-    ∷ at 33 (actors.Proc (p 1)) (rows.Taken (p 1) (j 9) true false)
-    ∷ at 34 (actors.Proc (p 1)) (rows.Finished (p 1) (j 9) outcomes.Frozen)
-    ∷ at 35 actors.Coord (rows.Delivered (p 1))
-    ∷ at 36 (actors.Proc (p 1)) (rows.Taken (p 1) (j 10) true false)
-    ∷ at 37 (actors.Proc (p 1)) (rows.Finished (p 1) (j 10) outcomes.Activated)
-    ∷ at 38 actors.Coord (rows.Delivered (p 1))
-    ∷ at 39 (actors.Proc (p 1)) (rows.Taken (p 1) (j 11) true false)
-    ∷ at 40 (actors.Proc (p 1)) (rows.Finished (p 1) (j 11) outcomes.Updated)
-    ∷ at 41 actors.Coord (rows.Delivered (p 1))
-    ∷ at 42 (actors.Proc (p 1)) (rows.Taken (p 1) (j 12) true false)
-    ∷ at 43 (actors.Proc (p 1)) (rows.Finished (p 1) (j 12) outcomes.Updated)
-    ∷ at 44 actors.Coord (rows.Delivered (p 1))
-    ∷ at 45 actors.Ui (rows.Accepted (r 5) None (requests.Go (negsuc 0)))
-    ∷ at 45 actors.Ui (rows.Started (r 5) (Some (t 0)))
-    ∷ at 45 actors.Ui (sent 13 1 0 5 (whys.Req (r 4)) tasks.Freeze)
-    ∷ at 45 actors.Ui (sent 14 1 0 4 (whys.Req (r 5)) (tasks.Activate (e 0 4) (epoch 4) 2 0 None (codes "http://a.test/f")))
-    ∷ at 46 actors.Ui (rows.Accepted (r 6) None (requests.Reload (n 2)))
-    ∷ at 47 actors.Ui (rows.Accepted (r 7) (Some (d 1)) (requests.Poke (n 0) (actions.RemoveFrame (n 2))))
-    ∷ at 48 (actors.Proc (p 1)) (made 1 7 1 1 (whats.RemoveFrame (n 2)))
-    ∷ at 49 actors.Coord (rows.Delivered (p 1))
-    ∷ at 49 actors.Coord (rows.Applied (r 7) (changes.RemoveFrame (n 2)))
-    ∷ at 49 actors.Coord (sent 15 1 0 3 (whys.Req (r 7)) tasks.Discard)
-    ∷ at 49 actors.Coord (rows.Dropped (r 6) (drops.Destroyed (r 7)))
-    ∷ at 50 (actors.Proc (p 1)) (rows.Taken (p 1) (j 13) true false)
-    ∷ at 51 (actors.Proc (p 1)) (rows.Finished (p 1) (j 13) outcomes.Frozen)
-    ∷ at 52 actors.Coord (rows.Delivered (p 1))
-    ∷ at 53 (actors.Proc (p 1)) (rows.Taken (p 1) (j 14) true false)
-    ∷ at 54 (actors.Proc (p 1)) (rows.Finished (p 1) (j 14) outcomes.Activated)
-    ∷ at 55 actors.Coord (rows.Delivered (p 1))
-    ∷ at 55 actors.Coord (rows.Applied (r 5) (changes.Traverse (t 0)))
-    ∷ at 55 actors.Coord (sent 16 1 0 1 (whys.Req (r 5)) (tasks.Update 2 0))
-    ∷ at 56 (actors.Proc (p 1)) (rows.Taken (p 1) (j 15) true false)
-    ∷ at 57 (actors.Proc (p 1)) (rows.Finished (p 1) (j 15) outcomes.Discarded)
-    ∷ at 58 actors.Coord (rows.Delivered (p 1))
-    ∷ at 59 (actors.Proc (p 1)) (rows.Taken (p 1) (j 16) true false)
-    ∷ at 60 (actors.Proc (p 1)) (rows.Finished (p 1) (j 16) outcomes.Updated)
-    ∷ at 61 actors.Coord (rows.Delivered (p 1))
-    ∷ []
+    before 45 reload_of_a_removed_frame
+    ++ by_ui (rows.Accepted (r 5) None (requests.Go (negsuc 0))) (rows.Started (r 5) (Some (t 0)) ∷ sent 13 1 0 5 (whys.Req (r 4)) tasks.Freeze ∷ sent 14 1 0 4 (whys.Req (r 5)) (tasks.Activate (e 0 4) (epoch 4) 2 0 None (codes "http://a.test/f")) ∷ [])
+    ∷ since 46 reload_of_a_removed_frame
 
-pub frozen_for_another_request_is_refused : ActsAtOnce frozen_for_another_request → ⊥
+pub frozen_for_another_request_is_refused : ActsAtOnce (log_of frozen_for_another_request) → ⊥
 unfolding url_on_literals is_web is_blank_url judged judged_parse read_against address_of url_of resolved with_fragment base_of fragment_of origin_text origin_of has_same_base is_rewritable events_of each_event after_opening AtEachEvent is_numbered opens is_formed is_once is_caused is_queued is_ordered is_checked ends_settled loads_end ends_told ends_stepped goes_in_time
 frozen_for_another_request_is_refused holds = false≢true holds.in_time
 
 -- a legal log, so that nothing else refuses it
-pub frozen_for_another_request_is_legal : IsLegal frozen_for_another_request
+pub frozen_for_another_request_is_legal : IsLegal (log_of frozen_for_another_request)
 unfolding url_on_literals is_web is_blank_url judged judged_parse read_against address_of url_of resolved with_fragment base_of fragment_of origin_text origin_of has_same_base is_rewritable events_of each_event after_opening AtEachEvent is_numbered opens is_formed is_once is_caused is_queued is_ordered is_checked ends_settled loads_end ends_told ends_stepped goes_in_time
 frozen_for_another_request_is_legal = record { opened = refl; numbered = refl; formed = refl; once = refl; caused = refl; queued = refl; ordered = refl; checked = refl; settled = refl }
 
 -- A document is shown in a frame that hangs on another document.
-abbrev pub shown_where_it_is_hidden : List LogRow
+abbrev pub shown_where_it_is_hidden : List Event
 shown_where_it_is_hidden =
-    at 0 actors.Start (rows.Opened (e 0 1) (s 1) (d 1) (p 1) None (codes "http://a.test/"))
-    ∷ at 1 actors.Ui (rows.Accepted (r 1) (Some (d 1)) (requests.Poke (n 0) (actions.AddFrame (n 1))))
-    ∷ at 2 (actors.Proc (p 1)) (made 1 1 1 1 (whats.AddFrame (n 1)))
-    ∷ at 3 actors.Coord (rows.Delivered (p 1))
-    ∷ at 3 actors.Coord (rows.Applied (r 1) (changes.AddFrame (s 1) (n 1) (e 0 2) (s 2)))
-    ∷ at 3 actors.Coord (sent 1 1 0 2 (whys.Req (r 1)) (tasks.Populate (n 1) (s 2) (codes "about:blank") true))
-    ∷ at 4 (actors.Proc (p 1)) (rows.Taken (p 1) (j 1) true false)
-    ∷ at 5 (actors.Proc (p 1)) (rows.Finished (p 1) (j 1) (outcomes.Populated None))
-    ∷ at 6 actors.Coord (rows.Delivered (p 1))
-    ∷ at 6 actors.Coord (sent 2 1 0 2 (whys.Req (r 1)) (tasks.Activate (e 0 2) (epoch 1) 1 0 None (codes "about:blank")))
-    ∷ at 7 (actors.Proc (p 1)) (rows.Taken (p 1) (j 2) true false)
-    ∷ at 8 (actors.Proc (p 1)) (rows.Finished (p 1) (j 2) outcomes.Activated)
-    ∷ at 9 actors.Coord (rows.Delivered (p 1))
-    ∷ at 10 actors.Ui (rows.Accepted (r 2) None (requests.Load (n 0) modes.Auto (codes "http://a.test/1")))
-    ∷ at 10 actors.Ui (rows.Started (r 2) None)
-    ∷ at 10 actors.Ui (sent 3 1 0 3 (whys.Req (r 2)) (tasks.Populate (n 0) (s 3) (codes "http://a.test/1") false))
-    ∷ at 11 (actors.Proc (p 1)) (rows.Taken (p 1) (j 3) true false)
-    ∷ at 12 (actors.Proc (p 1)) (rows.Finished (p 1) (j 3) (outcomes.Populated None))
-    ∷ at 13 actors.Coord (rows.Delivered (p 1))
-    ∷ at 13 actors.Coord (rows.Applied (r 2) (changes.Push (n 0) (e 0 3) (s 3) (codes "http://a.test/1") None))
-    ∷ at 13 actors.Coord (sent 4 1 0 1 (whys.Req (r 2)) tasks.Freeze)
-    ∷ at 13 actors.Coord (sent 5 1 0 2 (whys.Req (r 2)) tasks.Freeze)
-    ∷ at 13 actors.Coord (sent 6 1 0 3 (whys.Req (r 2)) (tasks.Activate (e 0 3) (epoch 2) 2 1 None (codes "http://a.test/1")))
-    ∷ at 14 (actors.Proc (p 1)) (rows.Taken (p 1) (j 4) true false)
-    ∷ at 15 (actors.Proc (p 1)) (rows.Finished (p 1) (j 4) outcomes.Frozen)
-    ∷ at 16 actors.Coord (rows.Delivered (p 1))
-    ∷ at 17 (actors.Proc (p 1)) (rows.Taken (p 1) (j 5) true false)
-    ∷ at 18 (actors.Proc (p 1)) (rows.Finished (p 1) (j 5) outcomes.Frozen)
-    ∷ at 19 actors.Coord (rows.Delivered (p 1))
-    ∷ at 20 (actors.Proc (p 1)) (rows.Taken (p 1) (j 6) true false)
-    ∷ at 21 (actors.Proc (p 1)) (rows.Finished (p 1) (j 6) outcomes.Activated)
-    ∷ at 22 actors.Coord (rows.Delivered (p 1))
-    ∷ at 22 actors.Coord (sent 7 1 0 2 (whys.Req (r 2)) (tasks.Activate (e 0 2) (epoch 2) 2 1 None (codes "about:blank")))
+    before 22 load_over_a_frame
+    ++ by_coord (rows.Delivered (p 1)) (sent 7 1 0 2 (whys.Req (r 2)) (tasks.Activate (e 0 2) (epoch 2) 2 1 None (codes "about:blank")) ∷ [])
     ∷ []
 
-pub shown_where_it_is_hidden_is_refused : ActsAtOnce shown_where_it_is_hidden → ⊥
+pub shown_where_it_is_hidden_is_refused : ActsAtOnce (log_of shown_where_it_is_hidden) → ⊥
 unfolding url_on_literals is_web is_blank_url judged judged_parse read_against address_of url_of resolved with_fragment base_of fragment_of origin_text origin_of has_same_base is_rewritable events_of each_event after_opening AtEachEvent is_numbered opens is_formed is_once is_caused is_queued is_ordered is_checked ends_settled loads_end ends_told ends_stepped goes_in_time
 shown_where_it_is_hidden_is_refused holds = false≢true holds.in_time
 
 -- a legal log, so that nothing else refuses it
-pub shown_where_it_is_hidden_is_legal : IsLegal shown_where_it_is_hidden
+pub shown_where_it_is_hidden_is_legal : IsLegal (log_of shown_where_it_is_hidden)
 unfolding url_on_literals is_web is_blank_url judged judged_parse read_against address_of url_of resolved with_fragment base_of fragment_of origin_text origin_of has_same_base is_rewritable events_of each_event after_opening AtEachEvent is_numbered opens is_formed is_once is_caused is_queued is_ordered is_checked ends_settled loads_end ends_told ends_stepped goes_in_time
 shown_where_it_is_hidden_is_legal = record { opened = refl; numbered = refl; formed = refl; once = refl; caused = refl; queued = refl; ordered = refl; checked = refl; settled = refl }
 
 -- A load is applied before its document is made.
-abbrev pub load_applied_without_its_document : List LogRow
+abbrev pub load_applied_without_its_document : List Event
 load_applied_without_its_document =
-    at 0 actors.Start (rows.Opened (e 0 1) (s 1) (d 1) (p 1) None (codes "http://a.test/"))
-    ∷ at 1 actors.Ui (rows.Accepted (r 1) None (requests.Load (n 0) modes.Auto (codes "http://a.test/1")))
-    ∷ at 1 actors.Ui (rows.Started (r 1) None)
-    ∷ at 1 actors.Ui (sent 1 1 0 2 (whys.Req (r 1)) (tasks.Populate (n 0) (s 2) (codes "http://a.test/1") false))
-    ∷ at 1 actors.Ui (rows.Applied (r 1) (changes.Push (n 0) (e 0 2) (s 2) (codes "http://a.test/1") None))
+    by_start (rows.Opened (e 0 1) (s 1) (d 1) (p 1) None (codes "http://a.test/")) []
+    ∷ by_ui (rows.Accepted (r 1) None (requests.Load (n 0) modes.Auto (codes "http://a.test/1"))) (rows.Started (r 1) None ∷ sent 1 1 0 2 (whys.Req (r 1)) (tasks.Populate (n 0) (s 2) (codes "http://a.test/1") false) ∷ rows.Applied (r 1) (changes.Push (n 0) (e 0 2) (s 2) (codes "http://a.test/1") None) ∷ [])
     ∷ []
 
-pub load_applied_without_its_document_is_refused : ActsAtOnce load_applied_without_its_document → ⊥
+pub load_applied_without_its_document_is_refused : ActsAtOnce (log_of load_applied_without_its_document) → ⊥
 unfolding url_on_literals is_web is_blank_url judged judged_parse read_against address_of url_of resolved with_fragment base_of fragment_of origin_text origin_of has_same_base is_rewritable events_of each_event after_opening AtEachEvent is_numbered opens is_formed is_once is_caused is_queued is_ordered is_checked ends_settled loads_end ends_told ends_stepped goes_in_time
 load_applied_without_its_document_is_refused holds = false≢true holds.in_time
 
 -- a legal log, so that nothing else refuses it
-pub load_applied_without_its_document_is_legal : IsLegal load_applied_without_its_document
+pub load_applied_without_its_document_is_legal : IsLegal (log_of load_applied_without_its_document)
 unfolding url_on_literals is_web is_blank_url judged judged_parse read_against address_of url_of resolved with_fragment base_of fragment_of origin_text origin_of has_same_base is_rewritable events_of each_event after_opening AtEachEvent is_numbered opens is_formed is_once is_caused is_queued is_ordered is_checked ends_settled loads_end ends_told ends_stepped goes_in_time
 load_applied_without_its_document_is_legal = record { opened = refl; numbered = refl; formed = refl; once = refl; caused = refl; queued = refl; ordered = refl; checked = refl; settled = refl }
 
 -- A push is applied in the event that takes the report of another.
-abbrev pub push_applied_without_its_report : List LogRow
+abbrev pub push_applied_without_its_report : List Event
 push_applied_without_its_report =
-    at 0 actors.Start (rows.Opened (e 0 1) (s 1) (d 1) (p 1) None (codes "http://a.test/"))
-    ∷ at 1 actors.Ui (rows.Accepted (r 1) (Some (d 1)) (requests.Poke (n 0) (actions.Push (Some (codes "s")) (Some (codes "/1")))))
-    ∷ at 2 actors.Ui (rows.Accepted (r 2) (Some (d 1)) (requests.Poke (n 0) (actions.Push (Some (codes "t")) (Some (codes "/2")))))
-    ∷ at 3 (actors.Proc (p 1)) (made 1 1 1 1 (whats.Push (e 1 1) (Some (codes "s")) (codes "http://a.test/1")))
-    ∷ at 4 (actors.Proc (p 1)) (made 1 2 1 1 (whats.Push (e 1 2) (Some (codes "t")) (codes "http://a.test/2")))
-    ∷ at 5 actors.Coord (rows.Delivered (p 1))
-    ∷ at 5 actors.Coord (rows.Applied (r 1) (changes.Push (n 0) (e 1 1) (s 1) (codes "http://a.test/1") (Some (codes "s"))))
-    ∷ at 5 actors.Coord (rows.Applied (r 2) (changes.Push (n 0) (e 1 2) (s 1) (codes "http://a.test/2") (Some (codes "t"))))
-    ∷ at 5 actors.Coord (sent 1 1 0 1 (whys.Req (r 1)) (tasks.Update 3 2))
+    before 5 two_pushes_on_their_way
+    ++ by_coord (rows.Delivered (p 1)) (rows.Applied (r 1) (changes.Push (n 0) (e 1 1) (s 1) (codes "http://a.test/1") (Some (codes "s"))) ∷ rows.Applied (r 2) (changes.Push (n 0) (e 1 2) (s 1) (codes "http://a.test/2") (Some (codes "t"))) ∷ sent 1 1 0 1 (whys.Req (r 1)) (tasks.Update 3 2) ∷ [])
     ∷ []
 
-pub push_applied_without_its_report_is_refused : ActsAtOnce push_applied_without_its_report → ⊥
+pub push_applied_without_its_report_is_refused : ActsAtOnce (log_of push_applied_without_its_report) → ⊥
 unfolding url_on_literals is_web is_blank_url judged judged_parse read_against address_of url_of resolved with_fragment base_of fragment_of origin_text origin_of has_same_base is_rewritable events_of each_event after_opening AtEachEvent is_numbered opens is_formed is_once is_caused is_queued is_ordered is_checked ends_settled loads_end ends_told ends_stepped goes_in_time
 push_applied_without_its_report_is_refused holds = false≢true holds.in_time
 
 -- a legal log, so that nothing else refuses it
-pub push_applied_without_its_report_is_legal : IsLegal push_applied_without_its_report
+pub push_applied_without_its_report_is_legal : IsLegal (log_of push_applied_without_its_report)
 unfolding url_on_literals is_web is_blank_url judged judged_parse read_against address_of url_of resolved with_fragment base_of fragment_of origin_text origin_of has_same_base is_rewritable events_of each_event after_opening AtEachEvent is_numbered opens is_formed is_once is_caused is_queued is_ordered is_checked ends_settled loads_end ends_told ends_stepped goes_in_time
 push_applied_without_its_report_is_legal = record { opened = refl; numbered = refl; formed = refl; once = refl; caused = refl; queued = refl; ordered = refl; checked = refl; settled = refl }

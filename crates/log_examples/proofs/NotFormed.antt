@@ -1,462 +1,171 @@
 -- Broken logs, each refused by the field `formed`.
-use Rattle.std.proofs.Common.{negsuc, true, false, List, [], ◌∷◌, codes, Some, None}
+-- A log is its events: those before one of another log, since one, or between two, and its own.
+use Rattle.std.proofs.Common.{true, false, List, [], ◌∷◌, ◌++◌, codes, Some, None}
 use Rattle.std.proofs.lemmas.Bool.{false≢true}
 use Rattle.url.proofs.OnLiterals.{url_on_literals}
 use Rattle.address.specs.Addresses.{is_web, is_blank_url, judged, judged_parse, read_against, address_of, url_of, resolved, with_fragment, base_of, fragment_of, origin_text, origin_of, has_same_base, is_rewritable}
 use Rattle.log_model.specs.declared.action.Action.TheVariants as actions
-use Rattle.log_model.specs.declared.change.Change.TheVariants as changes
-use Rattle.log_model.specs.declared.handler.LeaveCause.TheVariants as leavings
-use Rattle.log_model.specs.declared.handler.Verdict.TheVariants as verdicts
 use Rattle.log_model.specs.declared.job.Task.TheVariants as tasks
 use Rattle.log_model.specs.declared.job.Why.TheVariants as whys
 use Rattle.log_model.specs.declared.made.What.TheVariants as whats
 use Rattle.log_model.specs.declared.outcome.Outcome.TheVariants as outcomes
-use Rattle.log_model.specs.declared.request.Mode.TheVariants as modes
 use Rattle.log_model.specs.declared.request.Request.TheVariants as requests
-use Rattle.log_model.specs.declared.row_kind.Actor.TheVariants as actors
-use Rattle.log_model.specs.declared.row_kind.LogRow.{LogRow}
 use Rattle.log_model.specs.declared.row_kind.RowKind.TheVariants as rows
 use Rattle.log_model.specs.Events.{events_of, each_event, after_opening, AtEachEvent}
 use Rattle.log_model.specs.Formed.{is_numbered}
 use Rattle.log_model.specs.Legal.{IsLegal, opens, is_formed, is_once, is_caused, is_queued, is_ordered, is_checked, ends_settled}
 use Rattle.log_model.specs.LoadsEndInTime.{loads_end}
 use Rattle.log_model.specs.ActsAtOnce.{ends_told, ends_stepped, goes_in_time}
-use Rattle.log_examples.specs.Rows.{n, s, r, p, t, x, d, j, e, epoch, at, sent, made}
+use Rattle.log_examples.specs.Rows.{n, s, r, p, x, d, j, e, sent, made}
+use Rattle.log_examples.specs.Logs.{Event, by_start, by_ui, by_coord, by_proc, log_of, before, since}
+use Rattle.log_examples.proofs.Pushes.{one_push, push_beside_a_frame}
+use Rattle.log_examples.proofs.Loads.{evicted_documents, fragment_load}
+use Rattle.log_examples.proofs.Prompts.{leave, one_prompt_for_two}
+use Rattle.log_examples.proofs.Deaths.{void_order}
 
 -- An order is taken before the first one of the mail.
-abbrev pub taken_out_of_order : List LogRow
+abbrev pub taken_out_of_order : List Event
 taken_out_of_order =
-    at 0 actors.Start (rows.Opened (e 0 1) (s 1) (d 1) (p 1) None (codes "http://a.test/"))
-    ∷ at 1 actors.Ui (rows.Accepted (r 1) None (requests.Load (n 0) modes.Auto (codes "http://a.test/1")))
-    ∷ at 1 actors.Ui (rows.Started (r 1) None)
-    ∷ at 1 actors.Ui (sent 1 1 0 2 (whys.Req (r 1)) (tasks.Populate (n 0) (s 2) (codes "http://a.test/1") false))
-    ∷ at 2 (actors.Proc (p 1)) (rows.Taken (p 1) (j 1) true false)
-    ∷ at 3 (actors.Proc (p 1)) (rows.Finished (p 1) (j 1) (outcomes.Populated (Some 1)))
-    ∷ at 4 actors.Coord (rows.Delivered (p 1))
-    ∷ at 4 actors.Coord (rows.Applied (r 1) (changes.Push (n 0) (e 0 2) (s 2) (codes "http://a.test/1") None))
-    ∷ at 4 actors.Coord (sent 2 1 0 1 (whys.Req (r 1)) tasks.Freeze)
-    ∷ at 4 actors.Coord (sent 3 1 0 2 (whys.Req (r 1)) (tasks.Activate (e 0 2) (epoch 2) 2 1 None (codes "http://a.test/1")))
-    ∷ at 5 (actors.Proc (p 1)) (rows.Taken (p 1) (j 2) true false)
-    ∷ at 6 (actors.Proc (p 1)) (rows.Finished (p 1) (j 2) outcomes.Frozen)
-    ∷ at 7 actors.Coord (rows.Delivered (p 1))
-    ∷ at 8 (actors.Proc (p 1)) (rows.Taken (p 1) (j 3) true false)
-    ∷ at 9 (actors.Proc (p 1)) (rows.Finished (p 1) (j 3) outcomes.Activated)
-    ∷ at 10 actors.Coord (rows.Delivered (p 1))
-    ∷ at 11 actors.Ui (rows.Accepted (r 2) (Some (d 2)) (requests.Poke (n 0) (actions.AddFrame (n 1))))
-    ∷ at 12 (actors.Proc (p 1)) (made 1 2 2 2 (whats.AddFrame (n 1)))
-    ∷ at 13 actors.Coord (rows.Delivered (p 1))
-    ∷ at 13 actors.Coord (rows.Applied (r 2) (changes.AddFrame (s 2) (n 1) (e 0 3) (s 3)))
-    ∷ at 13 actors.Coord (sent 4 1 0 3 (whys.Req (r 2)) (tasks.Populate (n 1) (s 3) (codes "about:blank") true))
-    ∷ at 14 (actors.Proc (p 1)) (rows.Taken (p 1) (j 4) true false)
-    ∷ at 15 (actors.Proc (p 1)) (rows.Finished (p 1) (j 4) (outcomes.Populated None))
-    ∷ at 16 actors.Coord (rows.Delivered (p 1))
-    ∷ at 16 actors.Coord (sent 5 1 0 3 (whys.Req (r 2)) (tasks.Activate (e 0 3) (epoch 1) 2 1 None (codes "about:blank")))
-    ∷ at 17 (actors.Proc (p 1)) (rows.Taken (p 1) (j 5) true false)
-    ∷ at 18 (actors.Proc (p 1)) (rows.Finished (p 1) (j 5) outcomes.Activated)
-    ∷ at 19 actors.Coord (rows.Delivered (p 1))
-    ∷ at 20 actors.Ui (rows.Accepted (r 3) None (requests.Load (n 1) modes.Auto (codes "http://a.test/f")))
-    ∷ at 20 actors.Ui (rows.Started (r 3) None)
-    ∷ at 20 actors.Ui (sent 6 1 0 4 (whys.Req (r 3)) (tasks.Populate (n 1) (s 4) (codes "http://a.test/f") false))
-    ∷ at 21 (actors.Proc (p 1)) (rows.Taken (p 1) (j 6) true false)
-    ∷ at 22 (actors.Proc (p 1)) (rows.Finished (p 1) (j 6) (outcomes.Populated (Some 1)))
-    ∷ at 23 actors.Coord (rows.Delivered (p 1))
-    ∷ at 23 actors.Coord (rows.Applied (r 3) (changes.Replace (n 1) (e 0 3) (e 0 4) (s 4) (codes "http://a.test/f") None))
-    ∷ at 23 actors.Coord (sent 7 1 0 3 (whys.Req (r 3)) tasks.Discard)
-    ∷ at 23 actors.Coord (sent 8 1 0 4 (whys.Req (r 3)) (tasks.Activate (e 0 4) (epoch 2) 2 1 None (codes "http://a.test/f")))
-    ∷ at 24 (actors.Proc (p 1)) (rows.Taken (p 1) (j 7) true false)
-    ∷ at 25 (actors.Proc (p 1)) (rows.Finished (p 1) (j 7) outcomes.Discarded)
-    ∷ at 26 actors.Coord (rows.Delivered (p 1))
-    ∷ at 27 (actors.Proc (p 1)) (rows.Taken (p 1) (j 8) true false)
-    ∷ at 28 (actors.Proc (p 1)) (rows.Finished (p 1) (j 8) outcomes.Activated)
-    ∷ at 29 actors.Coord (rows.Delivered (p 1))
-    ∷ at 30 actors.Ui (rows.Accepted (r 4) None (requests.Go (negsuc 0)))
-    ∷ at 30 actors.Ui (rows.Started (r 4) (Some (t 0)))
-    ∷ at 30 actors.Ui (sent 9 1 0 2 (whys.Req (r 4)) (tasks.Ask 1 leavings.Traverse))
-    ∷ at 30 actors.Ui (sent 10 1 0 4 (whys.Req (r 4)) (tasks.Ask 1 leavings.Traverse))
-    ∷ at 31 (actors.Proc (p 1)) (rows.Taken (p 1) (j 9) true false)
-    ∷ at 32 (actors.Proc (p 1)) (rows.Finished (p 1) (j 9) (outcomes.Asked verdicts.Prompt))
-    ∷ at 33 actors.Coord (rows.Delivered (p 1))
-    ∷ at 34 (actors.Proc (p 1)) (rows.Taken (p 1) (j 10) true false)
-    ∷ at 35 (actors.Proc (p 1)) (rows.Finished (p 1) (j 10) (outcomes.Asked verdicts.Prompt))
-    ∷ at 36 actors.Coord (rows.Delivered (p 1))
-    ∷ at 36 actors.Coord (rows.Prompted (r 4) (d 2))
-    ∷ at 37 actors.Ui (rows.Answered (r 4) false)
-    ∷ at 37 actors.Ui (sent 11 1 0 2 (whys.Req (r 4)) tasks.Freeze)
-    ∷ at 37 actors.Ui (sent 12 1 0 4 (whys.Req (r 4)) tasks.Freeze)
-    ∷ at 37 actors.Ui (sent 13 1 0 1 (whys.Req (r 4)) (tasks.Activate (e 0 1) (epoch 3) 2 0 None (codes "http://a.test/")))
-    ∷ at 38 (actors.Proc (p 1)) (rows.Taken (p 1) (j 12) true false)
-    ∷ at 39 (actors.Proc (p 1)) (rows.Finished (p 1) (j 11) outcomes.Frozen)
-    ∷ at 40 actors.Coord (rows.Delivered (p 1))
-    ∷ at 41 (actors.Proc (p 1)) (rows.Taken (p 1) (j 12) true false)
-    ∷ at 42 (actors.Proc (p 1)) (rows.Finished (p 1) (j 12) outcomes.Frozen)
-    ∷ at 43 actors.Coord (rows.Delivered (p 1))
-    ∷ at 44 (actors.Proc (p 1)) (rows.Taken (p 1) (j 13) true false)
-    ∷ at 45 (actors.Proc (p 1)) (rows.Finished (p 1) (j 13) outcomes.Activated)
-    ∷ at 46 actors.Coord (rows.Delivered (p 1))
-    ∷ at 46 actors.Coord (rows.Applied (r 4) (changes.Traverse (t 0)))
-    ∷ []
+    before 38 one_prompt_for_two
+    ++ by_proc 1 (rows.Taken (p 1) (j 12) true false) []
+    ∷ since 39 one_prompt_for_two
 
-pub taken_out_of_order_is_refused : IsLegal taken_out_of_order → ⊥
+pub taken_out_of_order_is_refused : IsLegal (log_of taken_out_of_order) → ⊥
 unfolding url_on_literals is_web is_blank_url judged judged_parse read_against address_of url_of resolved with_fragment base_of fragment_of origin_text origin_of has_same_base is_rewritable events_of each_event after_opening AtEachEvent is_numbered opens is_formed is_once is_caused is_queued is_ordered is_checked ends_settled loads_end ends_told ends_stepped goes_in_time
 taken_out_of_order_is_refused holds = false≢true holds.formed
 
 -- An update ends as an activation.
-abbrev pub another_outcome : List LogRow
+abbrev pub another_outcome : List Event
 another_outcome =
-    at 0 actors.Start (rows.Opened (e 0 1) (s 1) (d 1) (p 1) None (codes "http://a.test/"))
-    ∷ at 1 actors.Ui (rows.Accepted (r 1) (Some (d 1)) (requests.Poke (n 0) (actions.Push (Some (codes "s")) (Some (codes "/1")))))
-    ∷ at 2 (actors.Proc (p 1)) (made 1 1 1 1 (whats.Push (e 1 1) (Some (codes "s")) (codes "http://a.test/1")))
-    ∷ at 3 actors.Coord (rows.Delivered (p 1))
-    ∷ at 3 actors.Coord (rows.Applied (r 1) (changes.Push (n 0) (e 1 1) (s 1) (codes "http://a.test/1") (Some (codes "s"))))
-    ∷ at 3 actors.Coord (sent 1 1 0 1 (whys.Req (r 1)) (tasks.Update 2 1))
-    ∷ at 4 (actors.Proc (p 1)) (rows.Taken (p 1) (j 1) true false)
-    ∷ at 5 (actors.Proc (p 1)) (rows.Finished (p 1) (j 1) outcomes.Activated)
-    ∷ at 6 actors.Coord (rows.Delivered (p 1))
+    before 5 one_push
+    ++ by_proc 1 (rows.Finished (p 1) (j 1) outcomes.Activated) []
+    ∷ by_coord (rows.Delivered (p 1)) []
     ∷ []
 
-pub another_outcome_is_refused : IsLegal another_outcome → ⊥
+pub another_outcome_is_refused : IsLegal (log_of another_outcome) → ⊥
 unfolding url_on_literals is_web is_blank_url judged judged_parse read_against address_of url_of resolved with_fragment base_of fragment_of origin_text origin_of has_same_base is_rewritable events_of each_event after_opening AtEachEvent is_numbered opens is_formed is_once is_caused is_queued is_ordered is_checked ends_settled loads_end ends_told ends_stepped goes_in_time
 another_outcome_is_refused holds = false≢true holds.formed
 
 -- An order to a dead incarnation is taken live.
-abbrev pub void_order_taken_live : List LogRow
+abbrev pub void_order_taken_live : List Event
 void_order_taken_live =
-    at 0 actors.Start (rows.Opened (e 0 1) (s 1) (d 1) (p 1) None (codes "http://a.test/"))
-    ∷ at 1 actors.Ui (rows.Accepted (r 1) (Some (d 1)) (requests.Poke (n 0) (actions.Push (Some (codes "s")) (Some (codes "/1")))))
-    ∷ at 2 (actors.Proc (p 1)) (made 1 1 1 1 (whats.Push (e 1 1) (Some (codes "s")) (codes "http://a.test/1")))
-    ∷ at 3 actors.Ui (rows.Killed (p 1) (x 1))
-    ∷ at 4 actors.Coord (rows.Delivered (p 1))
-    ∷ at 4 actors.Coord (rows.Applied (r 1) (changes.Push (n 0) (e 1 1) (s 1) (codes "http://a.test/1") (Some (codes "s"))))
-    ∷ at 4 actors.Coord (sent 1 1 0 1 (whys.Req (r 1)) (tasks.Update 2 1))
-    ∷ at 5 (actors.Proc (p 1)) (rows.Taken (p 1) (j 1) true false)
-    ∷ at 6 actors.Coord (rows.Delivered (p 1))
+    before 5 void_order
+    ++ by_proc 1 (rows.Taken (p 1) (j 1) true false) []
+    ∷ by_coord (rows.Delivered (p 1)) []
     ∷ []
 
-pub void_order_taken_live_is_refused : IsLegal void_order_taken_live → ⊥
+pub void_order_taken_live_is_refused : IsLegal (log_of void_order_taken_live) → ⊥
 unfolding url_on_literals is_web is_blank_url judged judged_parse read_against address_of url_of resolved with_fragment base_of fragment_of origin_text origin_of has_same_base is_rewritable events_of each_event after_opening AtEachEvent is_numbered opens is_formed is_once is_caused is_queued is_ordered is_checked ends_settled loads_end ends_told ends_stepped goes_in_time
 void_order_taken_live_is_refused holds = false≢true holds.formed
 
 -- A document with unsaved edits is noted as clean.
-abbrev pub dirty_document_taken_clean : List LogRow
+abbrev pub dirty_document_taken_clean : List Event
 dirty_document_taken_clean =
-    at 0 actors.Start (rows.Opened (e 0 1) (s 1) (d 1) (p 1) None (codes "http://a.test/"))
-    ∷ at 1 actors.Ui (rows.Accepted (r 1) None (requests.Load (n 0) modes.Auto (codes "http://a.test/1")))
-    ∷ at 1 actors.Ui (rows.Started (r 1) None)
-    ∷ at 1 actors.Ui (sent 1 1 0 2 (whys.Req (r 1)) (tasks.Populate (n 0) (s 2) (codes "http://a.test/1") false))
-    ∷ at 2 (actors.Proc (p 1)) (rows.Taken (p 1) (j 1) true false)
-    ∷ at 3 (actors.Proc (p 1)) (rows.Finished (p 1) (j 1) (outcomes.Populated (Some 0)))
-    ∷ at 4 actors.Coord (rows.Delivered (p 1))
-    ∷ at 4 actors.Coord (rows.Applied (r 1) (changes.Push (n 0) (e 0 2) (s 2) (codes "http://a.test/1") None))
-    ∷ at 4 actors.Coord (sent 2 1 0 1 (whys.Req (r 1)) tasks.Freeze)
-    ∷ at 4 actors.Coord (sent 3 1 0 2 (whys.Req (r 1)) (tasks.Activate (e 0 2) (epoch 2) 2 1 None (codes "http://a.test/1")))
-    ∷ at 5 (actors.Proc (p 1)) (rows.Taken (p 1) (j 2) true false)
-    ∷ at 6 (actors.Proc (p 1)) (rows.Finished (p 1) (j 2) outcomes.Frozen)
-    ∷ at 7 actors.Coord (rows.Delivered (p 1))
-    ∷ at 8 (actors.Proc (p 1)) (rows.Taken (p 1) (j 3) true false)
-    ∷ at 9 (actors.Proc (p 1)) (rows.Finished (p 1) (j 3) outcomes.Activated)
-    ∷ at 10 actors.Coord (rows.Delivered (p 1))
-    ∷ at 11 actors.Ui (rows.Accepted (r 2) (Some (d 2)) (requests.Poke (n 0) actions.Edit))
-    ∷ at 12 (actors.Proc (p 1)) (made 1 2 2 2 whats.Edit)
-    ∷ at 12 (actors.Proc (p 1)) (rows.Applied (r 2) changes.Edit)
-    ∷ at 13 actors.Ui (rows.Accepted (r 3) None (requests.Go (negsuc 0)))
-    ∷ at 13 actors.Ui (rows.Started (r 3) (Some (t 0)))
-    ∷ at 13 actors.Ui (sent 4 1 0 2 (whys.Req (r 3)) (tasks.Ask 0 leavings.Traverse))
-    ∷ at 14 (actors.Proc (p 1)) (rows.Taken (p 1) (j 4) true false)
-    ∷ at 15 (actors.Proc (p 1)) (rows.Finished (p 1) (j 4) (outcomes.Asked verdicts.Prompt))
-    ∷ at 16 actors.Coord (rows.Delivered (p 1))
-    ∷ at 16 actors.Coord (rows.Prompted (r 3) (d 2))
-    ∷ at 17 actors.Ui (rows.Answered (r 3) false)
-    ∷ at 17 actors.Ui (sent 5 1 0 2 (whys.Req (r 3)) tasks.Freeze)
-    ∷ at 17 actors.Ui (sent 6 1 0 1 (whys.Req (r 3)) (tasks.Activate (e 0 1) (epoch 3) 2 0 None (codes "http://a.test/")))
-    ∷ at 18 (actors.Proc (p 1)) (rows.Taken (p 1) (j 5) true true)
-    ∷ at 19 (actors.Proc (p 1)) (rows.Finished (p 1) (j 5) outcomes.Frozen)
-    ∷ at 20 actors.Coord (rows.Delivered (p 1))
-    ∷ at 21 (actors.Proc (p 1)) (rows.Taken (p 1) (j 6) true false)
-    ∷ at 22 (actors.Proc (p 1)) (rows.Finished (p 1) (j 6) outcomes.Activated)
-    ∷ at 23 actors.Coord (rows.Delivered (p 1))
-    ∷ at 23 actors.Coord (rows.Applied (r 3) (changes.Traverse (t 0)))
-    ∷ []
+    before 14 leave
+    ++ by_proc 1 (rows.Taken (p 1) (j 4) true false) []
+    ∷ since 15 leave
 
-pub dirty_document_taken_clean_is_refused : IsLegal dirty_document_taken_clean → ⊥
+pub dirty_document_taken_clean_is_refused : IsLegal (log_of dirty_document_taken_clean) → ⊥
 unfolding url_on_literals is_web is_blank_url judged judged_parse read_against address_of url_of resolved with_fragment base_of fragment_of origin_text origin_of has_same_base is_rewritable events_of each_event after_opening AtEachEvent is_numbered opens is_formed is_once is_caused is_queued is_ordered is_checked ends_settled loads_end ends_told ends_stepped goes_in_time
 dirty_document_taken_clean_is_refused holds = false≢true holds.formed
 
 -- A report is delivered that no process made.
-abbrev pub delivered_without_report : List LogRow
+abbrev pub delivered_without_report : List Event
 delivered_without_report =
-    at 0 actors.Start (rows.Opened (e 0 1) (s 1) (d 1) (p 1) None (codes "http://a.test/"))
-    ∷ at 1 actors.Ui (rows.Accepted (r 1) (Some (d 1)) (requests.Poke (n 0) (actions.Push (Some (codes "s")) (Some (codes "/1")))))
-    ∷ at 2 (actors.Proc (p 1)) (made 1 1 1 1 (whats.Push (e 1 1) (Some (codes "s")) (codes "http://a.test/1")))
-    ∷ at 3 actors.Coord (rows.Delivered (p 1))
-    ∷ at 3 actors.Coord (rows.Applied (r 1) (changes.Push (n 0) (e 1 1) (s 1) (codes "http://a.test/1") (Some (codes "s"))))
-    ∷ at 3 actors.Coord (sent 1 1 0 1 (whys.Req (r 1)) (tasks.Update 2 1))
-    ∷ at 4 (actors.Proc (p 1)) (rows.Taken (p 1) (j 1) true false)
-    ∷ at 5 (actors.Proc (p 1)) (rows.Finished (p 1) (j 1) outcomes.Updated)
-    ∷ at 6 actors.Coord (rows.Delivered (p 1))
-    ∷ at 7 actors.Coord (rows.Delivered (p 1))
+    one_push
+    ++ by_coord (rows.Delivered (p 1)) []
     ∷ []
 
-pub delivered_without_report_is_refused : IsLegal delivered_without_report → ⊥
+pub delivered_without_report_is_refused : IsLegal (log_of delivered_without_report) → ⊥
 unfolding url_on_literals is_web is_blank_url judged judged_parse read_against address_of url_of resolved with_fragment base_of fragment_of origin_text origin_of has_same_base is_rewritable events_of each_event after_opening AtEachEvent is_numbered opens is_formed is_once is_caused is_queued is_ordered is_checked ends_settled loads_end ends_told ends_stepped goes_in_time
 delivered_without_report_is_refused holds = false≢true holds.formed
 
 -- Another document than the longest kept one is evicted.
-abbrev pub another_document_evicted : List LogRow
+abbrev pub another_document_evicted : List Event
 another_document_evicted =
-    at 0 actors.Start (rows.Opened (e 0 1) (s 1) (d 1) (p 1) None (codes "http://a.test/"))
-    ∷ at 1 actors.Ui (rows.Accepted (r 1) None (requests.Load (n 0) modes.Auto (codes "http://a.test/1")))
-    ∷ at 1 actors.Ui (rows.Started (r 1) None)
-    ∷ at 1 actors.Ui (sent 1 1 0 2 (whys.Req (r 1)) (tasks.Populate (n 0) (s 2) (codes "http://a.test/1") false))
-    ∷ at 2 (actors.Proc (p 1)) (rows.Taken (p 1) (j 1) true false)
-    ∷ at 3 (actors.Proc (p 1)) (rows.Finished (p 1) (j 1) (outcomes.Populated None))
-    ∷ at 4 actors.Coord (rows.Delivered (p 1))
-    ∷ at 4 actors.Coord (rows.Applied (r 1) (changes.Push (n 0) (e 0 2) (s 2) (codes "http://a.test/1") None))
-    ∷ at 4 actors.Coord (sent 2 1 0 1 (whys.Req (r 1)) tasks.Freeze)
-    ∷ at 4 actors.Coord (sent 3 1 0 2 (whys.Req (r 1)) (tasks.Activate (e 0 2) (epoch 2) 2 1 None (codes "http://a.test/1")))
-    ∷ at 5 (actors.Proc (p 1)) (rows.Taken (p 1) (j 2) true false)
-    ∷ at 6 (actors.Proc (p 1)) (rows.Finished (p 1) (j 2) outcomes.Frozen)
-    ∷ at 7 actors.Coord (rows.Delivered (p 1))
-    ∷ at 8 (actors.Proc (p 1)) (rows.Taken (p 1) (j 3) true false)
-    ∷ at 9 (actors.Proc (p 1)) (rows.Finished (p 1) (j 3) outcomes.Activated)
-    ∷ at 10 actors.Coord (rows.Delivered (p 1))
-    ∷ at 11 actors.Ui (rows.Accepted (r 2) None (requests.Load (n 0) modes.Auto (codes "http://a.test/2")))
-    ∷ at 11 actors.Ui (rows.Started (r 2) None)
-    ∷ at 11 actors.Ui (sent 4 1 0 3 (whys.Req (r 2)) (tasks.Populate (n 0) (s 3) (codes "http://a.test/2") false))
-    ∷ at 12 (actors.Proc (p 1)) (rows.Taken (p 1) (j 4) true false)
-    ∷ at 13 (actors.Proc (p 1)) (rows.Finished (p 1) (j 4) (outcomes.Populated None))
-    ∷ at 14 actors.Coord (rows.Delivered (p 1))
-    ∷ at 14 actors.Coord (rows.Applied (r 2) (changes.Push (n 0) (e 0 3) (s 3) (codes "http://a.test/2") None))
-    ∷ at 14 actors.Coord (sent 5 1 0 2 (whys.Req (r 2)) tasks.Freeze)
-    ∷ at 14 actors.Coord (sent 6 1 0 1 (whys.Req (r 2)) tasks.Discard)
-    ∷ at 14 actors.Coord (sent 7 1 0 3 (whys.Req (r 2)) (tasks.Activate (e 0 3) (epoch 3) 3 2 None (codes "http://a.test/2")))
-    ∷ at 15 (actors.Proc (p 1)) (rows.Taken (p 1) (j 5) true false)
-    ∷ at 16 (actors.Proc (p 1)) (rows.Finished (p 1) (j 5) outcomes.Frozen)
-    ∷ at 17 actors.Coord (rows.Delivered (p 1))
-    ∷ at 18 (actors.Proc (p 1)) (rows.Taken (p 1) (j 6) true false)
-    ∷ at 19 (actors.Proc (p 1)) (rows.Finished (p 1) (j 6) outcomes.Discarded)
-    ∷ at 20 actors.Coord (rows.Delivered (p 1))
-    ∷ at 21 (actors.Proc (p 1)) (rows.Taken (p 1) (j 7) true false)
-    ∷ at 22 (actors.Proc (p 1)) (rows.Finished (p 1) (j 7) outcomes.Activated)
-    ∷ at 23 actors.Coord (rows.Delivered (p 1))
-    ∷ at 24 actors.Ui (rows.Accepted (r 3) None (requests.Go (negsuc 1)))
-    ∷ at 24 actors.Ui (rows.Started (r 3) (Some (t 0)))
-    ∷ at 24 actors.Ui (sent 8 1 0 4 (whys.Req (r 3)) (tasks.Populate (n 0) (s 1) (codes "http://a.test/") false))
-    ∷ at 25 (actors.Proc (p 1)) (rows.Taken (p 1) (j 8) true false)
-    ∷ at 26 (actors.Proc (p 1)) (rows.Finished (p 1) (j 8) (outcomes.Populated None))
-    ∷ at 27 actors.Coord (rows.Delivered (p 1))
-    ∷ at 27 actors.Coord (sent 9 1 0 3 (whys.Req (r 3)) tasks.Freeze)
-    ∷ at 27 actors.Coord (sent 10 1 0 2 (whys.Req (r 3)) tasks.Discard)
-    ∷ at 27 actors.Coord (sent 11 1 0 4 (whys.Req (r 3)) (tasks.Activate (e 0 1) (epoch 4) 3 0 None (codes "http://a.test/")))
-    ∷ at 28 (actors.Proc (p 1)) (rows.Taken (p 1) (j 9) true false)
-    ∷ at 29 (actors.Proc (p 1)) (rows.Finished (p 1) (j 9) outcomes.Frozen)
-    ∷ at 30 actors.Coord (rows.Delivered (p 1))
-    ∷ at 31 (actors.Proc (p 1)) (rows.Taken (p 1) (j 10) true false)
-    ∷ at 32 (actors.Proc (p 1)) (rows.Finished (p 1) (j 10) outcomes.Discarded)
-    ∷ at 33 actors.Coord (rows.Delivered (p 1))
-    ∷ at 34 (actors.Proc (p 1)) (rows.Taken (p 1) (j 11) true false)
-    ∷ at 35 (actors.Proc (p 1)) (rows.Finished (p 1) (j 11) outcomes.Activated)
-    ∷ at 36 actors.Coord (rows.Delivered (p 1))
-    ∷ at 36 actors.Coord (rows.Applied (r 3) (changes.Traverse (t 0)))
-    ∷ at 37 actors.Ui (rows.Evicted (s 2))
-    ∷ at 37 actors.Ui (sent 12 1 0 3 whys.Evict tasks.Discard)
-    ∷ at 38 (actors.Proc (p 1)) (rows.Taken (p 1) (j 12) true false)
-    ∷ at 39 (actors.Proc (p 1)) (rows.Finished (p 1) (j 12) outcomes.Discarded)
-    ∷ at 40 actors.Coord (rows.Delivered (p 1))
-    ∷ []
+    before 37 evicted_documents
+    ++ by_ui (rows.Evicted (s 2)) (sent 12 1 0 3 whys.Evict tasks.Discard ∷ [])
+    ∷ since 38 evicted_documents
 
-pub another_document_evicted_is_refused : IsLegal another_document_evicted → ⊥
+pub another_document_evicted_is_refused : IsLegal (log_of another_document_evicted) → ⊥
 unfolding url_on_literals is_web is_blank_url judged judged_parse read_against address_of url_of resolved with_fragment base_of fragment_of origin_text origin_of has_same_base is_rewritable events_of each_event after_opening AtEachEvent is_numbered opens is_formed is_once is_caused is_queued is_ordered is_checked ends_settled loads_end ends_told ends_stepped goes_in_time
 another_document_evicted_is_refused holds = false≢true holds.formed
 
 -- An edit is made, and not applied in its event.
-abbrev pub edit_made_and_not_applied : List LogRow
+abbrev pub edit_made_and_not_applied : List Event
 edit_made_and_not_applied =
-    at 0 actors.Start (rows.Opened (e 0 1) (s 1) (d 1) (p 1) None (codes "http://a.test/"))
-    ∷ at 1 actors.Ui (rows.Accepted (r 1) None (requests.Load (n 0) modes.Auto (codes "http://a.test/1")))
-    ∷ at 1 actors.Ui (rows.Started (r 1) None)
-    ∷ at 1 actors.Ui (sent 1 1 0 2 (whys.Req (r 1)) (tasks.Populate (n 0) (s 2) (codes "http://a.test/1") false))
-    ∷ at 2 (actors.Proc (p 1)) (rows.Taken (p 1) (j 1) true false)
-    ∷ at 3 (actors.Proc (p 1)) (rows.Finished (p 1) (j 1) (outcomes.Populated (Some 0)))
-    ∷ at 4 actors.Coord (rows.Delivered (p 1))
-    ∷ at 4 actors.Coord (rows.Applied (r 1) (changes.Push (n 0) (e 0 2) (s 2) (codes "http://a.test/1") None))
-    ∷ at 4 actors.Coord (sent 2 1 0 1 (whys.Req (r 1)) tasks.Freeze)
-    ∷ at 4 actors.Coord (sent 3 1 0 2 (whys.Req (r 1)) (tasks.Activate (e 0 2) (epoch 2) 2 1 None (codes "http://a.test/1")))
-    ∷ at 5 (actors.Proc (p 1)) (rows.Taken (p 1) (j 2) true false)
-    ∷ at 6 (actors.Proc (p 1)) (rows.Finished (p 1) (j 2) outcomes.Frozen)
-    ∷ at 7 actors.Coord (rows.Delivered (p 1))
-    ∷ at 8 (actors.Proc (p 1)) (rows.Taken (p 1) (j 3) true false)
-    ∷ at 9 (actors.Proc (p 1)) (rows.Finished (p 1) (j 3) outcomes.Activated)
-    ∷ at 10 actors.Coord (rows.Delivered (p 1))
-    ∷ at 11 actors.Ui (rows.Accepted (r 2) (Some (d 2)) (requests.Poke (n 0) actions.Edit))
-    ∷ at 12 (actors.Proc (p 1)) (made 1 2 2 2 whats.Edit)
-    ∷ at 13 actors.Ui (rows.Accepted (r 3) None (requests.Go (negsuc 0)))
-    ∷ at 13 actors.Ui (rows.Started (r 3) (Some (t 0)))
-    ∷ at 13 actors.Ui (sent 4 1 0 2 (whys.Req (r 3)) (tasks.Ask 0 leavings.Traverse))
-    ∷ at 14 (actors.Proc (p 1)) (rows.Taken (p 1) (j 4) true true)
-    ∷ at 15 (actors.Proc (p 1)) (rows.Finished (p 1) (j 4) (outcomes.Asked verdicts.Prompt))
-    ∷ at 16 actors.Coord (rows.Delivered (p 1))
-    ∷ at 16 actors.Coord (rows.Prompted (r 3) (d 2))
-    ∷ at 17 actors.Ui (rows.Answered (r 3) false)
-    ∷ at 17 actors.Ui (sent 5 1 0 2 (whys.Req (r 3)) tasks.Freeze)
-    ∷ at 17 actors.Ui (sent 6 1 0 1 (whys.Req (r 3)) (tasks.Activate (e 0 1) (epoch 3) 2 0 None (codes "http://a.test/")))
-    ∷ at 18 (actors.Proc (p 1)) (rows.Taken (p 1) (j 5) true true)
-    ∷ at 19 (actors.Proc (p 1)) (rows.Finished (p 1) (j 5) outcomes.Frozen)
-    ∷ at 20 actors.Coord (rows.Delivered (p 1))
-    ∷ at 21 (actors.Proc (p 1)) (rows.Taken (p 1) (j 6) true false)
-    ∷ at 22 (actors.Proc (p 1)) (rows.Finished (p 1) (j 6) outcomes.Activated)
-    ∷ at 23 actors.Coord (rows.Delivered (p 1))
-    ∷ at 23 actors.Coord (rows.Applied (r 3) (changes.Traverse (t 0)))
-    ∷ []
+    before 12 leave
+    ++ by_proc 1 (made 1 2 2 2 whats.Edit) []
+    ∷ since 13 leave
 
-pub edit_made_and_not_applied_is_refused : IsLegal edit_made_and_not_applied → ⊥
+pub edit_made_and_not_applied_is_refused : IsLegal (log_of edit_made_and_not_applied) → ⊥
 unfolding url_on_literals is_web is_blank_url judged judged_parse read_against address_of url_of resolved with_fragment base_of fragment_of origin_text origin_of has_same_base is_rewritable events_of each_event after_opening AtEachEvent is_numbered opens is_formed is_once is_caused is_queued is_ordered is_checked ends_settled loads_end ends_told ends_stepped goes_in_time
 edit_made_and_not_applied_is_refused holds = false≢true holds.formed
 
 -- A prompt is answered twice.
-abbrev pub answered_twice : List LogRow
+abbrev pub answered_twice : List Event
 answered_twice =
-    at 0 actors.Start (rows.Opened (e 0 1) (s 1) (d 1) (p 1) None (codes "http://a.test/"))
-    ∷ at 1 actors.Ui (rows.Accepted (r 1) None (requests.Load (n 0) modes.Auto (codes "http://a.test/1")))
-    ∷ at 1 actors.Ui (rows.Started (r 1) None)
-    ∷ at 1 actors.Ui (sent 1 1 0 2 (whys.Req (r 1)) (tasks.Populate (n 0) (s 2) (codes "http://a.test/1") false))
-    ∷ at 2 (actors.Proc (p 1)) (rows.Taken (p 1) (j 1) true false)
-    ∷ at 3 (actors.Proc (p 1)) (rows.Finished (p 1) (j 1) (outcomes.Populated (Some 0)))
-    ∷ at 4 actors.Coord (rows.Delivered (p 1))
-    ∷ at 4 actors.Coord (rows.Applied (r 1) (changes.Push (n 0) (e 0 2) (s 2) (codes "http://a.test/1") None))
-    ∷ at 4 actors.Coord (sent 2 1 0 1 (whys.Req (r 1)) tasks.Freeze)
-    ∷ at 4 actors.Coord (sent 3 1 0 2 (whys.Req (r 1)) (tasks.Activate (e 0 2) (epoch 2) 2 1 None (codes "http://a.test/1")))
-    ∷ at 5 (actors.Proc (p 1)) (rows.Taken (p 1) (j 2) true false)
-    ∷ at 6 (actors.Proc (p 1)) (rows.Finished (p 1) (j 2) outcomes.Frozen)
-    ∷ at 7 actors.Coord (rows.Delivered (p 1))
-    ∷ at 8 (actors.Proc (p 1)) (rows.Taken (p 1) (j 3) true false)
-    ∷ at 9 (actors.Proc (p 1)) (rows.Finished (p 1) (j 3) outcomes.Activated)
-    ∷ at 10 actors.Coord (rows.Delivered (p 1))
-    ∷ at 11 actors.Ui (rows.Accepted (r 2) (Some (d 2)) (requests.Poke (n 0) actions.Edit))
-    ∷ at 12 (actors.Proc (p 1)) (made 1 2 2 2 whats.Edit)
-    ∷ at 12 (actors.Proc (p 1)) (rows.Applied (r 2) changes.Edit)
-    ∷ at 13 actors.Ui (rows.Accepted (r 3) None (requests.Go (negsuc 0)))
-    ∷ at 13 actors.Ui (rows.Started (r 3) (Some (t 0)))
-    ∷ at 13 actors.Ui (sent 4 1 0 2 (whys.Req (r 3)) (tasks.Ask 0 leavings.Traverse))
-    ∷ at 14 (actors.Proc (p 1)) (rows.Taken (p 1) (j 4) true true)
-    ∷ at 15 (actors.Proc (p 1)) (rows.Finished (p 1) (j 4) (outcomes.Asked verdicts.Prompt))
-    ∷ at 16 actors.Coord (rows.Delivered (p 1))
-    ∷ at 16 actors.Coord (rows.Prompted (r 3) (d 2))
-    ∷ at 17 actors.Ui (rows.Answered (r 3) false)
-    ∷ at 17 actors.Ui (sent 5 1 0 2 (whys.Req (r 3)) tasks.Freeze)
-    ∷ at 17 actors.Ui (sent 6 1 0 1 (whys.Req (r 3)) (tasks.Activate (e 0 1) (epoch 3) 2 0 None (codes "http://a.test/")))
-    ∷ at 18 (actors.Proc (p 1)) (rows.Taken (p 1) (j 5) true true)
-    ∷ at 19 (actors.Proc (p 1)) (rows.Finished (p 1) (j 5) outcomes.Frozen)
-    ∷ at 20 actors.Coord (rows.Delivered (p 1))
-    ∷ at 21 (actors.Proc (p 1)) (rows.Taken (p 1) (j 6) true false)
-    ∷ at 22 (actors.Proc (p 1)) (rows.Finished (p 1) (j 6) outcomes.Activated)
-    ∷ at 23 actors.Coord (rows.Delivered (p 1))
-    ∷ at 23 actors.Coord (rows.Applied (r 3) (changes.Traverse (t 0)))
-    ∷ at 24 actors.Ui (rows.Answered (r 3) false)
+    leave
+    ++ by_ui (rows.Answered (r 3) false) []
     ∷ []
 
-pub answered_twice_is_refused : IsLegal answered_twice → ⊥
+pub answered_twice_is_refused : IsLegal (log_of answered_twice) → ⊥
 unfolding url_on_literals is_web is_blank_url judged judged_parse read_against address_of url_of resolved with_fragment base_of fragment_of origin_text origin_of has_same_base is_rewritable events_of each_event after_opening AtEachEvent is_numbered opens is_formed is_once is_caused is_queued is_ordered is_checked ends_settled loads_end ends_told ends_stepped goes_in_time
 answered_twice_is_refused holds = false≢true holds.formed
 
 -- A poke names another document than the one that runs.
-abbrev pub poke_of_another_document : List LogRow
+abbrev pub poke_of_another_document : List Event
 poke_of_another_document =
-    at 0 actors.Start (rows.Opened (e 0 1) (s 1) (d 1) (p 1) None (codes "http://a.test/"))
-    ∷ at 1 actors.Ui (rows.Accepted (r 1) (Some (d 1)) (requests.Poke (n 0) (actions.AddFrame (n 1))))
-    ∷ at 2 (actors.Proc (p 1)) (made 1 1 1 1 (whats.AddFrame (n 1)))
-    ∷ at 3 actors.Coord (rows.Delivered (p 1))
-    ∷ at 3 actors.Coord (rows.Applied (r 1) (changes.AddFrame (s 1) (n 1) (e 0 2) (s 2)))
-    ∷ at 3 actors.Coord (sent 1 1 0 2 (whys.Req (r 1)) (tasks.Populate (n 1) (s 2) (codes "about:blank") true))
-    ∷ at 4 (actors.Proc (p 1)) (rows.Taken (p 1) (j 1) true false)
-    ∷ at 5 (actors.Proc (p 1)) (rows.Finished (p 1) (j 1) (outcomes.Populated None))
-    ∷ at 6 actors.Coord (rows.Delivered (p 1))
-    ∷ at 6 actors.Coord (sent 2 1 0 2 (whys.Req (r 1)) (tasks.Activate (e 0 2) (epoch 1) 1 0 None (codes "about:blank")))
-    ∷ at 7 (actors.Proc (p 1)) (rows.Taken (p 1) (j 2) true false)
-    ∷ at 8 (actors.Proc (p 1)) (rows.Finished (p 1) (j 2) outcomes.Activated)
-    ∷ at 9 actors.Coord (rows.Delivered (p 1))
-    ∷ at 10 actors.Ui (rows.Accepted (r 2) (Some (d 2)) (requests.Poke (n 0) (actions.Push (Some (codes "s")) (Some (codes "/1")))))
-    ∷ at 11 (actors.Proc (p 1)) (made 1 2 1 1 (whats.Push (e 1 1) (Some (codes "s")) (codes "http://a.test/1")))
-    ∷ at 12 actors.Coord (rows.Delivered (p 1))
-    ∷ at 12 actors.Coord (rows.Applied (r 2) (changes.Push (n 0) (e 1 1) (s 1) (codes "http://a.test/1") (Some (codes "s"))))
-    ∷ at 12 actors.Coord (sent 3 1 0 1 (whys.Req (r 2)) (tasks.Update 2 1))
-    ∷ at 12 actors.Coord (sent 4 1 0 2 (whys.Req (r 2)) (tasks.Update 2 1))
-    ∷ at 13 (actors.Proc (p 1)) (rows.Taken (p 1) (j 3) true false)
-    ∷ at 14 (actors.Proc (p 1)) (rows.Finished (p 1) (j 3) outcomes.Updated)
-    ∷ at 15 actors.Coord (rows.Delivered (p 1))
-    ∷ at 16 (actors.Proc (p 1)) (rows.Taken (p 1) (j 4) true false)
-    ∷ at 17 (actors.Proc (p 1)) (rows.Finished (p 1) (j 4) outcomes.Updated)
-    ∷ at 18 actors.Coord (rows.Delivered (p 1))
-    ∷ []
+    before 10 push_beside_a_frame
+    ++ by_ui (rows.Accepted (r 2) (Some (d 2)) (requests.Poke (n 0) (actions.Push (Some (codes "s")) (Some (codes "/1"))))) []
+    ∷ since 11 push_beside_a_frame
 
-pub poke_of_another_document_is_refused : IsLegal poke_of_another_document → ⊥
+pub poke_of_another_document_is_refused : IsLegal (log_of poke_of_another_document) → ⊥
 unfolding url_on_literals is_web is_blank_url judged judged_parse read_against address_of url_of resolved with_fragment base_of fragment_of origin_text origin_of has_same_base is_rewritable events_of each_event after_opening AtEachEvent is_numbered opens is_formed is_once is_caused is_queued is_ordered is_checked ends_settled loads_end ends_told ends_stepped goes_in_time
 poke_of_another_document_is_refused holds = false≢true holds.formed
 
 -- A report is delivered by the user.
-abbrev pub delivered_by_the_user : List LogRow
+abbrev pub delivered_by_the_user : List Event
 delivered_by_the_user =
-    at 0 actors.Start (rows.Opened (e 0 1) (s 1) (d 1) (p 1) None (codes "http://a.test/"))
-    ∷ at 1 actors.Ui (rows.Accepted (r 1) (Some (d 1)) (requests.Poke (n 0) (actions.Push (Some (codes "s")) (Some (codes "/1")))))
-    ∷ at 2 (actors.Proc (p 1)) (made 1 1 1 1 (whats.Push (e 1 1) (Some (codes "s")) (codes "http://a.test/1")))
-    ∷ at 3 actors.Coord (rows.Delivered (p 1))
-    ∷ at 3 actors.Coord (rows.Applied (r 1) (changes.Push (n 0) (e 1 1) (s 1) (codes "http://a.test/1") (Some (codes "s"))))
-    ∷ at 3 actors.Coord (sent 1 1 0 1 (whys.Req (r 1)) (tasks.Update 2 1))
-    ∷ at 4 (actors.Proc (p 1)) (rows.Taken (p 1) (j 1) true false)
-    ∷ at 5 (actors.Proc (p 1)) (rows.Finished (p 1) (j 1) outcomes.Updated)
-    ∷ at 6 actors.Ui (rows.Delivered (p 1))
+    before 6 one_push
+    ++ by_ui (rows.Delivered (p 1)) []
     ∷ []
 
-pub delivered_by_the_user_is_refused : IsLegal delivered_by_the_user → ⊥
+pub delivered_by_the_user_is_refused : IsLegal (log_of delivered_by_the_user) → ⊥
 unfolding url_on_literals is_web is_blank_url judged judged_parse read_against address_of url_of resolved with_fragment base_of fragment_of origin_text origin_of has_same_base is_rewritable events_of each_event after_opening AtEachEvent is_numbered opens is_formed is_once is_caused is_queued is_ordered is_checked ends_settled loads_end ends_told ends_stepped goes_in_time
 delivered_by_the_user_is_refused holds = false≢true holds.formed
 
 -- A death leaves a poke in the input.
-abbrev pub poke_kept_by_the_dead : List LogRow
+abbrev pub poke_kept_by_the_dead : List Event
 poke_kept_by_the_dead =
-    at 0 actors.Start (rows.Opened (e 0 1) (s 1) (d 1) (p 1) None (codes "http://a.test/"))
-    ∷ at 1 actors.Ui (rows.Accepted (r 1) (Some (d 1)) (requests.Poke (n 0) (actions.Push (Some (codes "s")) (Some (codes "/1")))))
-    ∷ at 2 actors.Ui (rows.Killed (p 1) (x 1))
-    ∷ at 3 actors.Coord (rows.Delivered (p 1))
+    by_start (rows.Opened (e 0 1) (s 1) (d 1) (p 1) None (codes "http://a.test/")) []
+    ∷ by_ui (rows.Accepted (r 1) (Some (d 1)) (requests.Poke (n 0) (actions.Push (Some (codes "s")) (Some (codes "/1"))))) []
+    ∷ by_ui (rows.Killed (p 1) (x 1)) []
+    ∷ by_coord (rows.Delivered (p 1)) []
     ∷ []
 
-pub poke_kept_by_the_dead_is_refused : IsLegal poke_kept_by_the_dead → ⊥
+pub poke_kept_by_the_dead_is_refused : IsLegal (log_of poke_kept_by_the_dead) → ⊥
 unfolding url_on_literals is_web is_blank_url judged judged_parse read_against address_of url_of resolved with_fragment base_of fragment_of origin_text origin_of has_same_base is_rewritable events_of each_event after_opening AtEachEvent is_numbered opens is_formed is_once is_caused is_queued is_ordered is_checked ends_settled loads_end ends_told ends_stepped goes_in_time
 poke_kept_by_the_dead_is_refused holds = false≢true holds.formed
 
 -- A fragment order of a running document makes nothing.
-abbrev pub fragment_that_makes_nothing : List LogRow
+abbrev pub fragment_that_makes_nothing : List Event
 fragment_that_makes_nothing =
-    at 0 actors.Start (rows.Opened (e 0 1) (s 1) (d 1) (p 1) None (codes "http://a.test/"))
-    ∷ at 1 actors.Ui (rows.Accepted (r 1) None (requests.Load (n 0) modes.Auto (codes "http://a.test/#x")))
-    ∷ at 1 actors.Ui (sent 1 1 0 1 (whys.Req (r 1)) (tasks.DoFragment (r 1) modes.Auto (codes "http://a.test/#x")))
-    ∷ at 2 (actors.Proc (p 1)) (rows.Taken (p 1) (j 1) true false)
-    ∷ at 3 (actors.Proc (p 1)) (rows.Finished (p 1) (j 1) outcomes.Fragmented)
-    ∷ at 4 actors.Coord (rows.Delivered (p 1))
-    ∷ at 4 actors.Coord (rows.Applied (r 1) (changes.Push (n 0) (e 1 1) (s 1) (codes "http://a.test/#x") None))
-    ∷ at 4 actors.Coord (sent 2 1 0 1 (whys.Req (r 1)) (tasks.Update 2 1))
-    ∷ at 5 (actors.Proc (p 1)) (rows.Taken (p 1) (j 2) true false)
-    ∷ at 6 (actors.Proc (p 1)) (rows.Finished (p 1) (j 2) outcomes.Updated)
-    ∷ at 7 actors.Coord (rows.Delivered (p 1))
-    ∷ []
+    before 3 fragment_load
+    ++ by_proc 1 (rows.Finished (p 1) (j 1) outcomes.Fragmented) []
+    ∷ since 4 fragment_load
 
-pub fragment_that_makes_nothing_is_refused : IsLegal fragment_that_makes_nothing → ⊥
+pub fragment_that_makes_nothing_is_refused : IsLegal (log_of fragment_that_makes_nothing) → ⊥
 unfolding url_on_literals is_web is_blank_url judged judged_parse read_against address_of url_of resolved with_fragment base_of fragment_of origin_text origin_of has_same_base is_rewritable events_of each_event after_opening AtEachEvent is_numbered opens is_formed is_once is_caused is_queued is_ordered is_checked ends_settled loads_end ends_told ends_stepped goes_in_time
 fragment_that_makes_nothing_is_refused holds = false≢true holds.formed
 
 -- A death has another number than the next.
-abbrev pub another_death_number : List LogRow
+abbrev pub another_death_number : List Event
 another_death_number =
-    at 0 actors.Start (rows.Opened (e 0 1) (s 1) (d 1) (p 1) None (codes "http://a.test/"))
-    ∷ at 1 actors.Ui (rows.Accepted (r 1) (Some (d 1)) (requests.Poke (n 0) (actions.Push (Some (codes "s")) (Some (codes "/1")))))
-    ∷ at 2 (actors.Proc (p 1)) (made 1 1 1 1 (whats.Push (e 1 1) (Some (codes "s")) (codes "http://a.test/1")))
-    ∷ at 3 actors.Ui (rows.Killed (p 1) (x 2))
-    ∷ at 4 actors.Coord (rows.Delivered (p 1))
-    ∷ at 4 actors.Coord (rows.Applied (r 1) (changes.Push (n 0) (e 1 1) (s 1) (codes "http://a.test/1") (Some (codes "s"))))
-    ∷ at 4 actors.Coord (sent 1 1 0 1 (whys.Req (r 1)) (tasks.Update 2 1))
-    ∷ at 5 (actors.Proc (p 1)) (rows.Taken (p 1) (j 1) false false)
-    ∷ at 6 actors.Coord (rows.Delivered (p 1))
-    ∷ []
+    before 3 void_order
+    ++ by_ui (rows.Killed (p 1) (x 2)) []
+    ∷ since 4 void_order
 
-pub another_death_number_is_refused : IsLegal another_death_number → ⊥
+pub another_death_number_is_refused : IsLegal (log_of another_death_number) → ⊥
 unfolding url_on_literals is_web is_blank_url judged judged_parse read_against address_of url_of resolved with_fragment base_of fragment_of origin_text origin_of has_same_base is_rewritable events_of each_event after_opening AtEachEvent is_numbered opens is_formed is_once is_caused is_queued is_ordered is_checked ends_settled loads_end ends_told ends_stepped goes_in_time
 another_death_number_is_refused holds = false≢true holds.formed

@@ -1,4 +1,5 @@
 -- Broken logs, each refused by the field `numbered`.
+-- A log is its events: those before one of another log, since one, or between two, and its own.
 use Rattle.std.proofs.Common.{true, false, List, [], ◌∷◌, codes, Some, None}
 use Rattle.std.proofs.lemmas.Bool.{false≢true}
 use Rattle.url.proofs.OnLiterals.{url_on_literals}

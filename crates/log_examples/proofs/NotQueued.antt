@@ -1,458 +1,100 @@
 -- Broken logs, each refused by the field `queued`.
-use Rattle.std.proofs.Common.{negsuc, true, false, List, [], ◌∷◌, codes, Some, None}
+-- A log is its events: those before one of another log, since one, or between two, and its own.
+use Rattle.std.proofs.Common.{negsuc, true, false, List, [], ◌∷◌, ◌++◌, codes, Some, None}
 use Rattle.std.proofs.lemmas.Bool.{false≢true}
 use Rattle.url.proofs.OnLiterals.{url_on_literals}
 use Rattle.address.specs.Addresses.{is_web, is_blank_url, judged, judged_parse, read_against, address_of, url_of, resolved, with_fragment, base_of, fragment_of, origin_text, origin_of, has_same_base, is_rewritable}
-use Rattle.log_model.specs.declared.action.Action.TheVariants as actions
 use Rattle.log_model.specs.declared.change.Change.TheVariants as changes
 use Rattle.log_model.specs.declared.job.Task.TheVariants as tasks
 use Rattle.log_model.specs.declared.job.Why.TheVariants as whys
-use Rattle.log_model.specs.declared.made.What.TheVariants as whats
 use Rattle.log_model.specs.declared.outcome.Outcome.TheVariants as outcomes
-use Rattle.log_model.specs.declared.request.Mode.TheVariants as modes
 use Rattle.log_model.specs.declared.request.Request.TheVariants as requests
-use Rattle.log_model.specs.declared.row_kind.Actor.TheVariants as actors
-use Rattle.log_model.specs.declared.row_kind.LogRow.{LogRow}
 use Rattle.log_model.specs.declared.row_kind.RowKind.TheVariants as rows
 use Rattle.log_model.specs.Events.{events_of, each_event, after_opening, AtEachEvent}
 use Rattle.log_model.specs.Formed.{is_numbered}
 use Rattle.log_model.specs.Legal.{IsLegal, opens, is_formed, is_once, is_caused, is_queued, is_ordered, is_checked, ends_settled}
 use Rattle.log_model.specs.LoadsEndInTime.{loads_end}
 use Rattle.log_model.specs.ActsAtOnce.{ends_told, ends_stepped, goes_in_time}
-use Rattle.log_examples.specs.Rows.{n, s, r, p, t, d, j, e, epoch, at, sent, made}
+use Rattle.log_examples.specs.Rows.{n, s, r, p, t, j, e, epoch, sent}
+use Rattle.log_examples.specs.Logs.{Event, by_ui, by_coord, by_proc, log_of, before, since, between}
+use Rattle.log_examples.proofs.Traversals.{push_under_an_old_epoch, two_traversals_in_the_queue}
+use Rattle.log_examples.proofs.Interleavings.{push_beside_a_running_traversal, held_back_push}
+use Rattle.log_examples.proofs.Loads.{load_ended_by_a_traversal}
 
 -- A traversal is applied before all navigables stand.
-abbrev pub traversal_applied_early : List LogRow
+abbrev pub traversal_applied_early : List Event
 traversal_applied_early =
-    at 0 actors.Start (rows.Opened (e 0 1) (s 1) (d 1) (p 1) None (codes "http://a.test/"))
-    ∷ at 1 actors.Ui (rows.Accepted (r 1) (Some (d 1)) (requests.Poke (n 0) (actions.AddFrame (n 1))))
-    ∷ at 2 actors.Ui (rows.Accepted (r 2) (Some (d 1)) (requests.Poke (n 0) (actions.AddFrame (n 2))))
-    ∷ at 3 (actors.Proc (p 1)) (made 1 1 1 1 (whats.AddFrame (n 1)))
-    ∷ at 4 actors.Coord (rows.Delivered (p 1))
-    ∷ at 4 actors.Coord (rows.Applied (r 1) (changes.AddFrame (s 1) (n 1) (e 0 2) (s 2)))
-    ∷ at 4 actors.Coord (sent 1 1 0 2 (whys.Req (r 1)) (tasks.Populate (n 1) (s 2) (codes "about:blank") true))
-    ∷ at 5 (actors.Proc (p 1)) (made 1 2 1 1 (whats.AddFrame (n 2)))
-    ∷ at 6 (actors.Proc (p 1)) (rows.Taken (p 1) (j 1) true false)
-    ∷ at 7 (actors.Proc (p 1)) (rows.Finished (p 1) (j 1) (outcomes.Populated None))
-    ∷ at 8 actors.Coord (rows.Delivered (p 1))
-    ∷ at 8 actors.Coord (rows.Applied (r 2) (changes.AddFrame (s 1) (n 2) (e 0 3) (s 3)))
-    ∷ at 8 actors.Coord (sent 2 1 0 3 (whys.Req (r 2)) (tasks.Populate (n 2) (s 3) (codes "about:blank") true))
-    ∷ at 9 (actors.Proc (p 1)) (rows.Taken (p 1) (j 2) true false)
-    ∷ at 10 (actors.Proc (p 1)) (rows.Finished (p 1) (j 2) (outcomes.Populated None))
-    ∷ at 11 actors.Coord (rows.Delivered (p 1))
-    ∷ at 11 actors.Coord (sent 3 1 0 2 (whys.Req (r 1)) (tasks.Activate (e 0 2) (epoch 1) 1 0 None (codes "about:blank")))
-    ∷ at 12 (actors.Proc (p 1)) (rows.Taken (p 1) (j 3) true false)
-    ∷ at 13 (actors.Proc (p 1)) (rows.Finished (p 1) (j 3) outcomes.Activated)
-    ∷ at 14 actors.Coord (rows.Delivered (p 1))
-    ∷ at 14 actors.Coord (sent 4 1 0 3 (whys.Req (r 2)) (tasks.Activate (e 0 3) (epoch 1) 1 0 None (codes "about:blank")))
-    ∷ at 15 (actors.Proc (p 1)) (rows.Taken (p 1) (j 4) true false)
-    ∷ at 16 (actors.Proc (p 1)) (rows.Finished (p 1) (j 4) outcomes.Activated)
-    ∷ at 17 actors.Coord (rows.Delivered (p 1))
-    ∷ at 18 actors.Coord (rows.Delivered (p 1))
-    ∷ at 19 actors.Ui (rows.Accepted (r 3) None (requests.Load (n 1) modes.Auto (codes "http://a.test/f1")))
-    ∷ at 19 actors.Ui (rows.Started (r 3) None)
-    ∷ at 19 actors.Ui (sent 5 1 0 4 (whys.Req (r 3)) (tasks.Populate (n 1) (s 4) (codes "http://a.test/f1") false))
-    ∷ at 20 actors.Ui (rows.Accepted (r 4) None (requests.Load (n 2) modes.Auto (codes "http://a.test/g")))
-    ∷ at 20 actors.Ui (rows.Started (r 4) None)
-    ∷ at 20 actors.Ui (sent 6 1 0 5 (whys.Req (r 4)) (tasks.Populate (n 2) (s 5) (codes "http://a.test/g") false))
-    ∷ at 21 (actors.Proc (p 1)) (rows.Taken (p 1) (j 5) true false)
-    ∷ at 22 (actors.Proc (p 1)) (rows.Finished (p 1) (j 5) (outcomes.Populated None))
-    ∷ at 23 actors.Coord (rows.Delivered (p 1))
-    ∷ at 23 actors.Coord (rows.Applied (r 3) (changes.Replace (n 1) (e 0 2) (e 0 4) (s 4) (codes "http://a.test/f1") None))
-    ∷ at 23 actors.Coord (sent 7 1 0 2 (whys.Req (r 3)) tasks.Discard)
-    ∷ at 23 actors.Coord (sent 8 1 0 4 (whys.Req (r 3)) (tasks.Activate (e 0 4) (epoch 2) 1 0 None (codes "http://a.test/f1")))
-    ∷ at 24 (actors.Proc (p 1)) (rows.Taken (p 1) (j 6) true false)
-    ∷ at 25 (actors.Proc (p 1)) (rows.Finished (p 1) (j 6) (outcomes.Populated None))
-    ∷ at 26 actors.Coord (rows.Delivered (p 1))
-    ∷ at 27 (actors.Proc (p 1)) (rows.Taken (p 1) (j 7) true false)
-    ∷ at 28 (actors.Proc (p 1)) (rows.Finished (p 1) (j 7) outcomes.Discarded)
-    ∷ at 29 actors.Coord (rows.Delivered (p 1))
-    ∷ at 30 (actors.Proc (p 1)) (rows.Taken (p 1) (j 8) true false)
-    ∷ at 31 (actors.Proc (p 1)) (rows.Finished (p 1) (j 8) outcomes.Activated)
-    ∷ at 32 actors.Coord (rows.Delivered (p 1))
-    ∷ at 32 actors.Coord (rows.Applied (r 4) (changes.Replace (n 2) (e 0 3) (e 0 5) (s 5) (codes "http://a.test/g") None))
-    ∷ at 32 actors.Coord (sent 9 1 0 3 (whys.Req (r 4)) tasks.Discard)
-    ∷ at 32 actors.Coord (sent 10 1 0 5 (whys.Req (r 4)) (tasks.Activate (e 0 5) (epoch 2) 1 0 None (codes "http://a.test/g")))
-    ∷ at 33 (actors.Proc (p 1)) (rows.Taken (p 1) (j 9) true false)
-    ∷ at 34 (actors.Proc (p 1)) (rows.Finished (p 1) (j 9) outcomes.Discarded)
-    ∷ at 35 actors.Coord (rows.Delivered (p 1))
-    ∷ at 36 (actors.Proc (p 1)) (rows.Taken (p 1) (j 10) true false)
-    ∷ at 37 (actors.Proc (p 1)) (rows.Finished (p 1) (j 10) outcomes.Activated)
-    ∷ at 38 actors.Coord (rows.Delivered (p 1))
-    ∷ at 39 actors.Ui (rows.Accepted (r 5) None (requests.Load (n 1) modes.Auto (codes "http://a.test/f2")))
-    ∷ at 39 actors.Ui (rows.Started (r 5) None)
-    ∷ at 39 actors.Ui (sent 11 1 0 6 (whys.Req (r 5)) (tasks.Populate (n 1) (s 6) (codes "http://a.test/f2") false))
-    ∷ at 40 (actors.Proc (p 1)) (rows.Taken (p 1) (j 11) true false)
-    ∷ at 41 (actors.Proc (p 1)) (rows.Finished (p 1) (j 11) (outcomes.Populated None))
-    ∷ at 42 actors.Coord (rows.Delivered (p 1))
-    ∷ at 42 actors.Coord (rows.Applied (r 5) (changes.Push (n 1) (e 0 6) (s 6) (codes "http://a.test/f2") None))
-    ∷ at 42 actors.Coord (sent 12 1 0 4 (whys.Req (r 5)) tasks.Freeze)
-    ∷ at 42 actors.Coord (sent 13 1 0 6 (whys.Req (r 5)) (tasks.Activate (e 0 6) (epoch 3) 2 1 None (codes "http://a.test/f2")))
-    ∷ at 42 actors.Coord (sent 14 1 0 1 (whys.Req (r 5)) (tasks.Update 2 1))
-    ∷ at 42 actors.Coord (sent 15 1 0 5 (whys.Req (r 5)) (tasks.Update 2 1))
-    ∷ at 43 (actors.Proc (p 1)) (rows.Taken (p 1) (j 12) true false)
-    ∷ at 44 (actors.Proc (p 1)) (rows.Finished (p 1) (j 12) outcomes.Frozen)
-    ∷ at 45 actors.Coord (rows.Delivered (p 1))
-    ∷ at 46 (actors.Proc (p 1)) (rows.Taken (p 1) (j 13) true false)
-    ∷ at 47 (actors.Proc (p 1)) (rows.Finished (p 1) (j 13) outcomes.Activated)
-    ∷ at 48 actors.Coord (rows.Delivered (p 1))
-    ∷ at 49 (actors.Proc (p 1)) (rows.Taken (p 1) (j 14) true false)
-    ∷ at 50 (actors.Proc (p 1)) (rows.Finished (p 1) (j 14) outcomes.Updated)
-    ∷ at 51 actors.Coord (rows.Delivered (p 1))
-    ∷ at 52 (actors.Proc (p 1)) (rows.Taken (p 1) (j 15) true false)
-    ∷ at 53 (actors.Proc (p 1)) (rows.Finished (p 1) (j 15) outcomes.Updated)
-    ∷ at 54 actors.Coord (rows.Delivered (p 1))
-    ∷ at 55 actors.Ui (rows.Accepted (r 6) (Some (d 5)) (requests.Poke (n 2) (actions.Push (Some (codes "s")) (Some (codes "/h")))))
-    ∷ at 56 actors.Ui (rows.Accepted (r 7) None (requests.Go (negsuc 0)))
-    ∷ at 56 actors.Ui (rows.Started (r 7) (Some (t 0)))
-    ∷ at 56 actors.Ui (sent 16 1 0 6 (whys.Req (r 7)) tasks.Freeze)
-    ∷ at 56 actors.Ui (sent 17 1 0 4 (whys.Req (r 7)) (tasks.Activate (e 0 4) (epoch 4) 2 0 None (codes "http://a.test/f1")))
-    ∷ at 57 (actors.Proc (p 1)) (made 1 6 5 2 (whats.Push (e 5 1) (Some (codes "s")) (codes "http://a.test/h")))
-    ∷ at 58 actors.Coord (rows.Delivered (p 1))
-    ∷ at 58 actors.Coord (rows.Applied (r 6) (changes.Push (n 2) (e 5 1) (s 5) (codes "http://a.test/h") (Some (codes "s"))))
-    ∷ at 58 actors.Coord (sent 18 1 0 5 (whys.Req (r 7)) (tasks.Activate (e 0 5) (epoch 3) 3 0 None (codes "http://a.test/g")))
-    ∷ at 58 actors.Coord (sent 19 1 0 1 (whys.Req (r 6)) (tasks.Update 3 2))
-    ∷ at 58 actors.Coord (sent 20 1 0 4 (whys.Req (r 6)) (tasks.Update 3 0))
-    ∷ at 59 (actors.Proc (p 1)) (rows.Taken (p 1) (j 16) true false)
-    ∷ at 60 (actors.Proc (p 1)) (rows.Finished (p 1) (j 16) outcomes.Frozen)
-    ∷ at 61 actors.Coord (rows.Delivered (p 1))
-    ∷ at 62 (actors.Proc (p 1)) (rows.Taken (p 1) (j 17) true false)
-    ∷ at 63 (actors.Proc (p 1)) (rows.Finished (p 1) (j 17) outcomes.Activated)
-    ∷ at 64 actors.Coord (rows.Delivered (p 1))
-    ∷ at 64 actors.Coord (rows.Applied (r 7) (changes.Traverse (t 0)))
-    ∷ at 65 (actors.Proc (p 1)) (rows.Taken (p 1) (j 18) true false)
-    ∷ at 66 (actors.Proc (p 1)) (rows.Finished (p 1) (j 18) outcomes.Activated)
-    ∷ at 67 actors.Coord (rows.Delivered (p 1))
-    ∷ at 67 actors.Coord (sent 21 1 0 1 (whys.Req (r 7)) (tasks.Update 3 0))
-    ∷ at 68 (actors.Proc (p 1)) (rows.Taken (p 1) (j 19) true false)
-    ∷ at 69 (actors.Proc (p 1)) (rows.Finished (p 1) (j 19) outcomes.Updated)
-    ∷ at 70 actors.Coord (rows.Delivered (p 1))
-    ∷ at 71 (actors.Proc (p 1)) (rows.Taken (p 1) (j 20) true false)
-    ∷ at 72 (actors.Proc (p 1)) (rows.Finished (p 1) (j 20) outcomes.Updated)
-    ∷ at 73 actors.Coord (rows.Delivered (p 1))
-    ∷ at 74 (actors.Proc (p 1)) (rows.Taken (p 1) (j 21) true false)
-    ∷ at 75 (actors.Proc (p 1)) (rows.Finished (p 1) (j 21) outcomes.Updated)
-    ∷ at 76 actors.Coord (rows.Delivered (p 1))
-    ∷ []
+    before 64 push_beside_a_running_traversal
+    ++ by_coord (rows.Delivered (p 1)) (rows.Applied (r 7) (changes.Traverse (t 0)) ∷ [])
+    ∷ by_proc 1 (rows.Taken (p 1) (j 18) true false) []
+    ∷ by_proc 1 (rows.Finished (p 1) (j 18) outcomes.Activated) []
+    ∷ by_coord (rows.Delivered (p 1)) (sent 21 1 0 1 (whys.Req (r 7)) (tasks.Update 3 0) ∷ [])
+    ∷ since 68 push_beside_a_running_traversal
 
-pub traversal_applied_early_is_refused : IsLegal traversal_applied_early → ⊥
+pub traversal_applied_early_is_refused : IsLegal (log_of traversal_applied_early) → ⊥
 unfolding url_on_literals is_web is_blank_url judged judged_parse read_against address_of url_of resolved with_fragment base_of fragment_of origin_text origin_of has_same_base is_rewritable events_of each_event after_opening AtEachEvent is_numbered opens is_formed is_once is_caused is_queued is_ordered is_checked ends_settled loads_end ends_told ends_stepped goes_in_time
 traversal_applied_early_is_refused holds = false≢true holds.queued
 
 -- A push under an old epoch is applied.
-abbrev pub old_epoch_applied : List LogRow
+abbrev pub old_epoch_applied : List Event
 old_epoch_applied =
-    at 0 actors.Start (rows.Opened (e 0 1) (s 1) (d 1) (p 1) None (codes "http://a.test/"))
-    ∷ at 1 actors.Ui (rows.Accepted (r 1) (Some (d 1)) (requests.Poke (n 0) (actions.Push (Some (codes "s")) (Some (codes "/1")))))
-    ∷ at 2 (actors.Proc (p 1)) (made 1 1 1 1 (whats.Push (e 1 1) (Some (codes "s")) (codes "http://a.test/1")))
-    ∷ at 3 actors.Coord (rows.Delivered (p 1))
-    ∷ at 3 actors.Coord (rows.Applied (r 1) (changes.Push (n 0) (e 1 1) (s 1) (codes "http://a.test/1") (Some (codes "s"))))
-    ∷ at 3 actors.Coord (sent 1 1 0 1 (whys.Req (r 1)) (tasks.Update 2 1))
-    ∷ at 4 (actors.Proc (p 1)) (rows.Taken (p 1) (j 1) true false)
-    ∷ at 5 (actors.Proc (p 1)) (rows.Finished (p 1) (j 1) outcomes.Updated)
-    ∷ at 6 actors.Coord (rows.Delivered (p 1))
-    ∷ at 7 actors.Ui (rows.Accepted (r 2) None (requests.Go (negsuc 0)))
-    ∷ at 7 actors.Ui (rows.Started (r 2) (Some (t 0)))
-    ∷ at 7 actors.Ui (sent 2 1 0 1 (whys.Req (r 2)) (tasks.Activate (e 0 1) (epoch 2) 2 0 None (codes "http://a.test/")))
-    ∷ at 8 (actors.Proc (p 1)) (rows.Taken (p 1) (j 2) true false)
-    ∷ at 9 actors.Ui (rows.Accepted (r 3) (Some (d 1)) (requests.Poke (n 0) (actions.Push (Some (codes "t")) (Some (codes "/2")))))
-    ∷ at 10 (actors.Proc (p 1)) (made 1 3 1 1 (whats.Push (e 1 2) (Some (codes "t")) (codes "http://a.test/2")))
-    ∷ at 11 (actors.Proc (p 1)) (rows.Finished (p 1) (j 2) outcomes.Activated)
-    ∷ at 12 actors.Coord (rows.Delivered (p 1))
-    ∷ at 12 actors.Coord (rows.Applied (r 3) (changes.Push (n 0) (e 1 2) (s 1) (codes "http://a.test/2") (Some (codes "t"))))
-    ∷ at 13 actors.Coord (rows.Delivered (p 1))
-    ∷ at 13 actors.Coord (rows.Applied (r 2) (changes.Traverse (t 0)))
+    before 12 push_under_an_old_epoch
+    ++ by_coord (rows.Delivered (p 1)) (rows.Applied (r 3) (changes.Push (n 0) (e 1 2) (s 1) (codes "http://a.test/2") (Some (codes "t"))) ∷ [])
+    ∷ by_coord (rows.Delivered (p 1)) (rows.Applied (r 2) (changes.Traverse (t 0)) ∷ [])
     ∷ []
 
-pub old_epoch_applied_is_refused : IsLegal old_epoch_applied → ⊥
+pub old_epoch_applied_is_refused : IsLegal (log_of old_epoch_applied) → ⊥
 unfolding url_on_literals is_web is_blank_url judged judged_parse read_against address_of url_of resolved with_fragment base_of fragment_of origin_text origin_of has_same_base is_rewritable events_of each_event after_opening AtEachEvent is_numbered opens is_formed is_once is_caused is_queued is_ordered is_checked ends_settled loads_end ends_told ends_stepped goes_in_time
 old_epoch_applied_is_refused holds = false≢true holds.queued
 
 -- A push that may jump the queue waits for the traversal.
-abbrev pub push_waits_for_the_traversal : List LogRow
+abbrev pub push_waits_for_the_traversal : List Event
 push_waits_for_the_traversal =
-    at 0 actors.Start (rows.Opened (e 0 1) (s 1) (d 1) (p 1) None (codes "http://a.test/"))
-    ∷ at 1 actors.Ui (rows.Accepted (r 1) (Some (d 1)) (requests.Poke (n 0) (actions.AddFrame (n 1))))
-    ∷ at 2 actors.Ui (rows.Accepted (r 2) (Some (d 1)) (requests.Poke (n 0) (actions.AddFrame (n 2))))
-    ∷ at 3 (actors.Proc (p 1)) (made 1 1 1 1 (whats.AddFrame (n 1)))
-    ∷ at 4 actors.Coord (rows.Delivered (p 1))
-    ∷ at 4 actors.Coord (rows.Applied (r 1) (changes.AddFrame (s 1) (n 1) (e 0 2) (s 2)))
-    ∷ at 4 actors.Coord (sent 1 1 0 2 (whys.Req (r 1)) (tasks.Populate (n 1) (s 2) (codes "about:blank") true))
-    ∷ at 5 (actors.Proc (p 1)) (made 1 2 1 1 (whats.AddFrame (n 2)))
-    ∷ at 6 (actors.Proc (p 1)) (rows.Taken (p 1) (j 1) true false)
-    ∷ at 7 (actors.Proc (p 1)) (rows.Finished (p 1) (j 1) (outcomes.Populated None))
-    ∷ at 8 actors.Coord (rows.Delivered (p 1))
-    ∷ at 8 actors.Coord (rows.Applied (r 2) (changes.AddFrame (s 1) (n 2) (e 0 3) (s 3)))
-    ∷ at 8 actors.Coord (sent 2 1 0 3 (whys.Req (r 2)) (tasks.Populate (n 2) (s 3) (codes "about:blank") true))
-    ∷ at 9 (actors.Proc (p 1)) (rows.Taken (p 1) (j 2) true false)
-    ∷ at 10 (actors.Proc (p 1)) (rows.Finished (p 1) (j 2) (outcomes.Populated None))
-    ∷ at 11 actors.Coord (rows.Delivered (p 1))
-    ∷ at 11 actors.Coord (sent 3 1 0 2 (whys.Req (r 1)) (tasks.Activate (e 0 2) (epoch 1) 1 0 None (codes "about:blank")))
-    ∷ at 12 (actors.Proc (p 1)) (rows.Taken (p 1) (j 3) true false)
-    ∷ at 13 (actors.Proc (p 1)) (rows.Finished (p 1) (j 3) outcomes.Activated)
-    ∷ at 14 actors.Coord (rows.Delivered (p 1))
-    ∷ at 14 actors.Coord (sent 4 1 0 3 (whys.Req (r 2)) (tasks.Activate (e 0 3) (epoch 1) 1 0 None (codes "about:blank")))
-    ∷ at 15 (actors.Proc (p 1)) (rows.Taken (p 1) (j 4) true false)
-    ∷ at 16 (actors.Proc (p 1)) (rows.Finished (p 1) (j 4) outcomes.Activated)
-    ∷ at 17 actors.Coord (rows.Delivered (p 1))
-    ∷ at 18 actors.Coord (rows.Delivered (p 1))
-    ∷ at 19 actors.Ui (rows.Accepted (r 3) None (requests.Load (n 1) modes.Auto (codes "http://a.test/f1")))
-    ∷ at 19 actors.Ui (rows.Started (r 3) None)
-    ∷ at 19 actors.Ui (sent 5 1 0 4 (whys.Req (r 3)) (tasks.Populate (n 1) (s 4) (codes "http://a.test/f1") false))
-    ∷ at 20 actors.Ui (rows.Accepted (r 4) None (requests.Load (n 2) modes.Auto (codes "http://a.test/g")))
-    ∷ at 20 actors.Ui (rows.Started (r 4) None)
-    ∷ at 20 actors.Ui (sent 6 1 0 5 (whys.Req (r 4)) (tasks.Populate (n 2) (s 5) (codes "http://a.test/g") false))
-    ∷ at 21 (actors.Proc (p 1)) (rows.Taken (p 1) (j 5) true false)
-    ∷ at 22 (actors.Proc (p 1)) (rows.Finished (p 1) (j 5) (outcomes.Populated None))
-    ∷ at 23 actors.Coord (rows.Delivered (p 1))
-    ∷ at 23 actors.Coord (rows.Applied (r 3) (changes.Replace (n 1) (e 0 2) (e 0 4) (s 4) (codes "http://a.test/f1") None))
-    ∷ at 23 actors.Coord (sent 7 1 0 2 (whys.Req (r 3)) tasks.Discard)
-    ∷ at 23 actors.Coord (sent 8 1 0 4 (whys.Req (r 3)) (tasks.Activate (e 0 4) (epoch 2) 1 0 None (codes "http://a.test/f1")))
-    ∷ at 24 (actors.Proc (p 1)) (rows.Taken (p 1) (j 6) true false)
-    ∷ at 25 (actors.Proc (p 1)) (rows.Finished (p 1) (j 6) (outcomes.Populated None))
-    ∷ at 26 actors.Coord (rows.Delivered (p 1))
-    ∷ at 27 (actors.Proc (p 1)) (rows.Taken (p 1) (j 7) true false)
-    ∷ at 28 (actors.Proc (p 1)) (rows.Finished (p 1) (j 7) outcomes.Discarded)
-    ∷ at 29 actors.Coord (rows.Delivered (p 1))
-    ∷ at 30 (actors.Proc (p 1)) (rows.Taken (p 1) (j 8) true false)
-    ∷ at 31 (actors.Proc (p 1)) (rows.Finished (p 1) (j 8) outcomes.Activated)
-    ∷ at 32 actors.Coord (rows.Delivered (p 1))
-    ∷ at 32 actors.Coord (rows.Applied (r 4) (changes.Replace (n 2) (e 0 3) (e 0 5) (s 5) (codes "http://a.test/g") None))
-    ∷ at 32 actors.Coord (sent 9 1 0 3 (whys.Req (r 4)) tasks.Discard)
-    ∷ at 32 actors.Coord (sent 10 1 0 5 (whys.Req (r 4)) (tasks.Activate (e 0 5) (epoch 2) 1 0 None (codes "http://a.test/g")))
-    ∷ at 33 (actors.Proc (p 1)) (rows.Taken (p 1) (j 9) true false)
-    ∷ at 34 (actors.Proc (p 1)) (rows.Finished (p 1) (j 9) outcomes.Discarded)
-    ∷ at 35 actors.Coord (rows.Delivered (p 1))
-    ∷ at 36 (actors.Proc (p 1)) (rows.Taken (p 1) (j 10) true false)
-    ∷ at 37 (actors.Proc (p 1)) (rows.Finished (p 1) (j 10) outcomes.Activated)
-    ∷ at 38 actors.Coord (rows.Delivered (p 1))
-    ∷ at 39 actors.Ui (rows.Accepted (r 5) None (requests.Load (n 1) modes.Auto (codes "http://a.test/f2")))
-    ∷ at 39 actors.Ui (rows.Started (r 5) None)
-    ∷ at 39 actors.Ui (sent 11 1 0 6 (whys.Req (r 5)) (tasks.Populate (n 1) (s 6) (codes "http://a.test/f2") false))
-    ∷ at 40 (actors.Proc (p 1)) (rows.Taken (p 1) (j 11) true false)
-    ∷ at 41 (actors.Proc (p 1)) (rows.Finished (p 1) (j 11) (outcomes.Populated None))
-    ∷ at 42 actors.Coord (rows.Delivered (p 1))
-    ∷ at 42 actors.Coord (rows.Applied (r 5) (changes.Push (n 1) (e 0 6) (s 6) (codes "http://a.test/f2") None))
-    ∷ at 42 actors.Coord (sent 12 1 0 4 (whys.Req (r 5)) tasks.Freeze)
-    ∷ at 42 actors.Coord (sent 13 1 0 6 (whys.Req (r 5)) (tasks.Activate (e 0 6) (epoch 3) 2 1 None (codes "http://a.test/f2")))
-    ∷ at 42 actors.Coord (sent 14 1 0 1 (whys.Req (r 5)) (tasks.Update 2 1))
-    ∷ at 42 actors.Coord (sent 15 1 0 5 (whys.Req (r 5)) (tasks.Update 2 1))
-    ∷ at 43 (actors.Proc (p 1)) (rows.Taken (p 1) (j 12) true false)
-    ∷ at 44 (actors.Proc (p 1)) (rows.Finished (p 1) (j 12) outcomes.Frozen)
-    ∷ at 45 actors.Coord (rows.Delivered (p 1))
-    ∷ at 46 (actors.Proc (p 1)) (rows.Taken (p 1) (j 13) true false)
-    ∷ at 47 (actors.Proc (p 1)) (rows.Finished (p 1) (j 13) outcomes.Activated)
-    ∷ at 48 actors.Coord (rows.Delivered (p 1))
-    ∷ at 49 (actors.Proc (p 1)) (rows.Taken (p 1) (j 14) true false)
-    ∷ at 50 (actors.Proc (p 1)) (rows.Finished (p 1) (j 14) outcomes.Updated)
-    ∷ at 51 actors.Coord (rows.Delivered (p 1))
-    ∷ at 52 (actors.Proc (p 1)) (rows.Taken (p 1) (j 15) true false)
-    ∷ at 53 (actors.Proc (p 1)) (rows.Finished (p 1) (j 15) outcomes.Updated)
-    ∷ at 54 actors.Coord (rows.Delivered (p 1))
-    ∷ at 55 actors.Ui (rows.Accepted (r 6) (Some (d 5)) (requests.Poke (n 2) (actions.Push (Some (codes "s")) (Some (codes "/h")))))
-    ∷ at 56 actors.Ui (rows.Accepted (r 7) None (requests.Go (negsuc 0)))
-    ∷ at 56 actors.Ui (rows.Started (r 7) (Some (t 0)))
-    ∷ at 56 actors.Ui (sent 16 1 0 6 (whys.Req (r 7)) tasks.Freeze)
-    ∷ at 56 actors.Ui (sent 17 1 0 4 (whys.Req (r 7)) (tasks.Activate (e 0 4) (epoch 4) 2 0 None (codes "http://a.test/f1")))
-    ∷ at 57 (actors.Proc (p 1)) (made 1 6 5 2 (whats.Push (e 5 1) (Some (codes "s")) (codes "http://a.test/h")))
-    ∷ at 58 actors.Coord (rows.Delivered (p 1))
-    ∷ at 58 actors.Coord (sent 18 1 0 5 (whys.Req (r 7)) (tasks.Activate (e 0 5) (epoch 3) 3 0 None (codes "http://a.test/g")))
-    ∷ at 58 actors.Coord (sent 19 1 0 1 (whys.Req (r 6)) (tasks.Update 3 2))
-    ∷ at 58 actors.Coord (sent 20 1 0 4 (whys.Req (r 6)) (tasks.Update 3 0))
-    ∷ at 59 (actors.Proc (p 1)) (rows.Taken (p 1) (j 16) true false)
-    ∷ at 60 (actors.Proc (p 1)) (rows.Finished (p 1) (j 16) outcomes.Frozen)
-    ∷ at 61 actors.Coord (rows.Delivered (p 1))
-    ∷ at 62 (actors.Proc (p 1)) (rows.Taken (p 1) (j 17) true false)
-    ∷ at 63 (actors.Proc (p 1)) (rows.Finished (p 1) (j 17) outcomes.Activated)
-    ∷ at 64 actors.Coord (rows.Delivered (p 1))
-    ∷ at 65 (actors.Proc (p 1)) (rows.Taken (p 1) (j 18) true false)
-    ∷ at 66 (actors.Proc (p 1)) (rows.Finished (p 1) (j 18) outcomes.Activated)
-    ∷ at 67 actors.Coord (rows.Delivered (p 1))
-    ∷ at 67 actors.Coord (rows.Applied (r 7) (changes.Traverse (t 0)))
-    ∷ at 67 actors.Coord (rows.Applied (r 6) (changes.Push (n 2) (e 5 1) (s 5) (codes "http://a.test/h") (Some (codes "s"))))
-    ∷ at 67 actors.Coord (sent 21 1 0 1 (whys.Req (r 7)) (tasks.Update 3 0))
-    ∷ at 68 (actors.Proc (p 1)) (rows.Taken (p 1) (j 19) true false)
-    ∷ at 69 (actors.Proc (p 1)) (rows.Finished (p 1) (j 19) outcomes.Updated)
-    ∷ at 70 actors.Coord (rows.Delivered (p 1))
-    ∷ at 71 (actors.Proc (p 1)) (rows.Taken (p 1) (j 20) true false)
-    ∷ at 72 (actors.Proc (p 1)) (rows.Finished (p 1) (j 20) outcomes.Updated)
-    ∷ at 73 actors.Coord (rows.Delivered (p 1))
-    ∷ at 74 (actors.Proc (p 1)) (rows.Taken (p 1) (j 21) true false)
-    ∷ at 75 (actors.Proc (p 1)) (rows.Finished (p 1) (j 21) outcomes.Updated)
-    ∷ at 76 actors.Coord (rows.Delivered (p 1))
-    ∷ []
+    before 58 push_beside_a_running_traversal
+    ++ by_coord (rows.Delivered (p 1)) (sent 18 1 0 5 (whys.Req (r 7)) (tasks.Activate (e 0 5) (epoch 3) 3 0 None (codes "http://a.test/g")) ∷ sent 19 1 0 1 (whys.Req (r 6)) (tasks.Update 3 2) ∷ sent 20 1 0 4 (whys.Req (r 6)) (tasks.Update 3 0) ∷ [])
+    ∷ between 59 67 push_beside_a_running_traversal
+    ++ by_coord (rows.Delivered (p 1)) (rows.Applied (r 7) (changes.Traverse (t 0)) ∷ rows.Applied (r 6) (changes.Push (n 2) (e 5 1) (s 5) (codes "http://a.test/h") (Some (codes "s"))) ∷ sent 21 1 0 1 (whys.Req (r 7)) (tasks.Update 3 0) ∷ [])
+    ∷ since 68 push_beside_a_running_traversal
 
-pub push_waits_for_the_traversal_is_refused : IsLegal push_waits_for_the_traversal → ⊥
+pub push_waits_for_the_traversal_is_refused : IsLegal (log_of push_waits_for_the_traversal) → ⊥
 unfolding url_on_literals is_web is_blank_url judged judged_parse read_against address_of url_of resolved with_fragment base_of fragment_of origin_text origin_of has_same_base is_rewritable events_of each_event after_opening AtEachEvent is_numbered opens is_formed is_once is_caused is_queued is_ordered is_checked ends_settled loads_end ends_told ends_stepped goes_in_time
 push_waits_for_the_traversal_is_refused holds = false≢true holds.queued
 
 -- A held back push is applied before its traversal.
-abbrev pub held_back_push_applied_early : List LogRow
+abbrev pub held_back_push_applied_early : List Event
 held_back_push_applied_early =
-    at 0 actors.Start (rows.Opened (e 0 1) (s 1) (d 1) (p 1) None (codes "http://a.test/"))
-    ∷ at 1 actors.Ui (rows.Accepted (r 1) (Some (d 1)) (requests.Poke (n 0) (actions.AddFrame (n 1))))
-    ∷ at 2 (actors.Proc (p 1)) (made 1 1 1 1 (whats.AddFrame (n 1)))
-    ∷ at 3 actors.Coord (rows.Delivered (p 1))
-    ∷ at 3 actors.Coord (rows.Applied (r 1) (changes.AddFrame (s 1) (n 1) (e 0 2) (s 2)))
-    ∷ at 3 actors.Coord (sent 1 1 0 2 (whys.Req (r 1)) (tasks.Populate (n 1) (s 2) (codes "about:blank") true))
-    ∷ at 4 (actors.Proc (p 1)) (rows.Taken (p 1) (j 1) true false)
-    ∷ at 5 (actors.Proc (p 1)) (rows.Finished (p 1) (j 1) (outcomes.Populated None))
-    ∷ at 6 actors.Coord (rows.Delivered (p 1))
-    ∷ at 6 actors.Coord (sent 2 1 0 2 (whys.Req (r 1)) (tasks.Activate (e 0 2) (epoch 1) 1 0 None (codes "about:blank")))
-    ∷ at 7 (actors.Proc (p 1)) (rows.Taken (p 1) (j 2) true false)
-    ∷ at 8 (actors.Proc (p 1)) (rows.Finished (p 1) (j 2) outcomes.Activated)
-    ∷ at 9 actors.Coord (rows.Delivered (p 1))
-    ∷ at 10 actors.Ui (rows.Accepted (r 2) None (requests.Load (n 1) modes.Auto (codes "http://a.test/f")))
-    ∷ at 10 actors.Ui (rows.Started (r 2) None)
-    ∷ at 10 actors.Ui (sent 3 1 0 3 (whys.Req (r 2)) (tasks.Populate (n 1) (s 3) (codes "http://a.test/f") false))
-    ∷ at 11 (actors.Proc (p 1)) (rows.Taken (p 1) (j 3) true false)
-    ∷ at 12 (actors.Proc (p 1)) (rows.Finished (p 1) (j 3) (outcomes.Populated None))
-    ∷ at 13 actors.Coord (rows.Delivered (p 1))
-    ∷ at 13 actors.Coord (rows.Applied (r 2) (changes.Replace (n 1) (e 0 2) (e 0 3) (s 3) (codes "http://a.test/f") None))
-    ∷ at 13 actors.Coord (sent 4 1 0 2 (whys.Req (r 2)) tasks.Discard)
-    ∷ at 13 actors.Coord (sent 5 1 0 3 (whys.Req (r 2)) (tasks.Activate (e 0 3) (epoch 2) 1 0 None (codes "http://a.test/f")))
-    ∷ at 14 (actors.Proc (p 1)) (rows.Taken (p 1) (j 4) true false)
-    ∷ at 15 (actors.Proc (p 1)) (rows.Finished (p 1) (j 4) outcomes.Discarded)
-    ∷ at 16 actors.Coord (rows.Delivered (p 1))
-    ∷ at 17 (actors.Proc (p 1)) (rows.Taken (p 1) (j 5) true false)
-    ∷ at 18 (actors.Proc (p 1)) (rows.Finished (p 1) (j 5) outcomes.Activated)
-    ∷ at 19 actors.Coord (rows.Delivered (p 1))
-    ∷ at 20 actors.Ui (rows.Accepted (r 3) (Some (d 1)) (requests.Poke (n 0) (actions.Fragment (codes "x"))))
-    ∷ at 21 (actors.Proc (p 1)) (made 1 3 1 1 (whats.Push (e 1 1) None (codes "http://a.test/#x")))
-    ∷ at 22 actors.Coord (rows.Delivered (p 1))
-    ∷ at 22 actors.Coord (rows.Applied (r 3) (changes.Push (n 0) (e 1 1) (s 1) (codes "http://a.test/#x") None))
-    ∷ at 22 actors.Coord (sent 6 1 0 1 (whys.Req (r 3)) (tasks.Update 2 1))
-    ∷ at 22 actors.Coord (sent 7 1 0 3 (whys.Req (r 3)) (tasks.Update 2 1))
-    ∷ at 23 (actors.Proc (p 1)) (rows.Taken (p 1) (j 6) true false)
-    ∷ at 24 (actors.Proc (p 1)) (rows.Finished (p 1) (j 6) outcomes.Updated)
-    ∷ at 25 actors.Coord (rows.Delivered (p 1))
-    ∷ at 26 (actors.Proc (p 1)) (rows.Taken (p 1) (j 7) true false)
-    ∷ at 27 (actors.Proc (p 1)) (rows.Finished (p 1) (j 7) outcomes.Updated)
-    ∷ at 28 actors.Coord (rows.Delivered (p 1))
-    ∷ at 29 actors.Ui (rows.Accepted (r 4) (Some (d 3)) (requests.Poke (n 1) (actions.Push (Some (codes "t")) (Some (codes "/f2")))))
-    ∷ at 30 (actors.Proc (p 1)) (made 1 4 3 2 (whats.Push (e 3 1) (Some (codes "t")) (codes "http://a.test/f2")))
-    ∷ at 31 actors.Coord (rows.Delivered (p 1))
-    ∷ at 31 actors.Coord (rows.Applied (r 4) (changes.Push (n 1) (e 3 1) (s 3) (codes "http://a.test/f2") (Some (codes "t"))))
-    ∷ at 31 actors.Coord (sent 8 1 0 1 (whys.Req (r 4)) (tasks.Update 3 2))
-    ∷ at 31 actors.Coord (sent 9 1 0 3 (whys.Req (r 4)) (tasks.Update 3 2))
-    ∷ at 32 (actors.Proc (p 1)) (rows.Taken (p 1) (j 8) true false)
-    ∷ at 33 (actors.Proc (p 1)) (rows.Finished (p 1) (j 8) outcomes.Updated)
-    ∷ at 34 actors.Coord (rows.Delivered (p 1))
-    ∷ at 35 (actors.Proc (p 1)) (rows.Taken (p 1) (j 9) true false)
-    ∷ at 36 (actors.Proc (p 1)) (rows.Finished (p 1) (j 9) outcomes.Updated)
-    ∷ at 37 actors.Coord (rows.Delivered (p 1))
-    ∷ at 38 actors.Ui (rows.Accepted (r 5) None (requests.Go (negsuc 1)))
-    ∷ at 38 actors.Ui (rows.Started (r 5) (Some (t 0)))
-    ∷ at 38 actors.Ui (sent 10 1 0 1 (whys.Req (r 5)) (tasks.Activate (e 0 1) (epoch 2) 3 0 None (codes "http://a.test/")))
-    ∷ at 38 actors.Ui (sent 11 1 0 3 (whys.Req (r 5)) (tasks.Activate (e 0 3) (epoch 3) 3 0 None (codes "http://a.test/f")))
-    ∷ at 39 (actors.Proc (p 1)) (rows.Taken (p 1) (j 10) true false)
-    ∷ at 40 (actors.Proc (p 1)) (rows.Finished (p 1) (j 10) outcomes.Activated)
-    ∷ at 41 actors.Ui (rows.Accepted (r 6) (Some (d 1)) (requests.Poke (n 0) (actions.Push (Some (codes "s")) (Some (codes "/2")))))
-    ∷ at 42 (actors.Proc (p 1)) (made 1 6 1 2 (whats.Push (e 1 2) (Some (codes "s")) (codes "http://a.test/2")))
-    ∷ at 43 actors.Coord (rows.Delivered (p 1))
-    ∷ at 44 actors.Coord (rows.Delivered (p 1))
-    ∷ at 44 actors.Coord (rows.Applied (r 6) (changes.Push (n 0) (e 1 2) (s 1) (codes "http://a.test/2") (Some (codes "s"))))
-    ∷ at 45 (actors.Proc (p 1)) (rows.Taken (p 1) (j 11) true false)
-    ∷ at 46 (actors.Proc (p 1)) (rows.Finished (p 1) (j 11) outcomes.Activated)
-    ∷ at 47 actors.Coord (rows.Delivered (p 1))
-    ∷ at 47 actors.Coord (rows.Applied (r 5) (changes.Traverse (t 0)))
-    ∷ at 47 actors.Coord (sent 12 1 0 1 (whys.Req (r 5)) (tasks.Update 2 1))
-    ∷ at 47 actors.Coord (sent 13 1 0 3 (whys.Req (r 5)) (tasks.Update 2 1))
-    ∷ at 48 (actors.Proc (p 1)) (rows.Taken (p 1) (j 12) true false)
-    ∷ at 49 (actors.Proc (p 1)) (rows.Finished (p 1) (j 12) outcomes.Updated)
-    ∷ at 50 actors.Coord (rows.Delivered (p 1))
-    ∷ at 51 (actors.Proc (p 1)) (rows.Taken (p 1) (j 13) true false)
-    ∷ at 52 (actors.Proc (p 1)) (rows.Finished (p 1) (j 13) outcomes.Updated)
-    ∷ at 53 actors.Coord (rows.Delivered (p 1))
-    ∷ []
+    before 44 held_back_push
+    ++ by_coord (rows.Delivered (p 1)) (rows.Applied (r 6) (changes.Push (n 0) (e 1 2) (s 1) (codes "http://a.test/2") (Some (codes "s"))) ∷ [])
+    ∷ by_proc 1 (rows.Taken (p 1) (j 11) true false) []
+    ∷ by_proc 1 (rows.Finished (p 1) (j 11) outcomes.Activated) []
+    ∷ by_coord (rows.Delivered (p 1)) (rows.Applied (r 5) (changes.Traverse (t 0)) ∷ sent 12 1 0 1 (whys.Req (r 5)) (tasks.Update 2 1) ∷ sent 13 1 0 3 (whys.Req (r 5)) (tasks.Update 2 1) ∷ [])
+    ∷ since 48 held_back_push
 
-pub held_back_push_applied_early_is_refused : IsLegal held_back_push_applied_early → ⊥
+pub held_back_push_applied_early_is_refused : IsLegal (log_of held_back_push_applied_early) → ⊥
 unfolding url_on_literals is_web is_blank_url judged judged_parse read_against address_of url_of resolved with_fragment base_of fragment_of origin_text origin_of has_same_base is_rewritable events_of each_event after_opening AtEachEvent is_numbered opens is_formed is_once is_caused is_queued is_ordered is_checked ends_settled loads_end ends_told ends_stepped goes_in_time
 held_back_push_applied_early_is_refused holds = false≢true holds.queued
 
 -- A traversal begins before the one before it has ended.
-abbrev pub begins_out_of_turn : List LogRow
+abbrev pub begins_out_of_turn : List Event
 begins_out_of_turn =
-    at 0 actors.Start (rows.Opened (e 0 1) (s 1) (d 1) (p 1) None (codes "http://a.test/"))
-    ∷ at 1 actors.Ui (rows.Accepted (r 1) (Some (d 1)) (requests.Poke (n 0) (actions.Push (Some (codes "s")) (Some (codes "/1")))))
-    ∷ at 2 (actors.Proc (p 1)) (made 1 1 1 1 (whats.Push (e 1 1) (Some (codes "s")) (codes "http://a.test/1")))
-    ∷ at 3 actors.Coord (rows.Delivered (p 1))
-    ∷ at 3 actors.Coord (rows.Applied (r 1) (changes.Push (n 0) (e 1 1) (s 1) (codes "http://a.test/1") (Some (codes "s"))))
-    ∷ at 3 actors.Coord (sent 1 1 0 1 (whys.Req (r 1)) (tasks.Update 2 1))
-    ∷ at 4 (actors.Proc (p 1)) (rows.Taken (p 1) (j 1) true false)
-    ∷ at 5 (actors.Proc (p 1)) (rows.Finished (p 1) (j 1) outcomes.Updated)
-    ∷ at 6 actors.Coord (rows.Delivered (p 1))
-    ∷ at 7 actors.Ui (rows.Accepted (r 2) (Some (d 1)) (requests.Poke (n 0) (actions.Push (Some (codes "s")) (Some (codes "/2")))))
-    ∷ at 8 (actors.Proc (p 1)) (made 1 2 1 1 (whats.Push (e 1 2) (Some (codes "s")) (codes "http://a.test/2")))
-    ∷ at 9 actors.Coord (rows.Delivered (p 1))
-    ∷ at 9 actors.Coord (rows.Applied (r 2) (changes.Push (n 0) (e 1 2) (s 1) (codes "http://a.test/2") (Some (codes "s"))))
-    ∷ at 9 actors.Coord (sent 2 1 0 1 (whys.Req (r 2)) (tasks.Update 3 2))
-    ∷ at 10 (actors.Proc (p 1)) (rows.Taken (p 1) (j 2) true false)
-    ∷ at 11 (actors.Proc (p 1)) (rows.Finished (p 1) (j 2) outcomes.Updated)
-    ∷ at 12 actors.Coord (rows.Delivered (p 1))
-    ∷ at 13 actors.Ui (rows.Accepted (r 3) None (requests.Go (negsuc 0)))
-    ∷ at 13 actors.Ui (rows.Started (r 3) (Some (t 1)))
-    ∷ at 13 actors.Ui (sent 3 1 0 1 (whys.Req (r 3)) (tasks.Activate (e 1 1) (epoch 2) 3 1 (Some (codes "s")) (codes "http://a.test/1")))
-    ∷ at 14 actors.Ui (rows.Accepted (r 4) None (requests.Go (negsuc 0)))
-    ∷ at 14 actors.Ui (rows.Started (r 4) (Some (t 0)))
-    ∷ at 15 (actors.Proc (p 1)) (rows.Taken (p 1) (j 3) true false)
-    ∷ at 16 (actors.Proc (p 1)) (rows.Finished (p 1) (j 3) outcomes.Activated)
-    ∷ at 17 actors.Coord (rows.Delivered (p 1))
-    ∷ at 17 actors.Coord (rows.Applied (r 3) (changes.Traverse (t 1)))
-    ∷ at 17 actors.Coord (sent 4 1 0 1 (whys.Req (r 4)) (tasks.Activate (e 0 1) (epoch 3) 3 0 None (codes "http://a.test/")))
-    ∷ at 18 (actors.Proc (p 1)) (rows.Taken (p 1) (j 4) true false)
-    ∷ at 19 (actors.Proc (p 1)) (rows.Finished (p 1) (j 4) outcomes.Activated)
-    ∷ at 20 actors.Coord (rows.Delivered (p 1))
-    ∷ at 20 actors.Coord (rows.Applied (r 4) (changes.Traverse (t 0)))
-    ∷ []
+    before 14 two_traversals_in_the_queue
+    ++ by_ui (rows.Accepted (r 4) None (requests.Go (negsuc 0))) (rows.Started (r 4) (Some (t 0)) ∷ [])
+    ∷ by_proc 1 (rows.Taken (p 1) (j 3) true false) []
+    ∷ by_proc 1 (rows.Finished (p 1) (j 3) outcomes.Activated) []
+    ∷ by_coord (rows.Delivered (p 1)) (rows.Applied (r 3) (changes.Traverse (t 1)) ∷ sent 4 1 0 1 (whys.Req (r 4)) (tasks.Activate (e 0 1) (epoch 3) 3 0 None (codes "http://a.test/")) ∷ [])
+    ∷ since 18 two_traversals_in_the_queue
 
-pub begins_out_of_turn_is_refused : IsLegal begins_out_of_turn → ⊥
+pub begins_out_of_turn_is_refused : IsLegal (log_of begins_out_of_turn) → ⊥
 unfolding url_on_literals is_web is_blank_url judged judged_parse read_against address_of url_of resolved with_fragment base_of fragment_of origin_text origin_of has_same_base is_rewritable events_of each_event after_opening AtEachEvent is_numbered opens is_formed is_once is_caused is_queued is_ordered is_checked ends_settled loads_end ends_told ends_stepped goes_in_time
 begins_out_of_turn_is_refused holds = false≢true holds.queued
 
 -- A load is applied while a traversal is under way.
-abbrev pub load_applied_during_a_traversal : List LogRow
+abbrev pub load_applied_during_a_traversal : List Event
 load_applied_during_a_traversal =
-    at 0 actors.Start (rows.Opened (e 0 1) (s 1) (d 1) (p 1) None (codes "http://a.test/"))
-    ∷ at 1 actors.Ui (rows.Accepted (r 1) None (requests.Load (n 0) modes.Auto (codes "http://a.test/p1")))
-    ∷ at 1 actors.Ui (rows.Started (r 1) None)
-    ∷ at 1 actors.Ui (sent 1 1 0 2 (whys.Req (r 1)) (tasks.Populate (n 0) (s 2) (codes "http://a.test/p1") false))
-    ∷ at 2 (actors.Proc (p 1)) (rows.Taken (p 1) (j 1) true false)
-    ∷ at 3 (actors.Proc (p 1)) (rows.Finished (p 1) (j 1) (outcomes.Populated None))
-    ∷ at 4 actors.Coord (rows.Delivered (p 1))
-    ∷ at 4 actors.Coord (rows.Applied (r 1) (changes.Push (n 0) (e 0 2) (s 2) (codes "http://a.test/p1") None))
-    ∷ at 4 actors.Coord (sent 2 1 0 1 (whys.Req (r 1)) tasks.Freeze)
-    ∷ at 4 actors.Coord (sent 3 1 0 2 (whys.Req (r 1)) (tasks.Activate (e 0 2) (epoch 2) 2 1 None (codes "http://a.test/p1")))
-    ∷ at 5 (actors.Proc (p 1)) (rows.Taken (p 1) (j 2) true false)
-    ∷ at 6 (actors.Proc (p 1)) (rows.Finished (p 1) (j 2) outcomes.Frozen)
-    ∷ at 7 actors.Coord (rows.Delivered (p 1))
-    ∷ at 8 (actors.Proc (p 1)) (rows.Taken (p 1) (j 3) true false)
-    ∷ at 9 (actors.Proc (p 1)) (rows.Finished (p 1) (j 3) outcomes.Activated)
-    ∷ at 10 actors.Coord (rows.Delivered (p 1))
-    ∷ at 11 actors.Ui (rows.Accepted (r 2) None (requests.Load (n 0) modes.Auto (codes "http://b.test/p0")))
-    ∷ at 11 actors.Ui (rows.Started (r 2) None)
-    ∷ at 11 actors.Ui (sent 4 2 0 3 (whys.Req (r 2)) (tasks.Populate (n 0) (s 3) (codes "http://b.test/p0") false))
-    ∷ at 12 actors.Ui (rows.Accepted (r 3) None (requests.Go (negsuc 0)))
-    ∷ at 12 actors.Ui (rows.Started (r 3) (Some (t 0)))
-    ∷ at 12 actors.Ui (rows.Applied (r 2) (changes.Push (n 0) (e 0 3) (s 3) (codes "http://b.test/p0") None))
-    ∷ at 12 actors.Ui (sent 5 1 0 2 (whys.Req (r 3)) tasks.Freeze)
-    ∷ at 12 actors.Ui (sent 6 1 0 1 (whys.Req (r 3)) (tasks.Activate (e 0 1) (epoch 3) 2 0 None (codes "http://a.test/")))
-    ∷ at 13 (actors.Proc (p 1)) (rows.Taken (p 1) (j 5) true false)
-    ∷ at 14 (actors.Proc (p 1)) (rows.Finished (p 1) (j 5) outcomes.Frozen)
-    ∷ at 15 actors.Coord (rows.Delivered (p 1))
-    ∷ at 16 (actors.Proc (p 1)) (rows.Taken (p 1) (j 6) true false)
-    ∷ at 17 (actors.Proc (p 1)) (rows.Finished (p 1) (j 6) outcomes.Activated)
-    ∷ at 18 actors.Coord (rows.Delivered (p 1))
-    ∷ at 18 actors.Coord (rows.Applied (r 3) (changes.Traverse (t 0)))
-    ∷ at 19 (actors.Proc (p 2)) (rows.Taken (p 2) (j 4) true false)
-    ∷ at 20 (actors.Proc (p 2)) (rows.Finished (p 2) (j 4) (outcomes.Populated None))
-    ∷ at 21 actors.Coord (rows.Delivered (p 2))
-    ∷ at 21 actors.Coord (sent 7 2 0 3 (whys.Req (r 2)) tasks.Discard)
-    ∷ at 22 (actors.Proc (p 2)) (rows.Taken (p 2) (j 7) true false)
-    ∷ at 23 (actors.Proc (p 2)) (rows.Finished (p 2) (j 7) outcomes.Discarded)
-    ∷ at 24 actors.Coord (rows.Delivered (p 2))
-    ∷ []
+    before 12 load_ended_by_a_traversal
+    ++ by_ui (rows.Accepted (r 3) None (requests.Go (negsuc 0))) (rows.Started (r 3) (Some (t 0)) ∷ rows.Applied (r 2) (changes.Push (n 0) (e 0 3) (s 3) (codes "http://b.test/p0") None) ∷ sent 5 1 0 2 (whys.Req (r 3)) tasks.Freeze ∷ sent 6 1 0 1 (whys.Req (r 3)) (tasks.Activate (e 0 1) (epoch 3) 2 0 None (codes "http://a.test/")) ∷ [])
+    ∷ since 13 load_ended_by_a_traversal
 
-pub load_applied_during_a_traversal_is_refused : IsLegal load_applied_during_a_traversal → ⊥
+pub load_applied_during_a_traversal_is_refused : IsLegal (log_of load_applied_during_a_traversal) → ⊥
 unfolding url_on_literals is_web is_blank_url judged judged_parse read_against address_of url_of resolved with_fragment base_of fragment_of origin_text origin_of has_same_base is_rewritable events_of each_event after_opening AtEachEvent is_numbered opens is_formed is_once is_caused is_queued is_ordered is_checked ends_settled loads_end ends_told ends_stepped goes_in_time
 load_applied_during_a_traversal_is_refused holds = false≢true holds.queued

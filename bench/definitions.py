@@ -1,0 +1,357 @@
+#!/usr/bin/env python3
+"""Weakens the definitions of a legal log, one part at a time, and tells which of them no example log notices.
+
+    python3 bench/definitions.py MODEL [--word WORD] [--kept]
+
+MODEL is the folder of the plain model, whose reading of URLs stands for that of `address`. The definitions are the files
+of crates/log_model/specs, the logs and what is claimed of them the lemmas of crates/log_examples/proofs. All is computed by
+`antt.py`; first each lemma, as it stands. A mutant has one part changed, which is found in the files:
+
+    a conjunct, a premise or the test of a `holds`, `list_any`, `list_all`, `filter` or `find` is true, a disjunct is false
+    an equality is turned; `nat_lt` has its sides changed, or is `nat_le`, and the other way round
+    an equation of a test is true, or false where it was true
+    an `if` takes one of its ways always
+    a case of what is no test is left out, where a later one takes it in; a field isn't changed
+
+It is noticed where a lemma fails. Those that aren't are listed, unless `KNOWN` says why no log can tell them. --word takes
+the mutants of one definition or file, --kept prints the lemma that notices each mutant. Outside the gate; a minute or two.
+
+    python3 bench/definitions.py MODEL --prove COUNT FOLDER
+
+tries COUNT of the mutants by the prover: FOLDER gets a copy of log_examples whose lemmas read the mutated definitions, and
+`rt check` there has to refuse those that are noticed, and to pass the others.
+
+    python3 bench/definitions.py MODEL --search FIRST COUNT
+
+plays random scenarios, half of them with an edit, for logs that tell the mutants that are left.
+"""
+import os
+import random
+import sys
+import time
+
+from antt import CONSTANTS, PRELUDE, Module, NoMatch, Node, Reader, World, addresses, is_constructor, modules_of
+
+# definitions that no lemma on a log reads
+APART = ('Order', 'Soundness', 'Limits', 'Entries')
+TESTERS = ('holds', 'list_any', 'list_all', 'filter', 'find')
+
+# mutants that no log tells from the definitions: the reasons
+KNOWN = {}
+
+
+class Mutant:
+    """One part of a definition changed. `when` says at which value of the part it may show: False, True or None for any."""
+
+    def __init__(self, word, change, node, when, swap=None, leave=None):
+        self.word, self.change, self.node, self.when, self.swap, self.leave = word, change, node, when, swap, leave
+        self.name = '%s: %s' % (word.replace('log_model.', ''), change)
+
+
+def leaves(node, sign):
+    if node.kind == 'binary' and node.parts[0] == sign:
+        return leaves(node.parts[1], sign) + leaves(node.parts[2], sign)
+    return [node]
+
+
+def head(node):
+    return node.parts[0].parts[0] if node.kind == 'apply' and node.parts[0].kind == 'name' else None
+
+
+def is_literal(node):
+    return node.kind == 'name' and node.parts[0] in ('true', 'false')
+
+
+def covers(general, special):
+    """The pattern takes in all that the other one does."""
+    if general.kind == 'name' and general.parts[0] not in CONSTANTS and not is_constructor(general.parts[0]):
+        return True
+    if general.kind != special.kind:
+        return False
+    if general.kind == 'name':
+        return general.parts[0] == special.parts[0]
+    parts = (general.parts[1:], special.parts[1:]) if general.kind == 'binary' else (general.parts[1], special.parts[1])
+    return (general.kind == 'binary' or head(general) == head(special)) and all(map(covers, *parts))
+
+
+def mutants_of(world, name):
+    definition = world.definitions[name]
+    for number, (patterns, body) in enumerate(definition.equations):
+        if definition.is_test:
+            if not is_literal(body):
+                yield Mutant(name, 'equation %d is true' % (number + 1), body, False, {body: 'True'})
+            else:
+                truth = body.parts[0] == 'true'
+                yield Mutant(name, 'equation %d is %s' % (number + 1, 'false' if truth else 'true'), body, truth, {body: str(not truth)})
+        elif any(all(map(covers, later, patterns)) for later, _ in definition.equations[number + 1:]):
+            yield Mutant(name, 'equation %d is left out' % (number + 1), body, None, leave=(name, number))
+        yield from mutants_in(name, body)
+
+
+def mutants_in(name, node):
+    """The mutants inside a term."""
+    def mutant(change, part, when, swap):
+        return Mutant(name, change, part, when, swap)
+
+    if node.kind == 'binary' and node.parts[0] in ('&&', '||'):
+        sign = node.parts[0]
+        for part in leaves(node, sign):
+            yield mutant('without %s `%s`' % ('conjunct' if sign == '&&' else 'disjunct', part.text), part, sign == '||', {part: str(sign == '&&')})
+            yield from mutants_in(name, part)
+        return
+    if node.kind == 'binary' and node.parts[0] == '==':
+        same = Node('binary', *node.parts)
+        yield mutant('`%s` is turned' % node.text, node, None, {node: Node('apply', Node('name', 'not'), [same])})
+    if head(node) in ('nat_lt', 'nat_le') and len(node.parts[1]) == 2:
+        other = Node('name', 'nat_le' if head(node) == 'nat_lt' else 'nat_lt')
+        yield mutant('`%s` is %s' % (node.text, other.parts[0]), node, head(node) == 'nat_le', {node: Node('apply', other, node.parts[1])})
+        yield mutant('`%s` has its sides changed' % node.text, node, None, {node: Node('apply', node.parts[0], node.parts[1][::-1])})
+    if head(node) == 'implies':
+        part = node.parts[1][0]
+        yield mutant('without premise `%s`' % part.text, part, False, {part: 'True'})
+    if head(node) in TESTERS and len(node.parts[1]) == 2:
+        test = node.parts[1][0]
+        if test.kind == 'lambda':
+            body = test.parts[1]
+            if not is_literal(body) and not (body.kind == 'binary' and body.parts[0] == '&&'):
+                yield mutant('without test `%s`' % body.text, body, False, {body: 'True'})
+        elif head(node) != 'list_all':
+            yield mutant('without test `%s`' % test.text, test, None, {test: '(lambda *given: True)'})
+    if node.kind == 'if':
+        part = node.parts[0]
+        yield mutant('as if `%s`' % part.text, part, False, {part: 'True'})
+        yield mutant('as if not `%s`' % part.text, part, True, {part: 'False'})
+    if node.kind == 'record' and node.parts[0] is not None:
+        fields = node.parts[1]
+        for field, part in fields:
+            swap = {part: None} if len(fields) > 1 else {node: node.parts[0]}
+            yield mutant('field %s of `%s` is not changed' % (field, node.text if len(node.text) < 60 else node.text[:57] + '..'), node, None, swap)
+    for part in node.children():
+        yield from mutants_in(name, part)
+
+
+class Examples:
+    """The definitions, and the claims on logs."""
+
+    AFTER = 'log_model.After:after'
+
+    def __init__(self, model):
+        sys.path.insert(0, model)
+        import url
+        self.proofs = modules_of('log_examples', 'proofs')
+        self.world = World(modules_of('log_model', 'specs', APART) + modules_of('log_examples', 'specs', ('Verdicts',)) + self.proofs,
+                           {**PRELUDE, **addresses(url)})
+        self.world.build()
+        self.remember({})
+        self.claims = [claim for module in self.proofs for lemma in module.lemmas for claim in self.claims_of(module, *lemma)]
+
+    def claims_of(self, module, name, claim, proof):
+        """What a lemma claims: its name, a test, the values that it reads, and whether it holds."""
+        refuted = '⊥' in claim
+        term = Reader(claim.split('→')[0]).term()
+        word = self.world.resolve(head(term), module.name)
+        given = [self.world.value(part, module.name) for part in term.parts[1]]
+        if word not in self.world.records:
+            yield name, self.test(term.parts[0], module.name, len(given)), given, not refuted
+            return
+        record = self.world.records[word]
+        for field, part in record.fields:
+            if not refuted or proof.strip().endswith('holds.' + field):
+                yield '%s.%s' % (name, field), self.tests(word, field), given, not refuted
+
+    def test(self, node, module, count):
+        names = ['g%d' % i for i in range(count)]
+        return compile('lambda %s: %s' % (', '.join(names), self.world.term(Node('apply', node, [Node('name', n) for n in names]), {n: n for n in names}, module, {}, None)), '<claim>', 'eval')
+
+    def tests(self, word, field):
+        """The test of a field of a sentence."""
+        record = self.world.records[word]
+        return compile('lambda %s: %s' % (', '.join(record.params), self.world.term(dict(record.fields)[field], {p: p for p in record.params}, word, {}, None)), '<claim>', 'eval')
+
+    def holds(self, test, given):
+        return eval(test, self.world.space)(*given)
+
+    # -- what a log has come to is computed once
+
+    def remember(self, memo):
+        plain = self.world.space.setdefault('plain_after', self.world.space['w_log_model__After__after'])
+
+        def after(s, row):
+            key = id(s), id(row)
+            found = memo.get(key)
+            if found is None:
+                found = memo[key] = s, row, plain(s, row)
+            return found[2]
+        self.memo = memo
+        self.world.space['w_log_model__After__after'] = after
+
+    def reached(self, start):
+        """The words that a word's definition reads, and those that these read."""
+        found, waiting = set(), [start]
+        while waiting:
+            name = waiting.pop()
+            if name in found:
+                continue
+            found.add(name)
+            for _, body in self.world.definitions[name].equations:
+                waiting += [word for word in self.words_of(body, name) if word in self.world.definitions]
+        return found
+
+    def words_of(self, node, scope):
+        if node.kind == 'name':
+            parts = node.parts[0].split('.')
+            return [word for word in [self.world.resolve(node.parts[0], scope), self.world.resolve(parts[0], scope)] if word]
+        return [word for part in node.children() for word in self.words_of(part, scope)]
+
+
+class Watch:
+    """Which mutants may show in a claim: those whose part had a value there that they change."""
+
+    def __init__(self, examples, mutants):
+        self.examples, self.seen = examples, set()
+        self.parts = {}
+        for number, mutant in enumerate(mutants):
+            self.parts.setdefault(mutant.node, []).append((number, mutant.when))
+
+    def wrap(self, node, value):
+        if node not in self.parts:
+            return value
+        for number, when in self.parts[node]:
+            value = 'mark_%s(%d, %s)' % (when, number, value)
+        return value
+
+    def start(self):
+        world, watch = self.examples.world, self
+
+        def mark_true(number, value):
+            if value:
+                watch.seen.add(number)
+            return value
+
+        def mark_false(number, value):
+            if not value:
+                watch.seen.add(number)
+            return value
+
+        def mark(number, value):
+            watch.seen.add(number)
+            return value
+        world.space.update(mark_True=mark_true, mark_False=mark_false, mark_None=mark)
+        world.build(wrap=self.wrap)
+        plain, memo = world.space['w_log_model__After__after'], {}
+
+        def after(s, row):
+            key = id(s), id(row)
+            if key not in memo:
+                outer, watch.seen = watch.seen, set()
+                memo[key] = s, row, plain(s, row), watch.seen
+                watch.seen = outer
+            watch.seen |= memo[key][3]
+            return memo[key][2]
+        world.space['w_log_model__After__after'] = after
+
+    def of(self, test, given):
+        self.seen = set()
+        return self.examples.holds(test, given), self.seen
+
+    def stop(self):
+        world = self.examples.world
+        world.build()
+        world.space['plain_after'] = world.space['w_log_model__After__after']
+        self.examples.remember({})
+
+
+class Trial:
+    def __init__(self, model, word=None):
+        self.examples = Examples(model)
+        world = self.examples.world
+        self.folding = self.examples.reached(Examples.AFTER)
+        read = set()
+        for record in world.records:
+            if record.split(':')[1] in ('IsLegal', 'ActsAtOnce', 'Suits'):
+                for _, part in world.records[record].fields:
+                    for start in self.examples.words_of(part, record):
+                        read |= self.examples.reached(start) if start in world.definitions else set()
+        read |= self.examples.reached('log_model.LoadsEndInTime:LoadsEndInTime')
+        self.unread = sorted(name for name in world.definitions if name.startswith('log_model') and name not in read)
+        self.mutants = [mutant for name in world.definitions if name in read and name.startswith('log_model')
+                        for mutant in mutants_of(world, name)]
+        counts = {}
+        for mutant in self.mutants:
+            counts[mutant.name] = counts.get(mutant.name, 0) + 1
+            if counts[mutant.name] > 1:
+                mutant.name += ' (%d)' % counts[mutant.name]
+        if word:
+            self.mutants = [mutant for mutant in self.mutants if word in mutant.name]
+
+    def put(self, mutant):
+        world = self.examples.world
+        world.define(mutant.word, swap=mutant.swap, leave=mutant.leave)
+        self.kept = self.examples.memo
+        if mutant.word in self.folding:
+            if mutant.word == Examples.AFTER:
+                world.space['plain_after'] = world.space['w_log_model__After__after']
+            self.examples.remember({})
+
+    def take_back(self, mutant):
+        world = self.examples.world
+        world.define(mutant.word)
+        if mutant.word in self.folding:
+            if mutant.word == Examples.AFTER:
+                world.space['plain_after'] = world.space['w_log_model__After__after']
+            self.examples.remember(self.kept)
+
+    def noticed(self, mutant, claims):
+        """The name of a claim that fails with the mutant, or None."""
+        self.put(mutant)
+        try:
+            for name, test, given, wanted in claims:
+                try:
+                    if self.examples.holds(test, given) != wanted:
+                        return name
+                except (NoMatch, RecursionError, TypeError, IndexError):
+                    return name + ' (no value)'
+            return None
+        finally:
+            self.take_back(mutant)
+
+
+def main(model, *words):
+    word = words[words.index('--word') + 1] if '--word' in words else None
+    started = time.time()
+    trial = Trial(model, word)
+    examples = trial.examples
+    wrong = [name for name, test, given, wanted in examples.claims if examples.holds(test, given) != wanted]
+    print('%d claims of %d lemmas, %d of them computed otherwise' % (len(examples.claims), sum(len(m.lemmas) for m in examples.proofs), len(wrong)))
+    if wrong:
+        sys.exit('\n'.join(wrong))
+    watch = Watch(examples, trial.mutants)
+    watch.start()
+    shown = {}
+    for claim in examples.claims:
+        _, seen = watch.of(claim[1], claim[2])
+        for number in seen:
+            shown.setdefault(number, []).append(claim)
+    watch.stop()
+    print('%d mutants, %d of parts that no claim reaches or changes by, %.0f s' % (len(trial.mutants), len(trial.mutants) - len(shown), time.time() - started))
+    left = []
+    for number, mutant in enumerate(trial.mutants):
+        name = trial.noticed(mutant, shown.get(number, []))
+        if name is None:
+            left.append(mutant)
+        if '--kept' in words:
+            print('%s\t%s' % (mutant.name, name))
+    known = [mutant for mutant in left if mutant.name in KNOWN]
+    for mutant in left:
+        if mutant.name not in KNOWN:
+            print(mutant.name)
+    for name in KNOWN:
+        if name not in [mutant.name for mutant in left]:
+            print('known, and noticed or gone: %s' % name)
+    print('%d mutants: %d are noticed, %d are the same in meaning, %d are left; %.0f s' % (
+        len(trial.mutants), len(trial.mutants) - len(left), len(known), len(left) - len(known), time.time() - started))
+
+
+if __name__ == '__main__':
+    sys.setrecursionlimit(20000)
+    main(*sys.argv[1:])
