@@ -501,7 +501,7 @@ def events(lines):
 
 
 class Logs:
-    """The logs that were written so far: each is its events, or parts of an earlier one and events between them."""
+    """The logs that were written so far: each is its events, or parts of a scenario's log and events between them."""
 
     # at least so many events are worth a name
     LEAST = 3
@@ -509,6 +509,7 @@ class Logs:
     def __init__(self, model):
         self.model = model
         self.written = {}
+        self.shared = []
         self.homes = {}
 
     def term(self, lines, base):
@@ -529,9 +530,9 @@ class Logs:
         return told, parts
 
     def longest(self, told, at, base):
-        """The longest part of an earlier log that stands there: of the base any, of another its beginning."""
+        """The longest part of a scenario's log that stands there: of the base any, of another its beginning."""
         best = 0, None, None
-        for name, other in ([(base, self.written[base])] if base else []) + list(self.written.items()):
+        for name, other in ([(base, self.written[base])] if base else []) + self.shared:
             for start in range(len(other)) if name == base else ([0] if at == 0 else []):
                 length = 0
                 while at + length < len(told) and start + length < len(other) and told[at + length] == other[start + length]:
@@ -546,12 +547,14 @@ class Logs:
             return 'since %d %s' % (start, name) if start else name
         return 'between %d %d %s' % (start, end, name) if start else 'before %d %s' % (end, name)
 
-    def defined(self, name, sentence, lines, base=None):
+    def defined(self, name, sentence, lines, base=None, shared=False):
         """The definition of a log, and the term of its rows."""
         found = self.term(lines, base)
         if found is None:
             return '-- %s\nabbrev pub %s : List LogRow\n%s =\n    %s\n\n' % (sentence, name, name, log_rows.terms(self.model.rows(lines))), name
         self.written[name], parts = found
+        if shared:
+            self.shared.append((name, self.written[name]))
         term = '[]' if parts[-1].startswith('by_') else parts.pop()
         for part in reversed(parts):
             term = '%s\n    %s %s' % (part, '∷' if part.startswith('by_') else '++', term)
@@ -563,8 +566,8 @@ class Logs:
         for name, home in self.homes.items():
             if is_used(name, body):
                 taken.setdefault(home, []).append(name)
-        for name in self.written:
-            self.homes.setdefault(name, module)
+        for name in re.findall(r'^abbrev pub (\w+) : List Event', body, re.M):
+            self.homes[name] = module
         uses = ''.join('use Rattle.log_examples.proofs.%s.{%s}\n' % (home, ', '.join(names)) for home, names in taken.items())
         return '-- %s\n-- A log is its events: those before one of another log, since one, or between two, and its own.\n%s%s\n' % (title, imports(body), uses)
 
@@ -573,9 +576,9 @@ def lemma_of(name, what, claim, proof):
     return 'pub %s_%s : %s\n%s\n%s_%s = %s\n' % (name, what, claim, log_rows.UNFOLDING, name, what, proof)
 
 
-def legal_lemma(logs, name, sentence, lines, header):
+def legal_lemma(logs, name, sentence, lines, header, base=None, shared=False):
     fields = '; '.join('%s = refl' % field for field in FIELDS)
-    defined, log = logs.defined(name, sentence, lines)
+    defined, log = logs.defined(name, sentence, lines, base, shared)
     settings, also = header_of(name, header)
     lemmas = [
         ('is_legal', 'IsLegal %s' % log, 'record { %s }' % fields),
@@ -591,6 +594,48 @@ def broken_lemma(logs, name, sentence, lines, base, claim, fact):
     defined, log = logs.defined(name, sentence, lines, base)
     return defined + 'pub %s_is_refused : %s → ⊥\n%s\n%s_is_refused holds = false≢true %s\n' % (
         name, claim % log, log_rows.UNFOLDING, name, fact), log
+
+
+# the logs of bench/sentences.txt, by the field that fails: the claim, and where the lemmas stand
+CLAIMS = {**{field: ('IsLegal %s', 'holds.' + field, 'Not' + field.capitalize()) for field in FIELDS},
+          'loads': ('LoadsEndInTime %s', 'holds', 'NotEnding'),
+          **{field: ('ActsAtOnce %s', 'holds.' + field, 'NotAtOnce') for field in ('told', 'stepped', 'in_time')},
+          **{field: ('Suits {} %s', 'holds.' + field, 'NotSuited') for field in ('placed', 'kept')}}
+
+
+def sentences():
+    """The logs of bench/sentences.txt: name, field, scenario, what it shows, and the rows that end it."""
+    with open(os.path.join(TOP, 'bench', 'sentences.txt')) as source:
+        blocks = source.read().split('\n= ')[1:]
+    for block in blocks:
+        head, scenario, sentence, *rows = block.strip().split('\n')
+        name, field = head.split(' ')
+        yield name, field, scenario, sentence, rows
+
+
+def told_apart(model, logs, played, texts):
+    """The lemmas of the logs of bench/sentences.txt, by the file that they join."""
+    out = {}
+    for name, field, scenario, sentence, rows in sentences():
+        text = texts.get(scenario, scenario)
+        if text not in played:
+            played[text] = model.play(text.replace('|', '\n') + '\n')
+        event = int(rows[0].split(' ')[0])
+        lines = [line for line in played[text] if int(line.split(' ')[0]) < event] + rows
+        header, _ = model.check.read_scenario(text.replace('|', '\n'))
+        base = scenario if scenario in texts else None
+        verdict = model.verdict(lines)
+        if field == 'legal':
+            if verdict is not None:
+                raise SystemExit('%s: the checker finds clause %s' % (name, verdict))
+            out.setdefault('Variants', []).append(legal_lemma(logs, name, sentence, lines, header, base))
+            continue
+        claim, fact, home = CLAIMS[field]
+        settings, also = header_of(name, header) if '{}' in claim else ('', '')
+        if field in FIELDS and verdict is None or '{}' in claim and not model.check.suits(model.rows(lines), header):
+            raise SystemExit('%s: the checker judges otherwise' % name)
+        out.setdefault(home, []).append(also + broken_lemma(logs, name, sentence, lines, base, claim.replace('{}', settings), fact)[0])
+    return out
 
 
 def module(logs, folder, name, title, lemmas):
@@ -610,10 +655,12 @@ def gate(model):
             if model.verdict(lines) is not None:
                 raise SystemExit('%s: the checker finds clause %s' % (name, model.verdict(lines)))
             header, _ = model.check.read_scenario(text.replace('|', '\n'))
-            lemmas.append(legal_lemma(logs, name, sentence, lines, header))
+            lemmas.append(legal_lemma(logs, name, sentence, lines, header, shared=True))
             texts[name] = text
             legal += 1
         names.append(module(logs, folder, topic, 'Legal logs: %s.' % topic.lower(), lemmas))
+    apart = told_apart(model, logs, {texts[name]: lines for name, lines in played.items()}, texts)
+    names.append(module(logs, folder, 'Variants', 'Legal logs that tell one sentence of a definition.', apart.pop('Variants')))
     for field, examples in BROKEN:
         lemmas = []
         for name, sentence, scenario, edits in examples:
@@ -622,10 +669,11 @@ def gate(model):
                 raise SystemExit('%s: the checker judges otherwise' % name)
             lemmas.append(broken_lemma(logs, name, sentence, lines, scenario, 'IsLegal %s', 'holds.' + field)[0])
             broken += 1
+        lemmas += apart.pop('Not' + field.capitalize(), [])
         names.append(module(logs, folder, 'Not' + field.capitalize(), 'Broken logs, each refused by the field `%s`.' % field, lemmas))
     late = [broken_lemma(logs, name, sentence, edited(played[scenario], edits), scenario, 'LoadsEndInTime %s', 'holds')[0]
             for name, sentence, scenario, edits in LATE]
-    names.append(module(logs, folder, 'NotEnding', 'Logs in which a load ends too late.', late))
+    names.append(module(logs, folder, 'NotEnding', 'Logs in which a load ends too late.', late + apart.pop('NotEnding', [])))
     put_off, lawful = [], 0
     for name, sentence, scenario, field, edits in PUT_OFF:
         lines = edited(played[scenario], edits)
@@ -634,7 +682,7 @@ def gate(model):
             lawful += 1
             lemma += '\n-- a legal log, so that nothing else refuses it\n' + lemma_of(name, 'is_legal', 'IsLegal %s' % log, 'record { %s }' % '; '.join('%s = refl' % f for f in FIELDS))
         put_off.append(lemma)
-    names.append(module(logs, folder, 'NotAtOnce', 'Logs in which the tab puts off what it could do, or does it in vain.', put_off))
+    names.append(module(logs, folder, 'NotAtOnce', 'Logs in which the tab puts off what it could do, or does it in vain.', put_off + apart.pop('NotAtOnce', [])))
     unsuited = []
     for name, sentence, scenario, field, (part, value) in UNSUITED:
         header, _ = model.check.read_scenario(texts[scenario].replace('|', '\n'))
@@ -644,11 +692,11 @@ def gate(model):
         settings, also = header_of(name, header)
         unsuited.append('-- %s\n%spub %s_is_refused : Suits %s (log_of %s) → ⊥\n%s\n%s_is_refused holds = false≢true holds.%s\n' % (
             sentence, also, name, settings, scenario, log_rows.UNFOLDING, name, field))
-    names.append(module(logs, folder, 'NotSuited', 'Logs that do not suit other settings than their own.', unsuited))
+    names.append(module(logs, folder, 'NotSuited', 'Logs that do not suit their settings.', unsuited + apart.pop('NotSuited', [])))
     with open(os.path.join(folder, 'Lib.antt'), 'w') as file:
         file.write(''.join('pub mod %s\n' % name for name in names))
-    print('%d legal logs, %d broken ones, %d in which a load ends late, %d that do not act at once (%d of them legal), %d that do not suit' % (
-        legal, broken, len(late), len(put_off), lawful, len(unsuited)))
+    print('%d legal logs, %d broken ones, %d in which a load ends late, %d that do not act at once (%d of them legal), %d that do not suit, and %d that tell a sentence' % (
+        legal, broken, len(late), len(put_off), lawful, len(unsuited), len(list(sentences()))))
 
 
 # ---- random logs

@@ -9,6 +9,7 @@ pub mod Prompts
 pub mod Deaths
 pub mod Pending
 pub mod Session
+pub mod Variants
 pub mod NotOpened
 pub mod NotNumbered
 pub mod NotFormed

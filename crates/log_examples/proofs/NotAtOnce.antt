@@ -1,12 +1,14 @@
 -- Logs in which the tab puts off what it could do, or does it in vain.
 -- A log is its events: those before one of another log, since one, or between two, and its own.
-use Rattle.std.proofs.Common.{negsuc, false, List, [], ◌∷◌, ◌++◌, codes, refl, Some, None}
+use Rattle.std.proofs.Common.{pos, negsuc, true, false, List, [], ◌∷◌, ◌++◌, codes, refl, Some, None}
 use Rattle.std.proofs.lemmas.Bool.{false≢true}
 use Rattle.url.proofs.OnLiterals.{url_on_literals}
 use Rattle.address.specs.Addresses.{is_web, is_blank_url, judged, judged_parse, read_against, address_of, url_of, resolved, with_fragment, base_of, fragment_of, origin_text, origin_of, has_same_base, is_rewritable}
 use Rattle.log_model.specs.declared.change.Change.TheVariants as changes
 use Rattle.log_model.specs.declared.job.Task.TheVariants as tasks
 use Rattle.log_model.specs.declared.job.Why.TheVariants as whys
+use Rattle.log_model.specs.declared.made.What.TheVariants as whats
+use Rattle.log_model.specs.declared.outcome.Outcome.TheVariants as outcomes
 use Rattle.log_model.specs.declared.request.Mode.TheVariants as modes
 use Rattle.log_model.specs.declared.request.Request.TheVariants as requests
 use Rattle.log_model.specs.declared.row_kind.RowKind.TheVariants as rows
@@ -15,9 +17,12 @@ use Rattle.log_model.specs.Formed.{is_numbered}
 use Rattle.log_model.specs.Legal.{IsLegal, opens, is_formed, is_once, is_caused, is_queued, is_ordered, is_checked, ends_settled}
 use Rattle.log_model.specs.LoadsEndInTime.{loads_end}
 use Rattle.log_model.specs.ActsAtOnce.{ActsAtOnce, ends_told, ends_stepped, goes_in_time}
-use Rattle.log_examples.specs.Rows.{n, s, r, p, t, d, e, epoch, sent}
-use Rattle.log_examples.specs.Logs.{Event, by_start, by_ui, by_coord, log_of, before, since}
-use Rattle.log_examples.proofs.Loads.{no_document_kept}
+use Rattle.log_examples.specs.Rows.{n, s, r, p, t, d, j, e, epoch, sent, made}
+use Rattle.log_examples.specs.Logs.{Event, by_start, by_ui, by_coord, by_proc, log_of, before, since}
+use Rattle.log_examples.proofs.Traversals.{document_goes_back, push_under_an_old_epoch}
+use Rattle.log_examples.proofs.Loads.{no_document_kept, load_ended_by_a_reload}
+use Rattle.log_examples.proofs.Removals.{removed_frame, removal_and_push_of_two_processes}
+use Rattle.log_examples.proofs.Deaths.{poke_of_a_dead_document}
 use Rattle.log_examples.proofs.Pending.{two_pushes_on_their_way, push_behind_a_traversal, traversal_beside_a_push, load_beside_a_push, load_over_a_frame, reload_of_a_removed_frame}
 
 -- A push is applied, and its update waits for the next one.
@@ -195,3 +200,91 @@ push_applied_without_its_report_is_refused holds = false≢true holds.in_time
 pub push_applied_without_its_report_is_legal : IsLegal (log_of push_applied_without_its_report)
 unfolding url_on_literals is_web is_blank_url judged judged_parse read_against address_of url_of resolved with_fragment base_of fragment_of origin_text origin_of has_same_base is_rewritable events_of each_event after_opening AtEachEvent is_numbered opens is_formed is_once is_caused is_queued is_ordered is_checked ends_settled loads_end ends_told ends_stepped goes_in_time
 push_applied_without_its_report_is_legal = record { opened = refl; numbered = refl; formed = refl; once = refl; caused = refl; queued = refl; ordered = refl; checked = refl; settled = refl }
+
+-- is_told: without test `same_pair (due_pair e place.nav)`, `told` would hold.
+abbrev pub is_told_1 : List Event
+is_told_1 =
+    by_start (rows.Opened (e 0 1) (s 1) (d 1) (p 1) None (codes "http://a.test/")) []
+    ∷ by_ui (rows.Accepted (r 1) None (requests.Go (pos 1))) (rows.Applied (r 1) (changes.RemoveFrame (n 0)) ∷ [])
+    ∷ []
+
+pub is_told_1_is_refused : ActsAtOnce (log_of is_told_1) → ⊥
+unfolding url_on_literals is_web is_blank_url judged judged_parse read_against address_of url_of resolved with_fragment base_of fragment_of origin_text origin_of has_same_base is_rewritable events_of each_event after_opening AtEachEvent is_numbered opens is_formed is_once is_caused is_queued is_ordered is_checked ends_settled loads_end ends_told ends_stepped goes_in_time
+is_told_1_is_refused holds = false≢true holds.told
+
+-- later_row: were `nat_lt best.step.0 row.step.0` always so, `stepped` would hold.
+abbrev pub later_row_1 : List Event
+later_row_1 =
+    before 23 removed_frame
+    ++ by_coord (rows.Delivered (p 1)) (rows.Applied (r 1) (changes.AddFrame (s 1) (n 1) (e 0 4) (s 5)) ∷ [])
+    ∷ []
+
+pub later_row_1_is_refused : ActsAtOnce (log_of later_row_1) → ⊥
+unfolding url_on_literals is_web is_blank_url judged judged_parse read_against address_of url_of resolved with_fragment base_of fragment_of origin_text origin_of has_same_base is_rewritable events_of each_event after_opening AtEachEvent is_numbered opens is_formed is_once is_caused is_queued is_ordered is_checked ends_settled loads_end ends_told ends_stepped goes_in_time
+later_row_1_is_refused holds = false≢true holds.stepped
+
+-- is_order_of_use: without conjunct `not (is_gone s job.doc)`, `in_time` would hold.
+abbrev pub is_order_of_use_1 : List Event
+is_order_of_use_1 =
+    by_start (rows.Opened (e 0 1) (s 1) (d 1) (p 1) None (codes "http://a.test/")) []
+    ∷ by_coord (rows.Delivered (p 1)) (sent 1 1 0 1 (whys.Req (r 1)) tasks.Discard ∷ sent 1 1 0 1 (whys.Req (r 1)) (tasks.Activate (e 0 1) (epoch 2) 1 0 None (codes "http://a.test/")) ∷ [])
+    ∷ []
+
+pub is_order_of_use_1_is_refused : ActsAtOnce (log_of is_order_of_use_1) → ⊥
+unfolding url_on_literals is_web is_blank_url judged judged_parse read_against address_of url_of resolved with_fragment base_of fragment_of origin_text origin_of has_same_base is_rewritable events_of each_event after_opening AtEachEvent is_numbered opens is_formed is_once is_caused is_queued is_ordered is_checked ends_settled loads_end ends_told ends_stepped goes_in_time
+is_order_of_use_1_is_refused holds = false≢true holds.in_time
+
+-- is_taken_here: without conjunct `has_req p.start.parked made.req`, `in_time` would hold.
+abbrev pub is_taken_here_1 : List Event
+is_taken_here_1 =
+    before 12 document_goes_back
+    ++ by_coord (rows.Delivered (p 1)) (rows.Applied (r 2) (changes.Traverse (t 0)) ∷ rows.Applied (r 1) (changes.Push (n 0) (e 1 1) (s 1) (codes "http://a.test/1") (Some (codes "s"))) ∷ [])
+    ∷ []
+
+pub is_taken_here_1_is_refused : ActsAtOnce (log_of is_taken_here_1) → ⊥
+unfolding url_on_literals is_web is_blank_url judged judged_parse read_against address_of url_of resolved with_fragment base_of fragment_of origin_text origin_of has_same_base is_rewritable events_of each_event after_opening AtEachEvent is_numbered opens is_formed is_once is_caused is_queued is_ordered is_checked ends_settled loads_end ends_told ends_stepped goes_in_time
+is_taken_here_1_is_refused holds = false≢true holds.in_time
+
+-- is_taken_here: without test `is_traverse`, `in_time` would hold.
+abbrev pub is_taken_here_2 : List Event
+is_taken_here_2 =
+    before 62 removal_and_push_of_two_processes
+    ++ by_proc 2 (rows.Taken (p 2) (j 16) true false) (rows.Applied (r 7) (changes.RemoveFrame (n 1)) ∷ [])
+    ∷ []
+
+pub is_taken_here_2_is_refused : ActsAtOnce (log_of is_taken_here_2) → ⊥
+unfolding url_on_literals is_web is_blank_url judged judged_parse read_against address_of url_of resolved with_fragment base_of fragment_of origin_text origin_of has_same_base is_rewritable events_of each_event after_opening AtEachEvent is_numbered opens is_formed is_once is_caused is_queued is_ordered is_checked ends_settled loads_end ends_told ends_stepped goes_in_time
+is_taken_here_2_is_refused holds = false≢true holds.in_time
+
+-- is_for: by_why: were equation 2 true, `in_time` would hold.
+abbrev pub is_for_1 : List Event
+is_for_1 =
+    before 7 push_under_an_old_epoch
+    ++ by_ui (rows.Accepted (r 2) None (requests.Go (negsuc 0))) (rows.Started (r 2) (Some (t 0)) ∷ sent 2 1 0 1 whys.Evict (tasks.Activate (e 1 1) (epoch 1) 2 0 (Some (codes "s")) (codes "http://a.test/1")) ∷ [])
+    ∷ []
+
+pub is_for_1_is_refused : ActsAtOnce (log_of is_for_1) → ⊥
+unfolding url_on_literals is_web is_blank_url judged judged_parse read_against address_of url_of resolved with_fragment base_of fragment_of origin_text origin_of has_same_base is_rewritable events_of each_event after_opening AtEachEvent is_numbered opens is_formed is_once is_caused is_queued is_ordered is_checked ends_settled loads_end ends_told ends_stepped goes_in_time
+is_for_1_is_refused holds = false≢true holds.in_time
+
+-- is_usable: without conjunct `not d.is_discarded`, `in_time` would hold.
+abbrev pub is_usable_2 : List Event
+is_usable_2 =
+    before 10 load_ended_by_a_reload
+    ++ by_proc 1 (rows.Finished (p 1) (j 3) outcomes.Discarded) (rows.Applied (r 1) (changes.Push (n 0) (e 0 2) (s 2) (codes "http://b.test/p0") None) ∷ [])
+    ∷ []
+
+pub is_usable_2_is_refused : ActsAtOnce (log_of is_usable_2) → ⊥
+unfolding url_on_literals is_web is_blank_url judged judged_parse read_against address_of url_of resolved with_fragment base_of fragment_of origin_text origin_of has_same_base is_rewritable events_of each_event after_opening AtEachEvent is_numbered opens is_formed is_once is_caused is_queued is_ordered is_checked ends_settled loads_end ends_told ends_stepped goes_in_time
+is_usable_2_is_refused holds = false≢true holds.in_time
+
+-- is_gone: without disjunct `d.is_known_dead`, `in_time` would hold.
+abbrev pub is_gone_1 : List Event
+is_gone_1 =
+    poke_of_a_dead_document
+    ++ by_proc 1 (made 1 1 1 1 (whats.Push (e 1 1) (Some (codes "s")) (codes "http://a.test/1"))) (sent 1 1 1 1 (whys.Req (r 1)) tasks.Freeze ∷ [])
+    ∷ []
+
+pub is_gone_1_is_refused : ActsAtOnce (log_of is_gone_1) → ⊥
+unfolding url_on_literals is_web is_blank_url judged judged_parse read_against address_of url_of resolved with_fragment base_of fragment_of origin_text origin_of has_same_base is_rewritable events_of each_event after_opening AtEachEvent is_numbered opens is_formed is_once is_caused is_queued is_ordered is_checked ends_settled loads_end ends_told ends_stepped goes_in_time
+is_gone_1_is_refused holds = false≢true holds.in_time

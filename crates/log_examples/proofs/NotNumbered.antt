@@ -10,6 +10,7 @@ use Rattle.log_model.specs.declared.job.Task.TheVariants as tasks
 use Rattle.log_model.specs.declared.job.Why.TheVariants as whys
 use Rattle.log_model.specs.declared.made.What.TheVariants as whats
 use Rattle.log_model.specs.declared.outcome.Outcome.TheVariants as outcomes
+use Rattle.log_model.specs.declared.request.Mode.TheVariants as modes
 use Rattle.log_model.specs.declared.request.Request.TheVariants as requests
 use Rattle.log_model.specs.declared.row_kind.Actor.TheVariants as actors
 use Rattle.log_model.specs.declared.row_kind.LogRow.{LogRow}
@@ -71,3 +72,18 @@ two_actors =
 pub two_actors_is_refused : IsLegal two_actors → ⊥
 unfolding url_on_literals is_web is_blank_url judged judged_parse read_against address_of url_of resolved with_fragment base_of fragment_of origin_text origin_of has_same_base is_rewritable events_of each_event after_opening AtEachEvent is_numbered opens is_formed is_once is_caused is_queued is_ordered is_checked ends_settled loads_end ends_told ends_stepped goes_in_time
 two_actors_is_refused holds = false≢true holds.numbered
+
+-- same_actor: were equation 4 true, `numbered` would hold.
+abbrev pub same_actor_1 : List LogRow
+same_actor_1 =
+    at 0 actors.Start (rows.Opened (e 0 1) (s 1) (d 1) (p 1) None (codes "http://a.test/"))
+    ∷ at 1 actors.Ui (rows.Accepted (r 1) None (requests.Load (n 0) modes.Auto (codes "http://a.test/#x")))
+    ∷ at 1 actors.Ui (sent 1 1 0 1 (whys.Req (r 1)) (tasks.DoFragment (r 1) modes.Auto (codes "http://a.test/#x")))
+    ∷ at 2 (actors.Proc (p 1)) (rows.Taken (p 1) (j 1) true false)
+    ∷ at 3 (actors.Proc (p 1)) (rows.Finished (p 1) (j 1) outcomes.Fragmented)
+    ∷ at 3 (actors.Proc (p 2)) (made 1 1 1 1 (whats.Push (e 1 1) None (codes "http://a.test/#x")))
+    ∷ []
+
+pub same_actor_1_is_refused : IsLegal same_actor_1 → ⊥
+unfolding url_on_literals is_web is_blank_url judged judged_parse read_against address_of url_of resolved with_fragment base_of fragment_of origin_text origin_of has_same_base is_rewritable events_of each_event after_opening AtEachEvent is_numbered opens is_formed is_once is_caused is_queued is_ordered is_checked ends_settled loads_end ends_told ends_stepped goes_in_time
+same_actor_1_is_refused holds = false≢true holds.numbered

@@ -11,6 +11,7 @@ use Rattle.log_model.specs.declared.job.Why.TheVariants as whys
 use Rattle.log_model.specs.declared.made.What.TheVariants as whats
 use Rattle.log_model.specs.declared.outcome.Cause.TheVariants as drops
 use Rattle.log_model.specs.declared.outcome.Denial.TheVariants as denials
+use Rattle.log_model.specs.declared.outcome.Outcome.TheVariants as outcomes
 use Rattle.log_model.specs.declared.request.Mode.TheVariants as modes
 use Rattle.log_model.specs.declared.request.Request.TheVariants as requests
 use Rattle.log_model.specs.declared.row_kind.RowKind.TheVariants as rows
@@ -19,12 +20,15 @@ use Rattle.log_model.specs.Formed.{is_numbered}
 use Rattle.log_model.specs.Legal.{IsLegal, opens, is_formed, is_once, is_caused, is_queued, is_ordered, is_checked, ends_settled}
 use Rattle.log_model.specs.LoadsEndInTime.{loads_end}
 use Rattle.log_model.specs.ActsAtOnce.{ends_told, ends_stepped, goes_in_time}
-use Rattle.log_examples.specs.Rows.{n, s, r, p, t, d, e, epoch, sent, made}
+use Rattle.log_examples.specs.Rows.{n, s, r, p, t, d, j, e, epoch, sent, made}
 use Rattle.log_examples.specs.Logs.{Event, by_start, by_ui, by_coord, by_proc, log_of, before, since}
-use Rattle.log_examples.proofs.Pushes.{one_push}
-use Rattle.log_examples.proofs.Traversals.{back_after_three_pushes}
+use Rattle.log_examples.proofs.Pushes.{one_push, three_pushes, replace_and_fragment, push_beside_a_frame, push_in_an_initial_document, push_to_another_origin}
+use Rattle.log_examples.proofs.Traversals.{back_after_three_pushes, document_goes_back}
 use Rattle.log_examples.proofs.Loads.{later_load, load_ended_by_a_reload, fragment_load}
 use Rattle.log_examples.proofs.Frames.{frame_replaced, taken_number}
+use Rattle.log_examples.proofs.Removals.{removed_frame, push_of_a_removed_frame}
+use Rattle.log_examples.proofs.Prompts.{stay, load_behind_a_prompt}
+use Rattle.log_examples.proofs.Pending.{push_behind_a_traversal, traversal_beside_a_push, load_over_a_frame}
 
 -- A request is applied twice.
 abbrev pub two_outcomes : List Event
@@ -149,3 +153,421 @@ two_loads_of_one_navigable =
 pub two_loads_of_one_navigable_is_refused : IsLegal (log_of two_loads_of_one_navigable) → ⊥
 unfolding url_on_literals is_web is_blank_url judged judged_parse read_against address_of url_of resolved with_fragment base_of fragment_of origin_text origin_of has_same_base is_rewritable events_of each_event after_opening AtEachEvent is_numbered opens is_formed is_once is_caused is_queued is_ordered is_checked ends_settled loads_end ends_told ends_stepped goes_in_time
 two_loads_of_one_navigable_is_refused holds = false≢true holds.once
+
+-- same_change: were equation 3 true, `once` would hold.
+abbrev pub same_change_1 : List Event
+same_change_1 =
+    before 11 push_behind_a_traversal
+    ++ by_coord (rows.Delivered (p 1)) (rows.Applied (r 2) (changes.Traverse (t 1)) ∷ [])
+    ∷ []
+
+pub same_change_1_is_refused : IsLegal (log_of same_change_1) → ⊥
+unfolding url_on_literals is_web is_blank_url judged judged_parse read_against address_of url_of resolved with_fragment base_of fragment_of origin_text origin_of has_same_base is_rewritable events_of each_event after_opening AtEachEvent is_numbered opens is_formed is_once is_caused is_queued is_ordered is_checked ends_settled loads_end ends_told ends_stepped goes_in_time
+same_change_1_is_refused holds = false≢true holds.once
+
+-- same_change: without conjunct `n.0 == n'.0`, `once` would hold.
+abbrev pub same_change_2 : List Event
+same_change_2 =
+    before 3 load_over_a_frame
+    ++ by_coord (rows.Delivered (p 1)) (rows.Applied (r 1) (changes.AddFrame (s 1) (n 2) (e 0 2) (s 2)) ∷ sent 1 1 0 2 (whys.Req (r 1)) (tasks.Populate (n 1) (s 2) (codes "about:blank") true) ∷ [])
+    ∷ []
+
+pub same_change_2_is_refused : IsLegal (log_of same_change_2) → ⊥
+unfolding url_on_literals is_web is_blank_url judged judged_parse read_against address_of url_of resolved with_fragment base_of fragment_of origin_text origin_of has_same_base is_rewritable events_of each_event after_opening AtEachEvent is_numbered opens is_formed is_once is_caused is_queued is_ordered is_checked ends_settled loads_end ends_told ends_stepped goes_in_time
+same_change_2_is_refused holds = false≢true holds.once
+
+-- same_change: without conjunct `o.0 == o'.0`, `once` would hold.
+abbrev pub same_change_3 : List Event
+same_change_3 =
+    before 14 load_behind_a_prompt
+    ++ by_coord (rows.Delivered (p 1)) (rows.Applied (r 2) (changes.AddFrame (s 1) (n 1) (e 0 3) (s 3)) ∷ sent 5 1 0 3 (whys.Req (r 2)) (tasks.Populate (n 1) (s 3) (codes "about:blank") true) ∷ [])
+    ∷ []
+
+pub same_change_3_is_refused : IsLegal (log_of same_change_3) → ⊥
+unfolding url_on_literals is_web is_blank_url judged judged_parse read_against address_of url_of resolved with_fragment base_of fragment_of origin_text origin_of has_same_base is_rewritable events_of each_event after_opening AtEachEvent is_numbered opens is_formed is_once is_caused is_queued is_ordered is_checked ends_settled loads_end ends_told ends_stepped goes_in_time
+same_change_3_is_refused holds = false≢true holds.once
+
+-- same_change: without conjunct `same_entry e e'`, `once` would hold.
+abbrev pub same_change_4 : List Event
+same_change_4 =
+    before 3 push_beside_a_frame
+    ++ by_coord (rows.Delivered (p 1)) (rows.Applied (r 1) (changes.AddFrame (s 1) (n 1) (e 1 2) (s 2)) ∷ sent 1 1 0 2 (whys.Req (r 1)) (tasks.Populate (n 1) (s 2) (codes "about:blank") true) ∷ [])
+    ∷ []
+
+pub same_change_4_is_refused : IsLegal (log_of same_change_4) → ⊥
+unfolding url_on_literals is_web is_blank_url judged judged_parse read_against address_of url_of resolved with_fragment base_of fragment_of origin_text origin_of has_same_base is_rewritable events_of each_event after_opening AtEachEvent is_numbered opens is_formed is_once is_caused is_queued is_ordered is_checked ends_settled loads_end ends_told ends_stepped goes_in_time
+same_change_4_is_refused holds = false≢true holds.once
+
+-- same_new_entry: were equation 3 true, `once` would hold.
+abbrev pub same_new_entry_1 : List Event
+same_new_entry_1 =
+    by_start (rows.Opened (e 0 1) (s 1) (d 1) (p 1) None (codes "about:blank")) []
+    ∷ by_ui (rows.Accepted (r 1) (Some (d 1)) (requests.Poke (n 0) (actions.Push (Some (codes "s")) None))) []
+    ∷ by_proc 1 (made 1 1 1 1 (whats.Push (e 1 1) (Some (codes "s")) (codes "http://a.test/1"))) []
+    ∷ []
+
+pub same_new_entry_1_is_refused : IsLegal (log_of same_new_entry_1) → ⊥
+unfolding url_on_literals is_web is_blank_url judged judged_parse read_against address_of url_of resolved with_fragment base_of fragment_of origin_text origin_of has_same_base is_rewritable events_of each_event after_opening AtEachEvent is_numbered opens is_formed is_once is_caused is_queued is_ordered is_checked ends_settled loads_end ends_told ends_stepped goes_in_time
+same_new_entry_1_is_refused holds = false≢true holds.once
+
+-- same_new_entry: without conjunct `bytes_eq a a'`, `once` would hold.
+abbrev pub same_new_entry_2 : List Event
+same_new_entry_2 =
+    before 3 fragment_load
+    ++ by_proc 1 (rows.Finished (p 1) (j 1) outcomes.Fragmented) (made 1 1 1 1 (whats.Push (e 1 1) None (codes "http://a.test/#f0")) ∷ [])
+    ∷ []
+
+pub same_new_entry_2_is_refused : IsLegal (log_of same_new_entry_2) → ⊥
+unfolding url_on_literals is_web is_blank_url judged judged_parse read_against address_of url_of resolved with_fragment base_of fragment_of origin_text origin_of has_same_base is_rewritable events_of each_event after_opening AtEachEvent is_numbered opens is_formed is_once is_caused is_queued is_ordered is_checked ends_settled loads_end ends_told ends_stepped goes_in_time
+same_new_entry_2_is_refused holds = false≢true holds.once
+
+-- same_new_entry: without conjunct `bytes_eq a a'`, `once` would hold.
+abbrev pub same_new_entry_3 : List Event
+same_new_entry_3 =
+    by_start (rows.Opened (e 0 1) (s 1) (d 1) (p 1) None (codes "http://a.test/")) []
+    ∷ by_ui (rows.Accepted (r 1) (Some (d 1)) (requests.Poke (n 0) (actions.Replace (Some (codes "m")) None))) []
+    ∷ by_proc 1 (made 1 1 1 1 (whats.Replace (e 0 1) (e 1 1) (Some (codes "m")) (codes "http://a.test/#f0"))) []
+    ∷ []
+
+pub same_new_entry_3_is_refused : IsLegal (log_of same_new_entry_3) → ⊥
+unfolding url_on_literals is_web is_blank_url judged judged_parse read_against address_of url_of resolved with_fragment base_of fragment_of origin_text origin_of has_same_base is_rewritable events_of each_event after_opening AtEachEvent is_numbered opens is_formed is_once is_caused is_queued is_ordered is_checked ends_settled loads_end ends_told ends_stepped goes_in_time
+same_new_entry_3_is_refused holds = false≢true holds.once
+
+-- same_new_entry: without conjunct `same_entry e e'`, `once` would hold.
+abbrev pub same_new_entry_4 : List Event
+same_new_entry_4 =
+    by_start (rows.Opened (e 0 1) (s 1) (d 1) (p 1) None (codes "http://a.test/")) []
+    ∷ by_ui (rows.Accepted (r 1) (Some (d 1)) (requests.Poke (n 0) (actions.Push (Some (codes "s1")) (Some (codes "/1"))))) []
+    ∷ by_proc 1 (made 1 1 1 1 (whats.Push (e 2 1) (Some (codes "s1")) (codes "http://a.test/1"))) []
+    ∷ []
+
+pub same_new_entry_4_is_refused : IsLegal (log_of same_new_entry_4) → ⊥
+unfolding url_on_literals is_web is_blank_url judged judged_parse read_against address_of url_of resolved with_fragment base_of fragment_of origin_text origin_of has_same_base is_rewritable events_of each_event after_opening AtEachEvent is_numbered opens is_formed is_once is_caused is_queued is_ordered is_checked ends_settled loads_end ends_told ends_stepped goes_in_time
+same_new_entry_4_is_refused holds = false≢true holds.once
+
+-- same_new_entry: without conjunct `same_entry e e'`, `once` would hold.
+abbrev pub same_new_entry_5 : List Event
+same_new_entry_5 =
+    by_start (rows.Opened (e 0 1) (s 1) (d 1) (p 1) None (codes "about:blank")) []
+    ∷ by_ui (rows.Accepted (r 1) (Some (d 1)) (requests.Poke (n 0) (actions.Push (Some (codes "s")) None))) []
+    ∷ by_proc 1 (made 1 1 1 1 (whats.Replace (e 0 1) (e 1 0) (Some (codes "s")) (codes "about:blank"))) []
+    ∷ []
+
+pub same_new_entry_5_is_refused : IsLegal (log_of same_new_entry_5) → ⊥
+unfolding url_on_literals is_web is_blank_url judged judged_parse read_against address_of url_of resolved with_fragment base_of fragment_of origin_text origin_of has_same_base is_rewritable events_of each_event after_opening AtEachEvent is_numbered opens is_formed is_once is_caused is_queued is_ordered is_checked ends_settled loads_end ends_told ends_stepped goes_in_time
+same_new_entry_5_is_refused holds = false≢true holds.once
+
+-- same_new_entry: without conjunct `same_entry o o'`, `once` would hold.
+abbrev pub same_new_entry_6 : List Event
+same_new_entry_6 =
+    by_start (rows.Opened (e 0 1) (s 1) (d 1) (p 1) None (codes "about:blank")) []
+    ∷ by_ui (rows.Accepted (r 1) (Some (d 1)) (requests.Poke (n 0) (actions.Push (Some (codes "s")) None))) []
+    ∷ by_proc 1 (made 1 1 1 1 (whats.Replace (e 0 2) (e 1 1) (Some (codes "s")) (codes "about:blank"))) []
+    ∷ []
+
+pub same_new_entry_6_is_refused : IsLegal (log_of same_new_entry_6) → ⊥
+unfolding url_on_literals is_web is_blank_url judged judged_parse read_against address_of url_of resolved with_fragment base_of fragment_of origin_text origin_of has_same_base is_rewritable events_of each_event after_opening AtEachEvent is_numbered opens is_formed is_once is_caused is_queued is_ordered is_checked ends_settled loads_end ends_told ends_stepped goes_in_time
+same_new_entry_6_is_refused holds = false≢true holds.once
+
+-- same_new_entry: without conjunct `same_memo m m'`, `once` would hold.
+abbrev pub same_new_entry_7 : List Event
+same_new_entry_7 =
+    by_start (rows.Opened (e 0 1) (s 1) (d 1) (p 1) None (codes "http://a.test/")) []
+    ∷ by_ui (rows.Accepted (r 1) (Some (d 1)) (requests.Poke (n 0) (actions.Push (Some (codes "s")) (Some (codes "/1"))))) []
+    ∷ by_proc 1 (made 1 1 1 1 (whats.Push (e 1 1) None (codes "http://a.test/1"))) []
+    ∷ []
+
+pub same_new_entry_7_is_refused : IsLegal (log_of same_new_entry_7) → ⊥
+unfolding url_on_literals is_web is_blank_url judged judged_parse read_against address_of url_of resolved with_fragment base_of fragment_of origin_text origin_of has_same_base is_rewritable events_of each_event after_opening AtEachEvent is_numbered opens is_formed is_once is_caused is_queued is_ordered is_checked ends_settled loads_end ends_told ends_stepped goes_in_time
+same_new_entry_7_is_refused holds = false≢true holds.once
+
+-- same_new_entry: without conjunct `same_memo m m'`, `once` would hold.
+abbrev pub same_new_entry_8 : List Event
+same_new_entry_8 =
+    by_start (rows.Opened (e 0 1) (s 1) (d 1) (p 1) None (codes "about:blank")) []
+    ∷ by_ui (rows.Accepted (r 1) (Some (d 1)) (requests.Poke (n 0) (actions.Push (Some (codes "s")) None))) []
+    ∷ by_proc 1 (made 1 1 1 1 (whats.Replace (e 0 1) (e 1 1) None (codes "about:blank"))) []
+    ∷ []
+
+pub same_new_entry_8_is_refused : IsLegal (log_of same_new_entry_8) → ⊥
+unfolding url_on_literals is_web is_blank_url judged judged_parse read_against address_of url_of resolved with_fragment base_of fragment_of origin_text origin_of has_same_base is_rewritable events_of each_event after_opening AtEachEvent is_numbered opens is_formed is_once is_caused is_queued is_ordered is_checked ends_settled loads_end ends_told ends_stepped goes_in_time
+same_new_entry_8_is_refused holds = false≢true holds.once
+
+-- same_new_row: without conjunct `bytes_eq a a'`, `once` would hold.
+abbrev pub same_new_row_1 : List Event
+same_new_row_1 =
+    before 4 replace_and_fragment
+    ++ by_coord (rows.Delivered (p 1)) (rows.Applied (r 1) (changes.Replace (n 0) (e 0 1) (e 1 1) (s 1) (codes "http://a.test/#f0") (Some (codes "m"))) ∷ [])
+    ∷ []
+
+pub same_new_row_1_is_refused : IsLegal (log_of same_new_row_1) → ⊥
+unfolding url_on_literals is_web is_blank_url judged judged_parse read_against address_of url_of resolved with_fragment base_of fragment_of origin_text origin_of has_same_base is_rewritable events_of each_event after_opening AtEachEvent is_numbered opens is_formed is_once is_caused is_queued is_ordered is_checked ends_settled loads_end ends_told ends_stepped goes_in_time
+same_new_row_1_is_refused holds = false≢true holds.once
+
+-- same_new_row: without conjunct `n.0 == n'.0`, `once` would hold.
+abbrev pub same_new_row_2 : List Event
+same_new_row_2 =
+    before 12 push_beside_a_frame
+    ++ by_coord (rows.Delivered (p 1)) (rows.Applied (r 2) (changes.Push (n 1) (e 1 1) (s 1) (codes "http://a.test/1") (Some (codes "s"))) ∷ sent 3 1 0 1 (whys.Req (r 2)) (tasks.Update 2 1) ∷ sent 4 1 0 2 (whys.Req (r 2)) (tasks.Update 2 1) ∷ [])
+    ∷ []
+
+pub same_new_row_2_is_refused : IsLegal (log_of same_new_row_2) → ⊥
+unfolding url_on_literals is_web is_blank_url judged judged_parse read_against address_of url_of resolved with_fragment base_of fragment_of origin_text origin_of has_same_base is_rewritable events_of each_event after_opening AtEachEvent is_numbered opens is_formed is_once is_caused is_queued is_ordered is_checked ends_settled loads_end ends_told ends_stepped goes_in_time
+same_new_row_2_is_refused holds = false≢true holds.once
+
+-- same_new_row: without conjunct `s.0 == s'.0`, `once` would hold.
+abbrev pub same_new_row_3 : List Event
+same_new_row_3 =
+    before 5 push_to_another_origin
+    ++ by_coord (rows.Delivered (p 1)) (rows.Applied (r 2) (changes.Push (n 0) (e 1 1) (s 2) (codes "http://a.test/1") (Some (codes "s"))) ∷ sent 1 1 0 1 (whys.Req (r 2)) (tasks.Update 2 1) ∷ [])
+    ∷ []
+
+pub same_new_row_3_is_refused : IsLegal (log_of same_new_row_3) → ⊥
+unfolding url_on_literals is_web is_blank_url judged judged_parse read_against address_of url_of resolved with_fragment base_of fragment_of origin_text origin_of has_same_base is_rewritable events_of each_event after_opening AtEachEvent is_numbered opens is_formed is_once is_caused is_queued is_ordered is_checked ends_settled loads_end ends_told ends_stepped goes_in_time
+same_new_row_3_is_refused holds = false≢true holds.once
+
+-- same_new_row: without conjunct `s.0 == s'.0`, `once` would hold.
+abbrev pub same_new_row_4 : List Event
+same_new_row_4 =
+    before 3 push_in_an_initial_document
+    ++ by_coord (rows.Delivered (p 1)) (rows.Applied (r 1) (changes.Replace (n 0) (e 0 1) (e 1 1) (s 3) (codes "about:blank") (Some (codes "s"))) ∷ [])
+    ∷ []
+
+pub same_new_row_4_is_refused : IsLegal (log_of same_new_row_4) → ⊥
+unfolding url_on_literals is_web is_blank_url judged judged_parse read_against address_of url_of resolved with_fragment base_of fragment_of origin_text origin_of has_same_base is_rewritable events_of each_event after_opening AtEachEvent is_numbered opens is_formed is_once is_caused is_queued is_ordered is_checked ends_settled loads_end ends_told ends_stepped goes_in_time
+same_new_row_4_is_refused holds = false≢true holds.once
+
+-- same_new_row: without conjunct `same_entry e e'`, `once` would hold.
+abbrev pub same_new_row_5 : List Event
+same_new_row_5 =
+    before 3 traversal_beside_a_push
+    ++ by_coord (rows.Delivered (p 1)) (rows.Applied (r 1) (changes.Push (n 0) (e 1 2) (s 1) (codes "http://a.test/1") (Some (codes "s"))) ∷ sent 1 1 0 1 (whys.Req (r 1)) (tasks.Update 2 1) ∷ [])
+    ∷ []
+
+pub same_new_row_5_is_refused : IsLegal (log_of same_new_row_5) → ⊥
+unfolding url_on_literals is_web is_blank_url judged judged_parse read_against address_of url_of resolved with_fragment base_of fragment_of origin_text origin_of has_same_base is_rewritable events_of each_event after_opening AtEachEvent is_numbered opens is_formed is_once is_caused is_queued is_ordered is_checked ends_settled loads_end ends_told ends_stepped goes_in_time
+same_new_row_5_is_refused holds = false≢true holds.once
+
+-- same_new_row: without conjunct `same_entry e e'`, `once` would hold.
+abbrev pub same_new_row_6 : List Event
+same_new_row_6 =
+    before 3 push_in_an_initial_document
+    ++ by_coord (rows.Delivered (p 1)) (rows.Applied (r 1) (changes.Replace (n 0) (e 0 1) (e 0 1) (s 1) (codes "about:blank") (Some (codes "s"))) ∷ [])
+    ∷ []
+
+pub same_new_row_6_is_refused : IsLegal (log_of same_new_row_6) → ⊥
+unfolding url_on_literals is_web is_blank_url judged judged_parse read_against address_of url_of resolved with_fragment base_of fragment_of origin_text origin_of has_same_base is_rewritable events_of each_event after_opening AtEachEvent is_numbered opens is_formed is_once is_caused is_queued is_ordered is_checked ends_settled loads_end ends_told ends_stepped goes_in_time
+same_new_row_6_is_refused holds = false≢true holds.once
+
+-- same_new_row: without conjunct `same_entry o o'`, `once` would hold.
+abbrev pub same_new_row_7 : List Event
+same_new_row_7 =
+    before 13 removed_frame
+    ++ by_coord (rows.Delivered (p 1)) (sent 4 1 0 2 (whys.Req (r 2)) tasks.Discard ∷ sent 5 1 0 3 (whys.Req (r 2)) (tasks.Activate (e 0 3) (epoch 2) 1 0 None (codes "http://a.test/f1")) ∷ rows.Applied (r 2) (changes.Replace (n 1) (e 0 2) (e 0 3) (s 3) (codes "http://a.test/f1") None) ∷ [])
+    ∷ []
+
+pub same_new_row_7_is_refused : IsLegal (log_of same_new_row_7) → ⊥
+unfolding url_on_literals is_web is_blank_url judged judged_parse read_against address_of url_of resolved with_fragment base_of fragment_of origin_text origin_of has_same_base is_rewritable events_of each_event after_opening AtEachEvent is_numbered opens is_formed is_once is_caused is_queued is_ordered is_checked ends_settled loads_end ends_told ends_stepped goes_in_time
+same_new_row_7_is_refused holds = false≢true holds.once
+
+-- same_new_row: without conjunct `same_memo m m'`, `once` would hold.
+abbrev pub same_new_row_8 : List Event
+same_new_row_8 =
+    before 5 three_pushes
+    ++ by_coord (rows.Delivered (p 1)) (rows.Applied (r 1) (changes.Push (n 0) (e 1 1) (s 1) (codes "http://a.test/1") (Some (codes "s2"))) ∷ sent 1 1 0 1 (whys.Req (r 1)) (tasks.Update 2 1) ∷ [])
+    ∷ []
+
+pub same_new_row_8_is_refused : IsLegal (log_of same_new_row_8) → ⊥
+unfolding url_on_literals is_web is_blank_url judged judged_parse read_against address_of url_of resolved with_fragment base_of fragment_of origin_text origin_of has_same_base is_rewritable events_of each_event after_opening AtEachEvent is_numbered opens is_formed is_once is_caused is_queued is_ordered is_checked ends_settled loads_end ends_told ends_stepped goes_in_time
+same_new_row_8_is_refused holds = false≢true holds.once
+
+-- same_new_row: without conjunct `same_memo m m'`, `once` would hold.
+abbrev pub same_new_row_9 : List Event
+same_new_row_9 =
+    before 3 push_in_an_initial_document
+    ++ by_coord (rows.Delivered (p 1)) (rows.Applied (r 1) (changes.Replace (n 0) (e 0 1) (e 1 1) (s 1) (codes "about:blank") None) ∷ [])
+    ∷ []
+
+pub same_new_row_9_is_refused : IsLegal (log_of same_new_row_9) → ⊥
+unfolding url_on_literals is_web is_blank_url judged judged_parse read_against address_of url_of resolved with_fragment base_of fragment_of origin_text origin_of has_same_base is_rewritable events_of each_event after_opening AtEachEvent is_numbered opens is_formed is_once is_caused is_queued is_ordered is_checked ends_settled loads_end ends_told ends_stepped goes_in_time
+same_new_row_9_is_refused holds = false≢true holds.once
+
+-- same_what: were equation 1 true, `once` would hold.
+abbrev pub same_what_1 : List Event
+same_what_1 =
+    by_start (rows.Opened (e 0 1) (s 1) (d 1) (p 1) None (codes "http://a.test/")) []
+    ∷ by_ui (rows.Accepted (r 1) (Some (d 1)) (requests.Poke (n 0) (actions.AddFrame (n 1)))) []
+    ∷ by_proc 1 (made 1 1 1 1 (whats.AddFrame (n 2))) []
+    ∷ []
+
+pub same_what_1_is_refused : IsLegal (log_of same_what_1) → ⊥
+unfolding url_on_literals is_web is_blank_url judged judged_parse read_against address_of url_of resolved with_fragment base_of fragment_of origin_text origin_of has_same_base is_rewritable events_of each_event after_opening AtEachEvent is_numbered opens is_formed is_once is_caused is_queued is_ordered is_checked ends_settled loads_end ends_told ends_stepped goes_in_time
+same_what_1_is_refused holds = false≢true holds.once
+
+-- same_what: were equation 2 true, `once` would hold.
+abbrev pub same_what_2 : List Event
+same_what_2 =
+    before 12 push_of_a_removed_frame
+    ++ by_proc 1 (made 1 2 1 1 (whats.RemoveFrame (n 2))) []
+    ∷ []
+
+pub same_what_2_is_refused : IsLegal (log_of same_what_2) → ⊥
+unfolding url_on_literals is_web is_blank_url judged judged_parse read_against address_of url_of resolved with_fragment base_of fragment_of origin_text origin_of has_same_base is_rewritable events_of each_event after_opening AtEachEvent is_numbered opens is_formed is_once is_caused is_queued is_ordered is_checked ends_settled loads_end ends_told ends_stepped goes_in_time
+same_what_2_is_refused holds = false≢true holds.once
+
+-- fits: were equation 2 true, `once` would hold.
+abbrev pub fits_1 : List Event
+fits_1 =
+    before 16 push_of_a_removed_frame
+    ++ by_proc 1 (rows.Finished (p 1) (j 3) outcomes.Discarded) (rows.Applied (r 3) (changes.Replace (n 1) (e 0 2) (e 2 1) (s 2) (codes "about:blank") (Some (codes "s"))) ∷ [])
+    ∷ []
+
+pub fits_1_is_refused : IsLegal (log_of fits_1) → ⊥
+unfolding url_on_literals is_web is_blank_url judged judged_parse read_against address_of url_of resolved with_fragment base_of fragment_of origin_text origin_of has_same_base is_rewritable events_of each_event after_opening AtEachEvent is_numbered opens is_formed is_once is_caused is_queued is_ordered is_checked ends_settled loads_end ends_told ends_stepped goes_in_time
+fits_1_is_refused holds = false≢true holds.once
+
+-- is_applied_rightly: without conjunct `fits s.history change`, `once` would hold.
+abbrev pub is_applied_rightly_1 : List Event
+is_applied_rightly_1 =
+    before 12 taken_number
+    ++ by_ui (rows.Accepted (r 3) (Some (d 1)) (requests.Poke (n 0) actions.Edit)) (rows.Applied (r 2) (changes.AddFrame (s 1) (n 1) (e 0 3) (s 3)) ∷ [])
+    ∷ []
+
+pub is_applied_rightly_1_is_refused : IsLegal (log_of is_applied_rightly_1) → ⊥
+unfolding url_on_literals is_web is_blank_url judged judged_parse read_against address_of url_of resolved with_fragment base_of fragment_of origin_text origin_of has_same_base is_rewritable events_of each_event after_opening AtEachEvent is_numbered opens is_formed is_once is_caused is_queued is_ordered is_checked ends_settled loads_end ends_told ends_stepped goes_in_time
+is_applied_rightly_1_is_refused holds = false≢true holds.once
+
+-- is_goal: without test `g.0 == step`, `once` would hold.
+abbrev pub is_goal_1 : List Event
+is_goal_1 =
+    by_start (rows.Opened (e 0 1) (s 1) (d 1) (p 1) None (codes "http://a.test/")) []
+    ∷ by_ui (rows.Accepted (r 1) None (requests.Go (pos 5))) (rows.Refused (r 1) denials.NoStep ∷ [])
+    ∷ by_ui (rows.Accepted (r 2) None (requests.Go (pos 0))) (rows.Started (r 2) (Some (t 1)) ∷ sent 1 1 0 1 (whys.Req (r 2)) (tasks.DoFragment (r 2) modes.Auto (codes "about:blank")) ∷ [])
+    ∷ []
+
+pub is_goal_1_is_refused : IsLegal (log_of is_goal_1) → ⊥
+unfolding url_on_literals is_web is_blank_url judged judged_parse read_against address_of url_of resolved with_fragment base_of fragment_of origin_text origin_of has_same_base is_rewritable events_of each_event after_opening AtEachEvent is_numbered opens is_formed is_once is_caused is_queued is_ordered is_checked ends_settled loads_end ends_told ends_stepped goes_in_time
+is_goal_1_is_refused holds = false≢true holds.once
+
+-- is_made_duly: without conjunct `is_none q.made`, `once` would hold.
+abbrev pub is_made_duly_1 : List Event
+is_made_duly_1 =
+    before 3 push_of_a_removed_frame
+    ++ by_proc 1 (made 1 1 1 1 (whats.AddFrame (n 1))) []
+    ∷ []
+
+pub is_made_duly_1_is_refused : IsLegal (log_of is_made_duly_1) → ⊥
+unfolding url_on_literals is_web is_blank_url judged judged_parse read_against address_of url_of resolved with_fragment base_of fragment_of origin_text origin_of has_same_base is_rewritable events_of each_event after_opening AtEachEvent is_numbered opens is_formed is_once is_caused is_queued is_ordered is_checked ends_settled loads_end ends_told ends_stepped goes_in_time
+is_made_duly_1_is_refused holds = false≢true holds.once
+
+-- is_made_in: without conjunct `d.proc.0 == proc.0`, `once` would hold.
+abbrev pub is_made_in_1 : List Event
+is_made_in_1 =
+    by_start (rows.Opened (e 0 1) (s 1) (d 1) (p 1) None (codes "about:blank")) []
+    ∷ by_ui (rows.Accepted (r 1) (Some (d 1)) (requests.Poke (n 0) (actions.Push (Some (codes "s")) None))) []
+    ∷ by_proc 1 (made 2 1 1 1 (whats.Replace (e 0 1) (e 1 1) (Some (codes "s")) (codes "about:blank"))) []
+    ∷ []
+
+pub is_made_in_1_is_refused : IsLegal (log_of is_made_in_1) → ⊥
+unfolding url_on_literals is_web is_blank_url judged judged_parse read_against address_of url_of resolved with_fragment base_of fragment_of origin_text origin_of has_same_base is_rewritable events_of each_event after_opening AtEachEvent is_numbered opens is_formed is_once is_caused is_queued is_ordered is_checked ends_settled loads_end ends_told ends_stepped goes_in_time
+is_made_in_1_is_refused holds = false≢true holds.once
+
+-- is_made_of: without conjunct `view.epoch.0 == made.epoch.0`, `once` would hold.
+abbrev pub is_made_of_1 : List Event
+is_made_of_1 =
+    by_start (rows.Opened (e 0 1) (s 1) (d 1) (p 1) None (codes "about:blank")) []
+    ∷ by_ui (rows.Accepted (r 1) (Some (d 1)) (requests.Poke (n 0) (actions.Push (Some (codes "s")) None))) []
+    ∷ by_proc 1 (made 1 1 1 2 (whats.Replace (e 0 1) (e 1 1) (Some (codes "s")) (codes "about:blank"))) []
+    ∷ []
+
+pub is_made_of_1_is_refused : IsLegal (log_of is_made_of_1) → ⊥
+unfolding url_on_literals is_web is_blank_url judged judged_parse read_against address_of url_of resolved with_fragment base_of fragment_of origin_text origin_of has_same_base is_rewritable events_of each_event after_opening AtEachEvent is_numbered opens is_formed is_once is_caused is_queued is_ordered is_checked ends_settled loads_end ends_told ends_stepped goes_in_time
+is_made_of_1_is_refused holds = false≢true holds.once
+
+-- is_made_of_poke: without test `doc.0 == made.doc.0`, `once` would hold.
+abbrev pub is_made_of_poke_1 : List Event
+is_made_of_poke_1 =
+    before 11 taken_number
+    ++ by_proc 1 (made 1 2 2 1 (whats.AddFrame (n 1))) []
+    ∷ []
+
+pub is_made_of_poke_1_is_refused : IsLegal (log_of is_made_of_poke_1) → ⊥
+unfolding url_on_literals is_web is_blank_url judged judged_parse read_against address_of url_of resolved with_fragment base_of fragment_of origin_text origin_of has_same_base is_rewritable events_of each_event after_opening AtEachEvent is_numbered opens is_formed is_once is_caused is_queued is_ordered is_checked ends_settled loads_end ends_told ends_stepped goes_in_time
+is_made_of_poke_1_is_refused holds = false≢true holds.once
+
+-- is_once_row: by_kind: without conjunct `is_open q`, `once` would hold.
+abbrev pub is_once_row_1 : List Event
+is_once_row_1 =
+    before 4 replace_and_fragment
+    ++ by_coord (rows.Delivered (p 1)) (rows.Dropped (r 1) drops.Stay ∷ rows.Applied (r 1) (changes.Replace (n 0) (e 0 1) (e 1 1) (s 1) (codes "http://a.test/") (Some (codes "m"))) ∷ [])
+    ∷ []
+
+pub is_once_row_1_is_refused : IsLegal (log_of is_once_row_1) → ⊥
+unfolding url_on_literals is_web is_blank_url judged judged_parse read_against address_of url_of resolved with_fragment base_of fragment_of origin_text origin_of has_same_base is_rewritable events_of each_event after_opening AtEachEvent is_numbered opens is_formed is_once is_caused is_queued is_ordered is_checked ends_settled loads_end ends_told ends_stepped goes_in_time
+is_once_row_1_is_refused holds = false≢true holds.once
+
+-- is_once_row: by_kind: without test `is_none q.answered`, `once` would hold.
+abbrev pub is_once_row_2 : List Event
+is_once_row_2 =
+    before 17 stay
+    ++ by_ui (rows.Answered (r 3) true) (rows.Answered (r 3) true ∷ rows.Dropped (r 3) drops.Stay ∷ [])
+    ∷ []
+
+pub is_once_row_2_is_refused : IsLegal (log_of is_once_row_2) → ⊥
+unfolding url_on_literals is_web is_blank_url judged judged_parse read_against address_of url_of resolved with_fragment base_of fragment_of origin_text origin_of has_same_base is_rewritable events_of each_event after_opening AtEachEvent is_numbered opens is_formed is_once is_caused is_queued is_ordered is_checked ends_settled loads_end ends_told ends_stepped goes_in_time
+is_once_row_2_is_refused holds = false≢true holds.once
+
+-- is_once_row: by_kind: without test `is_none q.prompted`, `once` would hold.
+abbrev pub is_once_row_3 : List Event
+is_once_row_3 =
+    before 3 document_goes_back
+    ++ by_coord (rows.Delivered (p 1)) (rows.Prompted (r 1) (d 1) ∷ rows.Prompted (r 1) (d 1) ∷ [])
+    ∷ []
+
+pub is_once_row_3_is_refused : IsLegal (log_of is_once_row_3) → ⊥
+unfolding url_on_literals is_web is_blank_url judged judged_parse read_against address_of url_of resolved with_fragment base_of fragment_of origin_text origin_of has_same_base is_rewritable events_of each_event after_opening AtEachEvent is_numbered opens is_formed is_once is_caused is_queued is_ordered is_checked ends_settled loads_end ends_told ends_stepped goes_in_time
+is_once_row_3_is_refused holds = false≢true holds.once
+
+-- is_once_row: by_kind: without test `is_open`, `once` would hold.
+abbrev pub is_once_row_4 : List Event
+is_once_row_4 =
+    by_start (rows.Opened (e 0 1) (s 1) (d 1) (p 1) None (codes "http://a.test/")) []
+    ∷ by_ui (rows.Accepted (r 1) None (requests.Go (pos 1))) (rows.Refused (r 1) denials.NoStep ∷ rows.Refused (r 1) denials.NoStep ∷ [])
+    ∷ []
+
+pub is_once_row_4_is_refused : IsLegal (log_of is_once_row_4) → ⊥
+unfolding url_on_literals is_web is_blank_url judged judged_parse read_against address_of url_of resolved with_fragment base_of fragment_of origin_text origin_of has_same_base is_rewritable events_of each_event after_opening AtEachEvent is_numbered opens is_formed is_once is_caused is_queued is_ordered is_checked ends_settled loads_end ends_told ends_stepped goes_in_time
+is_once_row_4_is_refused holds = false≢true holds.once
+
+-- is_once_row: by_kind: without test `is_open`, `once` would hold.
+abbrev pub is_once_row_5 : List Event
+is_once_row_5 =
+    by_start (rows.Opened (e 0 1) (s 1) (d 1) (p 1) None (codes "http://a.test/")) []
+    ∷ by_ui (rows.Accepted (r 1) None (requests.Load (n 5) modes.Auto (codes "http://a.test/1"))) (rows.Refused (r 1) denials.NoNavigable ∷ rows.Dropped (r 1) drops.Stay ∷ [])
+    ∷ []
+
+pub is_once_row_5_is_refused : IsLegal (log_of is_once_row_5) → ⊥
+unfolding url_on_literals is_web is_blank_url judged judged_parse read_against address_of url_of resolved with_fragment base_of fragment_of origin_text origin_of has_same_base is_rewritable events_of each_event after_opening AtEachEvent is_numbered opens is_formed is_once is_caused is_queued is_ordered is_checked ends_settled loads_end ends_told ends_stepped goes_in_time
+is_once_row_5_is_refused holds = false≢true holds.once
+
+-- may_begin_request: by_request: were equation 2 true, `once` would hold.
+abbrev pub may_begin_request_1 : List Event
+may_begin_request_1 =
+    by_start (rows.Opened (e 0 1) (s 1) (d 1) (p 1) None (codes "http://a.test/")) []
+    ∷ by_ui (rows.Accepted (r 1) None (requests.Reload (n 1))) (rows.Started (r 1) (Some (t 1)) ∷ [])
+    ∷ []
+
+pub may_begin_request_1_is_refused : IsLegal (log_of may_begin_request_1) → ⊥
+unfolding url_on_literals is_web is_blank_url judged judged_parse read_against address_of url_of resolved with_fragment base_of fragment_of origin_text origin_of has_same_base is_rewritable events_of each_event after_opening AtEachEvent is_numbered opens is_formed is_once is_caused is_queued is_ordered is_checked ends_settled loads_end ends_told ends_stepped goes_in_time
+may_begin_request_1_is_refused holds = false≢true holds.once
+
+-- may_begin_request: without conjunct `is_none q.ending`, `once` would hold.
+abbrev pub may_begin_request_2 : List Event
+may_begin_request_2 =
+    before 7 push_behind_a_traversal
+    ++ by_ui (rows.Accepted (r 2) None (requests.Go (negsuc 0))) (rows.Dropped (r 2) (drops.Destroyed (r 1)) ∷ rows.Started (r 2) (Some (t 0)) ∷ sent 2 1 0 1 (whys.Req (r 2)) (tasks.Activate (e 0 1) (epoch 2) 2 0 None (codes "http://a.test/")) ∷ [])
+    ∷ []
+
+pub may_begin_request_2_is_refused : IsLegal (log_of may_begin_request_2) → ⊥
+unfolding url_on_literals is_web is_blank_url judged judged_parse read_against address_of url_of resolved with_fragment base_of fragment_of origin_text origin_of has_same_base is_rewritable events_of each_event after_opening AtEachEvent is_numbered opens is_formed is_once is_caused is_queued is_ordered is_checked ends_settled loads_end ends_told ends_stepped goes_in_time
+may_begin_request_2_is_refused holds = false≢true holds.once
