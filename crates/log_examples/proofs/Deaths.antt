@@ -24,8 +24,10 @@ use Rattle.log_model.specs.declared.header.Header.{Header}
 use Rattle.log_examples.specs.Rows.{n, s, r, p, t, x, d, j, e, epoch, sent, made}
 use Rattle.log_examples.specs.Logs.{Event, by_start, by_ui, by_coord, by_proc, log_of, before, plain_settings}
 use Rattle.log_examples.proofs.Pushes.{one_push}
+use Rattle.log_examples.proofs.Interleavings.{held_back_push}
 use Rattle.log_examples.proofs.Frames.{load_while_frames_are_moved}
 use Rattle.log_examples.proofs.Removals.{removal_and_push_of_two_processes}
+use Rattle.log_examples.proofs.Prompts.{frames_asked_in_order}
 
 -- An order to a dead incarnation is void.
 abbrev pub void_order : List Event
@@ -128,17 +130,8 @@ reload_after_a_death_suits = record { opened = refl; placed = refl; kept = refl 
 -- A death settles questions, and drops a reload and a load.
 abbrev pub questions_of_the_dead : List Event
 questions_of_the_dead =
-    by_start (rows.Opened (e 0 1) (s 1) (d 1) (p 1) None (codes "http://a.test/")) []
-    ∷ by_ui (rows.Accepted (r 1) (Some (d 1)) (requests.Poke (n 0) (actions.AddFrame (n 2)))) []
-    ∷ by_proc 1 (made 1 1 1 1 (whats.AddFrame (n 2))) []
-    ∷ by_coord (rows.Delivered (p 1)) (rows.Applied (r 1) (changes.AddFrame (s 1) (n 2) (e 0 2) (s 2)) ∷ sent 1 1 0 2 (whys.Req (r 1)) (tasks.Populate (n 2) (s 2) (codes "about:blank") true) ∷ [])
-    ∷ by_proc 1 (rows.Taken (p 1) (j 1) true false) []
-    ∷ by_proc 1 (rows.Finished (p 1) (j 1) (outcomes.Populated (Some 1))) []
-    ∷ by_coord (rows.Delivered (p 1)) (sent 2 1 0 2 (whys.Req (r 1)) (tasks.Activate (e 0 2) (epoch 1) 1 0 None (codes "about:blank")) ∷ [])
-    ∷ by_proc 1 (rows.Taken (p 1) (j 2) true false) []
-    ∷ by_proc 1 (rows.Finished (p 1) (j 2) outcomes.Activated) []
-    ∷ by_coord (rows.Delivered (p 1)) []
-    ∷ by_ui (rows.Accepted (r 2) (Some (d 2)) (requests.Poke (n 2) (actions.AddFrame (n 3)))) []
+    before 10 frames_asked_in_order
+    ++ by_ui (rows.Accepted (r 2) (Some (d 2)) (requests.Poke (n 2) (actions.AddFrame (n 3)))) []
     ∷ by_proc 1 (made 1 2 2 1 (whats.AddFrame (n 3))) []
     ∷ by_coord (rows.Delivered (p 1)) (rows.Applied (r 2) (changes.AddFrame (s 2) (n 3) (e 0 3) (s 3)) ∷ sent 3 1 0 3 (whys.Req (r 2)) (tasks.Populate (n 3) (s 3) (codes "about:blank") true) ∷ [])
     ∷ by_proc 1 (rows.Taken (p 1) (j 3) true false) []
@@ -292,3 +285,274 @@ poke_of_a_dead_document_acts_at_once = record { told = refl; stepped = refl; in_
 pub poke_of_a_dead_document_suits : Suits plain_settings (log_of poke_of_a_dead_document)
 unfolding url_on_literals is_web is_blank_url judged judged_parse read_against address_of url_of resolved with_fragment base_of fragment_of origin_text origin_of has_same_base is_rewritable events_of each_event after_opening AtEachEvent is_numbered opens is_formed is_once is_caused is_queued is_ordered is_checked ends_settled loads_end ends_told ends_stepped goes_in_time
 poke_of_a_dead_document_suits = record { opened = refl; placed = refl; kept = refl }
+
+-- A death of the document above drops what a frame made.
+abbrev pub death_above_a_frame : List Event
+death_above_a_frame =
+    before 20 load_while_frames_are_moved
+    ++ by_ui (rows.Accepted (r 3) (Some (d 3)) (requests.Poke (n 1) (actions.Push (Some (codes "s")) (Some (codes "/g"))))) []
+    ∷ by_proc 2 (made 2 3 3 2 (whats.Push (e 3 1) (Some (codes "s")) (codes "http://b.test/g"))) []
+    ∷ by_ui (rows.Killed (p 1) (x 1)) []
+    ∷ by_coord (rows.Delivered (p 1)) (sent 6 2 0 3 (whys.Death (x 1)) tasks.Discard ∷ [])
+    ∷ by_coord (rows.Delivered (p 2)) (rows.Dropped (r 3) (drops.Gone (x 1)) ∷ [])
+    ∷ by_proc 2 (rows.Taken (p 2) (j 6) true false) []
+    ∷ by_proc 2 (rows.Finished (p 2) (j 6) outcomes.Discarded) []
+    ∷ by_coord (rows.Delivered (p 2)) []
+    ∷ []
+
+abbrev pub death_above_a_frame_header : Header
+death_above_a_frame_header = record { keep = 3; sites = record { origin = codes "http://b.test"; proc = p 2 } ∷ []; pages = []; first = codes "http://a.test/" }
+
+pub death_above_a_frame_is_legal : IsLegal (log_of death_above_a_frame)
+unfolding url_on_literals is_web is_blank_url judged judged_parse read_against address_of url_of resolved with_fragment base_of fragment_of origin_text origin_of has_same_base is_rewritable events_of each_event after_opening AtEachEvent is_numbered opens is_formed is_once is_caused is_queued is_ordered is_checked ends_settled loads_end ends_told ends_stepped goes_in_time
+death_above_a_frame_is_legal = record { opened = refl; numbered = refl; formed = refl; once = refl; caused = refl; queued = refl; ordered = refl; checked = refl; settled = refl }
+
+pub death_above_a_frame_ends_loads : LoadsEndInTime (log_of death_above_a_frame)
+unfolding url_on_literals is_web is_blank_url judged judged_parse read_against address_of url_of resolved with_fragment base_of fragment_of origin_text origin_of has_same_base is_rewritable events_of each_event after_opening AtEachEvent is_numbered opens is_formed is_once is_caused is_queued is_ordered is_checked ends_settled loads_end ends_told ends_stepped goes_in_time
+death_above_a_frame_ends_loads = refl
+
+pub death_above_a_frame_acts_at_once : ActsAtOnce (log_of death_above_a_frame)
+unfolding url_on_literals is_web is_blank_url judged judged_parse read_against address_of url_of resolved with_fragment base_of fragment_of origin_text origin_of has_same_base is_rewritable events_of each_event after_opening AtEachEvent is_numbered opens is_formed is_once is_caused is_queued is_ordered is_checked ends_settled loads_end ends_told ends_stepped goes_in_time
+death_above_a_frame_acts_at_once = record { told = refl; stepped = refl; in_time = refl }
+
+pub death_above_a_frame_suits : Suits death_above_a_frame_header (log_of death_above_a_frame)
+unfolding url_on_literals is_web is_blank_url judged judged_parse read_against address_of url_of resolved with_fragment base_of fragment_of origin_text origin_of has_same_base is_rewritable events_of each_event after_opening AtEachEvent is_numbered opens is_formed is_once is_caused is_queued is_ordered is_checked ends_settled loads_end ends_told ends_stepped goes_in_time
+death_above_a_frame_suits = record { opened = refl; placed = refl; kept = refl }
+
+-- A frame is lost, and its document above is not.
+abbrev pub death_of_a_frame : List Event
+death_of_a_frame =
+    before 22 death_above_a_frame
+    ++ by_ui (rows.Killed (p 2) (x 1)) []
+    ∷ by_coord (rows.Delivered (p 2)) (rows.Applied (r 3) (changes.Push (n 1) (e 3 1) (s 3) (codes "http://b.test/g") (Some (codes "s"))) ∷ sent 6 1 0 1 (whys.Req (r 3)) (tasks.Update 2 1) ∷ sent 7 2 0 3 (whys.Req (r 3)) (tasks.Update 2 1) ∷ [])
+    ∷ by_coord (rows.Delivered (p 2)) []
+    ∷ by_proc 1 (rows.Taken (p 1) (j 6) true false) []
+    ∷ by_proc 1 (rows.Finished (p 1) (j 6) outcomes.Updated) []
+    ∷ by_coord (rows.Delivered (p 1)) []
+    ∷ by_proc 2 (rows.Taken (p 2) (j 7) false false) []
+    ∷ by_ui (rows.Accepted (r 4) None (requests.Reload (n 1))) (rows.Started (r 4) None ∷ rows.Applied (r 4) (changes.Reload (n 1)) ∷ sent 8 2 1 4 (whys.Req (r 4)) (tasks.Populate (n 1) (s 3) (codes "http://b.test/g") false) ∷ [])
+    ∷ by_proc 2 (rows.Taken (p 2) (j 8) true false) []
+    ∷ by_proc 2 (rows.Finished (p 2) (j 8) (outcomes.Populated None)) []
+    ∷ by_coord (rows.Delivered (p 2)) (sent 9 2 1 4 (whys.Req (r 4)) (tasks.Activate (e 3 1) (epoch 3) 2 1 (Some (codes "s")) (codes "http://b.test/g")) ∷ [])
+    ∷ by_proc 2 (rows.Taken (p 2) (j 9) true false) []
+    ∷ by_proc 2 (rows.Finished (p 2) (j 9) outcomes.Activated) []
+    ∷ by_coord (rows.Delivered (p 2)) []
+    ∷ []
+
+abbrev pub death_of_a_frame_header : Header
+death_of_a_frame_header = record { keep = 3; sites = record { origin = codes "http://b.test"; proc = p 2 } ∷ []; pages = []; first = codes "http://a.test/" }
+
+pub death_of_a_frame_is_legal : IsLegal (log_of death_of_a_frame)
+unfolding url_on_literals is_web is_blank_url judged judged_parse read_against address_of url_of resolved with_fragment base_of fragment_of origin_text origin_of has_same_base is_rewritable events_of each_event after_opening AtEachEvent is_numbered opens is_formed is_once is_caused is_queued is_ordered is_checked ends_settled loads_end ends_told ends_stepped goes_in_time
+death_of_a_frame_is_legal = record { opened = refl; numbered = refl; formed = refl; once = refl; caused = refl; queued = refl; ordered = refl; checked = refl; settled = refl }
+
+pub death_of_a_frame_ends_loads : LoadsEndInTime (log_of death_of_a_frame)
+unfolding url_on_literals is_web is_blank_url judged judged_parse read_against address_of url_of resolved with_fragment base_of fragment_of origin_text origin_of has_same_base is_rewritable events_of each_event after_opening AtEachEvent is_numbered opens is_formed is_once is_caused is_queued is_ordered is_checked ends_settled loads_end ends_told ends_stepped goes_in_time
+death_of_a_frame_ends_loads = refl
+
+pub death_of_a_frame_acts_at_once : ActsAtOnce (log_of death_of_a_frame)
+unfolding url_on_literals is_web is_blank_url judged judged_parse read_against address_of url_of resolved with_fragment base_of fragment_of origin_text origin_of has_same_base is_rewritable events_of each_event after_opening AtEachEvent is_numbered opens is_formed is_once is_caused is_queued is_ordered is_checked ends_settled loads_end ends_told ends_stepped goes_in_time
+death_of_a_frame_acts_at_once = record { told = refl; stepped = refl; in_time = refl }
+
+pub death_of_a_frame_suits : Suits death_of_a_frame_header (log_of death_of_a_frame)
+unfolding url_on_literals is_web is_blank_url judged judged_parse read_against address_of url_of resolved with_fragment base_of fragment_of origin_text origin_of has_same_base is_rewritable events_of each_event after_opening AtEachEvent is_numbered opens is_formed is_once is_caused is_queued is_ordered is_checked ends_settled loads_end ends_told ends_stepped goes_in_time
+death_of_a_frame_suits = record { opened = refl; placed = refl; kept = refl }
+
+-- A death drops a load whose fragment order waits.
+abbrev pub death_of_a_fragment_order : List Event
+death_of_a_fragment_order =
+    by_start (rows.Opened (e 0 1) (s 1) (d 1) (p 1) None (codes "http://a.test/")) []
+    ∷ by_ui (rows.Accepted (r 1) None (requests.Load (n 0) modes.Auto (codes "http://a.test/#x"))) (sent 1 1 0 1 (whys.Req (r 1)) (tasks.DoFragment (r 1) modes.Auto (codes "http://a.test/#x")) ∷ [])
+    ∷ by_ui (rows.Killed (p 1) (x 1)) []
+    ∷ by_proc 1 (rows.Taken (p 1) (j 1) false false) []
+    ∷ by_coord (rows.Delivered (p 1)) (rows.Dropped (r 1) (drops.Gone (x 1)) ∷ [])
+    ∷ []
+
+pub death_of_a_fragment_order_is_legal : IsLegal (log_of death_of_a_fragment_order)
+unfolding url_on_literals is_web is_blank_url judged judged_parse read_against address_of url_of resolved with_fragment base_of fragment_of origin_text origin_of has_same_base is_rewritable events_of each_event after_opening AtEachEvent is_numbered opens is_formed is_once is_caused is_queued is_ordered is_checked ends_settled loads_end ends_told ends_stepped goes_in_time
+death_of_a_fragment_order_is_legal = record { opened = refl; numbered = refl; formed = refl; once = refl; caused = refl; queued = refl; ordered = refl; checked = refl; settled = refl }
+
+pub death_of_a_fragment_order_ends_loads : LoadsEndInTime (log_of death_of_a_fragment_order)
+unfolding url_on_literals is_web is_blank_url judged judged_parse read_against address_of url_of resolved with_fragment base_of fragment_of origin_text origin_of has_same_base is_rewritable events_of each_event after_opening AtEachEvent is_numbered opens is_formed is_once is_caused is_queued is_ordered is_checked ends_settled loads_end ends_told ends_stepped goes_in_time
+death_of_a_fragment_order_ends_loads = refl
+
+pub death_of_a_fragment_order_acts_at_once : ActsAtOnce (log_of death_of_a_fragment_order)
+unfolding url_on_literals is_web is_blank_url judged judged_parse read_against address_of url_of resolved with_fragment base_of fragment_of origin_text origin_of has_same_base is_rewritable events_of each_event after_opening AtEachEvent is_numbered opens is_formed is_once is_caused is_queued is_ordered is_checked ends_settled loads_end ends_told ends_stepped goes_in_time
+death_of_a_fragment_order_acts_at_once = record { told = refl; stepped = refl; in_time = refl }
+
+pub death_of_a_fragment_order_suits : Suits plain_settings (log_of death_of_a_fragment_order)
+unfolding url_on_literals is_web is_blank_url judged judged_parse read_against address_of url_of resolved with_fragment base_of fragment_of origin_text origin_of has_same_base is_rewritable events_of each_event after_opening AtEachEvent is_numbered opens is_formed is_once is_caused is_queued is_ordered is_checked ends_settled loads_end ends_told ends_stepped goes_in_time
+death_of_a_fragment_order_suits = record { opened = refl; placed = refl; kept = refl }
+
+-- A process dies twice.
+abbrev pub two_deaths : List Event
+two_deaths =
+    before 3 poke_of_a_dead_document
+    ++ by_ui (rows.Killed (p 1) (x 2)) []
+    ∷ by_coord (rows.Delivered (p 1)) []
+    ∷ by_coord (rows.Delivered (p 1)) []
+    ∷ by_ui (rows.Accepted (r 2) None (requests.Reload (n 0))) (rows.Started (r 2) None ∷ rows.Applied (r 2) (changes.Reload (n 0)) ∷ sent 1 1 2 2 (whys.Req (r 2)) (tasks.Populate (n 0) (s 1) (codes "http://a.test/") false) ∷ [])
+    ∷ by_proc 1 (rows.Taken (p 1) (j 1) true false) []
+    ∷ by_proc 1 (rows.Finished (p 1) (j 1) (outcomes.Populated None)) []
+    ∷ by_coord (rows.Delivered (p 1)) (sent 2 1 2 2 (whys.Req (r 2)) (tasks.Activate (e 0 1) (epoch 2) 1 0 None (codes "http://a.test/")) ∷ [])
+    ∷ by_proc 1 (rows.Taken (p 1) (j 2) true false) []
+    ∷ by_proc 1 (rows.Finished (p 1) (j 2) outcomes.Activated) []
+    ∷ by_coord (rows.Delivered (p 1)) []
+    ∷ []
+
+pub two_deaths_is_legal : IsLegal (log_of two_deaths)
+unfolding url_on_literals is_web is_blank_url judged judged_parse read_against address_of url_of resolved with_fragment base_of fragment_of origin_text origin_of has_same_base is_rewritable events_of each_event after_opening AtEachEvent is_numbered opens is_formed is_once is_caused is_queued is_ordered is_checked ends_settled loads_end ends_told ends_stepped goes_in_time
+two_deaths_is_legal = record { opened = refl; numbered = refl; formed = refl; once = refl; caused = refl; queued = refl; ordered = refl; checked = refl; settled = refl }
+
+pub two_deaths_ends_loads : LoadsEndInTime (log_of two_deaths)
+unfolding url_on_literals is_web is_blank_url judged judged_parse read_against address_of url_of resolved with_fragment base_of fragment_of origin_text origin_of has_same_base is_rewritable events_of each_event after_opening AtEachEvent is_numbered opens is_formed is_once is_caused is_queued is_ordered is_checked ends_settled loads_end ends_told ends_stepped goes_in_time
+two_deaths_ends_loads = refl
+
+pub two_deaths_acts_at_once : ActsAtOnce (log_of two_deaths)
+unfolding url_on_literals is_web is_blank_url judged judged_parse read_against address_of url_of resolved with_fragment base_of fragment_of origin_text origin_of has_same_base is_rewritable events_of each_event after_opening AtEachEvent is_numbered opens is_formed is_once is_caused is_queued is_ordered is_checked ends_settled loads_end ends_told ends_stepped goes_in_time
+two_deaths_acts_at_once = record { told = refl; stepped = refl; in_time = refl }
+
+pub two_deaths_suits : Suits plain_settings (log_of two_deaths)
+unfolding url_on_literals is_web is_blank_url judged judged_parse read_against address_of url_of resolved with_fragment base_of fragment_of origin_text origin_of has_same_base is_rewritable events_of each_event after_opening AtEachEvent is_numbered opens is_formed is_once is_caused is_queued is_ordered is_checked ends_settled loads_end ends_told ends_stepped goes_in_time
+two_deaths_suits = record { opened = refl; placed = refl; kept = refl }
+
+-- A process dies with an order in hand.
+abbrev pub death_with_an_order_in_hand : List Event
+death_with_an_order_in_hand =
+    before 5 one_push
+    ++ by_ui (rows.Killed (p 1) (x 1)) []
+    ∷ by_coord (rows.Delivered (p 1)) []
+    ∷ by_ui (rows.Accepted (r 2) None (requests.Reload (n 0))) (rows.Started (r 2) None ∷ rows.Applied (r 2) (changes.Reload (n 0)) ∷ sent 2 1 1 2 (whys.Req (r 2)) (tasks.Populate (n 0) (s 1) (codes "http://a.test/1") false) ∷ [])
+    ∷ by_proc 1 (rows.Taken (p 1) (j 2) true false) []
+    ∷ by_proc 1 (rows.Finished (p 1) (j 2) (outcomes.Populated None)) []
+    ∷ by_coord (rows.Delivered (p 1)) (sent 3 1 1 2 (whys.Req (r 2)) (tasks.Activate (e 1 1) (epoch 2) 2 1 (Some (codes "s")) (codes "http://a.test/1")) ∷ [])
+    ∷ by_proc 1 (rows.Taken (p 1) (j 3) true false) []
+    ∷ by_proc 1 (rows.Finished (p 1) (j 3) outcomes.Activated) []
+    ∷ by_coord (rows.Delivered (p 1)) []
+    ∷ []
+
+pub death_with_an_order_in_hand_is_legal : IsLegal (log_of death_with_an_order_in_hand)
+unfolding url_on_literals is_web is_blank_url judged judged_parse read_against address_of url_of resolved with_fragment base_of fragment_of origin_text origin_of has_same_base is_rewritable events_of each_event after_opening AtEachEvent is_numbered opens is_formed is_once is_caused is_queued is_ordered is_checked ends_settled loads_end ends_told ends_stepped goes_in_time
+death_with_an_order_in_hand_is_legal = record { opened = refl; numbered = refl; formed = refl; once = refl; caused = refl; queued = refl; ordered = refl; checked = refl; settled = refl }
+
+pub death_with_an_order_in_hand_ends_loads : LoadsEndInTime (log_of death_with_an_order_in_hand)
+unfolding url_on_literals is_web is_blank_url judged judged_parse read_against address_of url_of resolved with_fragment base_of fragment_of origin_text origin_of has_same_base is_rewritable events_of each_event after_opening AtEachEvent is_numbered opens is_formed is_once is_caused is_queued is_ordered is_checked ends_settled loads_end ends_told ends_stepped goes_in_time
+death_with_an_order_in_hand_ends_loads = refl
+
+pub death_with_an_order_in_hand_acts_at_once : ActsAtOnce (log_of death_with_an_order_in_hand)
+unfolding url_on_literals is_web is_blank_url judged judged_parse read_against address_of url_of resolved with_fragment base_of fragment_of origin_text origin_of has_same_base is_rewritable events_of each_event after_opening AtEachEvent is_numbered opens is_formed is_once is_caused is_queued is_ordered is_checked ends_settled loads_end ends_told ends_stepped goes_in_time
+death_with_an_order_in_hand_acts_at_once = record { told = refl; stepped = refl; in_time = refl }
+
+pub death_with_an_order_in_hand_suits : Suits plain_settings (log_of death_with_an_order_in_hand)
+unfolding url_on_literals is_web is_blank_url judged judged_parse read_against address_of url_of resolved with_fragment base_of fragment_of origin_text origin_of has_same_base is_rewritable events_of each_event after_opening AtEachEvent is_numbered opens is_formed is_once is_caused is_queued is_ordered is_checked ends_settled loads_end ends_told ends_stepped goes_in_time
+death_with_an_order_in_hand_suits = record { opened = refl; placed = refl; kept = refl }
+
+-- A frame dies, and the document above it.
+abbrev pub deaths_of_a_frame_and_its_parent : List Event
+deaths_of_a_frame_and_its_parent =
+    before 21 removal_and_push_of_two_processes
+    ++ by_ui (rows.Killed (p 2) (x 1)) []
+    ∷ by_ui (rows.Killed (p 1) (x 2)) []
+    ∷ by_coord (rows.Delivered (p 1)) (sent 7 2 0 3 (whys.Death (x 2)) tasks.Discard ∷ rows.Dropped (r 3) (drops.Gone (x 2)) ∷ [])
+    ∷ by_proc 2 (rows.Taken (p 2) (j 6) false false) []
+    ∷ by_coord (rows.Delivered (p 2)) []
+    ∷ by_proc 2 (rows.Taken (p 2) (j 7) false false) []
+    ∷ []
+
+abbrev pub deaths_of_a_frame_and_its_parent_header : Header
+deaths_of_a_frame_and_its_parent_header = record { keep = 3; sites = record { origin = codes "http://b.test"; proc = p 2 } ∷ []; pages = []; first = codes "http://a.test/" }
+
+pub deaths_of_a_frame_and_its_parent_is_legal : IsLegal (log_of deaths_of_a_frame_and_its_parent)
+unfolding url_on_literals is_web is_blank_url judged judged_parse read_against address_of url_of resolved with_fragment base_of fragment_of origin_text origin_of has_same_base is_rewritable events_of each_event after_opening AtEachEvent is_numbered opens is_formed is_once is_caused is_queued is_ordered is_checked ends_settled loads_end ends_told ends_stepped goes_in_time
+deaths_of_a_frame_and_its_parent_is_legal = record { opened = refl; numbered = refl; formed = refl; once = refl; caused = refl; queued = refl; ordered = refl; checked = refl; settled = refl }
+
+pub deaths_of_a_frame_and_its_parent_ends_loads : LoadsEndInTime (log_of deaths_of_a_frame_and_its_parent)
+unfolding url_on_literals is_web is_blank_url judged judged_parse read_against address_of url_of resolved with_fragment base_of fragment_of origin_text origin_of has_same_base is_rewritable events_of each_event after_opening AtEachEvent is_numbered opens is_formed is_once is_caused is_queued is_ordered is_checked ends_settled loads_end ends_told ends_stepped goes_in_time
+deaths_of_a_frame_and_its_parent_ends_loads = refl
+
+pub deaths_of_a_frame_and_its_parent_acts_at_once : ActsAtOnce (log_of deaths_of_a_frame_and_its_parent)
+unfolding url_on_literals is_web is_blank_url judged judged_parse read_against address_of url_of resolved with_fragment base_of fragment_of origin_text origin_of has_same_base is_rewritable events_of each_event after_opening AtEachEvent is_numbered opens is_formed is_once is_caused is_queued is_ordered is_checked ends_settled loads_end ends_told ends_stepped goes_in_time
+deaths_of_a_frame_and_its_parent_acts_at_once = record { told = refl; stepped = refl; in_time = refl }
+
+pub deaths_of_a_frame_and_its_parent_suits : Suits deaths_of_a_frame_and_its_parent_header (log_of deaths_of_a_frame_and_its_parent)
+unfolding url_on_literals is_web is_blank_url judged judged_parse read_against address_of url_of resolved with_fragment base_of fragment_of origin_text origin_of has_same_base is_rewritable events_of each_event after_opening AtEachEvent is_numbered opens is_formed is_once is_caused is_queued is_ordered is_checked ends_settled loads_end ends_told ends_stepped goes_in_time
+deaths_of_a_frame_and_its_parent_suits = record { opened = refl; placed = refl; kept = refl }
+
+-- A death behind a held back push.
+abbrev pub death_behind_a_held_back_push : List Event
+death_behind_a_held_back_push =
+    before 42 held_back_push
+    ++ by_ui (rows.Accepted (r 7) (Some (d 1)) (requests.Poke (n 0) (actions.AddFrame (n 2)))) []
+    ∷ by_proc 1 (made 1 6 1 2 (whats.Push (e 1 2) (Some (codes "s")) (codes "http://a.test/2"))) []
+    ∷ by_proc 1 (made 1 7 1 2 (whats.AddFrame (n 2))) []
+    ∷ by_coord (rows.Delivered (p 1)) []
+    ∷ by_coord (rows.Delivered (p 1)) []
+    ∷ by_coord (rows.Delivered (p 1)) []
+    ∷ by_ui (rows.Killed (p 1) (x 1)) []
+    ∷ by_proc 1 (rows.Taken (p 1) (j 11) false false) []
+    ∷ by_coord (rows.Delivered (p 1)) (rows.Applied (r 5) (changes.Traverse (t 0)) ∷ rows.Dropped (r 6) (drops.Gone (x 1)) ∷ rows.Dropped (r 7) (drops.Gone (x 1)) ∷ [])
+    ∷ []
+
+pub death_behind_a_held_back_push_is_legal : IsLegal (log_of death_behind_a_held_back_push)
+unfolding url_on_literals is_web is_blank_url judged judged_parse read_against address_of url_of resolved with_fragment base_of fragment_of origin_text origin_of has_same_base is_rewritable events_of each_event after_opening AtEachEvent is_numbered opens is_formed is_once is_caused is_queued is_ordered is_checked ends_settled loads_end ends_told ends_stepped goes_in_time
+death_behind_a_held_back_push_is_legal = record { opened = refl; numbered = refl; formed = refl; once = refl; caused = refl; queued = refl; ordered = refl; checked = refl; settled = refl }
+
+pub death_behind_a_held_back_push_ends_loads : LoadsEndInTime (log_of death_behind_a_held_back_push)
+unfolding url_on_literals is_web is_blank_url judged judged_parse read_against address_of url_of resolved with_fragment base_of fragment_of origin_text origin_of has_same_base is_rewritable events_of each_event after_opening AtEachEvent is_numbered opens is_formed is_once is_caused is_queued is_ordered is_checked ends_settled loads_end ends_told ends_stepped goes_in_time
+death_behind_a_held_back_push_ends_loads = refl
+
+pub death_behind_a_held_back_push_acts_at_once : ActsAtOnce (log_of death_behind_a_held_back_push)
+unfolding url_on_literals is_web is_blank_url judged judged_parse read_against address_of url_of resolved with_fragment base_of fragment_of origin_text origin_of has_same_base is_rewritable events_of each_event after_opening AtEachEvent is_numbered opens is_formed is_once is_caused is_queued is_ordered is_checked ends_settled loads_end ends_told ends_stepped goes_in_time
+death_behind_a_held_back_push_acts_at_once = record { told = refl; stepped = refl; in_time = refl }
+
+pub death_behind_a_held_back_push_suits : Suits plain_settings (log_of death_behind_a_held_back_push)
+unfolding url_on_literals is_web is_blank_url judged judged_parse read_against address_of url_of resolved with_fragment base_of fragment_of origin_text origin_of has_same_base is_rewritable events_of each_event after_opening AtEachEvent is_numbered opens is_formed is_once is_caused is_queued is_ordered is_checked ends_settled loads_end ends_told ends_stepped goes_in_time
+death_behind_a_held_back_push_suits = record { opened = refl; placed = refl; kept = refl }
+
+-- A document is made into an incarnation whose death is not known.
+abbrev pub document_made_by_the_dead : List Event
+document_made_by_the_dead =
+    by_start (rows.Opened (e 0 1) (s 1) (d 1) (p 1) None (codes "http://a.test/")) []
+    ∷ by_ui (rows.Accepted (r 1) None (requests.Load (n 0) modes.Auto (codes "http://b.test/1"))) (rows.Started (r 1) None ∷ sent 1 2 0 2 (whys.Req (r 1)) (tasks.Populate (n 0) (s 2) (codes "http://b.test/1") false) ∷ [])
+    ∷ by_ui (rows.Killed (p 2) (x 1)) []
+    ∷ by_proc 2 (rows.Taken (p 2) (j 1) false false) []
+    ∷ by_coord (rows.Delivered (p 2)) (sent 2 2 1 3 (whys.Req (r 1)) (tasks.Populate (n 0) (s 2) (codes "http://b.test/1") false) ∷ [])
+    ∷ by_proc 2 (rows.Taken (p 2) (j 2) true false) []
+    ∷ by_proc 2 (rows.Finished (p 2) (j 2) (outcomes.Populated None)) []
+    ∷ by_coord (rows.Delivered (p 2)) (rows.Applied (r 1) (changes.Push (n 0) (e 0 2) (s 2) (codes "http://b.test/1") None) ∷ sent 3 1 0 1 (whys.Req (r 1)) tasks.Freeze ∷ sent 4 2 1 3 (whys.Req (r 1)) (tasks.Activate (e 0 2) (epoch 2) 2 1 None (codes "http://b.test/1")) ∷ [])
+    ∷ by_proc 1 (rows.Taken (p 1) (j 3) true false) []
+    ∷ by_proc 1 (rows.Finished (p 1) (j 3) outcomes.Frozen) []
+    ∷ by_coord (rows.Delivered (p 1)) []
+    ∷ by_proc 2 (rows.Taken (p 2) (j 4) true false) []
+    ∷ by_proc 2 (rows.Finished (p 2) (j 4) outcomes.Activated) []
+    ∷ by_coord (rows.Delivered (p 2)) []
+    ∷ by_ui (rows.Accepted (r 2) None (requests.Load (n 0) modes.Auto (codes "http://b.test/2"))) (rows.Started (r 2) None ∷ sent 5 2 1 4 (whys.Req (r 2)) (tasks.Populate (n 0) (s 3) (codes "http://b.test/2") false) ∷ [])
+    ∷ by_proc 2 (rows.Taken (p 2) (j 5) true false) []
+    ∷ by_proc 2 (rows.Finished (p 2) (j 5) (outcomes.Populated None)) []
+    ∷ by_coord (rows.Delivered (p 2)) (rows.Applied (r 2) (changes.Push (n 0) (e 0 3) (s 3) (codes "http://b.test/2") None) ∷ sent 6 2 1 3 (whys.Req (r 2)) tasks.Freeze ∷ sent 7 2 1 4 (whys.Req (r 2)) (tasks.Activate (e 0 3) (epoch 3) 3 2 None (codes "http://b.test/2")) ∷ [])
+    ∷ by_proc 2 (rows.Taken (p 2) (j 6) true false) []
+    ∷ by_proc 2 (rows.Finished (p 2) (j 6) outcomes.Frozen) []
+    ∷ by_coord (rows.Delivered (p 2)) []
+    ∷ by_proc 2 (rows.Taken (p 2) (j 7) true false) []
+    ∷ by_proc 2 (rows.Finished (p 2) (j 7) outcomes.Activated) []
+    ∷ by_coord (rows.Delivered (p 2)) []
+    ∷ []
+
+abbrev pub document_made_by_the_dead_header : Header
+document_made_by_the_dead_header = record { keep = 3; sites = record { origin = codes "http://b.test"; proc = p 2 } ∷ []; pages = []; first = codes "http://a.test/" }
+
+pub document_made_by_the_dead_is_legal : IsLegal (log_of document_made_by_the_dead)
+unfolding url_on_literals is_web is_blank_url judged judged_parse read_against address_of url_of resolved with_fragment base_of fragment_of origin_text origin_of has_same_base is_rewritable events_of each_event after_opening AtEachEvent is_numbered opens is_formed is_once is_caused is_queued is_ordered is_checked ends_settled loads_end ends_told ends_stepped goes_in_time
+document_made_by_the_dead_is_legal = record { opened = refl; numbered = refl; formed = refl; once = refl; caused = refl; queued = refl; ordered = refl; checked = refl; settled = refl }
+
+pub document_made_by_the_dead_ends_loads : LoadsEndInTime (log_of document_made_by_the_dead)
+unfolding url_on_literals is_web is_blank_url judged judged_parse read_against address_of url_of resolved with_fragment base_of fragment_of origin_text origin_of has_same_base is_rewritable events_of each_event after_opening AtEachEvent is_numbered opens is_formed is_once is_caused is_queued is_ordered is_checked ends_settled loads_end ends_told ends_stepped goes_in_time
+document_made_by_the_dead_ends_loads = refl
+
+pub document_made_by_the_dead_acts_at_once : ActsAtOnce (log_of document_made_by_the_dead)
+unfolding url_on_literals is_web is_blank_url judged judged_parse read_against address_of url_of resolved with_fragment base_of fragment_of origin_text origin_of has_same_base is_rewritable events_of each_event after_opening AtEachEvent is_numbered opens is_formed is_once is_caused is_queued is_ordered is_checked ends_settled loads_end ends_told ends_stepped goes_in_time
+document_made_by_the_dead_acts_at_once = record { told = refl; stepped = refl; in_time = refl }
+
+pub document_made_by_the_dead_suits : Suits document_made_by_the_dead_header (log_of document_made_by_the_dead)
+unfolding url_on_literals is_web is_blank_url judged judged_parse read_against address_of url_of resolved with_fragment base_of fragment_of origin_text origin_of has_same_base is_rewritable events_of each_event after_opening AtEachEvent is_numbered opens is_formed is_once is_caused is_queued is_ordered is_checked ends_settled loads_end ends_told ends_stepped goes_in_time
+document_made_by_the_dead_suits = record { opened = refl; placed = refl; kept = refl }

@@ -23,6 +23,7 @@ use Rattle.log_model.specs.Suits.{Suits}
 use Rattle.log_model.specs.declared.header.Header.{Header}
 use Rattle.log_examples.specs.Rows.{n, s, r, p, t, d, j, e, epoch, sent, made}
 use Rattle.log_examples.specs.Logs.{Event, by_start, by_ui, by_coord, by_proc, log_of, before, plain_settings}
+use Rattle.log_examples.proofs.Pushes.{poke_of_the_newer_document}
 
 -- A later load takes the place of the first, and one during a traversal is dropped.
 abbrev pub later_load : List Event
@@ -119,12 +120,8 @@ no_document_kept_suits = record { opened = refl; placed = refl; kept = refl }
 -- A load into another process, and back.
 abbrev pub two_processes : List Event
 two_processes =
-    by_start (rows.Opened (e 0 1) (s 1) (d 1) (p 1) None (codes "http://a.test/")) []
-    ∷ by_ui (rows.Accepted (r 1) None (requests.Load (n 0) modes.Auto (codes "http://b.test/"))) (rows.Started (r 1) None ∷ sent 1 2 0 2 (whys.Req (r 1)) (tasks.Populate (n 0) (s 2) (codes "http://b.test/") false) ∷ [])
-    ∷ by_proc 2 (rows.Taken (p 2) (j 1) true false) []
-    ∷ by_proc 2 (rows.Finished (p 2) (j 1) (outcomes.Populated None)) []
-    ∷ by_coord (rows.Delivered (p 2)) (rows.Applied (r 1) (changes.Push (n 0) (e 0 2) (s 2) (codes "http://b.test/") None) ∷ sent 2 1 0 1 (whys.Req (r 1)) tasks.Freeze ∷ sent 3 2 0 2 (whys.Req (r 1)) (tasks.Activate (e 0 2) (epoch 2) 2 1 None (codes "http://b.test/")) ∷ [])
-    ∷ by_proc 1 (rows.Taken (p 1) (j 2) true false) []
+    before 5 poke_of_the_newer_document
+    ++ by_proc 1 (rows.Taken (p 1) (j 2) true false) []
     ∷ by_proc 1 (rows.Finished (p 1) (j 2) outcomes.Frozen) []
     ∷ by_coord (rows.Delivered (p 1)) []
     ∷ by_proc 2 (rows.Taken (p 2) (j 3) true false) []
@@ -401,3 +398,97 @@ load_of_no_navigable_acts_at_once = record { told = refl; stepped = refl; in_tim
 pub load_of_no_navigable_suits : Suits plain_settings (log_of load_of_no_navigable)
 unfolding url_on_literals is_web is_blank_url judged judged_parse read_against address_of url_of resolved with_fragment base_of fragment_of origin_text origin_of has_same_base is_rewritable events_of each_event after_opening AtEachEvent is_numbered opens is_formed is_once is_caused is_queued is_ordered is_checked ends_settled loads_end ends_told ends_stepped goes_in_time
 load_of_no_navigable_suits = record { opened = refl; placed = refl; kept = refl }
+
+-- A load of the same address that is to be a push.
+abbrev pub load_as_a_push : List Event
+load_as_a_push =
+    by_start (rows.Opened (e 0 1) (s 1) (d 1) (p 1) None (codes "http://a.test/")) []
+    ∷ by_ui (rows.Accepted (r 1) None (requests.Load (n 0) modes.Push (codes "http://a.test/"))) (rows.Started (r 1) None ∷ sent 1 1 0 2 (whys.Req (r 1)) (tasks.Populate (n 0) (s 2) (codes "http://a.test/") false) ∷ [])
+    ∷ by_proc 1 (rows.Taken (p 1) (j 1) true false) []
+    ∷ by_proc 1 (rows.Finished (p 1) (j 1) (outcomes.Populated None)) []
+    ∷ by_coord (rows.Delivered (p 1)) (rows.Applied (r 1) (changes.Push (n 0) (e 0 2) (s 2) (codes "http://a.test/") None) ∷ sent 2 1 0 1 (whys.Req (r 1)) tasks.Freeze ∷ sent 3 1 0 2 (whys.Req (r 1)) (tasks.Activate (e 0 2) (epoch 2) 2 1 None (codes "http://a.test/")) ∷ [])
+    ∷ by_proc 1 (rows.Taken (p 1) (j 2) true false) []
+    ∷ by_proc 1 (rows.Finished (p 1) (j 2) outcomes.Frozen) []
+    ∷ by_coord (rows.Delivered (p 1)) []
+    ∷ by_proc 1 (rows.Taken (p 1) (j 3) true false) []
+    ∷ by_proc 1 (rows.Finished (p 1) (j 3) outcomes.Activated) []
+    ∷ by_coord (rows.Delivered (p 1)) []
+    ∷ []
+
+pub load_as_a_push_is_legal : IsLegal (log_of load_as_a_push)
+unfolding url_on_literals is_web is_blank_url judged judged_parse read_against address_of url_of resolved with_fragment base_of fragment_of origin_text origin_of has_same_base is_rewritable events_of each_event after_opening AtEachEvent is_numbered opens is_formed is_once is_caused is_queued is_ordered is_checked ends_settled loads_end ends_told ends_stepped goes_in_time
+load_as_a_push_is_legal = record { opened = refl; numbered = refl; formed = refl; once = refl; caused = refl; queued = refl; ordered = refl; checked = refl; settled = refl }
+
+pub load_as_a_push_ends_loads : LoadsEndInTime (log_of load_as_a_push)
+unfolding url_on_literals is_web is_blank_url judged judged_parse read_against address_of url_of resolved with_fragment base_of fragment_of origin_text origin_of has_same_base is_rewritable events_of each_event after_opening AtEachEvent is_numbered opens is_formed is_once is_caused is_queued is_ordered is_checked ends_settled loads_end ends_told ends_stepped goes_in_time
+load_as_a_push_ends_loads = refl
+
+pub load_as_a_push_acts_at_once : ActsAtOnce (log_of load_as_a_push)
+unfolding url_on_literals is_web is_blank_url judged judged_parse read_against address_of url_of resolved with_fragment base_of fragment_of origin_text origin_of has_same_base is_rewritable events_of each_event after_opening AtEachEvent is_numbered opens is_formed is_once is_caused is_queued is_ordered is_checked ends_settled loads_end ends_told ends_stepped goes_in_time
+load_as_a_push_acts_at_once = record { told = refl; stepped = refl; in_time = refl }
+
+pub load_as_a_push_suits : Suits plain_settings (log_of load_as_a_push)
+unfolding url_on_literals is_web is_blank_url judged judged_parse read_against address_of url_of resolved with_fragment base_of fragment_of origin_text origin_of has_same_base is_rewritable events_of each_event after_opening AtEachEvent is_numbered opens is_formed is_once is_caused is_queued is_ordered is_checked ends_settled loads_end ends_told ends_stepped goes_in_time
+load_as_a_push_suits = record { opened = refl; placed = refl; kept = refl }
+
+-- A fragment navigation to the same address is a replace.
+abbrev pub fragment_load_again : List Event
+fragment_load_again =
+    fragment_load
+    ++ by_ui (rows.Accepted (r 2) None (requests.Load (n 0) modes.Auto (codes "http://a.test/#x"))) (sent 3 1 0 1 (whys.Req (r 2)) (tasks.DoFragment (r 2) modes.Auto (codes "http://a.test/#x")) ∷ [])
+    ∷ by_proc 1 (rows.Taken (p 1) (j 3) true false) []
+    ∷ by_proc 1 (rows.Finished (p 1) (j 3) outcomes.Fragmented) (made 1 2 1 1 (whats.Replace (e 1 1) (e 1 2) None (codes "http://a.test/#x")) ∷ [])
+    ∷ by_coord (rows.Delivered (p 1)) (rows.Applied (r 2) (changes.Replace (n 0) (e 1 1) (e 1 2) (s 1) (codes "http://a.test/#x") None) ∷ [])
+    ∷ []
+
+pub fragment_load_again_is_legal : IsLegal (log_of fragment_load_again)
+unfolding url_on_literals is_web is_blank_url judged judged_parse read_against address_of url_of resolved with_fragment base_of fragment_of origin_text origin_of has_same_base is_rewritable events_of each_event after_opening AtEachEvent is_numbered opens is_formed is_once is_caused is_queued is_ordered is_checked ends_settled loads_end ends_told ends_stepped goes_in_time
+fragment_load_again_is_legal = record { opened = refl; numbered = refl; formed = refl; once = refl; caused = refl; queued = refl; ordered = refl; checked = refl; settled = refl }
+
+pub fragment_load_again_ends_loads : LoadsEndInTime (log_of fragment_load_again)
+unfolding url_on_literals is_web is_blank_url judged judged_parse read_against address_of url_of resolved with_fragment base_of fragment_of origin_text origin_of has_same_base is_rewritable events_of each_event after_opening AtEachEvent is_numbered opens is_formed is_once is_caused is_queued is_ordered is_checked ends_settled loads_end ends_told ends_stepped goes_in_time
+fragment_load_again_ends_loads = refl
+
+pub fragment_load_again_acts_at_once : ActsAtOnce (log_of fragment_load_again)
+unfolding url_on_literals is_web is_blank_url judged judged_parse read_against address_of url_of resolved with_fragment base_of fragment_of origin_text origin_of has_same_base is_rewritable events_of each_event after_opening AtEachEvent is_numbered opens is_formed is_once is_caused is_queued is_ordered is_checked ends_settled loads_end ends_told ends_stepped goes_in_time
+fragment_load_again_acts_at_once = record { told = refl; stepped = refl; in_time = refl }
+
+pub fragment_load_again_suits : Suits plain_settings (log_of fragment_load_again)
+unfolding url_on_literals is_web is_blank_url judged judged_parse read_against address_of url_of resolved with_fragment base_of fragment_of origin_text origin_of has_same_base is_rewritable events_of each_event after_opening AtEachEvent is_numbered opens is_formed is_once is_caused is_queued is_ordered is_checked ends_settled loads_end ends_told ends_stepped goes_in_time
+fragment_load_again_suits = record { opened = refl; placed = refl; kept = refl }
+
+-- A load over the first about:blank document is a replace.
+abbrev pub load_of_an_initial_document : List Event
+load_of_an_initial_document =
+    by_start (rows.Opened (e 0 1) (s 1) (d 1) (p 1) None (codes "about:blank")) []
+    ∷ by_ui (rows.Accepted (r 1) None (requests.Load (n 0) modes.Auto (codes "http://a.test/"))) (rows.Started (r 1) None ∷ sent 1 1 0 2 (whys.Req (r 1)) (tasks.Populate (n 0) (s 2) (codes "http://a.test/") false) ∷ [])
+    ∷ by_proc 1 (rows.Taken (p 1) (j 1) true false) []
+    ∷ by_proc 1 (rows.Finished (p 1) (j 1) (outcomes.Populated None)) []
+    ∷ by_coord (rows.Delivered (p 1)) (rows.Applied (r 1) (changes.Replace (n 0) (e 0 1) (e 0 2) (s 2) (codes "http://a.test/") None) ∷ sent 2 1 0 1 (whys.Req (r 1)) tasks.Discard ∷ sent 3 1 0 2 (whys.Req (r 1)) (tasks.Activate (e 0 2) (epoch 2) 1 0 None (codes "http://a.test/")) ∷ [])
+    ∷ by_proc 1 (rows.Taken (p 1) (j 2) true false) []
+    ∷ by_proc 1 (rows.Finished (p 1) (j 2) outcomes.Discarded) []
+    ∷ by_coord (rows.Delivered (p 1)) []
+    ∷ by_proc 1 (rows.Taken (p 1) (j 3) true false) []
+    ∷ by_proc 1 (rows.Finished (p 1) (j 3) outcomes.Activated) []
+    ∷ by_coord (rows.Delivered (p 1)) []
+    ∷ by_ui (rows.Accepted (r 2) None (requests.Go (negsuc 0))) (rows.Refused (r 2) denials.NoStep ∷ [])
+    ∷ []
+
+abbrev pub load_of_an_initial_document_header : Header
+load_of_an_initial_document_header = record { keep = 3; sites = []; pages = []; first = codes "about:blank" }
+
+pub load_of_an_initial_document_is_legal : IsLegal (log_of load_of_an_initial_document)
+unfolding url_on_literals is_web is_blank_url judged judged_parse read_against address_of url_of resolved with_fragment base_of fragment_of origin_text origin_of has_same_base is_rewritable events_of each_event after_opening AtEachEvent is_numbered opens is_formed is_once is_caused is_queued is_ordered is_checked ends_settled loads_end ends_told ends_stepped goes_in_time
+load_of_an_initial_document_is_legal = record { opened = refl; numbered = refl; formed = refl; once = refl; caused = refl; queued = refl; ordered = refl; checked = refl; settled = refl }
+
+pub load_of_an_initial_document_ends_loads : LoadsEndInTime (log_of load_of_an_initial_document)
+unfolding url_on_literals is_web is_blank_url judged judged_parse read_against address_of url_of resolved with_fragment base_of fragment_of origin_text origin_of has_same_base is_rewritable events_of each_event after_opening AtEachEvent is_numbered opens is_formed is_once is_caused is_queued is_ordered is_checked ends_settled loads_end ends_told ends_stepped goes_in_time
+load_of_an_initial_document_ends_loads = refl
+
+pub load_of_an_initial_document_acts_at_once : ActsAtOnce (log_of load_of_an_initial_document)
+unfolding url_on_literals is_web is_blank_url judged judged_parse read_against address_of url_of resolved with_fragment base_of fragment_of origin_text origin_of has_same_base is_rewritable events_of each_event after_opening AtEachEvent is_numbered opens is_formed is_once is_caused is_queued is_ordered is_checked ends_settled loads_end ends_told ends_stepped goes_in_time
+load_of_an_initial_document_acts_at_once = record { told = refl; stepped = refl; in_time = refl }
+
+pub load_of_an_initial_document_suits : Suits load_of_an_initial_document_header (log_of load_of_an_initial_document)
+unfolding url_on_literals is_web is_blank_url judged judged_parse read_against address_of url_of resolved with_fragment base_of fragment_of origin_text origin_of has_same_base is_rewritable events_of each_event after_opening AtEachEvent is_numbered opens is_formed is_once is_caused is_queued is_ordered is_checked ends_settled loads_end ends_told ends_stepped goes_in_time
+load_of_an_initial_document_suits = record { opened = refl; placed = refl; kept = refl }

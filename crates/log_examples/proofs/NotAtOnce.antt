@@ -19,11 +19,28 @@ use Rattle.log_model.specs.LoadsEndInTime.{loads_end}
 use Rattle.log_model.specs.ActsAtOnce.{ActsAtOnce, ends_told, ends_stepped, goes_in_time}
 use Rattle.log_examples.specs.Rows.{n, s, r, p, t, d, j, e, epoch, sent, made}
 use Rattle.log_examples.specs.Logs.{Event, by_start, by_ui, by_coord, by_proc, log_of, before, since}
+use Rattle.log_examples.proofs.Pushes.{one_push}
 use Rattle.log_examples.proofs.Traversals.{document_goes_back, push_under_an_old_epoch}
 use Rattle.log_examples.proofs.Loads.{no_document_kept, load_ended_by_a_reload}
-use Rattle.log_examples.proofs.Removals.{removed_frame, removal_and_push_of_two_processes}
+use Rattle.log_examples.proofs.Removals.{removal_and_push_of_two_processes}
 use Rattle.log_examples.proofs.Deaths.{poke_of_a_dead_document}
 use Rattle.log_examples.proofs.Pending.{two_pushes_on_their_way, push_behind_a_traversal, traversal_beside_a_push, load_beside_a_push, load_over_a_frame, reload_of_a_removed_frame}
+
+-- A push without its update: the document has guessed length and index right.
+abbrev pub right_guess_without_update : List Event
+right_guess_without_update =
+    before 3 one_push
+    ++ by_coord (rows.Delivered (p 1)) (rows.Applied (r 1) (changes.Push (n 0) (e 1 1) (s 1) (codes "http://a.test/1") (Some (codes "s"))) ∷ [])
+    ∷ []
+
+pub right_guess_without_update_is_refused : ActsAtOnce (log_of right_guess_without_update) → ⊥
+unfolding url_on_literals is_web is_blank_url judged judged_parse read_against address_of url_of resolved with_fragment base_of fragment_of origin_text origin_of has_same_base is_rewritable events_of each_event after_opening AtEachEvent is_numbered opens is_formed is_once is_caused is_queued is_ordered is_checked ends_settled loads_end ends_told ends_stepped goes_in_time
+right_guess_without_update_is_refused holds = false≢true holds.told
+
+-- a legal log, so that nothing else refuses it
+pub right_guess_without_update_is_legal : IsLegal (log_of right_guess_without_update)
+unfolding url_on_literals is_web is_blank_url judged judged_parse read_against address_of url_of resolved with_fragment base_of fragment_of origin_text origin_of has_same_base is_rewritable events_of each_event after_opening AtEachEvent is_numbered opens is_formed is_once is_caused is_queued is_ordered is_checked ends_settled loads_end ends_told ends_stepped goes_in_time
+right_guess_without_update_is_legal = record { opened = refl; numbered = refl; formed = refl; once = refl; caused = refl; queued = refl; ordered = refl; checked = refl; settled = refl }
 
 -- A push is applied, and its update waits for the next one.
 abbrev pub update_put_off : List Event
@@ -211,17 +228,6 @@ is_told_1 =
 pub is_told_1_is_refused : ActsAtOnce (log_of is_told_1) → ⊥
 unfolding url_on_literals is_web is_blank_url judged judged_parse read_against address_of url_of resolved with_fragment base_of fragment_of origin_text origin_of has_same_base is_rewritable events_of each_event after_opening AtEachEvent is_numbered opens is_formed is_once is_caused is_queued is_ordered is_checked ends_settled loads_end ends_told ends_stepped goes_in_time
 is_told_1_is_refused holds = false≢true holds.told
-
--- later_row: were `nat_lt best.step.0 row.step.0` always so, `stepped` would hold.
-abbrev pub later_row_1 : List Event
-later_row_1 =
-    before 23 removed_frame
-    ++ by_coord (rows.Delivered (p 1)) (rows.Applied (r 1) (changes.AddFrame (s 1) (n 1) (e 0 4) (s 5)) ∷ [])
-    ∷ []
-
-pub later_row_1_is_refused : ActsAtOnce (log_of later_row_1) → ⊥
-unfolding url_on_literals is_web is_blank_url judged judged_parse read_against address_of url_of resolved with_fragment base_of fragment_of origin_text origin_of has_same_base is_rewritable events_of each_event after_opening AtEachEvent is_numbered opens is_formed is_once is_caused is_queued is_ordered is_checked ends_settled loads_end ends_told ends_stepped goes_in_time
-later_row_1_is_refused holds = false≢true holds.stepped
 
 -- is_order_of_use: without conjunct `not (is_gone s job.doc)`, `in_time` would hold.
 abbrev pub is_order_of_use_1 : List Event

@@ -1,17 +1,19 @@
 -- Broken logs, each refused by the field `caused`.
 -- A log is its events: those before one of another log, since one, or between two, and its own.
-use Rattle.std.proofs.Common.{pos, true, false, List, [], ◌∷◌, ◌++◌, codes, Some, None}
+use Rattle.std.proofs.Common.{pos, negsuc, true, false, List, [], ◌∷◌, ◌++◌, codes, Some, None}
 use Rattle.std.proofs.lemmas.Bool.{false≢true}
 use Rattle.url.proofs.OnLiterals.{url_on_literals}
 use Rattle.address.specs.Addresses.{is_web, is_blank_url, judged, judged_parse, read_against, address_of, url_of, resolved, with_fragment, base_of, fragment_of, origin_text, origin_of, has_same_base, is_rewritable}
 use Rattle.log_model.specs.declared.action.Action.TheVariants as actions
 use Rattle.log_model.specs.declared.change.Change.TheVariants as changes
 use Rattle.log_model.specs.declared.handler.LeaveCause.TheVariants as leavings
+use Rattle.log_model.specs.declared.handler.Verdict.TheVariants as verdicts
 use Rattle.log_model.specs.declared.job.Task.TheVariants as tasks
 use Rattle.log_model.specs.declared.job.Why.TheVariants as whys
 use Rattle.log_model.specs.declared.made.What.TheVariants as whats
 use Rattle.log_model.specs.declared.outcome.Cause.TheVariants as drops
 use Rattle.log_model.specs.declared.outcome.Denial.TheVariants as denials
+use Rattle.log_model.specs.declared.outcome.Outcome.TheVariants as outcomes
 use Rattle.log_model.specs.declared.request.Mode.TheVariants as modes
 use Rattle.log_model.specs.declared.request.Request.TheVariants as requests
 use Rattle.log_model.specs.declared.row_kind.RowKind.TheVariants as rows
@@ -22,13 +24,15 @@ use Rattle.log_model.specs.LoadsEndInTime.{loads_end}
 use Rattle.log_model.specs.ActsAtOnce.{ends_told, ends_stepped, goes_in_time}
 use Rattle.log_examples.specs.Rows.{n, s, r, p, t, x, d, j, e, epoch, sent, made}
 use Rattle.log_examples.specs.Logs.{Event, by_start, by_ui, by_coord, by_proc, log_of, before, since}
-use Rattle.log_examples.proofs.Traversals.{document_goes_back}
-use Rattle.log_examples.proofs.Loads.{later_load}
-use Rattle.log_examples.proofs.Frames.{taken_number, load_of_a_new_frame}
-use Rattle.log_examples.proofs.Removals.{push_of_a_removed_frame}
+use Rattle.log_examples.proofs.Pushes.{push_beside_a_frame}
+use Rattle.log_examples.proofs.Traversals.{document_goes_back, push_under_an_old_epoch}
+use Rattle.log_examples.proofs.Interleavings.{push_beside_a_running_traversal}
+use Rattle.log_examples.proofs.Loads.{later_load, two_processes, load_ended_by_a_reload}
+use Rattle.log_examples.proofs.Frames.{taken_number, load_of_a_new_frame, current_step_without_entry}
+use Rattle.log_examples.proofs.Removals.{removed_frame, push_of_a_removed_frame}
 use Rattle.log_examples.proofs.Reloads.{kept_frame_document_at_an_eviction}
 use Rattle.log_examples.proofs.Prompts.{stay, load_behind_an_answer}
-use Rattle.log_examples.proofs.Deaths.{questions_of_the_dead, load_below_a_lost_navigable, poke_of_a_dead_document}
+use Rattle.log_examples.proofs.Deaths.{void_order, one_of_two_processes_dies, questions_of_the_dead, load_below_a_lost_navigable, poke_of_a_dead_document}
 use Rattle.log_examples.proofs.Pending.{reload_of_a_removed_frame}
 
 -- A load is dropped by a request that has ended.
@@ -166,6 +170,168 @@ pub dropped_by_itself_is_refused : IsLegal (log_of dropped_by_itself) → ⊥
 unfolding url_on_literals is_web is_blank_url judged judged_parse read_against address_of url_of resolved with_fragment base_of fragment_of origin_text origin_of has_same_base is_rewritable events_of each_event after_opening AtEachEvent is_numbered opens is_formed is_once is_caused is_queued is_ordered is_checked ends_settled loads_end ends_told ends_stepped goes_in_time
 dropped_by_itself_is_refused holds = false≢true holds.caused
 
+-- any_displaced: without test `not (is_placed s step nav)`, `caused` would hold.
+abbrev pub any_displaced_1 : List Event
+any_displaced_1 =
+    by_start (rows.Opened (e 0 1) (s 1) (d 1) (p 1) (Some 1) (codes "about:blank")) []
+    ∷ by_ui (rows.Accepted (r 1) (Some (d 1)) (requests.Poke (n 0) (actions.Push (Some (codes "s")) (Some (codes "/q0"))))) []
+    ∷ by_proc 1 (rows.Refused (r 1) denials.BadAddress) []
+    ∷ by_ui (rows.Accepted (r 2) None (requests.Load (n 0) modes.Push (codes "http://a.test/p1"))) (rows.Started (r 2) None ∷ sent 1 1 0 1 (whys.Req (r 2)) (tasks.Ask 1 leavings.Load) ∷ [])
+    ∷ by_proc 1 (rows.Taken (p 1) (j 1) true false) []
+    ∷ by_proc 1 (rows.Finished (p 1) (j 1) (outcomes.Asked verdicts.Prompt)) []
+    ∷ by_coord (rows.Delivered (p 1)) (rows.Prompted (r 2) (d 1) ∷ [])
+    ∷ by_ui (rows.Answered (r 2) false) (sent 2 1 0 2 (whys.Req (r 2)) (tasks.Populate (n 0) (s 2) (codes "http://a.test/p1") false) ∷ [])
+    ∷ by_proc 1 (rows.Taken (p 1) (j 2) true false) []
+    ∷ by_proc 1 (rows.Finished (p 1) (j 2) (outcomes.Populated None)) []
+    ∷ by_ui (rows.Accepted (r 3) None (requests.Go (pos 0))) (rows.Dropped (r 2) (drops.By (r 3)) ∷ rows.Started (r 3) (Some (t 0)) ∷ sent 3 1 0 3 (whys.Req (r 3)) (tasks.Populate (n 0) (s 3) (codes "about:blank") false) ∷ [])
+    ∷ []
+
+pub any_displaced_1_is_refused : IsLegal (log_of any_displaced_1) → ⊥
+unfolding url_on_literals is_web is_blank_url judged judged_parse read_against address_of url_of resolved with_fragment base_of fragment_of origin_text origin_of has_same_base is_rewritable events_of each_event after_opening AtEachEvent is_numbered opens is_formed is_once is_caused is_queued is_ordered is_checked ends_settled loads_end ends_told ends_stepped goes_in_time
+any_displaced_1_is_refused holds = false≢true holds.caused
+
+-- by_adder: without conjunct `is_accepted_here p q.nr`, `caused` would hold.
+abbrev pub by_adder_1 : List Event
+by_adder_1 =
+    before 3 push_beside_a_frame
+    ++ by_ui (rows.Accepted (r 2) None (requests.Load (n 1) modes.Auto (codes "http://a.test/p2"))) (rows.Refused (r 2) denials.NoNavigable ∷ [])
+    ∷ by_coord (rows.Delivered (p 1)) (rows.Applied (r 1) (changes.AddFrame (s 1) (n 1) (e 0 2) (s 2)) ∷ sent 1 1 0 2 (whys.Req (r 1)) (tasks.Populate (n 1) (s 2) (codes "about:blank") true) ∷ [])
+    ∷ by_proc 1 (rows.Taken (p 1) (j 1) true false) []
+    ∷ by_proc 1 (rows.Finished (p 1) (j 1) (outcomes.Populated None)) []
+    ∷ by_coord (rows.Delivered (p 1)) (sent 2 1 0 2 (whys.Req (r 1)) (tasks.Activate (e 0 2) (epoch 1) 1 0 None (codes "about:blank")) ∷ rows.Dropped (r 2) (drops.By (r 1)) ∷ [])
+    ∷ []
+
+pub by_adder_1_is_refused : IsLegal (log_of by_adder_1) → ⊥
+unfolding url_on_literals is_web is_blank_url judged judged_parse read_against address_of url_of resolved with_fragment base_of fragment_of origin_text origin_of has_same_base is_rewritable events_of each_event after_opening AtEachEvent is_numbered opens is_formed is_once is_caused is_queued is_ordered is_checked ends_settled loads_end ends_told ends_stepped goes_in_time
+by_adder_1_is_refused holds = false≢true holds.caused
+
+-- by_adder: without conjunct `is_load q.what`, `caused` would hold.
+abbrev pub by_adder_2 : List Event
+by_adder_2 =
+    by_start (rows.Opened (e 0 1) (s 1) (d 1) (p 1) None (codes "http://b.test/p1")) []
+    ∷ by_ui (rows.Accepted (r 1) (Some (d 1)) (requests.Poke (n 0) (actions.AddFrame (n 1)))) []
+    ∷ by_proc 1 (made 1 1 1 1 (whats.AddFrame (n 1))) []
+    ∷ by_coord (rows.Delivered (p 1)) (rows.Applied (r 1) (changes.AddFrame (s 1) (n 1) (e 0 2) (s 2)) ∷ sent 1 1 0 2 (whys.Req (r 1)) (tasks.Populate (n 1) (s 2) (codes "about:blank") true) ∷ [])
+    ∷ by_proc 1 (rows.Taken (p 1) (j 1) true false) []
+    ∷ by_ui (rows.Accepted (r 2) None (requests.Reload (n 1))) (rows.Dropped (r 2) (drops.By (r 1)) ∷ rows.Started (r 2) (Some (t 1)) ∷ sent 2 1 0 1 (whys.Req (r 2)) (tasks.DoFragment (r 2) modes.Push (codes "http://a.test/1")) ∷ [])
+    ∷ []
+
+pub by_adder_2_is_refused : IsLegal (log_of by_adder_2) → ⊥
+unfolding url_on_literals is_web is_blank_url judged judged_parse read_against address_of url_of resolved with_fragment base_of fragment_of origin_text origin_of has_same_base is_rewritable events_of each_event after_opening AtEachEvent is_numbered opens is_formed is_once is_caused is_queued is_ordered is_checked ends_settled loads_end ends_told ends_stepped goes_in_time
+by_adder_2_is_refused holds = false≢true holds.caused
+
+-- by_adder: without conjunct `not place.was_activated`, `caused` would hold.
+abbrev pub by_adder_3 : List Event
+by_adder_3 =
+    before 10 removed_frame
+    ++ by_ui (rows.Accepted (r 2) None (requests.Load (n 1) modes.Auto (codes "http://a.test/f1"))) (rows.Dropped (r 2) (drops.By (r 1)) ∷ rows.Started (r 2) None ∷ sent 3 1 0 3 (whys.Req (r 2)) (tasks.Populate (n 1) (s 3) (codes "http://a.test/f1") false) ∷ [])
+    ∷ []
+
+pub by_adder_3_is_refused : IsLegal (log_of by_adder_3) → ⊥
+unfolding url_on_literals is_web is_blank_url judged judged_parse read_against address_of url_of resolved with_fragment base_of fragment_of origin_text origin_of has_same_base is_rewritable events_of each_event after_opening AtEachEvent is_numbered opens is_formed is_once is_caused is_queued is_ordered is_checked ends_settled loads_end ends_told ends_stepped goes_in_time
+by_adder_3_is_refused holds = false≢true holds.caused
+
+-- by_last_step: without conjunct `is_load q.what`, `caused` would hold.
+abbrev pub by_last_step_1 : List Event
+by_last_step_1 =
+    before 7 two_processes
+    ++ by_ui (rows.Accepted (r 2) None (requests.Reload (n 0))) (rows.Dropped (r 2) (drops.By (r 1)) ∷ rows.Started (r 2) None ∷ sent 4 1 0 1 (whys.Req (r 2)) (tasks.DoFragment (r 2) modes.Push (codes "http://b.test/p0#x")) ∷ [])
+    ∷ []
+
+pub by_last_step_1_is_refused : IsLegal (log_of by_last_step_1) → ⊥
+unfolding url_on_literals is_web is_blank_url judged judged_parse read_against address_of url_of resolved with_fragment base_of fragment_of origin_text origin_of has_same_base is_rewritable events_of each_event after_opening AtEachEvent is_numbered opens is_formed is_once is_caused is_queued is_ordered is_checked ends_settled loads_end ends_told ends_stepped goes_in_time
+by_last_step_1_is_refused holds = false≢true holds.caused
+
+-- by_last_step: without test `last.0 == r.nr.0`, `caused` would hold.
+abbrev pub by_last_step_2 : List Event
+by_last_step_2 =
+    before 41 current_step_without_entry
+    ++ by_proc 1 (rows.Finished (p 1) (j 12) outcomes.Discarded) (rows.Dropped (r 2) (drops.By (r 3)) ∷ [])
+    ∷ []
+
+pub by_last_step_2_is_refused : IsLegal (log_of by_last_step_2) → ⊥
+unfolding url_on_literals is_web is_blank_url judged judged_parse read_against address_of url_of resolved with_fragment base_of fragment_of origin_text origin_of has_same_base is_rewritable events_of each_event after_opening AtEachEvent is_numbered opens is_formed is_once is_caused is_queued is_ordered is_checked ends_settled loads_end ends_told ends_stepped goes_in_time
+by_last_step_2_is_refused holds = false≢true holds.caused
+
+-- by_later_load: without conjunct `is_load q.what`, `caused` would hold.
+abbrev pub by_later_load_1 : List Event
+by_later_load_1 =
+    by_start (rows.Opened (e 0 1) (s 1) (d 1) (p 1) None (codes "about:blank")) []
+    ∷ by_ui (rows.Accepted (r 1) (Some (d 1)) (requests.Poke (n 0) (actions.Push (Some (codes "s")) None))) []
+    ∷ by_ui (rows.Accepted (r 2) None (requests.Load (n 0) modes.Replace (codes "about:blank"))) (rows.Dropped (r 1) (drops.By (r 2)) ∷ rows.Started (r 2) None ∷ [])
+    ∷ []
+
+pub by_later_load_1_is_refused : IsLegal (log_of by_later_load_1) → ⊥
+unfolding url_on_literals is_web is_blank_url judged judged_parse read_against address_of url_of resolved with_fragment base_of fragment_of origin_text origin_of has_same_base is_rewritable events_of each_event after_opening AtEachEvent is_numbered opens is_formed is_once is_caused is_queued is_ordered is_checked ends_settled loads_end ends_told ends_stepped goes_in_time
+by_later_load_1_is_refused holds = false≢true holds.caused
+
+-- by_later_load: without conjunct `is_load r.what`, `caused` would hold.
+abbrev pub by_later_load_2 : List Event
+by_later_load_2 =
+    before 3 stay
+    ++ by_ui (rows.Accepted (r 2) None (requests.Reload (n 0))) (rows.Dropped (r 1) (drops.By (r 2)) ∷ rows.Started (r 2) None ∷ [])
+    ∷ []
+
+pub by_later_load_2_is_refused : IsLegal (log_of by_later_load_2) → ⊥
+unfolding url_on_literals is_web is_blank_url judged judged_parse read_against address_of url_of resolved with_fragment base_of fragment_of origin_text origin_of has_same_base is_rewritable events_of each_event after_opening AtEachEvent is_numbered opens is_formed is_once is_caused is_queued is_ordered is_checked ends_settled loads_end ends_told ends_stepped goes_in_time
+by_later_load_2_is_refused holds = false≢true holds.caused
+
+-- by_later_load: without conjunct `r.is_started`, `caused` would hold.
+abbrev pub by_later_load_3 : List Event
+by_later_load_3 =
+    by_start (rows.Opened (e 0 1) (s 1) (d 1) (p 1) None (codes "http://a.test/")) []
+    ∷ by_ui (rows.Accepted (r 1) None (requests.Load (n 0) modes.Auto (codes "http://a.test/1"))) (rows.Started (r 1) None ∷ sent 1 1 0 2 (whys.Req (r 1)) (tasks.Populate (n 0) (s 2) (codes "http://a.test/1") false) ∷ [])
+    ∷ by_ui (rows.Accepted (r 2) None (requests.Load (n 0) modes.Auto (codes "http://b.test/p0"))) (rows.Dropped (r 1) (drops.By (r 2)) ∷ sent 2 1 0 3 (whys.Req (r 2)) (tasks.Populate (n 0) (s 3) (codes "http://b.test/p0") true) ∷ [])
+    ∷ []
+
+pub by_later_load_3_is_refused : IsLegal (log_of by_later_load_3) → ⊥
+unfolding url_on_literals is_web is_blank_url judged judged_parse read_against address_of url_of resolved with_fragment base_of fragment_of origin_text origin_of has_same_base is_rewritable events_of each_event after_opening AtEachEvent is_numbered opens is_formed is_once is_caused is_queued is_ordered is_checked ends_settled loads_end ends_told ends_stepped goes_in_time
+by_later_load_3_is_refused holds = false≢true holds.caused
+
+-- by_later_load: without conjunct `same_option (λ (a : NavId) (b : NavId) . a.0 == b.0) (nav_of_request q.what) (nav_of_request r.what)`, `caused` would hold.
+abbrev pub by_later_load_4 : List Event
+by_later_load_4 =
+    by_start (rows.Opened (e 0 1) (s 1) (d 1) (p 1) None (codes "about:blank")) []
+    ∷ by_ui (rows.Accepted (r 1) (Some (d 1)) (requests.Poke (n 0) (actions.AddFrame (n 1)))) []
+    ∷ by_proc 1 (made 1 1 1 1 (whats.AddFrame (n 1))) []
+    ∷ by_coord (rows.Delivered (p 1)) (rows.Applied (r 1) (changes.AddFrame (s 1) (n 1) (e 0 2) (s 2)) ∷ sent 1 1 0 2 (whys.Req (r 1)) (tasks.Populate (n 1) (s 2) (codes "about:blank") true) ∷ [])
+    ∷ by_proc 1 (rows.Taken (p 1) (j 1) true false) []
+    ∷ by_proc 1 (rows.Finished (p 1) (j 1) (outcomes.Populated None)) []
+    ∷ by_coord (rows.Delivered (p 1)) (sent 2 1 0 2 (whys.Req (r 1)) (tasks.Activate (e 0 2) (epoch 1) 1 0 None (codes "about:blank")) ∷ [])
+    ∷ by_proc 1 (rows.Taken (p 1) (j 2) true false) []
+    ∷ by_proc 1 (rows.Finished (p 1) (j 2) outcomes.Activated) []
+    ∷ by_coord (rows.Delivered (p 1)) []
+    ∷ by_ui (rows.Accepted (r 2) None (requests.Load (n 1) modes.Auto (codes "http://b.test/p0"))) (rows.Started (r 2) None ∷ sent 3 1 0 3 (whys.Req (r 2)) (tasks.Populate (n 1) (s 3) (codes "http://b.test/p0") false) ∷ [])
+    ∷ by_proc 1 (rows.Taken (p 1) (j 3) true false) []
+    ∷ by_ui (rows.Accepted (r 3) None (requests.Load (n 0) modes.Auto (codes "http://a.test/1#x"))) (rows.Dropped (r 2) (drops.By (r 3)) ∷ rows.Started (r 3) (Some (t 0)) ∷ sent 4 1 0 2 (whys.Req (r 3)) (tasks.DoFragment (r 3) modes.Replace (codes "http://a.test/1#x")) ∷ [])
+    ∷ []
+
+pub by_later_load_4_is_refused : IsLegal (log_of by_later_load_4) → ⊥
+unfolding url_on_literals is_web is_blank_url judged judged_parse read_against address_of url_of resolved with_fragment base_of fragment_of origin_text origin_of has_same_base is_rewritable events_of each_event after_opening AtEachEvent is_numbered opens is_formed is_once is_caused is_queued is_ordered is_checked ends_settled loads_end ends_told ends_stepped goes_in_time
+by_later_load_4_is_refused holds = false≢true holds.caused
+
+-- by_traversal: without conjunct `is_load q.what`, `caused` would hold.
+abbrev pub by_traversal_1 : List Event
+by_traversal_1 =
+    before 12 push_under_an_old_epoch
+    ++ by_coord (rows.Delivered (p 1)) (sent 3 1 0 1 (whys.Req (r 3)) tasks.Freeze ∷ rows.Dropped (r 3) (drops.By (r 2)) ∷ [])
+    ∷ []
+
+pub by_traversal_1_is_refused : IsLegal (log_of by_traversal_1) → ⊥
+unfolding url_on_literals is_web is_blank_url judged judged_parse read_against address_of url_of resolved with_fragment base_of fragment_of origin_text origin_of has_same_base is_rewritable events_of each_event after_opening AtEachEvent is_numbered opens is_formed is_once is_caused is_queued is_ordered is_checked ends_settled loads_end ends_told ends_stepped goes_in_time
+by_traversal_1_is_refused holds = false≢true holds.caused
+
+-- by_traversal: without conjunct `not (had_ended p r.nr)`, `caused` would hold.
+abbrev pub by_traversal_2 : List Event
+by_traversal_2 =
+    before 15 two_processes
+    ++ by_coord (rows.Delivered (p 1)) (rows.Dropped (r 1) (drops.By (r 2)) ∷ sent 6 1 0 1 (whys.Req (r 2)) tasks.Freeze ∷ [])
+    ∷ []
+
+pub by_traversal_2_is_refused : IsLegal (log_of by_traversal_2) → ⊥
+unfolding url_on_literals is_web is_blank_url judged judged_parse read_against address_of url_of resolved with_fragment base_of fragment_of origin_text origin_of has_same_base is_rewritable events_of each_event after_opening AtEachEvent is_numbered opens is_formed is_once is_caused is_queued is_ordered is_checked ends_settled loads_end ends_told ends_stepped goes_in_time
+by_traversal_2_is_refused holds = false≢true holds.caused
+
 -- denial_at_act: were `makes s q q.what` never so, `caused` would hold.
 abbrev pub denial_at_act_1 : List Event
 denial_at_act_1 =
@@ -223,6 +389,17 @@ pub due_denial_2_is_refused : IsLegal (log_of due_denial_2) → ⊥
 unfolding url_on_literals is_web is_blank_url judged judged_parse read_against address_of url_of resolved with_fragment base_of fragment_of origin_text origin_of has_same_base is_rewritable events_of each_event after_opening AtEachEvent is_numbered opens is_formed is_once is_caused is_queued is_ordered is_checked ends_settled loads_end ends_told ends_stepped goes_in_time
 due_denial_2_is_refused holds = false≢true holds.caused
 
+-- is_begun_unapplied: without conjunct `is_none q.change`, `caused` would hold.
+abbrev pub is_begun_unapplied_1 : List Event
+is_begun_unapplied_1 =
+    before 34 one_of_two_processes_dies
+    ++ by_coord (rows.Delivered (p 1)) (sent 10 2 0 3 (whys.Death (x 1)) tasks.Discard ∷ rows.Dropped (r 3) (drops.Gone (x 1)) ∷ sent 11 2 0 4 (whys.Death (x 1)) tasks.Discard ∷ [])
+    ∷ []
+
+pub is_begun_unapplied_1_is_refused : IsLegal (log_of is_begun_unapplied_1) → ⊥
+unfolding url_on_literals is_web is_blank_url judged judged_parse read_against address_of url_of resolved with_fragment base_of fragment_of origin_text origin_of has_same_base is_rewritable events_of each_event after_opening AtEachEvent is_numbered opens is_formed is_once is_caused is_queued is_ordered is_checked ends_settled loads_end ends_told ends_stepped goes_in_time
+is_begun_unapplied_1_is_refused holds = false≢true holds.caused
+
 -- is_caused_row: by_kind: without test `may_begin_here p.now`, `caused` would hold.
 abbrev pub is_caused_row_1 : List Event
 is_caused_row_1 =
@@ -234,6 +411,75 @@ is_caused_row_1 =
 pub is_caused_row_1_is_refused : IsLegal (log_of is_caused_row_1) → ⊥
 unfolding url_on_literals is_web is_blank_url judged judged_parse read_against address_of url_of resolved with_fragment base_of fragment_of origin_text origin_of has_same_base is_rewritable events_of each_event after_opening AtEachEvent is_numbered opens is_formed is_once is_caused is_queued is_ordered is_checked ends_settled loads_end ends_told ends_stepped goes_in_time
 is_caused_row_1_is_refused holds = false≢true holds.caused
+
+-- is_destroyed_by: takes: without conjunct `not (has_row nav s.history.rows)`, `caused` would hold.
+abbrev pub is_destroyed_by_1 : List Event
+is_destroyed_by_1 =
+    before 17 push_of_a_removed_frame
+    ++ by_coord (rows.Delivered (p 1)) (rows.Applied (r 3) (changes.AddFrame (s 1) (n 1) (e 0 3) (s 3)) ∷ rows.Dropped (r 3) (drops.Destroyed (r 2)) ∷ [])
+    ∷ []
+
+pub is_destroyed_by_1_is_refused : IsLegal (log_of is_destroyed_by_1) → ⊥
+unfolding url_on_literals is_web is_blank_url judged judged_parse read_against address_of url_of resolved with_fragment base_of fragment_of origin_text origin_of has_same_base is_rewritable events_of each_event after_opening AtEachEvent is_numbered opens is_formed is_once is_caused is_queued is_ordered is_checked ends_settled loads_end ends_told ends_stepped goes_in_time
+is_destroyed_by_1_is_refused holds = false≢true holds.caused
+
+-- is_outdated: without conjunct `not (is_traversal q.what)`, `caused` would hold.
+abbrev pub is_outdated_1 : List Event
+is_outdated_1 =
+    before 10 document_goes_back
+    ++ by_proc 1 (rows.Taken (p 1) (j 2) true false) (rows.Dropped (r 2) (drops.By (r 2)) ∷ [])
+    ∷ []
+
+pub is_outdated_1_is_refused : IsLegal (log_of is_outdated_1) → ⊥
+unfolding url_on_literals is_web is_blank_url judged judged_parse read_against address_of url_of resolved with_fragment base_of fragment_of origin_text origin_of has_same_base is_rewritable events_of each_event after_opening AtEachEvent is_numbered opens is_formed is_once is_caused is_queued is_ordered is_checked ends_settled loads_end ends_told ends_stepped goes_in_time
+is_outdated_1_is_refused holds = false≢true holds.caused
+
+-- is_outdated: without test `not (is_present s made)`, `caused` would hold.
+abbrev pub is_outdated_2 : List Event
+is_outdated_2 =
+    before 12 stay
+    ++ by_proc 1 (made 1 2 2 2 whats.Edit) (rows.Applied (r 2) changes.Edit ∷ rows.Dropped (r 2) (drops.By (r 1)) ∷ [])
+    ∷ []
+
+pub is_outdated_2_is_refused : IsLegal (log_of is_outdated_2) → ⊥
+unfolding url_on_literals is_web is_blank_url judged judged_parse read_against address_of url_of resolved with_fragment base_of fragment_of origin_text origin_of has_same_base is_rewritable events_of each_event after_opening AtEachEvent is_numbered opens is_formed is_once is_caused is_queued is_ordered is_checked ends_settled loads_end ends_told ends_stepped goes_in_time
+is_outdated_2_is_refused holds = false≢true holds.caused
+
+-- is_passed_traversal: without conjunct `is_traversal r.what`, `caused` would hold.
+abbrev pub is_passed_traversal_1 : List Event
+is_passed_traversal_1 =
+    before 3 load_ended_by_a_reload
+    ++ by_ui (rows.Accepted (r 3) None (requests.Load (n 0) modes.Auto (codes "http://a.test/#x"))) (rows.Dropped (r 3) (drops.By (r 3)) ∷ rows.Started (r 3) None ∷ sent 3 1 0 1 (whys.Req (r 3)) (tasks.DoFragment (r 3) modes.Push (codes "http://a.test/#x")) ∷ [])
+    ∷ []
+
+pub is_passed_traversal_1_is_refused : IsLegal (log_of is_passed_traversal_1) → ⊥
+unfolding url_on_literals is_web is_blank_url judged judged_parse read_against address_of url_of resolved with_fragment base_of fragment_of origin_text origin_of has_same_base is_rewritable events_of each_event after_opening AtEachEvent is_numbered opens is_formed is_once is_caused is_queued is_ordered is_checked ends_settled loads_end ends_told ends_stepped goes_in_time
+is_passed_traversal_1_is_refused holds = false≢true holds.caused
+
+-- is_passed_traversal: without conjunct `r.is_started`, `caused` would hold.
+abbrev pub is_passed_traversal_2 : List Event
+is_passed_traversal_2 =
+    by_start (rows.Opened (e 0 1) (s 1) (d 1) (p 1) (Some 1) (codes "http://a.test/p0")) []
+    ∷ by_ui (rows.Accepted (r 1) (Some (d 1)) (requests.Poke (n 0) (actions.AddFrame (n 1)))) []
+    ∷ by_proc 1 (made 1 1 1 1 (whats.AddFrame (n 1))) []
+    ∷ by_coord (rows.Delivered (p 1)) (rows.Applied (r 1) (changes.AddFrame (s 1) (n 1) (e 0 2) (s 2)) ∷ sent 1 1 0 2 (whys.Req (r 1)) (tasks.Populate (n 1) (s 2) (codes "about:blank") true) ∷ [])
+    ∷ by_proc 1 (rows.Taken (p 1) (j 1) true false) []
+    ∷ by_proc 1 (rows.Finished (p 1) (j 1) (outcomes.Populated None)) []
+    ∷ by_coord (rows.Delivered (p 1)) (sent 2 1 0 2 (whys.Req (r 1)) (tasks.Activate (e 0 2) (epoch 1) 1 0 None (codes "about:blank")) ∷ [])
+    ∷ by_proc 1 (rows.Taken (p 1) (j 2) true false) []
+    ∷ by_proc 1 (rows.Finished (p 1) (j 2) outcomes.Activated) []
+    ∷ by_coord (rows.Delivered (p 1)) []
+    ∷ by_ui (rows.Accepted (r 2) None (requests.Load (n 1) modes.Auto (codes "http://a.test/p0"))) (rows.Started (r 2) None ∷ sent 3 1 0 3 (whys.Req (r 2)) (tasks.Populate (n 1) (s 3) (codes "http://a.test/p0") false) ∷ [])
+    ∷ by_proc 1 (rows.Taken (p 1) (j 3) true false) []
+    ∷ by_proc 1 (rows.Finished (p 1) (j 3) (outcomes.Populated (Some 1))) []
+    ∷ by_coord (rows.Delivered (p 1)) (rows.Applied (r 2) (changes.Replace (n 1) (e 0 2) (e 0 3) (s 3) (codes "http://a.test/p0") None) ∷ sent 4 1 0 2 (whys.Req (r 2)) tasks.Discard ∷ sent 5 1 0 3 (whys.Req (r 2)) (tasks.Activate (e 0 3) (epoch 2) 1 0 None (codes "http://a.test/p0")) ∷ [])
+    ∷ by_proc 1 (rows.Taken (p 1) (j 4) true false) []
+    ∷ by_ui (rows.Accepted (r 3) None (requests.Go (negsuc 0))) (rows.Dropped (r 2) (drops.By (r 3)) ∷ [])
+    ∷ []
+
+pub is_passed_traversal_2_is_refused : IsLegal (log_of is_passed_traversal_2) → ⊥
+unfolding url_on_literals is_web is_blank_url judged judged_parse read_against address_of url_of resolved with_fragment base_of fragment_of origin_text origin_of has_same_base is_rewritable events_of each_event after_opening AtEachEvent is_numbered opens is_formed is_once is_caused is_queued is_ordered is_checked ends_settled loads_end ends_told ends_stepped goes_in_time
+is_passed_traversal_2_is_refused holds = false≢true holds.caused
 
 -- is_stay: answers_stay: were equation 2 true, `caused` would hold.
 abbrev pub is_stay_1 : List Event
@@ -269,6 +515,17 @@ pub is_stayed_duly_1_is_refused : IsLegal (log_of is_stayed_duly_1) → ⊥
 unfolding url_on_literals is_web is_blank_url judged judged_parse read_against address_of url_of resolved with_fragment base_of fragment_of origin_text origin_of has_same_base is_rewritable events_of each_event after_opening AtEachEvent is_numbered opens is_formed is_once is_caused is_queued is_ordered is_checked ends_settled loads_end ends_told ends_stepped goes_in_time
 is_stayed_duly_1_is_refused holds = false≢true holds.caused
 
+-- load_is_gone: without conjunct `takes_death p row death`, `caused` would hold.
+abbrev pub load_is_gone_1 : List Event
+load_is_gone_1 =
+    before 11 load_below_a_lost_navigable
+    ++ by_ui (rows.Killed (p 1) (x 1)) (rows.Dropped (r 2) (drops.Gone (x 1)) ∷ [])
+    ∷ []
+
+pub load_is_gone_1_is_refused : IsLegal (log_of load_is_gone_1) → ⊥
+unfolding url_on_literals is_web is_blank_url judged judged_parse read_against address_of url_of resolved with_fragment base_of fragment_of origin_text origin_of has_same_base is_rewritable events_of each_event after_opening AtEachEvent is_numbered opens is_formed is_once is_caused is_queued is_ordered is_checked ends_settled loads_end ends_told ends_stepped goes_in_time
+load_is_gone_1_is_refused holds = false≢true holds.caused
+
 -- may_begin_here: by_request: without conjunct `is_none (denial_of_reload s nav)`, `caused` would hold.
 abbrev pub may_begin_here_1 : List Event
 may_begin_here_1 =
@@ -283,8 +540,8 @@ may_begin_here_1_is_refused holds = false≢true holds.caused
 -- report_is_gone: without conjunct `is_outdated s q`, `caused` would hold.
 abbrev pub report_is_gone_1 : List Event
 report_is_gone_1 =
-    poke_of_a_dead_document
-    ++ by_ui (rows.Answered (r 1) false) (rows.Dropped (r 1) (drops.Gone (x 1)) ∷ [])
+    before 3 poke_of_a_dead_document
+    ++ by_coord (rows.Delivered (p 1)) (rows.Dropped (r 1) (drops.Gone (x 1)) ∷ [])
     ∷ []
 
 pub report_is_gone_1_is_refused : IsLegal (log_of report_is_gone_1) → ⊥
@@ -301,6 +558,17 @@ report_is_gone_2 =
 pub report_is_gone_2_is_refused : IsLegal (log_of report_is_gone_2) → ⊥
 unfolding url_on_literals is_web is_blank_url judged judged_parse read_against address_of url_of resolved with_fragment base_of fragment_of origin_text origin_of has_same_base is_rewritable events_of each_event after_opening AtEachEvent is_numbered opens is_formed is_once is_caused is_queued is_ordered is_checked ends_settled loads_end ends_told ends_stepped goes_in_time
 report_is_gone_2_is_refused holds = false≢true holds.caused
+
+-- same_why: were equation 5 true, `caused` would hold.
+abbrev pub same_why_1 : List Event
+same_why_1 =
+    before 6 void_order
+    ++ by_coord (rows.Delivered (p 1)) (rows.Dropped (r 1) (drops.By (r 1)) ∷ [])
+    ∷ []
+
+pub same_why_1_is_refused : IsLegal (log_of same_why_1) → ⊥
+unfolding url_on_literals is_web is_blank_url judged judged_parse read_against address_of url_of resolved with_fragment base_of fragment_of origin_text origin_of has_same_base is_rewritable events_of each_event after_opening AtEachEvent is_numbered opens is_formed is_once is_caused is_queued is_ordered is_checked ends_settled loads_end ends_told ends_stepped goes_in_time
+same_why_1_is_refused holds = false≢true holds.caused
 
 -- is_refused_in: by_kind: were equation 2 true, `caused` would hold.
 abbrev pub is_refused_in_1 : List Event
@@ -323,3 +591,63 @@ is_refused_in_2 =
 pub is_refused_in_2_is_refused : IsLegal (log_of is_refused_in_2) → ⊥
 unfolding url_on_literals is_web is_blank_url judged judged_parse read_against address_of url_of resolved with_fragment base_of fragment_of origin_text origin_of has_same_base is_rewritable events_of each_event after_opening AtEachEvent is_numbered opens is_formed is_once is_caused is_queued is_ordered is_checked ends_settled loads_end ends_told ends_stepped goes_in_time
 is_refused_in_2_is_refused holds = false≢true holds.caused
+
+-- is_stay: answers_stay: without conjunct `r.0 == req.0`, `caused` would hold.
+abbrev pub stay_of_another : List Event
+stay_of_another =
+    before 7 push_beside_a_running_traversal
+    ++ by_proc 1 (rows.Finished (p 1) (j 1) (outcomes.Populated (Some 1))) []
+    ∷ by_coord (rows.Delivered (p 1)) (rows.Applied (r 2) (changes.AddFrame (s 1) (n 2) (e 0 3) (s 3)) ∷ sent 2 1 0 3 (whys.Req (r 2)) (tasks.Populate (n 2) (s 3) (codes "about:blank") true) ∷ [])
+    ∷ by_proc 1 (rows.Taken (p 1) (j 2) true false) []
+    ∷ by_proc 1 (rows.Finished (p 1) (j 2) (outcomes.Populated (Some 1))) []
+    ∷ by_coord (rows.Delivered (p 1)) (sent 3 1 0 2 (whys.Req (r 1)) (tasks.Activate (e 0 2) (epoch 1) 1 0 None (codes "about:blank")) ∷ [])
+    ∷ by_proc 1 (rows.Taken (p 1) (j 3) true false) []
+    ∷ by_proc 1 (rows.Finished (p 1) (j 3) outcomes.Activated) []
+    ∷ by_coord (rows.Delivered (p 1)) (sent 4 1 0 3 (whys.Req (r 2)) (tasks.Activate (e 0 3) (epoch 1) 1 0 None (codes "about:blank")) ∷ [])
+    ∷ by_proc 1 (rows.Taken (p 1) (j 4) true false) []
+    ∷ by_proc 1 (rows.Finished (p 1) (j 4) outcomes.Activated) []
+    ∷ by_coord (rows.Delivered (p 1)) []
+    ∷ by_coord (rows.Delivered (p 1)) []
+    ∷ by_ui (rows.Accepted (r 3) None (requests.Load (n 1) modes.Auto (codes "http://a.test/f"))) (rows.Started (r 3) None ∷ sent 5 1 0 2 (whys.Req (r 3)) (tasks.Ask 1 leavings.Load) ∷ [])
+    ∷ by_ui (rows.Accepted (r 4) None (requests.Load (n 2) modes.Auto (codes "http://a.test/g"))) (rows.Started (r 4) None ∷ sent 6 1 0 3 (whys.Req (r 4)) (tasks.Ask 1 leavings.Load) ∷ [])
+    ∷ by_proc 1 (rows.Taken (p 1) (j 5) true false) []
+    ∷ by_proc 1 (rows.Finished (p 1) (j 5) (outcomes.Asked verdicts.Prompt)) []
+    ∷ by_coord (rows.Delivered (p 1)) (rows.Prompted (r 3) (d 2) ∷ [])
+    ∷ by_proc 1 (rows.Taken (p 1) (j 6) true false) []
+    ∷ by_proc 1 (rows.Finished (p 1) (j 6) (outcomes.Asked verdicts.Prompt)) []
+    ∷ by_coord (rows.Delivered (p 1)) (rows.Prompted (r 4) (d 3) ∷ [])
+    ∷ by_ui (rows.Answered (r 3) true) (rows.Dropped (r 3) drops.Stay ∷ rows.Dropped (r 4) drops.Stay ∷ [])
+    ∷ []
+
+pub stay_of_another_is_refused : IsLegal (log_of stay_of_another) → ⊥
+unfolding url_on_literals is_web is_blank_url judged judged_parse read_against address_of url_of resolved with_fragment base_of fragment_of origin_text origin_of has_same_base is_rewritable events_of each_event after_opening AtEachEvent is_numbered opens is_formed is_once is_caused is_queued is_ordered is_checked ends_settled loads_end ends_told ends_stepped goes_in_time
+stay_of_another_is_refused holds = false≢true holds.caused
+
+-- load_is_gone: without conjunct `is_bereft_above p (end_of p row) q death`, `caused` would hold.
+abbrev pub gone_with_nothing_above : List Event
+gone_with_nothing_above =
+    by_start (rows.Opened (e 0 1) (s 1) (d 1) (p 1) None (codes "http://a.test/")) []
+    ∷ by_ui (rows.Accepted (r 1) None (requests.Load (n 0) modes.Auto (codes "http://a.test/1"))) (rows.Started (r 1) None ∷ sent 1 1 0 2 (whys.Req (r 1)) (tasks.Populate (n 0) (s 2) (codes "http://a.test/1") false) ∷ [])
+    ∷ by_ui (rows.Killed (p 1) (x 1)) []
+    ∷ by_coord (rows.Delivered (p 1)) (rows.Dropped (r 1) (drops.Gone (x 1)) ∷ [])
+    ∷ []
+
+pub gone_with_nothing_above_is_refused : IsLegal (log_of gone_with_nothing_above) → ⊥
+unfolding url_on_literals is_web is_blank_url judged judged_parse read_against address_of url_of resolved with_fragment base_of fragment_of origin_text origin_of has_same_base is_rewritable events_of each_event after_opening AtEachEvent is_numbered opens is_formed is_once is_caused is_queued is_ordered is_checked ends_settled loads_end ends_told ends_stepped goes_in_time
+gone_with_nothing_above_is_refused holds = false≢true holds.caused
+
+-- is_destroyed_by: without conjunct `not (is_traversal q.what)`, `caused` would hold.
+abbrev pub traversal_destroyed : List Event
+traversal_destroyed =
+    before 10 push_beside_a_frame
+    ++ by_ui (rows.Accepted (r 2) (Some (d 2)) (requests.Poke (n 1) (actions.Go (negsuc 0)))) []
+    ∷ by_ui (rows.Accepted (r 3) (Some (d 1)) (requests.Poke (n 0) (actions.RemoveFrame (n 1)))) []
+    ∷ by_proc 1 (made 1 2 2 1 (whats.Go (negsuc 0))) []
+    ∷ by_proc 1 (made 1 3 1 1 (whats.RemoveFrame (n 1))) []
+    ∷ by_coord (rows.Delivered (p 1)) (rows.Refused (r 2) denials.NoStep ∷ [])
+    ∷ by_coord (rows.Delivered (p 1)) (rows.Applied (r 3) (changes.RemoveFrame (n 1)) ∷ rows.Dropped (r 2) (drops.Destroyed (r 3)) ∷ [])
+    ∷ []
+
+pub traversal_destroyed_is_refused : IsLegal (log_of traversal_destroyed) → ⊥
+unfolding url_on_literals is_web is_blank_url judged judged_parse read_against address_of url_of resolved with_fragment base_of fragment_of origin_text origin_of has_same_base is_rewritable events_of each_event after_opening AtEachEvent is_numbered opens is_formed is_once is_caused is_queued is_ordered is_checked ends_settled loads_end ends_told ends_stepped goes_in_time
+traversal_destroyed_is_refused holds = false≢true holds.caused

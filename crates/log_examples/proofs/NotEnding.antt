@@ -17,7 +17,7 @@ use Rattle.log_model.specs.LoadsEndInTime.{LoadsEndInTime, loads_end}
 use Rattle.log_model.specs.ActsAtOnce.{ends_told, ends_stepped, goes_in_time}
 use Rattle.log_examples.specs.Rows.{n, s, r, p, t, d, e, epoch, sent}
 use Rattle.log_examples.specs.Logs.{Event, by_start, by_ui, by_coord, log_of, before, since}
-use Rattle.log_examples.proofs.Loads.{load_ended_by_a_traversal, load_ended_by_a_reload}
+use Rattle.log_examples.proofs.Loads.{later_load, load_ended_by_a_traversal, load_ended_by_a_reload}
 use Rattle.log_examples.proofs.Frames.{load_while_frames_are_moved}
 use Rattle.log_examples.proofs.Deaths.{load_below_a_lost_navigable}
 use Rattle.log_examples.proofs.Pending.{load_over_a_frame}
@@ -56,24 +56,35 @@ pub is_on_untouched_way_1_is_refused : LoadsEndInTime (log_of is_on_untouched_wa
 unfolding url_on_literals is_web is_blank_url judged judged_parse read_against address_of url_of resolved with_fragment base_of fragment_of origin_text origin_of has_same_base is_rewritable events_of each_event after_opening AtEachEvent is_numbered opens is_formed is_once is_caused is_queued is_ordered is_checked ends_settled loads_end ends_told ends_stepped goes_in_time
 is_on_untouched_way_1_is_refused holds = false≢true holds
 
--- may_be_loaded: without conjunct `is_shown e.history.rows (aim_of e) nav`, it would be in time.
+-- may_be_loaded: without conjunct `has_row nav e.history.rows`, it would be in time.
 abbrev pub may_be_loaded_1 : List Event
 may_be_loaded_1 =
-    before 14 load_over_a_frame
-    ++ by_ui (rows.Accepted (r 3) None (requests.Load (n 1) modes.Replace (codes "about:blank"))) (rows.Started (r 3) (Some (t 1)) ∷ [])
+    before 3 later_load
+    ++ by_ui (rows.Answered (r 2) false) (rows.Applied (r 3) (changes.RemoveFrame (n 0)) ∷ [])
     ∷ []
 
 pub may_be_loaded_1_is_refused : LoadsEndInTime (log_of may_be_loaded_1) → ⊥
 unfolding url_on_literals is_web is_blank_url judged judged_parse read_against address_of url_of resolved with_fragment base_of fragment_of origin_text origin_of has_same_base is_rewritable events_of each_event after_opening AtEachEvent is_numbered opens is_formed is_once is_caused is_queued is_ordered is_checked ends_settled loads_end ends_told ends_stepped goes_in_time
 may_be_loaded_1_is_refused holds = false≢true holds
 
--- may_be_loaded: without test `not (is_below_known_lost e place)`, it would be in time.
+-- may_be_loaded: without conjunct `is_shown e.history.rows (aim_of e) nav`, it would be in time.
 abbrev pub may_be_loaded_2 : List Event
 may_be_loaded_2 =
-    before 12 load_below_a_lost_navigable
-    ++ by_coord (rows.Delivered (p 1)) []
+    before 14 load_over_a_frame
+    ++ by_ui (rows.Accepted (r 3) None (requests.Load (n 1) modes.Replace (codes "about:blank"))) (rows.Started (r 3) (Some (t 1)) ∷ [])
     ∷ []
 
 pub may_be_loaded_2_is_refused : LoadsEndInTime (log_of may_be_loaded_2) → ⊥
 unfolding url_on_literals is_web is_blank_url judged judged_parse read_against address_of url_of resolved with_fragment base_of fragment_of origin_text origin_of has_same_base is_rewritable events_of each_event after_opening AtEachEvent is_numbered opens is_formed is_once is_caused is_queued is_ordered is_checked ends_settled loads_end ends_told ends_stepped goes_in_time
 may_be_loaded_2_is_refused holds = false≢true holds
+
+-- may_be_loaded: without test `not (is_below_known_lost e place)`, it would be in time.
+abbrev pub may_be_loaded_3 : List Event
+may_be_loaded_3 =
+    before 12 load_below_a_lost_navigable
+    ++ by_coord (rows.Delivered (p 1)) []
+    ∷ []
+
+pub may_be_loaded_3_is_refused : LoadsEndInTime (log_of may_be_loaded_3) → ⊥
+unfolding url_on_literals is_web is_blank_url judged judged_parse read_against address_of url_of resolved with_fragment base_of fragment_of origin_text origin_of has_same_base is_rewritable events_of each_event after_opening AtEachEvent is_numbered opens is_formed is_once is_caused is_queued is_ordered is_checked ends_settled loads_end ends_told ends_stepped goes_in_time
+may_be_loaded_3_is_refused holds = false≢true holds

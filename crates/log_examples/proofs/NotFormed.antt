@@ -6,6 +6,8 @@ use Rattle.url.proofs.OnLiterals.{url_on_literals}
 use Rattle.address.specs.Addresses.{is_web, is_blank_url, judged, judged_parse, read_against, address_of, url_of, resolved, with_fragment, base_of, fragment_of, origin_text, origin_of, has_same_base, is_rewritable}
 use Rattle.log_model.specs.declared.action.Action.TheVariants as actions
 use Rattle.log_model.specs.declared.change.Change.TheVariants as changes
+use Rattle.log_model.specs.declared.handler.LeaveCause.TheVariants as leavings
+use Rattle.log_model.specs.declared.handler.Verdict.TheVariants as verdicts
 use Rattle.log_model.specs.declared.job.Task.TheVariants as tasks
 use Rattle.log_model.specs.declared.job.Why.TheVariants as whys
 use Rattle.log_model.specs.declared.made.What.TheVariants as whats
@@ -22,11 +24,11 @@ use Rattle.log_model.specs.LoadsEndInTime.{loads_end}
 use Rattle.log_model.specs.ActsAtOnce.{ends_told, ends_stepped, goes_in_time}
 use Rattle.log_examples.specs.Rows.{n, s, r, p, t, x, d, j, e, sent, made}
 use Rattle.log_examples.specs.Logs.{Event, by_start, by_ui, by_coord, by_proc, log_of, before, since}
-use Rattle.log_examples.proofs.Pushes.{one_push, push_beside_a_frame, push_in_an_initial_document, push_to_another_origin}
+use Rattle.log_examples.proofs.Pushes.{one_push, push_beside_a_frame, push_in_an_initial_document}
 use Rattle.log_examples.proofs.Traversals.{document_goes_back}
 use Rattle.log_examples.proofs.Loads.{evicted_documents, fragment_load}
-use Rattle.log_examples.proofs.Prompts.{leave, one_prompt_for_two, load_behind_a_prompt, load_behind_an_answer}
-use Rattle.log_examples.proofs.Deaths.{void_order, load_below_a_lost_navigable}
+use Rattle.log_examples.proofs.Prompts.{stay, leave, one_prompt_for_two, load_behind_a_prompt, load_behind_an_answer, load_dropped_before_its_answer}
+use Rattle.log_examples.proofs.Deaths.{void_order}
 use Rattle.log_examples.proofs.Pending.{two_pushes_on_their_way}
 
 -- An order is taken before the first one of the mail.
@@ -315,8 +317,8 @@ is_said_rightly_2_is_refused holds = false≢true holds.formed
 -- is_said_rightly: by_kind: were equation 12 true, `formed` would hold.
 abbrev pub is_said_rightly_3 : List Event
 is_said_rightly_3 =
-    before 3 load_below_a_lost_navigable
-    ++ by_coord (rows.Delivered (p 1)) (rows.Dropped (r 2) drops.Stay ∷ sent 1 1 0 2 (whys.Req (r 1)) (tasks.Populate (n 1) (s 2) (codes "about:blank") true) ∷ [])
+    before 3 push_in_an_initial_document
+    ++ by_coord (rows.Delivered (p 1)) (rows.Dropped (r 2) drops.Stay ∷ rows.Applied (r 1) (changes.Replace (n 0) (e 0 1) (e 1 1) (s 1) (codes "about:blank") (Some (codes "s"))) ∷ [])
     ∷ []
 
 pub is_said_rightly_3_is_refused : IsLegal (log_of is_said_rightly_3) → ⊥
@@ -370,8 +372,8 @@ may_begin_2_is_refused holds = false≢true holds.formed
 -- may_begin: were equation 9 true, `formed` would hold.
 abbrev pub may_begin_3 : List Event
 may_begin_3 =
-    before 3 push_to_another_origin
-    ++ by_proc 1 (rows.Refused (r 2) denials.BadAddress) []
+    before 3 push_in_an_initial_document
+    ++ by_proc 1 (rows.Refused (r 1) denials.BadAddress) []
     ∷ []
 
 pub may_begin_3_is_refused : IsLegal (log_of may_begin_3) → ⊥
@@ -479,3 +481,32 @@ request_in_1 =
 pub request_in_1_is_refused : IsLegal (log_of request_in_1) → ⊥
 unfolding url_on_literals is_web is_blank_url judged judged_parse read_against address_of url_of resolved with_fragment base_of fragment_of origin_text origin_of has_same_base is_rewritable events_of each_event after_opening AtEachEvent is_numbered opens is_formed is_once is_caused is_queued is_ordered is_checked ends_settled loads_end ends_told ends_stepped goes_in_time
 request_in_1_is_refused holds = false≢true holds.formed
+
+-- may_follow: were equation 2 true, `formed` would hold.
+abbrev pub may_follow_answered : List Event
+may_follow_answered =
+    before 17 stay
+    ++ by_ui (rows.Answered (r 3) false) (rows.Killed (p 1) (x 1) ∷ [])
+    ∷ []
+
+pub may_follow_answered_is_refused : IsLegal (log_of may_follow_answered) → ⊥
+unfolding url_on_literals is_web is_blank_url judged judged_parse read_against address_of url_of resolved with_fragment base_of fragment_of origin_text origin_of has_same_base is_rewritable events_of each_event after_opening AtEachEvent is_numbered opens is_formed is_once is_caused is_queued is_ordered is_checked ends_settled loads_end ends_told ends_stepped goes_in_time
+may_follow_answered_is_refused holds = false≢true holds.formed
+
+-- awaits_answer: without conjunct `is_none q.ending`, `formed` would hold.
+abbrev pub answered_after_its_end : List Event
+answered_after_its_end =
+    before 12 load_dropped_before_its_answer
+    ++ by_proc 1 (rows.Taken (p 1) (j 4) true false) []
+    ∷ by_proc 1 (rows.Finished (p 1) (j 4) (outcomes.Asked verdicts.Prompt)) []
+    ∷ by_coord (rows.Delivered (p 1)) (rows.Prompted (r 2) (d 2) ∷ [])
+    ∷ by_ui (rows.Accepted (r 3) None (requests.Load (n 0) modes.Auto (codes "http://a.test/3"))) (rows.Dropped (r 2) (drops.By (r 3)) ∷ rows.Started (r 3) None ∷ sent 5 1 0 2 (whys.Req (r 3)) (tasks.Ask 1 leavings.Load) ∷ [])
+    ∷ by_proc 1 (rows.Taken (p 1) (j 5) true false) []
+    ∷ by_proc 1 (rows.Finished (p 1) (j 5) (outcomes.Asked verdicts.Prompt)) []
+    ∷ by_coord (rows.Delivered (p 1)) (rows.Prompted (r 3) (d 2) ∷ [])
+    ∷ by_ui (rows.Answered (r 2) false) []
+    ∷ []
+
+pub answered_after_its_end_is_refused : IsLegal (log_of answered_after_its_end) → ⊥
+unfolding url_on_literals is_web is_blank_url judged judged_parse read_against address_of url_of resolved with_fragment base_of fragment_of origin_text origin_of has_same_base is_rewritable events_of each_event after_opening AtEachEvent is_numbered opens is_formed is_once is_caused is_queued is_ordered is_checked ends_settled loads_end ends_told ends_stepped goes_in_time
+answered_after_its_end_is_refused holds = false≢true holds.formed

@@ -28,7 +28,7 @@ use Rattle.log_examples.proofs.Loads.{later_load, load_ended_by_a_reload, fragme
 use Rattle.log_examples.proofs.Frames.{frame_replaced, taken_number}
 use Rattle.log_examples.proofs.Removals.{removed_frame, push_of_a_removed_frame}
 use Rattle.log_examples.proofs.Prompts.{stay, load_behind_a_prompt}
-use Rattle.log_examples.proofs.Pending.{push_behind_a_traversal, traversal_beside_a_push, load_over_a_frame}
+use Rattle.log_examples.proofs.Pending.{two_pushes_on_their_way, push_behind_a_traversal, traversal_beside_a_push, load_over_a_frame}
 
 -- A request is applied twice.
 abbrev pub two_outcomes : List Event
@@ -197,6 +197,30 @@ same_change_4 =
 pub same_change_4_is_refused : IsLegal (log_of same_change_4) → ⊥
 unfolding url_on_literals is_web is_blank_url judged judged_parse read_against address_of url_of resolved with_fragment base_of fragment_of origin_text origin_of has_same_base is_rewritable events_of each_event after_opening AtEachEvent is_numbered opens is_formed is_once is_caused is_queued is_ordered is_checked ends_settled loads_end ends_told ends_stepped goes_in_time
 same_change_4_is_refused holds = false≢true holds.once
+
+-- same_delta: were `a == b` turned, `once` would hold.
+abbrev pub same_delta_1 : List Event
+same_delta_1 =
+    by_start (rows.Opened (e 0 1) (s 1) (d 1) (p 1) None (codes "http://a.test/p0")) []
+    ∷ by_ui (rows.Accepted (r 1) (Some (d 1)) (requests.Poke (n 0) (actions.Push (Some (codes "s")) (Some (codes "/q0"))))) []
+    ∷ by_proc 1 (made 1 1 1 1 (whats.Push (e 1 1) (Some (codes "s")) (codes "http://a.test/q0"))) []
+    ∷ by_coord (rows.Delivered (p 1)) (rows.Applied (r 1) (changes.Push (n 0) (e 1 1) (s 1) (codes "http://a.test/q0") (Some (codes "s"))) ∷ sent 1 1 0 1 (whys.Req (r 1)) (tasks.Update 2 1) ∷ [])
+    ∷ by_proc 1 (rows.Taken (p 1) (j 1) true false) []
+    ∷ by_proc 1 (rows.Finished (p 1) (j 1) outcomes.Updated) []
+    ∷ by_coord (rows.Delivered (p 1)) []
+    ∷ by_ui (rows.Accepted (r 2) (Some (d 1)) (requests.Poke (n 0) (actions.Push (Some (codes "s")) None))) []
+    ∷ by_proc 1 (made 1 2 1 1 (whats.Push (e 1 2) (Some (codes "s")) (codes "http://a.test/q0"))) []
+    ∷ by_coord (rows.Delivered (p 1)) (rows.Applied (r 2) (changes.Push (n 0) (e 1 2) (s 1) (codes "http://a.test/q0") (Some (codes "s"))) ∷ sent 2 1 0 1 (whys.Req (r 2)) (tasks.Update 3 2) ∷ [])
+    ∷ by_proc 1 (rows.Taken (p 1) (j 2) true false) []
+    ∷ by_proc 1 (rows.Finished (p 1) (j 2) outcomes.Updated) []
+    ∷ by_coord (rows.Delivered (p 1)) []
+    ∷ by_ui (rows.Accepted (r 3) (Some (d 1)) (requests.Poke (n 0) (actions.Go (pos 1)))) []
+    ∷ by_proc 1 (made 1 3 1 1 (whats.Go (pos 2))) []
+    ∷ []
+
+pub same_delta_1_is_refused : IsLegal (log_of same_delta_1) → ⊥
+unfolding url_on_literals is_web is_blank_url judged judged_parse read_against address_of url_of resolved with_fragment base_of fragment_of origin_text origin_of has_same_base is_rewritable events_of each_event after_opening AtEachEvent is_numbered opens is_formed is_once is_caused is_queued is_ordered is_checked ends_settled loads_end ends_told ends_stepped goes_in_time
+same_delta_1_is_refused holds = false≢true holds.once
 
 -- same_new_entry: were equation 3 true, `once` would hold.
 abbrev pub same_new_entry_1 : List Event
@@ -550,6 +574,17 @@ pub is_once_row_5_is_refused : IsLegal (log_of is_once_row_5) → ⊥
 unfolding url_on_literals is_web is_blank_url judged judged_parse read_against address_of url_of resolved with_fragment base_of fragment_of origin_text origin_of has_same_base is_rewritable events_of each_event after_opening AtEachEvent is_numbered opens is_formed is_once is_caused is_queued is_ordered is_checked ends_settled loads_end ends_told ends_stepped goes_in_time
 is_once_row_5_is_refused holds = false≢true holds.once
 
+-- load_begins: without conjunct `list_all (is_placed p.now (aim_of p.now)) (way_to p.now nav)`, `once` would hold.
+abbrev pub load_begins_2 : List Event
+load_begins_2 =
+    before 5 push_of_a_removed_frame
+    ++ by_ui (rows.Accepted (r 2) None (requests.Load (n 1) modes.Auto (codes "http://b.test/p0#x"))) (rows.Started (r 2) None ∷ rows.Refused (r 2) denials.NotShown ∷ [])
+    ∷ []
+
+pub load_begins_2_is_refused : IsLegal (log_of load_begins_2) → ⊥
+unfolding url_on_literals is_web is_blank_url judged judged_parse read_against address_of url_of resolved with_fragment base_of fragment_of origin_text origin_of has_same_base is_rewritable events_of each_event after_opening AtEachEvent is_numbered opens is_formed is_once is_caused is_queued is_ordered is_checked ends_settled loads_end ends_told ends_stepped goes_in_time
+load_begins_2_is_refused holds = false≢true holds.once
+
 -- may_begin_request: by_request: were equation 2 true, `once` would hold.
 abbrev pub may_begin_request_1 : List Event
 may_begin_request_1 =
@@ -561,13 +596,61 @@ pub may_begin_request_1_is_refused : IsLegal (log_of may_begin_request_1) → �
 unfolding url_on_literals is_web is_blank_url judged judged_parse read_against address_of url_of resolved with_fragment base_of fragment_of origin_text origin_of has_same_base is_rewritable events_of each_event after_opening AtEachEvent is_numbered opens is_formed is_once is_caused is_queued is_ordered is_checked ends_settled loads_end ends_told ends_stepped goes_in_time
 may_begin_request_1_is_refused holds = false≢true holds.once
 
--- may_begin_request: without conjunct `is_none q.ending`, `once` would hold.
+-- may_begin_request: by_request: without conjunct `is_none goal`, `once` would hold.
 abbrev pub may_begin_request_2 : List Event
 may_begin_request_2 =
-    before 7 push_behind_a_traversal
-    ++ by_ui (rows.Accepted (r 2) None (requests.Go (negsuc 0))) (rows.Dropped (r 2) (drops.Destroyed (r 1)) ∷ rows.Started (r 2) (Some (t 0)) ∷ sent 2 1 0 1 (whys.Req (r 2)) (tasks.Activate (e 0 1) (epoch 2) 2 0 None (codes "http://a.test/")) ∷ [])
+    by_start (rows.Opened (e 0 1) (s 1) (d 1) (p 1) None (codes "http://a.test/")) []
+    ∷ by_ui (rows.Accepted (r 1) None (requests.Load (n 0) modes.Replace (codes "http://b.test/p0"))) (rows.Started (r 1) (Some (t 0)) ∷ [])
     ∷ []
 
 pub may_begin_request_2_is_refused : IsLegal (log_of may_begin_request_2) → ⊥
 unfolding url_on_literals is_web is_blank_url judged judged_parse read_against address_of url_of resolved with_fragment base_of fragment_of origin_text origin_of has_same_base is_rewritable events_of each_event after_opening AtEachEvent is_numbered opens is_formed is_once is_caused is_queued is_ordered is_checked ends_settled loads_end ends_told ends_stepped goes_in_time
 may_begin_request_2_is_refused holds = false≢true holds.once
+
+-- may_begin_request: by_request: without conjunct `load_begins p q nav address`, `once` would hold.
+abbrev pub may_begin_request_3 : List Event
+may_begin_request_3 =
+    by_start (rows.Opened (e 0 1) (s 1) (d 1) (p 1) None (codes "http://a.test/")) []
+    ∷ by_ui (rows.Accepted (r 1) None (requests.Load (n 0) modes.Replace (codes "http://a.test/#x"))) (rows.Started (r 1) None ∷ [])
+    ∷ []
+
+pub may_begin_request_3_is_refused : IsLegal (log_of may_begin_request_3) → ⊥
+unfolding url_on_literals is_web is_blank_url judged judged_parse read_against address_of url_of resolved with_fragment base_of fragment_of origin_text origin_of has_same_base is_rewritable events_of each_event after_opening AtEachEvent is_numbered opens is_formed is_once is_caused is_queued is_ordered is_checked ends_settled loads_end ends_told ends_stepped goes_in_time
+may_begin_request_3_is_refused holds = false≢true holds.once
+
+-- may_begin_request: without conjunct `is_none q.ending`, `once` would hold.
+abbrev pub may_begin_request_4 : List Event
+may_begin_request_4 =
+    by_start (rows.Opened (e 0 1) (s 1) (d 1) (p 1) None (codes "http://a.test/")) []
+    ∷ by_ui (rows.Accepted (r 1) None (requests.Load (n 0) modes.Replace (codes "http://a.test/1"))) (rows.Dropped (r 1) (drops.By (r 1)) ∷ rows.Started (r 1) None ∷ [])
+    ∷ []
+
+pub may_begin_request_4_is_refused : IsLegal (log_of may_begin_request_4) → ⊥
+unfolding url_on_literals is_web is_blank_url judged judged_parse read_against address_of url_of resolved with_fragment base_of fragment_of origin_text origin_of has_same_base is_rewritable events_of each_event after_opening AtEachEvent is_numbered opens is_formed is_once is_caused is_queued is_ordered is_checked ends_settled loads_end ends_told ends_stepped goes_in_time
+may_begin_request_4_is_refused holds = false≢true holds.once
+
+-- is_in_order: were equation 2 true, `once` would hold: a replace after a later push of its document.
+abbrev pub replace_applied_late : List Event
+replace_applied_late =
+    by_start (rows.Opened (e 0 1) (s 1) (d 1) (p 1) None (codes "http://a.test/")) []
+    ∷ by_ui (rows.Accepted (r 1) (Some (d 1)) (requests.Poke (n 0) (actions.Replace (Some (codes "m")) None))) []
+    ∷ by_ui (rows.Accepted (r 2) (Some (d 1)) (requests.Poke (n 0) (actions.Push (Some (codes "t")) (Some (codes "/2"))))) []
+    ∷ by_proc 1 (made 1 1 1 1 (whats.Replace (e 0 1) (e 1 1) (Some (codes "m")) (codes "http://a.test/"))) []
+    ∷ by_proc 1 (made 1 2 1 1 (whats.Push (e 1 2) (Some (codes "t")) (codes "http://a.test/2"))) []
+    ∷ by_coord (rows.Delivered (p 1)) (rows.Applied (r 2) (changes.Push (n 0) (e 1 2) (s 1) (codes "http://a.test/2") (Some (codes "t"))) ∷ rows.Applied (r 1) (changes.Replace (n 0) (e 0 1) (e 1 1) (s 1) (codes "http://a.test/") (Some (codes "m"))) ∷ [])
+    ∷ []
+
+pub replace_applied_late_is_refused : IsLegal (log_of replace_applied_late) → ⊥
+unfolding url_on_literals is_web is_blank_url judged judged_parse read_against address_of url_of resolved with_fragment base_of fragment_of origin_text origin_of has_same_base is_rewritable events_of each_event after_opening AtEachEvent is_numbered opens is_formed is_once is_caused is_queued is_ordered is_checked ends_settled loads_end ends_told ends_stepped goes_in_time
+replace_applied_late_is_refused holds = false≢true holds.once
+
+-- is_in_order: were equation 1 true, `once` would hold: a push after a later one of its document.
+abbrev pub push_applied_late : List Event
+push_applied_late =
+    before 5 two_pushes_on_their_way
+    ++ by_coord (rows.Delivered (p 1)) (rows.Applied (r 2) (changes.Push (n 0) (e 1 2) (s 1) (codes "http://a.test/2") (Some (codes "t"))) ∷ rows.Applied (r 1) (changes.Push (n 0) (e 1 1) (s 1) (codes "http://a.test/1") (Some (codes "s"))) ∷ [])
+    ∷ []
+
+pub push_applied_late_is_refused : IsLegal (log_of push_applied_late) → ⊥
+unfolding url_on_literals is_web is_blank_url judged judged_parse read_against address_of url_of resolved with_fragment base_of fragment_of origin_text origin_of has_same_base is_rewritable events_of each_event after_opening AtEachEvent is_numbered opens is_formed is_once is_caused is_queued is_ordered is_checked ends_settled loads_end ends_told ends_stepped goes_in_time
+push_applied_late_is_refused holds = false≢true holds.once

@@ -24,7 +24,7 @@ use Rattle.log_model.specs.LoadsEndInTime.{loads_end}
 use Rattle.log_model.specs.ActsAtOnce.{ends_told, ends_stepped, goes_in_time}
 use Rattle.log_examples.specs.Rows.{n, s, r, p, t, x, d, j, e, epoch, sent, made}
 use Rattle.log_examples.specs.Logs.{Event, by_start, by_ui, by_coord, by_proc, log_of, before, since}
-use Rattle.log_examples.proofs.Pushes.{one_push, replace_and_fragment, push_after_a_death, push_beside_a_frame}
+use Rattle.log_examples.proofs.Pushes.{one_push, push_after_a_death, push_beside_a_frame}
 use Rattle.log_examples.proofs.Traversals.{document_goes_back}
 use Rattle.log_examples.proofs.Interleavings.{held_back_push}
 use Rattle.log_examples.proofs.Loads.{later_load, no_document_kept, push_over_a_kept_document, evicted_documents, fragment_load}
@@ -396,8 +396,7 @@ is_sent_duly_1_is_refused holds = false≢true holds.ordered
 abbrev pub is_sent_to_fragment_1 : List Event
 is_sent_to_fragment_1 =
     by_start (rows.Opened (e 0 1) (s 1) (d 1) (p 1) None (codes "http://a.test/")) []
-    ∷ by_ui (rows.Accepted (r 1) None (requests.Go (pos 5))) (rows.Refused (r 1) denials.NoStep ∷ [])
-    ∷ by_ui (rows.Accepted (r 2) None (requests.Go (pos 0))) (rows.Started (r 2) (Some (t 1)) ∷ sent 1 1 0 1 (whys.Req (r 2)) (tasks.DoFragment (r 2) modes.Auto (codes "about:blank")) ∷ [])
+    ∷ by_ui (rows.Accepted (r 1) None (requests.Reload (n 0))) (rows.Started (r 1) None ∷ sent 1 1 0 1 (whys.Req (r 1)) (tasks.DoFragment (r 1) modes.Auto (codes "http://a.test/#x")) ∷ rows.Refused (r 1) denials.NoStep ∷ [])
     ∷ []
 
 pub is_sent_to_fragment_1_is_refused : IsLegal (log_of is_sent_to_fragment_1) → ⊥
@@ -490,27 +489,50 @@ pub is_unneeded_1_is_refused : IsLegal (log_of is_unneeded_1) → ⊥
 unfolding url_on_literals is_web is_blank_url judged judged_parse read_against address_of url_of resolved with_fragment base_of fragment_of origin_text origin_of has_same_base is_rewritable events_of each_event after_opening AtEachEvent is_numbered opens is_formed is_once is_caused is_queued is_ordered is_checked ends_settled loads_end ends_told ends_stepped goes_in_time
 is_unneeded_1_is_refused holds = false≢true holds.ordered
 
--- is_unneeded: without conjunct `not (list_any (is_target p.now d.state) p.now.places)`, `ordered` would hold.
+-- is_unneeded: without conjunct `is_none (ongoing_load p.now d.state)`, `ordered` would hold.
 abbrev pub is_unneeded_2 : List Event
 is_unneeded_2 =
-    before 6 taken_number
-    ++ by_coord (rows.Delivered (p 1)) (sent 2 1 0 2 (whys.Req (r 1)) tasks.Discard ∷ [])
+    by_start (rows.Opened (e 0 1) (s 1) (d 1) (p 1) None (codes "about:blank")) []
+    ∷ by_ui (rows.Accepted (r 1) (Some (d 1)) (requests.Poke (n 0) (actions.AddFrame (n 1)))) []
+    ∷ by_proc 1 (made 1 1 1 1 (whats.AddFrame (n 1))) []
+    ∷ by_coord (rows.Delivered (p 1)) (rows.Applied (r 1) (changes.AddFrame (s 1) (n 1) (e 0 2) (s 2)) ∷ sent 1 1 0 2 (whys.Req (r 1)) (tasks.Populate (n 1) (s 2) (codes "about:blank") true) ∷ [])
+    ∷ by_proc 1 (rows.Taken (p 1) (j 1) true false) []
+    ∷ by_proc 1 (rows.Finished (p 1) (j 1) (outcomes.Populated None)) []
+    ∷ by_coord (rows.Delivered (p 1)) (sent 2 1 0 2 (whys.Req (r 1)) (tasks.Activate (e 0 2) (epoch 1) 1 0 None (codes "about:blank")) ∷ [])
+    ∷ by_proc 1 (rows.Taken (p 1) (j 2) true false) []
+    ∷ by_proc 1 (rows.Finished (p 1) (j 2) outcomes.Activated) []
+    ∷ by_coord (rows.Delivered (p 1)) []
+    ∷ by_ui (rows.Accepted (r 2) None (requests.Load (n 1) modes.Auto (codes "http://b.test/p1"))) (rows.Started (r 2) None ∷ sent 3 1 0 3 (whys.Req (r 2)) (tasks.Populate (n 1) (s 3) (codes "http://b.test/p1") false) ∷ [])
+    ∷ by_proc 1 (rows.Taken (p 1) (j 3) true false) []
+    ∷ by_proc 1 (rows.Finished (p 1) (j 3) (outcomes.Populated None)) []
+    ∷ by_coord (rows.Delivered (p 1)) (sent 4 1 0 3 (whys.Req (r 2)) tasks.Discard ∷ [])
     ∷ []
 
 pub is_unneeded_2_is_refused : IsLegal (log_of is_unneeded_2) → ⊥
 unfolding url_on_literals is_web is_blank_url judged judged_parse read_against address_of url_of resolved with_fragment base_of fragment_of origin_text origin_of has_same_base is_rewritable events_of each_event after_opening AtEachEvent is_numbered opens is_formed is_once is_caused is_queued is_ordered is_checked ends_settled loads_end ends_told ends_stepped goes_in_time
 is_unneeded_2_is_refused holds = false≢true holds.ordered
 
--- is_unneeded: without test `tells_made d`, `ordered` would hold.
+-- is_unneeded: without conjunct `not (list_any (is_target p.now d.state) p.now.places)`, `ordered` would hold.
 abbrev pub is_unneeded_3 : List Event
 is_unneeded_3 =
-    before 33 reload_of_a_hidden_frame
-    ++ by_coord (rows.Delivered (p 1)) (sent 10 1 0 2 (whys.Req (r 4)) tasks.Discard ∷ [])
+    before 6 taken_number
+    ++ by_coord (rows.Delivered (p 1)) (sent 2 1 0 2 (whys.Req (r 1)) tasks.Discard ∷ [])
     ∷ []
 
 pub is_unneeded_3_is_refused : IsLegal (log_of is_unneeded_3) → ⊥
 unfolding url_on_literals is_web is_blank_url judged judged_parse read_against address_of url_of resolved with_fragment base_of fragment_of origin_text origin_of has_same_base is_rewritable events_of each_event after_opening AtEachEvent is_numbered opens is_formed is_once is_caused is_queued is_ordered is_checked ends_settled loads_end ends_told ends_stepped goes_in_time
 is_unneeded_3_is_refused holds = false≢true holds.ordered
+
+-- is_unneeded: without test `tells_made d`, `ordered` would hold.
+abbrev pub is_unneeded_4 : List Event
+is_unneeded_4 =
+    before 33 reload_of_a_hidden_frame
+    ++ by_coord (rows.Delivered (p 1)) (sent 10 1 0 2 (whys.Req (r 4)) tasks.Discard ∷ [])
+    ∷ []
+
+pub is_unneeded_4_is_refused : IsLegal (log_of is_unneeded_4) → ⊥
+unfolding url_on_literals is_web is_blank_url judged judged_parse read_against address_of url_of resolved with_fragment base_of fragment_of origin_text origin_of has_same_base is_rewritable events_of each_event after_opening AtEachEvent is_numbered opens is_formed is_once is_caused is_queued is_ordered is_checked ends_settled loads_end ends_told ends_stepped goes_in_time
+is_unneeded_4_is_refused holds = false≢true holds.ordered
 
 -- is_usable: without conjunct `not d.is_known_dead`, `ordered` would hold.
 abbrev pub is_usable_1 : List Event
@@ -552,38 +574,49 @@ pub needs_document_2_is_refused : IsLegal (log_of needs_document_2) → ⊥
 unfolding url_on_literals is_web is_blank_url judged judged_parse read_against address_of url_of resolved with_fragment base_of fragment_of origin_text origin_of has_same_base is_rewritable events_of each_event after_opening AtEachEvent is_numbered opens is_formed is_once is_caused is_queued is_ordered is_checked ends_settled loads_end ends_told ends_stepped goes_in_time
 needs_document_2_is_refused holds = false≢true holds.ordered
 
--- populates_load: loads_there: without conjunct `n.0 == nav.0`, `ordered` would hold.
+-- populates_load: loads_there: without conjunct `bytes_eq a address`, `ordered` would hold.
 abbrev pub populates_load_1 : List Event
 populates_load_1 =
     by_start (rows.Opened (e 0 1) (s 1) (d 1) (p 1) None (codes "http://a.test/")) []
-    ∷ by_ui (rows.Accepted (r 1) None (requests.Load (n 1) modes.Auto (codes "http://a.test/1"))) (rows.Started (r 1) None ∷ sent 1 1 0 2 (whys.Req (r 1)) (tasks.Populate (n 0) (s 2) (codes "http://a.test/1") false) ∷ [])
+    ∷ by_ui (rows.Accepted (r 1) None (requests.Load (n 0) modes.Auto (codes "http://a.test/1"))) (rows.Started (r 1) None ∷ sent 1 1 0 2 (whys.Req (r 1)) (tasks.Populate (n 0) (s 2) (codes "http://a.test/") false) ∷ [])
     ∷ []
 
 pub populates_load_1_is_refused : IsLegal (log_of populates_load_1) → ⊥
 unfolding url_on_literals is_web is_blank_url judged judged_parse read_against address_of url_of resolved with_fragment base_of fragment_of origin_text origin_of has_same_base is_rewritable events_of each_event after_opening AtEachEvent is_numbered opens is_formed is_once is_caused is_queued is_ordered is_checked ends_settled loads_end ends_told ends_stepped goes_in_time
 populates_load_1_is_refused holds = false≢true holds.ordered
 
--- populates_load: without conjunct `has_passed s q`, `ordered` would hold.
+-- populates_load: loads_there: without conjunct `n.0 == nav.0`, `ordered` would hold.
 abbrev pub populates_load_2 : List Event
 populates_load_2 =
-    before 15 load_behind_an_answer
-    ++ by_proc 1 (rows.Finished (p 1) (j 4) (outcomes.Asked verdicts.Prompt)) (sent 5 1 0 3 (whys.Req (r 3)) (tasks.Populate (n 0) (s 3) (codes "http://a.test/2") false) ∷ [])
+    by_start (rows.Opened (e 0 1) (s 1) (d 1) (p 1) None (codes "http://a.test/")) []
+    ∷ by_ui (rows.Accepted (r 1) None (requests.Load (n 1) modes.Auto (codes "http://a.test/1"))) (rows.Started (r 1) None ∷ sent 1 1 0 2 (whys.Req (r 1)) (tasks.Populate (n 0) (s 2) (codes "http://a.test/1") false) ∷ [])
     ∷ []
 
 pub populates_load_2_is_refused : IsLegal (log_of populates_load_2) → ⊥
 unfolding url_on_literals is_web is_blank_url judged judged_parse read_against address_of url_of resolved with_fragment base_of fragment_of origin_text origin_of has_same_base is_rewritable events_of each_event after_opening AtEachEvent is_numbered opens is_formed is_once is_caused is_queued is_ordered is_checked ends_settled loads_end ends_told ends_stepped goes_in_time
 populates_load_2_is_refused holds = false≢true holds.ordered
 
--- populates_load: without conjunct `not initial`, `ordered` would hold.
+-- populates_load: without conjunct `has_passed s q`, `ordered` would hold.
 abbrev pub populates_load_3 : List Event
 populates_load_3 =
-    by_start (rows.Opened (e 0 1) (s 1) (d 1) (p 1) None (codes "http://a.test/")) []
-    ∷ by_ui (rows.Accepted (r 1) None (requests.Load (n 0) modes.Push (codes "about:blank"))) (rows.Started (r 1) (Some (t 1)) ∷ sent 1 1 0 2 (whys.Req (r 1)) (tasks.Populate (n 0) (s 2) (codes "about:blank") true) ∷ [])
+    before 15 load_behind_an_answer
+    ++ by_proc 1 (rows.Finished (p 1) (j 4) (outcomes.Asked verdicts.Prompt)) (sent 5 1 0 3 (whys.Req (r 3)) (tasks.Populate (n 0) (s 3) (codes "http://a.test/2") false) ∷ [])
     ∷ []
 
 pub populates_load_3_is_refused : IsLegal (log_of populates_load_3) → ⊥
 unfolding url_on_literals is_web is_blank_url judged judged_parse read_against address_of url_of resolved with_fragment base_of fragment_of origin_text origin_of has_same_base is_rewritable events_of each_event after_opening AtEachEvent is_numbered opens is_formed is_once is_caused is_queued is_ordered is_checked ends_settled loads_end ends_told ends_stepped goes_in_time
 populates_load_3_is_refused holds = false≢true holds.ordered
+
+-- populates_load: without conjunct `not initial`, `ordered` would hold.
+abbrev pub populates_load_4 : List Event
+populates_load_4 =
+    by_start (rows.Opened (e 0 1) (s 1) (d 1) (p 1) None (codes "http://a.test/")) []
+    ∷ by_ui (rows.Accepted (r 1) None (requests.Load (n 0) modes.Push (codes "about:blank"))) (rows.Started (r 1) (Some (t 1)) ∷ sent 1 1 0 2 (whys.Req (r 1)) (tasks.Populate (n 0) (s 2) (codes "about:blank") true) ∷ [])
+    ∷ []
+
+pub populates_load_4_is_refused : IsLegal (log_of populates_load_4) → ⊥
+unfolding url_on_literals is_web is_blank_url judged judged_parse read_against address_of url_of resolved with_fragment base_of fragment_of origin_text origin_of has_same_base is_rewritable events_of each_event after_opening AtEachEvent is_numbered opens is_formed is_once is_caused is_queued is_ordered is_checked ends_settled loads_end ends_told ends_stepped goes_in_time
+populates_load_4_is_refused holds = false≢true holds.ordered
 
 -- populates_target: without conjunct `bytes_eq row.address address`, `ordered` would hold.
 abbrev pub populates_target_1 : List Event
@@ -606,14 +639,3 @@ populates_target_2 =
 pub populates_target_2_is_refused : IsLegal (log_of populates_target_2) → ⊥
 unfolding url_on_literals is_web is_blank_url judged judged_parse read_against address_of url_of resolved with_fragment base_of fragment_of origin_text origin_of has_same_base is_rewritable events_of each_event after_opening AtEachEvent is_numbered opens is_formed is_once is_caused is_queued is_ordered is_checked ends_settled loads_end ends_told ends_stepped goes_in_time
 populates_target_2_is_refused holds = false≢true holds.ordered
-
--- populates_target: without conjunct `row.state.0 == state.0`, `ordered` would hold.
-abbrev pub populates_target_3 : List Event
-populates_target_3 =
-    before 9 replace_and_fragment
-    ++ by_ui (rows.Accepted (r 3) None (requests.Reload (n 0))) (sent 2 1 0 2 (whys.Req (r 3)) (tasks.Populate (n 0) (s 2) (codes "http://a.test/#x") false) ∷ [])
-    ∷ []
-
-pub populates_target_3_is_refused : IsLegal (log_of populates_target_3) → ⊥
-unfolding url_on_literals is_web is_blank_url judged judged_parse read_against address_of url_of resolved with_fragment base_of fragment_of origin_text origin_of has_same_base is_rewritable events_of each_event after_opening AtEachEvent is_numbered opens is_formed is_once is_caused is_queued is_ordered is_checked ends_settled loads_end ends_told ends_stepped goes_in_time
-populates_target_3_is_refused holds = false≢true holds.ordered

@@ -20,7 +20,7 @@ use Rattle.log_model.specs.ActsAtOnce.{ends_told, ends_stepped, goes_in_time}
 use Rattle.log_examples.specs.Rows.{n, s, r, p, t, x, d, j, e, epoch, sent}
 use Rattle.log_examples.specs.Logs.{Event, by_start, by_ui, by_coord, by_proc, log_of, before, since, between}
 use Rattle.log_examples.proofs.Pushes.{replace_and_fragment, push_in_an_initial_document}
-use Rattle.log_examples.proofs.Traversals.{push_after_going_back, push_under_an_old_epoch, two_traversals_in_the_queue}
+use Rattle.log_examples.proofs.Traversals.{push_under_an_old_epoch, two_traversals_in_the_queue}
 use Rattle.log_examples.proofs.Interleavings.{push_beside_a_running_traversal, held_back_push}
 use Rattle.log_examples.proofs.Loads.{load_ended_by_a_traversal, load_of_no_navigable}
 use Rattle.log_examples.proofs.Removals.{push_of_a_removed_frame, removal_and_push, removal_and_push_of_two_processes}
@@ -104,17 +104,6 @@ load_applied_during_a_traversal =
 pub load_applied_during_a_traversal_is_refused : IsLegal (log_of load_applied_during_a_traversal) → ⊥
 unfolding url_on_literals is_web is_blank_url judged judged_parse read_against address_of url_of resolved with_fragment base_of fragment_of origin_text origin_of has_same_base is_rewritable events_of each_event after_opening AtEachEvent is_numbered opens is_formed is_once is_caused is_queued is_ordered is_checked ends_settled loads_end ends_told ends_stepped goes_in_time
 load_applied_during_a_traversal_is_refused holds = false≢true holds.queued
-
--- places_sent: were equation 2 left out, `queued` would hold.
-abbrev pub places_sent_1 : List Event
-places_sent_1 =
-    before 11 push_after_going_back
-    ++ by_coord (rows.Delivered (p 1)) (sent 3 1 0 2 (whys.Death (x 1)) (tasks.Populate (n 0) (s 1) (codes "http://a.test/") false) ∷ sent 3 1 0 1 (whys.Req (r 3)) tasks.Freeze ∷ rows.Applied (r 1) (changes.Push (n 0) (e 1 1) (s 1) (codes "http://a.test/1") (Some (codes "s1"))) ∷ [])
-    ∷ []
-
-pub places_sent_1_is_refused : IsLegal (log_of places_sent_1) → ⊥
-unfolding url_on_literals is_web is_blank_url judged judged_parse read_against address_of url_of resolved with_fragment base_of fragment_of origin_text origin_of has_same_base is_rewritable events_of each_event after_opening AtEachEvent is_numbered opens is_formed is_once is_caused is_queued is_ordered is_checked ends_settled loads_end ends_told ends_stepped goes_in_time
-places_sent_1_is_refused holds = false≢true holds.queued
 
 -- is_present: without conjunct `is_awake place`, `queued` would hold.
 abbrev pub is_present_1 : List Event

@@ -8,6 +8,7 @@ use Rattle.log_model.specs.declared.action.Action.TheVariants as actions
 use Rattle.log_model.specs.declared.change.Change.TheVariants as changes
 use Rattle.log_model.specs.declared.job.Task.TheVariants as tasks
 use Rattle.log_model.specs.declared.job.Why.TheVariants as whys
+use Rattle.log_model.specs.declared.made.What.TheVariants as whats
 use Rattle.log_model.specs.declared.outcome.Cause.TheVariants as drops
 use Rattle.log_model.specs.declared.request.Request.TheVariants as requests
 use Rattle.log_model.specs.declared.row_kind.RowKind.TheVariants as rows
@@ -16,9 +17,9 @@ use Rattle.log_model.specs.Formed.{is_numbered}
 use Rattle.log_model.specs.Legal.{IsLegal, opens, is_formed, is_once, is_caused, is_queued, is_ordered, is_checked, ends_settled}
 use Rattle.log_model.specs.LoadsEndInTime.{loads_end}
 use Rattle.log_model.specs.ActsAtOnce.{ends_told, ends_stepped, goes_in_time}
-use Rattle.log_examples.specs.Rows.{n, s, r, p, t, x, d, j, e, sent}
+use Rattle.log_examples.specs.Rows.{n, s, r, p, t, x, d, j, e, sent, made}
 use Rattle.log_examples.specs.Logs.{Event, by_start, by_ui, by_coord, by_proc, log_of, before, between}
-use Rattle.log_examples.proofs.Pushes.{push_beside_a_frame, push_in_an_initial_document}
+use Rattle.log_examples.proofs.Pushes.{replace_and_fragment, push_beside_a_frame, push_in_an_initial_document}
 use Rattle.log_examples.proofs.Loads.{two_processes}
 use Rattle.log_examples.proofs.Frames.{taken_number}
 use Rattle.log_examples.proofs.Removals.{removal_and_push}
@@ -81,16 +82,27 @@ pub desk_dropped_1_is_refused : IsLegal (log_of desk_dropped_1) → ⊥
 unfolding url_on_literals is_web is_blank_url judged judged_parse read_against address_of url_of resolved with_fragment base_of fragment_of origin_text origin_of has_same_base is_rewritable events_of each_event after_opening AtEachEvent is_numbered opens is_formed is_once is_caused is_queued is_ordered is_checked ends_settled loads_end ends_told ends_stepped goes_in_time
 desk_dropped_1_is_refused holds = false≢true holds.settled
 
+-- follows_finished: without conjunct `is_some s.just_finished`, `settled` would hold.
+abbrev pub follows_finished_2 : List Event
+follows_finished_2 =
+    before 3 replace_and_fragment
+    ++ by_proc 1 (made 1 1 1 1 whats.Edit) (made 1 1 1 1 whats.Edit ∷ [])
+    ∷ []
+
+pub follows_finished_2_is_refused : IsLegal (log_of follows_finished_2) → ⊥
+unfolding url_on_literals is_web is_blank_url judged judged_parse read_against address_of url_of resolved with_fragment base_of fragment_of origin_text origin_of has_same_base is_rewritable events_of each_event after_opening AtEachEvent is_numbered opens is_formed is_once is_caused is_queued is_ordered is_checked ends_settled loads_end ends_told ends_stepped goes_in_time
+follows_finished_2_is_refused holds = false≢true holds.settled
+
 -- replaced_row: without conjunct `same_entry row.entry over`, `settled` would hold.
-abbrev pub replaced_row_1 : List Event
-replaced_row_1 =
+abbrev pub replaced_row_2 : List Event
+replaced_row_2 =
     before 3 push_in_an_initial_document
     ++ by_coord (rows.Delivered (p 1)) (rows.Applied (r 1) (changes.Replace (n 0) (e 0 0) (e 1 1) (s 1) (codes "about:blank") (Some (codes "s"))) ∷ [])
     ∷ []
 
-pub replaced_row_1_is_refused : IsLegal (log_of replaced_row_1) → ⊥
+pub replaced_row_2_is_refused : IsLegal (log_of replaced_row_2) → ⊥
 unfolding url_on_literals is_web is_blank_url judged judged_parse read_against address_of url_of resolved with_fragment base_of fragment_of origin_text origin_of has_same_base is_rewritable events_of each_event after_opening AtEachEvent is_numbered opens is_formed is_once is_caused is_queued is_ordered is_checked ends_settled loads_end ends_told ends_stepped goes_in_time
-replaced_row_1_is_refused holds = false≢true holds.settled
+replaced_row_2_is_refused holds = false≢true holds.settled
 
 -- is_prompt_up: without conjunct `is_none q.answered`, `settled` would hold.
 abbrev pub is_prompt_up_1 : List Event

@@ -1,9 +1,17 @@
 -- Logs that do not suit their settings.
 -- A log is its events: those before one of another log, since one, or between two, and its own.
-use Rattle.std.proofs.Common.{true, false, [], ◌∷◌, codes}
+use Rattle.std.proofs.Common.{true, false, List, [], ◌∷◌, ◌++◌, codes, None}
 use Rattle.std.proofs.lemmas.Bool.{false≢true}
 use Rattle.url.proofs.OnLiterals.{url_on_literals}
 use Rattle.address.specs.Addresses.{is_web, is_blank_url, judged, judged_parse, read_against, address_of, url_of, resolved, with_fragment, base_of, fragment_of, origin_text, origin_of, has_same_base, is_rewritable}
+use Rattle.log_model.specs.declared.change.Change.TheVariants as changes
+use Rattle.log_model.specs.declared.job.Task.TheVariants as tasks
+use Rattle.log_model.specs.declared.job.Why.TheVariants as whys
+use Rattle.log_model.specs.declared.outcome.Denial.TheVariants as denials
+use Rattle.log_model.specs.declared.outcome.Outcome.TheVariants as outcomes
+use Rattle.log_model.specs.declared.request.Mode.TheVariants as modes
+use Rattle.log_model.specs.declared.request.Request.TheVariants as requests
+use Rattle.log_model.specs.declared.row_kind.RowKind.TheVariants as rows
 use Rattle.log_model.specs.Events.{events_of, each_event, after_opening, AtEachEvent}
 use Rattle.log_model.specs.Formed.{is_numbered}
 use Rattle.log_model.specs.Legal.{opens, is_formed, is_once, is_caused, is_queued, is_ordered, is_checked, ends_settled}
@@ -11,9 +19,9 @@ use Rattle.log_model.specs.LoadsEndInTime.{loads_end}
 use Rattle.log_model.specs.ActsAtOnce.{ends_told, ends_stepped, goes_in_time}
 use Rattle.log_model.specs.Suits.{Suits}
 use Rattle.log_model.specs.declared.header.Header.{Header}
-use Rattle.log_examples.specs.Rows.{p}
-use Rattle.log_examples.specs.Logs.{log_of}
-use Rattle.log_examples.proofs.Pushes.{opened_only}
+use Rattle.log_examples.specs.Rows.{n, s, r, p, x, j, sent}
+use Rattle.log_examples.specs.Logs.{Event, by_ui, by_coord, by_proc, log_of, before}
+use Rattle.log_examples.proofs.Pushes.{opened_only, push_beside_a_frame}
 use Rattle.log_examples.proofs.Loads.{two_processes, evicted_documents}
 use Rattle.log_examples.proofs.Prompts.{leave}
 
@@ -24,6 +32,22 @@ another_first_address_header = record { keep = 3; sites = []; pages = []; first 
 pub another_first_address_is_refused : Suits another_first_address_header (log_of opened_only) → ⊥
 unfolding url_on_literals is_web is_blank_url judged judged_parse read_against address_of url_of resolved with_fragment base_of fragment_of origin_text origin_of has_same_base is_rewritable events_of each_event after_opening AtEachEvent is_numbered opens is_formed is_once is_caused is_queued is_ordered is_checked ends_settled loads_end ends_told ends_stepped goes_in_time
 another_first_address_is_refused holds = false≢true holds.opened
+
+-- The tab opens in another process than its site says.
+abbrev pub another_first_process_header : Header
+another_first_process_header = record { keep = 3; sites = record { origin = codes "http://a.test"; proc = p 2 } ∷ []; pages = []; first = codes "http://a.test/" }
+
+pub another_first_process_is_refused : Suits another_first_process_header (log_of opened_only) → ⊥
+unfolding url_on_literals is_web is_blank_url judged judged_parse read_against address_of url_of resolved with_fragment base_of fragment_of origin_text origin_of has_same_base is_rewritable events_of each_event after_opening AtEachEvent is_numbered opens is_formed is_once is_caused is_queued is_ordered is_checked ends_settled loads_end ends_told ends_stepped goes_in_time
+another_first_process_is_refused holds = false≢true holds.opened
+
+-- The first document has no handler, and its page says one.
+abbrev pub another_first_handler_header : Header
+another_first_handler_header = record { keep = 3; sites = []; pages = record { base = codes "http://a.test/"; slot = 1 } ∷ []; first = codes "http://a.test/" }
+
+pub another_first_handler_is_refused : Suits another_first_handler_header (log_of opened_only) → ⊥
+unfolding url_on_literals is_web is_blank_url judged judged_parse read_against address_of url_of resolved with_fragment base_of fragment_of origin_text origin_of has_same_base is_rewritable events_of each_event after_opening AtEachEvent is_numbered opens is_formed is_once is_caused is_queued is_ordered is_checked ends_settled loads_end ends_told ends_stepped goes_in_time
+another_first_handler_is_refused holds = false≢true holds.opened
 
 -- A document is made in another process than its site says.
 abbrev pub another_process_header : Header
@@ -56,3 +80,25 @@ too_many_kept_header = record { keep = 0; sites = []; pages = []; first = codes 
 pub too_many_kept_is_refused : Suits too_many_kept_header (log_of evicted_documents) → ⊥
 unfolding url_on_literals is_web is_blank_url judged judged_parse read_against address_of url_of resolved with_fragment base_of fragment_of origin_text origin_of has_same_base is_rewritable events_of each_event after_opening AtEachEvent is_numbered opens is_formed is_once is_caused is_queued is_ordered is_checked ends_settled loads_end ends_told ends_stepped goes_in_time
 too_many_kept_is_refused holds = false≢true holds.kept
+
+abbrev pub home_of_1_header : Header
+home_of_1_header = record { keep = 3; sites = record { origin = codes "http://b.test"; proc = p 2 } ∷ record { origin = codes "http://c.test"; proc = p 3 } ∷ []; pages = []; first = codes "http://a.test/" }
+
+-- home_of: were `nav.0 == 0` always so, `placed` would hold.
+abbrev pub home_of_1 : List Event
+home_of_1 =
+    before 10 push_beside_a_frame
+    ++ by_ui (rows.Accepted (r 2) None (requests.Reload (n 1))) (rows.Started (r 2) None ∷ rows.Applied (r 2) (changes.Reload (n 1)) ∷ sent 3 1 0 3 (whys.Req (r 2)) (tasks.Populate (n 1) (s 2) (codes "about:blank") true) ∷ [])
+    ∷ by_ui (rows.Killed (p 1) (x 1)) []
+    ∷ by_coord (rows.Delivered (p 1)) []
+    ∷ by_ui (rows.Accepted (r 3) None (requests.Reload (n 1))) (rows.Refused (r 3) denials.NoDocument ∷ [])
+    ∷ by_proc 1 (rows.Taken (p 1) (j 3) false false) []
+    ∷ by_ui (rows.Accepted (r 4) None (requests.Reload (n 0))) (rows.Started (r 4) None ∷ rows.Applied (r 4) (changes.Reload (n 0)) ∷ sent 4 1 1 4 (whys.Req (r 4)) (tasks.Populate (n 0) (s 1) (codes "http://a.test/") false) ∷ [])
+    ∷ by_proc 1 (rows.Taken (p 1) (j 4) true false) []
+    ∷ by_proc 1 (rows.Finished (p 1) (j 4) (outcomes.Populated None)) []
+    ∷ by_ui (rows.Accepted (r 5) None (requests.Load (n 0) modes.Auto (codes "http://a.test/#x"))) (sent 5 1 1 5 (whys.Req (r 2)) (tasks.Populate (n 1) (s 2) (codes "about:blank") true) ∷ [])
+    ∷ []
+
+pub home_of_1_is_refused : Suits home_of_1_header (log_of home_of_1) → ⊥
+unfolding url_on_literals is_web is_blank_url judged judged_parse read_against address_of url_of resolved with_fragment base_of fragment_of origin_text origin_of has_same_base is_rewritable events_of each_event after_opening AtEachEvent is_numbered opens is_formed is_once is_caused is_queued is_ordered is_checked ends_settled loads_end ends_told ends_stepped goes_in_time
+home_of_1_is_refused holds = false≢true holds.placed

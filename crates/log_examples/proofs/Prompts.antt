@@ -24,7 +24,7 @@ use Rattle.log_model.specs.ActsAtOnce.{ActsAtOnce, ends_told, ends_stepped, goes
 use Rattle.log_model.specs.Suits.{Suits}
 use Rattle.log_model.specs.declared.header.Header.{Header}
 use Rattle.log_examples.specs.Rows.{n, s, r, p, t, d, j, e, epoch, sent, made}
-use Rattle.log_examples.specs.Logs.{Event, by_ui, by_coord, by_proc, log_of, before}
+use Rattle.log_examples.specs.Logs.{Event, by_start, by_ui, by_coord, by_proc, log_of, before}
 use Rattle.log_examples.proofs.Pushes.{push_beside_a_frame}
 use Rattle.log_examples.proofs.Loads.{no_document_kept, push_over_a_kept_document}
 
@@ -444,3 +444,96 @@ load_behind_an_answer_acts_at_once = record { told = refl; stepped = refl; in_ti
 pub load_behind_an_answer_suits : Suits load_behind_an_answer_header (log_of load_behind_an_answer)
 unfolding url_on_literals is_web is_blank_url judged judged_parse read_against address_of url_of resolved with_fragment base_of fragment_of origin_text origin_of has_same_base is_rewritable events_of each_event after_opening AtEachEvent is_numbered opens is_formed is_once is_caused is_queued is_ordered is_checked ends_settled loads_end ends_told ends_stepped goes_in_time
 load_behind_an_answer_suits = record { opened = refl; placed = refl; kept = refl }
+
+-- Frames are asked in the order of their numbers, not in that of their making.
+abbrev pub frames_asked_in_order : List Event
+frames_asked_in_order =
+    by_start (rows.Opened (e 0 1) (s 1) (d 1) (p 1) None (codes "http://a.test/")) []
+    ∷ by_ui (rows.Accepted (r 1) (Some (d 1)) (requests.Poke (n 0) (actions.AddFrame (n 2)))) []
+    ∷ by_proc 1 (made 1 1 1 1 (whats.AddFrame (n 2))) []
+    ∷ by_coord (rows.Delivered (p 1)) (rows.Applied (r 1) (changes.AddFrame (s 1) (n 2) (e 0 2) (s 2)) ∷ sent 1 1 0 2 (whys.Req (r 1)) (tasks.Populate (n 2) (s 2) (codes "about:blank") true) ∷ [])
+    ∷ by_proc 1 (rows.Taken (p 1) (j 1) true false) []
+    ∷ by_proc 1 (rows.Finished (p 1) (j 1) (outcomes.Populated (Some 1))) []
+    ∷ by_coord (rows.Delivered (p 1)) (sent 2 1 0 2 (whys.Req (r 1)) (tasks.Activate (e 0 2) (epoch 1) 1 0 None (codes "about:blank")) ∷ [])
+    ∷ by_proc 1 (rows.Taken (p 1) (j 2) true false) []
+    ∷ by_proc 1 (rows.Finished (p 1) (j 2) outcomes.Activated) []
+    ∷ by_coord (rows.Delivered (p 1)) []
+    ∷ by_ui (rows.Accepted (r 2) (Some (d 1)) (requests.Poke (n 0) (actions.AddFrame (n 1)))) []
+    ∷ by_proc 1 (made 1 2 1 1 (whats.AddFrame (n 1))) []
+    ∷ by_coord (rows.Delivered (p 1)) (rows.Applied (r 2) (changes.AddFrame (s 1) (n 1) (e 0 3) (s 3)) ∷ sent 3 1 0 3 (whys.Req (r 2)) (tasks.Populate (n 1) (s 3) (codes "about:blank") true) ∷ [])
+    ∷ by_proc 1 (rows.Taken (p 1) (j 3) true false) []
+    ∷ by_proc 1 (rows.Finished (p 1) (j 3) (outcomes.Populated (Some 1))) []
+    ∷ by_coord (rows.Delivered (p 1)) (sent 4 1 0 3 (whys.Req (r 2)) (tasks.Activate (e 0 3) (epoch 1) 1 0 None (codes "about:blank")) ∷ [])
+    ∷ by_proc 1 (rows.Taken (p 1) (j 4) true false) []
+    ∷ by_proc 1 (rows.Finished (p 1) (j 4) outcomes.Activated) []
+    ∷ by_coord (rows.Delivered (p 1)) []
+    ∷ by_ui (rows.Accepted (r 3) None (requests.Reload (n 0))) (rows.Started (r 3) None ∷ sent 5 1 0 3 (whys.Req (r 3)) (tasks.Ask 1 leavings.Reload) ∷ sent 6 1 0 2 (whys.Req (r 3)) (tasks.Ask 1 leavings.Reload) ∷ [])
+    ∷ by_proc 1 (rows.Taken (p 1) (j 5) true false) []
+    ∷ by_proc 1 (rows.Finished (p 1) (j 5) (outcomes.Asked verdicts.Prompt)) []
+    ∷ by_coord (rows.Delivered (p 1)) []
+    ∷ by_proc 1 (rows.Taken (p 1) (j 6) true false) []
+    ∷ by_proc 1 (rows.Finished (p 1) (j 6) (outcomes.Asked verdicts.Prompt)) []
+    ∷ by_coord (rows.Delivered (p 1)) (rows.Prompted (r 3) (d 2) ∷ [])
+    ∷ []
+
+abbrev pub frames_asked_in_order_header : Header
+frames_asked_in_order_header = record { keep = 3; sites = []; pages = record { base = codes "about:blank"; slot = 1 } ∷ []; first = codes "http://a.test/" }
+
+pub frames_asked_in_order_is_legal : IsLegal (log_of frames_asked_in_order)
+unfolding url_on_literals is_web is_blank_url judged judged_parse read_against address_of url_of resolved with_fragment base_of fragment_of origin_text origin_of has_same_base is_rewritable events_of each_event after_opening AtEachEvent is_numbered opens is_formed is_once is_caused is_queued is_ordered is_checked ends_settled loads_end ends_told ends_stepped goes_in_time
+frames_asked_in_order_is_legal = record { opened = refl; numbered = refl; formed = refl; once = refl; caused = refl; queued = refl; ordered = refl; checked = refl; settled = refl }
+
+pub frames_asked_in_order_ends_loads : LoadsEndInTime (log_of frames_asked_in_order)
+unfolding url_on_literals is_web is_blank_url judged judged_parse read_against address_of url_of resolved with_fragment base_of fragment_of origin_text origin_of has_same_base is_rewritable events_of each_event after_opening AtEachEvent is_numbered opens is_formed is_once is_caused is_queued is_ordered is_checked ends_settled loads_end ends_told ends_stepped goes_in_time
+frames_asked_in_order_ends_loads = refl
+
+pub frames_asked_in_order_acts_at_once : ActsAtOnce (log_of frames_asked_in_order)
+unfolding url_on_literals is_web is_blank_url judged judged_parse read_against address_of url_of resolved with_fragment base_of fragment_of origin_text origin_of has_same_base is_rewritable events_of each_event after_opening AtEachEvent is_numbered opens is_formed is_once is_caused is_queued is_ordered is_checked ends_settled loads_end ends_told ends_stepped goes_in_time
+frames_asked_in_order_acts_at_once = record { told = refl; stepped = refl; in_time = refl }
+
+pub frames_asked_in_order_suits : Suits frames_asked_in_order_header (log_of frames_asked_in_order)
+unfolding url_on_literals is_web is_blank_url judged judged_parse read_against address_of url_of resolved with_fragment base_of fragment_of origin_text origin_of has_same_base is_rewritable events_of each_event after_opening AtEachEvent is_numbered opens is_formed is_once is_caused is_queued is_ordered is_checked ends_settled loads_end ends_told ends_stepped goes_in_time
+frames_asked_in_order_suits = record { opened = refl; placed = refl; kept = refl }
+
+-- A load gives way to a later one before the document has answered.
+abbrev pub load_dropped_before_its_answer : List Event
+load_dropped_before_its_answer =
+    before 11 one_prompt_for_two
+    ++ by_ui (rows.Accepted (r 2) None (requests.Load (n 0) modes.Auto (codes "http://a.test/2"))) (rows.Started (r 2) None ∷ sent 4 1 0 2 (whys.Req (r 2)) (tasks.Ask 1 leavings.Load) ∷ [])
+    ∷ by_ui (rows.Accepted (r 3) None (requests.Load (n 0) modes.Auto (codes "http://a.test/3"))) (rows.Dropped (r 2) (drops.By (r 3)) ∷ rows.Started (r 3) None ∷ sent 5 1 0 2 (whys.Req (r 3)) (tasks.Ask 1 leavings.Load) ∷ [])
+    ∷ by_proc 1 (rows.Taken (p 1) (j 4) true false) []
+    ∷ by_proc 1 (rows.Finished (p 1) (j 4) (outcomes.Asked verdicts.Prompt)) []
+    ∷ by_coord (rows.Delivered (p 1)) []
+    ∷ by_proc 1 (rows.Taken (p 1) (j 5) true false) []
+    ∷ by_proc 1 (rows.Finished (p 1) (j 5) (outcomes.Asked verdicts.Prompt)) []
+    ∷ by_coord (rows.Delivered (p 1)) (rows.Prompted (r 3) (d 2) ∷ [])
+    ∷ by_ui (rows.Answered (r 3) false) (sent 6 1 0 3 (whys.Req (r 3)) (tasks.Populate (n 0) (s 4) (codes "http://a.test/3") false) ∷ [])
+    ∷ by_proc 1 (rows.Taken (p 1) (j 6) true false) []
+    ∷ by_proc 1 (rows.Finished (p 1) (j 6) (outcomes.Populated None)) []
+    ∷ by_coord (rows.Delivered (p 1)) (rows.Applied (r 3) (changes.Push (n 0) (e 0 3) (s 4) (codes "http://a.test/3") None) ∷ sent 7 1 0 2 (whys.Req (r 3)) tasks.Freeze ∷ sent 8 1 0 3 (whys.Req (r 3)) (tasks.Activate (e 0 3) (epoch 3) 3 2 None (codes "http://a.test/3")) ∷ [])
+    ∷ by_proc 1 (rows.Taken (p 1) (j 7) true false) []
+    ∷ by_proc 1 (rows.Finished (p 1) (j 7) outcomes.Frozen) []
+    ∷ by_coord (rows.Delivered (p 1)) []
+    ∷ by_proc 1 (rows.Taken (p 1) (j 8) true false) []
+    ∷ by_proc 1 (rows.Finished (p 1) (j 8) outcomes.Activated) []
+    ∷ by_coord (rows.Delivered (p 1)) []
+    ∷ []
+
+abbrev pub load_dropped_before_its_answer_header : Header
+load_dropped_before_its_answer_header = record { keep = 3; sites = []; pages = record { base = codes "http://a.test/1"; slot = 1 } ∷ []; first = codes "http://a.test/" }
+
+pub load_dropped_before_its_answer_is_legal : IsLegal (log_of load_dropped_before_its_answer)
+unfolding url_on_literals is_web is_blank_url judged judged_parse read_against address_of url_of resolved with_fragment base_of fragment_of origin_text origin_of has_same_base is_rewritable events_of each_event after_opening AtEachEvent is_numbered opens is_formed is_once is_caused is_queued is_ordered is_checked ends_settled loads_end ends_told ends_stepped goes_in_time
+load_dropped_before_its_answer_is_legal = record { opened = refl; numbered = refl; formed = refl; once = refl; caused = refl; queued = refl; ordered = refl; checked = refl; settled = refl }
+
+pub load_dropped_before_its_answer_ends_loads : LoadsEndInTime (log_of load_dropped_before_its_answer)
+unfolding url_on_literals is_web is_blank_url judged judged_parse read_against address_of url_of resolved with_fragment base_of fragment_of origin_text origin_of has_same_base is_rewritable events_of each_event after_opening AtEachEvent is_numbered opens is_formed is_once is_caused is_queued is_ordered is_checked ends_settled loads_end ends_told ends_stepped goes_in_time
+load_dropped_before_its_answer_ends_loads = refl
+
+pub load_dropped_before_its_answer_acts_at_once : ActsAtOnce (log_of load_dropped_before_its_answer)
+unfolding url_on_literals is_web is_blank_url judged judged_parse read_against address_of url_of resolved with_fragment base_of fragment_of origin_text origin_of has_same_base is_rewritable events_of each_event after_opening AtEachEvent is_numbered opens is_formed is_once is_caused is_queued is_ordered is_checked ends_settled loads_end ends_told ends_stepped goes_in_time
+load_dropped_before_its_answer_acts_at_once = record { told = refl; stepped = refl; in_time = refl }
+
+pub load_dropped_before_its_answer_suits : Suits load_dropped_before_its_answer_header (log_of load_dropped_before_its_answer)
+unfolding url_on_literals is_web is_blank_url judged judged_parse read_against address_of url_of resolved with_fragment base_of fragment_of origin_text origin_of has_same_base is_rewritable events_of each_event after_opening AtEachEvent is_numbered opens is_formed is_once is_caused is_queued is_ordered is_checked ends_settled loads_end ends_told ends_stepped goes_in_time
+load_dropped_before_its_answer_suits = record { opened = refl; placed = refl; kept = refl }

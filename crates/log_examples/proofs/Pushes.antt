@@ -10,6 +10,7 @@ use Rattle.log_model.specs.declared.job.Why.TheVariants as whys
 use Rattle.log_model.specs.declared.made.What.TheVariants as whats
 use Rattle.log_model.specs.declared.outcome.Denial.TheVariants as denials
 use Rattle.log_model.specs.declared.outcome.Outcome.TheVariants as outcomes
+use Rattle.log_model.specs.declared.request.Mode.TheVariants as modes
 use Rattle.log_model.specs.declared.request.Request.TheVariants as requests
 use Rattle.log_model.specs.declared.row_kind.RowKind.TheVariants as rows
 use Rattle.log_model.specs.Events.{events_of, each_event, after_opening, AtEachEvent}
@@ -291,3 +292,75 @@ push_to_another_origin_acts_at_once = record { told = refl; stepped = refl; in_t
 pub push_to_another_origin_suits : Suits plain_settings (log_of push_to_another_origin)
 unfolding url_on_literals is_web is_blank_url judged judged_parse read_against address_of url_of resolved with_fragment base_of fragment_of origin_text origin_of has_same_base is_rewritable events_of each_event after_opening AtEachEvent is_numbered opens is_formed is_once is_caused is_queued is_ordered is_checked ends_settled loads_end ends_told ends_stepped goes_in_time
 push_to_another_origin_suits = record { opened = refl; placed = refl; kept = refl }
+
+-- A poke while the document before runs still reaches the newer one.
+abbrev pub poke_of_the_newer_document : List Event
+poke_of_the_newer_document =
+    by_start (rows.Opened (e 0 1) (s 1) (d 1) (p 1) None (codes "http://a.test/")) []
+    ∷ by_ui (rows.Accepted (r 1) None (requests.Load (n 0) modes.Auto (codes "http://b.test/"))) (rows.Started (r 1) None ∷ sent 1 2 0 2 (whys.Req (r 1)) (tasks.Populate (n 0) (s 2) (codes "http://b.test/") false) ∷ [])
+    ∷ by_proc 2 (rows.Taken (p 2) (j 1) true false) []
+    ∷ by_proc 2 (rows.Finished (p 2) (j 1) (outcomes.Populated None)) []
+    ∷ by_coord (rows.Delivered (p 2)) (rows.Applied (r 1) (changes.Push (n 0) (e 0 2) (s 2) (codes "http://b.test/") None) ∷ sent 2 1 0 1 (whys.Req (r 1)) tasks.Freeze ∷ sent 3 2 0 2 (whys.Req (r 1)) (tasks.Activate (e 0 2) (epoch 2) 2 1 None (codes "http://b.test/")) ∷ [])
+    ∷ by_proc 2 (rows.Taken (p 2) (j 3) true false) []
+    ∷ by_proc 2 (rows.Finished (p 2) (j 3) outcomes.Activated) []
+    ∷ by_ui (rows.Accepted (r 2) (Some (d 2)) (requests.Poke (n 0) (actions.Push (Some (codes "s")) (Some (codes "/1"))))) []
+    ∷ by_proc 1 (rows.Taken (p 1) (j 2) true false) []
+    ∷ by_proc 1 (rows.Finished (p 1) (j 2) outcomes.Frozen) []
+    ∷ by_coord (rows.Delivered (p 1)) []
+    ∷ by_proc 2 (made 2 2 2 2 (whats.Push (e 2 1) (Some (codes "s")) (codes "http://b.test/1"))) []
+    ∷ by_coord (rows.Delivered (p 2)) []
+    ∷ by_coord (rows.Delivered (p 2)) (rows.Applied (r 2) (changes.Push (n 0) (e 2 1) (s 2) (codes "http://b.test/1") (Some (codes "s"))) ∷ sent 4 2 0 2 (whys.Req (r 2)) (tasks.Update 3 2) ∷ [])
+    ∷ by_proc 2 (rows.Taken (p 2) (j 4) true false) []
+    ∷ by_proc 2 (rows.Finished (p 2) (j 4) outcomes.Updated) []
+    ∷ by_coord (rows.Delivered (p 2)) []
+    ∷ []
+
+abbrev pub poke_of_the_newer_document_header : Header
+poke_of_the_newer_document_header = record { keep = 3; sites = record { origin = codes "http://b.test"; proc = p 2 } ∷ []; pages = []; first = codes "http://a.test/" }
+
+pub poke_of_the_newer_document_is_legal : IsLegal (log_of poke_of_the_newer_document)
+unfolding url_on_literals is_web is_blank_url judged judged_parse read_against address_of url_of resolved with_fragment base_of fragment_of origin_text origin_of has_same_base is_rewritable events_of each_event after_opening AtEachEvent is_numbered opens is_formed is_once is_caused is_queued is_ordered is_checked ends_settled loads_end ends_told ends_stepped goes_in_time
+poke_of_the_newer_document_is_legal = record { opened = refl; numbered = refl; formed = refl; once = refl; caused = refl; queued = refl; ordered = refl; checked = refl; settled = refl }
+
+pub poke_of_the_newer_document_ends_loads : LoadsEndInTime (log_of poke_of_the_newer_document)
+unfolding url_on_literals is_web is_blank_url judged judged_parse read_against address_of url_of resolved with_fragment base_of fragment_of origin_text origin_of has_same_base is_rewritable events_of each_event after_opening AtEachEvent is_numbered opens is_formed is_once is_caused is_queued is_ordered is_checked ends_settled loads_end ends_told ends_stepped goes_in_time
+poke_of_the_newer_document_ends_loads = refl
+
+pub poke_of_the_newer_document_acts_at_once : ActsAtOnce (log_of poke_of_the_newer_document)
+unfolding url_on_literals is_web is_blank_url judged judged_parse read_against address_of url_of resolved with_fragment base_of fragment_of origin_text origin_of has_same_base is_rewritable events_of each_event after_opening AtEachEvent is_numbered opens is_formed is_once is_caused is_queued is_ordered is_checked ends_settled loads_end ends_told ends_stepped goes_in_time
+poke_of_the_newer_document_acts_at_once = record { told = refl; stepped = refl; in_time = refl }
+
+pub poke_of_the_newer_document_suits : Suits poke_of_the_newer_document_header (log_of poke_of_the_newer_document)
+unfolding url_on_literals is_web is_blank_url judged judged_parse read_against address_of url_of resolved with_fragment base_of fragment_of origin_text origin_of has_same_base is_rewritable events_of each_event after_opening AtEachEvent is_numbered opens is_formed is_once is_caused is_queued is_ordered is_checked ends_settled loads_end ends_told ends_stepped goes_in_time
+poke_of_the_newer_document_suits = record { opened = refl; placed = refl; kept = refl }
+
+-- A fragment that the address has already is a replace.
+abbrev pub same_fragment_again : List Event
+same_fragment_again =
+    by_start (rows.Opened (e 0 1) (s 1) (d 1) (p 1) None (codes "http://a.test/")) []
+    ∷ by_ui (rows.Accepted (r 1) (Some (d 1)) (requests.Poke (n 0) (actions.Fragment (codes "x")))) []
+    ∷ by_proc 1 (made 1 1 1 1 (whats.Push (e 1 1) None (codes "http://a.test/#x"))) []
+    ∷ by_coord (rows.Delivered (p 1)) (rows.Applied (r 1) (changes.Push (n 0) (e 1 1) (s 1) (codes "http://a.test/#x") None) ∷ sent 1 1 0 1 (whys.Req (r 1)) (tasks.Update 2 1) ∷ [])
+    ∷ by_proc 1 (rows.Taken (p 1) (j 1) true false) []
+    ∷ by_proc 1 (rows.Finished (p 1) (j 1) outcomes.Updated) []
+    ∷ by_coord (rows.Delivered (p 1)) []
+    ∷ by_ui (rows.Accepted (r 2) (Some (d 1)) (requests.Poke (n 0) (actions.Fragment (codes "x")))) []
+    ∷ by_proc 1 (made 1 2 1 1 (whats.Replace (e 1 1) (e 1 2) None (codes "http://a.test/#x"))) []
+    ∷ by_coord (rows.Delivered (p 1)) (rows.Applied (r 2) (changes.Replace (n 0) (e 1 1) (e 1 2) (s 1) (codes "http://a.test/#x") None) ∷ [])
+    ∷ []
+
+pub same_fragment_again_is_legal : IsLegal (log_of same_fragment_again)
+unfolding url_on_literals is_web is_blank_url judged judged_parse read_against address_of url_of resolved with_fragment base_of fragment_of origin_text origin_of has_same_base is_rewritable events_of each_event after_opening AtEachEvent is_numbered opens is_formed is_once is_caused is_queued is_ordered is_checked ends_settled loads_end ends_told ends_stepped goes_in_time
+same_fragment_again_is_legal = record { opened = refl; numbered = refl; formed = refl; once = refl; caused = refl; queued = refl; ordered = refl; checked = refl; settled = refl }
+
+pub same_fragment_again_ends_loads : LoadsEndInTime (log_of same_fragment_again)
+unfolding url_on_literals is_web is_blank_url judged judged_parse read_against address_of url_of resolved with_fragment base_of fragment_of origin_text origin_of has_same_base is_rewritable events_of each_event after_opening AtEachEvent is_numbered opens is_formed is_once is_caused is_queued is_ordered is_checked ends_settled loads_end ends_told ends_stepped goes_in_time
+same_fragment_again_ends_loads = refl
+
+pub same_fragment_again_acts_at_once : ActsAtOnce (log_of same_fragment_again)
+unfolding url_on_literals is_web is_blank_url judged judged_parse read_against address_of url_of resolved with_fragment base_of fragment_of origin_text origin_of has_same_base is_rewritable events_of each_event after_opening AtEachEvent is_numbered opens is_formed is_once is_caused is_queued is_ordered is_checked ends_settled loads_end ends_told ends_stepped goes_in_time
+same_fragment_again_acts_at_once = record { told = refl; stepped = refl; in_time = refl }
+
+pub same_fragment_again_suits : Suits plain_settings (log_of same_fragment_again)
+unfolding url_on_literals is_web is_blank_url judged judged_parse read_against address_of url_of resolved with_fragment base_of fragment_of origin_text origin_of has_same_base is_rewritable events_of each_event after_opening AtEachEvent is_numbered opens is_formed is_once is_caused is_queued is_ordered is_checked ends_settled loads_end ends_told ends_stepped goes_in_time
+same_fragment_again_suits = record { opened = refl; placed = refl; kept = refl }

@@ -60,6 +60,42 @@ pub removed_frame_suits : Suits plain_settings (log_of removed_frame)
 unfolding url_on_literals is_web is_blank_url judged judged_parse read_against address_of url_of resolved with_fragment base_of fragment_of origin_text origin_of has_same_base is_rewritable events_of each_event after_opening AtEachEvent is_numbered opens is_formed is_once is_caused is_queued is_ordered is_checked ends_settled loads_end ends_told ends_stepped goes_in_time
 removed_frame_suits = record { opened = refl; placed = refl; kept = refl }
 
+-- The step of a removed frame is no longer used, and a push follows the one before it.
+abbrev pub push_after_a_removal : List Event
+push_after_a_removal =
+    removed_frame
+    ++ by_ui (rows.Accepted (r 5) (Some (d 1)) (requests.Poke (n 0) (actions.Push (Some (codes "s")) (Some (codes "/1"))))) []
+    ∷ by_proc 1 (made 1 5 1 1 (whats.Push (e 1 1) (Some (codes "s")) (codes "http://a.test/1"))) []
+    ∷ by_coord (rows.Delivered (p 1)) (rows.Applied (r 5) (changes.Push (n 0) (e 1 1) (s 1) (codes "http://a.test/1") (Some (codes "s"))) ∷ sent 13 1 0 1 (whys.Req (r 5)) (tasks.Update 2 1) ∷ [])
+    ∷ by_proc 1 (rows.Taken (p 1) (j 13) true false) []
+    ∷ by_proc 1 (rows.Finished (p 1) (j 13) outcomes.Updated) []
+    ∷ by_coord (rows.Delivered (p 1)) []
+    ∷ by_ui (rows.Accepted (r 6) None (requests.Go (negsuc 0))) (rows.Started (r 6) (Some (t 0)) ∷ sent 14 1 0 1 (whys.Req (r 6)) (tasks.Activate (e 0 1) (epoch 2) 2 0 None (codes "http://a.test/")) ∷ [])
+    ∷ by_proc 1 (rows.Taken (p 1) (j 14) true false) []
+    ∷ by_proc 1 (rows.Finished (p 1) (j 14) outcomes.Activated) []
+    ∷ by_coord (rows.Delivered (p 1)) (rows.Applied (r 6) (changes.Traverse (t 0)) ∷ [])
+    ∷ by_ui (rows.Accepted (r 7) None (requests.Go (pos 1))) (rows.Started (r 7) (Some (t 1)) ∷ sent 15 1 0 1 (whys.Req (r 7)) (tasks.Activate (e 1 1) (epoch 3) 2 1 (Some (codes "s")) (codes "http://a.test/1")) ∷ [])
+    ∷ by_proc 1 (rows.Taken (p 1) (j 15) true false) []
+    ∷ by_proc 1 (rows.Finished (p 1) (j 15) outcomes.Activated) []
+    ∷ by_coord (rows.Delivered (p 1)) (rows.Applied (r 7) (changes.Traverse (t 1)) ∷ [])
+    ∷ []
+
+pub push_after_a_removal_is_legal : IsLegal (log_of push_after_a_removal)
+unfolding url_on_literals is_web is_blank_url judged judged_parse read_against address_of url_of resolved with_fragment base_of fragment_of origin_text origin_of has_same_base is_rewritable events_of each_event after_opening AtEachEvent is_numbered opens is_formed is_once is_caused is_queued is_ordered is_checked ends_settled loads_end ends_told ends_stepped goes_in_time
+push_after_a_removal_is_legal = record { opened = refl; numbered = refl; formed = refl; once = refl; caused = refl; queued = refl; ordered = refl; checked = refl; settled = refl }
+
+pub push_after_a_removal_ends_loads : LoadsEndInTime (log_of push_after_a_removal)
+unfolding url_on_literals is_web is_blank_url judged judged_parse read_against address_of url_of resolved with_fragment base_of fragment_of origin_text origin_of has_same_base is_rewritable events_of each_event after_opening AtEachEvent is_numbered opens is_formed is_once is_caused is_queued is_ordered is_checked ends_settled loads_end ends_told ends_stepped goes_in_time
+push_after_a_removal_ends_loads = refl
+
+pub push_after_a_removal_acts_at_once : ActsAtOnce (log_of push_after_a_removal)
+unfolding url_on_literals is_web is_blank_url judged judged_parse read_against address_of url_of resolved with_fragment base_of fragment_of origin_text origin_of has_same_base is_rewritable events_of each_event after_opening AtEachEvent is_numbered opens is_formed is_once is_caused is_queued is_ordered is_checked ends_settled loads_end ends_told ends_stepped goes_in_time
+push_after_a_removal_acts_at_once = record { told = refl; stepped = refl; in_time = refl }
+
+pub push_after_a_removal_suits : Suits plain_settings (log_of push_after_a_removal)
+unfolding url_on_literals is_web is_blank_url judged judged_parse read_against address_of url_of resolved with_fragment base_of fragment_of origin_text origin_of has_same_base is_rewritable events_of each_event after_opening AtEachEvent is_numbered opens is_formed is_once is_caused is_queued is_ordered is_checked ends_settled loads_end ends_told ends_stepped goes_in_time
+push_after_a_removal_suits = record { opened = refl; placed = refl; kept = refl }
+
 -- A push of a frame that was removed is dropped.
 abbrev pub push_of_a_removed_frame : List Event
 push_of_a_removed_frame =

@@ -219,3 +219,31 @@ two_traversals_in_the_queue_acts_at_once = record { told = refl; stepped = refl;
 pub two_traversals_in_the_queue_suits : Suits plain_settings (log_of two_traversals_in_the_queue)
 unfolding url_on_literals is_web is_blank_url judged judged_parse read_against address_of url_of resolved with_fragment base_of fragment_of origin_text origin_of has_same_base is_rewritable events_of each_event after_opening AtEachEvent is_numbered opens is_formed is_once is_caused is_queued is_ordered is_checked ends_settled loads_end ends_told ends_stepped goes_in_time
 two_traversals_in_the_queue_suits = record { opened = refl; placed = refl; kept = refl }
+
+-- A document goes beyond the first used step, and beyond the last.
+abbrev pub document_goes_beyond : List Event
+document_goes_beyond =
+    by_start (rows.Opened (e 0 1) (s 1) (d 1) (p 1) None (codes "http://a.test/")) []
+    ∷ by_ui (rows.Accepted (r 1) (Some (d 1)) (requests.Poke (n 0) (actions.Go (negsuc 0)))) []
+    ∷ by_ui (rows.Accepted (r 2) (Some (d 1)) (requests.Poke (n 0) (actions.Go (pos 1)))) []
+    ∷ by_proc 1 (made 1 1 1 1 (whats.Go (negsuc 0))) []
+    ∷ by_coord (rows.Delivered (p 1)) (rows.Refused (r 1) denials.NoStep ∷ [])
+    ∷ by_proc 1 (made 1 2 1 1 (whats.Go (pos 1))) []
+    ∷ by_coord (rows.Delivered (p 1)) (rows.Refused (r 2) denials.NoStep ∷ [])
+    ∷ []
+
+pub document_goes_beyond_is_legal : IsLegal (log_of document_goes_beyond)
+unfolding url_on_literals is_web is_blank_url judged judged_parse read_against address_of url_of resolved with_fragment base_of fragment_of origin_text origin_of has_same_base is_rewritable events_of each_event after_opening AtEachEvent is_numbered opens is_formed is_once is_caused is_queued is_ordered is_checked ends_settled loads_end ends_told ends_stepped goes_in_time
+document_goes_beyond_is_legal = record { opened = refl; numbered = refl; formed = refl; once = refl; caused = refl; queued = refl; ordered = refl; checked = refl; settled = refl }
+
+pub document_goes_beyond_ends_loads : LoadsEndInTime (log_of document_goes_beyond)
+unfolding url_on_literals is_web is_blank_url judged judged_parse read_against address_of url_of resolved with_fragment base_of fragment_of origin_text origin_of has_same_base is_rewritable events_of each_event after_opening AtEachEvent is_numbered opens is_formed is_once is_caused is_queued is_ordered is_checked ends_settled loads_end ends_told ends_stepped goes_in_time
+document_goes_beyond_ends_loads = refl
+
+pub document_goes_beyond_acts_at_once : ActsAtOnce (log_of document_goes_beyond)
+unfolding url_on_literals is_web is_blank_url judged judged_parse read_against address_of url_of resolved with_fragment base_of fragment_of origin_text origin_of has_same_base is_rewritable events_of each_event after_opening AtEachEvent is_numbered opens is_formed is_once is_caused is_queued is_ordered is_checked ends_settled loads_end ends_told ends_stepped goes_in_time
+document_goes_beyond_acts_at_once = record { told = refl; stepped = refl; in_time = refl }
+
+pub document_goes_beyond_suits : Suits plain_settings (log_of document_goes_beyond)
+unfolding url_on_literals is_web is_blank_url judged judged_parse read_against address_of url_of resolved with_fragment base_of fragment_of origin_text origin_of has_same_base is_rewritable events_of each_event after_opening AtEachEvent is_numbered opens is_formed is_once is_caused is_queued is_ordered is_checked ends_settled loads_end ends_told ends_stepped goes_in_time
+document_goes_beyond_suits = record { opened = refl; placed = refl; kept = refl }
