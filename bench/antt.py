@@ -139,19 +139,17 @@ TOKEN = re.compile(r'''\s+|--[^\n]*|(?P<text>"[^"]*")|(?P<name>[A-Za-z_][\w']*(?
 
 
 def tokens(text):
-    out = []
-    for found in TOKEN.finditer(text):
-        if found.lastgroup:
-            out.append((found.lastgroup, found.group()))
-    return out
+    """The tokens of a text, and where each stands."""
+    found = [token for token in TOKEN.finditer(text) if token.lastgroup]
+    return [(token.lastgroup, token.group()) for token in found], [token.span() for token in found]
 
 
 class Node:
-    """A term: its kind, its parts, and the text that spells it."""
-    __slots__ = ('kind', 'parts', 'text')
+    """A term: its kind, its parts, the text that spells it, and where that stands in which item of a file."""
+    __slots__ = ('kind', 'parts', 'text', 'item', 'span')
 
     def __init__(self, kind, *parts):
-        self.kind, self.parts, self.text = kind, parts, ''
+        self.kind, self.parts, self.text, self.item, self.span = kind, parts, '', '', None
 
     def children(self):
         for part in self.parts:
@@ -167,7 +165,8 @@ LEVELS = [['≡'], ['||'], ['&&'], ['=='], ['∷', '++'], ['+', '-', '+ℤ']]
 
 class Reader:
     def __init__(self, text):
-        self.found, self.at = tokens(text), 0
+        self.text, self.at = text, 0
+        self.found, self.spans = tokens(text)
 
     def peek(self):
         return self.found[self.at] if self.at < len(self.found) else ('end', '')
@@ -181,7 +180,9 @@ class Reader:
             raise SyntaxError('%r expected: %r' % (word, self.found[max(0, self.at - 12):self.at + 8]))
 
     def spelled(self, start, node):
-        node.text = node.text or ' '.join(word for _, word in self.found[start:self.at]).replace('( ', '(').replace(' )', ')').replace(' ;', ';')
+        if node.span is None:
+            node.item, node.span = self.text, (self.spans[start][0], self.spans[self.at - 1][1])
+            node.text = ' '.join(self.text[slice(*node.span)].split())
         return node
 
     def term(self, level=0):

@@ -1,7 +1,7 @@
 #!/usr/bin/env python3
 """Weakens the definitions of a legal log, one part at a time, and tells which of them no example log notices.
 
-    python3 bench/definitions.py MODEL [--word WORD] [--kept]
+    python3 bench/definitions.py MODEL [--word WORD] [--kept] [--hints FILE]
 
 MODEL is the folder of the plain model, whose reading of URLs stands for that of `address`. The definitions are the files
 of crates/log_model/specs, the logs and what is claimed of them the lemmas of crates/log_examples/proofs. All is computed by
@@ -14,23 +14,25 @@ of crates/log_model/specs, the logs and what is claimed of them the lemmas of cr
     a case of what is no test is left out, where a later one takes it in; a field isn't changed
 
 It is noticed where a lemma fails. Those that aren't are listed, unless `KNOWN` says why no log can tell them. --word takes
-the mutants of one definition or file, --kept prints the lemma that notices each mutant. Outside the gate; a minute or two.
+the mutants of one definition or file, --kept prints the lemma that notices each mutant, --hints FILE keeps these in a file,
+so that a later run tries them first. Outside the gate; some minutes, or one with hints.
 
     python3 bench/definitions.py MODEL --prove COUNT FOLDER
 
 tries COUNT of the mutants by the prover: FOLDER gets a copy of log_examples whose lemmas read the mutated definitions, and
 `rt check` there has to refuse those that are noticed, and to pass the others.
-
-    python3 bench/definitions.py MODEL --search FIRST COUNT
-
-plays random scenarios, half of them with an edit, for logs that tell the mutants that are left.
 """
+import json
 import os
 import random
+import re
+import shutil
+import subprocess
 import sys
 import time
 
-from antt import CONSTANTS, PRELUDE, Module, NoMatch, Node, Reader, World, addresses, is_constructor, modules_of
+from antt import CONSTANTS, PRELUDE, TOP, NoMatch, Node, Reader, World, addresses, is_constructor, modules_of
+from beside import listed, with_those_below
 
 # definitions that no lemma on a log reads
 APART = ('Order', 'Soundness', 'Limits', 'Entries')
@@ -316,6 +318,84 @@ class Trial:
             self.take_back(mutant)
 
 
+# ---- a sample by the prover
+
+def changed_file(text, mutant):
+    """The text of a file with the mutant, or None where its place isn't told by its item alone."""
+    if mutant.swap is None or len(mutant.swap) != 1:
+        return None
+    (node, other), = mutant.swap.items()
+    if other is None or node.span is None or text.count(node.item) != 1:
+        return None
+    if isinstance(other, str):
+        spelled = {'True': 'true', 'False': 'false'}.get(other)
+    elif other.kind == 'apply':
+        same = mutant.node
+        spelled = 'not (%s)' % same.text if same.kind == 'binary' else '%s %s' % (
+            other.parts[0].parts[0], ' '.join('(%s)' % part.text for part in other.parts[1]))
+    else:
+        spelled = '(%s)' % other.text
+    if spelled is None:
+        return None
+    start, end = node.span
+    text = text.replace(node.item, node.item[:start] + spelled + node.item[end:])
+    for word in ('true', 'false', 'not', 'nat_lt', 'nat_le'):
+        if not re.search(r'Prelude\.\{[^}]*\b%s\b' % word, text):
+            text = re.sub(r'^(use )', 'use Rattle.std.specs.Prelude.{%s}\n\\1' % word, text, count=1, flags=re.M)
+    return text
+
+
+def prove(trial, found, count, folder):
+    """Lets the prover judge some mutants: it has to refuse those that are noticed, and to pass the others."""
+    crates = os.path.join(TOP, 'crates')
+    for crate in with_those_below(['log_examples']):
+        shutil.copytree(os.path.join(crates, crate), os.path.join(folder, 'crates', crate))
+    with open(os.path.join(folder, 'crates.txt'), 'w') as file:
+        file.write(''.join(listed()[crate] + '\n' for crate in with_those_below(['log_examples'])))
+    with open(os.path.join(folder, 'HANDLES'), 'w') as file:
+        file.write('Handles allowed: none.\n')
+    home = os.path.join(folder, 'crates', 'log_examples')
+    names = [module[:-5] for module in sorted(os.listdir(os.path.join(crates, 'log_model', 'specs'))) if module != 'Lib.antt']
+
+    def moved(text):
+        return re.sub(r'Rattle\.log_model\.specs\.(%s)\.' % '|'.join(names), r'Rattle.log_examples.specs.Def\1.', text)
+
+    def put(path, text):
+        with open(path, 'w') as file:
+            file.write(text)
+
+    files = {}
+    for name in names:
+        with open(os.path.join(crates, 'log_model', 'specs', name + '.antt')) as file:
+            files[name] = file.read()
+        put(os.path.join(home, 'specs', 'Def%s.antt' % name), moved(files[name]))
+    with open(os.path.join(home, 'specs', 'Lib.antt'), 'a') as file:
+        file.write(''.join('pub mod Def%s\n' % name for name in names))
+    for part in ('specs', 'proofs'):
+        for name in os.listdir(os.path.join(home, part)):
+            if not name.startswith('Def'):
+                path = os.path.join(home, part, name)
+                with open(path) as file:
+                    text = file.read()
+                put(path, moved(text))
+    tried = []
+    for mutant, claim in random.Random(1).sample(found, len(found)):
+        name = mutant.word.split(':')[0].split('.')[1]
+        text = changed_file(files[name], mutant)
+        if text is None or len(tried) == count:
+            continue
+        path = os.path.join(home, 'specs', 'Def%s.antt' % name)
+        put(path, moved(text))
+        run = subprocess.run(['rt', 'check'], cwd=home, stdout=subprocess.PIPE, stderr=subprocess.STDOUT, text=True)
+        put(path, moved(files[name]))
+        refused = 'logic=proved' not in run.stdout
+        wrong = [line for line in run.stdout.split('\n') if ': error:' in line]
+        is_right = refused == (claim is not None) and all('/proofs/' in line for line in wrong)
+        tried.append(is_right)
+        print('%s\n    by computing %s; the prover: %s%s' % (mutant.name, claim or 'not noticed', (wrong or ['proved'])[0][:120], '' if is_right else ', WHICH IS ANOTHER VERDICT'), flush=True)
+    print('%d mutants were tried by the prover, and %d judged so' % (len(tried), sum(tried)))
+
+
 def main(model, *words):
     word = words[words.index('--word') + 1] if '--word' in words else None
     started = time.time()
@@ -334,9 +414,22 @@ def main(model, *words):
             shown.setdefault(number, []).append(claim)
     watch.stop()
     print('%d mutants, %d of parts that no claim reaches or changes by, %.0f s' % (len(trial.mutants), len(trial.mutants) - len(shown), time.time() - started))
-    left = []
+    hints = words[words.index('--hints') + 1] if '--hints' in words else None
+    told = {}
+    if hints and os.path.exists(hints):
+        with open(hints) as file:
+            told = json.load(file)
+    left, found = [], []
     for number, mutant in enumerate(trial.mutants):
-        name = trial.noticed(mutant, shown.get(number, []))
+        # broken logs first, and before them the one that noticed the mutant in an earlier run
+        claims = sorted(shown.get(number, []), key=lambda claim: (claim[0] != told.get(mutant.name), claim[3]))
+        name = trial.noticed(mutant, claims)
+        found.append((mutant, name))
+        if hints:
+            told[mutant.name] = name
+            if number % 50 == 49 or number == len(trial.mutants) - 1:
+                with open(hints, 'w') as file:
+                    json.dump(told, file, indent=0)
         if name is None:
             left.append(mutant)
         if '--kept' in words:
@@ -350,6 +443,9 @@ def main(model, *words):
             print('known, and noticed or gone: %s' % name)
     print('%d mutants: %d are noticed, %d are the same in meaning, %d are left; %.0f s' % (
         len(trial.mutants), len(trial.mutants) - len(left), len(known), len(left) - len(known), time.time() - started))
+    if '--prove' in words:
+        count, folder = words[words.index('--prove') + 1:][:2]
+        prove(trial, found, int(count), folder)
 
 
 if __name__ == '__main__':

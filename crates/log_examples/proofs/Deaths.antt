@@ -10,6 +10,7 @@ use Rattle.log_model.specs.declared.job.Task.TheVariants as tasks
 use Rattle.log_model.specs.declared.job.Why.TheVariants as whys
 use Rattle.log_model.specs.declared.made.What.TheVariants as whats
 use Rattle.log_model.specs.declared.outcome.Cause.TheVariants as drops
+use Rattle.log_model.specs.declared.outcome.Denial.TheVariants as denials
 use Rattle.log_model.specs.declared.outcome.Outcome.TheVariants as outcomes
 use Rattle.log_model.specs.declared.request.Mode.TheVariants as modes
 use Rattle.log_model.specs.declared.request.Request.TheVariants as requests
@@ -23,8 +24,9 @@ use Rattle.log_model.specs.Suits.{Suits}
 use Rattle.log_model.specs.declared.header.Header.{Header}
 use Rattle.log_examples.specs.Rows.{n, s, r, p, t, x, d, j, e, epoch, sent, made}
 use Rattle.log_examples.specs.Logs.{Event, by_start, by_ui, by_coord, by_proc, log_of, before, plain_settings}
-use Rattle.log_examples.proofs.Pushes.{one_push}
+use Rattle.log_examples.proofs.Pushes.{one_push, push_beside_a_frame}
 use Rattle.log_examples.proofs.Interleavings.{held_back_push}
+use Rattle.log_examples.proofs.Loads.{fragment_above_a_load}
 use Rattle.log_examples.proofs.Frames.{load_while_frames_are_moved}
 use Rattle.log_examples.proofs.Removals.{removal_and_push_of_two_processes}
 use Rattle.log_examples.proofs.Prompts.{frames_asked_in_order}
@@ -170,7 +172,7 @@ questions_of_the_dead_suits = record { opened = refl; placed = refl; kept = refl
 -- A death above a loading frame drops its load.
 abbrev pub load_below_a_lost_navigable : List Event
 load_below_a_lost_navigable =
-    before 11 load_while_frames_are_moved
+    before 11 fragment_above_a_load
     ++ by_ui (rows.Killed (p 1) (x 1)) []
     ∷ by_coord (rows.Delivered (p 1)) (rows.Dropped (r 2) (drops.Gone (x 1)) ∷ [])
     ∷ by_proc 2 (rows.Taken (p 2) (j 3) true false) []
@@ -446,6 +448,33 @@ death_with_an_order_in_hand_acts_at_once = record { told = refl; stepped = refl;
 pub death_with_an_order_in_hand_suits : Suits plain_settings (log_of death_with_an_order_in_hand)
 unfolding url_on_literals is_web is_blank_url judged judged_parse read_against address_of url_of resolved with_fragment base_of fragment_of origin_text origin_of has_same_base is_rewritable events_of each_event after_opening AtEachEvent is_numbered opens is_formed is_once is_caused is_queued is_ordered is_checked ends_settled loads_end ends_told ends_stepped goes_in_time
 death_with_an_order_in_hand_suits = record { opened = refl; placed = refl; kept = refl }
+
+-- A reload is refused as a document above is known dead.
+abbrev pub reload_that_cannot_begin : List Event
+reload_that_cannot_begin =
+    before 10 push_beside_a_frame
+    ++ by_ui (rows.Accepted (r 2) None (requests.Reload (n 1))) (rows.Started (r 2) None ∷ rows.Applied (r 2) (changes.Reload (n 1)) ∷ sent 3 1 0 3 (whys.Req (r 2)) (tasks.Populate (n 1) (s 2) (codes "about:blank") true) ∷ [])
+    ∷ by_ui (rows.Killed (p 1) (x 1)) []
+    ∷ by_coord (rows.Delivered (p 1)) []
+    ∷ by_ui (rows.Accepted (r 3) None (requests.Reload (n 1))) (rows.Refused (r 3) denials.NoDocument ∷ [])
+    ∷ by_proc 1 (rows.Taken (p 1) (j 3) false false) []
+    ∷ []
+
+pub reload_that_cannot_begin_is_legal : IsLegal (log_of reload_that_cannot_begin)
+unfolding url_on_literals is_web is_blank_url judged judged_parse read_against address_of url_of resolved with_fragment base_of fragment_of origin_text origin_of has_same_base is_rewritable events_of each_event after_opening AtEachEvent is_numbered opens is_formed is_once is_caused is_queued is_ordered is_checked ends_settled loads_end ends_told ends_stepped goes_in_time
+reload_that_cannot_begin_is_legal = record { opened = refl; numbered = refl; formed = refl; once = refl; caused = refl; queued = refl; ordered = refl; checked = refl; settled = refl }
+
+pub reload_that_cannot_begin_ends_loads : LoadsEndInTime (log_of reload_that_cannot_begin)
+unfolding url_on_literals is_web is_blank_url judged judged_parse read_against address_of url_of resolved with_fragment base_of fragment_of origin_text origin_of has_same_base is_rewritable events_of each_event after_opening AtEachEvent is_numbered opens is_formed is_once is_caused is_queued is_ordered is_checked ends_settled loads_end ends_told ends_stepped goes_in_time
+reload_that_cannot_begin_ends_loads = refl
+
+pub reload_that_cannot_begin_acts_at_once : ActsAtOnce (log_of reload_that_cannot_begin)
+unfolding url_on_literals is_web is_blank_url judged judged_parse read_against address_of url_of resolved with_fragment base_of fragment_of origin_text origin_of has_same_base is_rewritable events_of each_event after_opening AtEachEvent is_numbered opens is_formed is_once is_caused is_queued is_ordered is_checked ends_settled loads_end ends_told ends_stepped goes_in_time
+reload_that_cannot_begin_acts_at_once = record { told = refl; stepped = refl; in_time = refl }
+
+pub reload_that_cannot_begin_suits : Suits plain_settings (log_of reload_that_cannot_begin)
+unfolding url_on_literals is_web is_blank_url judged judged_parse read_against address_of url_of resolved with_fragment base_of fragment_of origin_text origin_of has_same_base is_rewritable events_of each_event after_opening AtEachEvent is_numbered opens is_formed is_once is_caused is_queued is_ordered is_checked ends_settled loads_end ends_told ends_stepped goes_in_time
+reload_that_cannot_begin_suits = record { opened = refl; placed = refl; kept = refl }
 
 -- A frame dies, and the document above it.
 abbrev pub deaths_of_a_frame_and_its_parent : List Event

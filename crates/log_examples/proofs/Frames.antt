@@ -22,9 +22,10 @@ use Rattle.log_model.specs.ActsAtOnce.{ActsAtOnce, ends_told, ends_stepped, goes
 use Rattle.log_model.specs.Suits.{Suits}
 use Rattle.log_model.specs.declared.header.Header.{Header}
 use Rattle.log_examples.specs.Rows.{n, s, r, p, t, d, j, e, epoch, sent, made}
-use Rattle.log_examples.specs.Logs.{Event, by_ui, by_coord, by_proc, log_of, before, plain_settings}
-use Rattle.log_examples.proofs.Pushes.{push_beside_a_frame}
+use Rattle.log_examples.specs.Logs.{Event, by_start, by_ui, by_coord, by_proc, log_of, before, plain_settings}
+use Rattle.log_examples.proofs.Pushes.{push_beside_a_frame, push_in_an_initial_document}
 use Rattle.log_examples.proofs.Interleavings.{held_back_push}
+use Rattle.log_examples.proofs.Loads.{fragment_beside_a_traversal, fragment_above_a_load}
 
 -- Loads of a frame, a fragment of the top, and back four times.
 abbrev pub frame_loads_and_fragment : List Event
@@ -181,6 +182,93 @@ pub taken_number_suits : Suits plain_settings (log_of taken_number)
 unfolding url_on_literals is_web is_blank_url judged judged_parse read_against address_of url_of resolved with_fragment base_of fragment_of origin_text origin_of has_same_base is_rewritable events_of each_event after_opening AtEachEvent is_numbered opens is_formed is_once is_caused is_queued is_ordered is_checked ends_settled loads_end ends_told ends_stepped goes_in_time
 taken_number_suits = record { opened = refl; placed = refl; kept = refl }
 
+-- The entry of a frame after one that a document made.
+abbrev pub frame_after_a_replace : List Event
+frame_after_a_replace =
+    before 4 push_in_an_initial_document
+    ++ by_ui (rows.Accepted (r 2) (Some (d 1)) (requests.Poke (n 0) (actions.AddFrame (n 1)))) []
+    ∷ by_proc 1 (made 1 2 1 1 (whats.AddFrame (n 1))) []
+    ∷ by_coord (rows.Delivered (p 1)) (rows.Applied (r 2) (changes.AddFrame (s 1) (n 1) (e 0 2) (s 2)) ∷ sent 1 1 0 2 (whys.Req (r 2)) (tasks.Populate (n 1) (s 2) (codes "about:blank") true) ∷ [])
+    ∷ by_proc 1 (rows.Taken (p 1) (j 1) true false) []
+    ∷ by_proc 1 (rows.Finished (p 1) (j 1) (outcomes.Populated None)) []
+    ∷ by_coord (rows.Delivered (p 1)) (sent 2 1 0 2 (whys.Req (r 2)) (tasks.Activate (e 0 2) (epoch 1) 1 0 None (codes "about:blank")) ∷ [])
+    ∷ by_proc 1 (rows.Taken (p 1) (j 2) true false) []
+    ∷ by_proc 1 (rows.Finished (p 1) (j 2) outcomes.Activated) []
+    ∷ by_coord (rows.Delivered (p 1)) []
+    ∷ []
+
+abbrev pub frame_after_a_replace_header : Header
+frame_after_a_replace_header = record { keep = 3; sites = []; pages = []; first = codes "about:blank" }
+
+pub frame_after_a_replace_is_legal : IsLegal (log_of frame_after_a_replace)
+unfolding url_on_literals is_web is_blank_url judged judged_parse read_against address_of url_of resolved with_fragment base_of fragment_of origin_text origin_of has_same_base is_rewritable events_of each_event after_opening AtEachEvent is_numbered opens is_formed is_once is_caused is_queued is_ordered is_checked ends_settled loads_end ends_told ends_stepped goes_in_time
+frame_after_a_replace_is_legal = record { opened = refl; numbered = refl; formed = refl; once = refl; caused = refl; queued = refl; ordered = refl; checked = refl; settled = refl }
+
+pub frame_after_a_replace_ends_loads : LoadsEndInTime (log_of frame_after_a_replace)
+unfolding url_on_literals is_web is_blank_url judged judged_parse read_against address_of url_of resolved with_fragment base_of fragment_of origin_text origin_of has_same_base is_rewritable events_of each_event after_opening AtEachEvent is_numbered opens is_formed is_once is_caused is_queued is_ordered is_checked ends_settled loads_end ends_told ends_stepped goes_in_time
+frame_after_a_replace_ends_loads = refl
+
+pub frame_after_a_replace_acts_at_once : ActsAtOnce (log_of frame_after_a_replace)
+unfolding url_on_literals is_web is_blank_url judged judged_parse read_against address_of url_of resolved with_fragment base_of fragment_of origin_text origin_of has_same_base is_rewritable events_of each_event after_opening AtEachEvent is_numbered opens is_formed is_once is_caused is_queued is_ordered is_checked ends_settled loads_end ends_told ends_stepped goes_in_time
+frame_after_a_replace_acts_at_once = record { told = refl; stepped = refl; in_time = refl }
+
+pub frame_after_a_replace_suits : Suits frame_after_a_replace_header (log_of frame_after_a_replace)
+unfolding url_on_literals is_web is_blank_url judged judged_parse read_against address_of url_of resolved with_fragment base_of fragment_of origin_text origin_of has_same_base is_rewritable events_of each_event after_opening AtEachEvent is_numbered opens is_formed is_once is_caused is_queued is_ordered is_checked ends_settled loads_end ends_told ends_stepped goes_in_time
+frame_after_a_replace_suits = record { opened = refl; placed = refl; kept = refl }
+
+-- A frame is added to a document that stands at two steps.
+abbrev pub frame_at_a_later_step : List Event
+frame_at_a_later_step =
+    by_start (rows.Opened (e 0 1) (s 1) (d 1) (p 1) None (codes "http://a.test/")) []
+    ∷ by_ui (rows.Accepted (r 1) (Some (d 1)) (requests.Poke (n 0) (actions.Push (Some (codes "s")) (Some (codes "/q0"))))) []
+    ∷ by_proc 1 (made 1 1 1 1 (whats.Push (e 1 1) (Some (codes "s")) (codes "http://a.test/q0"))) []
+    ∷ by_coord (rows.Delivered (p 1)) (rows.Applied (r 1) (changes.Push (n 0) (e 1 1) (s 1) (codes "http://a.test/q0") (Some (codes "s"))) ∷ sent 1 1 0 1 (whys.Req (r 1)) (tasks.Update 2 1) ∷ [])
+    ∷ by_proc 1 (rows.Taken (p 1) (j 1) true false) []
+    ∷ by_proc 1 (rows.Finished (p 1) (j 1) outcomes.Updated) []
+    ∷ by_coord (rows.Delivered (p 1)) []
+    ∷ by_ui (rows.Accepted (r 2) (Some (d 1)) (requests.Poke (n 0) (actions.AddFrame (n 1)))) []
+    ∷ by_proc 1 (made 1 2 1 1 (whats.AddFrame (n 1))) []
+    ∷ by_coord (rows.Delivered (p 1)) (rows.Applied (r 2) (changes.AddFrame (s 1) (n 1) (e 0 2) (s 2)) ∷ sent 2 1 0 2 (whys.Req (r 2)) (tasks.Populate (n 1) (s 2) (codes "about:blank") true) ∷ [])
+    ∷ by_proc 1 (rows.Taken (p 1) (j 2) true false) []
+    ∷ by_proc 1 (rows.Finished (p 1) (j 2) (outcomes.Populated None)) []
+    ∷ by_coord (rows.Delivered (p 1)) (sent 3 1 0 2 (whys.Req (r 2)) (tasks.Activate (e 0 2) (epoch 1) 2 1 None (codes "about:blank")) ∷ [])
+    ∷ by_proc 1 (rows.Taken (p 1) (j 3) true false) []
+    ∷ by_proc 1 (rows.Finished (p 1) (j 3) outcomes.Activated) []
+    ∷ by_coord (rows.Delivered (p 1)) []
+    ∷ by_ui (rows.Accepted (r 3) (Some (d 1)) (requests.Poke (n 0) (actions.Push (Some (codes "s")) (Some (codes "/q1"))))) []
+    ∷ by_proc 1 (made 1 3 1 1 (whats.Push (e 1 2) (Some (codes "s")) (codes "http://a.test/q1"))) []
+    ∷ by_coord (rows.Delivered (p 1)) (rows.Applied (r 3) (changes.Push (n 0) (e 1 2) (s 1) (codes "http://a.test/q1") (Some (codes "s"))) ∷ sent 4 1 0 1 (whys.Req (r 3)) (tasks.Update 3 2) ∷ sent 5 1 0 2 (whys.Req (r 3)) (tasks.Update 3 2) ∷ [])
+    ∷ by_proc 1 (rows.Taken (p 1) (j 4) true false) []
+    ∷ by_proc 1 (rows.Finished (p 1) (j 4) outcomes.Updated) []
+    ∷ by_coord (rows.Delivered (p 1)) []
+    ∷ by_proc 1 (rows.Taken (p 1) (j 5) true false) []
+    ∷ by_proc 1 (rows.Finished (p 1) (j 5) outcomes.Updated) []
+    ∷ by_coord (rows.Delivered (p 1)) []
+    ∷ by_ui (rows.Accepted (r 4) None (requests.Go (negsuc 1))) (rows.Started (r 4) (Some (t 0)) ∷ sent 6 1 0 1 (whys.Req (r 4)) (tasks.Activate (e 0 1) (epoch 2) 3 0 None (codes "http://a.test/")) ∷ [])
+    ∷ by_proc 1 (rows.Taken (p 1) (j 6) true false) []
+    ∷ by_proc 1 (rows.Finished (p 1) (j 6) outcomes.Activated) []
+    ∷ by_coord (rows.Delivered (p 1)) (rows.Applied (r 4) (changes.Traverse (t 0)) ∷ sent 7 1 0 2 (whys.Req (r 4)) (tasks.Update 3 0) ∷ [])
+    ∷ by_proc 1 (rows.Taken (p 1) (j 7) true false) []
+    ∷ by_proc 1 (rows.Finished (p 1) (j 7) outcomes.Updated) []
+    ∷ by_coord (rows.Delivered (p 1)) []
+    ∷ []
+
+pub frame_at_a_later_step_is_legal : IsLegal (log_of frame_at_a_later_step)
+unfolding url_on_literals is_web is_blank_url judged judged_parse read_against address_of url_of resolved with_fragment base_of fragment_of origin_text origin_of has_same_base is_rewritable events_of each_event after_opening AtEachEvent is_numbered opens is_formed is_once is_caused is_queued is_ordered is_checked ends_settled loads_end ends_told ends_stepped goes_in_time
+frame_at_a_later_step_is_legal = record { opened = refl; numbered = refl; formed = refl; once = refl; caused = refl; queued = refl; ordered = refl; checked = refl; settled = refl }
+
+pub frame_at_a_later_step_ends_loads : LoadsEndInTime (log_of frame_at_a_later_step)
+unfolding url_on_literals is_web is_blank_url judged judged_parse read_against address_of url_of resolved with_fragment base_of fragment_of origin_text origin_of has_same_base is_rewritable events_of each_event after_opening AtEachEvent is_numbered opens is_formed is_once is_caused is_queued is_ordered is_checked ends_settled loads_end ends_told ends_stepped goes_in_time
+frame_at_a_later_step_ends_loads = refl
+
+pub frame_at_a_later_step_acts_at_once : ActsAtOnce (log_of frame_at_a_later_step)
+unfolding url_on_literals is_web is_blank_url judged judged_parse read_against address_of url_of resolved with_fragment base_of fragment_of origin_text origin_of has_same_base is_rewritable events_of each_event after_opening AtEachEvent is_numbered opens is_formed is_once is_caused is_queued is_ordered is_checked ends_settled loads_end ends_told ends_stepped goes_in_time
+frame_at_a_later_step_acts_at_once = record { told = refl; stepped = refl; in_time = refl }
+
+pub frame_at_a_later_step_suits : Suits plain_settings (log_of frame_at_a_later_step)
+unfolding url_on_literals is_web is_blank_url judged judged_parse read_against address_of url_of resolved with_fragment base_of fragment_of origin_text origin_of has_same_base is_rewritable events_of each_event after_opening AtEachEvent is_numbered opens is_formed is_once is_caused is_queued is_ordered is_checked ends_settled loads_end ends_told ends_stepped goes_in_time
+frame_at_a_later_step_suits = record { opened = refl; placed = refl; kept = refl }
+
 -- A load of a frame whose first document was never shown is dropped.
 abbrev pub load_of_a_new_frame : List Event
 load_of_a_new_frame =
@@ -210,21 +298,8 @@ load_of_a_new_frame_suits = record { opened = refl; placed = refl; kept = refl }
 -- A replace tidies away the entries of the current step.
 abbrev pub current_step_without_entry : List Event
 current_step_without_entry =
-    before 20 held_back_push
-    ++ by_ui (rows.Accepted (r 3) None (requests.Load (n 1) modes.Auto (codes "http://a.test/g"))) (rows.Started (r 3) None ∷ sent 6 1 0 4 (whys.Req (r 3)) (tasks.Populate (n 1) (s 4) (codes "http://a.test/g") false) ∷ [])
-    ∷ by_proc 1 (rows.Taken (p 1) (j 6) true false) []
-    ∷ by_proc 1 (rows.Finished (p 1) (j 6) (outcomes.Populated None)) []
-    ∷ by_coord (rows.Delivered (p 1)) (rows.Applied (r 3) (changes.Push (n 1) (e 0 4) (s 4) (codes "http://a.test/g") None) ∷ sent 7 1 0 3 (whys.Req (r 3)) tasks.Freeze ∷ sent 8 1 0 4 (whys.Req (r 3)) (tasks.Activate (e 0 4) (epoch 3) 2 1 None (codes "http://a.test/g")) ∷ sent 9 1 0 1 (whys.Req (r 3)) (tasks.Update 2 1) ∷ [])
-    ∷ by_proc 1 (rows.Taken (p 1) (j 7) true false) []
-    ∷ by_proc 1 (rows.Finished (p 1) (j 7) outcomes.Frozen) []
-    ∷ by_coord (rows.Delivered (p 1)) []
-    ∷ by_proc 1 (rows.Taken (p 1) (j 8) true false) []
-    ∷ by_proc 1 (rows.Finished (p 1) (j 8) outcomes.Activated) []
-    ∷ by_coord (rows.Delivered (p 1)) []
-    ∷ by_proc 1 (rows.Taken (p 1) (j 9) true false) []
-    ∷ by_proc 1 (rows.Finished (p 1) (j 9) outcomes.Updated) []
-    ∷ by_coord (rows.Delivered (p 1)) []
-    ∷ by_ui (rows.Accepted (r 4) None (requests.Load (n 0) modes.Replace (codes "http://a.test/x"))) (rows.Started (r 4) None ∷ sent 10 1 0 5 (whys.Req (r 4)) (tasks.Populate (n 0) (s 5) (codes "http://a.test/x") false) ∷ [])
+    before 33 fragment_beside_a_traversal
+    ++ by_ui (rows.Accepted (r 4) None (requests.Load (n 0) modes.Replace (codes "http://a.test/x"))) (rows.Started (r 4) None ∷ sent 10 1 0 5 (whys.Req (r 4)) (tasks.Populate (n 0) (s 5) (codes "http://a.test/x") false) ∷ [])
     ∷ by_proc 1 (rows.Taken (p 1) (j 10) true false) []
     ∷ by_proc 1 (rows.Finished (p 1) (j 10) (outcomes.Populated None)) []
     ∷ by_coord (rows.Delivered (p 1)) (rows.Applied (r 4) (changes.Replace (n 0) (e 0 1) (e 0 5) (s 5) (codes "http://a.test/x") None) ∷ sent 11 1 0 1 (whys.Req (r 4)) tasks.Discard ∷ sent 12 1 0 3 (whys.Req (r 4)) tasks.Discard ∷ sent 13 1 0 4 (whys.Req (r 4)) tasks.Discard ∷ sent 14 1 0 5 (whys.Req (r 4)) (tasks.Activate (e 0 5) (epoch 2) 1 0 None (codes "http://a.test/x")) ∷ [])
@@ -261,9 +336,8 @@ current_step_without_entry_suits = record { opened = refl; placed = refl; kept =
 -- A load while a traversal moves another navigable.
 abbrev pub load_while_frames_are_moved : List Event
 load_while_frames_are_moved =
-    before 10 push_beside_a_frame
-    ++ by_ui (rows.Accepted (r 2) None (requests.Load (n 1) modes.Auto (codes "http://b.test/f"))) (rows.Started (r 2) None ∷ sent 3 2 0 3 (whys.Req (r 2)) (tasks.Populate (n 1) (s 3) (codes "http://b.test/f") false) ∷ [])
-    ∷ by_proc 2 (rows.Taken (p 2) (j 3) true false) []
+    before 11 fragment_above_a_load
+    ++ by_proc 2 (rows.Taken (p 2) (j 3) true false) []
     ∷ by_proc 2 (rows.Finished (p 2) (j 3) (outcomes.Populated None)) []
     ∷ by_coord (rows.Delivered (p 2)) (rows.Applied (r 2) (changes.Replace (n 1) (e 0 2) (e 0 3) (s 3) (codes "http://b.test/f") None) ∷ sent 4 1 0 2 (whys.Req (r 2)) tasks.Discard ∷ sent 5 2 0 3 (whys.Req (r 2)) (tasks.Activate (e 0 3) (epoch 2) 1 0 None (codes "http://b.test/f")) ∷ [])
     ∷ by_proc 1 (rows.Taken (p 1) (j 4) true false) []

@@ -23,7 +23,8 @@ use Rattle.log_model.specs.Suits.{Suits}
 use Rattle.log_model.specs.declared.header.Header.{Header}
 use Rattle.log_examples.specs.Rows.{n, s, r, p, t, d, j, e, epoch, sent, made}
 use Rattle.log_examples.specs.Logs.{Event, by_start, by_ui, by_coord, by_proc, log_of, before, plain_settings}
-use Rattle.log_examples.proofs.Pushes.{poke_of_the_newer_document}
+use Rattle.log_examples.proofs.Pushes.{push_beside_a_frame, poke_of_the_newer_document}
+use Rattle.log_examples.proofs.Interleavings.{held_back_push}
 
 -- A later load takes the place of the first, and one during a traversal is dropped.
 abbrev pub later_load : List Event
@@ -492,3 +493,136 @@ load_of_an_initial_document_acts_at_once = record { told = refl; stepped = refl;
 pub load_of_an_initial_document_suits : Suits load_of_an_initial_document_header (log_of load_of_an_initial_document)
 unfolding url_on_literals is_web is_blank_url judged judged_parse read_against address_of url_of resolved with_fragment base_of fragment_of origin_text origin_of has_same_base is_rewritable events_of each_event after_opening AtEachEvent is_numbered opens is_formed is_once is_caused is_queued is_ordered is_checked ends_settled loads_end ends_told ends_stepped goes_in_time
 load_of_an_initial_document_suits = record { opened = refl; placed = refl; kept = refl }
+
+-- A load gives way to one that was applied as it was on its way.
+abbrev pub load_behind_a_load : List Event
+load_behind_a_load =
+    by_start (rows.Opened (e 0 1) (s 1) (d 1) (p 1) None (codes "http://a.test/")) []
+    ∷ by_ui (rows.Accepted (r 1) None (requests.Load (n 0) modes.Auto (codes "http://b.test/1"))) (rows.Started (r 1) None ∷ sent 1 2 0 2 (whys.Req (r 1)) (tasks.Populate (n 0) (s 2) (codes "http://b.test/1") false) ∷ [])
+    ∷ by_proc 2 (rows.Taken (p 2) (j 1) true false) []
+    ∷ by_proc 2 (rows.Finished (p 2) (j 1) (outcomes.Populated None)) []
+    ∷ by_coord (rows.Delivered (p 2)) (rows.Applied (r 1) (changes.Push (n 0) (e 0 2) (s 2) (codes "http://b.test/1") None) ∷ sent 2 1 0 1 (whys.Req (r 1)) tasks.Freeze ∷ sent 3 2 0 2 (whys.Req (r 1)) (tasks.Activate (e 0 2) (epoch 2) 2 1 None (codes "http://b.test/1")) ∷ [])
+    ∷ by_ui (rows.Accepted (r 2) None (requests.Load (n 0) modes.Auto (codes "http://a.test/2"))) (rows.Dropped (r 2) (drops.By (r 1)) ∷ [])
+    ∷ by_proc 1 (rows.Taken (p 1) (j 2) true false) []
+    ∷ by_proc 1 (rows.Finished (p 1) (j 2) outcomes.Frozen) []
+    ∷ by_coord (rows.Delivered (p 1)) []
+    ∷ by_proc 2 (rows.Taken (p 2) (j 3) true false) []
+    ∷ by_proc 2 (rows.Finished (p 2) (j 3) outcomes.Activated) []
+    ∷ by_coord (rows.Delivered (p 2)) []
+    ∷ []
+
+abbrev pub load_behind_a_load_header : Header
+load_behind_a_load_header = record { keep = 3; sites = record { origin = codes "http://b.test"; proc = p 2 } ∷ []; pages = []; first = codes "http://a.test/" }
+
+pub load_behind_a_load_is_legal : IsLegal (log_of load_behind_a_load)
+unfolding url_on_literals is_web is_blank_url judged judged_parse read_against address_of url_of resolved with_fragment base_of fragment_of origin_text origin_of has_same_base is_rewritable events_of each_event after_opening AtEachEvent is_numbered opens is_formed is_once is_caused is_queued is_ordered is_checked ends_settled loads_end ends_told ends_stepped goes_in_time
+load_behind_a_load_is_legal = record { opened = refl; numbered = refl; formed = refl; once = refl; caused = refl; queued = refl; ordered = refl; checked = refl; settled = refl }
+
+pub load_behind_a_load_ends_loads : LoadsEndInTime (log_of load_behind_a_load)
+unfolding url_on_literals is_web is_blank_url judged judged_parse read_against address_of url_of resolved with_fragment base_of fragment_of origin_text origin_of has_same_base is_rewritable events_of each_event after_opening AtEachEvent is_numbered opens is_formed is_once is_caused is_queued is_ordered is_checked ends_settled loads_end ends_told ends_stepped goes_in_time
+load_behind_a_load_ends_loads = refl
+
+pub load_behind_a_load_acts_at_once : ActsAtOnce (log_of load_behind_a_load)
+unfolding url_on_literals is_web is_blank_url judged judged_parse read_against address_of url_of resolved with_fragment base_of fragment_of origin_text origin_of has_same_base is_rewritable events_of each_event after_opening AtEachEvent is_numbered opens is_formed is_once is_caused is_queued is_ordered is_checked ends_settled loads_end ends_told ends_stepped goes_in_time
+load_behind_a_load_acts_at_once = record { told = refl; stepped = refl; in_time = refl }
+
+pub load_behind_a_load_suits : Suits load_behind_a_load_header (log_of load_behind_a_load)
+unfolding url_on_literals is_web is_blank_url judged judged_parse read_against address_of url_of resolved with_fragment base_of fragment_of origin_text origin_of has_same_base is_rewritable events_of each_event after_opening AtEachEvent is_numbered opens is_formed is_once is_caused is_queued is_ordered is_checked ends_settled loads_end ends_told ends_stepped goes_in_time
+load_behind_a_load_suits = record { opened = refl; placed = refl; kept = refl }
+
+-- A fragment of the top jumps the queue while a frame is moved.
+abbrev pub fragment_beside_a_traversal : List Event
+fragment_beside_a_traversal =
+    before 20 held_back_push
+    ++ by_ui (rows.Accepted (r 3) None (requests.Load (n 1) modes.Auto (codes "http://a.test/g"))) (rows.Started (r 3) None ∷ sent 6 1 0 4 (whys.Req (r 3)) (tasks.Populate (n 1) (s 4) (codes "http://a.test/g") false) ∷ [])
+    ∷ by_proc 1 (rows.Taken (p 1) (j 6) true false) []
+    ∷ by_proc 1 (rows.Finished (p 1) (j 6) (outcomes.Populated None)) []
+    ∷ by_coord (rows.Delivered (p 1)) (rows.Applied (r 3) (changes.Push (n 1) (e 0 4) (s 4) (codes "http://a.test/g") None) ∷ sent 7 1 0 3 (whys.Req (r 3)) tasks.Freeze ∷ sent 8 1 0 4 (whys.Req (r 3)) (tasks.Activate (e 0 4) (epoch 3) 2 1 None (codes "http://a.test/g")) ∷ sent 9 1 0 1 (whys.Req (r 3)) (tasks.Update 2 1) ∷ [])
+    ∷ by_proc 1 (rows.Taken (p 1) (j 7) true false) []
+    ∷ by_proc 1 (rows.Finished (p 1) (j 7) outcomes.Frozen) []
+    ∷ by_coord (rows.Delivered (p 1)) []
+    ∷ by_proc 1 (rows.Taken (p 1) (j 8) true false) []
+    ∷ by_proc 1 (rows.Finished (p 1) (j 8) outcomes.Activated) []
+    ∷ by_coord (rows.Delivered (p 1)) []
+    ∷ by_proc 1 (rows.Taken (p 1) (j 9) true false) []
+    ∷ by_proc 1 (rows.Finished (p 1) (j 9) outcomes.Updated) []
+    ∷ by_coord (rows.Delivered (p 1)) []
+    ∷ by_ui (rows.Accepted (r 4) None (requests.Load (n 0) modes.Auto (codes "http://a.test/#x"))) (sent 10 1 0 1 (whys.Req (r 4)) (tasks.DoFragment (r 4) modes.Auto (codes "http://a.test/#x")) ∷ [])
+    ∷ by_ui (rows.Accepted (r 5) None (requests.Go (negsuc 0))) (rows.Started (r 5) (Some (t 0)) ∷ sent 11 1 0 4 (whys.Req (r 5)) tasks.Freeze ∷ sent 12 1 0 3 (whys.Req (r 5)) (tasks.Activate (e 0 3) (epoch 4) 2 0 None (codes "http://a.test/f")) ∷ [])
+    ∷ by_proc 1 (rows.Taken (p 1) (j 10) true false) []
+    ∷ by_proc 1 (rows.Finished (p 1) (j 10) outcomes.Fragmented) (made 1 4 1 1 (whats.Push (e 1 1) None (codes "http://a.test/#x")) ∷ [])
+    ∷ by_coord (rows.Delivered (p 1)) (rows.Applied (r 4) (changes.Push (n 0) (e 1 1) (s 1) (codes "http://a.test/#x") None) ∷ sent 13 1 0 1 (whys.Req (r 5)) (tasks.Activate (e 0 1) (epoch 2) 3 0 None (codes "http://a.test/")) ∷ sent 14 1 0 3 (whys.Req (r 4)) (tasks.Update 3 0) ∷ [])
+    ∷ by_proc 1 (rows.Taken (p 1) (j 11) true false) []
+    ∷ by_proc 1 (rows.Finished (p 1) (j 11) outcomes.Frozen) []
+    ∷ by_coord (rows.Delivered (p 1)) []
+    ∷ by_proc 1 (rows.Taken (p 1) (j 12) true false) []
+    ∷ by_proc 1 (rows.Finished (p 1) (j 12) outcomes.Activated) []
+    ∷ by_coord (rows.Delivered (p 1)) []
+    ∷ by_proc 1 (rows.Taken (p 1) (j 13) true false) []
+    ∷ by_proc 1 (rows.Finished (p 1) (j 13) outcomes.Activated) []
+    ∷ by_coord (rows.Delivered (p 1)) (rows.Applied (r 5) (changes.Traverse (t 0)) ∷ [])
+    ∷ by_proc 1 (rows.Taken (p 1) (j 14) true false) []
+    ∷ by_proc 1 (rows.Finished (p 1) (j 14) outcomes.Updated) []
+    ∷ by_coord (rows.Delivered (p 1)) []
+    ∷ []
+
+pub fragment_beside_a_traversal_is_legal : IsLegal (log_of fragment_beside_a_traversal)
+unfolding url_on_literals is_web is_blank_url judged judged_parse read_against address_of url_of resolved with_fragment base_of fragment_of origin_text origin_of has_same_base is_rewritable events_of each_event after_opening AtEachEvent is_numbered opens is_formed is_once is_caused is_queued is_ordered is_checked ends_settled loads_end ends_told ends_stepped goes_in_time
+fragment_beside_a_traversal_is_legal = record { opened = refl; numbered = refl; formed = refl; once = refl; caused = refl; queued = refl; ordered = refl; checked = refl; settled = refl }
+
+pub fragment_beside_a_traversal_ends_loads : LoadsEndInTime (log_of fragment_beside_a_traversal)
+unfolding url_on_literals is_web is_blank_url judged judged_parse read_against address_of url_of resolved with_fragment base_of fragment_of origin_text origin_of has_same_base is_rewritable events_of each_event after_opening AtEachEvent is_numbered opens is_formed is_once is_caused is_queued is_ordered is_checked ends_settled loads_end ends_told ends_stepped goes_in_time
+fragment_beside_a_traversal_ends_loads = refl
+
+pub fragment_beside_a_traversal_acts_at_once : ActsAtOnce (log_of fragment_beside_a_traversal)
+unfolding url_on_literals is_web is_blank_url judged judged_parse read_against address_of url_of resolved with_fragment base_of fragment_of origin_text origin_of has_same_base is_rewritable events_of each_event after_opening AtEachEvent is_numbered opens is_formed is_once is_caused is_queued is_ordered is_checked ends_settled loads_end ends_told ends_stepped goes_in_time
+fragment_beside_a_traversal_acts_at_once = record { told = refl; stepped = refl; in_time = refl }
+
+pub fragment_beside_a_traversal_suits : Suits plain_settings (log_of fragment_beside_a_traversal)
+unfolding url_on_literals is_web is_blank_url judged judged_parse read_against address_of url_of resolved with_fragment base_of fragment_of origin_text origin_of has_same_base is_rewritable events_of each_event after_opening AtEachEvent is_numbered opens is_formed is_once is_caused is_queued is_ordered is_checked ends_settled loads_end ends_told ends_stepped goes_in_time
+fragment_beside_a_traversal_suits = record { opened = refl; placed = refl; kept = refl }
+
+-- A fragment of the top leaves the load of a frame alone.
+abbrev pub fragment_above_a_load : List Event
+fragment_above_a_load =
+    before 10 push_beside_a_frame
+    ++ by_ui (rows.Accepted (r 2) None (requests.Load (n 1) modes.Auto (codes "http://b.test/f"))) (rows.Started (r 2) None ∷ sent 3 2 0 3 (whys.Req (r 2)) (tasks.Populate (n 1) (s 3) (codes "http://b.test/f") false) ∷ [])
+    ∷ by_ui (rows.Accepted (r 3) None (requests.Load (n 0) modes.Auto (codes "http://a.test/#x"))) (sent 4 1 0 1 (whys.Req (r 3)) (tasks.DoFragment (r 3) modes.Auto (codes "http://a.test/#x")) ∷ [])
+    ∷ by_proc 1 (rows.Taken (p 1) (j 4) true false) []
+    ∷ by_proc 1 (rows.Finished (p 1) (j 4) outcomes.Fragmented) (made 1 3 1 1 (whats.Push (e 1 1) None (codes "http://a.test/#x")) ∷ [])
+    ∷ by_coord (rows.Delivered (p 1)) (rows.Applied (r 3) (changes.Push (n 0) (e 1 1) (s 1) (codes "http://a.test/#x") None) ∷ sent 5 1 0 1 (whys.Req (r 3)) (tasks.Update 2 1) ∷ sent 6 1 0 2 (whys.Req (r 3)) (tasks.Update 2 1) ∷ [])
+    ∷ by_proc 2 (rows.Taken (p 2) (j 3) true false) []
+    ∷ by_proc 2 (rows.Finished (p 2) (j 3) (outcomes.Populated None)) []
+    ∷ by_coord (rows.Delivered (p 2)) (rows.Applied (r 2) (changes.Replace (n 1) (e 0 2) (e 0 3) (s 3) (codes "http://b.test/f") None) ∷ sent 7 1 0 2 (whys.Req (r 2)) tasks.Discard ∷ sent 8 2 0 3 (whys.Req (r 2)) (tasks.Activate (e 0 3) (epoch 2) 2 1 None (codes "http://b.test/f")) ∷ [])
+    ∷ by_proc 1 (rows.Taken (p 1) (j 5) true false) []
+    ∷ by_proc 1 (rows.Finished (p 1) (j 5) outcomes.Updated) []
+    ∷ by_coord (rows.Delivered (p 1)) []
+    ∷ by_proc 2 (rows.Taken (p 2) (j 8) true false) []
+    ∷ by_proc 2 (rows.Finished (p 2) (j 8) outcomes.Activated) []
+    ∷ by_coord (rows.Delivered (p 2)) []
+    ∷ by_proc 1 (rows.Taken (p 1) (j 6) true false) []
+    ∷ by_proc 1 (rows.Finished (p 1) (j 6) outcomes.Updated) []
+    ∷ by_coord (rows.Delivered (p 1)) []
+    ∷ by_proc 1 (rows.Taken (p 1) (j 7) true false) []
+    ∷ by_proc 1 (rows.Finished (p 1) (j 7) outcomes.Discarded) []
+    ∷ by_coord (rows.Delivered (p 1)) []
+    ∷ []
+
+abbrev pub fragment_above_a_load_header : Header
+fragment_above_a_load_header = record { keep = 3; sites = record { origin = codes "http://b.test"; proc = p 2 } ∷ []; pages = []; first = codes "http://a.test/" }
+
+pub fragment_above_a_load_is_legal : IsLegal (log_of fragment_above_a_load)
+unfolding url_on_literals is_web is_blank_url judged judged_parse read_against address_of url_of resolved with_fragment base_of fragment_of origin_text origin_of has_same_base is_rewritable events_of each_event after_opening AtEachEvent is_numbered opens is_formed is_once is_caused is_queued is_ordered is_checked ends_settled loads_end ends_told ends_stepped goes_in_time
+fragment_above_a_load_is_legal = record { opened = refl; numbered = refl; formed = refl; once = refl; caused = refl; queued = refl; ordered = refl; checked = refl; settled = refl }
+
+pub fragment_above_a_load_ends_loads : LoadsEndInTime (log_of fragment_above_a_load)
+unfolding url_on_literals is_web is_blank_url judged judged_parse read_against address_of url_of resolved with_fragment base_of fragment_of origin_text origin_of has_same_base is_rewritable events_of each_event after_opening AtEachEvent is_numbered opens is_formed is_once is_caused is_queued is_ordered is_checked ends_settled loads_end ends_told ends_stepped goes_in_time
+fragment_above_a_load_ends_loads = refl
+
+pub fragment_above_a_load_acts_at_once : ActsAtOnce (log_of fragment_above_a_load)
+unfolding url_on_literals is_web is_blank_url judged judged_parse read_against address_of url_of resolved with_fragment base_of fragment_of origin_text origin_of has_same_base is_rewritable events_of each_event after_opening AtEachEvent is_numbered opens is_formed is_once is_caused is_queued is_ordered is_checked ends_settled loads_end ends_told ends_stepped goes_in_time
+fragment_above_a_load_acts_at_once = record { told = refl; stepped = refl; in_time = refl }
+
+pub fragment_above_a_load_suits : Suits fragment_above_a_load_header (log_of fragment_above_a_load)
+unfolding url_on_literals is_web is_blank_url judged judged_parse read_against address_of url_of resolved with_fragment base_of fragment_of origin_text origin_of has_same_base is_rewritable events_of each_event after_opening AtEachEvent is_numbered opens is_formed is_once is_caused is_queued is_ordered is_checked ends_settled loads_end ends_told ends_stepped goes_in_time
+fragment_above_a_load_suits = record { opened = refl; placed = refl; kept = refl }

@@ -25,14 +25,14 @@ use Rattle.log_model.specs.ActsAtOnce.{ends_told, ends_stepped, goes_in_time}
 use Rattle.log_examples.specs.Rows.{n, s, r, p, t, x, d, j, e, epoch, sent, made}
 use Rattle.log_examples.specs.Logs.{Event, by_start, by_ui, by_coord, by_proc, log_of, before, since}
 use Rattle.log_examples.proofs.Pushes.{push_beside_a_frame}
-use Rattle.log_examples.proofs.Traversals.{document_goes_back, push_under_an_old_epoch}
+use Rattle.log_examples.proofs.Traversals.{push_after_going_back, document_goes_back, push_under_an_old_epoch}
 use Rattle.log_examples.proofs.Interleavings.{push_beside_a_running_traversal}
 use Rattle.log_examples.proofs.Loads.{later_load, two_processes, load_ended_by_a_reload}
-use Rattle.log_examples.proofs.Frames.{taken_number, load_of_a_new_frame, current_step_without_entry}
-use Rattle.log_examples.proofs.Removals.{removed_frame, push_of_a_removed_frame}
+use Rattle.log_examples.proofs.Frames.{taken_number, frame_at_a_later_step, load_of_a_new_frame}
+use Rattle.log_examples.proofs.Removals.{removed_frame, push_of_a_removed_frame, removal_and_push}
 use Rattle.log_examples.proofs.Reloads.{kept_frame_document_at_an_eviction}
 use Rattle.log_examples.proofs.Prompts.{stay, load_behind_an_answer}
-use Rattle.log_examples.proofs.Deaths.{void_order, one_of_two_processes_dies, questions_of_the_dead, load_below_a_lost_navigable, poke_of_a_dead_document}
+use Rattle.log_examples.proofs.Deaths.{one_of_two_processes_dies, questions_of_the_dead, load_below_a_lost_navigable, reload_whose_target_changes, poke_of_a_dead_document}
 use Rattle.log_examples.proofs.Pending.{reload_of_a_removed_frame}
 
 -- A load is dropped by a request that has ended.
@@ -170,6 +170,31 @@ pub dropped_by_itself_is_refused : IsLegal (log_of dropped_by_itself) → ⊥
 unfolding url_on_literals is_web is_blank_url judged judged_parse read_against address_of url_of resolved with_fragment base_of fragment_of origin_text origin_of has_same_base is_rewritable events_of each_event after_opening AtEachEvent is_numbered opens is_formed is_once is_caused is_queued is_ordered is_checked ends_settled loads_end ends_told ends_stepped goes_in_time
 dropped_by_itself_is_refused holds = false≢true holds.caused
 
+-- is_dead_by: without test `by.0 == death.0`, `caused` would hold.
+abbrev pub is_dead_by_1 : List Event
+is_dead_by_1 =
+    by_start (rows.Opened (e 0 1) (s 1) (d 1) (p 1) None (codes "http://a.test/")) []
+    ∷ by_ui (rows.Accepted (r 1) (Some (d 1)) (requests.Poke (n 0) (actions.AddFrame (n 1)))) []
+    ∷ by_ui (rows.Killed (p 1) (x 1)) (rows.Dropped (r 1) (drops.Gone (x 1)) ∷ [])
+    ∷ by_coord (rows.Delivered (p 1)) []
+    ∷ by_ui (rows.Killed (p 1) (x 2)) (rows.Dropped (r 1) (drops.Gone (x 2)) ∷ [])
+    ∷ []
+
+pub is_dead_by_1_is_refused : IsLegal (log_of is_dead_by_1) → ⊥
+unfolding url_on_literals is_web is_blank_url judged judged_parse read_against address_of url_of resolved with_fragment base_of fragment_of origin_text origin_of has_same_base is_rewritable events_of each_event after_opening AtEachEvent is_numbered opens is_formed is_once is_caused is_queued is_ordered is_checked ends_settled loads_end ends_told ends_stepped goes_in_time
+is_dead_by_1_is_refused holds = false≢true holds.caused
+
+-- is_taken_by: without test `is_dead_by death`, `caused` would hold.
+abbrev pub is_taken_by_1 : List Event
+is_taken_by_1 =
+    before 5 push_under_an_old_epoch
+    ++ by_coord (rows.Delivered (p 1)) (sent 2 1 0 1 (whys.Death (x 1)) (tasks.Activate (e 0 1) (epoch 3) 2 1 None (codes "http://a.test/")) ∷ rows.Dropped (r 1) (drops.Gone (x 1)) ∷ sent 2 1 0 1 (whys.Req (r 2)) tasks.Freeze ∷ [])
+    ∷ []
+
+pub is_taken_by_1_is_refused : IsLegal (log_of is_taken_by_1) → ⊥
+unfolding url_on_literals is_web is_blank_url judged judged_parse read_against address_of url_of resolved with_fragment base_of fragment_of origin_text origin_of has_same_base is_rewritable events_of each_event after_opening AtEachEvent is_numbered opens is_formed is_once is_caused is_queued is_ordered is_checked ends_settled loads_end ends_told ends_stepped goes_in_time
+is_taken_by_1_is_refused holds = false≢true holds.caused
+
 -- any_displaced: without test `not (is_placed s step nav)`, `caused` would hold.
 abbrev pub any_displaced_1 : List Event
 any_displaced_1 =
@@ -245,8 +270,13 @@ by_last_step_1_is_refused holds = false≢true holds.caused
 -- by_last_step: without test `last.0 == r.nr.0`, `caused` would hold.
 abbrev pub by_last_step_2 : List Event
 by_last_step_2 =
-    before 41 current_step_without_entry
-    ++ by_proc 1 (rows.Finished (p 1) (j 12) outcomes.Discarded) (rows.Dropped (r 2) (drops.By (r 3)) ∷ [])
+    before 7 frame_at_a_later_step
+    ++ by_ui (rows.Accepted (r 2) None (requests.Load (n 0) modes.Auto (codes "http://b.test/p1"))) (rows.Started (r 2) None ∷ sent 2 1 0 2 (whys.Req (r 2)) (tasks.Populate (n 0) (s 2) (codes "http://b.test/p1") false) ∷ [])
+    ∷ by_proc 1 (rows.Taken (p 1) (j 2) true false) []
+    ∷ by_proc 1 (rows.Finished (p 1) (j 2) (outcomes.Populated None)) []
+    ∷ by_coord (rows.Delivered (p 1)) (rows.Applied (r 2) (changes.Push (n 0) (e 0 2) (s 2) (codes "http://b.test/p1") None) ∷ sent 3 1 0 1 (whys.Req (r 2)) tasks.Freeze ∷ sent 4 1 0 2 (whys.Req (r 2)) (tasks.Activate (e 0 2) (epoch 2) 3 2 None (codes "http://b.test/p1")) ∷ [])
+    ∷ by_proc 1 (rows.Taken (p 1) (j 3) true false) []
+    ∷ by_coord (rows.Delivered (p 1)) (rows.Dropped (r 2) (drops.By (r 1)) ∷ sent 5 1 0 2 (whys.Req (r 1)) (tasks.DoFragment (r 2) modes.Auto (codes "http://b.test/p1")) ∷ rows.Applied (r 1) (changes.Push (n 0) (e 1 1) (s 1) (codes "http://a.test/q0") (Some (codes "s"))) ∷ [])
     ∷ []
 
 pub by_last_step_2_is_refused : IsLegal (log_of by_last_step_2) → ⊥
@@ -276,21 +306,32 @@ pub by_later_load_2_is_refused : IsLegal (log_of by_later_load_2) → ⊥
 unfolding url_on_literals is_web is_blank_url judged judged_parse read_against address_of url_of resolved with_fragment base_of fragment_of origin_text origin_of has_same_base is_rewritable events_of each_event after_opening AtEachEvent is_numbered opens is_formed is_once is_caused is_queued is_ordered is_checked ends_settled loads_end ends_told ends_stepped goes_in_time
 by_later_load_2_is_refused holds = false≢true holds.caused
 
--- by_later_load: without conjunct `r.is_started`, `caused` would hold.
+-- by_later_load: without conjunct `not (had_started p r.nr)`, `caused` would hold.
 abbrev pub by_later_load_3 : List Event
 by_later_load_3 =
-    by_start (rows.Opened (e 0 1) (s 1) (d 1) (p 1) None (codes "http://a.test/")) []
-    ∷ by_ui (rows.Accepted (r 1) None (requests.Load (n 0) modes.Auto (codes "http://a.test/1"))) (rows.Started (r 1) None ∷ sent 1 1 0 2 (whys.Req (r 1)) (tasks.Populate (n 0) (s 2) (codes "http://a.test/1") false) ∷ [])
-    ∷ by_ui (rows.Accepted (r 2) None (requests.Load (n 0) modes.Auto (codes "http://b.test/p0"))) (rows.Dropped (r 1) (drops.By (r 2)) ∷ sent 2 1 0 3 (whys.Req (r 2)) (tasks.Populate (n 0) (s 3) (codes "http://b.test/p0") true) ∷ [])
+    before 29 removal_and_push
+    ++ by_coord (rows.Delivered (p 1)) (rows.Dropped (r 2) (drops.By (r 3)) ∷ [])
     ∷ []
 
 pub by_later_load_3_is_refused : IsLegal (log_of by_later_load_3) → ⊥
 unfolding url_on_literals is_web is_blank_url judged judged_parse read_against address_of url_of resolved with_fragment base_of fragment_of origin_text origin_of has_same_base is_rewritable events_of each_event after_opening AtEachEvent is_numbered opens is_formed is_once is_caused is_queued is_ordered is_checked ends_settled loads_end ends_told ends_stepped goes_in_time
 by_later_load_3_is_refused holds = false≢true holds.caused
 
--- by_later_load: without conjunct `same_option (λ (a : NavId) (b : NavId) . a.0 == b.0) (nav_of_request q.what) (nav_of_request r.what)`, `caused` would hold.
+-- by_later_load: without conjunct `r.is_started`, `caused` would hold.
 abbrev pub by_later_load_4 : List Event
 by_later_load_4 =
+    by_start (rows.Opened (e 0 1) (s 1) (d 1) (p 1) None (codes "http://a.test/")) []
+    ∷ by_ui (rows.Accepted (r 1) None (requests.Load (n 0) modes.Auto (codes "http://a.test/1"))) (rows.Started (r 1) None ∷ sent 1 1 0 2 (whys.Req (r 1)) (tasks.Populate (n 0) (s 2) (codes "http://a.test/1") false) ∷ [])
+    ∷ by_ui (rows.Accepted (r 2) None (requests.Load (n 0) modes.Auto (codes "http://b.test/p0"))) (rows.Dropped (r 1) (drops.By (r 2)) ∷ sent 2 1 0 3 (whys.Req (r 2)) (tasks.Populate (n 0) (s 3) (codes "http://b.test/p0") true) ∷ [])
+    ∷ []
+
+pub by_later_load_4_is_refused : IsLegal (log_of by_later_load_4) → ⊥
+unfolding url_on_literals is_web is_blank_url judged judged_parse read_against address_of url_of resolved with_fragment base_of fragment_of origin_text origin_of has_same_base is_rewritable events_of each_event after_opening AtEachEvent is_numbered opens is_formed is_once is_caused is_queued is_ordered is_checked ends_settled loads_end ends_told ends_stepped goes_in_time
+by_later_load_4_is_refused holds = false≢true holds.caused
+
+-- by_later_load: without conjunct `same_option (λ (a : NavId) (b : NavId) . a.0 == b.0) (nav_of_request q.what) (nav_of_request r.what)`, `caused` would hold.
+abbrev pub by_later_load_5 : List Event
+by_later_load_5 =
     by_start (rows.Opened (e 0 1) (s 1) (d 1) (p 1) None (codes "about:blank")) []
     ∷ by_ui (rows.Accepted (r 1) (Some (d 1)) (requests.Poke (n 0) (actions.AddFrame (n 1)))) []
     ∷ by_proc 1 (made 1 1 1 1 (whats.AddFrame (n 1))) []
@@ -306,9 +347,9 @@ by_later_load_4 =
     ∷ by_ui (rows.Accepted (r 3) None (requests.Load (n 0) modes.Auto (codes "http://a.test/1#x"))) (rows.Dropped (r 2) (drops.By (r 3)) ∷ rows.Started (r 3) (Some (t 0)) ∷ sent 4 1 0 2 (whys.Req (r 3)) (tasks.DoFragment (r 3) modes.Replace (codes "http://a.test/1#x")) ∷ [])
     ∷ []
 
-pub by_later_load_4_is_refused : IsLegal (log_of by_later_load_4) → ⊥
+pub by_later_load_5_is_refused : IsLegal (log_of by_later_load_5) → ⊥
 unfolding url_on_literals is_web is_blank_url judged judged_parse read_against address_of url_of resolved with_fragment base_of fragment_of origin_text origin_of has_same_base is_rewritable events_of each_event after_opening AtEachEvent is_numbered opens is_formed is_once is_caused is_queued is_ordered is_checked ends_settled loads_end ends_told ends_stepped goes_in_time
-by_later_load_4_is_refused holds = false≢true holds.caused
+by_later_load_5_is_refused holds = false≢true holds.caused
 
 -- by_traversal: without conjunct `is_load q.what`, `caused` would hold.
 abbrev pub by_traversal_1 : List Event
@@ -331,6 +372,17 @@ by_traversal_2 =
 pub by_traversal_2_is_refused : IsLegal (log_of by_traversal_2) → ⊥
 unfolding url_on_literals is_web is_blank_url judged judged_parse read_against address_of url_of resolved with_fragment base_of fragment_of origin_text origin_of has_same_base is_rewritable events_of each_event after_opening AtEachEvent is_numbered opens is_formed is_once is_caused is_queued is_ordered is_checked ends_settled loads_end ends_told ends_stepped goes_in_time
 by_traversal_2_is_refused holds = false≢true holds.caused
+
+-- changed_one_of: without test `has_nav navs`, `caused` would hold.
+abbrev pub changed_one_of_1 : List Event
+changed_one_of_1 =
+    before 10 push_beside_a_frame
+    ++ by_coord (rows.Delivered (p 1)) (sent 3 1 0 1 (whys.Req (r 1)) tasks.Discard ∷ sent 3 1 0 1 (whys.Req (r 1)) (tasks.Activate (e 0 1) (epoch 2) 1 0 None (codes "http://a.test/")) ∷ rows.Dropped (r 1) (drops.By (r 1)) ∷ [])
+    ∷ []
+
+pub changed_one_of_1_is_refused : IsLegal (log_of changed_one_of_1) → ⊥
+unfolding url_on_literals is_web is_blank_url judged judged_parse read_against address_of url_of resolved with_fragment base_of fragment_of origin_text origin_of has_same_base is_rewritable events_of each_event after_opening AtEachEvent is_numbered opens is_formed is_once is_caused is_queued is_ordered is_checked ends_settled loads_end ends_told ends_stepped goes_in_time
+changed_one_of_1_is_refused holds = false≢true holds.caused
 
 -- denial_at_act: were `makes s q q.what` never so, `caused` would hold.
 abbrev pub denial_at_act_1 : List Event
@@ -388,6 +440,28 @@ due_denial_2 =
 pub due_denial_2_is_refused : IsLegal (log_of due_denial_2) → ⊥
 unfolding url_on_literals is_web is_blank_url judged judged_parse read_against address_of url_of resolved with_fragment base_of fragment_of origin_text origin_of has_same_base is_rewritable events_of each_event after_opening AtEachEvent is_numbered opens is_formed is_once is_caused is_queued is_ordered is_checked ends_settled loads_end ends_told ends_stepped goes_in_time
 due_denial_2_is_refused holds = false≢true holds.caused
+
+-- has_moved_away: without conjunct `is_passed_traversal s r || changed_one_of r (way_to s nav) || any_place s (way_to s nav) (λ place . list_any (λ entry . list_any (same_entry entry) place.ever_given) r.took)`, `caused` would hold.
+abbrev pub has_moved_away_2 : List Event
+has_moved_away_2 =
+    before 11 push_after_going_back
+    ++ by_coord (rows.Delivered (p 1)) (sent 3 1 0 1 (whys.Req (r 3)) tasks.Freeze ∷ rows.Dropped (r 3) (drops.By (r 3)) ∷ rows.Applied (r 4) (changes.RemoveFrame (n 0)) ∷ [])
+    ∷ []
+
+pub has_moved_away_2_is_refused : IsLegal (log_of has_moved_away_2) → ⊥
+unfolding url_on_literals is_web is_blank_url judged judged_parse read_against address_of url_of resolved with_fragment base_of fragment_of origin_text origin_of has_same_base is_rewritable events_of each_event after_opening AtEachEvent is_numbered opens is_formed is_once is_caused is_queued is_ordered is_checked ends_settled loads_end ends_told ends_stepped goes_in_time
+has_moved_away_2_is_refused holds = false≢true holds.caused
+
+-- has_taken_away: without test `same_why place.why (whys.Death death)`, `caused` would hold.
+abbrev pub has_taken_away_1 : List Event
+has_taken_away_1 =
+    before 66 reload_whose_target_changes
+    ++ by_proc 1 (rows.Taken (p 1) (j 19) true false) (rows.Dropped (r 1) (drops.Gone (x 1)) ∷ [])
+    ∷ []
+
+pub has_taken_away_1_is_refused : IsLegal (log_of has_taken_away_1) → ⊥
+unfolding url_on_literals is_web is_blank_url judged judged_parse read_against address_of url_of resolved with_fragment base_of fragment_of origin_text origin_of has_same_base is_rewritable events_of each_event after_opening AtEachEvent is_numbered opens is_formed is_once is_caused is_queued is_ordered is_checked ends_settled loads_end ends_told ends_stepped goes_in_time
+has_taken_away_1_is_refused holds = false≢true holds.caused
 
 -- is_begun_unapplied: without conjunct `is_none q.change`, `caused` would hold.
 abbrev pub is_begun_unapplied_1 : List Event
@@ -547,28 +621,6 @@ report_is_gone_1 =
 pub report_is_gone_1_is_refused : IsLegal (log_of report_is_gone_1) → ⊥
 unfolding url_on_literals is_web is_blank_url judged judged_parse read_against address_of url_of resolved with_fragment base_of fragment_of origin_text origin_of has_same_base is_rewritable events_of each_event after_opening AtEachEvent is_numbered opens is_formed is_once is_caused is_queued is_ordered is_checked ends_settled loads_end ends_told ends_stepped goes_in_time
 report_is_gone_1_is_refused holds = false≢true holds.caused
-
--- report_is_gone: without test `has_taken_away s death`, `caused` would hold.
-abbrev pub report_is_gone_2 : List Event
-report_is_gone_2 =
-    before 3 document_goes_back
-    ++ by_coord (rows.Delivered (p 2)) (sent 1 1 0 1 (whys.Req (r 1)) (tasks.Activate (e 0 1) (epoch 2) 1 0 None (codes "http://a.test/")) ∷ rows.Dropped (r 1) (drops.Gone (x 1)) ∷ [])
-    ∷ []
-
-pub report_is_gone_2_is_refused : IsLegal (log_of report_is_gone_2) → ⊥
-unfolding url_on_literals is_web is_blank_url judged judged_parse read_against address_of url_of resolved with_fragment base_of fragment_of origin_text origin_of has_same_base is_rewritable events_of each_event after_opening AtEachEvent is_numbered opens is_formed is_once is_caused is_queued is_ordered is_checked ends_settled loads_end ends_told ends_stepped goes_in_time
-report_is_gone_2_is_refused holds = false≢true holds.caused
-
--- same_why: were equation 5 true, `caused` would hold.
-abbrev pub same_why_1 : List Event
-same_why_1 =
-    before 6 void_order
-    ++ by_coord (rows.Delivered (p 1)) (rows.Dropped (r 1) (drops.By (r 1)) ∷ [])
-    ∷ []
-
-pub same_why_1_is_refused : IsLegal (log_of same_why_1) → ⊥
-unfolding url_on_literals is_web is_blank_url judged judged_parse read_against address_of url_of resolved with_fragment base_of fragment_of origin_text origin_of has_same_base is_rewritable events_of each_event after_opening AtEachEvent is_numbered opens is_formed is_once is_caused is_queued is_ordered is_checked ends_settled loads_end ends_told ends_stepped goes_in_time
-same_why_1_is_refused holds = false≢true holds.caused
 
 -- is_refused_in: by_kind: were equation 2 true, `caused` would hold.
 abbrev pub is_refused_in_1 : List Event

@@ -83,6 +83,17 @@ pub goes_on_with_1_is_refused : IsLegal (log_of goes_on_with_1) → ⊥
 unfolding url_on_literals is_web is_blank_url judged judged_parse read_against address_of url_of resolved with_fragment base_of fragment_of origin_text origin_of has_same_base is_rewritable events_of each_event after_opening AtEachEvent is_numbered opens is_formed is_once is_caused is_queued is_ordered is_checked ends_settled loads_end ends_told ends_stepped goes_in_time
 goes_on_with_1_is_refused holds = false≢true holds.checked
 
+-- goes_on_with: by_task: were equation 2 false, `checked` would hold.
+abbrev pub goes_on_with_2 : List Event
+goes_on_with_2 =
+    before 16 stay
+    ++ by_coord (rows.Delivered (p 1)) (sent 5 1 0 2 (whys.Req (r 3)) (tasks.Activate (e 0 2) (epoch 4) 2 0 None (codes "http://a.test/1")) ∷ rows.Prompted (r 3) (d 2) ∷ [])
+    ∷ []
+
+pub goes_on_with_2_is_refused : IsLegal (log_of goes_on_with_2) → ⊥
+unfolding url_on_literals is_web is_blank_url judged judged_parse read_against address_of url_of resolved with_fragment base_of fragment_of origin_text origin_of has_same_base is_rewritable events_of each_event after_opening AtEachEvent is_numbered opens is_formed is_once is_caused is_queued is_ordered is_checked ends_settled loads_end ends_told ends_stepped goes_in_time
+goes_on_with_2_is_refused holds = false≢true holds.checked
+
 -- is_checked: without disjunct `is_reload q.what`, `checked` would hold.
 abbrev pub is_checked_1 : List Event
 is_checked_1 =
@@ -93,6 +104,29 @@ is_checked_1 =
 pub is_checked_1_is_refused : IsLegal (log_of is_checked_1) → ⊥
 unfolding url_on_literals is_web is_blank_url judged judged_parse read_against address_of url_of resolved with_fragment base_of fragment_of origin_text origin_of has_same_base is_rewritable events_of each_event after_opening AtEachEvent is_numbered opens is_formed is_once is_caused is_queued is_ordered is_checked ends_settled loads_end ends_told ends_stepped goes_in_time
 is_checked_1_is_refused holds = false≢true holds.checked
+
+-- is_of_run: by_kind: were equation 2 false, `checked` would hold.
+abbrev pub is_of_run_1 : List Event
+is_of_run_1 =
+    by_start (rows.Opened (e 0 1) (s 1) (d 1) (p 1) None (codes "http://a.test/p0")) []
+    ∷ by_ui (rows.Accepted (r 1) (Some (d 1)) (requests.Poke (n 0) (actions.AddFrame (n 1)))) []
+    ∷ by_proc 1 (made 1 1 1 1 (whats.AddFrame (n 1))) []
+    ∷ by_coord (rows.Delivered (p 1)) (rows.Applied (r 1) (changes.AddFrame (s 1) (n 1) (e 0 2) (s 2)) ∷ sent 1 1 0 2 (whys.Req (r 1)) (tasks.Populate (n 1) (s 2) (codes "about:blank") true) ∷ [])
+    ∷ by_proc 1 (rows.Taken (p 1) (j 1) true false) []
+    ∷ by_proc 1 (rows.Finished (p 1) (j 1) (outcomes.Populated (Some 1))) []
+    ∷ by_coord (rows.Delivered (p 1)) (sent 2 1 0 2 (whys.Req (r 1)) (tasks.Activate (e 0 2) (epoch 1) 1 0 None (codes "about:blank")) ∷ [])
+    ∷ by_proc 1 (rows.Taken (p 1) (j 2) true false) []
+    ∷ by_proc 1 (rows.Finished (p 1) (j 2) outcomes.Activated) []
+    ∷ by_coord (rows.Delivered (p 1)) []
+    ∷ by_ui (rows.Accepted (r 2) None (requests.Load (n 1) modes.Auto (codes "http://c.test/p1"))) (rows.Started (r 2) None ∷ sent 3 1 0 2 (whys.Req (r 2)) (tasks.Ask 1 leavings.Load) ∷ [])
+    ∷ by_proc 1 (rows.Taken (p 1) (j 3) true false) []
+    ∷ by_proc 1 (rows.Finished (p 1) (j 3) (outcomes.Asked verdicts.Prompt)) []
+    ∷ by_coord (rows.Delivered (p 1)) (rows.Prompted (r 2) (d 2) ∷ sent 4 1 0 2 whys.Evict tasks.Discard ∷ [])
+    ∷ []
+
+pub is_of_run_1_is_refused : IsLegal (log_of is_of_run_1) → ⊥
+unfolding url_on_literals is_web is_blank_url judged judged_parse read_against address_of url_of resolved with_fragment base_of fragment_of origin_text origin_of has_same_base is_rewritable events_of each_event after_opening AtEachEvent is_numbered opens is_formed is_once is_caused is_queued is_ordered is_checked ends_settled loads_end ends_told ends_stepped goes_in_time
+is_of_run_1_is_refused holds = false≢true holds.checked
 
 -- is_prompted_after: without conjunct `prompts_are due q.nr (take_while (λ later . not (goes_on_with q.nr later)) p.later)`, `checked` would hold.
 abbrev pub is_prompted_after_1 : List Event

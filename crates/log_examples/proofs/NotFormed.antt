@@ -178,6 +178,19 @@ pub another_death_number_is_refused : IsLegal (log_of another_death_number) → 
 unfolding url_on_literals is_web is_blank_url judged judged_parse read_against address_of url_of resolved with_fragment base_of fragment_of origin_text origin_of has_same_base is_rewritable events_of each_event after_opening AtEachEvent is_numbered opens is_formed is_once is_caused is_queued is_ordered is_checked ends_settled loads_end ends_told ends_stepped goes_in_time
 another_death_number_is_refused holds = false≢true holds.formed
 
+-- same_req: were equation 1 true, `formed` would hold.
+abbrev pub same_req_1 : List Event
+same_req_1 =
+    by_start (rows.Opened (e 0 1) (s 1) (d 1) (p 1) None (codes "http://a.test/")) []
+    ∷ by_ui (rows.Accepted (r 1) None (requests.Go (pos 1))) (rows.Refused (r 1) denials.NoStep ∷ [])
+    ∷ by_ui (rows.Accepted (r 2) (Some (d 1)) (requests.Poke (n 0) (actions.Replace (Some (codes "t")) None))) []
+    ∷ by_ui (rows.Killed (p 1) (x 1)) (rows.Dropped (r 1) (drops.Gone (x 1)) ∷ [])
+    ∷ []
+
+pub same_req_1_is_refused : IsLegal (log_of same_req_1) → ⊥
+unfolding url_on_literals is_web is_blank_url judged judged_parse read_against address_of url_of resolved with_fragment base_of fragment_of origin_text origin_of has_same_base is_rewritable events_of each_event after_opening AtEachEvent is_numbered opens is_formed is_once is_caused is_queued is_ordered is_checked ends_settled loads_end ends_told ends_stepped goes_in_time
+same_req_1_is_refused holds = false≢true holds.formed
+
 -- awaits_answer: without conjunct `is_none q.answered`, `formed` would hold.
 abbrev pub awaits_answer_1 : List Event
 awaits_answer_1 =

@@ -28,6 +28,7 @@ use Rattle.log_examples.proofs.Loads.{later_load, load_ended_by_a_reload, fragme
 use Rattle.log_examples.proofs.Frames.{frame_replaced, taken_number}
 use Rattle.log_examples.proofs.Removals.{removed_frame, push_of_a_removed_frame}
 use Rattle.log_examples.proofs.Prompts.{stay, load_behind_a_prompt}
+use Rattle.log_examples.proofs.Deaths.{reload_after_a_death}
 use Rattle.log_examples.proofs.Pending.{two_pushes_on_their_way, push_behind_a_traversal, traversal_beside_a_push, load_over_a_frame}
 
 -- A request is applied twice.
@@ -165,38 +166,49 @@ pub same_change_1_is_refused : IsLegal (log_of same_change_1) → ⊥
 unfolding url_on_literals is_web is_blank_url judged judged_parse read_against address_of url_of resolved with_fragment base_of fragment_of origin_text origin_of has_same_base is_rewritable events_of each_event after_opening AtEachEvent is_numbered opens is_formed is_once is_caused is_queued is_ordered is_checked ends_settled loads_end ends_told ends_stepped goes_in_time
 same_change_1_is_refused holds = false≢true holds.once
 
--- same_change: without conjunct `n.0 == n'.0`, `once` would hold.
+-- same_change: were equation 4 true, `once` would hold.
 abbrev pub same_change_2 : List Event
 same_change_2 =
-    before 3 load_over_a_frame
-    ++ by_coord (rows.Delivered (p 1)) (rows.Applied (r 1) (changes.AddFrame (s 1) (n 2) (e 0 2) (s 2)) ∷ sent 1 1 0 2 (whys.Req (r 1)) (tasks.Populate (n 1) (s 2) (codes "about:blank") true) ∷ [])
+    before 42 reload_after_a_death
+    ++ by_ui (rows.Accepted (r 5) None (requests.Reload (n 0))) (rows.Started (r 5) None ∷ rows.Applied (r 5) (changes.Reload (n 1)) ∷ sent 12 1 1 5 (whys.Req (r 5)) (tasks.Populate (n 0) (s 1) (codes "http://a.test/") false) ∷ [])
     ∷ []
 
 pub same_change_2_is_refused : IsLegal (log_of same_change_2) → ⊥
 unfolding url_on_literals is_web is_blank_url judged judged_parse read_against address_of url_of resolved with_fragment base_of fragment_of origin_text origin_of has_same_base is_rewritable events_of each_event after_opening AtEachEvent is_numbered opens is_formed is_once is_caused is_queued is_ordered is_checked ends_settled loads_end ends_told ends_stepped goes_in_time
 same_change_2_is_refused holds = false≢true holds.once
 
--- same_change: without conjunct `o.0 == o'.0`, `once` would hold.
+-- same_change: without conjunct `n.0 == n'.0`, `once` would hold.
 abbrev pub same_change_3 : List Event
 same_change_3 =
-    before 14 load_behind_a_prompt
-    ++ by_coord (rows.Delivered (p 1)) (rows.Applied (r 2) (changes.AddFrame (s 1) (n 1) (e 0 3) (s 3)) ∷ sent 5 1 0 3 (whys.Req (r 2)) (tasks.Populate (n 1) (s 3) (codes "about:blank") true) ∷ [])
+    before 3 load_over_a_frame
+    ++ by_coord (rows.Delivered (p 1)) (rows.Applied (r 1) (changes.AddFrame (s 1) (n 2) (e 0 2) (s 2)) ∷ sent 1 1 0 2 (whys.Req (r 1)) (tasks.Populate (n 1) (s 2) (codes "about:blank") true) ∷ [])
     ∷ []
 
 pub same_change_3_is_refused : IsLegal (log_of same_change_3) → ⊥
 unfolding url_on_literals is_web is_blank_url judged judged_parse read_against address_of url_of resolved with_fragment base_of fragment_of origin_text origin_of has_same_base is_rewritable events_of each_event after_opening AtEachEvent is_numbered opens is_formed is_once is_caused is_queued is_ordered is_checked ends_settled loads_end ends_told ends_stepped goes_in_time
 same_change_3_is_refused holds = false≢true holds.once
 
--- same_change: without conjunct `same_entry e e'`, `once` would hold.
+-- same_change: without conjunct `o.0 == o'.0`, `once` would hold.
 abbrev pub same_change_4 : List Event
 same_change_4 =
-    before 3 push_beside_a_frame
-    ++ by_coord (rows.Delivered (p 1)) (rows.Applied (r 1) (changes.AddFrame (s 1) (n 1) (e 1 2) (s 2)) ∷ sent 1 1 0 2 (whys.Req (r 1)) (tasks.Populate (n 1) (s 2) (codes "about:blank") true) ∷ [])
+    before 14 load_behind_a_prompt
+    ++ by_coord (rows.Delivered (p 1)) (rows.Applied (r 2) (changes.AddFrame (s 1) (n 1) (e 0 3) (s 3)) ∷ sent 5 1 0 3 (whys.Req (r 2)) (tasks.Populate (n 1) (s 3) (codes "about:blank") true) ∷ [])
     ∷ []
 
 pub same_change_4_is_refused : IsLegal (log_of same_change_4) → ⊥
 unfolding url_on_literals is_web is_blank_url judged judged_parse read_against address_of url_of resolved with_fragment base_of fragment_of origin_text origin_of has_same_base is_rewritable events_of each_event after_opening AtEachEvent is_numbered opens is_formed is_once is_caused is_queued is_ordered is_checked ends_settled loads_end ends_told ends_stepped goes_in_time
 same_change_4_is_refused holds = false≢true holds.once
+
+-- same_change: without conjunct `same_entry e e'`, `once` would hold.
+abbrev pub same_change_5 : List Event
+same_change_5 =
+    before 3 push_beside_a_frame
+    ++ by_coord (rows.Delivered (p 1)) (rows.Applied (r 1) (changes.AddFrame (s 1) (n 1) (e 1 2) (s 2)) ∷ sent 1 1 0 2 (whys.Req (r 1)) (tasks.Populate (n 1) (s 2) (codes "about:blank") true) ∷ [])
+    ∷ []
+
+pub same_change_5_is_refused : IsLegal (log_of same_change_5) → ⊥
+unfolding url_on_literals is_web is_blank_url judged judged_parse read_against address_of url_of resolved with_fragment base_of fragment_of origin_text origin_of has_same_base is_rewritable events_of each_event after_opening AtEachEvent is_numbered opens is_formed is_once is_caused is_queued is_ordered is_checked ends_settled loads_end ends_told ends_stepped goes_in_time
+same_change_5_is_refused holds = false≢true holds.once
 
 -- same_delta: were `a == b` turned, `once` would hold.
 abbrev pub same_delta_1 : List Event
@@ -221,6 +233,17 @@ same_delta_1 =
 pub same_delta_1_is_refused : IsLegal (log_of same_delta_1) → ⊥
 unfolding url_on_literals is_web is_blank_url judged judged_parse read_against address_of url_of resolved with_fragment base_of fragment_of origin_text origin_of has_same_base is_rewritable events_of each_event after_opening AtEachEvent is_numbered opens is_formed is_once is_caused is_queued is_ordered is_checked ends_settled loads_end ends_told ends_stepped goes_in_time
 same_delta_1_is_refused holds = false≢true holds.once
+
+-- same_delta: were equation 3 true, `once` would hold.
+abbrev pub same_delta_2 : List Event
+same_delta_2 =
+    before 8 document_goes_back
+    ++ by_proc 1 (made 1 2 1 1 (whats.Go (pos 1))) []
+    ∷ []
+
+pub same_delta_2_is_refused : IsLegal (log_of same_delta_2) → ⊥
+unfolding url_on_literals is_web is_blank_url judged judged_parse read_against address_of url_of resolved with_fragment base_of fragment_of origin_text origin_of has_same_base is_rewritable events_of each_event after_opening AtEachEvent is_numbered opens is_formed is_once is_caused is_queued is_ordered is_checked ends_settled loads_end ends_told ends_stepped goes_in_time
+same_delta_2_is_refused holds = false≢true holds.once
 
 -- same_new_entry: were equation 3 true, `once` would hold.
 abbrev pub same_new_entry_1 : List Event
@@ -507,6 +530,27 @@ is_made_of_1 =
 pub is_made_of_1_is_refused : IsLegal (log_of is_made_of_1) → ⊥
 unfolding url_on_literals is_web is_blank_url judged judged_parse read_against address_of url_of resolved with_fragment base_of fragment_of origin_text origin_of has_same_base is_rewritable events_of each_event after_opening AtEachEvent is_numbered opens is_formed is_once is_caused is_queued is_ordered is_checked ends_settled loads_end ends_told ends_stepped goes_in_time
 is_made_of_1_is_refused holds = false≢true holds.once
+
+-- is_made_of: without conjunct `view.running`, `once` would hold.
+abbrev pub is_made_of_2 : List Event
+is_made_of_2 =
+    by_start (rows.Opened (e 0 1) (s 1) (d 1) (p 1) None (codes "http://a.test/p0")) []
+    ∷ by_ui (rows.Accepted (r 1) (Some (d 1)) (requests.Poke (n 0) (actions.AddFrame (n 1)))) []
+    ∷ by_ui (rows.Accepted (r 2) None (requests.Go (pos 1))) (rows.Refused (r 2) denials.NoStep ∷ [])
+    ∷ by_ui (rows.Accepted (r 3) None (requests.Load (n 0) modes.Auto (codes "http://a.test/p1#f1"))) (rows.Started (r 3) None ∷ sent 1 1 0 2 (whys.Req (r 3)) (tasks.Populate (n 0) (s 2) (codes "http://a.test/p1#f1") false) ∷ [])
+    ∷ by_proc 1 (rows.Taken (p 1) (j 1) true false) []
+    ∷ by_proc 1 (rows.Finished (p 1) (j 1) (outcomes.Populated None)) []
+    ∷ by_ui (rows.Accepted (r 4) (Some (d 1)) (requests.Poke (n 0) actions.Edit)) []
+    ∷ by_coord (rows.Delivered (p 1)) (rows.Applied (r 3) (changes.Push (n 0) (e 0 2) (s 2) (codes "http://a.test/p1#f1") None) ∷ sent 2 1 0 1 (whys.Req (r 3)) tasks.Freeze ∷ sent 3 1 0 2 (whys.Req (r 3)) (tasks.Activate (e 0 2) (epoch 2) 2 1 None (codes "http://a.test/p1#f1")) ∷ [])
+    ∷ by_proc 1 (made 1 1 1 1 (whats.AddFrame (n 1))) []
+    ∷ by_proc 1 (rows.Taken (p 1) (j 2) true false) []
+    ∷ by_proc 1 (rows.Finished (p 1) (j 2) outcomes.Frozen) []
+    ∷ by_proc 1 (made 1 4 1 1 whats.Edit) []
+    ∷ []
+
+pub is_made_of_2_is_refused : IsLegal (log_of is_made_of_2) → ⊥
+unfolding url_on_literals is_web is_blank_url judged judged_parse read_against address_of url_of resolved with_fragment base_of fragment_of origin_text origin_of has_same_base is_rewritable events_of each_event after_opening AtEachEvent is_numbered opens is_formed is_once is_caused is_queued is_ordered is_checked ends_settled loads_end ends_told ends_stepped goes_in_time
+is_made_of_2_is_refused holds = false≢true holds.once
 
 -- is_made_of_poke: without test `doc.0 == made.doc.0`, `once` would hold.
 abbrev pub is_made_of_poke_1 : List Event

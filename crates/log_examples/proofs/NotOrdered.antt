@@ -24,7 +24,7 @@ use Rattle.log_model.specs.LoadsEndInTime.{loads_end}
 use Rattle.log_model.specs.ActsAtOnce.{ends_told, ends_stepped, goes_in_time}
 use Rattle.log_examples.specs.Rows.{n, s, r, p, t, x, d, j, e, epoch, sent, made}
 use Rattle.log_examples.specs.Logs.{Event, by_start, by_ui, by_coord, by_proc, log_of, before, since}
-use Rattle.log_examples.proofs.Pushes.{one_push, push_after_a_death, push_beside_a_frame}
+use Rattle.log_examples.proofs.Pushes.{one_push, push_after_a_death}
 use Rattle.log_examples.proofs.Traversals.{document_goes_back}
 use Rattle.log_examples.proofs.Interleavings.{held_back_push}
 use Rattle.log_examples.proofs.Loads.{later_load, no_document_kept, push_over_a_kept_document, evicted_documents, fragment_load}
@@ -32,7 +32,7 @@ use Rattle.log_examples.proofs.Frames.{taken_number, load_of_a_new_frame, load_w
 use Rattle.log_examples.proofs.Removals.{removed_frame}
 use Rattle.log_examples.proofs.Reloads.{reload_of_a_hidden_frame}
 use Rattle.log_examples.proofs.Prompts.{leave, one_prompt_for_two, load_behind_a_prompt, load_behind_an_answer}
-use Rattle.log_examples.proofs.Deaths.{one_of_two_processes_dies, poke_of_a_dead_document}
+use Rattle.log_examples.proofs.Deaths.{one_of_two_processes_dies, poke_of_a_dead_document, reload_that_cannot_begin}
 use Rattle.log_examples.proofs.Pending.{two_pushes_on_their_way}
 
 -- An update is sent again.
@@ -537,9 +537,8 @@ is_unneeded_4_is_refused holds = false≢true holds.ordered
 -- is_usable: without conjunct `not d.is_known_dead`, `ordered` would hold.
 abbrev pub is_usable_1 : List Event
 is_usable_1 =
-    before 10 push_beside_a_frame
-    ++ by_ui (rows.Accepted (r 2) None (requests.Reload (n 1))) (rows.Started (r 2) None ∷ rows.Applied (r 2) (changes.Reload (n 1)) ∷ sent 3 1 0 3 (whys.Req (r 2)) (tasks.Populate (n 1) (s 2) (codes "about:blank") true) ∷ [])
-    ∷ by_proc 1 (rows.Taken (p 1) (j 3) true false) []
+    before 11 reload_that_cannot_begin
+    ++ by_proc 1 (rows.Taken (p 1) (j 3) true false) []
     ∷ by_proc 1 (rows.Finished (p 1) (j 3) (outcomes.Populated None)) []
     ∷ by_ui (rows.Killed (p 1) (x 1)) []
     ∷ by_coord (rows.Delivered (p 1)) (sent 4 1 0 2 (whys.Req (r 2)) tasks.Discard ∷ sent 5 1 0 3 (whys.Req (r 2)) (tasks.Activate (e 0 2) (epoch 2) 1 0 None (codes "about:blank")) ∷ [])

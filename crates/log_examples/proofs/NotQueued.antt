@@ -116,6 +116,17 @@ pub is_present_1_is_refused : IsLegal (log_of is_present_1) → ⊥
 unfolding url_on_literals is_web is_blank_url judged judged_parse read_against address_of url_of resolved with_fragment base_of fragment_of origin_text origin_of has_same_base is_rewritable events_of each_event after_opening AtEachEvent is_numbered opens is_formed is_once is_caused is_queued is_ordered is_checked ends_settled loads_end ends_told ends_stepped goes_in_time
 is_present_1_is_refused holds = false≢true holds.queued
 
+-- ends_in: by_kind: were equation 2 left out, `queued` would hold.
+abbrev pub ends_in_1 : List Event
+ends_in_1 =
+    before 67 removal_and_push_of_two_processes
+    ++ by_coord (rows.Delivered (p 2)) (rows.Applied (r 6) (changes.Traverse (t 2)) ∷ rows.Applied (r 7) (changes.RemoveFrame (n 1)) ∷ rows.Applied (r 8) (changes.Push (n 0) (e 1 2) (s 1) (codes "http://a.test/") (Some (codes "t"))) ∷ sent 18 2 0 3 (whys.Req (r 7)) tasks.Discard ∷ sent 19 2 0 4 (whys.Req (r 7)) tasks.Discard ∷ rows.Started (r 8) (Some (t 0)) ∷ sent 20 1 0 1 (whys.Req (r 6)) (tasks.Update 3 2) ∷ rows.Refused (r 8) denials.NoStep ∷ [])
+    ∷ []
+
+pub ends_in_1_is_refused : IsLegal (log_of ends_in_1) → ⊥
+unfolding url_on_literals is_web is_blank_url judged judged_parse read_against address_of url_of resolved with_fragment base_of fragment_of origin_text origin_of has_same_base is_rewritable events_of each_event after_opening AtEachEvent is_numbered opens is_formed is_once is_caused is_queued is_ordered is_checked ends_settled loads_end ends_told ends_stepped goes_in_time
+ends_in_1_is_refused holds = false≢true holds.queued
+
 -- is_taken_up_in: by_kind: were equation 2 true, `queued` would hold.
 abbrev pub is_taken_up_in_1 : List Event
 is_taken_up_in_1 =

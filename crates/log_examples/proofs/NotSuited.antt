@@ -7,7 +7,6 @@ use Rattle.address.specs.Addresses.{is_web, is_blank_url, judged, judged_parse, 
 use Rattle.log_model.specs.declared.change.Change.TheVariants as changes
 use Rattle.log_model.specs.declared.job.Task.TheVariants as tasks
 use Rattle.log_model.specs.declared.job.Why.TheVariants as whys
-use Rattle.log_model.specs.declared.outcome.Denial.TheVariants as denials
 use Rattle.log_model.specs.declared.outcome.Outcome.TheVariants as outcomes
 use Rattle.log_model.specs.declared.request.Mode.TheVariants as modes
 use Rattle.log_model.specs.declared.request.Request.TheVariants as requests
@@ -19,11 +18,12 @@ use Rattle.log_model.specs.LoadsEndInTime.{loads_end}
 use Rattle.log_model.specs.ActsAtOnce.{ends_told, ends_stepped, goes_in_time}
 use Rattle.log_model.specs.Suits.{Suits}
 use Rattle.log_model.specs.declared.header.Header.{Header}
-use Rattle.log_examples.specs.Rows.{n, s, r, p, x, j, sent}
-use Rattle.log_examples.specs.Logs.{Event, by_ui, by_coord, by_proc, log_of, before}
-use Rattle.log_examples.proofs.Pushes.{opened_only, push_beside_a_frame}
+use Rattle.log_examples.specs.Rows.{n, s, r, p, j, sent}
+use Rattle.log_examples.specs.Logs.{Event, by_ui, by_proc, log_of}
+use Rattle.log_examples.proofs.Pushes.{opened_only}
 use Rattle.log_examples.proofs.Loads.{two_processes, evicted_documents}
 use Rattle.log_examples.proofs.Prompts.{leave}
+use Rattle.log_examples.proofs.Deaths.{reload_that_cannot_begin}
 
 -- The tab opens at another address.
 abbrev pub another_first_address_header : Header
@@ -87,13 +87,8 @@ home_of_1_header = record { keep = 3; sites = record { origin = codes "http://b.
 -- home_of: were `nav.0 == 0` always so, `placed` would hold.
 abbrev pub home_of_1 : List Event
 home_of_1 =
-    before 10 push_beside_a_frame
-    ++ by_ui (rows.Accepted (r 2) None (requests.Reload (n 1))) (rows.Started (r 2) None ∷ rows.Applied (r 2) (changes.Reload (n 1)) ∷ sent 3 1 0 3 (whys.Req (r 2)) (tasks.Populate (n 1) (s 2) (codes "about:blank") true) ∷ [])
-    ∷ by_ui (rows.Killed (p 1) (x 1)) []
-    ∷ by_coord (rows.Delivered (p 1)) []
-    ∷ by_ui (rows.Accepted (r 3) None (requests.Reload (n 1))) (rows.Refused (r 3) denials.NoDocument ∷ [])
-    ∷ by_proc 1 (rows.Taken (p 1) (j 3) false false) []
-    ∷ by_ui (rows.Accepted (r 4) None (requests.Reload (n 0))) (rows.Started (r 4) None ∷ rows.Applied (r 4) (changes.Reload (n 0)) ∷ sent 4 1 1 4 (whys.Req (r 4)) (tasks.Populate (n 0) (s 1) (codes "http://a.test/") false) ∷ [])
+    reload_that_cannot_begin
+    ++ by_ui (rows.Accepted (r 4) None (requests.Reload (n 0))) (rows.Started (r 4) None ∷ rows.Applied (r 4) (changes.Reload (n 0)) ∷ sent 4 1 1 4 (whys.Req (r 4)) (tasks.Populate (n 0) (s 1) (codes "http://a.test/") false) ∷ [])
     ∷ by_proc 1 (rows.Taken (p 1) (j 4) true false) []
     ∷ by_proc 1 (rows.Finished (p 1) (j 4) (outcomes.Populated None)) []
     ∷ by_ui (rows.Accepted (r 5) None (requests.Load (n 0) modes.Auto (codes "http://a.test/#x"))) (sent 5 1 1 5 (whys.Req (r 2)) (tasks.Populate (n 1) (s 2) (codes "about:blank") true) ∷ [])

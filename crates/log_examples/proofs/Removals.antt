@@ -9,6 +9,7 @@ use Rattle.log_model.specs.declared.job.Task.TheVariants as tasks
 use Rattle.log_model.specs.declared.job.Why.TheVariants as whys
 use Rattle.log_model.specs.declared.made.What.TheVariants as whats
 use Rattle.log_model.specs.declared.outcome.Cause.TheVariants as drops
+use Rattle.log_model.specs.declared.outcome.Denial.TheVariants as denials
 use Rattle.log_model.specs.declared.outcome.Outcome.TheVariants as outcomes
 use Rattle.log_model.specs.declared.request.Mode.TheVariants as modes
 use Rattle.log_model.specs.declared.request.Request.TheVariants as requests
@@ -95,6 +96,40 @@ push_after_a_removal_acts_at_once = record { told = refl; stepped = refl; in_tim
 pub push_after_a_removal_suits : Suits plain_settings (log_of push_after_a_removal)
 unfolding url_on_literals is_web is_blank_url judged judged_parse read_against address_of url_of resolved with_fragment base_of fragment_of origin_text origin_of has_same_base is_rewritable events_of each_event after_opening AtEachEvent is_numbered opens is_formed is_once is_caused is_queued is_ordered is_checked ends_settled loads_end ends_told ends_stepped goes_in_time
 push_after_a_removal_suits = record { opened = refl; placed = refl; kept = refl }
+
+-- A document removes a frame that another document has.
+abbrev pub removal_of_a_frame_of_another : List Event
+removal_of_a_frame_of_another =
+    before 10 push_beside_a_frame
+    ++ by_ui (rows.Accepted (r 2) (Some (d 2)) (requests.Poke (n 1) (actions.AddFrame (n 2)))) []
+    ∷ by_proc 1 (made 1 2 2 1 (whats.AddFrame (n 2))) []
+    ∷ by_coord (rows.Delivered (p 1)) (rows.Applied (r 2) (changes.AddFrame (s 2) (n 2) (e 0 3) (s 3)) ∷ sent 3 1 0 3 (whys.Req (r 2)) (tasks.Populate (n 2) (s 3) (codes "about:blank") true) ∷ [])
+    ∷ by_proc 1 (rows.Taken (p 1) (j 3) true false) []
+    ∷ by_proc 1 (rows.Finished (p 1) (j 3) (outcomes.Populated None)) []
+    ∷ by_coord (rows.Delivered (p 1)) (sent 4 1 0 3 (whys.Req (r 2)) (tasks.Activate (e 0 3) (epoch 1) 1 0 None (codes "about:blank")) ∷ [])
+    ∷ by_proc 1 (rows.Taken (p 1) (j 4) true false) []
+    ∷ by_proc 1 (rows.Finished (p 1) (j 4) outcomes.Activated) []
+    ∷ by_coord (rows.Delivered (p 1)) []
+    ∷ by_ui (rows.Accepted (r 3) (Some (d 1)) (requests.Poke (n 0) (actions.RemoveFrame (n 2)))) []
+    ∷ by_proc 1 (made 1 3 1 1 (whats.RemoveFrame (n 2))) []
+    ∷ by_coord (rows.Delivered (p 1)) (rows.Refused (r 3) denials.NoNavigable ∷ [])
+    ∷ []
+
+pub removal_of_a_frame_of_another_is_legal : IsLegal (log_of removal_of_a_frame_of_another)
+unfolding url_on_literals is_web is_blank_url judged judged_parse read_against address_of url_of resolved with_fragment base_of fragment_of origin_text origin_of has_same_base is_rewritable events_of each_event after_opening AtEachEvent is_numbered opens is_formed is_once is_caused is_queued is_ordered is_checked ends_settled loads_end ends_told ends_stepped goes_in_time
+removal_of_a_frame_of_another_is_legal = record { opened = refl; numbered = refl; formed = refl; once = refl; caused = refl; queued = refl; ordered = refl; checked = refl; settled = refl }
+
+pub removal_of_a_frame_of_another_ends_loads : LoadsEndInTime (log_of removal_of_a_frame_of_another)
+unfolding url_on_literals is_web is_blank_url judged judged_parse read_against address_of url_of resolved with_fragment base_of fragment_of origin_text origin_of has_same_base is_rewritable events_of each_event after_opening AtEachEvent is_numbered opens is_formed is_once is_caused is_queued is_ordered is_checked ends_settled loads_end ends_told ends_stepped goes_in_time
+removal_of_a_frame_of_another_ends_loads = refl
+
+pub removal_of_a_frame_of_another_acts_at_once : ActsAtOnce (log_of removal_of_a_frame_of_another)
+unfolding url_on_literals is_web is_blank_url judged judged_parse read_against address_of url_of resolved with_fragment base_of fragment_of origin_text origin_of has_same_base is_rewritable events_of each_event after_opening AtEachEvent is_numbered opens is_formed is_once is_caused is_queued is_ordered is_checked ends_settled loads_end ends_told ends_stepped goes_in_time
+removal_of_a_frame_of_another_acts_at_once = record { told = refl; stepped = refl; in_time = refl }
+
+pub removal_of_a_frame_of_another_suits : Suits plain_settings (log_of removal_of_a_frame_of_another)
+unfolding url_on_literals is_web is_blank_url judged judged_parse read_against address_of url_of resolved with_fragment base_of fragment_of origin_text origin_of has_same_base is_rewritable events_of each_event after_opening AtEachEvent is_numbered opens is_formed is_once is_caused is_queued is_ordered is_checked ends_settled loads_end ends_told ends_stepped goes_in_time
+removal_of_a_frame_of_another_suits = record { opened = refl; placed = refl; kept = refl }
 
 -- A push of a frame that was removed is dropped.
 abbrev pub push_of_a_removed_frame : List Event
