@@ -1,7 +1,7 @@
 #!/usr/bin/env python3
 """Weakens the definitions of a legal log, one part at a time, and tells which of them no example log notices.
 
-    python3 bench/definitions.py MODEL [--word WORD] [--kept] [--hints FILE]
+    python3 bench/definitions.py MODEL [--word WORD] [--kept] [--hints FILE] [--table]
 
 MODEL is the folder of the plain model, whose reading of URLs stands for that of `address`. The definitions are the files
 of crates/log_model/specs, the logs and what is claimed of them the lemmas of crates/log_examples/proofs. All is computed by
@@ -15,7 +15,7 @@ of crates/log_model/specs, the logs and what is claimed of them the lemmas of cr
 
 It is noticed where a lemma fails. Those that aren't are listed, unless `KNOWN` says why no log can tell them. --word takes
 the mutants of one definition or file, --kept prints the lemma that notices each mutant, --hints FILE keeps these in a file,
-so that a later run tries them first. Outside the gate; some minutes, or one with hints.
+so that a later run tries them first, --table writes the table of docs/DEFINITIONS.md. Outside the gate; some minutes, or one with hints.
 
     python3 bench/definitions.py MODEL --prove COUNT FOLDER
 
@@ -38,8 +38,44 @@ from beside import listed, with_those_below
 APART = ('Order', 'Soundness', 'Limits', 'Entries')
 TESTERS = ('holds', 'list_any', 'list_all', 'filter', 'find')
 
-# mutants that no log tells from the definitions: the reasons
-KNOWN = {}
+# mutants that no log tells from the definitions: the reasons, each with its mutants
+REASONS = [
+    ('an event has a row', ['Formed:have_one_actor: equation 1 is false']),
+    ('what an opening row leads to is settled', ['Legal:opens: without conjunct `is_settled_if_quiet (after nothing row)`']),
+    ('the desk of a process that no row has named is the empty one', ['After:desks_after/by_kind: equation 1 is left out']),
+    ('this is read of a load alone', [
+        'AfterRequests:load_replaces: equation 2 is true', 'Once:loads: equation 2 is true', 'Orders:populates_load/loads_there: equation 2 is true']),
+    ('a load has no delta', ['Causes:denial_at_start: equation 1 is left out']),
+    ('only a poke has a document (`names_document`)', [
+        'Causes:denial_at_act/makes: equation 2 is true', 'Causes:poke_is_gone: without conjunct `is_poke q.what`']),
+    ('a reason is compared with a request or a death alone', ['Equal:same_why: equation 3 is false', 'Equal:same_why: equation 4 is false']),
+    ('a navigable is made after those above it', ['Walk:is_way_before: equation 2 is true']),
+    ('the two numbers differ there', ['Walk:is_way_before: `nat_lt nav.0 other.0` is nat_le']),
+    ('documents of a navigable that run have different epochs', ['Formed:newer: `nat_lt (epoch best) (epoch d)` is nat_le']),
+    ('the rows of a navigable have different steps (`IsSound`)', ['History:later_row: `nat_lt best.step.0 row.step.0` is nat_le']),
+    ('a process ends an order once, and a document has one number', ['Checks:lower_doc: `nat_lt doc.0 best.0` is nat_le']),
+    ('no log but the empty one tells it, and `opened` refuses that', ['Events:after_opening: equation 1 is false']),
+    ('`may_follow` lets no row follow a Taken row', ['Formed:is_said_rightly/by_kind: without conjunct `length p.later == 0`']),
+    ('`is_followed_duly` says which rows follow a Finished row', ['Formed:may_follow: equation 6 is true', 'Formed:is_made: equation 2 is true']),
+    ('`may_follow` lets none but Made rows follow a Finished row', ['Formed:is_followed_by_made/by_kind: equation 2 is true']),
+    ('`is_applied_duly` says which rows follow a Made row', ['Formed:may_follow: equation 7 is true', 'Formed:is_applied_edit: equation 2 is true']),
+    ('`may_follow` lets none but an applied edit follow a Made row', ['Formed:is_applied_duly/by_kind: equation 2 is true']),
+    ('what is made of an order is a push or a replace (`is_made_of_order`), and no row follows it (`is_followed_by_made`)',
+     ['Formed:is_said_rightly/by_kind: without premise `length p.done == 0`']),
+    ('a document numbers its entries (`is_made_of`), and what it made is applied once (`is_open`)',
+     ['Once:is_later_entry: `nat_lt d.last_applied entry.nr` is nat_le']),
+    ('the applied request itself is no ongoing load', [
+        'LoadsEndInTime:has_no_earlier_load_below: `nat_lt q.nr.0 req.0` is nat_le', 'LoadsEndInTime:has_no_earlier_load_at: `nat_lt q.nr.0 req.0` is nat_le']),
+    ('a Killed row drops the pokes of the input alone (`is_said_rightly`), and this death takes their documents', ['Causes:poke_is_gone/kills: equation 1 is true']),
+    ('`request_served` changes nothing then', ['AfterRequests:requests_sent: equation 2 is left out', 'AfterRequests:requests_sent: equation 3 is left out']),
+    ('the user is asked for the sake of a document that wants it (`is_prompted_after`)', [
+        'Causes:is_stay: without conjunct `holds (wanted_prompt q) q.prompted`', 'Causes:is_stay: without test `wanted_prompt q`',
+        'Causes:is_stay/wanted_prompt: equation 1 is true', 'Causes:is_stay/wanted_prompt: without conjunct `asking.doc.0 == doc.0`',
+        'Causes:is_stay/wanted_prompt: without conjunct `holds is_prompt asking.verdict`', 'Causes:is_stay/wanted_prompt: without test `is_prompt`',
+        'Causes:is_stay/is_prompt: equation 2 is true']),
+    ('an entry has one address', ['Settled:shows: without conjunct `bytes_eq view.address row.address`']),
+]
+KNOWN = {name: reason for reason, names in REASONS for name in names}
 
 
 class Mutant:
@@ -318,6 +354,36 @@ class Trial:
             self.take_back(mutant)
 
 
+# ---- the table of docs/DEFINITIONS.md
+
+TABLE = '| File | An example that a weakened definition misjudges |\n|---|---|\n'
+
+
+def table(found):
+    """For each definition a log that notices one of its mutants: a broken one, where there is one."""
+    words = {}
+    for mutant, claim in found:
+        module, word = mutant.word.split('.')[1].split(':')
+        log = re.sub(r'_(is_refused|is_legal|acts_at_once|ends_loads|suits)(\.\w+)?$', '', claim) if claim else None
+        words.setdefault(module, {}).setdefault(word.split('/')[0], []).append((claim is None or '_is_refused' not in claim, log))
+    out = TABLE
+    for module, logs in words.items():
+        told = ['`%s`: %s' % (word, '`%s`' % min(options)[1] if any(log for _, log in options) else 'none')
+                for word, options in ((word, [option for option in options if option[1]] or options) for word, options in logs.items())]
+        out += '| `%s` | %s |\n' % (module, '; '.join(told))
+    return out
+
+
+def write_table(found):
+    path = os.path.join(TOP, 'docs', 'DEFINITIONS.md')
+    with open(path) as file:
+        text = file.read()
+    start = text.index(TABLE)
+    end = text.find('\n\n', start) + 1
+    with open(path, 'w') as file:
+        file.write(text[:start] + table(found) + text[end:])
+
+
 # ---- a sample by the prover
 
 def changed_file(text, mutant):
@@ -379,7 +445,10 @@ def prove(trial, found, count, folder):
                     text = file.read()
                 put(path, moved(text))
     tried = []
-    for mutant, claim in random.Random(1).sample(found, len(found)):
+    mixed = random.Random(1).sample(found, len(found))
+    noticed, others = [pair for pair in mixed if pair[1]], [pair for pair in mixed if not pair[1]]
+    mixed = [pair for pairs in zip(noticed, others) for pair in pairs] + noticed[len(others):]
+    for mutant, claim in mixed:
         name = mutant.word.split(':')[0].split('.')[1]
         text = changed_file(files[name], mutant)
         if text is None or len(tried) == count:
@@ -439,10 +508,12 @@ def main(model, *words):
         if mutant.name not in KNOWN:
             print(mutant.name)
     for name in KNOWN:
-        if name not in [mutant.name for mutant in left]:
-            print('known, and noticed or gone: %s' % name)
+        if not word and name not in [mutant.name for mutant in left]:
+            print('has a reason, and is noticed or gone: %s' % name)
     print('%d mutants: %d are noticed, %d are the same in meaning, %d are left; %.0f s' % (
         len(trial.mutants), len(trial.mutants) - len(left), len(known), len(left) - len(known), time.time() - started))
+    if '--table' in words:
+        write_table(found)
     if '--prove' in words:
         count, folder = words[words.index('--prove') + 1:][:2]
         prove(trial, found, int(count), folder)

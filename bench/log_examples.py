@@ -74,6 +74,15 @@ SCENARIOS = [
          'session 1|open http://a.test/|frame 0 1|settle|load 1 auto http://a.test/f|settle|fragment 0 x|settle|push 1 t /f2|settle|go -2|begin 1|finish 1|push 0 s /2|act 1|deliver 1|deliver 1|settle'),
         ('held_back_push_and_removal', 'A held back push, and a frame that is removed with it.',
          'session 1|site http://b.test 2|open http://a.test/|frame 0 1|settle|load 1 auto http://a.test/p0|settle|frame 1 2|settle|load 2 auto http://b.test/p0|push 1 s|settle|load 2 auto http://a.test/p0|settle|go -2|begin 2|finish 2|deliver 2|push 2 s|remove 1 2|settle'),
+
+        ('back_after_a_held_back_push', 'A traversal after one that had a held back push.',
+         'session 1|open http://a.test/|frame 0 1|settle|load 1 auto http://a.test/f|settle|fragment 0 x|settle|push 1 t /f2|settle|go -2|begin 1|finish 1|push 0 s /2|act 1|deliver 1|deliver 1|settle|go -1|settle'),
+        ('held_back_frame', 'A held back frame is refused, for its number is taken.',
+         'session 1|open http://a.test/|frame 0 1|settle|load 1 auto http://a.test/f|settle|fragment 0 x|settle|push 1 t /f2|settle|go -2|begin 1|finish 1|frame 0 1|act 1|deliver 1|deliver 1|settle|go 1|settle'),
+        ('held_back_and_dropped', 'A death drops what was held back.',
+         'session 1|open http://a.test/|frame 0 1|settle|load 1 auto http://a.test/f|settle|fragment 0 x|settle|push 1 t /f2|settle|go -2|begin 1|finish 1|frame 0 1|act 1|deliver 1|deliver 1|kill 1|settle|reload 0|settle|go 1|settle'),
+        ('entry_of_a_frame_is_cleared', 'A push clears the entry that a running traversal has shown in a frame, and what the frame made is dropped.',
+         'session 1|open http://a.test/|frame 0 1|frame 0 2|settle|load 1 auto http://a.test/f1|load 2 auto http://a.test/g|settle|load 1 auto http://a.test/f2|settle|go -1|settle|push 2 s /h|go 1|act 1|begin 1|finish 1|begin 1|finish 1|push 1 t /k|act 1|deliver 1|deliver 1|deliver 1|deliver 1|settle'),
     ]),
     ('Loads', [
         ('later_load', 'A later load takes the place of the first, and one during a traversal is dropped.',
@@ -146,6 +155,10 @@ SCENARIOS = [
          'session 1|keep 1|site http://b.test 2|open http://a.test/|frame 0 1|settle|load 1 auto http://b.test/f|settle|load 0 auto http://b.test/p0|settle|evict|settle|go -1|settle'),
         ('reload_of_a_hidden_frame', 'A reload of a frame that is not shown.',
          'session 1|open http://a.test/|frame 0 1|settle|load 0 auto http://a.test/1|settle|reload 1|settle|reload 0|settle'),
+        ('reload_and_back', 'A reload, and back before it is done: the document that is shown was made before it.',
+         'session 1|open http://a.test/|load 0 auto http://b.test/p0|settle|reload 0|go -1|settle'),
+        ('reload_and_death', 'A death as the document of a reload is being shown.',
+         'session 1|site http://b.test 2|open http://a.test/|frame 0 1|settle|load 1 auto http://b.test/p0|settle|reload 1|begin 2|finish 2|deliver 2|begin 2|kill 2|deliver 2|begin 2|settle'),
     ]),
     ('Prompts', [
         ('stay', 'The user stays on a page with unsaved edits.',
@@ -370,6 +383,8 @@ BROKEN = [
 
 # logs in which the tab puts off what it could do, or does it in vain: name, what is wrong, the scenario, the field that fails, the edits
 PUT_OFF = [
+    ('shown_for_the_push_that_cleared', 'A frame is shown its entry for the push that cleared the other, which then drops what the frame made.', 'entry_of_a_frame_is_cleared', 'in_time',
+     [('change', ' sent j23', 'd4 r8', 'd4 r7'), ('change', '80 co dropped r9', 'by r8', 'by r7'), ('keep_to', '80 co dropped r9')]),
     ('right_guess_without_update', 'A push without its update: the document has guessed length and index right.', 'one_push', 'told',
      [('leave_out', '6 co delivered'), ('leave_out', ' finished p1 j1'), ('leave_out', ' taken p1 j1'), ('leave_out', ' sent j1')]),
     ('update_put_off', 'A push is applied, and its update waits for the next one.', 'two_pushes_on_their_way', 'told', [('leave_out', ' sent j1')]),
@@ -411,6 +426,12 @@ UNSUITED = [
     ('another_handler', 'A document has another handler than its page says.', 'leave', 'placed', ('pages', {'http://a.test/1': 1})),
     ('discarded_too_early', 'A kept document is discarded though more may be kept.', 'evicted_documents', 'placed', ('keep', 2)),
     ('too_many_kept', 'More documents are kept than may be.', 'evicted_documents', 'kept', ('keep', 0)),
+]
+
+# logs that no settings suit
+NOT_OPENED = [
+    ('log_without_its_opening', 'A log without its opening.', '(log_of (since 1 one_push))'),
+    ('no_row', 'No row at all.', '[]'),
 ]
 
 # logs that the checker calls legal, and the definitions don't: a reload that is applied has to have begun
@@ -751,6 +772,9 @@ def gate(model):
         settings, also = header_of(name, header)
         unsuited.append('-- %s\n%spub %s_is_refused : Suits %s (log_of %s) → ⊥\n%s\n%s_is_refused holds = false≢true holds.%s\n' % (
             sentence, also, name, settings, scenario, log_rows.UNFOLDING, name, field))
+    for name, sentence, log in NOT_OPENED:
+        unsuited.append('-- %s\npub %s_is_refused : Suits plain_settings %s → ⊥\n%s\n%s_is_refused holds = false≢true holds.opened\n' % (
+            sentence, name, log, log_rows.UNFOLDING, name))
     names.append(module(logs, folder, 'NotSuited', 'Logs that do not suit their settings.', unsuited + apart.pop('NotSuited', [])))
     with open(os.path.join(folder, 'Lib.antt'), 'w') as file:
         file.write(''.join('pub mod %s\n' % name for name in names))

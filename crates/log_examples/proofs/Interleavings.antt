@@ -9,6 +9,7 @@ use Rattle.log_model.specs.declared.job.Task.TheVariants as tasks
 use Rattle.log_model.specs.declared.job.Why.TheVariants as whys
 use Rattle.log_model.specs.declared.made.What.TheVariants as whats
 use Rattle.log_model.specs.declared.outcome.Cause.TheVariants as drops
+use Rattle.log_model.specs.declared.outcome.Denial.TheVariants as denials
 use Rattle.log_model.specs.declared.outcome.Outcome.TheVariants as outcomes
 use Rattle.log_model.specs.declared.request.Mode.TheVariants as modes
 use Rattle.log_model.specs.declared.request.Request.TheVariants as requests
@@ -20,7 +21,7 @@ use Rattle.log_model.specs.LoadsEndInTime.{LoadsEndInTime, loads_end}
 use Rattle.log_model.specs.ActsAtOnce.{ActsAtOnce, ends_told, ends_stepped, goes_in_time}
 use Rattle.log_model.specs.Suits.{Suits}
 use Rattle.log_model.specs.declared.header.Header.{Header}
-use Rattle.log_examples.specs.Rows.{n, s, r, p, t, d, j, e, epoch, sent, made}
+use Rattle.log_examples.specs.Rows.{n, s, r, p, t, x, d, j, e, epoch, sent, made}
 use Rattle.log_examples.specs.Logs.{Event, by_start, by_ui, by_coord, by_proc, log_of, before, plain_settings}
 use Rattle.log_examples.proofs.Pushes.{push_beside_a_frame}
 
@@ -354,3 +355,157 @@ held_back_push_and_removal_acts_at_once = record { told = refl; stepped = refl; 
 pub held_back_push_and_removal_suits : Suits held_back_push_and_removal_header (log_of held_back_push_and_removal)
 unfolding url_on_literals is_web is_blank_url judged judged_parse read_against address_of url_of resolved with_fragment base_of fragment_of origin_text origin_of has_same_base is_rewritable events_of each_event after_opening AtEachEvent is_numbered opens is_formed is_once is_caused is_queued is_ordered is_checked ends_settled loads_end ends_told ends_stepped goes_in_time
 held_back_push_and_removal_suits = record { opened = refl; placed = refl; kept = refl }
+
+-- A traversal after one that had a held back push.
+abbrev pub back_after_a_held_back_push : List Event
+back_after_a_held_back_push =
+    held_back_push
+    ++ by_ui (rows.Accepted (r 7) None (requests.Go (negsuc 0))) (rows.Started (r 7) (Some (t 0)) ∷ sent 14 1 0 1 (whys.Req (r 7)) (tasks.Activate (e 0 1) (epoch 3) 2 0 None (codes "http://a.test/")) ∷ [])
+    ∷ by_proc 1 (rows.Taken (p 1) (j 14) true false) []
+    ∷ by_proc 1 (rows.Finished (p 1) (j 14) outcomes.Activated) []
+    ∷ by_coord (rows.Delivered (p 1)) (rows.Applied (r 7) (changes.Traverse (t 0)) ∷ sent 15 1 0 3 (whys.Req (r 7)) (tasks.Update 2 0) ∷ [])
+    ∷ by_proc 1 (rows.Taken (p 1) (j 15) true false) []
+    ∷ by_proc 1 (rows.Finished (p 1) (j 15) outcomes.Updated) []
+    ∷ by_coord (rows.Delivered (p 1)) []
+    ∷ []
+
+pub back_after_a_held_back_push_is_legal : IsLegal (log_of back_after_a_held_back_push)
+unfolding url_on_literals is_web is_blank_url judged judged_parse read_against address_of url_of resolved with_fragment base_of fragment_of origin_text origin_of has_same_base is_rewritable events_of each_event after_opening AtEachEvent is_numbered opens is_formed is_once is_caused is_queued is_ordered is_checked ends_settled loads_end ends_told ends_stepped goes_in_time
+back_after_a_held_back_push_is_legal = record { opened = refl; numbered = refl; formed = refl; once = refl; caused = refl; queued = refl; ordered = refl; checked = refl; settled = refl }
+
+pub back_after_a_held_back_push_ends_loads : LoadsEndInTime (log_of back_after_a_held_back_push)
+unfolding url_on_literals is_web is_blank_url judged judged_parse read_against address_of url_of resolved with_fragment base_of fragment_of origin_text origin_of has_same_base is_rewritable events_of each_event after_opening AtEachEvent is_numbered opens is_formed is_once is_caused is_queued is_ordered is_checked ends_settled loads_end ends_told ends_stepped goes_in_time
+back_after_a_held_back_push_ends_loads = refl
+
+pub back_after_a_held_back_push_acts_at_once : ActsAtOnce (log_of back_after_a_held_back_push)
+unfolding url_on_literals is_web is_blank_url judged judged_parse read_against address_of url_of resolved with_fragment base_of fragment_of origin_text origin_of has_same_base is_rewritable events_of each_event after_opening AtEachEvent is_numbered opens is_formed is_once is_caused is_queued is_ordered is_checked ends_settled loads_end ends_told ends_stepped goes_in_time
+back_after_a_held_back_push_acts_at_once = record { told = refl; stepped = refl; in_time = refl }
+
+pub back_after_a_held_back_push_suits : Suits plain_settings (log_of back_after_a_held_back_push)
+unfolding url_on_literals is_web is_blank_url judged judged_parse read_against address_of url_of resolved with_fragment base_of fragment_of origin_text origin_of has_same_base is_rewritable events_of each_event after_opening AtEachEvent is_numbered opens is_formed is_once is_caused is_queued is_ordered is_checked ends_settled loads_end ends_told ends_stepped goes_in_time
+back_after_a_held_back_push_suits = record { opened = refl; placed = refl; kept = refl }
+
+-- A held back frame is refused, for its number is taken.
+abbrev pub held_back_frame : List Event
+held_back_frame =
+    before 41 held_back_push
+    ++ by_ui (rows.Accepted (r 6) (Some (d 1)) (requests.Poke (n 0) (actions.AddFrame (n 1)))) []
+    ∷ by_proc 1 (made 1 6 1 2 (whats.AddFrame (n 1))) []
+    ∷ by_coord (rows.Delivered (p 1)) []
+    ∷ by_coord (rows.Delivered (p 1)) []
+    ∷ by_proc 1 (rows.Taken (p 1) (j 11) true false) []
+    ∷ by_proc 1 (rows.Finished (p 1) (j 11) outcomes.Activated) []
+    ∷ by_coord (rows.Delivered (p 1)) (rows.Applied (r 5) (changes.Traverse (t 0)) ∷ rows.Refused (r 6) denials.NavTaken ∷ [])
+    ∷ by_ui (rows.Accepted (r 7) None (requests.Go (pos 1))) (rows.Started (r 7) (Some (t 1)) ∷ sent 12 1 0 1 (whys.Req (r 7)) (tasks.Activate (e 1 1) (epoch 3) 3 1 None (codes "http://a.test/#x")) ∷ [])
+    ∷ by_proc 1 (rows.Taken (p 1) (j 12) true false) []
+    ∷ by_proc 1 (rows.Finished (p 1) (j 12) outcomes.Activated) []
+    ∷ by_coord (rows.Delivered (p 1)) (rows.Applied (r 7) (changes.Traverse (t 1)) ∷ sent 13 1 0 3 (whys.Req (r 7)) (tasks.Update 3 1) ∷ [])
+    ∷ by_proc 1 (rows.Taken (p 1) (j 13) true false) []
+    ∷ by_proc 1 (rows.Finished (p 1) (j 13) outcomes.Updated) []
+    ∷ by_coord (rows.Delivered (p 1)) []
+    ∷ []
+
+pub held_back_frame_is_legal : IsLegal (log_of held_back_frame)
+unfolding url_on_literals is_web is_blank_url judged judged_parse read_against address_of url_of resolved with_fragment base_of fragment_of origin_text origin_of has_same_base is_rewritable events_of each_event after_opening AtEachEvent is_numbered opens is_formed is_once is_caused is_queued is_ordered is_checked ends_settled loads_end ends_told ends_stepped goes_in_time
+held_back_frame_is_legal = record { opened = refl; numbered = refl; formed = refl; once = refl; caused = refl; queued = refl; ordered = refl; checked = refl; settled = refl }
+
+pub held_back_frame_ends_loads : LoadsEndInTime (log_of held_back_frame)
+unfolding url_on_literals is_web is_blank_url judged judged_parse read_against address_of url_of resolved with_fragment base_of fragment_of origin_text origin_of has_same_base is_rewritable events_of each_event after_opening AtEachEvent is_numbered opens is_formed is_once is_caused is_queued is_ordered is_checked ends_settled loads_end ends_told ends_stepped goes_in_time
+held_back_frame_ends_loads = refl
+
+pub held_back_frame_acts_at_once : ActsAtOnce (log_of held_back_frame)
+unfolding url_on_literals is_web is_blank_url judged judged_parse read_against address_of url_of resolved with_fragment base_of fragment_of origin_text origin_of has_same_base is_rewritable events_of each_event after_opening AtEachEvent is_numbered opens is_formed is_once is_caused is_queued is_ordered is_checked ends_settled loads_end ends_told ends_stepped goes_in_time
+held_back_frame_acts_at_once = record { told = refl; stepped = refl; in_time = refl }
+
+pub held_back_frame_suits : Suits plain_settings (log_of held_back_frame)
+unfolding url_on_literals is_web is_blank_url judged judged_parse read_against address_of url_of resolved with_fragment base_of fragment_of origin_text origin_of has_same_base is_rewritable events_of each_event after_opening AtEachEvent is_numbered opens is_formed is_once is_caused is_queued is_ordered is_checked ends_settled loads_end ends_told ends_stepped goes_in_time
+held_back_frame_suits = record { opened = refl; placed = refl; kept = refl }
+
+-- A death drops what was held back.
+abbrev pub held_back_and_dropped : List Event
+held_back_and_dropped =
+    before 45 held_back_frame
+    ++ by_ui (rows.Killed (p 1) (x 1)) []
+    ∷ by_proc 1 (rows.Taken (p 1) (j 11) false false) []
+    ∷ by_coord (rows.Delivered (p 1)) (rows.Applied (r 5) (changes.Traverse (t 0)) ∷ rows.Dropped (r 6) (drops.Gone (x 1)) ∷ [])
+    ∷ by_ui (rows.Accepted (r 7) None (requests.Reload (n 0))) (rows.Started (r 7) None ∷ rows.Applied (r 7) (changes.Reload (n 0)) ∷ sent 12 1 1 4 (whys.Req (r 7)) (tasks.Populate (n 0) (s 1) (codes "http://a.test/") false) ∷ [])
+    ∷ by_proc 1 (rows.Taken (p 1) (j 12) true false) []
+    ∷ by_proc 1 (rows.Finished (p 1) (j 12) (outcomes.Populated None)) []
+    ∷ by_coord (rows.Delivered (p 1)) (sent 13 1 1 4 (whys.Req (r 7)) (tasks.Activate (e 0 1) (epoch 3) 3 0 None (codes "http://a.test/")) ∷ sent 14 1 1 5 (whys.Req (r 7)) (tasks.Populate (n 1) (s 3) (codes "http://a.test/f") false) ∷ [])
+    ∷ by_proc 1 (rows.Taken (p 1) (j 13) true false) []
+    ∷ by_proc 1 (rows.Finished (p 1) (j 13) outcomes.Activated) []
+    ∷ by_coord (rows.Delivered (p 1)) []
+    ∷ by_proc 1 (rows.Taken (p 1) (j 14) true false) []
+    ∷ by_proc 1 (rows.Finished (p 1) (j 14) (outcomes.Populated None)) []
+    ∷ by_coord (rows.Delivered (p 1)) (sent 15 1 1 5 (whys.Req (r 7)) (tasks.Activate (e 0 3) (epoch 4) 3 0 None (codes "http://a.test/f")) ∷ [])
+    ∷ by_proc 1 (rows.Taken (p 1) (j 15) true false) []
+    ∷ by_proc 1 (rows.Finished (p 1) (j 15) outcomes.Activated) []
+    ∷ by_coord (rows.Delivered (p 1)) []
+    ∷ by_ui (rows.Accepted (r 8) None (requests.Go (pos 1))) (rows.Started (r 8) (Some (t 1)) ∷ sent 16 1 1 4 (whys.Req (r 8)) (tasks.Activate (e 1 1) (epoch 4) 3 1 None (codes "http://a.test/#x")) ∷ [])
+    ∷ by_proc 1 (rows.Taken (p 1) (j 16) true false) []
+    ∷ by_proc 1 (rows.Finished (p 1) (j 16) outcomes.Activated) []
+    ∷ by_coord (rows.Delivered (p 1)) (rows.Applied (r 8) (changes.Traverse (t 1)) ∷ sent 17 1 1 5 (whys.Req (r 8)) (tasks.Update 3 1) ∷ [])
+    ∷ by_proc 1 (rows.Taken (p 1) (j 17) true false) []
+    ∷ by_proc 1 (rows.Finished (p 1) (j 17) outcomes.Updated) []
+    ∷ by_coord (rows.Delivered (p 1)) []
+    ∷ []
+
+pub held_back_and_dropped_is_legal : IsLegal (log_of held_back_and_dropped)
+unfolding url_on_literals is_web is_blank_url judged judged_parse read_against address_of url_of resolved with_fragment base_of fragment_of origin_text origin_of has_same_base is_rewritable events_of each_event after_opening AtEachEvent is_numbered opens is_formed is_once is_caused is_queued is_ordered is_checked ends_settled loads_end ends_told ends_stepped goes_in_time
+held_back_and_dropped_is_legal = record { opened = refl; numbered = refl; formed = refl; once = refl; caused = refl; queued = refl; ordered = refl; checked = refl; settled = refl }
+
+pub held_back_and_dropped_ends_loads : LoadsEndInTime (log_of held_back_and_dropped)
+unfolding url_on_literals is_web is_blank_url judged judged_parse read_against address_of url_of resolved with_fragment base_of fragment_of origin_text origin_of has_same_base is_rewritable events_of each_event after_opening AtEachEvent is_numbered opens is_formed is_once is_caused is_queued is_ordered is_checked ends_settled loads_end ends_told ends_stepped goes_in_time
+held_back_and_dropped_ends_loads = refl
+
+pub held_back_and_dropped_acts_at_once : ActsAtOnce (log_of held_back_and_dropped)
+unfolding url_on_literals is_web is_blank_url judged judged_parse read_against address_of url_of resolved with_fragment base_of fragment_of origin_text origin_of has_same_base is_rewritable events_of each_event after_opening AtEachEvent is_numbered opens is_formed is_once is_caused is_queued is_ordered is_checked ends_settled loads_end ends_told ends_stepped goes_in_time
+held_back_and_dropped_acts_at_once = record { told = refl; stepped = refl; in_time = refl }
+
+pub held_back_and_dropped_suits : Suits plain_settings (log_of held_back_and_dropped)
+unfolding url_on_literals is_web is_blank_url judged judged_parse read_against address_of url_of resolved with_fragment base_of fragment_of origin_text origin_of has_same_base is_rewritable events_of each_event after_opening AtEachEvent is_numbered opens is_formed is_once is_caused is_queued is_ordered is_checked ends_settled loads_end ends_told ends_stepped goes_in_time
+held_back_and_dropped_suits = record { opened = refl; placed = refl; kept = refl }
+
+-- A push clears the entry that a running traversal has shown in a frame, and what the frame made is dropped.
+abbrev pub entry_of_a_frame_is_cleared : List Event
+entry_of_a_frame_is_cleared =
+    before 71 goal_cleared_by_a_push
+    ++ by_proc 1 (rows.Taken (p 1) (j 20) true false) []
+    ∷ by_proc 1 (rows.Finished (p 1) (j 20) outcomes.Frozen) []
+    ∷ by_proc 1 (rows.Taken (p 1) (j 21) true false) []
+    ∷ by_proc 1 (rows.Finished (p 1) (j 21) outcomes.Activated) []
+    ∷ by_ui (rows.Accepted (r 9) (Some (d 6)) (requests.Poke (n 1) (actions.Push (Some (codes "t")) (Some (codes "/k"))))) []
+    ∷ by_proc 1 (made 1 9 6 5 (whats.Push (e 6 1) (Some (codes "t")) (codes "http://a.test/k"))) []
+    ∷ by_coord (rows.Delivered (p 1)) (rows.Applied (r 7) (changes.Push (n 2) (e 5 1) (s 5) (codes "http://a.test/h") (Some (codes "s"))) ∷ sent 22 1 0 6 (whys.Req (r 7)) tasks.Discard ∷ sent 23 1 0 4 (whys.Req (r 8)) (tasks.Activate (e 0 4) (epoch 6) 2 1 None (codes "http://a.test/f1")) ∷ sent 24 1 0 1 (whys.Req (r 7)) (tasks.Update 2 1) ∷ sent 25 1 0 5 (whys.Req (r 7)) (tasks.Update 2 1) ∷ [])
+    ∷ by_coord (rows.Delivered (p 1)) []
+    ∷ by_coord (rows.Delivered (p 1)) []
+    ∷ by_coord (rows.Delivered (p 1)) (rows.Dropped (r 9) (drops.By (r 8)) ∷ [])
+    ∷ by_proc 1 (rows.Taken (p 1) (j 22) true false) []
+    ∷ by_proc 1 (rows.Finished (p 1) (j 22) outcomes.Discarded) []
+    ∷ by_coord (rows.Delivered (p 1)) []
+    ∷ by_proc 1 (rows.Taken (p 1) (j 23) true false) []
+    ∷ by_proc 1 (rows.Finished (p 1) (j 23) outcomes.Activated) []
+    ∷ by_coord (rows.Delivered (p 1)) (rows.Applied (r 8) (changes.Traverse (t 1)) ∷ [])
+    ∷ by_proc 1 (rows.Taken (p 1) (j 24) true false) []
+    ∷ by_proc 1 (rows.Finished (p 1) (j 24) outcomes.Updated) []
+    ∷ by_coord (rows.Delivered (p 1)) []
+    ∷ by_proc 1 (rows.Taken (p 1) (j 25) true false) []
+    ∷ by_proc 1 (rows.Finished (p 1) (j 25) outcomes.Updated) []
+    ∷ by_coord (rows.Delivered (p 1)) []
+    ∷ []
+
+pub entry_of_a_frame_is_cleared_is_legal : IsLegal (log_of entry_of_a_frame_is_cleared)
+unfolding url_on_literals is_web is_blank_url judged judged_parse read_against address_of url_of resolved with_fragment base_of fragment_of origin_text origin_of has_same_base is_rewritable events_of each_event after_opening AtEachEvent is_numbered opens is_formed is_once is_caused is_queued is_ordered is_checked ends_settled loads_end ends_told ends_stepped goes_in_time
+entry_of_a_frame_is_cleared_is_legal = record { opened = refl; numbered = refl; formed = refl; once = refl; caused = refl; queued = refl; ordered = refl; checked = refl; settled = refl }
+
+pub entry_of_a_frame_is_cleared_ends_loads : LoadsEndInTime (log_of entry_of_a_frame_is_cleared)
+unfolding url_on_literals is_web is_blank_url judged judged_parse read_against address_of url_of resolved with_fragment base_of fragment_of origin_text origin_of has_same_base is_rewritable events_of each_event after_opening AtEachEvent is_numbered opens is_formed is_once is_caused is_queued is_ordered is_checked ends_settled loads_end ends_told ends_stepped goes_in_time
+entry_of_a_frame_is_cleared_ends_loads = refl
+
+pub entry_of_a_frame_is_cleared_acts_at_once : ActsAtOnce (log_of entry_of_a_frame_is_cleared)
+unfolding url_on_literals is_web is_blank_url judged judged_parse read_against address_of url_of resolved with_fragment base_of fragment_of origin_text origin_of has_same_base is_rewritable events_of each_event after_opening AtEachEvent is_numbered opens is_formed is_once is_caused is_queued is_ordered is_checked ends_settled loads_end ends_told ends_stepped goes_in_time
+entry_of_a_frame_is_cleared_acts_at_once = record { told = refl; stepped = refl; in_time = refl }
+
+pub entry_of_a_frame_is_cleared_suits : Suits plain_settings (log_of entry_of_a_frame_is_cleared)
+unfolding url_on_literals is_web is_blank_url judged judged_parse read_against address_of url_of resolved with_fragment base_of fragment_of origin_text origin_of has_same_base is_rewritable events_of each_event after_opening AtEachEvent is_numbered opens is_formed is_once is_caused is_queued is_ordered is_checked ends_settled loads_end ends_told ends_stepped goes_in_time
+entry_of_a_frame_is_cleared_suits = record { opened = refl; placed = refl; kept = refl }

@@ -8,6 +8,7 @@ use Rattle.log_model.specs.declared.change.Change.TheVariants as changes
 use Rattle.log_model.specs.declared.job.Task.TheVariants as tasks
 use Rattle.log_model.specs.declared.job.Why.TheVariants as whys
 use Rattle.log_model.specs.declared.made.What.TheVariants as whats
+use Rattle.log_model.specs.declared.outcome.Cause.TheVariants as drops
 use Rattle.log_model.specs.declared.outcome.Outcome.TheVariants as outcomes
 use Rattle.log_model.specs.declared.request.Mode.TheVariants as modes
 use Rattle.log_model.specs.declared.request.Request.TheVariants as requests
@@ -21,10 +22,30 @@ use Rattle.log_examples.specs.Rows.{n, s, r, p, t, d, j, e, epoch, sent, made}
 use Rattle.log_examples.specs.Logs.{Event, by_start, by_ui, by_coord, by_proc, log_of, before, since}
 use Rattle.log_examples.proofs.Pushes.{one_push}
 use Rattle.log_examples.proofs.Traversals.{document_goes_back, push_under_an_old_epoch}
+use Rattle.log_examples.proofs.Interleavings.{entry_of_a_frame_is_cleared}
 use Rattle.log_examples.proofs.Loads.{no_document_kept, load_ended_by_a_reload}
 use Rattle.log_examples.proofs.Removals.{removal_and_push_of_two_processes}
 use Rattle.log_examples.proofs.Deaths.{poke_of_a_dead_document}
 use Rattle.log_examples.proofs.Pending.{two_pushes_on_their_way, push_behind_a_traversal, traversal_beside_a_push, load_beside_a_push, load_over_a_frame, reload_of_a_removed_frame}
+
+-- A frame is shown its entry for the push that cleared the other, which then drops what the frame made.
+abbrev pub shown_for_the_push_that_cleared : List Event
+shown_for_the_push_that_cleared =
+    before 77 entry_of_a_frame_is_cleared
+    ++ by_coord (rows.Delivered (p 1)) (rows.Applied (r 7) (changes.Push (n 2) (e 5 1) (s 5) (codes "http://a.test/h") (Some (codes "s"))) ∷ sent 22 1 0 6 (whys.Req (r 7)) tasks.Discard ∷ sent 23 1 0 4 (whys.Req (r 7)) (tasks.Activate (e 0 4) (epoch 6) 2 1 None (codes "http://a.test/f1")) ∷ sent 24 1 0 1 (whys.Req (r 7)) (tasks.Update 2 1) ∷ sent 25 1 0 5 (whys.Req (r 7)) (tasks.Update 2 1) ∷ [])
+    ∷ by_coord (rows.Delivered (p 1)) []
+    ∷ by_coord (rows.Delivered (p 1)) []
+    ∷ by_coord (rows.Delivered (p 1)) (rows.Dropped (r 9) (drops.By (r 7)) ∷ [])
+    ∷ []
+
+pub shown_for_the_push_that_cleared_is_refused : ActsAtOnce (log_of shown_for_the_push_that_cleared) → ⊥
+unfolding url_on_literals is_web is_blank_url judged judged_parse read_against address_of url_of resolved with_fragment base_of fragment_of origin_text origin_of has_same_base is_rewritable events_of each_event after_opening AtEachEvent is_numbered opens is_formed is_once is_caused is_queued is_ordered is_checked ends_settled loads_end ends_told ends_stepped goes_in_time
+shown_for_the_push_that_cleared_is_refused holds = false≢true holds.in_time
+
+-- a legal log, so that nothing else refuses it
+pub shown_for_the_push_that_cleared_is_legal : IsLegal (log_of shown_for_the_push_that_cleared)
+unfolding url_on_literals is_web is_blank_url judged judged_parse read_against address_of url_of resolved with_fragment base_of fragment_of origin_text origin_of has_same_base is_rewritable events_of each_event after_opening AtEachEvent is_numbered opens is_formed is_once is_caused is_queued is_ordered is_checked ends_settled loads_end ends_told ends_stepped goes_in_time
+shown_for_the_push_that_cleared_is_legal = record { opened = refl; numbered = refl; formed = refl; once = refl; caused = refl; queued = refl; ordered = refl; checked = refl; settled = refl }
 
 -- A push without its update: the document has guessed length and index right.
 abbrev pub right_guess_without_update : List Event

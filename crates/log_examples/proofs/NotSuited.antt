@@ -19,8 +19,8 @@ use Rattle.log_model.specs.ActsAtOnce.{ends_told, ends_stepped, goes_in_time}
 use Rattle.log_model.specs.Suits.{Suits}
 use Rattle.log_model.specs.declared.header.Header.{Header}
 use Rattle.log_examples.specs.Rows.{n, s, r, p, j, sent}
-use Rattle.log_examples.specs.Logs.{Event, by_ui, by_proc, log_of}
-use Rattle.log_examples.proofs.Pushes.{opened_only}
+use Rattle.log_examples.specs.Logs.{Event, by_ui, by_proc, log_of, since, plain_settings}
+use Rattle.log_examples.proofs.Pushes.{opened_only, one_push}
 use Rattle.log_examples.proofs.Loads.{two_processes, evicted_documents}
 use Rattle.log_examples.proofs.Prompts.{leave}
 use Rattle.log_examples.proofs.Deaths.{reload_that_cannot_begin}
@@ -80,6 +80,16 @@ too_many_kept_header = record { keep = 0; sites = []; pages = []; first = codes 
 pub too_many_kept_is_refused : Suits too_many_kept_header (log_of evicted_documents) → ⊥
 unfolding url_on_literals is_web is_blank_url judged judged_parse read_against address_of url_of resolved with_fragment base_of fragment_of origin_text origin_of has_same_base is_rewritable events_of each_event after_opening AtEachEvent is_numbered opens is_formed is_once is_caused is_queued is_ordered is_checked ends_settled loads_end ends_told ends_stepped goes_in_time
 too_many_kept_is_refused holds = false≢true holds.kept
+
+-- A log without its opening.
+pub log_without_its_opening_is_refused : Suits plain_settings (log_of (since 1 one_push)) → ⊥
+unfolding url_on_literals is_web is_blank_url judged judged_parse read_against address_of url_of resolved with_fragment base_of fragment_of origin_text origin_of has_same_base is_rewritable events_of each_event after_opening AtEachEvent is_numbered opens is_formed is_once is_caused is_queued is_ordered is_checked ends_settled loads_end ends_told ends_stepped goes_in_time
+log_without_its_opening_is_refused holds = false≢true holds.opened
+
+-- No row at all.
+pub no_row_is_refused : Suits plain_settings [] → ⊥
+unfolding url_on_literals is_web is_blank_url judged judged_parse read_against address_of url_of resolved with_fragment base_of fragment_of origin_text origin_of has_same_base is_rewritable events_of each_event after_opening AtEachEvent is_numbered opens is_formed is_once is_caused is_queued is_ordered is_checked ends_settled loads_end ends_told ends_stepped goes_in_time
+no_row_is_refused holds = false≢true holds.opened
 
 abbrev pub home_of_1_header : Header
 home_of_1_header = record { keep = 3; sites = record { origin = codes "http://b.test"; proc = p 2 } ∷ record { origin = codes "http://c.test"; proc = p 3 } ∷ []; pages = []; first = codes "http://a.test/" }
