@@ -69,7 +69,7 @@ REASONS = [
     ('a Killed row drops the pokes of the input alone (`is_said_rightly`), and this death takes their documents', ['Causes:poke_is_gone/kills: equation 1 is true']),
     ('`request_served` changes nothing then', ['AfterRequests:requests_sent: equation 2 is left out', 'AfterRequests:requests_sent: equation 3 is left out']),
     ('the user is asked for the sake of a document that wants it (`is_prompted_after`)', [
-        'Causes:is_stay: without conjunct `holds (wanted_prompt q) q.prompted`', 'Causes:is_stay: without test `wanted_prompt q`',
+        'Causes:is_stay: without test `wanted_prompt q`',
         'Causes:is_stay/wanted_prompt: equation 1 is true', 'Causes:is_stay/wanted_prompt: without conjunct `asking.doc.0 == doc.0`',
         'Causes:is_stay/wanted_prompt: without conjunct `holds is_prompt asking.verdict`', 'Causes:is_stay/wanted_prompt: without test `is_prompt`',
         'Causes:is_stay/is_prompt: equation 2 is true']),

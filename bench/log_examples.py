@@ -683,6 +683,11 @@ CLAIMS = {**{field: ('IsLegal %s', 'holds.' + field, 'Not' + field.capitalize())
           **{field: ('Suits {} %s', 'holds.' + field, 'NotSuited') for field in ('placed', 'kept')}}
 
 
+# the part of the rules that a log keeps, though it breaks another
+KEPT = {'formed': 'IsFormed', 'once': 'EachRequestOnce', 'caused': 'OutcomesAreCaused', 'queued': 'KeepsQueueOrder', 'ordered': 'OrdersAreCaused',
+        'checked': 'ChecksAreKept', 'settled': 'QuietIsSettled', 'loads': 'LoadsEndInTime', 'in_time': 'AtEachEvent goes_in_time'}
+
+
 def sentences():
     """The logs of bench/sentences.txt: name, field, scenario, what it shows, and the rows that end it."""
     with open(os.path.join(TOP, 'bench', 'sentences.txt')) as source:
@@ -709,6 +714,10 @@ def told_apart(model, logs, played, texts):
             if verdict is not None:
                 raise SystemExit('%s: the checker finds clause %s' % (name, verdict))
             out.setdefault('Variants', []).append(legal_lemma(logs, name, sentence, lines, header, base))
+            continue
+        if field.startswith('keeps_'):
+            defined, log = logs.defined(name, sentence, lines, base)
+            out.setdefault('Variants', []).append(defined + lemma_of(name, field, '%s %s' % (KEPT[field[6:]], log), 'refl'))
             continue
         claim, fact, home = CLAIMS[field]
         settings, also = header_of(name, header) if '{}' in claim else ('', '')
@@ -740,7 +749,7 @@ def gate(model):
             legal += 1
         names.append(module(logs, folder, topic, 'Legal logs: %s.' % topic.lower(), lemmas))
     apart = told_apart(model, logs, {texts[name]: lines for name, lines in played.items()}, texts)
-    names.append(module(logs, folder, 'Variants', 'Legal logs that tell one sentence of a definition.', apart.pop('Variants')))
+    names.append(module(logs, folder, 'Variants', 'Logs that tell one sentence of a definition: legal ones, and ones that keep one part of the rules.', apart.pop('Variants')))
     for field, examples in BROKEN:
         lemmas = []
         for name, sentence, scenario, edits in examples:

@@ -1,10 +1,12 @@
--- Legal logs that tell one sentence of a definition.
+-- Logs that tell one sentence of a definition: legal ones, and ones that keep one part of the rules.
 -- A log is its events: those before one of another log, since one, or between two, and its own.
-use Rattle.std.proofs.Common.{negsuc, true, false, List, [], ◌∷◌, ◌++◌, codes, refl, Some, None}
+use Rattle.std.proofs.Common.{pos, negsuc, true, false, List, [], ◌∷◌, ◌++◌, codes, refl, Some, None}
 use Rattle.url.proofs.OnLiterals.{url_on_literals}
 use Rattle.address.specs.Addresses.{is_web, is_blank_url, judged, judged_parse, read_against, address_of, url_of, resolved, with_fragment, base_of, fragment_of, origin_text, origin_of, has_same_base, is_rewritable}
 use Rattle.log_model.specs.declared.action.Action.TheVariants as actions
 use Rattle.log_model.specs.declared.change.Change.TheVariants as changes
+use Rattle.log_model.specs.declared.handler.LeaveCause.TheVariants as leavings
+use Rattle.log_model.specs.declared.handler.Verdict.TheVariants as verdicts
 use Rattle.log_model.specs.declared.job.Task.TheVariants as tasks
 use Rattle.log_model.specs.declared.job.Why.TheVariants as whys
 use Rattle.log_model.specs.declared.made.What.TheVariants as whats
@@ -16,14 +18,21 @@ use Rattle.log_model.specs.declared.request.Request.TheVariants as requests
 use Rattle.log_model.specs.declared.row_kind.RowKind.TheVariants as rows
 use Rattle.log_model.specs.Events.{events_of, each_event, after_opening, AtEachEvent}
 use Rattle.log_model.specs.Formed.{is_numbered}
-use Rattle.log_model.specs.Legal.{IsLegal, opens, is_formed, is_once, is_caused, is_queued, is_ordered, is_checked, ends_settled}
+use Rattle.log_model.specs.Legal.{IsLegal, IsFormed, EachRequestOnce, OutcomesAreCaused, KeepsQueueOrder, OrdersAreCaused, ChecksAreKept, QuietIsSettled, opens, is_formed, is_once, is_caused, is_queued, is_ordered, is_checked, ends_settled}
 use Rattle.log_model.specs.LoadsEndInTime.{LoadsEndInTime, loads_end}
 use Rattle.log_model.specs.ActsAtOnce.{ActsAtOnce, ends_told, ends_stepped, goes_in_time}
 use Rattle.log_model.specs.Suits.{Suits}
 use Rattle.log_model.specs.declared.header.Header.{Header}
-use Rattle.log_examples.specs.Rows.{n, s, r, p, d, j, e, epoch, sent, made}
+use Rattle.log_examples.specs.Rows.{n, s, r, p, x, d, j, e, epoch, sent, made}
 use Rattle.log_examples.specs.Logs.{Event, by_start, by_ui, by_coord, by_proc, log_of, before, plain_settings}
 use Rattle.log_examples.proofs.Pushes.{replace_and_fragment, push_after_a_death}
+use Rattle.log_examples.proofs.Traversals.{document_goes_back}
+use Rattle.log_examples.proofs.Interleavings.{goal_cleared_by_a_push, held_back_push_and_removal}
+use Rattle.log_examples.proofs.Frames.{taken_number}
+use Rattle.log_examples.proofs.Reloads.{reload_and_death}
+use Rattle.log_examples.proofs.Prompts.{stay, load_behind_a_prompt, question_settled_by_a_discard}
+use Rattle.log_examples.proofs.Deaths.{one_of_two_processes_dies, load_below_a_lost_navigable}
+use Rattle.log_examples.proofs.Pending.{load_over_a_frame}
 
 -- follows_finished: without conjunct `s.events == (row.event + 1)`, it would be refused.
 abbrev pub follows_finished_1 : List Event
@@ -334,3 +343,260 @@ made_by_1_acts_at_once = record { told = refl; stepped = refl; in_time = refl }
 pub made_by_1_suits : Suits made_by_1_header (log_of made_by_1)
 unfolding url_on_literals is_web is_blank_url judged judged_parse read_against address_of url_of resolved with_fragment base_of fragment_of origin_text origin_of has_same_base is_rewritable events_of each_event after_opening AtEachEvent is_numbered opens is_formed is_once is_caused is_queued is_ordered is_checked ends_settled loads_end ends_told ends_stepped goes_in_time
 made_by_1_suits = record { opened = refl; placed = refl; kept = refl }
+
+-- is_for_traversal: without test `is_traversal q.what`, `loads` would not hold.
+abbrev pub is_for_traversal_1 : List Event
+is_for_traversal_1 =
+    by_start (rows.Opened (e 0 1) (s 1) (d 1) (p 1) None (codes "http://news.test/")) []
+    ∷ by_ui (rows.Accepted (r 1) None (requests.Load (n 0) modes.Auto (codes "http://news.test/1"))) (rows.Started (r 1) None ∷ sent 1 1 0 2 (whys.Req (r 1)) (tasks.Populate (n 0) (s 2) (codes "http://news.test/1") false) ∷ [])
+    ∷ by_proc 1 (rows.Taken (p 1) (j 1) true false) (sent 3 1 0 2 (whys.Req (r 1)) (tasks.Activate (e 0 2) (epoch 2) 2 1 None (codes "http://news.test/1")) ∷ [])
+    ∷ []
+
+pub is_for_traversal_1_keeps_loads : LoadsEndInTime (log_of is_for_traversal_1)
+unfolding url_on_literals is_web is_blank_url judged judged_parse read_against address_of url_of resolved with_fragment base_of fragment_of origin_text origin_of has_same_base is_rewritable events_of each_event after_opening AtEachEvent is_numbered opens is_formed is_once is_caused is_queued is_ordered is_checked ends_settled loads_end ends_told ends_stepped goes_in_time
+is_for_traversal_1_keeps_loads = refl
+
+-- is_refused_step: without conjunct `is_traversal q.what`, `queued` would not hold.
+abbrev pub is_refused_step_2 : List Event
+is_refused_step_2 =
+    by_start (rows.Opened (e 0 1) (s 1) (d 1) (p 1) None (codes "http://a.test/")) []
+    ∷ by_ui (rows.Accepted (r 1) None (requests.Reload (n 0))) (rows.Started (r 1) None ∷ sent 1 1 0 1 (whys.Req (r 1)) (tasks.DoFragment (r 1) modes.Auto (codes "http://a.test/#x")) ∷ rows.Refused (r 1) denials.NoStep ∷ [])
+    ∷ []
+
+pub is_refused_step_2_keeps_queued : KeepsQueueOrder (log_of is_refused_step_2)
+unfolding url_on_literals is_web is_blank_url judged judged_parse read_against address_of url_of resolved with_fragment base_of fragment_of origin_text origin_of has_same_base is_rewritable events_of each_event after_opening AtEachEvent is_numbered opens is_formed is_once is_caused is_queued is_ordered is_checked ends_settled loads_end ends_told ends_stepped goes_in_time
+is_refused_step_2_keeps_queued = refl
+
+-- goes_on_with: by_kind: without conjunct `by_task job.task`, `checked` would not hold.
+abbrev pub goes_on_with_3 : List Event
+goes_on_with_3 =
+    before 19 load_behind_a_prompt
+    ++ by_coord (rows.Delivered (p 1)) (sent 6 1 0 3 (whys.Req (r 3)) (tasks.Update 2 1) ∷ rows.Prompted (r 3) (d 2) ∷ [])
+    ∷ []
+
+pub goes_on_with_3_keeps_checked : ChecksAreKept (log_of goes_on_with_3)
+unfolding url_on_literals is_web is_blank_url judged judged_parse read_against address_of url_of resolved with_fragment base_of fragment_of origin_text origin_of has_same_base is_rewritable events_of each_event after_opening AtEachEvent is_numbered opens is_formed is_once is_caused is_queued is_ordered is_checked ends_settled loads_end ends_told ends_stepped goes_in_time
+goes_on_with_3_keeps_checked = refl
+
+-- is_prompt_up: without test `is_drop`, `settled` would not hold.
+abbrev pub is_prompt_up_3 : List Event
+is_prompt_up_3 =
+    by_start (rows.Opened (e 0 1) (s 1) (d 1) (p 1) None (codes "http://a.test/")) []
+    ∷ by_ui (rows.Accepted (r 1) None (requests.Go (pos 5))) (rows.Refused (r 1) denials.NoStep ∷ [])
+    ∷ by_ui (rows.Accepted (r 2) None (requests.Load (n 0) modes.Auto (codes "http://a.test/#x"))) (rows.Prompted (r 1) (d 1) ∷ [])
+    ∷ []
+
+pub is_prompt_up_3_keeps_settled : QuietIsSettled (log_of is_prompt_up_3)
+unfolding url_on_literals is_web is_blank_url judged judged_parse read_against address_of url_of resolved with_fragment base_of fragment_of origin_text origin_of has_same_base is_rewritable events_of each_event after_opening AtEachEvent is_numbered opens is_formed is_once is_caused is_queued is_ordered is_checked ends_settled loads_end ends_told ends_stepped goes_in_time
+is_prompt_up_3_keeps_settled = refl
+
+-- may_go_on: without premise `is_checked q`, `checked` would not hold.
+abbrev pub may_go_on_1 : List Event
+may_go_on_1 =
+    before 3 document_goes_back
+    ++ by_coord (rows.Delivered (p 1)) (sent 1 1 0 1 (whys.Req (r 1)) (tasks.Ask 0 leavings.Reload) ∷ rows.Applied (r 1) (changes.Push (n 0) (e 1 1) (s 1) (codes "http://a.test/1") (Some (codes "s"))) ∷ sent 1 1 0 1 (whys.Req (r 1)) (tasks.Update 2 1) ∷ [])
+    ∷ []
+
+pub may_go_on_1_keeps_checked : ChecksAreKept (log_of may_go_on_1)
+unfolding url_on_literals is_web is_blank_url judged judged_parse read_against address_of url_of resolved with_fragment base_of fragment_of origin_text origin_of has_same_base is_rewritable events_of each_event after_opening AtEachEvent is_numbered opens is_formed is_once is_caused is_queued is_ordered is_checked ends_settled loads_end ends_told ends_stepped goes_in_time
+may_go_on_1_keeps_checked = refl
+
+-- has_no_earlier_load_below: without conjunct `nat_lt q.nr.0 req.0`, `loads` would not hold.
+abbrev pub has_no_earlier_load_below_2 : List Event
+has_no_earlier_load_below_2 =
+    before 32 held_back_push_and_removal
+    ++ by_proc 1 (made 1 3 2 1 (whats.Go (negsuc 0))) (rows.Applied (r 2) (changes.Push (n 1) (e 0 5) (s 3) (codes "http://a.test/p0") None) ∷ [])
+    ∷ []
+
+pub has_no_earlier_load_below_2_keeps_loads : LoadsEndInTime (log_of has_no_earlier_load_below_2)
+unfolding url_on_literals is_web is_blank_url judged judged_parse read_against address_of url_of resolved with_fragment base_of fragment_of origin_text origin_of has_same_base is_rewritable events_of each_event after_opening AtEachEvent is_numbered opens is_formed is_once is_caused is_queued is_ordered is_checked ends_settled loads_end ends_told ends_stepped goes_in_time
+has_no_earlier_load_below_2_keeps_loads = refl
+
+-- names_document: without test `refuses req`, `formed` would not hold.
+abbrev pub names_document_4 : List Event
+names_document_4 =
+    by_start (rows.Opened (e 0 1) (s 1) (d 1) (p 1) None (codes "http://a.test/")) []
+    ∷ by_ui (rows.Accepted (r 1) (Some (d 1)) (requests.Poke (n 0) (actions.Push (Some (codes "s")) (Some (codes "/1"))))) (sent 1 1 0 2 (whys.Req (r 1)) (tasks.Populate (n 0) (s 1) (codes "http://a.test/") false) ∷ [])
+    ∷ []
+
+pub names_document_4_keeps_formed : IsFormed (log_of names_document_4)
+unfolding url_on_literals is_web is_blank_url judged judged_parse read_against address_of url_of resolved with_fragment base_of fragment_of origin_text origin_of has_same_base is_rewritable events_of each_event after_opening AtEachEvent is_numbered opens is_formed is_once is_caused is_queued is_ordered is_checked ends_settled loads_end ends_told ends_stepped goes_in_time
+names_document_4_keeps_formed = refl
+
+-- is_for_traversal: were equation 2 true, `loads` would not hold.
+abbrev pub is_for_traversal_2 : List Event
+is_for_traversal_2 =
+    by_start (rows.Opened (e 0 1) (s 1) (d 1) (p 1) None (codes "http://a.test/")) []
+    ∷ by_ui (rows.Accepted (r 1) None (requests.Load (n 0) modes.Auto (codes "http://a.test/1"))) (rows.Started (r 1) None ∷ sent 1 1 0 2 (whys.Req (r 1)) (tasks.Populate (n 0) (s 2) (codes "http://a.test/1") false) ∷ [])
+    ∷ by_ui (rows.Accepted (r 2) None (requests.Go (negsuc 0))) (sent 2 1 0 2 (whys.Death (x 1)) (tasks.Activate (e 0 1) (epoch 2) 1 1 None (codes "http://a.test/")) ∷ [])
+    ∷ []
+
+pub is_for_traversal_2_keeps_loads : LoadsEndInTime (log_of is_for_traversal_2)
+unfolding url_on_literals is_web is_blank_url judged judged_parse read_against address_of url_of resolved with_fragment base_of fragment_of origin_text origin_of has_same_base is_rewritable events_of each_event after_opening AtEachEvent is_numbered opens is_formed is_once is_caused is_queued is_ordered is_checked ends_settled loads_end ends_told ends_stepped goes_in_time
+is_for_traversal_2_keeps_loads = refl
+
+-- has_stood_after: without conjunct `s.has_stood`, `caused` would not hold.
+abbrev pub has_stood_after_1 : List Event
+has_stood_after_1 =
+    by_start (rows.Opened (e 0 1) (s 1) (d 1) (p 1) None (codes "http://a.test/")) []
+    ∷ by_ui (rows.Accepted (r 1) None (requests.Load (n 0) modes.Auto (codes "http://a.test/1"))) (rows.Started (r 1) None ∷ sent 1 1 0 2 (whys.Req (r 1)) (tasks.Populate (n 0) (s 2) (codes "http://a.test/1") false) ∷ [])
+    ∷ by_coord (rows.Delivered (p 1)) (rows.Applied (r 1) (changes.Push (n 0) (e 0 2) (s 2) (codes "http://a.test/1") None) ∷ rows.Dropped (r 1) (drops.By (r 1)) ∷ rows.Applied (r 2) (changes.RemoveFrame (n 0)) ∷ [])
+    ∷ []
+
+pub has_stood_after_1_keeps_caused : OutcomesAreCaused (log_of has_stood_after_1)
+unfolding url_on_literals is_web is_blank_url judged judged_parse read_against address_of url_of resolved with_fragment base_of fragment_of origin_text origin_of has_same_base is_rewritable events_of each_event after_opening AtEachEvent is_numbered opens is_formed is_once is_caused is_queued is_ordered is_checked ends_settled loads_end ends_told ends_stepped goes_in_time
+has_stood_after_1_keeps_caused = refl
+
+-- later_row: were `nat_lt best.step.0 row.step.0` always so, `ordered` would not hold.
+abbrev pub later_row_1 : List Event
+later_row_1 =
+    before 6 taken_number
+    ++ by_coord (rows.Delivered (p 1)) (rows.Applied (r 1) (changes.AddFrame (s 1) (n 1) (e 0 3) (s 3)) ∷ sent 2 1 0 2 (whys.Req (r 1)) (tasks.Activate (e 0 2) (epoch 1) 1 0 None (codes "about:blank")) ∷ [])
+    ∷ []
+
+pub later_row_1_keeps_ordered : OrdersAreCaused (log_of later_row_1)
+unfolding url_on_literals is_web is_blank_url judged judged_parse read_against address_of url_of resolved with_fragment base_of fragment_of origin_text origin_of has_same_base is_rewritable events_of each_event after_opening AtEachEvent is_numbered opens is_formed is_once is_caused is_queued is_ordered is_checked ends_settled loads_end ends_told ends_stepped goes_in_time
+later_row_1_keeps_ordered = refl
+
+-- has_no_earlier_load_at: without conjunct `nat_lt q.nr.0 req.0`, `loads` would not hold.
+abbrev pub has_no_earlier_load_at_1 : List Event
+has_no_earlier_load_at_1 =
+    before 10 one_of_two_processes_dies
+    ++ by_ui (rows.Accepted (r 2) None (requests.Load (n 1) modes.Auto (codes "http://b.test/f"))) (rows.Started (r 2) None ∷ rows.Applied (r 1) (changes.Reload (n 1)) ∷ sent 3 2 0 3 (whys.Req (r 2)) (tasks.Populate (n 1) (s 3) (codes "http://b.test/f") false) ∷ [])
+    ∷ []
+
+pub has_no_earlier_load_at_1_keeps_loads : LoadsEndInTime (log_of has_no_earlier_load_at_1)
+unfolding url_on_literals is_web is_blank_url judged judged_parse read_against address_of url_of resolved with_fragment base_of fragment_of origin_text origin_of has_same_base is_rewritable events_of each_event after_opening AtEachEvent is_numbered opens is_formed is_once is_caused is_queued is_ordered is_checked ends_settled loads_end ends_told ends_stepped goes_in_time
+has_no_earlier_load_at_1_keeps_loads = refl
+
+-- replaced_row: without conjunct `is_of new.nav row`, `in_time` would not hold.
+abbrev pub replaced_row_3 : List Event
+replaced_row_3 =
+    before 13 one_of_two_processes_dies
+    ++ by_coord (rows.Delivered (p 2)) (rows.Applied (r 2) (changes.Replace (n 2) (e 0 2) (e 0 3) (s 3) (codes "http://b.test/f") None) ∷ sent 4 1 0 2 (whys.Req (r 2)) tasks.Discard ∷ sent 5 2 0 3 (whys.Req (r 2)) (tasks.Activate (e 0 3) (epoch 2) 1 0 None (codes "http://b.test/f")) ∷ [])
+    ∷ []
+
+pub replaced_row_3_keeps_in_time : AtEachEvent goes_in_time (log_of replaced_row_3)
+unfolding url_on_literals is_web is_blank_url judged judged_parse read_against address_of url_of resolved with_fragment base_of fragment_of origin_text origin_of has_same_base is_rewritable events_of each_event after_opening AtEachEvent is_numbered opens is_formed is_once is_caused is_queued is_ordered is_checked ends_settled loads_end ends_told ends_stepped goes_in_time
+replaced_row_3_keeps_in_time = refl
+
+-- denial_of_nav: without conjunct `needs_document`, `caused` would not hold.
+abbrev pub denial_of_nav_1 : List Event
+denial_of_nav_1 =
+    before 17 load_below_a_lost_navigable
+    ++ by_ui (rows.Accepted (r 3) None (requests.Reload (n 1))) []
+    ∷ []
+
+pub denial_of_nav_1_keeps_caused : OutcomesAreCaused (log_of denial_of_nav_1)
+unfolding url_on_literals is_web is_blank_url judged judged_parse read_against address_of url_of resolved with_fragment base_of fragment_of origin_text origin_of has_same_base is_rewritable events_of each_event after_opening AtEachEvent is_numbered opens is_formed is_once is_caused is_queued is_ordered is_checked ends_settled loads_end ends_told ends_stepped goes_in_time
+denial_of_nav_1_keeps_caused = refl
+
+-- is_running: without test `view.running`, `caused` would not hold.
+abbrev pub is_running_1 : List Event
+is_running_1 =
+    before 17 load_over_a_frame
+    ++ by_proc 1 (rows.Refused (r 1) denials.NoDocument) []
+    ∷ []
+
+pub is_running_1_keeps_caused : OutcomesAreCaused (log_of is_running_1)
+unfolding url_on_literals is_web is_blank_url judged judged_parse read_against address_of url_of resolved with_fragment base_of fragment_of origin_text origin_of has_same_base is_rewritable events_of each_event after_opening AtEachEvent is_numbered opens is_formed is_once is_caused is_queued is_ordered is_checked ends_settled loads_end ends_told ends_stepped goes_in_time
+is_running_1_keeps_caused = refl
+
+-- goes_on_with: by_kind: were equation 2 true, `checked` would not hold.
+abbrev pub goes_on_with_4 : List Event
+goes_on_with_4 =
+    before 16 stay
+    ++ by_coord (rows.Delivered (p 1)) (rows.Applied (r 1) (changes.Reload (n 0)) ∷ rows.Prompted (r 3) (d 2) ∷ [])
+    ∷ []
+
+pub goes_on_with_4_keeps_checked : ChecksAreKept (log_of goes_on_with_4)
+unfolding url_on_literals is_web is_blank_url judged judged_parse read_against address_of url_of resolved with_fragment base_of fragment_of origin_text origin_of has_same_base is_rewritable events_of each_event after_opening AtEachEvent is_numbered opens is_formed is_once is_caused is_queued is_ordered is_checked ends_settled loads_end ends_told ends_stepped goes_in_time
+goes_on_with_4_keeps_checked = refl
+
+-- is_leaving: were equation 4 true, `ordered` would not hold.
+abbrev pub is_leaving_2 : List Event
+is_leaving_2 =
+    by_start (rows.Opened (e 0 1) (s 1) (d 1) (p 2) (Some 2) (codes "http://b.test/p1")) []
+    ∷ by_ui (rows.Accepted (r 1) (Some (d 1)) (requests.Poke (n 0) (actions.AddFrame (n 1)))) []
+    ∷ by_proc 2 (made 2 1 1 1 (whats.AddFrame (n 1))) []
+    ∷ by_coord (rows.Delivered (p 2)) (rows.Started (r 1) None ∷ rows.Applied (r 1) (changes.AddFrame (s 1) (n 1) (e 0 2) (s 2)) ∷ sent 1 2 0 2 (whys.Req (r 1)) (tasks.Populate (n 1) (s 2) (codes "about:blank") true) ∷ [])
+    ∷ []
+
+pub is_leaving_2_keeps_ordered : OrdersAreCaused (log_of is_leaving_2)
+unfolding url_on_literals is_web is_blank_url judged judged_parse read_against address_of url_of resolved with_fragment base_of fragment_of origin_text origin_of has_same_base is_rewritable events_of each_event after_opening AtEachEvent is_numbered opens is_formed is_once is_caused is_queued is_ordered is_checked ends_settled loads_end ends_told ends_stepped goes_in_time
+is_leaving_2_keeps_ordered = refl
+
+-- goes_on_with: by_kind: without conjunct `is_for req job`, `checked` would not hold.
+abbrev pub goes_on_with_5 : List Event
+goes_on_with_5 =
+    by_start (rows.Opened (e 0 1) (s 1) (d 1) (p 1) (Some 1) (codes "http://a.test/p0")) []
+    ∷ by_ui (rows.Accepted (r 1) (Some (d 1)) (requests.Poke (n 0) (actions.Push (Some (codes "s")) (Some (codes "/q0"))))) []
+    ∷ by_proc 1 (made 1 1 1 1 (whats.Push (e 1 1) (Some (codes "s")) (codes "http://a.test/q0"))) []
+    ∷ by_coord (rows.Delivered (p 1)) (rows.Applied (r 1) (changes.Push (n 0) (e 1 1) (s 1) (codes "http://a.test/q0") (Some (codes "s"))) ∷ sent 1 1 0 1 (whys.Req (r 1)) (tasks.Update 2 1) ∷ [])
+    ∷ by_proc 1 (rows.Taken (p 1) (j 1) true false) []
+    ∷ by_proc 1 (rows.Finished (p 1) (j 1) outcomes.Updated) []
+    ∷ by_coord (rows.Delivered (p 1)) []
+    ∷ by_ui (rows.Accepted (r 2) None (requests.Load (n 0) modes.Replace (codes "http://a.test/p1"))) (rows.Started (r 2) None ∷ sent 2 1 0 1 (whys.Req (r 2)) (tasks.Ask 1 leavings.Load) ∷ [])
+    ∷ by_proc 1 (rows.Taken (p 1) (j 2) true false) []
+    ∷ by_proc 1 (rows.Finished (p 1) (j 2) (outcomes.Asked verdicts.Prompt)) []
+    ∷ by_coord (rows.Delivered (p 1)) (sent 3 1 0 1 (whys.Death (x 1)) tasks.Freeze ∷ rows.Prompted (r 2) (d 1) ∷ [])
+    ∷ []
+
+pub goes_on_with_5_keeps_checked : ChecksAreKept (log_of goes_on_with_5)
+unfolding url_on_literals is_web is_blank_url judged judged_parse read_against address_of url_of resolved with_fragment base_of fragment_of origin_text origin_of has_same_base is_rewritable events_of each_event after_opening AtEachEvent is_numbered opens is_formed is_once is_caused is_queued is_ordered is_checked ends_settled loads_end ends_told ends_stepped goes_in_time
+goes_on_with_5_keeps_checked = refl
+
+-- is_fragment_replace: without disjunct `view.initial`, `once` would not hold.
+abbrev pub is_fragment_replace_2 : List Event
+is_fragment_replace_2 =
+    by_start (rows.Opened (e 0 1) (s 1) (d 1) (p 2) None (codes "http://b.test/p1")) []
+    ∷ by_ui (rows.Accepted (r 1) (Some (d 1)) (requests.Poke (n 0) (actions.AddFrame (n 1)))) []
+    ∷ by_proc 2 (made 2 1 1 1 (whats.AddFrame (n 1))) []
+    ∷ by_coord (rows.Delivered (p 2)) (rows.Applied (r 1) (changes.AddFrame (s 1) (n 1) (e 0 2) (s 2)) ∷ sent 1 2 0 2 (whys.Req (r 1)) (tasks.Populate (n 1) (s 2) (codes "about:blank") true) ∷ [])
+    ∷ by_proc 2 (rows.Taken (p 2) (j 1) true false) []
+    ∷ by_proc 2 (rows.Finished (p 2) (j 1) (outcomes.Populated None)) []
+    ∷ by_coord (rows.Delivered (p 2)) (sent 2 2 0 2 (whys.Req (r 1)) (tasks.Activate (e 0 2) (epoch 1) 1 0 None (codes "about:blank")) ∷ [])
+    ∷ by_proc 2 (rows.Taken (p 2) (j 2) true false) []
+    ∷ by_proc 2 (rows.Finished (p 2) (j 2) outcomes.Activated) []
+    ∷ by_coord (rows.Delivered (p 2)) []
+    ∷ by_ui (rows.Accepted (r 2) None (requests.Load (n 1) modes.Auto (codes "about:blank#x"))) (sent 3 2 0 2 (whys.Req (r 2)) (tasks.DoFragment (r 2) modes.Auto (codes "about:blank#x")) ∷ [])
+    ∷ by_proc 2 (rows.Taken (p 2) (j 3) true false) []
+    ∷ by_coord (rows.Finished (p 2) (j 3) outcomes.Fragmented) (made 2 2 2 1 (whats.Replace (e 0 2) (e 2 1) None (codes "about:blank#x")) ∷ [])
+    ∷ []
+
+pub is_fragment_replace_2_keeps_once : EachRequestOnce (log_of is_fragment_replace_2)
+unfolding url_on_literals is_web is_blank_url judged judged_parse read_against address_of url_of resolved with_fragment base_of fragment_of origin_text origin_of has_same_base is_rewritable events_of each_event after_opening AtEachEvent is_numbered opens is_formed is_once is_caused is_queued is_ordered is_checked ends_settled loads_end ends_told ends_stepped goes_in_time
+is_fragment_replace_2_keeps_once = refl
+
+-- has_no_earlier_load_at: without conjunct `has_nav (way_to e loaded) nav`, `loads` would not hold.
+abbrev pub has_no_earlier_load_at_2 : List Event
+has_no_earlier_load_at_2 =
+    before 11 reload_and_death
+    ++ by_coord (rows.Delivered (p 1)) (sent 4 1 0 1 (whys.Req (r 2)) (tasks.Ask 0 leavings.Load) ∷ rows.Applied (r 3) (changes.Reload (n 2)) ∷ [])
+    ∷ []
+
+pub has_no_earlier_load_at_2_keeps_loads : LoadsEndInTime (log_of has_no_earlier_load_at_2)
+unfolding url_on_literals is_web is_blank_url judged judged_parse read_against address_of url_of resolved with_fragment base_of fragment_of origin_text origin_of has_same_base is_rewritable events_of each_event after_opening AtEachEvent is_numbered opens is_formed is_once is_caused is_queued is_ordered is_checked ends_settled loads_end ends_told ends_stepped goes_in_time
+has_no_earlier_load_at_2_keeps_loads = refl
+
+-- may_be_left: without conjunct `is_some (shower_of p.start doc)`, `checked` would not hold.
+abbrev pub may_be_left_2 : List Event
+may_be_left_2 =
+    before 44 question_settled_by_a_discard
+    ++ by_proc 1 (rows.Finished (p 1) (j 12) (outcomes.Populated None)) (sent 13 1 0 2 (whys.Req (r 3)) tasks.Freeze ∷ [])
+    ∷ []
+
+pub may_be_left_2_keeps_checked : ChecksAreKept (log_of may_be_left_2)
+unfolding url_on_literals is_web is_blank_url judged judged_parse read_against address_of url_of resolved with_fragment base_of fragment_of origin_text origin_of has_same_base is_rewritable events_of each_event after_opening AtEachEvent is_numbered opens is_formed is_once is_caused is_queued is_ordered is_checked ends_settled loads_end ends_told ends_stepped goes_in_time
+may_be_left_2_keeps_checked = refl
+
+-- woken_below: without conjunct `not (is_asleep place)`, `ordered` would not hold.
+abbrev pub woken_below_1 : List Event
+woken_below_1 =
+    before 71 goal_cleared_by_a_push
+    ++ by_coord (rows.Delivered (p 1)) (rows.Applied (r 8) (changes.AddFrame (s 6) (n 2) (e 0 7) (s 7)) ∷ rows.Applied (r 7) (changes.Push (n 2) (e 5 1) (s 5) (codes "http://a.test/h") (Some (codes "s"))) ∷ sent 22 1 0 6 (whys.Req (r 7)) tasks.Discard ∷ sent 23 1 0 4 (whys.Req (r 8)) (tasks.Activate (e 0 4) (epoch 6) 2 1 None (codes "http://a.test/f1")) ∷ sent 24 1 0 1 (whys.Req (r 7)) (tasks.Update 2 1) ∷ sent 25 1 0 5 (whys.Req (r 7)) (tasks.Update 2 1) ∷ [])
+    ∷ []
+
+pub woken_below_1_keeps_ordered : OrdersAreCaused (log_of woken_below_1)
+unfolding url_on_literals is_web is_blank_url judged judged_parse read_against address_of url_of resolved with_fragment base_of fragment_of origin_text origin_of has_same_base is_rewritable events_of each_event after_opening AtEachEvent is_numbered opens is_formed is_once is_caused is_queued is_ordered is_checked ends_settled loads_end ends_told ends_stepped goes_in_time
+woken_below_1_keeps_ordered = refl
