@@ -12,6 +12,7 @@ use Rattle.log_model.specs.declared.job.Task.TheVariants as tasks
 use Rattle.log_model.specs.declared.job.Why.TheVariants as whys
 use Rattle.log_model.specs.declared.made.What.TheVariants as whats
 use Rattle.log_model.specs.declared.outcome.Cause.TheVariants as drops
+use Rattle.log_model.specs.declared.outcome.Denial.TheVariants as denials
 use Rattle.log_model.specs.declared.outcome.Outcome.TheVariants as outcomes
 use Rattle.log_model.specs.declared.request.Mode.TheVariants as modes
 use Rattle.log_model.specs.declared.request.Request.TheVariants as requests
@@ -227,3 +228,14 @@ may_leave_1 =
 pub may_leave_1_is_refused : IsLegal (log_of may_leave_1) → ⊥
 unfolding url_on_literals is_web is_blank_url judged judged_parse read_against address_of url_of resolved with_fragment base_of fragment_of origin_text origin_of has_same_base is_rewritable events_of each_event after_opening AtEachEvent is_numbered opens is_formed is_once is_caused is_queued is_ordered is_checked ends_settled loads_end ends_told ends_stepped goes_in_time
 may_leave_1_is_refused holds = false≢true holds.checked
+
+-- is_of_run: by_kind: were equation 3 true, `checked` would hold.
+abbrev pub is_of_run_2 : List Event
+is_of_run_2 =
+    before 16 stay
+    ++ by_coord (rows.Delivered (p 1)) (rows.Refused (r 1) denials.BadAddress ∷ sent 5 1 0 2 (whys.Req (r 1)) tasks.Discard ∷ [])
+    ∷ []
+
+pub is_of_run_2_is_refused : IsLegal (log_of is_of_run_2) → ⊥
+unfolding url_on_literals is_web is_blank_url judged judged_parse read_against address_of url_of resolved with_fragment base_of fragment_of origin_text origin_of has_same_base is_rewritable events_of each_event after_opening AtEachEvent is_numbered opens is_formed is_once is_caused is_queued is_ordered is_checked ends_settled loads_end ends_told ends_stepped goes_in_time
+is_of_run_2_is_refused holds = false≢true holds.checked

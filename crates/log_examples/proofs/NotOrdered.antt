@@ -26,7 +26,7 @@ use Rattle.log_examples.specs.Rows.{n, s, r, p, t, x, d, j, e, epoch, sent, made
 use Rattle.log_examples.specs.Logs.{Event, by_start, by_ui, by_coord, by_proc, log_of, before, since}
 use Rattle.log_examples.proofs.Pushes.{one_push, push_after_a_death}
 use Rattle.log_examples.proofs.Traversals.{document_goes_back}
-use Rattle.log_examples.proofs.Interleavings.{held_back_push}
+use Rattle.log_examples.proofs.Interleavings.{held_back_push, held_back_push_and_removal}
 use Rattle.log_examples.proofs.Loads.{later_load, no_document_kept, push_over_a_kept_document, evicted_documents, fragment_load}
 use Rattle.log_examples.proofs.Frames.{taken_number, load_of_a_new_frame, load_while_frames_are_moved}
 use Rattle.log_examples.proofs.Removals.{removed_frame}
@@ -638,3 +638,14 @@ populates_target_2 =
 pub populates_target_2_is_refused : IsLegal (log_of populates_target_2) → ⊥
 unfolding url_on_literals is_web is_blank_url judged judged_parse read_against address_of url_of resolved with_fragment base_of fragment_of origin_text origin_of has_same_base is_rewritable events_of each_event after_opening AtEachEvent is_numbered opens is_formed is_once is_caused is_queued is_ordered is_checked ends_settled loads_end ends_told ends_stepped goes_in_time
 populates_target_2_is_refused holds = false≢true holds.ordered
+
+-- displaces: is_of_nav: without test `d.nav.0 == nav.0`, `ordered` would hold.
+abbrev pub displaces_1 : List Event
+displaces_1 =
+    before 67 held_back_push_and_removal
+    ++ by_ui (rows.Accepted (r 7) None (requests.Go (negsuc 1))) (rows.Started (r 7) (Some (t 0)) ∷ sent 19 1 0 3 (whys.Req (r 7)) (tasks.Activate (e 0 3) (epoch 3) 3 0 None (codes "http://a.test/p0")) ∷ sent 20 1 0 6 (whys.Req (r 7)) tasks.Freeze ∷ [])
+    ∷ []
+
+pub displaces_1_is_refused : IsLegal (log_of displaces_1) → ⊥
+unfolding url_on_literals is_web is_blank_url judged judged_parse read_against address_of url_of resolved with_fragment base_of fragment_of origin_text origin_of has_same_base is_rewritable events_of each_event after_opening AtEachEvent is_numbered opens is_formed is_once is_caused is_queued is_ordered is_checked ends_settled loads_end ends_told ends_stepped goes_in_time
+displaces_1_is_refused holds = false≢true holds.ordered

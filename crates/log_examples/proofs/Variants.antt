@@ -23,14 +23,14 @@ use Rattle.log_model.specs.LoadsEndInTime.{LoadsEndInTime, loads_end}
 use Rattle.log_model.specs.ActsAtOnce.{ActsAtOnce, ends_told, ends_stepped, goes_in_time}
 use Rattle.log_model.specs.Suits.{Suits}
 use Rattle.log_model.specs.declared.header.Header.{Header}
-use Rattle.log_examples.specs.Rows.{n, s, r, p, x, d, j, e, epoch, sent, made}
+use Rattle.log_examples.specs.Rows.{n, s, r, p, t, x, d, j, e, epoch, sent, made}
 use Rattle.log_examples.specs.Logs.{Event, by_start, by_ui, by_coord, by_proc, log_of, before, plain_settings}
-use Rattle.log_examples.proofs.Pushes.{replace_and_fragment, push_after_a_death}
+use Rattle.log_examples.proofs.Pushes.{replace_and_fragment, push_after_a_death, push_beside_a_frame, poke_of_the_newer_document}
 use Rattle.log_examples.proofs.Traversals.{document_goes_back}
-use Rattle.log_examples.proofs.Interleavings.{goal_cleared_by_a_push, held_back_push_and_removal}
+use Rattle.log_examples.proofs.Interleavings.{goal_cleared_by_a_push, held_back_push_and_removal, back_after_a_held_back_push}
 use Rattle.log_examples.proofs.Frames.{taken_number}
-use Rattle.log_examples.proofs.Reloads.{reload_and_death}
-use Rattle.log_examples.proofs.Prompts.{stay, load_behind_a_prompt, question_settled_by_a_discard}
+use Rattle.log_examples.proofs.Reloads.{kept_frame_document_at_a_reload, reload_and_death}
+use Rattle.log_examples.proofs.Prompts.{stay, load_behind_a_prompt, question_settled_by_a_discard, frames_asked_in_order}
 use Rattle.log_examples.proofs.Deaths.{one_of_two_processes_dies, load_below_a_lost_navigable}
 use Rattle.log_examples.proofs.Pending.{load_over_a_frame}
 
@@ -600,3 +600,129 @@ woken_below_1 =
 pub woken_below_1_keeps_ordered : OrdersAreCaused (log_of woken_below_1)
 unfolding url_on_literals is_web is_blank_url judged judged_parse read_against address_of url_of resolved with_fragment base_of fragment_of origin_text origin_of has_same_base is_rewritable events_of each_event after_opening AtEachEvent is_numbered opens is_formed is_once is_caused is_queued is_ordered is_checked ends_settled loads_end ends_told ends_stepped goes_in_time
 woken_below_1_keeps_ordered = refl
+
+-- is_for_traversal: without test `is_traversal q.what`, `loads` would not hold.
+abbrev pub is_for_traversal_3 : List Event
+is_for_traversal_3 =
+    by_start (rows.Opened (e 0 1) (s 1) (d 1) (p 1) None (codes "http://a.test/")) []
+    ∷ by_ui (rows.Accepted (r 1) None (requests.Load (n 0) modes.Push (codes "http://a.test/"))) (rows.Started (r 1) None ∷ sent 1 1 0 2 (whys.Req (r 1)) (tasks.Populate (n 0) (s 2) (codes "http://a.test/") false) ∷ [])
+    ∷ by_proc 1 (rows.Taken (p 1) (j 1) true false) (sent 3 1 0 2 (whys.Req (r 1)) (tasks.Activate (e 0 2) (epoch 2) 2 1 None (codes "http://a.test/")) ∷ [])
+    ∷ []
+
+pub is_for_traversal_3_keeps_loads : LoadsEndInTime (log_of is_for_traversal_3)
+unfolding url_on_literals is_web is_blank_url judged judged_parse read_against address_of url_of resolved with_fragment base_of fragment_of origin_text origin_of has_same_base is_rewritable events_of each_event after_opening AtEachEvent is_numbered opens is_formed is_once is_caused is_queued is_ordered is_checked ends_settled loads_end ends_told ends_stepped goes_in_time
+is_for_traversal_3_keeps_loads = refl
+
+-- is_refused_step: without conjunct `is_traversal q.what`, `queued` would not hold.
+abbrev pub is_refused_step_3 : List Event
+is_refused_step_3 =
+    by_start (rows.Opened (e 0 1) (s 1) (d 1) (p 1) None (codes "about:blank")) []
+    ∷ by_ui (rows.Accepted (r 1) None (requests.Reload (n 0))) (rows.Started (r 1) (Some (t 0)) ∷ sent 1 1 0 2 (whys.Req (r 1)) (tasks.Populate (n 0) (s 2) (codes "about:blank") true) ∷ rows.Refused (r 1) denials.NoStep ∷ [])
+    ∷ []
+
+pub is_refused_step_3_keeps_queued : KeepsQueueOrder (log_of is_refused_step_3)
+unfolding url_on_literals is_web is_blank_url judged judged_parse read_against address_of url_of resolved with_fragment base_of fragment_of origin_text origin_of has_same_base is_rewritable events_of each_event after_opening AtEachEvent is_numbered opens is_formed is_once is_caused is_queued is_ordered is_checked ends_settled loads_end ends_told ends_stepped goes_in_time
+is_refused_step_3_keeps_queued = refl
+
+-- may_go_on: without premise `is_checked q`, `checked` would not hold.
+abbrev pub may_go_on_2 : List Event
+may_go_on_2 =
+    before 3 back_after_a_held_back_push
+    ++ by_coord (rows.Delivered (p 1)) (sent 1 1 0 1 (whys.Req (r 1)) (tasks.Ask 0 leavings.Traverse) ∷ sent 1 1 0 2 (whys.Req (r 1)) (tasks.Populate (n 1) (s 2) (codes "about:blank") true) ∷ [])
+    ∷ []
+
+pub may_go_on_2_keeps_checked : ChecksAreKept (log_of may_go_on_2)
+unfolding url_on_literals is_web is_blank_url judged judged_parse read_against address_of url_of resolved with_fragment base_of fragment_of origin_text origin_of has_same_base is_rewritable events_of each_event after_opening AtEachEvent is_numbered opens is_formed is_once is_caused is_queued is_ordered is_checked ends_settled loads_end ends_told ends_stepped goes_in_time
+may_go_on_2_keeps_checked = refl
+
+-- is_prompt_up: without test `is_drop`, `settled` would not hold.
+abbrev pub is_prompt_up_4 : List Event
+is_prompt_up_4 =
+    before 3 kept_frame_document_at_a_reload
+    ++ by_coord (rows.Delivered (p 1)) (rows.Applied (r 1) (changes.AddFrame (s 1) (n 1) (e 0 2) (s 2)) ∷ rows.Prompted (r 1) (d 1) ∷ [])
+    ∷ []
+
+pub is_prompt_up_4_keeps_settled : QuietIsSettled (log_of is_prompt_up_4)
+unfolding url_on_literals is_web is_blank_url judged judged_parse read_against address_of url_of resolved with_fragment base_of fragment_of origin_text origin_of has_same_base is_rewritable events_of each_event after_opening AtEachEvent is_numbered opens is_formed is_once is_caused is_queued is_ordered is_checked ends_settled loads_end ends_told ends_stepped goes_in_time
+is_prompt_up_4_keeps_settled = refl
+
+-- goes_on_with: by_kind: without conjunct `is_for req job`, `checked` would not hold.
+abbrev pub goes_on_with_6 : List Event
+goes_on_with_6 =
+    by_start (rows.Opened (e 0 1) (s 1) (d 1) (p 1) (Some 1) (codes "http://a.test/p0")) []
+    ∷ by_ui (rows.Accepted (r 1) None (requests.Load (n 0) modes.Auto (codes "http://b.test/p1"))) (rows.Started (r 1) None ∷ sent 1 1 0 1 (whys.Req (r 1)) (tasks.Ask 1 leavings.Load) ∷ [])
+    ∷ by_proc 1 (rows.Taken (p 1) (j 1) true false) []
+    ∷ by_proc 1 (rows.Finished (p 1) (j 1) (outcomes.Asked verdicts.Prompt)) []
+    ∷ by_coord (rows.Delivered (p 1)) (sent 2 1 0 1 (whys.Death (x 1)) tasks.Freeze ∷ rows.Prompted (r 1) (d 1) ∷ [])
+    ∷ []
+
+pub goes_on_with_6_keeps_checked : ChecksAreKept (log_of goes_on_with_6)
+unfolding url_on_literals is_web is_blank_url judged judged_parse read_against address_of url_of resolved with_fragment base_of fragment_of origin_text origin_of has_same_base is_rewritable events_of each_event after_opening AtEachEvent is_numbered opens is_formed is_once is_caused is_queued is_ordered is_checked ends_settled loads_end ends_told ends_stepped goes_in_time
+goes_on_with_6_keeps_checked = refl
+
+-- names_document: without test `refuses req`, `formed` would not hold.
+abbrev pub names_document_5 : List Event
+names_document_5 =
+    by_start (rows.Opened (e 0 1) (s 1) (d 1) (p 1) None (codes "http://a.test/")) []
+    ∷ by_ui (rows.Accepted (r 1) (Some (d 1)) (requests.Poke (n 0) (actions.Push (Some (codes "s")) (Some (codes "/1"))))) (rows.Dropped (r 1) (drops.Destroyed (r 1)) ∷ [])
+    ∷ []
+
+pub names_document_5_keeps_formed : IsFormed (log_of names_document_5)
+unfolding url_on_literals is_web is_blank_url judged judged_parse read_against address_of url_of resolved with_fragment base_of fragment_of origin_text origin_of has_same_base is_rewritable events_of each_event after_opening AtEachEvent is_numbered opens is_formed is_once is_caused is_queued is_ordered is_checked ends_settled loads_end ends_told ends_stepped goes_in_time
+names_document_5_keeps_formed = refl
+
+-- later_row: were `nat_lt best.step.0 row.step.0` always so, `queued` would not hold.
+abbrev pub later_row_2 : List Event
+later_row_2 =
+    by_start (rows.Opened (e 0 1) (s 1) (d 1) (p 1) None (codes "http://a.test/")) []
+    ∷ by_ui (rows.Accepted (r 1) None (requests.Load (n 0) modes.Auto (codes "http://b.test/p0"))) (rows.Started (r 1) None ∷ sent 1 1 0 2 (whys.Req (r 1)) (tasks.Populate (n 0) (s 2) (codes "http://b.test/p0") false) ∷ [])
+    ∷ by_coord (rows.Delivered (p 1)) (rows.Applied (r 1) (changes.AddFrame (s 1) (n 0) (e 0 2) (s 3)) ∷ sent 2 1 0 2 (whys.Req (r 1)) (tasks.Update 1 0) ∷ rows.Applied (r 1) (changes.Push (n 0) (e 0 2) (s 2) (codes "http://b.test/p0") None) ∷ [])
+    ∷ []
+
+pub later_row_2_keeps_queued : KeepsQueueOrder (log_of later_row_2)
+unfolding url_on_literals is_web is_blank_url judged judged_parse read_against address_of url_of resolved with_fragment base_of fragment_of origin_text origin_of has_same_base is_rewritable events_of each_event after_opening AtEachEvent is_numbered opens is_formed is_once is_caused is_queued is_ordered is_checked ends_settled loads_end ends_told ends_stepped goes_in_time
+later_row_2_keeps_queued = refl
+
+-- is_for_traversal: were equation 2 true, `loads` would not hold.
+abbrev pub is_for_traversal_4 : List Event
+is_for_traversal_4 =
+    before 4 poke_of_the_newer_document
+    ++ by_ui (rows.Answered (r 1) false) (sent 2 1 0 1 (whys.Death (x 1)) (tasks.Activate (e 0 1) (epoch 2) 1 0 None (codes "http://a.test/")) ∷ sent 2 2 0 3 (whys.Death (x 1)) (tasks.Populate (n 0) (s 2) (codes "http://b.test/") false) ∷ [])
+    ∷ []
+
+pub is_for_traversal_4_keeps_loads : LoadsEndInTime (log_of is_for_traversal_4)
+unfolding url_on_literals is_web is_blank_url judged judged_parse read_against address_of url_of resolved with_fragment base_of fragment_of origin_text origin_of has_same_base is_rewritable events_of each_event after_opening AtEachEvent is_numbered opens is_formed is_once is_caused is_queued is_ordered is_checked ends_settled loads_end ends_told ends_stepped goes_in_time
+is_for_traversal_4_keeps_loads = refl
+
+-- is_leaving: were equation 4 true, `ordered` would not hold.
+abbrev pub is_leaving_3 : List Event
+is_leaving_3 =
+    before 10 frames_asked_in_order
+    ++ by_ui (rows.Accepted (r 2) (Some (d 1)) (requests.Poke (n 0) (actions.AddFrame (n 1)))) (rows.Started (r 1) None ∷ [])
+    ∷ []
+
+pub is_leaving_3_keeps_ordered : OrdersAreCaused (log_of is_leaving_3)
+unfolding url_on_literals is_web is_blank_url judged judged_parse read_against address_of url_of resolved with_fragment base_of fragment_of origin_text origin_of has_same_base is_rewritable events_of each_event after_opening AtEachEvent is_numbered opens is_formed is_once is_caused is_queued is_ordered is_checked ends_settled loads_end ends_told ends_stepped goes_in_time
+is_leaving_3_keeps_ordered = refl
+
+-- denial_of_nav: without conjunct `needs_document`, `caused` would not hold.
+abbrev pub denial_of_nav_2 : List Event
+denial_of_nav_2 =
+    before 16 load_below_a_lost_navigable
+    ++ by_ui (rows.Accepted (r 3) None (requests.Reload (n 1))) []
+    ∷ []
+
+pub denial_of_nav_2_keeps_caused : OutcomesAreCaused (log_of denial_of_nav_2)
+unfolding url_on_literals is_web is_blank_url judged judged_parse read_against address_of url_of resolved with_fragment base_of fragment_of origin_text origin_of has_same_base is_rewritable events_of each_event after_opening AtEachEvent is_numbered opens is_formed is_once is_caused is_queued is_ordered is_checked ends_settled loads_end ends_told ends_stepped goes_in_time
+denial_of_nav_2_keeps_caused = refl
+
+-- has_no_earlier_load_at: without conjunct `nat_lt q.nr.0 req.0`, `loads` would not hold.
+abbrev pub has_no_earlier_load_at_3 : List Event
+has_no_earlier_load_at_3 =
+    before 10 push_beside_a_frame
+    ++ by_ui (rows.Accepted (r 2) None (requests.Load (n 1) modes.Auto (codes "http://b.test/p1"))) (rows.Applied (r 1) (changes.Reload (n 1)) ∷ rows.Started (r 2) None ∷ sent 3 2 0 3 (whys.Req (r 2)) (tasks.Populate (n 1) (s 3) (codes "http://b.test/p1") false) ∷ [])
+    ∷ []
+
+pub has_no_earlier_load_at_3_keeps_loads : LoadsEndInTime (log_of has_no_earlier_load_at_3)
+unfolding url_on_literals is_web is_blank_url judged judged_parse read_against address_of url_of resolved with_fragment base_of fragment_of origin_text origin_of has_same_base is_rewritable events_of each_event after_opening AtEachEvent is_numbered opens is_formed is_once is_caused is_queued is_ordered is_checked ends_settled loads_end ends_told ends_stepped goes_in_time
+has_no_earlier_load_at_3_keeps_loads = refl
