@@ -73,6 +73,18 @@ REASONS = [
         'Causes:is_stay/wanted_prompt: equation 1 is true', 'Causes:is_stay/wanted_prompt: without conjunct `asking.doc.0 == doc.0`',
         'Causes:is_stay/wanted_prompt: without conjunct `holds is_prompt asking.verdict`', 'Causes:is_stay/wanted_prompt: without test `is_prompt`',
         'Causes:is_stay/is_prompt: equation 2 is true']),
+    ('`change_of_made` makes a removal of a frame that has a row, and the top hangs on nothing', [
+        'History:fits: equation 4 is true', 'History:fits: without conjunct `not (nav.0 == 0)` (2)', 'History:fits: without conjunct `has_row nav history.rows`']),
+    ('`change_of_report` gives no change of a traversal or a reload', [
+        'Once:has_to_begin: without disjunct `is_traversal what`', 'Once:has_to_begin: without disjunct `is_reload what`',
+        'Once:due_change: as if not `has_to_begin q.what`']),
+    ('a refusal has the reason that is due (`due_denial`)', ['Points:is_refused_in/by_kind: without conjunct `same_denial why reason`']),
+    ('a traversal begins with a goal (`is_goal`)', ['Orders:is_leaving: equation 4 is true']),
+    ('a document that is sent a fragment order runs still as it ends it: a process takes its orders in turn', [
+        'AfterRequests:requests_finished: equation 3 is left out', 'AfterRequests:requests_finished/by_task: equation 1 is left out',
+        'AfterRequests:requests_finished/by_task: field is_not_found of `record q { is_not_found = not (is_running s job.doc) }` is not changed',
+        'Causes:is_outdated: without disjunct `q.is_not_found`', 'Formed:is_followed_duly: as if `is_running s job.doc`',
+        'Formed:is_followed_duly: `length later == 0` is turned', 'Views:made_of_task: as if `view.running`']),
     ('an entry has one address', ['Settled:shows: without conjunct `bytes_eq view.address row.address`']),
 ]
 KNOWN = {name: reason for reason, names in REASONS for name in names}

@@ -24,9 +24,10 @@ use Rattle.log_examples.specs.Rows.{n, s, r, p, t, d, j, e, epoch, sent, made}
 use Rattle.log_examples.specs.Logs.{Event, by_start, by_ui, by_coord, by_proc, log_of, before, since}
 use Rattle.log_examples.proofs.Pushes.{one_push, three_pushes, replace_and_fragment, push_beside_a_frame, push_in_an_initial_document, push_to_another_origin}
 use Rattle.log_examples.proofs.Traversals.{back_after_three_pushes, document_goes_back}
+use Rattle.log_examples.proofs.Interleavings.{push_beside_a_running_traversal}
 use Rattle.log_examples.proofs.Loads.{later_load, load_ended_by_a_reload, fragment_load}
 use Rattle.log_examples.proofs.Frames.{frame_replaced, taken_number}
-use Rattle.log_examples.proofs.Removals.{removed_frame, push_of_a_removed_frame}
+use Rattle.log_examples.proofs.Removals.{removed_frame, removal_of_a_frame_of_another, push_of_a_removed_frame}
 use Rattle.log_examples.proofs.Prompts.{stay, load_behind_a_prompt}
 use Rattle.log_examples.proofs.Deaths.{reload_after_a_death}
 use Rattle.log_examples.proofs.Pending.{two_pushes_on_their_way, push_behind_a_traversal, traversal_beside_a_push, load_over_a_frame}
@@ -698,3 +699,51 @@ push_applied_late =
 pub push_applied_late_is_refused : IsLegal (log_of push_applied_late) → ⊥
 unfolding url_on_literals is_web is_blank_url judged judged_parse read_against address_of url_of resolved with_fragment base_of fragment_of origin_text origin_of has_same_base is_rewritable events_of each_event after_opening AtEachEvent is_numbered opens is_formed is_once is_caused is_queued is_ordered is_checked ends_settled loads_end ends_told ends_stepped goes_in_time
 push_applied_late_is_refused holds = false≢true holds.once
+
+-- fits: without conjunct `not (nav.0 == 0)`, `once` would hold.
+abbrev pub frame_with_the_number_of_the_top : List Event
+frame_with_the_number_of_the_top =
+    by_start (rows.Opened (e 0 1) (s 1) (d 1) (p 1) None (codes "http://a.test/")) []
+    ∷ by_ui (rows.Accepted (r 1) (Some (d 1)) (requests.Poke (n 0) (actions.AddFrame (n 0)))) []
+    ∷ by_proc 1 (made 1 1 1 1 (whats.AddFrame (n 0))) []
+    ∷ by_coord (rows.Delivered (p 1)) (rows.Applied (r 1) (changes.AddFrame (s 1) (n 0) (e 0 2) (s 2)) ∷ [])
+    ∷ []
+
+pub frame_with_the_number_of_the_top_is_refused : IsLegal (log_of frame_with_the_number_of_the_top) → ⊥
+unfolding url_on_literals is_web is_blank_url judged judged_parse read_against address_of url_of resolved with_fragment base_of fragment_of origin_text origin_of has_same_base is_rewritable events_of each_event after_opening AtEachEvent is_numbered opens is_formed is_once is_caused is_queued is_ordered is_checked ends_settled loads_end ends_told ends_stepped goes_in_time
+frame_with_the_number_of_the_top_is_refused holds = false≢true holds.once
+
+-- same_change: were equation 2 true, `once` would hold.
+abbrev pub another_frame_removed : List Event
+another_frame_removed =
+    before 19 push_beside_a_running_traversal
+    ++ by_ui (rows.Accepted (r 3) (Some (d 1)) (requests.Poke (n 0) (actions.RemoveFrame (n 1)))) []
+    ∷ by_proc 1 (made 1 3 1 1 (whats.RemoveFrame (n 1))) []
+    ∷ by_coord (rows.Delivered (p 1)) (rows.Applied (r 3) (changes.RemoveFrame (n 2)) ∷ [])
+    ∷ []
+
+pub another_frame_removed_is_refused : IsLegal (log_of another_frame_removed) → ⊥
+unfolding url_on_literals is_web is_blank_url judged judged_parse read_against address_of url_of resolved with_fragment base_of fragment_of origin_text origin_of has_same_base is_rewritable events_of each_event after_opening AtEachEvent is_numbered opens is_formed is_once is_caused is_queued is_ordered is_checked ends_settled loads_end ends_told ends_stepped goes_in_time
+another_frame_removed_is_refused holds = false≢true holds.once
+
+-- same_delta: were equation 2 true, `once` would hold.
+abbrev pub another_negative_delta : List Event
+another_negative_delta =
+    before 8 document_goes_back
+    ++ by_proc 1 (made 1 2 1 1 (whats.Go (negsuc 1))) []
+    ∷ []
+
+pub another_negative_delta_is_refused : IsLegal (log_of another_negative_delta) → ⊥
+unfolding url_on_literals is_web is_blank_url judged judged_parse read_against address_of url_of resolved with_fragment base_of fragment_of origin_text origin_of has_same_base is_rewritable events_of each_event after_opening AtEachEvent is_numbered opens is_formed is_once is_caused is_queued is_ordered is_checked ends_settled loads_end ends_told ends_stepped goes_in_time
+another_negative_delta_is_refused holds = false≢true holds.once
+
+-- change_of_made: without test `owner.0 == d.state.0`, `once` would hold.
+abbrev pub frame_of_another_removed : List Event
+frame_of_another_removed =
+    before 21 removal_of_a_frame_of_another
+    ++ by_coord (rows.Delivered (p 1)) (rows.Applied (r 3) (changes.RemoveFrame (n 2)) ∷ [])
+    ∷ []
+
+pub frame_of_another_removed_is_refused : IsLegal (log_of frame_of_another_removed) → ⊥
+unfolding url_on_literals is_web is_blank_url judged judged_parse read_against address_of url_of resolved with_fragment base_of fragment_of origin_text origin_of has_same_base is_rewritable events_of each_event after_opening AtEachEvent is_numbered opens is_formed is_once is_caused is_queued is_ordered is_checked ends_settled loads_end ends_told ends_stepped goes_in_time
+frame_of_another_removed_is_refused holds = false≢true holds.once

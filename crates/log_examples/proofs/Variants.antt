@@ -726,3 +726,28 @@ has_no_earlier_load_at_3 =
 pub has_no_earlier_load_at_3_keeps_loads : LoadsEndInTime (log_of has_no_earlier_load_at_3)
 unfolding url_on_literals is_web is_blank_url judged judged_parse read_against address_of url_of resolved with_fragment base_of fragment_of origin_text origin_of has_same_base is_rewritable events_of each_event after_opening AtEachEvent is_numbered opens is_formed is_once is_caused is_queued is_ordered is_checked ends_settled loads_end ends_told ends_stepped goes_in_time
 has_no_earlier_load_at_3_keeps_loads = refl
+
+-- denial_at_delivery: by_what: without disjunct `nav.0 == 0`, it would be refused.
+abbrev pub frame_refused_for_the_number_of_the_top : List Event
+frame_refused_for_the_number_of_the_top =
+    by_start (rows.Opened (e 0 1) (s 1) (d 1) (p 1) None (codes "http://a.test/")) []
+    ∷ by_ui (rows.Accepted (r 1) (Some (d 1)) (requests.Poke (n 0) (actions.AddFrame (n 0)))) []
+    ∷ by_proc 1 (made 1 1 1 1 (whats.AddFrame (n 0))) []
+    ∷ by_coord (rows.Delivered (p 1)) (rows.Refused (r 1) denials.NavTaken ∷ [])
+    ∷ []
+
+pub frame_refused_for_the_number_of_the_top_is_legal : IsLegal (log_of frame_refused_for_the_number_of_the_top)
+unfolding url_on_literals is_web is_blank_url judged judged_parse read_against address_of url_of resolved with_fragment base_of fragment_of origin_text origin_of has_same_base is_rewritable events_of each_event after_opening AtEachEvent is_numbered opens is_formed is_once is_caused is_queued is_ordered is_checked ends_settled loads_end ends_told ends_stepped goes_in_time
+frame_refused_for_the_number_of_the_top_is_legal = record { opened = refl; numbered = refl; formed = refl; once = refl; caused = refl; queued = refl; ordered = refl; checked = refl; settled = refl }
+
+pub frame_refused_for_the_number_of_the_top_ends_loads : LoadsEndInTime (log_of frame_refused_for_the_number_of_the_top)
+unfolding url_on_literals is_web is_blank_url judged judged_parse read_against address_of url_of resolved with_fragment base_of fragment_of origin_text origin_of has_same_base is_rewritable events_of each_event after_opening AtEachEvent is_numbered opens is_formed is_once is_caused is_queued is_ordered is_checked ends_settled loads_end ends_told ends_stepped goes_in_time
+frame_refused_for_the_number_of_the_top_ends_loads = refl
+
+pub frame_refused_for_the_number_of_the_top_acts_at_once : ActsAtOnce (log_of frame_refused_for_the_number_of_the_top)
+unfolding url_on_literals is_web is_blank_url judged judged_parse read_against address_of url_of resolved with_fragment base_of fragment_of origin_text origin_of has_same_base is_rewritable events_of each_event after_opening AtEachEvent is_numbered opens is_formed is_once is_caused is_queued is_ordered is_checked ends_settled loads_end ends_told ends_stepped goes_in_time
+frame_refused_for_the_number_of_the_top_acts_at_once = record { told = refl; stepped = refl; in_time = refl }
+
+pub frame_refused_for_the_number_of_the_top_suits : Suits plain_settings (log_of frame_refused_for_the_number_of_the_top)
+unfolding url_on_literals is_web is_blank_url judged judged_parse read_against address_of url_of resolved with_fragment base_of fragment_of origin_text origin_of has_same_base is_rewritable events_of each_event after_opening AtEachEvent is_numbered opens is_formed is_once is_caused is_queued is_ordered is_checked ends_settled loads_end ends_told ends_stepped goes_in_time
+frame_refused_for_the_number_of_the_top_suits = record { opened = refl; placed = refl; kept = refl }
