@@ -53,7 +53,7 @@ REASONS = [
     ('the two numbers differ there', ['Walk:is_way_before: `nat_lt nav.0 other.0` is nat_le']),
     ('documents of a navigable that run have different epochs', ['Formed:newer: `nat_lt (epoch best) (epoch d)` is nat_le']),
     ('the rows of a navigable have different steps (`IsSound`)', ['History:later_row: `nat_lt best.step.0 row.step.0` is nat_le']),
-    ('a process ends an order once, and a document has one number', ['Checks:lower_doc: `nat_lt doc.0 best.0` is nat_le']),
+    ('documents of one number are the same', ['Checks:lower_doc: `nat_lt doc.0 best.0` is nat_le']),
     ('no log but the empty one tells it, and `opened` refuses that', ['Events:after_opening: equation 1 is false']),
     ('`may_follow` lets no row follow a Taken row', ['Formed:is_said_rightly/by_kind: without conjunct `length p.later == 0`']),
     ('`is_followed_duly` says which rows follow a Finished row', ['Formed:may_follow: equation 6 is true', 'Formed:is_made: equation 2 is true']),
