@@ -52,7 +52,6 @@ REASONS = [
     ('a navigable is made after those above it', ['Walk:is_way_before: equation 2 is true']),
     ('the two numbers differ there', ['Walk:is_way_before: `nat_lt nav.0 other.0` is nat_le']),
     ('documents of a navigable that run have different epochs', ['Formed:newer: `nat_lt (epoch best) (epoch d)` is nat_le']),
-    ('the rows of a navigable have different steps (`IsSound`)', ['History:later_row: `nat_lt best.step.0 row.step.0` is nat_le']),
     ('documents of one number are the same', ['Checks:lower_doc: `nat_lt doc.0 best.0` is nat_le']),
     ('no log but the empty one tells it, and `opened` refuses that', ['Events:after_opening: equation 1 is false']),
     ('`may_follow` lets no row follow a Taken row', ['Formed:is_said_rightly/by_kind: without conjunct `length p.later == 0`']),
@@ -79,7 +78,6 @@ REASONS = [
         'Once:has_to_begin: without disjunct `is_traversal what`', 'Once:has_to_begin: without disjunct `is_reload what`',
         'Once:due_change: as if not `has_to_begin q.what`']),
     ('a refusal has the reason that is due (`due_denial`)', ['Points:is_refused_in/by_kind: without conjunct `same_denial why reason`']),
-    ('a traversal begins with a goal (`is_goal`)', ['Orders:is_leaving: equation 4 is true']),
     ('a document that is sent a fragment order runs still as it ends it: a process takes its orders in turn', [
         'AfterRequests:requests_finished: equation 3 is left out', 'AfterRequests:requests_finished/by_task: equation 1 is left out',
         'AfterRequests:requests_finished/by_task: field is_not_found of `record q { is_not_found = not (is_running s job.doc) }` is not changed',

@@ -685,7 +685,8 @@ CLAIMS = {**{field: ('IsLegal %s', 'holds.' + field, 'Not' + field.capitalize())
 
 # the part of the rules that a log keeps, though it breaks another
 KEPT = {'formed': 'IsFormed', 'once': 'EachRequestOnce', 'caused': 'OutcomesAreCaused', 'queued': 'KeepsQueueOrder', 'ordered': 'OrdersAreCaused',
-        'checked': 'ChecksAreKept', 'settled': 'QuietIsSettled', 'loads': 'LoadsEndInTime', 'in_time': 'AtEachEvent goes_in_time'}
+        'checked': 'ChecksAreKept', 'settled': 'QuietIsSettled', 'loads': 'LoadsEndInTime', 'told': 'AtEachEvent (at_end ends_told)', 'stepped': 'AtEachEvent (at_end ends_stepped)',
+        'in_time': 'AtEachEvent goes_in_time'}
 
 
 def sentences():

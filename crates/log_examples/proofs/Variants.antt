@@ -16,7 +16,7 @@ use Rattle.log_model.specs.declared.outcome.Outcome.TheVariants as outcomes
 use Rattle.log_model.specs.declared.request.Mode.TheVariants as modes
 use Rattle.log_model.specs.declared.request.Request.TheVariants as requests
 use Rattle.log_model.specs.declared.row_kind.RowKind.TheVariants as rows
-use Rattle.log_model.specs.Events.{events_of, each_event, after_opening, AtEachEvent}
+use Rattle.log_model.specs.Events.{at_end, events_of, each_event, after_opening, AtEachEvent}
 use Rattle.log_model.specs.Formed.{is_numbered}
 use Rattle.log_model.specs.Legal.{IsLegal, IsFormed, EachRequestOnce, OutcomesAreCaused, KeepsQueueOrder, OrdersAreCaused, ChecksAreKept, QuietIsSettled, opens, is_formed, is_once, is_caused, is_queued, is_ordered, is_checked, ends_settled}
 use Rattle.log_model.specs.LoadsEndInTime.{LoadsEndInTime, loads_end}
@@ -28,7 +28,9 @@ use Rattle.log_examples.specs.Logs.{Event, by_start, by_ui, by_coord, by_proc, l
 use Rattle.log_examples.proofs.Pushes.{replace_and_fragment, push_after_a_death, push_beside_a_frame, poke_of_the_newer_document}
 use Rattle.log_examples.proofs.Traversals.{document_goes_back}
 use Rattle.log_examples.proofs.Interleavings.{goal_cleared_by_a_push, held_back_push_and_removal, back_after_a_held_back_push}
+use Rattle.log_examples.proofs.Loads.{no_document_kept, load_ended_by_a_traversal, load_of_no_navigable}
 use Rattle.log_examples.proofs.Frames.{taken_number}
+use Rattle.log_examples.proofs.Removals.{removal_and_push}
 use Rattle.log_examples.proofs.Reloads.{kept_frame_document_at_a_reload, reload_and_death}
 use Rattle.log_examples.proofs.Prompts.{stay, load_behind_a_prompt, question_settled_by_a_discard, frames_asked_in_order}
 use Rattle.log_examples.proofs.Deaths.{one_of_two_processes_dies, load_below_a_lost_navigable}
@@ -45,9 +47,6 @@ follows_finished_1 =
     ∷ by_proc 1 (made 1 2 1 1 (whats.Push (e 1 1) None (codes "http://a.test/#x0"))) []
     ∷ []
 
-abbrev pub follows_finished_1_header : Header
-follows_finished_1_header = record { keep = 3; sites = record { origin = codes "http://b.test"; proc = p 2 } ∷ record { origin = codes "http://c.test"; proc = p 2 } ∷ []; pages = record { base = codes "http://a.test/p0"; slot = 0 } ∷ record { base = codes "http://a.test/p1"; slot = 2 } ∷ record { base = codes "http://c.test/p2"; slot = 0 } ∷ []; first = codes "http://a.test/" }
-
 pub follows_finished_1_is_legal : IsLegal (log_of follows_finished_1)
 unfolding url_on_literals is_web is_blank_url judged judged_parse read_against address_of url_of resolved with_fragment base_of fragment_of origin_text origin_of has_same_base is_rewritable events_of each_event after_opening AtEachEvent is_numbered opens is_formed is_once is_caused is_queued is_ordered is_checked ends_settled loads_end ends_told ends_stepped goes_in_time
 follows_finished_1_is_legal = record { opened = refl; numbered = refl; formed = refl; once = refl; caused = refl; queued = refl; ordered = refl; checked = refl; settled = refl }
@@ -60,7 +59,7 @@ pub follows_finished_1_acts_at_once : ActsAtOnce (log_of follows_finished_1)
 unfolding url_on_literals is_web is_blank_url judged judged_parse read_against address_of url_of resolved with_fragment base_of fragment_of origin_text origin_of has_same_base is_rewritable events_of each_event after_opening AtEachEvent is_numbered opens is_formed is_once is_caused is_queued is_ordered is_checked ends_settled loads_end ends_told ends_stepped goes_in_time
 follows_finished_1_acts_at_once = record { told = refl; stepped = refl; in_time = refl }
 
-pub follows_finished_1_suits : Suits follows_finished_1_header (log_of follows_finished_1)
+pub follows_finished_1_suits : Suits plain_settings (log_of follows_finished_1)
 unfolding url_on_literals is_web is_blank_url judged judged_parse read_against address_of url_of resolved with_fragment base_of fragment_of origin_text origin_of has_same_base is_rewritable events_of each_event after_opening AtEachEvent is_numbered opens is_formed is_once is_caused is_queued is_ordered is_checked ends_settled loads_end ends_told ends_stepped goes_in_time
 follows_finished_1_suits = record { opened = refl; placed = refl; kept = refl }
 
@@ -99,9 +98,6 @@ has_moved_away_1 =
     ∷ by_coord (rows.Delivered (p 1)) (sent 2 1 0 1 (whys.Req (r 1)) tasks.Discard ∷ sent 3 1 0 2 (whys.Req (r 1)) (tasks.Activate (e 0 1) (epoch 2) 1 0 None (codes "http://a.test/")) ∷ rows.Dropped (r 2) (drops.By (r 1)) ∷ [])
     ∷ []
 
-abbrev pub has_moved_away_1_header : Header
-has_moved_away_1_header = record { keep = 3; sites = record { origin = codes "http://b.test"; proc = p 2 } ∷ record { origin = codes "http://c.test"; proc = p 2 } ∷ []; pages = record { base = codes "http://a.test/p0"; slot = 0 } ∷ record { base = codes "http://a.test/p1"; slot = 2 } ∷ record { base = codes "http://c.test/p2"; slot = 0 } ∷ []; first = codes "http://a.test/" }
-
 pub has_moved_away_1_is_legal : IsLegal (log_of has_moved_away_1)
 unfolding url_on_literals is_web is_blank_url judged judged_parse read_against address_of url_of resolved with_fragment base_of fragment_of origin_text origin_of has_same_base is_rewritable events_of each_event after_opening AtEachEvent is_numbered opens is_formed is_once is_caused is_queued is_ordered is_checked ends_settled loads_end ends_told ends_stepped goes_in_time
 has_moved_away_1_is_legal = record { opened = refl; numbered = refl; formed = refl; once = refl; caused = refl; queued = refl; ordered = refl; checked = refl; settled = refl }
@@ -114,7 +110,7 @@ pub has_moved_away_1_acts_at_once : ActsAtOnce (log_of has_moved_away_1)
 unfolding url_on_literals is_web is_blank_url judged judged_parse read_against address_of url_of resolved with_fragment base_of fragment_of origin_text origin_of has_same_base is_rewritable events_of each_event after_opening AtEachEvent is_numbered opens is_formed is_once is_caused is_queued is_ordered is_checked ends_settled loads_end ends_told ends_stepped goes_in_time
 has_moved_away_1_acts_at_once = record { told = refl; stepped = refl; in_time = refl }
 
-pub has_moved_away_1_suits : Suits has_moved_away_1_header (log_of has_moved_away_1)
+pub has_moved_away_1_suits : Suits plain_settings (log_of has_moved_away_1)
 unfolding url_on_literals is_web is_blank_url judged judged_parse read_against address_of url_of resolved with_fragment base_of fragment_of origin_text origin_of has_same_base is_rewritable events_of each_event after_opening AtEachEvent is_numbered opens is_formed is_once is_caused is_queued is_ordered is_checked ends_settled loads_end ends_told ends_stepped goes_in_time
 has_moved_away_1_suits = record { opened = refl; placed = refl; kept = refl }
 
@@ -185,9 +181,6 @@ replaced_row_1 =
     ∷ by_coord (rows.Delivered (p 1)) (rows.Applied (r 3) (changes.Replace (n 0) (e 1 2) (e 1 3) (s 1) (codes "http://a.test/#x0") None) ∷ [])
     ∷ []
 
-abbrev pub replaced_row_1_header : Header
-replaced_row_1_header = record { keep = 3; sites = record { origin = codes "http://b.test"; proc = p 1 } ∷ record { origin = codes "http://c.test"; proc = p 3 } ∷ []; pages = []; first = codes "http://a.test/" }
-
 pub replaced_row_1_is_legal : IsLegal (log_of replaced_row_1)
 unfolding url_on_literals is_web is_blank_url judged judged_parse read_against address_of url_of resolved with_fragment base_of fragment_of origin_text origin_of has_same_base is_rewritable events_of each_event after_opening AtEachEvent is_numbered opens is_formed is_once is_caused is_queued is_ordered is_checked ends_settled loads_end ends_told ends_stepped goes_in_time
 replaced_row_1_is_legal = record { opened = refl; numbered = refl; formed = refl; once = refl; caused = refl; queued = refl; ordered = refl; checked = refl; settled = refl }
@@ -200,7 +193,7 @@ pub replaced_row_1_acts_at_once : ActsAtOnce (log_of replaced_row_1)
 unfolding url_on_literals is_web is_blank_url judged judged_parse read_against address_of url_of resolved with_fragment base_of fragment_of origin_text origin_of has_same_base is_rewritable events_of each_event after_opening AtEachEvent is_numbered opens is_formed is_once is_caused is_queued is_ordered is_checked ends_settled loads_end ends_told ends_stepped goes_in_time
 replaced_row_1_acts_at_once = record { told = refl; stepped = refl; in_time = refl }
 
-pub replaced_row_1_suits : Suits replaced_row_1_header (log_of replaced_row_1)
+pub replaced_row_1_suits : Suits plain_settings (log_of replaced_row_1)
 unfolding url_on_literals is_web is_blank_url judged judged_parse read_against address_of url_of resolved with_fragment base_of fragment_of origin_text origin_of has_same_base is_rewritable events_of each_event after_opening AtEachEvent is_numbered opens is_formed is_once is_caused is_queued is_ordered is_checked ends_settled loads_end ends_told ends_stepped goes_in_time
 replaced_row_1_suits = record { opened = refl; placed = refl; kept = refl }
 
@@ -225,7 +218,7 @@ has_no_earlier_load_below_1 =
     ∷ []
 
 abbrev pub has_no_earlier_load_below_1_header : Header
-has_no_earlier_load_below_1_header = record { keep = 0; sites = record { origin = codes "http://b.test"; proc = p 1 } ∷ record { origin = codes "http://c.test"; proc = p 2 } ∷ []; pages = []; first = codes "http://a.test/p0" }
+has_no_earlier_load_below_1_header = record { keep = 3; sites = record { origin = codes "http://c.test"; proc = p 2 } ∷ []; pages = []; first = codes "http://a.test/p0" }
 
 pub has_no_earlier_load_below_1_is_legal : IsLegal (log_of has_no_earlier_load_below_1)
 unfolding url_on_literals is_web is_blank_url judged judged_parse read_against address_of url_of resolved with_fragment base_of fragment_of origin_text origin_of has_same_base is_rewritable events_of each_event after_opening AtEachEvent is_numbered opens is_formed is_once is_caused is_queued is_ordered is_checked ends_settled loads_end ends_told ends_stepped goes_in_time
@@ -326,7 +319,7 @@ made_by_1 =
     ∷ []
 
 abbrev pub made_by_1_header : Header
-made_by_1_header = record { keep = 1; sites = record { origin = codes "http://b.test"; proc = p 2 } ∷ record { origin = codes "http://c.test"; proc = p 2 } ∷ []; pages = record { base = codes "http://a.test/p1"; slot = 1 } ∷ []; first = codes "about:blank" }
+made_by_1_header = record { keep = 3; sites = []; pages = []; first = codes "about:blank" }
 
 pub made_by_1_is_legal : IsLegal (log_of made_by_1)
 unfolding url_on_literals is_web is_blank_url judged judged_parse read_against address_of url_of resolved with_fragment base_of fragment_of origin_text origin_of has_same_base is_rewritable events_of each_event after_opening AtEachEvent is_numbered opens is_formed is_once is_caused is_queued is_ordered is_checked ends_settled loads_end ends_told ends_stepped goes_in_time
@@ -751,3 +744,58 @@ frame_refused_for_the_number_of_the_top_acts_at_once = record { told = refl; ste
 pub frame_refused_for_the_number_of_the_top_suits : Suits plain_settings (log_of frame_refused_for_the_number_of_the_top)
 unfolding url_on_literals is_web is_blank_url judged judged_parse read_against address_of url_of resolved with_fragment base_of fragment_of origin_text origin_of has_same_base is_rewritable events_of each_event after_opening AtEachEvent is_numbered opens is_formed is_once is_caused is_queued is_ordered is_checked ends_settled loads_end ends_told ends_stepped goes_in_time
 frame_refused_for_the_number_of_the_top_suits = record { opened = refl; placed = refl; kept = refl }
+
+-- with_moved: were moved of `record q { moved = navs ++ q.moved }` not changed, `told` would not hold.
+abbrev pub with_moved_1 : List Event
+with_moved_1 =
+    before 14 no_document_kept
+    ++ by_coord (rows.Delivered (p 1)) (sent 5 1 0 2 (whys.Req (r 2)) tasks.Discard ∷ sent 6 1 0 3 (whys.Req (r 1)) (tasks.Activate (e 0 1) (epoch 3) 2 0 None (codes "http://a.test/")) ∷ [])
+    ∷ []
+
+pub with_moved_1_keeps_told : AtEachEvent (at_end ends_told) (log_of with_moved_1)
+unfolding url_on_literals is_web is_blank_url judged judged_parse read_against address_of url_of resolved with_fragment base_of fragment_of origin_text origin_of has_same_base is_rewritable events_of each_event after_opening AtEachEvent is_numbered opens is_formed is_once is_caused is_queued is_ordered is_checked ends_settled loads_end ends_told ends_stepped goes_in_time
+with_moved_1_keeps_told = refl
+
+-- place_bereft: were status of `record place { status = asleep; why = whys.Death death }` not changed, `told` would not hold.
+abbrev pub place_bereft_1 : List Event
+place_bereft_1 =
+    before 34 one_of_two_processes_dies
+    ++ by_coord (rows.Delivered (p 1)) (sent 10 2 0 3 (whys.Death (x 1)) tasks.Discard ∷ rows.Applied (r 2) (changes.RemoveFrame (n 0)) ∷ [])
+    ∷ []
+
+pub place_bereft_1_keeps_told : AtEachEvent (at_end ends_told) (log_of place_bereft_1)
+unfolding url_on_literals is_web is_blank_url judged judged_parse read_against address_of url_of resolved with_fragment base_of fragment_of origin_text origin_of has_same_base is_rewritable events_of each_event after_opening AtEachEvent is_numbered opens is_formed is_once is_caused is_queued is_ordered is_checked ends_settled loads_end ends_told ends_stepped goes_in_time
+place_bereft_1_keeps_told = refl
+
+-- told_after_change: were `d.nr.0 == entry.maker` always so, `told` would not hold.
+abbrev pub told_after_change_1 : List Event
+told_after_change_1 =
+    load_of_no_navigable
+    ++ by_ui (rows.Accepted (r 3) None (requests.Go (negsuc 0))) (rows.Applied (r 1) (changes.Push (n 5) (e 0 2) (s 1) (codes "http://a.test/1") None) ∷ rows.Applied (r 2) (changes.RemoveFrame (n 0)) ∷ [])
+    ∷ []
+
+pub told_after_change_1_keeps_told : AtEachEvent (at_end ends_told) (log_of told_after_change_1)
+unfolding url_on_literals is_web is_blank_url judged judged_parse read_against address_of url_of resolved with_fragment base_of fragment_of origin_text origin_of has_same_base is_rewritable events_of each_event after_opening AtEachEvent is_numbered opens is_formed is_once is_caused is_queued is_ordered is_checked ends_settled loads_end ends_told ends_stepped goes_in_time
+told_after_change_1_keeps_told = refl
+
+-- running_in: without conjunct `is_traversal q.what`, `told` would not hold.
+abbrev pub running_in_1 : List Event
+running_in_1 =
+    before 12 load_ended_by_a_traversal
+    ++ by_ui (rows.Accepted (r 3) None (requests.Go (negsuc 0))) (rows.Started (r 3) (Some (t 0)) ∷ sent 5 1 0 2 (whys.Req (r 3)) tasks.Freeze ∷ sent 6 1 0 1 (whys.Req (r 3)) (tasks.Activate (e 0 1) (epoch 3) 2 0 None (codes "http://a.test/")) ∷ [])
+    ∷ []
+
+pub running_in_1_keeps_told : AtEachEvent (at_end ends_told) (log_of running_in_1)
+unfolding url_on_literals is_web is_blank_url judged judged_parse read_against address_of url_of resolved with_fragment base_of fragment_of origin_text origin_of has_same_base is_rewritable events_of each_event after_opening AtEachEvent is_numbered opens is_formed is_once is_caused is_queued is_ordered is_checked ends_settled loads_end ends_told ends_stepped goes_in_time
+running_in_1_keeps_told = refl
+
+-- request_served: were equation 2 left out, `told` would not hold.
+abbrev pub request_served_1 : List Event
+request_served_1 =
+    before 42 removal_and_push
+    ++ by_ui (rows.Accepted (r 5) None (requests.Go (negsuc 1))) (rows.Started (r 5) (Some (t 0)) ∷ sent 12 1 0 1 (whys.Req (r 5)) (tasks.Activate (e 0 1) (epoch 2) 3 0 None (codes "http://a.test/")) ∷ sent 13 1 0 4 (whys.Req (r 5)) tasks.Freeze ∷ sent 14 1 0 3 (whys.Req (r 7)) (tasks.Activate (e 0 3) (epoch 4) 3 0 None (codes "http://a.test/f")) ∷ [])
+    ∷ []
+
+pub request_served_1_keeps_told : AtEachEvent (at_end ends_told) (log_of request_served_1)
+unfolding url_on_literals is_web is_blank_url judged judged_parse read_against address_of url_of resolved with_fragment base_of fragment_of origin_text origin_of has_same_base is_rewritable events_of each_event after_opening AtEachEvent is_numbered opens is_formed is_once is_caused is_queued is_ordered is_checked ends_settled loads_end ends_told ends_stepped goes_in_time
+request_served_1_keeps_told = refl
