@@ -25,7 +25,7 @@ use Rattle.log_examples.specs.Rows.{n, s, r, p, t, d, j, e, epoch, sent, made}
 use Rattle.log_examples.specs.Logs.{Event, by_start, by_ui, by_coord, by_proc, log_of, before, plain_settings}
 use Rattle.log_examples.proofs.Pushes.{push_beside_a_frame, push_in_an_initial_document}
 use Rattle.log_examples.proofs.Interleavings.{held_back_push}
-use Rattle.log_examples.proofs.Loads.{fragment_beside_a_traversal, fragment_above_a_load}
+use Rattle.log_examples.proofs.Loads.{push_over_a_kept_document, fragment_beside_a_traversal, fragment_above_a_load}
 
 -- Loads of a frame, a fragment of the top, and back four times.
 abbrev pub frame_loads_and_fragment : List Event
@@ -268,6 +268,101 @@ frame_at_a_later_step_acts_at_once = record { told = refl; stepped = refl; in_ti
 pub frame_at_a_later_step_suits : Suits plain_settings (log_of frame_at_a_later_step)
 unfolding url_on_literals is_web is_blank_url judged judged_parse read_against address_of url_of resolved with_fragment base_of fragment_of origin_text origin_of has_same_base is_rewritable events_of each_event after_opening AtEachEvent is_numbered opens is_formed is_once is_caused is_queued is_ordered is_checked ends_settled loads_end ends_told ends_stepped goes_in_time
 frame_at_a_later_step_suits = record { opened = refl; placed = refl; kept = refl }
+
+-- A frame is added to a document that is neither the first nor the last.
+abbrev pub frame_of_a_middle_document : List Event
+frame_of_a_middle_document =
+    before 11 push_over_a_kept_document
+    ++ by_ui (rows.Accepted (r 2) None (requests.Load (n 0) modes.Push (codes "http://a.test/p0"))) (rows.Started (r 2) None ∷ sent 4 1 0 3 (whys.Req (r 2)) (tasks.Populate (n 0) (s 3) (codes "http://a.test/p0") false) ∷ [])
+    ∷ by_proc 1 (rows.Taken (p 1) (j 4) true false) []
+    ∷ by_proc 1 (rows.Finished (p 1) (j 4) (outcomes.Populated None)) []
+    ∷ by_coord (rows.Delivered (p 1)) (rows.Applied (r 2) (changes.Push (n 0) (e 0 3) (s 3) (codes "http://a.test/p0") None) ∷ sent 5 1 0 2 (whys.Req (r 2)) tasks.Freeze ∷ sent 6 1 0 3 (whys.Req (r 2)) (tasks.Activate (e 0 3) (epoch 3) 3 2 None (codes "http://a.test/p0")) ∷ [])
+    ∷ by_proc 1 (rows.Taken (p 1) (j 5) true false) []
+    ∷ by_proc 1 (rows.Finished (p 1) (j 5) outcomes.Frozen) []
+    ∷ by_coord (rows.Delivered (p 1)) []
+    ∷ by_proc 1 (rows.Taken (p 1) (j 6) true false) []
+    ∷ by_proc 1 (rows.Finished (p 1) (j 6) outcomes.Activated) []
+    ∷ by_coord (rows.Delivered (p 1)) []
+    ∷ by_ui (rows.Accepted (r 3) None (requests.Go (negsuc 0))) (rows.Started (r 3) (Some (t 1)) ∷ sent 7 1 0 3 (whys.Req (r 3)) tasks.Freeze ∷ sent 8 1 0 2 (whys.Req (r 3)) (tasks.Activate (e 0 2) (epoch 4) 3 1 None (codes "http://a.test/p1")) ∷ [])
+    ∷ by_proc 1 (rows.Taken (p 1) (j 7) true false) []
+    ∷ by_proc 1 (rows.Finished (p 1) (j 7) outcomes.Frozen) []
+    ∷ by_coord (rows.Delivered (p 1)) []
+    ∷ by_proc 1 (rows.Taken (p 1) (j 8) true false) []
+    ∷ by_proc 1 (rows.Finished (p 1) (j 8) outcomes.Activated) []
+    ∷ by_coord (rows.Delivered (p 1)) (rows.Applied (r 3) (changes.Traverse (t 1)) ∷ [])
+    ∷ by_ui (rows.Accepted (r 4) (Some (d 2)) (requests.Poke (n 0) (actions.AddFrame (n 1)))) []
+    ∷ by_proc 1 (made 1 4 2 4 (whats.AddFrame (n 1))) []
+    ∷ by_coord (rows.Delivered (p 1)) (rows.Applied (r 4) (changes.AddFrame (s 2) (n 1) (e 0 4) (s 4)) ∷ sent 9 1 0 4 (whys.Req (r 4)) (tasks.Populate (n 1) (s 4) (codes "about:blank") true) ∷ [])
+    ∷ by_proc 1 (rows.Taken (p 1) (j 9) true false) []
+    ∷ by_proc 1 (rows.Finished (p 1) (j 9) (outcomes.Populated None)) []
+    ∷ by_coord (rows.Delivered (p 1)) (sent 10 1 0 4 (whys.Req (r 4)) (tasks.Activate (e 0 4) (epoch 1) 3 1 None (codes "about:blank")) ∷ [])
+    ∷ by_proc 1 (rows.Taken (p 1) (j 10) true false) []
+    ∷ by_proc 1 (rows.Finished (p 1) (j 10) outcomes.Activated) []
+    ∷ by_coord (rows.Delivered (p 1)) []
+    ∷ []
+
+pub frame_of_a_middle_document_is_legal : IsLegal (log_of frame_of_a_middle_document)
+unfolding url_on_literals is_web is_blank_url judged judged_parse read_against address_of url_of resolved with_fragment base_of fragment_of origin_text origin_of has_same_base is_rewritable events_of each_event after_opening AtEachEvent is_numbered opens is_formed is_once is_caused is_queued is_ordered is_checked ends_settled loads_end ends_told ends_stepped goes_in_time
+frame_of_a_middle_document_is_legal = record { opened = refl; numbered = refl; formed = refl; once = refl; caused = refl; queued = refl; ordered = refl; checked = refl; settled = refl }
+
+pub frame_of_a_middle_document_ends_loads : LoadsEndInTime (log_of frame_of_a_middle_document)
+unfolding url_on_literals is_web is_blank_url judged judged_parse read_against address_of url_of resolved with_fragment base_of fragment_of origin_text origin_of has_same_base is_rewritable events_of each_event after_opening AtEachEvent is_numbered opens is_formed is_once is_caused is_queued is_ordered is_checked ends_settled loads_end ends_told ends_stepped goes_in_time
+frame_of_a_middle_document_ends_loads = refl
+
+pub frame_of_a_middle_document_acts_at_once : ActsAtOnce (log_of frame_of_a_middle_document)
+unfolding url_on_literals is_web is_blank_url judged judged_parse read_against address_of url_of resolved with_fragment base_of fragment_of origin_text origin_of has_same_base is_rewritable events_of each_event after_opening AtEachEvent is_numbered opens is_formed is_once is_caused is_queued is_ordered is_checked ends_settled loads_end ends_told ends_stepped goes_in_time
+frame_of_a_middle_document_acts_at_once = record { told = refl; stepped = refl; in_time = refl }
+
+pub frame_of_a_middle_document_suits : Suits plain_settings (log_of frame_of_a_middle_document)
+unfolding url_on_literals is_web is_blank_url judged judged_parse read_against address_of url_of resolved with_fragment base_of fragment_of origin_text origin_of has_same_base is_rewritable events_of each_event after_opening AtEachEvent is_numbered opens is_formed is_once is_caused is_queued is_ordered is_checked ends_settled loads_end ends_told ends_stepped goes_in_time
+frame_of_a_middle_document_suits = record { opened = refl; placed = refl; kept = refl }
+
+-- A replace of the top leaves the load of a frame alone.
+abbrev pub replace_above_a_load : List Event
+replace_above_a_load =
+    by_start (rows.Opened (e 0 1) (s 1) (d 1) (p 1) None (codes "about:blank")) []
+    ∷ by_ui (rows.Accepted (r 1) (Some (d 1)) (requests.Poke (n 0) (actions.AddFrame (n 1)))) []
+    ∷ by_proc 1 (made 1 1 1 1 (whats.AddFrame (n 1))) []
+    ∷ by_coord (rows.Delivered (p 1)) (rows.Applied (r 1) (changes.AddFrame (s 1) (n 1) (e 0 2) (s 2)) ∷ sent 1 1 0 2 (whys.Req (r 1)) (tasks.Populate (n 1) (s 2) (codes "about:blank") true) ∷ [])
+    ∷ by_proc 1 (rows.Taken (p 1) (j 1) true false) []
+    ∷ by_proc 1 (rows.Finished (p 1) (j 1) (outcomes.Populated None)) []
+    ∷ by_coord (rows.Delivered (p 1)) (sent 2 1 0 2 (whys.Req (r 1)) (tasks.Activate (e 0 2) (epoch 1) 1 0 None (codes "about:blank")) ∷ [])
+    ∷ by_proc 1 (rows.Taken (p 1) (j 2) true false) []
+    ∷ by_proc 1 (rows.Finished (p 1) (j 2) outcomes.Activated) []
+    ∷ by_coord (rows.Delivered (p 1)) []
+    ∷ by_ui (rows.Accepted (r 2) None (requests.Load (n 1) modes.Auto (codes "http://b.test/p0"))) (rows.Started (r 2) None ∷ sent 3 1 0 3 (whys.Req (r 2)) (tasks.Populate (n 1) (s 3) (codes "http://b.test/p0") false) ∷ [])
+    ∷ by_ui (rows.Accepted (r 3) (Some (d 1)) (requests.Poke (n 0) (actions.Push (Some (codes "s")) None))) []
+    ∷ by_proc 1 (made 1 3 1 1 (whats.Replace (e 0 1) (e 1 1) (Some (codes "s")) (codes "about:blank"))) []
+    ∷ by_proc 1 (rows.Taken (p 1) (j 3) true false) []
+    ∷ by_proc 1 (rows.Finished (p 1) (j 3) (outcomes.Populated None)) []
+    ∷ by_coord (rows.Delivered (p 1)) (rows.Applied (r 3) (changes.Replace (n 0) (e 0 1) (e 1 1) (s 1) (codes "about:blank") (Some (codes "s"))) ∷ [])
+    ∷ by_coord (rows.Delivered (p 1)) (rows.Applied (r 2) (changes.Replace (n 1) (e 0 2) (e 0 3) (s 3) (codes "http://b.test/p0") None) ∷ sent 4 1 0 2 (whys.Req (r 2)) tasks.Discard ∷ sent 5 1 0 3 (whys.Req (r 2)) (tasks.Activate (e 0 3) (epoch 2) 1 0 None (codes "http://b.test/p0")) ∷ [])
+    ∷ by_proc 1 (rows.Taken (p 1) (j 4) true false) []
+    ∷ by_proc 1 (rows.Finished (p 1) (j 4) outcomes.Discarded) []
+    ∷ by_coord (rows.Delivered (p 1)) []
+    ∷ by_proc 1 (rows.Taken (p 1) (j 5) true false) []
+    ∷ by_proc 1 (rows.Finished (p 1) (j 5) outcomes.Activated) []
+    ∷ by_coord (rows.Delivered (p 1)) []
+    ∷ []
+
+abbrev pub replace_above_a_load_header : Header
+replace_above_a_load_header = record { keep = 3; sites = []; pages = []; first = codes "about:blank" }
+
+pub replace_above_a_load_is_legal : IsLegal (log_of replace_above_a_load)
+unfolding url_on_literals is_web is_blank_url judged judged_parse read_against address_of url_of resolved with_fragment base_of fragment_of origin_text origin_of has_same_base is_rewritable events_of each_event after_opening AtEachEvent is_numbered opens is_formed is_once is_caused is_queued is_ordered is_checked ends_settled loads_end ends_told ends_stepped goes_in_time
+replace_above_a_load_is_legal = record { opened = refl; numbered = refl; formed = refl; once = refl; caused = refl; queued = refl; ordered = refl; checked = refl; settled = refl }
+
+pub replace_above_a_load_ends_loads : LoadsEndInTime (log_of replace_above_a_load)
+unfolding url_on_literals is_web is_blank_url judged judged_parse read_against address_of url_of resolved with_fragment base_of fragment_of origin_text origin_of has_same_base is_rewritable events_of each_event after_opening AtEachEvent is_numbered opens is_formed is_once is_caused is_queued is_ordered is_checked ends_settled loads_end ends_told ends_stepped goes_in_time
+replace_above_a_load_ends_loads = refl
+
+pub replace_above_a_load_acts_at_once : ActsAtOnce (log_of replace_above_a_load)
+unfolding url_on_literals is_web is_blank_url judged judged_parse read_against address_of url_of resolved with_fragment base_of fragment_of origin_text origin_of has_same_base is_rewritable events_of each_event after_opening AtEachEvent is_numbered opens is_formed is_once is_caused is_queued is_ordered is_checked ends_settled loads_end ends_told ends_stepped goes_in_time
+replace_above_a_load_acts_at_once = record { told = refl; stepped = refl; in_time = refl }
+
+pub replace_above_a_load_suits : Suits replace_above_a_load_header (log_of replace_above_a_load)
+unfolding url_on_literals is_web is_blank_url judged judged_parse read_against address_of url_of resolved with_fragment base_of fragment_of origin_text origin_of has_same_base is_rewritable events_of each_event after_opening AtEachEvent is_numbered opens is_formed is_once is_caused is_queued is_ordered is_checked ends_settled loads_end ends_told ends_stepped goes_in_time
+replace_above_a_load_suits = record { opened = refl; placed = refl; kept = refl }
 
 -- A load of a frame whose first document was never shown is dropped.
 abbrev pub load_of_a_new_frame : List Event

@@ -28,7 +28,7 @@ use Rattle.log_examples.proofs.Pushes.{push_beside_a_frame}
 use Rattle.log_examples.proofs.Traversals.{push_after_going_back, document_goes_back, push_under_an_old_epoch}
 use Rattle.log_examples.proofs.Interleavings.{push_beside_a_running_traversal}
 use Rattle.log_examples.proofs.Loads.{later_load, two_processes, load_ended_by_a_reload}
-use Rattle.log_examples.proofs.Frames.{taken_number, frame_at_a_later_step, load_of_a_new_frame}
+use Rattle.log_examples.proofs.Frames.{taken_number, frame_at_a_later_step, replace_above_a_load, load_of_a_new_frame}
 use Rattle.log_examples.proofs.Removals.{removed_frame, push_of_a_removed_frame, removal_and_push}
 use Rattle.log_examples.proofs.Reloads.{kept_frame_document_at_an_eviction}
 use Rattle.log_examples.proofs.Prompts.{stay, load_behind_an_answer}
@@ -332,18 +332,8 @@ by_later_load_4_is_refused holds = false≢true holds.caused
 -- by_later_load: without conjunct `same_option (λ (a : NavId) (b : NavId) . a.0 == b.0) (nav_of_request q.what) (nav_of_request r.what)`, `caused` would hold.
 abbrev pub by_later_load_5 : List Event
 by_later_load_5 =
-    by_start (rows.Opened (e 0 1) (s 1) (d 1) (p 1) None (codes "about:blank")) []
-    ∷ by_ui (rows.Accepted (r 1) (Some (d 1)) (requests.Poke (n 0) (actions.AddFrame (n 1)))) []
-    ∷ by_proc 1 (made 1 1 1 1 (whats.AddFrame (n 1))) []
-    ∷ by_coord (rows.Delivered (p 1)) (rows.Applied (r 1) (changes.AddFrame (s 1) (n 1) (e 0 2) (s 2)) ∷ sent 1 1 0 2 (whys.Req (r 1)) (tasks.Populate (n 1) (s 2) (codes "about:blank") true) ∷ [])
-    ∷ by_proc 1 (rows.Taken (p 1) (j 1) true false) []
-    ∷ by_proc 1 (rows.Finished (p 1) (j 1) (outcomes.Populated None)) []
-    ∷ by_coord (rows.Delivered (p 1)) (sent 2 1 0 2 (whys.Req (r 1)) (tasks.Activate (e 0 2) (epoch 1) 1 0 None (codes "about:blank")) ∷ [])
-    ∷ by_proc 1 (rows.Taken (p 1) (j 2) true false) []
-    ∷ by_proc 1 (rows.Finished (p 1) (j 2) outcomes.Activated) []
-    ∷ by_coord (rows.Delivered (p 1)) []
-    ∷ by_ui (rows.Accepted (r 2) None (requests.Load (n 1) modes.Auto (codes "http://b.test/p0"))) (rows.Started (r 2) None ∷ sent 3 1 0 3 (whys.Req (r 2)) (tasks.Populate (n 1) (s 3) (codes "http://b.test/p0") false) ∷ [])
-    ∷ by_proc 1 (rows.Taken (p 1) (j 3) true false) []
+    before 11 replace_above_a_load
+    ++ by_proc 1 (rows.Taken (p 1) (j 3) true false) []
     ∷ by_ui (rows.Accepted (r 3) None (requests.Load (n 0) modes.Auto (codes "http://a.test/1#x"))) (rows.Dropped (r 2) (drops.By (r 3)) ∷ rows.Started (r 3) (Some (t 0)) ∷ sent 4 1 0 2 (whys.Req (r 3)) (tasks.DoFragment (r 3) modes.Replace (codes "http://a.test/1#x")) ∷ [])
     ∷ []
 

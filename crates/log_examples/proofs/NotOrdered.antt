@@ -28,7 +28,7 @@ use Rattle.log_examples.proofs.Pushes.{one_push, push_after_a_death}
 use Rattle.log_examples.proofs.Traversals.{document_goes_back}
 use Rattle.log_examples.proofs.Interleavings.{held_back_push, held_back_push_and_removal}
 use Rattle.log_examples.proofs.Loads.{later_load, no_document_kept, push_over_a_kept_document, evicted_documents, fragment_load}
-use Rattle.log_examples.proofs.Frames.{taken_number, load_of_a_new_frame, load_while_frames_are_moved}
+use Rattle.log_examples.proofs.Frames.{taken_number, replace_above_a_load, load_of_a_new_frame, load_while_frames_are_moved}
 use Rattle.log_examples.proofs.Removals.{removed_frame}
 use Rattle.log_examples.proofs.Reloads.{reload_of_a_hidden_frame}
 use Rattle.log_examples.proofs.Prompts.{leave, one_prompt_for_two, load_behind_a_prompt, load_behind_an_answer}
@@ -492,17 +492,8 @@ is_unneeded_1_is_refused holds = false≢true holds.ordered
 -- is_unneeded: without conjunct `is_none (ongoing_load p.now d.state)`, `ordered` would hold.
 abbrev pub is_unneeded_2 : List Event
 is_unneeded_2 =
-    by_start (rows.Opened (e 0 1) (s 1) (d 1) (p 1) None (codes "about:blank")) []
-    ∷ by_ui (rows.Accepted (r 1) (Some (d 1)) (requests.Poke (n 0) (actions.AddFrame (n 1)))) []
-    ∷ by_proc 1 (made 1 1 1 1 (whats.AddFrame (n 1))) []
-    ∷ by_coord (rows.Delivered (p 1)) (rows.Applied (r 1) (changes.AddFrame (s 1) (n 1) (e 0 2) (s 2)) ∷ sent 1 1 0 2 (whys.Req (r 1)) (tasks.Populate (n 1) (s 2) (codes "about:blank") true) ∷ [])
-    ∷ by_proc 1 (rows.Taken (p 1) (j 1) true false) []
-    ∷ by_proc 1 (rows.Finished (p 1) (j 1) (outcomes.Populated None)) []
-    ∷ by_coord (rows.Delivered (p 1)) (sent 2 1 0 2 (whys.Req (r 1)) (tasks.Activate (e 0 2) (epoch 1) 1 0 None (codes "about:blank")) ∷ [])
-    ∷ by_proc 1 (rows.Taken (p 1) (j 2) true false) []
-    ∷ by_proc 1 (rows.Finished (p 1) (j 2) outcomes.Activated) []
-    ∷ by_coord (rows.Delivered (p 1)) []
-    ∷ by_ui (rows.Accepted (r 2) None (requests.Load (n 1) modes.Auto (codes "http://b.test/p1"))) (rows.Started (r 2) None ∷ sent 3 1 0 3 (whys.Req (r 2)) (tasks.Populate (n 1) (s 3) (codes "http://b.test/p1") false) ∷ [])
+    before 10 replace_above_a_load
+    ++ by_ui (rows.Accepted (r 2) None (requests.Load (n 1) modes.Auto (codes "http://b.test/p1"))) (rows.Started (r 2) None ∷ sent 3 1 0 3 (whys.Req (r 2)) (tasks.Populate (n 1) (s 3) (codes "http://b.test/p1") false) ∷ [])
     ∷ by_proc 1 (rows.Taken (p 1) (j 3) true false) []
     ∷ by_proc 1 (rows.Finished (p 1) (j 3) (outcomes.Populated None)) []
     ∷ by_coord (rows.Delivered (p 1)) (sent 4 1 0 3 (whys.Req (r 2)) tasks.Discard ∷ [])
