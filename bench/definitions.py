@@ -374,7 +374,7 @@ def table(found):
     words = {}
     for mutant, claim in found:
         module, word = mutant.word.split('.')[1].split(':')
-        log = re.sub(r'_(is_refused|is_legal|acts_at_once|ends_loads|suits)(\.\w+)?$', '', claim) if claim else None
+        log = re.sub(r'_(is_refused|is_legal|acts_at_once|ends_loads|suits|keeps_[a-z_]+?)(\.\w+)?$', '', claim) if claim else None
         words.setdefault(module, {}).setdefault(word.split('/')[0], []).append((claim is None or '_is_refused' not in claim, log))
     out = TABLE
     for module, logs in words.items():
