@@ -42,7 +42,7 @@ use Rattle.coord.proofs.Untouched.{accepted}
 -- ---- one more in the queue
 
 -- what was asked is asked still
-what_grown : (asked : List Asked) (new : Asked) (req : ReqId) → req.0 ≡ length asked + 1 → (r : ReqId) (x : Request) → what_in asked r ≡ Some x → what_in (asked ++ new ∷ []) r ≡ Some x
+pub what_grown : (asked : List Asked) (new : Asked) (req : ReqId) → req.0 ≡ length asked + 1 → (r : ReqId) (x : Request) → what_in asked r ≡ Some x → what_in (asked ++ new ∷ []) r ≡ Some x
 what_grown asked new req nr r x is = by_found (request_in asked r) refl is
   where
     by_found : (o : Option Asked) → request_in asked r ≡ o → option_map (λ (q : Asked). q.what) o ≡ Some x → what_in (asked ++ new ∷ []) r ≡ Some x

@@ -25,3 +25,4 @@ pub mod Reports
 pub mod DoneLaws
 pub mod MadeLaws
 pub mod TakeLaws
+pub mod WorkLaws

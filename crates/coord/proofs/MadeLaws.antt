@@ -63,7 +63,7 @@ use Rattle.coord.proofs.IdleLaws.{next_now}
 use Rattle.coord.proofs.Reports.{come_legal, first_report, its_own, its_come}
 use Rattle.coord.proofs.QueueLaws.{is_apart}
 use Rattle.coord.proofs.ShowFirst.{IsTopNode, top_node}
-use Rattle.coord.proofs.StandLaws.{LeavesRuns, goes_on_left, stands_on}
+use Rattle.coord.proofs.StandLaws.{LeavesRuns, goes_on_left, stands_on, apart_runs, runs_not}
 
 -- with the same tables it is the same coordinator
 stands_with : (c : Coordinator) (tables : Tables) → tables ≡ c.tables → (s : Seen) → StandsFor s c → StandsFor s (record c { tables = tables })
@@ -266,22 +266,6 @@ module _ (e : InEvent) (c : Coordinator) (made : Made) (is : IsMade e c made) wh
         no_traversal : is_traversal late.q.what ≡ false
         no_traversal = (unbegun late.q.what calm.what (late.begins ∙ entry_no_step d.nr made.what by_it.entry)).0
 
-        -- and it isn't the traversal that runs
-        apart : (run : ReqId) (q : Asked) → request_in e.start.requests run ≡ Some q → is_run q ≡ true → (run.0 == made.req.0) ≡ false
-        apart run q at runs = by_test (run.0 == made.req.0) refl
-          where
-            by_test : (b : Bool) → (run.0 == made.req.0) ≡ b → (run.0 == made.req.0) ≡ false
-            by_test false t = t
-            by_test true t =
-                let same_nr : run ≡ made.req = (let n : run.0 ≡ made.req.0 = grind (arith, nat_tests, t) in ap (λ (i : ℕ). let r : ReqId = record { 0 = i } in r) n) in
-                let same_q : q ≡ late.q = (let both_ : Some q ≡ Some late.q = sym at ∙ (ap (λ (r : ReqId). request_in e.start.requests r) same_nr ∙ there) in cc) in
-                let no : is_run q ≡ false = ap is_run same_q ∙ rw no_traversal (never (is_under_way late.q)) in
-                let contradiction : true ≡ false = sym runs ∙ no in absurd cc
-              where
-                never : (b : Bool) → (b && false) ≡ false
-                never true = refl
-                never false = refl
-
         runs_on : (run : Option ReqId) → is_this run made.req ≡ false → OnlyRuns run e.start → OnlyRuns run dropped_
         runs_on run away only =
             runs_ended_other run told_.requests made.req (endings.Dropped (drops.By by)) away (runs_again run e.start.requests told_.requests (same_requests is_run e.start told_ told_requests) only)
@@ -290,8 +274,8 @@ module _ (e : InEvent) (c : Coordinator) (made : Made) (is : IsMade e c made) wh
         left =
             record {
               courses = courses;
-              none = runs_on None refl;
-              one = λ r q at only. runs_on (Some r) (apart r q at (only r q at ∙ itself r)) only;
+              none = λ only. runs_on None refl only;
+              one = λ run q at only. runs_on (Some run) (apart_runs e.start.requests run made.req q late.q at (only run q at ∙ itself run) there (runs_not late.q no_traversal)) only;
               history = refl;
               joined = joined_is;
             }

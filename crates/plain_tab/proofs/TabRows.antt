@@ -1,4 +1,11 @@
 -- A tab of one document keeps all that is between events, from row to row: requests are accepted, and processes work.
+use Rattle.seen_laws.proofs.Sums.{over}
+use Rattle.request_facts.specs.Whereabouts.{AreOnce, times_at, times_found, times_due, is_of_load}
+use Rattle.request_facts.proofs.Times.{itself}
+use Rattle.request_facts.proofs.KnownEnded.{denied_known}
+use Rattle.request_facts.proofs.Endings.{denied_once}
+use Rattle.log_model.specs.AfterRequests.{without_req}
+use Rattle.log_model.specs.declared.outcome.Denial.{Denial}
 use Rattle.std.proofs.Common.{◌≡◌, ◌⊎◌, inl, inr, ℤ, ℕ, ◌+◌, Bool, true, false, ◌==◌, List, [], ◌∷◌, ◌++◌, length, Option, Some, None, refl, sym, ap, ◌∙◌, subst, arith}
 use Rattle.std.specs.Prelude.{slice_get}
 use Rattle.std.proofs.lemmas.Bool.Decides.{nat_tests}
@@ -8,9 +15,11 @@ use Rattle.plain_tab.proofs.Eaches.{each_more}
 use Rattle.tab_ids.specs.declared.NavId.{NavId}
 use Rattle.tab_ids.specs.declared.ReqId.{ReqId}
 use Rattle.log_model.specs.declared.row_kind.Actor.{Actor}
+use Rattle.log_model.specs.declared.row_kind.Actor.TheVariants as actors
+use Rattle.log_model.specs.declared.outcome.Ending.TheVariants as endings
 use Rattle.log_model.specs.declared.row_kind.RowKind.TheVariants as rows
 use Rattle.log_model.specs.Places.{top, is_traversal}
-use Rattle.coord_facts.proofs.Unread.{next, accepted_left}
+use Rattle.coord_facts.proofs.Unread.{next, accepted_left, refused_left}
 use Rattle.log_model.specs.History.{History, has_nav}
 use Rattle.plain_tab.proofs.Soles.{doc_found, flowing_left, sole_left}
 use Rattle.coord_facts.specs.Leading.{held_back}
@@ -20,14 +29,14 @@ use Rattle.log_model.specs.declared.request.Request.TheVariants as requests
 use Rattle.log_model.specs.After.{new_request}
 use Rattle.coord_facts.proofs.Flowings.{left_flows}
 use Rattle.request_facts.proofs.LookUps.{none_before, others_before}
-use Rattle.request_facts.proofs.Placings.{go_once, poke_once}
-use Rattle.request_facts.proofs.KnownMoved.{go_known, poke_known}
+use Rattle.request_facts.proofs.Placings.{go_once, poke_once, stray_once}
+use Rattle.request_facts.proofs.KnownMoved.{go_known, poke_known, stray_known}
 use Rattle.request_facts.proofs.Readers.{SameReads}
-use Rattle.plain_tab.specs.Calm.{IsPlainRequest, EachAsked, is_run, is_this, OnlyRuns}
+use Rattle.plain_tab.specs.Calm.{IsPlainRequest, EachAsked, is_run, is_this, OnlyRuns, EachIsCalm}
 use Rattle.plain_tab.specs.Courses.{Course, course}
 use Rattle.plain_tab.specs.Between.{IsMover, IsAsOpened, IsTab, IsIdle, IsGoing}
 use Rattle.plain_tab.specs.Flow.{IsPokeTo}
-use Rattle.plain_tab.proofs.Courses.{is_asked, runs_again, calm_more, runs_more}
+use Rattle.plain_tab.proofs.Courses.{is_asked, runs_again, calm_more, runs_more, calm_again, ended_courses}
 use Rattle.plain_tab.proofs.Pokes.{pokes_on, pokes_same}
 
 -- nothing is held back, before or after
@@ -78,6 +87,10 @@ mover_more s t place new req nr requests (inr m) =
       begun = m.begun;
     })
 
+-- a request that is alone in a list
+pub without_itself : (req : ReqId) → without_req req (req ∷ []) ≡ []
+without_itself req = rw (itself req) refl
+
 -- ---- a request is accepted
 
 module _ (s : Seen) (d : Document) (place : Place) (event : ℕ) (actor : Actor) (tab : IsTab s d place) (req : ReqId) (nr : req.0 ≡ length s.requests + 1) where
@@ -116,6 +129,39 @@ module _ (s : Seen) (d : Document) (place : Place) (event : ℕ) (actor : Actor)
           flows = left_flows s poked_ (accepted_left s event actor req (Some d.nr) (requests.Poke nav action)) refl refl refl (none_held s poked_ tab.sole.parked tab.sole.parked) tab.flows;
           once = poke_once s [] event actor req nr d.nr d nav action (doc_found s d place tab.sole) tab.once;
           known = poke_known s [] event actor req nr tab.once d.nr d nav action (doc_found s d place tab.sole) tab.known;
+        }
+
+  -- a poke that reaches no document is accepted, and refused in the same event
+  module _ (nav : NavId) (action : Action) (makes : IsPlainRequest (requests.Poke nav action)) (reason : Denial) where
+    abbrev stray_ : Seen
+    stray_ = next s event actors.Ui (rows.Accepted req None (requests.Poke nav action))
+
+    abbrev pub denied_ : Seen
+    denied_ = next stray_ event actors.Ui (rows.Refused req reason)
+
+    none_there : request_in s.requests req ≡ None
+    none_there = none_before s.requests (new_request req None (requests.Poke nav action)) req nr
+
+    -- its request is at no desk
+    nowhere : over (times_at req) s.desks ≡ 0
+    nowhere =
+        let once : times_found req s.desks s.joined s.parked [] ≡ times_due (request_in s.requests req) = tab.once req (ap is_of_load none_there) in
+        let due : times_due (request_in s.requests req) ≡ 0 = ap times_due none_there in
+        omega (arith, once, due)
+
+    stray_calm : EachIsCalm stray_
+    stray_calm = calm_more s.requests req None (requests.Poke nav action) nr makes (λ x is. cc) tab.sole.calm
+
+    pub stray_tab : IsTab denied_ d place
+    stray_tab =
+        record {
+          sole = sole_left stray_ denied_ d place (refused_left stray_ event actors.Ui req reason) refl refl refl (ap (λ (l : List ReqId). without_req req l) tab.sole.parked) (calm_again stray_.requests denied_.requests (ended_courses stray_ event actors.Ui req (endings.Refused reason)) stray_calm) (sole_left s stray_ d place (accepted_left s event actors.Ui req None (requests.Poke nav action)) refl refl refl tab.sole.parked stray_calm tab.sole);
+          flowing = flowing_left stray_ denied_ d place (refused_left stray_ event actors.Ui req reason) (flowing_left s stray_ d place (accepted_left s event actors.Ui req None (requests.Poke nav action)) tab.flowing);
+          pokes = pokes_same s denied_ d d refl refl refl tab.pokes;
+          reason = mover_same stray_ denied_ place (ended_courses stray_ event actors.Ui req (endings.Refused reason)) (mover_more s stray_ place (new_request req None (requests.Poke nav action)) req nr refl tab.reason);
+          flows = left_flows stray_ denied_ (refused_left stray_ event actors.Ui req reason) refl refl refl (none_held stray_ denied_ tab.sole.parked (ap (λ (l : List ReqId). without_req req l) tab.sole.parked)) (left_flows s stray_ (accepted_left s event actors.Ui req None (requests.Poke nav action)) refl refl refl (none_held s stray_ tab.sole.parked tab.sole.parked) tab.flows);
+          once = subst (λ (l : List ReqId). AreOnce denied_ l) (without_itself req) (denied_once stray_ (req ∷ []) event req reason (λ no_load. nowhere) (stray_once s [] event actors.Ui req nr nav action tab.once));
+          known = denied_known stray_ event req nowhere (stray_known s [] event actors.Ui req nr tab.once nav action tab.known) reason;
         }
 
   -- where none runs, none does then; where one does, it is that one still

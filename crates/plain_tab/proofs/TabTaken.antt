@@ -65,15 +65,11 @@ use Rattle.log_model.specs.Once.{has_to_begin}
 use Rattle.seen_laws.proofs.Sums.{over}
 use Rattle.plain_tab.proofs.SoleRows as sole_rows
 use Rattle.plain_tab.proofs.SoleMade as sole_made
-use Rattle.plain_tab.proofs.TabRows.{none_held, mover_same, idle_same}
+use Rattle.plain_tab.proofs.TabRows.{none_held, mover_same, idle_same, without_itself}
 use Rattle.plain_tab.proofs.TabWork.{same_requests}
 use Rattle.coord_facts.proofs.FlowingTaken.{change_flows, change_flows_on, told_flows}
 use Rattle.plain_tab.proofs.Histories.{newer, pushed_one, pushed_at, pushed_only, pushed_shows, replaced_one, replaced_at, replaced_only, replaced_shows}
 use Rattle.plain_tab.proofs.SoleMade.{taken_now}
-
--- the request that was at hand isn't any more
-without_itself : (req : ReqId) → without_req req (req ∷ []) ≡ []
-without_itself req = rw (itself req) refl
 
 -- a request of which a new entry was made is no traversal
 pub record IsMadeRequest (asked : List Asked) (made : Made) : Type 0 where
