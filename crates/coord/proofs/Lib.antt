@@ -26,3 +26,4 @@ pub mod DoneLaws
 pub mod MadeLaws
 pub mod TakeLaws
 pub mod WorkLaws
+pub mod Opened

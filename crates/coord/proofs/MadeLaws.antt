@@ -22,7 +22,7 @@ use Rattle.log_model.specs.After.{after}
 use Rattle.log_model.specs.AfterRequests.{changes_history, is_held_back, is_held_up, without_req}
 use Rattle.log_model.specs.Causes.{by_event, by_mover}
 use Rattle.log_model.specs.Equal.{has_req, implies}
-use Rattle.log_model.specs.Places.{top, is_awake, is_present, is_traversal, is_under_way}
+use Rattle.log_model.specs.Places.{top, is_awake, is_present, is_traversal}
 use Rattle.log_model.specs.Queue.{is_delivered_duly}
 use Rattle.log_model.specs.Seen.{Seen, Asked, Document, Place, desk_of, place_of, request_in, request_of}
 use Rattle.seen_laws.specs.Blocks.{Here, point_at}

@@ -125,7 +125,7 @@ is_fit history d one entry greater maker = (
 )
 
 -- the length and index of a straight history
-plain_pair : (history : History) (d : Document) → IsOneHistory history d → pair_in history.rows history.current ≡ (length history.rows, history.current)
+pub plain_pair : (history : History) (d : Document) → IsOneHistory history d → pair_in history.rows history.current ≡ (length history.rows, history.current)
 plain_pair history d one =
     rw (history_length-plain history.rows one.plain, history_index-plain history.rows history.current one.plain one.within) refl
 

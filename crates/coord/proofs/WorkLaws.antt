@@ -5,12 +5,10 @@ use Rattle.request_facts.specs.Whereabouts.{times_found, times_due, is_of_load}
 use Rattle.request_facts.proofs.Times.{times_none}
 use Rattle.coord_facts.proofs.Held.{without_same}
 use Rattle.request_facts.proofs.LookUps.{one_more, none_before}
-use Rattle.std.proofs.Common.{◌≡◌, ℕ, ◌+◌, ◌<◌, Bool, true, false, ◌==◌, List, [], ◌∷◌, ◌++◌, drop, length, Option, Some, None, refl, sym, ap, ◌∙◌, subst, arith}
-use Rattle.std.proofs.lemmas.Bool.Decides.{nat_tests}
+use Rattle.std.proofs.Common.{◌≡◌, ℕ, ◌+◌, Bool, true, false, List, [], length, Option, Some, None, refl, ap, ◌∙◌, subst, arith}
 use Rattle.std.specs.Prelude.{slice_get}
 use Rattle.tab_ids.specs.declared.NavId.{NavId}
 use Rattle.tab_ids.specs.declared.ReqId.{ReqId}
-use Rattle.tab_ids.specs.declared.Step.{Step}
 use Rattle.log_model.specs.declared.action.Action.{Action}
 use Rattle.log_model.specs.declared.action.Action.TheVariants as acts
 use Rattle.log_model.specs.declared.job.Job.{Job}
@@ -26,7 +24,7 @@ use Rattle.log_model.specs.declared.row_kind.Actor.{Actor}
 use Rattle.log_model.specs.declared.row_kind.Actor.TheVariants as actors
 use Rattle.log_model.specs.declared.row_kind.RowKind.TheVariants as rows
 use Rattle.log_model.specs.After.{new_request}
-use Rattle.log_model.specs.AfterRequests.{on_request, without_req}
+use Rattle.log_model.specs.AfterRequests.{without_req}
 use Rattle.log_model.specs.Places.{top, goes, is_traversal}
 use Rattle.log_model.specs.Seen.{Seen, Asked, Document, Place, desk_of, request_in}
 use Rattle.request_facts.specs.Knowns.{is_go, IsPoke}
@@ -36,17 +34,16 @@ use Rattle.coord_facts.proofs.OneMade.{once_made}
 use Rattle.coord_facts.proofs.Unread.{next}
 use Rattle.coord_facts.specs.Leading.{once_finished}
 use Rattle.request_facts.proofs.Readers.{on_read}
-use Rattle.plain_tab.specs.Calm.{IsPlainRequest, is_run, is_this, OnlyRuns}
+use Rattle.plain_tab.specs.Calm.{IsPlainRequest, is_run, OnlyRuns}
 use Rattle.plain_tab.specs.Flow.{IsOutcome}
 use Rattle.plain_tab.specs.Making.{IsNewOf}
-use Rattle.plain_tab.proofs.Courses.{finished_same, made_courses, ended_courses, runs_again, runs_ended_other}
-use Rattle.plain_tab.proofs.TabRows.{poked_tab, stray_tab, idle_more, going_more, still_there}
+use Rattle.plain_tab.proofs.Courses.{finished_same, made_courses, ended_courses, runs_again}
+use Rattle.plain_tab.proofs.TabRows.{poked_tab, stray_tab}
 use Rattle.plain_tab.proofs.TabWork as work
 use Rattle.plain_tab.proofs.TabWork.{same_requests, taken_tab, finished_tab, made_tab, poke_refused_tab}
-use Rattle.move_queue.specs.declared.queue_step.QueueStep.{QueueStep}
 use Rattle.coord.specs.Standing.{GoesOn, StandsFor}
 use Rattle.coord.specs.declared.coordinator.Coordinator.{Coordinator}
-use Rattle.coord.proofs.StandLaws.{LeavesRuns, goes_on_left, goes_on_grown, stands_on, leaves_ended, runs_not}
+use Rattle.coord.proofs.StandLaws.{goes_on_left, goes_on_grown, stands_on, leaves_ended, runs_not}
 use Rattle.coord.proofs.Untouched.{accepted, refused, taken, finished, makes}
 
 -- a poke that makes a new entry is no traversal

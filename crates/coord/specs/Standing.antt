@@ -10,7 +10,8 @@ use Rattle.log_model.specs.declared.row_kind.Actor.TheVariants as actors
 use Rattle.log_model.specs.declared.row_kind.RowKind.{RowKind}
 use Rattle.log_model.specs.declared.row_kind.RowKind.TheVariants as rows
 use Rattle.log_model.specs.Places.{pair_at}
-use Rattle.log_model.specs.Seen.{Seen, Document, Place, desk_of}
+use Rattle.log_model.specs.After.{after}
+use Rattle.log_model.specs.Seen.{nothing, Seen, Document, Place, desk_of}
 use Rattle.step_index.specs.Held.{history_held}
 use Rattle.move_queue.specs.declared.queue_step.QueueStep.{QueueStep}
 use Rattle.seen_laws.specs.Blocks.{EachPass}
@@ -49,6 +50,15 @@ pub record StandsFor (s : Seen) (c : Coordinator) : Type 0 where
   pub lives : IsHome s c.home
   pub told : d.told ≡ Some (pair_at s (heads_for c.running s.history.current))
   pub unparked : c.queue.parked ≡ []
+
+-- a tab that was just opened at an address: what its log has come to
+abbrev pub opened_at : List ℕ → Seen
+opened_at address =
+    after nothing (record {
+      event = 0;
+      actor = actors.Start;
+      row = rows.Opened (record { maker = 0; nr = 1 }) (record { 0 = 1 }) (record { 0 = 1 }) (record { 0 = 1 }) None address;
+    })
 
 -- so it does as the event ends with these rows, each of which passes
 pub record HasActed (e : InEvent) (out : List RowKind) (c : Coordinator) : Type 0 where

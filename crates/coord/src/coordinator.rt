@@ -1,16 +1,21 @@
 //! `Coordinator`, of a tab of one document: its tables, the traversals that wait, and the one that runs.
-ghost use Rattle.std.specs.Prelude.{◌≡◌, [], OnOk};
+ghost use Rattle.std.specs.Prelude.{◌≡◌, [], OnOk, IfOk};
+ghost use Rattle.log_model.specs.Seen.{Seen};
+ghost use Rattle.step_index.specs.Held.{history_held};
+ghost use Rattle.coord.specs.Ties.{HoldsHistory};
 ghost use Rattle.seen_laws.specs.InEvent.{InEvent};
 ghost use Rattle.coord.specs.Queueing.{HasRoom};
-ghost use Rattle.coord.specs.Standing.{StandsFor, HasActed, IsAsk};
+ghost use Rattle.coord.specs.Standing.{opened_at, StandsFor, HasActed, IsAsk};
 
 use crate::addressee::Addressee;
 use crate::tables::Tables;
-use address::OutOfMemory;
+use address::{Address, OutOfMemory};
 use log_model::Out;
 use move_queue::{MoveQueue, QueueStep};
+use nav_tree::NavTree;
 use std::alloc::Global;
-use tab_ids::{ReqId, Step};
+use step_index::StepIndex;
+use tab_ids::{DocId, ProcId, ReqId, Step};
 
 /// The tables, the queue, the traversal that runs with its goal, and where the one document is.
 #[derive(Drop)]
@@ -22,6 +27,37 @@ pub struct Coordinator {
 }
 
 impl Coordinator {
+    /// The coordinator of a tab that was just opened at an address, with its document in process 1.
+    #[tactic(auto, using(crate::proofs::Opened::opened_stands))]
+    pub fn fresh(alloc: Global, first: &Address) -> Result<Coordinator, OutOfMemory>
+        ensures stands { IfOk result (λ c. StandsFor (opened_at first.now) c) }
+    {
+        let store = StepIndex::fresh(alloc, first)?;
+        let tree = NavTree::fresh(alloc, DocId(1), ProcId(1), None)?;
+        Ok(Coordinator {
+            tables: Tables {
+                store,
+                tree,
+                jobs: 0,
+            },
+            queue: MoveQueue::new(alloc),
+            running: None,
+            home: Addressee {
+                doc: DocId(1),
+                proc: ProcId(1),
+                incarnation: 0,
+            },
+        })
+    }
+
+    /// The store that keeps the history of each log that the coordinator stands for.
+    pub fn store(&self) -> &StepIndex
+        ensures store { result.now ≡ self.now.tables.store }
+        ensures history { (s : Seen) → StandsFor s self.now → HoldsHistory s (history_held result.now) }
+    {
+        &self.tables.store
+    }
+
     /// A traversal by a delta was accepted: it joins the queue, and has its turn where none runs.
     pub fn request(
         &mut self,
