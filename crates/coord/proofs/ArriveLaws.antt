@@ -126,6 +126,7 @@ module _ (e : InEvent) (out : List RowKind) (tables : Tables) (req : ReqId) (goa
             legal = legal;
             clear = subst (λ (l : List RowKind). IsClear e l) (sym is) (clear_more e out (rows.Applied req (changes.Traverse goal)) (λ h end. refl) arrived.works.clear);
             tab = subst (λ (x : Seen). IsTab x arrived.d arrived.place) (sym now) ended_tab;
+            kept = subst (λ (x : Seen). x.kept ≡ []) (sym now) arrived.works.kept;
           };
           idle = subst (λ (x : Seen). IsIdle x arrived.place) (sym now) ended_idle;
           told = subst (λ (x : Seen). arrived.d.told ≡ Some (pair_at x x.history.current)) (sym now) (arrived.told ∙ ap (λ (n : ℕ). let o : Option (ℕ × ℕ) = Some (pair_at s n) in o) (sym at_current));

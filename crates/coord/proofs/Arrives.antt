@@ -1,4 +1,5 @@
 -- The report that the document has shown the entry at the goal is delivered: the traversal that runs may end.
+use Rattle.log_model.specs.declared.made.Report.{Report}
 use Rattle.std.proofs.Common.{◌≡◌, ℕ, true, ◌==◌, List, [], ◌∷◌, Option, Some, None, refl, sym, ap, ◌∙◌, subst}
 use Rattle.std.specs.Prelude.{slice_get}
 use Rattle.tab_ids.specs.declared.EntryId.{EntryId}
@@ -15,7 +16,7 @@ use Rattle.log_model.specs.declared.row_kind.Actor.{Actor}
 use Rattle.log_model.specs.declared.row_kind.Actor.TheVariants as actors
 use Rattle.log_model.specs.declared.row_kind.RowKind.{RowKind}
 use Rattle.log_model.specs.declared.row_kind.RowKind.TheVariants as rows
-use Rattle.log_model.specs.AfterPlaces.{place_arrived, on_place}
+use Rattle.log_model.specs.AfterPlaces.{place_arrived, on_place, kept_delivered}
 use Rattle.log_model.specs.Places.{pair_at}
 use Rattle.log_model.specs.Seen.{Seen, Document, Asked, Place, desk_of, request_in}
 use Rattle.log_model.proofs.Refl.{nat_eq_refl}
@@ -70,8 +71,8 @@ module _ (e : InEvent) (tables : Tables) (d : Document) (place : Place) (tab : I
       ∙ sym (ap (λ (l : List Place). on_place d.nav (place_arrived job) l) tab.sole.places
       ∙ (let own_ : (place.nav.0 == d.nav.0) ≡ true = subst (λ (n : NavId). (place.nav.0 == n.0) ≡ true) (tab.sole.stands.nav ∙ sym tab.sole.there.nav) (nat_eq_refl place.nav.0) in rw own_ refl))
 
-  pub arrives : Ties e.start tables.tree tables.jobs → HoldsHistory e.start (history_held tables.store) → AreLegal e [] → d.told ≡ Some (pair_at e.start going.goal.0) → HasArrived e [] tables going.req going.goal
-  arrives ties history legal told =
+  pub arrives : Ties e.start tables.tree tables.jobs → HoldsHistory e.start (history_held tables.store) → AreLegal e [] → d.told ≡ Some (pair_at e.start going.goal.0) → e.start.kept ≡ [] → HasArrived e [] tables going.req going.goal
+  arrives ties history legal told kept =
       record {
         d = d;
         place = place_arrived job place;
@@ -83,6 +84,7 @@ module _ (e : InEvent) (tables : Tables) (d : Document) (place : Place) (tab : I
           legal = legal;
           clear = λ end. subst (λ (k : RowKind). owes (start_of e) (row_of e k ∷ []) end ≡ true) (sym own) refl;
           tab = subst (λ (x : Seen). IsTab x d (place_arrived job place)) (sym now) tab_;
+          kept = subst (λ (x : Seen). x.kept ≡ []) (sym now) (ap (λ (r : Option Report). kept_delivered e.start r) first ∙ kept);
         };
         first = subst (λ (x : Seen). slice_get x.joined 0 ≡ Some going.req) (sym now) (ap (λ (l : List ReqId). slice_get l 0) (work.delivered_joined e.start d place e.event tab job outcome first is) ∙ going.first);
         only = subst (λ (x : Seen). OnlyRuns (Some going.req) x) (sym now) (come_runs e.start d place e.event tab going job outcome first is entry epoch long at memo address task);

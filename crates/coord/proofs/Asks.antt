@@ -128,6 +128,7 @@ module _ (e : InEvent) (req : ReqId) (delta : ℤ) (asks : IsAsk e req delta) wh
                   legal = ask_legal;
                   clear = ask_clear;
                   tab = subst (λ (x : Seen). IsTab x stands.d stands.place) (sym now) asked_tab;
+                  kept = subst (λ (x : Seen). x.kept ≡ []) (sym now) stands.kept;
                 };
                 told = subst (λ (x : Seen). stands.d.told ≡ Some (pair_at x x.history.current)) (sym now) (subst (λ (r : Option (ReqId × Step)). stands.d.told ≡ Some (pair_at e.start (heads_for r e.start.history.current))) idle stands.told);
                 idle = subst (λ (x : Seen). IsIdle x stands.place) (sym now) (idle_more e.start stands.d stands.place e.event actors.Ui stands.tab req asks.next None (requests.Go delta) asked_ refl refl at_rest.0.idle);
@@ -173,6 +174,7 @@ module _ (e : InEvent) (req : ReqId) (delta : ℤ) (asks : IsAsk e req delta) wh
               lives = subst (λ (h : Addressee). IsHome asked_ h) (sym same_home) asked_lives;
               told = subst (λ (r : Option (ReqId × Step)). stands.d.told ≡ Some (pair_at e.start (heads_for r e.start.history.current))) (sym same_run) stands.told;
               unparked = ap (λ (q : Queue). q.parked) queue ∙ stands.unparked;
+              kept = stands.kept;
             });
             passes = legal_end e [] ask_legal (clear_paid e [] ask_clear) (ask_takes []);
           }
@@ -206,6 +208,7 @@ came_out_acted e out c came unparked takes = by_running c.running refl came
             lives = through.ready.lives;
             told = subst (λ (r : Option (ReqId × Step)). through.ready.idling.d.told ≡ Some (pair_at (now_of e out) (heads_for r (now_of e out).history.current))) (sym is) through.ready.idling.told;
             unparked = unparked;
+            kept = through.ready.idling.works.kept;
           };
           passes = legal_end e out through.ready.idling.works.legal (clear_paid e out through.ready.idling.works.clear) (takes (map (row_of e) out));
         }
@@ -221,6 +224,7 @@ came_out_acted e out c came unparked takes = by_running c.running refl came
             lives = way.lives;
             told = subst (λ (r : Option (ReqId × Step)). way.shows.d.told ≡ Some (pair_at (now_of e out) (heads_for r (now_of e out).history.current))) (sym is) way.shows.told;
             unparked = unparked;
+            kept = way.shows.works.kept;
           };
           passes = legal_end e out way.shows.works.legal (clear_paid e out way.shows.works.clear) (takes (map (row_of e) out));
         }

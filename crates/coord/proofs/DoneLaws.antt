@@ -19,7 +19,7 @@ use Rattle.log_model.specs.declared.handler.Verdict.{Verdict}
 use Rattle.log_model.specs.declared.row_kind.LogRow.{LogRow}
 use Rattle.log_model.specs.declared.row_kind.RowKind.TheVariants as rows
 use Rattle.log_model.specs.declared.row_kind.Actor.TheVariants as actors
-use Rattle.log_model.specs.AfterPlaces.{place_arrived}
+use Rattle.log_model.specs.AfterPlaces.{place_arrived, kept_delivered}
 use Rattle.log_model.specs.Queue.{is_delivered_duly}
 use Rattle.log_model.specs.Places.{pair_at}
 use Rattle.log_model.specs.Seen.{Seen, Asked, Document, Place, desk_of}
@@ -156,7 +156,7 @@ module _ (e : InEvent) (c : Coordinator) (outcome : Outcome) (done : IsDone e c 
     pub told_acted : HasActed e [] c
     told_acted =
         record {
-          stands = subst (λ (x : Seen). StandsFor x c) (sym now) (stands_on e.start told_ c done.stands d (record { nr = refl; proc = refl; told = refl }) its_tab told_ties refl refl (goes_on_left e.start told_ place c.queue.waiting c.running left done.stands.goes_on));
+          stands = subst (λ (x : Seen). StandsFor x c) (sym now) (stands_on e.start told_ c done.stands d (record { nr = refl; proc = refl; told = refl }) its_tab told_ties refl refl (ap (λ (r : Option Report). kept_delivered e.start r) plain.first) (goes_on_left e.start told_ place c.queue.waiting c.running left done.stands.goes_on));
           passes = legal_end e [] legal (clear_paid e [] (come_clear e c.home.proc (reports.Done done.job outcome done.made) done.delivery)) (done_takes []);
         }
 
@@ -203,7 +203,7 @@ module _ (e : InEvent) (c : Coordinator) (outcome : Outcome) (done : IsDone e c 
 
       pub its_arrival : HasArrived e [] c.tables req goal
       its_arrival =
-          subst (λ (g : Step). HasArrived e [] c.tables req g) busy.leads_to (subst (λ (r : ReqId). HasArrived e [] c.tables r busy.going.goal) busy.its (arrives e c.tables d place done.stands.tab busy.going done.job outcome plain.first plain.is shown.entry shown.epoch shown.long shown.at shown.memo shown.address shown.is done.delivery.by_coord (its_own e c done.stands (reports.Done done.job outcome done.made) done.delivery) done.stands.ties done.stands.history legal (subst (λ (g : Step). d.told ≡ Some (pair_at e.start g.0)) (sym busy.leads_to) (subst (λ (r : Option (ReqId × Step)). d.told ≡ Some (pair_at e.start (heads_for r e.start.history.current))) runs done.stands.told))))
+          subst (λ (g : Step). HasArrived e [] c.tables req g) busy.leads_to (subst (λ (r : ReqId). HasArrived e [] c.tables r busy.going.goal) busy.its (arrives e c.tables d place done.stands.tab busy.going done.job outcome plain.first plain.is shown.entry shown.epoch shown.long shown.at shown.memo shown.address shown.is done.delivery.by_coord (its_own e c done.stands (reports.Done done.job outcome done.made) done.delivery) done.stands.ties done.stands.history legal (subst (λ (g : Step). d.told ≡ Some (pair_at e.start g.0)) (sym busy.leads_to) (subst (λ (r : Option (ReqId × Step)). d.told ≡ Some (pair_at e.start (heads_for r e.start.history.current))) runs done.stands.told)) done.stands.kept))
 
       pub its_behind : IsBehind (now_of e []) req c.queue.waiting
       its_behind =

@@ -99,6 +99,7 @@ idles_refused e out more old new req delta idling first is ties history legal =
         legal = legal;
         clear = subst (λ (l : List RowKind). IsClear e l) (sym is) (clear_more e out (rows.Refused req denials.NoStep) (λ h end. refl) idling.works.clear);
         tab = subst (λ (s : Seen). IsTab s idling.d idling.place) (sym now) on.0;
+        kept = subst (λ (s : Seen). s.kept ≡ []) (sym now) idling.works.kept;
       };
       idle = subst (λ (s : Seen). IsIdle s idling.place) (sym now) on.1;
       told = subst (λ (s : Seen). idling.d.told ≡ Some (pair_at s s.history.current)) (sym now) idling.told;
@@ -219,6 +220,7 @@ module _ (e : InEvent) (out : List RowKind) (tables : Tables) (req : ReqId) (del
             legal = legal;
             clear = subst (λ (l : List RowKind). IsClear e l) (sym ended) (clear_more e begun (rows.Applied req (changes.Traverse goal)) (λ h end. refl) (subst (λ (l : List RowKind). IsClear e l) (sym is) (clear_more e out (rows.Started req (Some goal)) (λ h end. refl) idling.works.clear)));
             tab = subst (λ (x : Seen). IsTab x idling.d idling.place) (sym now) (passed_tab s idling.d idling.place e.event e.actor idling.works.tab idling.idle req first.q first.there first_traverses first_open goal low off);
+            kept = subst (λ (x : Seen). x.kept ≡ []) (sym now) idling.works.kept;
           };
           idle = subst (λ (x : Seen). IsIdle x idling.place) (sym now) (passed_idle s idling.d idling.place e.event e.actor idling.works.tab idling.idle req first.q first.there first_traverses first_open goal low off here);
           told = subst (λ (x : Seen). idling.d.told ≡ Some (pair_at x x.history.current)) (sym now) (idling.told ∙ ap (λ (n : ℕ). let o : Option (ℕ × ℕ) = Some (pair_at s n) in o) (sym (traversed_current began_ idling.d idling.place e.event e.actor began_is.sole began_is.flowing req goal low ∙ here)));

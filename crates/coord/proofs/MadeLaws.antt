@@ -1,4 +1,6 @@
 -- The document made a new entry: what the tables tell of it, and that it is dropped where another entry is shown by now.
+use Rattle.log_model.specs.declared.made.Report.{Report}
+use Rattle.log_model.specs.AfterPlaces.{kept_delivered}
 use Rattle.std.proofs.Common.{◌≡◌, ◌⊎◌, inl, inr, ℕ, ◌<◌, Bool, true, false, not, ◌&&◌, ◌||◌, ◌==◌, List, [], ◌∷◌, map, Option, Some, None, refl, sym, ap, ◌∙◌, subst, arith}
 use Rattle.std.proofs.lemmas.Bool.Decides.{nat_tests}
 use Rattle.std.specs.Prelude.{slice_get, option_map}
@@ -283,6 +285,6 @@ module _ (e : InEvent) (c : Coordinator) (made : Made) (is : IsMade e c made) wh
         pub drop_acted : HasActed e out (record c { tables = tables })
         drop_acted =
             record {
-              stands = stands_with c tables same (now_of e out) (subst (λ (x : Seen). StandsFor x c) (sym now) (stands_on e.start dropped_ c is.stands d (record { nr = refl; proc = refl; told = refl }) its_tab (subst (λ (x : Seen). Ties x c.tables.tree c.tables.jobs) now (subst (λ (t : Tables). Ties (now_of e out) t.tree t.jobs) same ties)) refl refl (goes_on_left e.start dropped_ place c.queue.waiting c.running left is.stands.goes_on)));
+              stands = stands_with c tables same (now_of e out) (subst (λ (x : Seen). StandsFor x c) (sym now) (stands_on e.start dropped_ c is.stands d (record { nr = refl; proc = refl; told = refl }) its_tab (subst (λ (x : Seen). Ties x c.tables.tree c.tables.jobs) now (subst (λ (t : Tables). Ties (now_of e out) t.tree t.jobs) same ties)) refl refl (ap (λ (r : Option Report). kept_delivered e.start r) first) (goes_on_left e.start dropped_ place c.queue.waiting c.running left is.stands.goes_on)));
               passes = legal_end e out legal (subst (λ (l : List RowKind). IsPaid e l) (sym out_is) paid) (subst (λ (l : List RowKind). IsTakenIn e (map (row_of e) l)) (sym out_is) takes);
             }

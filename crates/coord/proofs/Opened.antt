@@ -60,4 +60,5 @@ module _ (address : List ℕ) where
         lives = rw home (record { d = d; only = refl; doc = refl; proc = refl; incarnation = refl; paced = omega arith });
         told = rw running (ap (λ (p : ℕ × ℕ). let o : Option (ℕ × ℕ) = Some p in o) (sym (plain_pair (opened_at address).history d tab.sole.history)));
         unparked = rw queue refl;
+        kept = refl;
       }

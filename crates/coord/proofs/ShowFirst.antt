@@ -1,6 +1,6 @@
 -- That the entry at the goal of the first traversal that waits may be shown, and what the coordinator keeps then.
 use Rattle.std.proofs.Common.{◌≡◌, ℤ, ℕ, ◌+◌, ◌≤◌, ◌<◌, true, false, ◌==◌, List, [], ◌∷◌, ◌++◌, length, Option, Some, None, refl, sym, ap, ◌∙◌, subst, arith}
-use Rattle.std.specs.Prelude.{slice_get, option_map, IfSome}
+use Rattle.std.specs.Prelude.{slice_get, option_map, IfSome, option_and_then}
 use Rattle.tab_ids.specs.declared.NavId.{NavId}
 use Rattle.tab_ids.specs.declared.ReqId.{ReqId}
 use Rattle.tab_ids.specs.declared.Step.{Step}
@@ -26,7 +26,7 @@ use Rattle.tab_ids.specs.declared.Epoch.{Epoch}
 use Rattle.log_model.specs.declared.job.Job.{Job}
 use Rattle.log_model.specs.declared.job.Task.TheVariants as tasks
 use Rattle.log_model.specs.declared.job.Why.TheVariants as whys
-use Rattle.log_model.specs.AfterPlaces.{sleepers_below, activated}
+use Rattle.log_model.specs.AfterPlaces.{sleepers_below, activated, kept_sent, kept_leaving}
 use Rattle.log_model.specs.AfterDocuments.{addressed}
 use Rattle.log_model.specs.History.{history_length, history_index, has_nav}
 use Rattle.log_model.proofs.Refl.{nat_eq_refl}
@@ -35,7 +35,7 @@ use Rattle.nav_tree.specs.declared.nav.Nav.{Nav}
 use Rattle.nav_tree.specs.Tree.{Tree, node_of, nav_of}
 use Rattle.straight_rows.specs.Straight.{IsPlain}
 use Rattle.plain_tab.specs.Sole.{AreApart}
-use Rattle.plain_tab.proofs.Soles.{place_found}
+use Rattle.plain_tab.proofs.Soles.{place_found, doc_found}
 use Rattle.plain_tab.proofs.SoleRows.{IsToIt}
 use Rattle.plain_tab.proofs.Shows.{goes_to, knows, show_due, passes_}
 use Rattle.coord.specs.declared.addressee.Addressee.{Addressee}
@@ -161,6 +161,15 @@ module _ (e : InEvent) (out : List RowKind) (tables : Tables) (idling : IsIdling
     abbrev shown_going : IsGoing (showing s idling.d idling.place e.event e.actor idling.works.tab idling.idle req first.q first.there (first_traverses e out tables req delta idling first) (first_open e out tables req delta idling first) goal job to row.entry epoch pair.0 pair.1 row.memo row.address refl later refl row at_row refl refl refl first.first apart) shown_place_
     shown_going = showing_going s idling.d idling.place e.event e.actor idling.works.tab idling.idle req first.q first.there (first_traverses e out tables req delta idling first) (first_open e out tables req delta idling first) goal job to row.entry epoch pair.0 pair.1 row.memo row.address refl later refl row at_row refl refl refl first.first apart
 
+    -- nothing is kept, since it is shown the document that it was shown before
+    none_kept : kept_sent began_ job.doc job.task ≡ []
+    none_kept =
+        ap (λ (n : DocId). kept_sent began_ n job.task) to.doc
+        ∙ (ap (λ (o : Option Document). kept_leaving began_ idling.d.nr (option_and_then (λ (x : Document). option_and_then (λ (p : Place). p.last) (place_of began_ x.nav)) o)) (doc_found s idling.d idling.place idling.works.tab.sole)
+        ∙ (ap (λ (o : Option Place). kept_leaving began_ idling.d.nr (option_and_then (λ (p : Place). p.last) o)) (ap (λ (n : NavId). place_of s n) idling.works.tab.sole.there.nav ∙ place_found s idling.d idling.place idling.works.tab.sole)
+        ∙ (ap (λ (o : Option DocId). kept_leaving began_ idling.d.nr o) idling.works.tab.sole.stands.last
+        ∙ (let own : (idling.d.nr.0 == idling.d.nr.0) ≡ true = nat_eq_refl idling.d.nr.0 in rw own idling.works.kept))))
+
     -- and is on its way then
     pub shows_on : (new : Tables) (more : List RowKind) → more ≡ begun ++ rows.Sent job ∷ [] → Ties (now_of e more) new.tree new.jobs → HoldsHistory (now_of e more) (history_held new.store) → AreLegal e more → IsShowing e more new req goal
     shows_on new more sent ties history legal =
@@ -177,6 +186,7 @@ module _ (e : InEvent) (out : List RowKind) (tables : Tables) (idling : IsIdling
             legal = legal;
             clear = subst (λ (l : List RowKind). IsClear e l) (sym sent) (clear_more e begun (rows.Sent job) (λ h end. refl) (subst (λ (l : List RowKind). IsClear e l) (sym is) (clear_more e out (rows.Started req (Some goal)) (λ h end. refl) idling.works.clear)));
             tab = subst (λ (x : Seen). IsTab x shown_d shown_place_) (sym now) (showing_tab s idling.d idling.place e.event e.actor idling.works.tab idling.idle req first.q first.there (first_traverses e out tables req delta idling first) (first_open e out tables req delta idling first) goal job to row.entry epoch pair.0 pair.1 row.memo row.address refl later refl row at_row refl refl refl first.first apart);
+            kept = subst (λ (x : Seen). x.kept ≡ []) (sym now) none_kept;
           };
           going = on.0;
           its = on.1;

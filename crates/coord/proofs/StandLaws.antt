@@ -145,8 +145,8 @@ pub record IsSameHome (d next : Document) : Type 0 where
   pub proc : next.proc ≡ d.proc
   pub told : next.told ≡ d.told
 
-pub stands_on : (s t : Seen) (c : Coordinator) (stands : StandsFor s c) (next : Document) → IsSameHome stands.d next → IsTab t next stands.place → Ties t c.tables.tree c.tables.jobs → t.jobs ≡ s.jobs → t.history ≡ s.history → GoesOn t stands.place c.queue.waiting c.running → StandsFor t c
-stands_on s t c stands next same tab ties jobs history goes_on =
+pub stands_on : (s t : Seen) (c : Coordinator) (stands : StandsFor s c) (next : Document) → IsSameHome stands.d next → IsTab t next stands.place → Ties t c.tables.tree c.tables.jobs → t.jobs ≡ s.jobs → t.history ≡ s.history → t.kept ≡ s.kept → GoesOn t stands.place c.queue.waiting c.running → StandsFor t c
+stands_on s t c stands next same tab ties jobs history kept goes_on =
     record {
       d = next;
       place = stands.place;
@@ -164,6 +164,7 @@ stands_on s t c stands next same tab ties jobs history goes_on =
       };
       told = same.told ∙ (stands.told ∙ ap (λ (h : History). let o : Option (ℕ × ℕ) = Some (pair_in h.rows (heads_for c.running h.current)) in o) (sym history));
       unparked = stands.unparked;
+      kept = kept ∙ stands.kept;
     }
   where
     same_d : stands.lives.d ≡ stands.d

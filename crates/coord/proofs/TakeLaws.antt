@@ -30,7 +30,7 @@ use Rattle.log_model.specs.Places.{top, due_pair, pair_at, pair_in, running_in}
 use Rattle.log_model.specs.declared.job.Why.TheVariants as whys
 use Rattle.seen_laws.specs.Sending.{IsUpdateDue}
 use Rattle.coord.specs.Sending.{IsAddressed, update_order}
-use Rattle.log_model.specs.AfterPlaces.{report_taken, given_entry}
+use Rattle.log_model.specs.AfterPlaces.{report_taken, given_entry, kept_delivered}
 use Rattle.log_model.specs.Queue.{is_delivered_duly, is_taken_up_at_once}
 use Rattle.log_model.specs.Seen.{Seen, Document, Place, awake, desk_of, document_of}
 use Rattle.log_model.specs.Soundness.{is_entry}
@@ -246,6 +246,9 @@ module _ (e : InEvent) (c : Coordinator) (made : Made) (now : IsMadeNow e c made
       ∙ (ap (λ a. next (told_ e c made now.is) e.event a (rows.Applied made.req written)) now.is.delivery.by_coord
       ∙ ap (λ (change : Change). next (told_ e c made now.is) e.event actors.Coord (rows.Applied made.req change)) same))
 
+  told_kept : (told_ e c made now.is).kept ≡ []
+  told_kept = ap (λ (r : Option Report). kept_delivered e.start r) first_ ∙ now.is.stands.kept
+
   none_joined : without_req made.req (told_ e c made now.is).joined ≡ []
   none_joined = ap (λ (l : List ReqId). without_req made.req l) (told_joined e c made now.is ∙ rests.0.none_waits)
 
@@ -321,6 +324,7 @@ module _ (e : InEvent) (c : Coordinator) (made : Made) (now : IsMadeNow e c made
               });
               told = subst (λ (r : Option (ReqId × Step)). d.told ≡ Some (pair_at (now_of e out) (heads_for r (now_of e out).history.current))) (sym none_is_running) (subst (λ (x : Seen). d.told ≡ Some (pair_at x x.history.current)) (sym replaced_now) (was_told ∙ ap (λ (p : ℕ × ℕ). let o : Option (ℕ × ℕ) = Some p in o) replaced_pair));
               unparked = now.is.stands.unparked;
+              kept = subst (λ (x : Seen). x.kept ≡ []) (sym replaced_now) told_kept;
             };
             passes = legal_end e out legal (clear_paid e out (subst (λ (l : List RowKind). IsClear e l) (sym out_is) (applied_clear (replacing state)))) (subst (λ (l : List RowKind). IsTakenIn e (map (row_of e) l)) (sym out_is) (taken_in (replacing state) []));
           }
@@ -452,6 +456,7 @@ module _ (e : InEvent) (c : Coordinator) (made : Made) (now : IsMadeNow e c made
                 });
                 told = subst (λ (r : Option (ReqId × Step)). last_d.told ≡ Some (pair_at (now_of e more) (heads_for r (now_of e more).history.current))) (sym none_is_running) (subst (λ (x : Seen). last_d.told ≡ Some (pair_at x x.history.current)) (sym last_now) (ap (λ (p : ℕ × ℕ). let o : Option (ℕ × ℕ) = Some p in o) pair_is));
                 unparked = now.is.stands.unparked;
+                kept = subst (λ (x : Seen). x.kept ≡ []) (sym last_now) told_kept;
               };
               passes = legal_end e more legal (clear_paid e more more_clear) (subst (λ (l : List RowKind). IsTakenIn e (map (row_of e) l)) (sym (more_is ∙ ap (λ (l : List RowKind). l ++ rows.Sent job ∷ []) out_is)) (taken_in (pushing state) (rows.Sent job ∷ [])));
             }

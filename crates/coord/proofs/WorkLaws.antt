@@ -74,7 +74,7 @@ module _ (s : Seen) (c : Coordinator) (stands : StandsFor s c) (event : ℕ) whe
 
     pub taken_stands : StandsFor taken_ c
     taken_stands =
-        stands_on s taken_ c stands d (record { nr = refl; proc = refl; told = refl }) (taken_tab s d place event stands.tab job dirty free first) (taken s c.tables.tree c.tables.jobs event (actors.Proc d.proc) stands.ties d.proc job.nr true dirty) refl refl (goes_on_left s taken_ place c.queue.waiting c.running (record { courses = λ r. refl; none = λ only. only; one = λ r q at only. only; history = refl; joined = refl }) stands.goes_on)
+        stands_on s taken_ c stands d (record { nr = refl; proc = refl; told = refl }) (taken_tab s d place event stands.tab job dirty free first) (taken s c.tables.tree c.tables.jobs event (actors.Proc d.proc) stands.ties d.proc job.nr true dirty) refl refl refl (goes_on_left s taken_ place c.queue.waiting c.running (record { courses = λ r. refl; none = λ only. only; one = λ r q at only. only; history = refl; joined = refl }) stands.goes_on)
 
   -- ---- it has done the order in hand
 
@@ -87,7 +87,7 @@ module _ (s : Seen) (c : Coordinator) (stands : StandsFor s c) (event : ℕ) whe
 
     pub finished_stands : StandsFor finished_ c
     finished_stands =
-        stands_on s finished_ c stands (once_finished d order.job) (record { nr = refl; proc = refl; told = refl }) (finished_tab s d place event stands.tab order outcome hand is) (finished s c.tables.tree c.tables.jobs event (actors.Proc d.proc) d.proc order.job.nr outcome stands.ties) refl refl (goes_on_left s finished_ place c.queue.waiting c.running (record { courses = same_requests course s finished_ same; none = λ only. runs_again None s.requests finished_.requests (same_requests is_run s finished_ same) only; one = λ r q at only. runs_again (Some r) s.requests finished_.requests (same_requests is_run s finished_ same) only; history = refl; joined = refl }) stands.goes_on)
+        stands_on s finished_ c stands (once_finished d order.job) (record { nr = refl; proc = refl; told = refl }) (finished_tab s d place event stands.tab order outcome hand is) (finished s c.tables.tree c.tables.jobs event (actors.Proc d.proc) d.proc order.job.nr outcome stands.ties) refl refl refl (goes_on_left s finished_ place c.queue.waiting c.running (record { courses = same_requests course s finished_ same; none = λ only. runs_again None s.requests finished_.requests (same_requests is_run s finished_ same) only; one = λ r q at only. runs_again (Some r) s.requests finished_.requests (same_requests is_run s finished_ same) only; history = refl; joined = refl }) stands.goes_on)
 
   -- ---- the document makes a new entry of its first poke
 
@@ -101,7 +101,7 @@ module _ (s : Seen) (c : Coordinator) (stands : StandsFor s c) (event : ℕ) whe
 
     pub made_stands : StandsFor made_ c
     made_stands =
-        stands_on s made_ c stands (once_made what d) (record { nr = refl; proc = refl; told = refl }) (made_tab s d place event stands.tab poke what first q nav to_act new kind) (makes s c.tables.tree c.tables.jobs s.events (actors.Proc d.proc) d.proc (work.makes s d place event stands.tab poke what first q nav to_act new kind) stands.ties) refl refl (goes_on_left s made_ place c.queue.waiting c.running (record { courses = made_courses s s.events (actors.Proc d.proc) d.proc (work.makes s d place event stands.tab poke what first q nav to_act new kind); none = λ only. its_runs None only; one = λ r x at only. its_runs (Some r) only; history = refl; joined = refl }) stands.goes_on)
+        stands_on s made_ c stands (once_made what d) (record { nr = refl; proc = refl; told = refl }) (made_tab s d place event stands.tab poke what first q nav to_act new kind) (makes s c.tables.tree c.tables.jobs s.events (actors.Proc d.proc) d.proc (work.makes s d place event stands.tab poke what first q nav to_act new kind) stands.ties) refl refl refl (goes_on_left s made_ place c.queue.waiting c.running (record { courses = made_courses s s.events (actors.Proc d.proc) d.proc (work.makes s d place event stands.tab poke what first q nav to_act new kind); none = λ only. its_runs None only; one = λ r x at only. its_runs (Some r) only; history = refl; joined = refl }) stands.goes_on)
 
   -- ---- a poke is accepted
 
@@ -112,7 +112,7 @@ module _ (s : Seen) (c : Coordinator) (stands : StandsFor s c) (event : ℕ) whe
 
       pub poked_stands : StandsFor poked_ c
       poked_stands =
-          stands_on s poked_ c stands d (record { nr = refl; proc = refl; told = refl }) (poked_tab s d place event actor stands.tab req nr nav action enters of_top) (accepted s c.tables.tree c.tables.jobs event actor stands.ties req (Some d.nr) (requests.Poke nav action)) refl refl (goes_on_grown s poked_ d place event actor stands.tab req nr (Some d.nr) (requests.Poke nav action) refl refl refl c.queue.waiting c.running stands.goes_on)
+          stands_on s poked_ c stands d (record { nr = refl; proc = refl; told = refl }) (poked_tab s d place event actor stands.tab req nr nav action enters of_top) (accepted s c.tables.tree c.tables.jobs event actor stands.ties req (Some d.nr) (requests.Poke nav action)) refl refl refl (goes_on_grown s poked_ d place event actor stands.tab req nr (Some d.nr) (requests.Poke nav action) refl refl refl c.queue.waiting c.running stands.goes_on)
 
     -- one that reaches no document is refused in its event
     module _ (reason : Denial) where
@@ -138,7 +138,7 @@ module _ (s : Seen) (c : Coordinator) (stands : StandsFor s c) (event : ℕ) whe
 
       pub stray_stands : StandsFor denied_ c
       stray_stands =
-          stands_on s denied_ c stands d (record { nr = refl; proc = refl; told = refl }) (stray_tab s d place event actors.Ui stands.tab req nr nav action enters reason) (refused stray_ c.tables.tree c.tables.jobs event actors.Ui (accepted s c.tables.tree c.tables.jobs event actors.Ui stands.ties req None (requests.Poke nav action)) req reason) refl refl (goes_on_left stray_ denied_ place c.queue.waiting c.running (leaves_ended stray_ denied_ req (new_request req None (requests.Poke nav action)) (endings.Refused reason) its_request refl refl (ended_courses stray_ event actors.Ui req (endings.Refused reason)) refl not_joined) grown)
+          stands_on s denied_ c stands d (record { nr = refl; proc = refl; told = refl }) (stray_tab s d place event actors.Ui stands.tab req nr nav action enters reason) (refused stray_ c.tables.tree c.tables.jobs event actors.Ui (accepted s c.tables.tree c.tables.jobs event actors.Ui stands.ties req None (requests.Poke nav action)) req reason) refl refl refl (goes_on_left stray_ denied_ place c.queue.waiting c.running (leaves_ended stray_ denied_ req (new_request req None (requests.Poke nav action)) (endings.Refused reason) its_request refl refl (ended_courses stray_ event actors.Ui req (endings.Refused reason)) refl not_joined) grown)
 
   -- ---- the process refuses its first poke
 
@@ -158,4 +158,4 @@ module _ (s : Seen) (c : Coordinator) (stands : StandsFor s c) (event : ℕ) whe
 
     pub refusing_stands : StandsFor refusing_ c
     refusing_stands =
-        stands_on s refusing_ c stands d (record { nr = refl; proc = refl; told = refl }) (poke_refused_tab s d place event stands.tab poke reason first) (refused s c.tables.tree c.tables.jobs event (actors.Proc d.proc) stands.ties poke.req reason) refl refl (goes_on_left s refusing_ place c.queue.waiting c.running (leaves_ended s refusing_ poke.req its_poke.q (endings.Refused reason) its_poke.there its_poke.none refl (ended_courses s event (actors.Proc d.proc) poke.req (endings.Refused reason)) refl (without_same s.joined poke.req (times_none poke.req s.joined (alone s [] d.proc poke first stands.tab.once stands.tab.known).joined))) stands.goes_on)
+        stands_on s refusing_ c stands d (record { nr = refl; proc = refl; told = refl }) (poke_refused_tab s d place event stands.tab poke reason first) (refused s c.tables.tree c.tables.jobs event (actors.Proc d.proc) stands.ties poke.req reason) refl refl refl (goes_on_left s refusing_ place c.queue.waiting c.running (leaves_ended s refusing_ poke.req its_poke.q (endings.Refused reason) its_poke.there its_poke.none refl (ended_courses s event (actors.Proc d.proc) poke.req (endings.Refused reason)) refl (without_same s.joined poke.req (times_none poke.req s.joined (alone s [] d.proc poke first stands.tab.once stands.tab.known).joined))) stands.goes_on)

@@ -19,7 +19,7 @@ use Rattle.coord.specs.Ending.{IsWorker}
 use Rattle.coord.specs.declared.addressee.Addressee.{Addressee}
 use Rattle.coord.specs.declared.tables.Tables.{Tables}
 
--- the tables stand for what the log has come to, the event so far is legal and owes nothing to its end, and the tab has one document
+-- the tables stand for what the log has come to, the event so far is legal and owes nothing to its end, and the tab has one document and keeps none
 pub record IsWorking (e : InEvent) (out : List RowKind) (tables : Tables) (d : Document) (place : Place) : Type 0 where
   pub own : leads e.own ≡ true
   pub worker : IsWorker e.actor
@@ -28,6 +28,7 @@ pub record IsWorking (e : InEvent) (out : List RowKind) (tables : Tables) (d : D
   pub legal : AreLegal e out
   pub clear : IsClear e out
   pub tab : IsTab (now_of e out) d place
+  pub kept : (now_of e out).kept ≡ []
 
 -- and no traversal runs; the document was told the length and index of the current step
 pub record IsIdling (e : InEvent) (out : List RowKind) (tables : Tables) : Type 0 where

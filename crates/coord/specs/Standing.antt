@@ -50,6 +50,7 @@ pub record StandsFor (s : Seen) (c : Coordinator) : Type 0 where
   pub lives : IsHome s c.home
   pub told : d.told ≡ Some (pair_at s (heads_for c.running s.history.current))
   pub unparked : c.queue.parked ≡ []
+  pub kept : s.kept ≡ []
 
 -- a tab that was just opened at an address: what its log has come to
 abbrev pub opened_at : List ℕ → Seen

@@ -23,3 +23,4 @@ pub mod Takings
 pub mod Lates
 pub mod Shows
 pub mod Quiets
+pub mod AtOnces
