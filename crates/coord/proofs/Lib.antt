@@ -27,3 +27,4 @@ pub mod MadeLaws
 pub mod TakeLaws
 pub mod WorkLaws
 pub mod Opened
+pub mod EventLaws

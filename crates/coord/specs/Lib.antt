@@ -9,3 +9,4 @@ pub mod Queueing
 pub mod Arriving
 pub mod Standing
 pub mod Delivering
+pub mod Keeping
