@@ -28,3 +28,4 @@ pub mod TakeLaws
 pub mod WorkLaws
 pub mod Opened
 pub mod EventLaws
+pub mod ActLaws
