@@ -29,3 +29,4 @@ pub mod WorkLaws
 pub mod Opened
 pub mod EventLaws
 pub mod ActLaws
+pub mod Rooms
