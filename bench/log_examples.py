@@ -83,6 +83,10 @@ SCENARIOS = [
          'session 1|open http://a.test/|frame 0 1|settle|load 1 auto http://a.test/f|settle|fragment 0 x|settle|push 1 t /f2|settle|go -2|begin 1|finish 1|frame 0 1|act 1|deliver 1|deliver 1|kill 1|settle|reload 0|settle|go 1|settle'),
         ('entry_of_a_frame_is_cleared', 'A push clears the entry that a running traversal has shown in a frame, and what the frame made is dropped.',
          'session 1|open http://a.test/|frame 0 1|frame 0 2|settle|load 1 auto http://a.test/f1|load 2 auto http://a.test/g|settle|load 1 auto http://a.test/f2|settle|go -1|settle|push 2 s /h|go 1|act 1|begin 1|finish 1|begin 1|finish 1|push 1 t /k|act 1|deliver 1|deliver 1|deliver 1|deliver 1|settle'),
+        ('back_before_it_was_shown', 'A push takes a frame back before the report that its other document was shown.',
+         'session 1|site http://b.test 2|open http://a.test/|frame 0 1|frame 0 2|settle|load 1 auto http://a.test/f1|load 2 auto http://a.test/g|settle|load 1 auto http://b.test/f2|settle|go -1|settle|push 2 s /h|go 1|act 1|deliver 1|begin 1|finish 1|deliver 1|begin 1|finish 1|deliver 1|settle'),
+        ('document_goes_during_a_traversal', 'A document that a running traversal has shown goes forward: it joins the queue, and is not held back.',
+         'session 1|open http://a.test/|frame 0 1|settle|load 1 auto http://a.test/f|settle|fragment 0 x|settle|push 1 t /f2|settle|go -2|begin 1|finish 1|docgo 0 1|act 1|deliver 1|deliver 1|settle'),
     ]),
     ('Loads', [
         ('later_load', 'A later load takes the place of the first, and one during a traversal is dropped.',
@@ -115,6 +119,10 @@ SCENARIOS = [
          'session 1|open http://a.test/|frame 0 1|settle|load 1 auto http://a.test/f|settle|load 1 auto http://a.test/g|settle|load 0 auto http://a.test/#x|go -1|settle'),
         ('fragment_above_a_load', 'A fragment of the top leaves the load of a frame alone.',
          'session 1|site http://b.test 2|open http://a.test/|frame 0 1|settle|load 1 auto http://b.test/f|load 0 auto http://a.test/#x|settle'),
+        ('fragment_as_a_push', 'A fragment navigation that is to be a push.',
+         'session 1|open http://a.test/|load 0 push http://a.test/#x|settle'),
+        ('fragment_beside_a_reload', 'A fragment of the top is applied beside the reload of a frame, which drops a load of that frame.',
+         'session 1|site http://b.test 2|open http://a.test/|frame 0 1|settle|load 1 auto http://b.test/f|settle|reload 1|load 0 auto http://a.test/#x|begin 1|finish 1|deliver 1|load 1 auto http://b.test/g'),
     ]),
     ('Frames', [
         ('frame_loads_and_fragment', 'Loads of a frame, a fragment of the top, and back four times.',
@@ -151,6 +159,8 @@ SCENARIOS = [
          'session 1|open http://a.test/|frame 0 1|settle|load 1 auto http://a.test/f|settle|load 1 auto http://a.test/f2|settle|fragment 0 x|settle|go -2|settle|go 2|begin 1|finish 1|deliver 1|remove 0 1|push 0 s /y|act 1|act 1|deliver 1|deliver 1|settle'),
         ('removal_and_push_of_two_processes', 'The same, in two processes.',
          'session 1|site http://b.test 2|open http://a.test/|frame 0 1|settle|load 1 auto http://b.test/f|settle|load 1 auto http://b.test/g|settle|push 0 s|settle|go -2|settle|go 2|begin 1|finish 1|deliver 1|begin 1|finish 1|deliver 1|remove 0 1|push 0 t|act 1|act 1|deliver 1|deliver 1|settle'),
+        ('push_of_a_removed_frame_behind_another', 'A push of a frame that was removed is dropped by the removal, behind another push.',
+         'session 1|site http://b.test 2|open http://a.test/|frame 0 1|settle|load 1 auto http://b.test/f|settle|push 1 s|act 2|remove 0 1|act 1|deliver 1|push 0 t|act 1|deliver 1|deliver 2'),
     ]),
     ('Reloads', [
         ('kept_frame_document_at_a_reload', 'A kept document of a frame outlives the reload of its parent.',
@@ -183,6 +193,12 @@ SCENARIOS = [
          'session 1|page about:blank 1|open http://a.test/|frame 0 2|settle|frame 0 1|settle|reload 0|settle'),
         ('load_dropped_before_its_answer', 'A load gives way to a later one before the document has answered.',
          'session 1|page http://a.test/1 1|open http://a.test/|load 0 auto http://a.test/1|settle|load 0 auto http://a.test/2|load 0 auto http://a.test/3|settle|answer 3 leave|settle'),
+        ('two_prompts_at_once', 'A death settles the questions of a load and of a traversal, and the user is asked for both.',
+         'session 1|site http://b.test 2|page http://a.test/1 1|page http://b.test/f 1|open http://a.test/|load 0 auto http://a.test/1|settle|frame 0 1|settle|load 1 auto http://b.test/f|settle|load 0 auto http://a.test/2|go -1|begin 1|finish 1|deliver 1|begin 1|finish 1|deliver 1|kill 2|deliver 2'),
+        ('hidden_frame_is_asked', 'A traversal hides a frame, and asks its document.',
+         'session 1|page http://a.test/f 1|open http://a.test/|load 0 auto http://a.test/1|settle|go -1|settle|frame 0 1|settle|load 1 auto http://a.test/f|settle|go 1'),
+        ('waiting_traversal_asks', 'A traversal waits for a reload, and asks as it begins.',
+         'session 1|page http://a.test/1 0|open http://a.test/|load 0 auto http://a.test/1|settle|reload 0|go -1|settle'),
     ]),
     ('Deaths', [
         ('void_order', 'An order to a dead incarnation is void.',
@@ -217,6 +233,10 @@ SCENARIOS = [
          'session 1|open http://a.test/|frame 0 1|settle|load 1 auto http://a.test/f|settle|fragment 0 x|settle|push 1 t /f2|settle|go -2|begin 1|finish 1|push 0 s /2|frame 0 2|act 1|act 1|deliver 1|deliver 1|deliver 1|kill 1|settle'),
         ('document_made_by_the_dead', 'A document is made into an incarnation whose death is not known.',
          'session 1|site http://b.test 2|open http://a.test/|load 0 auto http://b.test/1|kill 2|settle|load 0 auto http://b.test/2|settle'),
+        ('death_above_what_a_frame_made', 'A death takes the loaded document above a frame of another process, and what the frame made is dropped.',
+         'session 1|site http://b.test 2|open http://a.test/|load 0 auto http://b.test/|settle|frame 0 1|settle|load 1 auto http://a.test/f|settle|push 1 s|act 1|kill 2|deliver 2|deliver 1'),
+        ('death_above_a_sleeping_frame', 'A load puts a frame to sleep, and a death takes the loaded document: what the frame made is dropped by the load.',
+         'session 1|site http://b.test 2|open http://a.test/|frame 0 1|settle|push 1 s|act 1|load 0 auto http://b.test/|begin 2|finish 2|deliver 2|kill 2|deliver 2|deliver 1'),
     ]),
     ('Pending', [
         ('two_pushes_on_their_way', 'Two pushes are made, and the first one is delivered.',
@@ -690,7 +710,7 @@ CLAIMS = {**{field: ('IsLegal %s', 'holds.' + field, 'Not' + field.capitalize())
 # the part of the rules that a log keeps, though it breaks another
 KEPT = {'formed': 'IsFormed', 'once': 'EachRequestOnce', 'caused': 'OutcomesAreCaused', 'queued': 'KeepsQueueOrder', 'ordered': 'OrdersAreCaused',
         'checked': 'ChecksAreKept', 'settled': 'QuietIsSettled', 'loads': 'LoadsEndInTime', 'told': 'AtEachEvent (at_end ends_told)', 'stepped': 'AtEachEvent (at_end ends_stepped)',
-        'in_time': 'AtEachEvent goes_in_time'}
+        'in_time': 'AtEachEvent goes_in_time', 'placed': 'AtEachEvent (each_row (is_suitable_row {}))'}
 
 
 def sentences():
@@ -721,8 +741,10 @@ def told_apart(model, logs, played, texts):
             out.setdefault('Variants', []).append(legal_lemma(logs, name, sentence, lines, header, base))
             continue
         if field.startswith('keeps_'):
+            claim = KEPT[field[6:]]
+            settings, also = header_of(name, header) if '{}' in claim else ('', '')
             defined, log = logs.defined(name, sentence, lines, base)
-            out.setdefault('Variants', []).append(defined + lemma_of(name, field, '%s %s' % (KEPT[field[6:]], log), 'refl'))
+            out.setdefault('Variants', []).append(also + defined + lemma_of(name, field, '%s %s' % (claim.replace('{}', settings), log), 'refl'))
             continue
         claim, fact, home = CLAIMS[field]
         settings, also = header_of(name, header) if '{}' in claim else ('', '')

@@ -222,7 +222,7 @@ use Rattle.log_model.specs.declared.request.Request.TheVariants as requests
 use Rattle.log_model.specs.declared.row_kind.Actor.TheVariants as actors
 use Rattle.log_model.specs.declared.row_kind.LogRow.{LogRow}
 use Rattle.log_model.specs.declared.row_kind.RowKind.TheVariants as rows
-''' + imported('log_model/Events', ['at_end']) + imported('log_model/Formed') + imported('log_model/Legal', ['IsLegal', 'IsFormed', 'EachRequestOnce', 'OutcomesAreCaused', 'KeepsQueueOrder', 'OrdersAreCaused', 'ChecksAreKept', 'QuietIsSettled']) + imported('log_model/LoadsEndInTime', ['LoadsEndInTime']) + imported('log_model/ActsAtOnce', ['ActsAtOnce']) + '''use Rattle.log_model.specs.Suits.{Suits}
+''' + imported('log_model/Events', ['at_end', 'each_row']) + imported('log_model/Formed') + imported('log_model/Legal', ['IsLegal', 'IsFormed', 'EachRequestOnce', 'OutcomesAreCaused', 'KeepsQueueOrder', 'OrdersAreCaused', 'ChecksAreKept', 'QuietIsSettled']) + imported('log_model/LoadsEndInTime', ['LoadsEndInTime']) + imported('log_model/ActsAtOnce', ['ActsAtOnce']) + '''use Rattle.log_model.specs.Suits.{Suits, is_suitable_row}
 use Rattle.log_model.specs.declared.header.Header.{Header}
 use Rattle.log_examples.specs.Rows.{n, s, r, p, t, x, d, j, e, epoch, at, sent, made}
 use Rattle.log_examples.specs.Logs.{Event, by_start, by_ui, by_coord, by_proc, log_of, before, since, between, plain_settings}

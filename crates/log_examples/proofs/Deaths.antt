@@ -26,8 +26,7 @@ use Rattle.log_examples.specs.Rows.{n, s, r, p, t, x, d, j, e, epoch, sent, made
 use Rattle.log_examples.specs.Logs.{Event, by_start, by_ui, by_coord, by_proc, log_of, before, plain_settings}
 use Rattle.log_examples.proofs.Pushes.{one_push, push_beside_a_frame}
 use Rattle.log_examples.proofs.Interleavings.{held_back_push}
-use Rattle.log_examples.proofs.Loads.{fragment_above_a_load}
-use Rattle.log_examples.proofs.Frames.{load_while_frames_are_moved}
+use Rattle.log_examples.proofs.Loads.{two_processes, fragment_above_a_load, fragment_beside_a_reload}
 use Rattle.log_examples.proofs.Removals.{removal_and_push_of_two_processes}
 use Rattle.log_examples.proofs.Prompts.{frames_asked_in_order}
 
@@ -291,7 +290,7 @@ poke_of_a_dead_document_suits = record { opened = refl; placed = refl; kept = re
 -- A death of the document above drops what a frame made.
 abbrev pub death_above_a_frame : List Event
 death_above_a_frame =
-    before 20 load_while_frames_are_moved
+    before 20 fragment_beside_a_reload
     ++ by_ui (rows.Accepted (r 3) (Some (d 3)) (requests.Poke (n 1) (actions.Push (Some (codes "s")) (Some (codes "/g"))))) []
     ∷ by_proc 2 (made 2 3 3 2 (whats.Push (e 3 1) (Some (codes "s")) (codes "http://b.test/g"))) []
     ∷ by_ui (rows.Killed (p 1) (x 1)) []
@@ -585,3 +584,86 @@ document_made_by_the_dead_acts_at_once = record { told = refl; stepped = refl; i
 pub document_made_by_the_dead_suits : Suits document_made_by_the_dead_header (log_of document_made_by_the_dead)
 unfolding url_on_literals is_web is_blank_url judged judged_parse read_against address_of url_of resolved with_fragment base_of fragment_of origin_text origin_of has_same_base is_rewritable events_of each_event after_opening AtEachEvent is_numbered opens is_formed is_once is_caused is_queued is_ordered is_checked ends_settled loads_end ends_told ends_stepped goes_in_time
 document_made_by_the_dead_suits = record { opened = refl; placed = refl; kept = refl }
+
+-- A death takes the loaded document above a frame of another process, and what the frame made is dropped.
+abbrev pub death_above_what_a_frame_made : List Event
+death_above_what_a_frame_made =
+    before 11 two_processes
+    ++ by_ui (rows.Accepted (r 2) (Some (d 2)) (requests.Poke (n 0) (actions.AddFrame (n 1)))) []
+    ∷ by_proc 2 (made 2 2 2 2 (whats.AddFrame (n 1))) []
+    ∷ by_coord (rows.Delivered (p 2)) (rows.Applied (r 2) (changes.AddFrame (s 2) (n 1) (e 0 3) (s 3)) ∷ sent 4 2 0 3 (whys.Req (r 2)) (tasks.Populate (n 1) (s 3) (codes "about:blank") true) ∷ [])
+    ∷ by_proc 2 (rows.Taken (p 2) (j 4) true false) []
+    ∷ by_proc 2 (rows.Finished (p 2) (j 4) (outcomes.Populated None)) []
+    ∷ by_coord (rows.Delivered (p 2)) (sent 5 2 0 3 (whys.Req (r 2)) (tasks.Activate (e 0 3) (epoch 1) 2 1 None (codes "about:blank")) ∷ [])
+    ∷ by_proc 2 (rows.Taken (p 2) (j 5) true false) []
+    ∷ by_proc 2 (rows.Finished (p 2) (j 5) outcomes.Activated) []
+    ∷ by_coord (rows.Delivered (p 2)) []
+    ∷ by_ui (rows.Accepted (r 3) None (requests.Load (n 1) modes.Auto (codes "http://a.test/f"))) (rows.Started (r 3) None ∷ sent 6 1 0 4 (whys.Req (r 3)) (tasks.Populate (n 1) (s 4) (codes "http://a.test/f") false) ∷ [])
+    ∷ by_proc 1 (rows.Taken (p 1) (j 6) true false) []
+    ∷ by_proc 1 (rows.Finished (p 1) (j 6) (outcomes.Populated None)) []
+    ∷ by_coord (rows.Delivered (p 1)) (rows.Applied (r 3) (changes.Replace (n 1) (e 0 3) (e 0 4) (s 4) (codes "http://a.test/f") None) ∷ sent 7 2 0 3 (whys.Req (r 3)) tasks.Discard ∷ sent 8 1 0 4 (whys.Req (r 3)) (tasks.Activate (e 0 4) (epoch 2) 2 1 None (codes "http://a.test/f")) ∷ [])
+    ∷ by_proc 2 (rows.Taken (p 2) (j 7) true false) []
+    ∷ by_proc 2 (rows.Finished (p 2) (j 7) outcomes.Discarded) []
+    ∷ by_coord (rows.Delivered (p 2)) []
+    ∷ by_proc 1 (rows.Taken (p 1) (j 8) true false) []
+    ∷ by_proc 1 (rows.Finished (p 1) (j 8) outcomes.Activated) []
+    ∷ by_coord (rows.Delivered (p 1)) []
+    ∷ by_ui (rows.Accepted (r 4) (Some (d 4)) (requests.Poke (n 1) (actions.Push (Some (codes "s")) None))) []
+    ∷ by_proc 1 (made 1 4 4 2 (whats.Push (e 4 1) (Some (codes "s")) (codes "http://a.test/f"))) []
+    ∷ by_ui (rows.Killed (p 2) (x 1)) []
+    ∷ by_coord (rows.Delivered (p 2)) (sent 9 1 0 4 (whys.Death (x 1)) tasks.Discard ∷ [])
+    ∷ by_coord (rows.Delivered (p 1)) (rows.Dropped (r 4) (drops.Gone (x 1)) ∷ [])
+    ∷ []
+
+abbrev pub death_above_what_a_frame_made_header : Header
+death_above_what_a_frame_made_header = record { keep = 3; sites = record { origin = codes "http://b.test"; proc = p 2 } ∷ []; pages = []; first = codes "http://a.test/" }
+
+pub death_above_what_a_frame_made_is_legal : IsLegal (log_of death_above_what_a_frame_made)
+unfolding url_on_literals is_web is_blank_url judged judged_parse read_against address_of url_of resolved with_fragment base_of fragment_of origin_text origin_of has_same_base is_rewritable events_of each_event after_opening AtEachEvent is_numbered opens is_formed is_once is_caused is_queued is_ordered is_checked ends_settled loads_end ends_told ends_stepped goes_in_time
+death_above_what_a_frame_made_is_legal = record { opened = refl; numbered = refl; formed = refl; once = refl; caused = refl; queued = refl; ordered = refl; checked = refl; settled = refl }
+
+pub death_above_what_a_frame_made_ends_loads : LoadsEndInTime (log_of death_above_what_a_frame_made)
+unfolding url_on_literals is_web is_blank_url judged judged_parse read_against address_of url_of resolved with_fragment base_of fragment_of origin_text origin_of has_same_base is_rewritable events_of each_event after_opening AtEachEvent is_numbered opens is_formed is_once is_caused is_queued is_ordered is_checked ends_settled loads_end ends_told ends_stepped goes_in_time
+death_above_what_a_frame_made_ends_loads = refl
+
+pub death_above_what_a_frame_made_acts_at_once : ActsAtOnce (log_of death_above_what_a_frame_made)
+unfolding url_on_literals is_web is_blank_url judged judged_parse read_against address_of url_of resolved with_fragment base_of fragment_of origin_text origin_of has_same_base is_rewritable events_of each_event after_opening AtEachEvent is_numbered opens is_formed is_once is_caused is_queued is_ordered is_checked ends_settled loads_end ends_told ends_stepped goes_in_time
+death_above_what_a_frame_made_acts_at_once = record { told = refl; stepped = refl; in_time = refl }
+
+pub death_above_what_a_frame_made_suits : Suits death_above_what_a_frame_made_header (log_of death_above_what_a_frame_made)
+unfolding url_on_literals is_web is_blank_url judged judged_parse read_against address_of url_of resolved with_fragment base_of fragment_of origin_text origin_of has_same_base is_rewritable events_of each_event after_opening AtEachEvent is_numbered opens is_formed is_once is_caused is_queued is_ordered is_checked ends_settled loads_end ends_told ends_stepped goes_in_time
+death_above_what_a_frame_made_suits = record { opened = refl; placed = refl; kept = refl }
+
+-- A load puts a frame to sleep, and a death takes the loaded document: what the frame made is dropped by the load.
+abbrev pub death_above_a_sleeping_frame : List Event
+death_above_a_sleeping_frame =
+    before 10 push_beside_a_frame
+    ++ by_ui (rows.Accepted (r 2) (Some (d 2)) (requests.Poke (n 1) (actions.Push (Some (codes "s")) None))) []
+    ∷ by_proc 1 (made 1 2 2 1 (whats.Replace (e 0 2) (e 2 1) (Some (codes "s")) (codes "about:blank"))) []
+    ∷ by_ui (rows.Accepted (r 3) None (requests.Load (n 0) modes.Auto (codes "http://b.test/"))) (rows.Started (r 3) None ∷ sent 3 2 0 3 (whys.Req (r 3)) (tasks.Populate (n 0) (s 3) (codes "http://b.test/") false) ∷ [])
+    ∷ by_proc 2 (rows.Taken (p 2) (j 3) true false) []
+    ∷ by_proc 2 (rows.Finished (p 2) (j 3) (outcomes.Populated None)) []
+    ∷ by_coord (rows.Delivered (p 2)) (rows.Applied (r 3) (changes.Push (n 0) (e 0 3) (s 3) (codes "http://b.test/") None) ∷ sent 4 1 0 1 (whys.Req (r 3)) tasks.Freeze ∷ sent 5 1 0 2 (whys.Req (r 3)) tasks.Freeze ∷ sent 6 2 0 3 (whys.Req (r 3)) (tasks.Activate (e 0 3) (epoch 2) 2 1 None (codes "http://b.test/")) ∷ [])
+    ∷ by_ui (rows.Killed (p 2) (x 1)) []
+    ∷ by_coord (rows.Delivered (p 2)) []
+    ∷ by_coord (rows.Delivered (p 1)) (rows.Dropped (r 2) (drops.By (r 3)) ∷ [])
+    ∷ []
+
+abbrev pub death_above_a_sleeping_frame_header : Header
+death_above_a_sleeping_frame_header = record { keep = 3; sites = record { origin = codes "http://b.test"; proc = p 2 } ∷ []; pages = []; first = codes "http://a.test/" }
+
+pub death_above_a_sleeping_frame_is_legal : IsLegal (log_of death_above_a_sleeping_frame)
+unfolding url_on_literals is_web is_blank_url judged judged_parse read_against address_of url_of resolved with_fragment base_of fragment_of origin_text origin_of has_same_base is_rewritable events_of each_event after_opening AtEachEvent is_numbered opens is_formed is_once is_caused is_queued is_ordered is_checked ends_settled loads_end ends_told ends_stepped goes_in_time
+death_above_a_sleeping_frame_is_legal = record { opened = refl; numbered = refl; formed = refl; once = refl; caused = refl; queued = refl; ordered = refl; checked = refl; settled = refl }
+
+pub death_above_a_sleeping_frame_ends_loads : LoadsEndInTime (log_of death_above_a_sleeping_frame)
+unfolding url_on_literals is_web is_blank_url judged judged_parse read_against address_of url_of resolved with_fragment base_of fragment_of origin_text origin_of has_same_base is_rewritable events_of each_event after_opening AtEachEvent is_numbered opens is_formed is_once is_caused is_queued is_ordered is_checked ends_settled loads_end ends_told ends_stepped goes_in_time
+death_above_a_sleeping_frame_ends_loads = refl
+
+pub death_above_a_sleeping_frame_acts_at_once : ActsAtOnce (log_of death_above_a_sleeping_frame)
+unfolding url_on_literals is_web is_blank_url judged judged_parse read_against address_of url_of resolved with_fragment base_of fragment_of origin_text origin_of has_same_base is_rewritable events_of each_event after_opening AtEachEvent is_numbered opens is_formed is_once is_caused is_queued is_ordered is_checked ends_settled loads_end ends_told ends_stepped goes_in_time
+death_above_a_sleeping_frame_acts_at_once = record { told = refl; stepped = refl; in_time = refl }
+
+pub death_above_a_sleeping_frame_suits : Suits death_above_a_sleeping_frame_header (log_of death_above_a_sleeping_frame)
+unfolding url_on_literals is_web is_blank_url judged judged_parse read_against address_of url_of resolved with_fragment base_of fragment_of origin_text origin_of has_same_base is_rewritable events_of each_event after_opening AtEachEvent is_numbered opens is_formed is_once is_caused is_queued is_ordered is_checked ends_settled loads_end ends_told ends_stepped goes_in_time
+death_above_a_sleeping_frame_suits = record { opened = refl; placed = refl; kept = refl }

@@ -25,7 +25,7 @@ use Rattle.log_examples.specs.Rows.{n, s, r, p, t, d, j, e, epoch, sent, made}
 use Rattle.log_examples.specs.Logs.{Event, by_start, by_ui, by_coord, by_proc, log_of, before, plain_settings}
 use Rattle.log_examples.proofs.Pushes.{push_beside_a_frame, push_in_an_initial_document}
 use Rattle.log_examples.proofs.Interleavings.{held_back_push}
-use Rattle.log_examples.proofs.Loads.{push_over_a_kept_document, fragment_beside_a_traversal, fragment_above_a_load}
+use Rattle.log_examples.proofs.Loads.{push_over_a_kept_document, fragment_beside_a_traversal, fragment_beside_a_reload}
 
 -- Loads of a frame, a fragment of the top, and back four times.
 abbrev pub frame_loads_and_fragment : List Event
@@ -431,17 +431,8 @@ current_step_without_entry_suits = record { opened = refl; placed = refl; kept =
 -- A load while a traversal moves another navigable.
 abbrev pub load_while_frames_are_moved : List Event
 load_while_frames_are_moved =
-    before 11 fragment_above_a_load
-    ++ by_proc 2 (rows.Taken (p 2) (j 3) true false) []
-    ∷ by_proc 2 (rows.Finished (p 2) (j 3) (outcomes.Populated None)) []
-    ∷ by_coord (rows.Delivered (p 2)) (rows.Applied (r 2) (changes.Replace (n 1) (e 0 2) (e 0 3) (s 3) (codes "http://b.test/f") None) ∷ sent 4 1 0 2 (whys.Req (r 2)) tasks.Discard ∷ sent 5 2 0 3 (whys.Req (r 2)) (tasks.Activate (e 0 3) (epoch 2) 1 0 None (codes "http://b.test/f")) ∷ [])
-    ∷ by_proc 1 (rows.Taken (p 1) (j 4) true false) []
-    ∷ by_proc 1 (rows.Finished (p 1) (j 4) outcomes.Discarded) []
-    ∷ by_coord (rows.Delivered (p 1)) []
-    ∷ by_proc 2 (rows.Taken (p 2) (j 5) true false) []
-    ∷ by_proc 2 (rows.Finished (p 2) (j 5) outcomes.Activated) []
-    ∷ by_coord (rows.Delivered (p 2)) []
-    ∷ by_ui (rows.Accepted (r 3) (Some (d 1)) (requests.Poke (n 0) (actions.Push (Some (codes "s")) None))) []
+    before 20 fragment_beside_a_reload
+    ++ by_ui (rows.Accepted (r 3) (Some (d 1)) (requests.Poke (n 0) (actions.Push (Some (codes "s")) None))) []
     ∷ by_proc 1 (made 1 3 1 1 (whats.Push (e 1 1) (Some (codes "s")) (codes "http://a.test/"))) []
     ∷ by_coord (rows.Delivered (p 1)) (rows.Applied (r 3) (changes.Push (n 0) (e 1 1) (s 1) (codes "http://a.test/") (Some (codes "s"))) ∷ sent 6 1 0 1 (whys.Req (r 3)) (tasks.Update 2 1) ∷ sent 7 2 0 3 (whys.Req (r 3)) (tasks.Update 2 1) ∷ [])
     ∷ by_proc 2 (rows.Taken (p 2) (j 7) true false) []

@@ -509,3 +509,114 @@ entry_of_a_frame_is_cleared_acts_at_once = record { told = refl; stepped = refl;
 pub entry_of_a_frame_is_cleared_suits : Suits plain_settings (log_of entry_of_a_frame_is_cleared)
 unfolding url_on_literals is_web is_blank_url judged judged_parse read_against address_of url_of resolved with_fragment base_of fragment_of origin_text origin_of has_same_base is_rewritable events_of each_event after_opening AtEachEvent is_numbered opens is_formed is_once is_caused is_queued is_ordered is_checked ends_settled loads_end ends_told ends_stepped goes_in_time
 entry_of_a_frame_is_cleared_suits = record { opened = refl; placed = refl; kept = refl }
+
+-- A push takes a frame back before the report that its other document was shown.
+abbrev pub back_before_it_was_shown : List Event
+back_before_it_was_shown =
+    before 39 push_beside_a_running_traversal
+    ++ by_ui (rows.Accepted (r 5) None (requests.Load (n 1) modes.Auto (codes "http://b.test/f2"))) (rows.Started (r 5) None ∷ sent 11 2 0 6 (whys.Req (r 5)) (tasks.Populate (n 1) (s 6) (codes "http://b.test/f2") false) ∷ [])
+    ∷ by_proc 2 (rows.Taken (p 2) (j 11) true false) []
+    ∷ by_proc 2 (rows.Finished (p 2) (j 11) (outcomes.Populated None)) []
+    ∷ by_coord (rows.Delivered (p 2)) (rows.Applied (r 5) (changes.Push (n 1) (e 0 6) (s 6) (codes "http://b.test/f2") None) ∷ sent 12 1 0 4 (whys.Req (r 5)) tasks.Freeze ∷ sent 13 2 0 6 (whys.Req (r 5)) (tasks.Activate (e 0 6) (epoch 3) 2 1 None (codes "http://b.test/f2")) ∷ sent 14 1 0 1 (whys.Req (r 5)) (tasks.Update 2 1) ∷ sent 15 1 0 5 (whys.Req (r 5)) (tasks.Update 2 1) ∷ [])
+    ∷ by_proc 1 (rows.Taken (p 1) (j 12) true false) []
+    ∷ by_proc 1 (rows.Finished (p 1) (j 12) outcomes.Frozen) []
+    ∷ by_coord (rows.Delivered (p 1)) []
+    ∷ by_proc 2 (rows.Taken (p 2) (j 13) true false) []
+    ∷ by_proc 2 (rows.Finished (p 2) (j 13) outcomes.Activated) []
+    ∷ by_coord (rows.Delivered (p 2)) []
+    ∷ by_proc 1 (rows.Taken (p 1) (j 14) true false) []
+    ∷ by_proc 1 (rows.Finished (p 1) (j 14) outcomes.Updated) []
+    ∷ by_coord (rows.Delivered (p 1)) []
+    ∷ by_proc 1 (rows.Taken (p 1) (j 15) true false) []
+    ∷ by_proc 1 (rows.Finished (p 1) (j 15) outcomes.Updated) []
+    ∷ by_coord (rows.Delivered (p 1)) []
+    ∷ by_ui (rows.Accepted (r 6) None (requests.Go (negsuc 0))) (rows.Started (r 6) (Some (t 0)) ∷ sent 16 2 0 6 (whys.Req (r 6)) tasks.Freeze ∷ sent 17 1 0 4 (whys.Req (r 6)) (tasks.Activate (e 0 4) (epoch 4) 2 0 None (codes "http://a.test/f1")) ∷ [])
+    ∷ by_proc 1 (rows.Taken (p 1) (j 17) true false) []
+    ∷ by_proc 1 (rows.Finished (p 1) (j 17) outcomes.Activated) []
+    ∷ by_coord (rows.Delivered (p 1)) (rows.Applied (r 6) (changes.Traverse (t 0)) ∷ sent 18 1 0 1 (whys.Req (r 6)) (tasks.Update 2 0) ∷ sent 19 1 0 5 (whys.Req (r 6)) (tasks.Update 2 0) ∷ [])
+    ∷ by_proc 2 (rows.Taken (p 2) (j 16) true false) []
+    ∷ by_proc 2 (rows.Finished (p 2) (j 16) outcomes.Frozen) []
+    ∷ by_coord (rows.Delivered (p 2)) []
+    ∷ by_proc 1 (rows.Taken (p 1) (j 18) true false) []
+    ∷ by_proc 1 (rows.Finished (p 1) (j 18) outcomes.Updated) []
+    ∷ by_coord (rows.Delivered (p 1)) []
+    ∷ by_proc 1 (rows.Taken (p 1) (j 19) true false) []
+    ∷ by_proc 1 (rows.Finished (p 1) (j 19) outcomes.Updated) []
+    ∷ by_coord (rows.Delivered (p 1)) []
+    ∷ by_ui (rows.Accepted (r 7) (Some (d 5)) (requests.Poke (n 2) (actions.Push (Some (codes "s")) (Some (codes "/h"))))) []
+    ∷ by_ui (rows.Accepted (r 8) None (requests.Go (pos 1))) (rows.Started (r 8) (Some (t 1)) ∷ sent 20 1 0 4 (whys.Req (r 8)) tasks.Freeze ∷ sent 21 2 0 6 (whys.Req (r 8)) (tasks.Activate (e 0 6) (epoch 5) 2 1 None (codes "http://b.test/f2")) ∷ [])
+    ∷ by_proc 1 (made 1 7 5 2 (whats.Push (e 5 1) (Some (codes "s")) (codes "http://a.test/h"))) []
+    ∷ by_coord (rows.Delivered (p 1)) (rows.Applied (r 7) (changes.Push (n 2) (e 5 1) (s 5) (codes "http://a.test/h") (Some (codes "s"))) ∷ sent 22 2 0 6 (whys.Req (r 7)) tasks.Discard ∷ sent 23 1 0 4 (whys.Req (r 8)) (tasks.Activate (e 0 4) (epoch 6) 2 1 None (codes "http://a.test/f1")) ∷ sent 24 1 0 1 (whys.Req (r 7)) (tasks.Update 2 1) ∷ sent 25 1 0 5 (whys.Req (r 7)) (tasks.Update 2 1) ∷ [])
+    ∷ by_proc 1 (rows.Taken (p 1) (j 20) true false) []
+    ∷ by_proc 1 (rows.Finished (p 1) (j 20) outcomes.Frozen) []
+    ∷ by_coord (rows.Delivered (p 1)) []
+    ∷ by_proc 1 (rows.Taken (p 1) (j 23) true false) []
+    ∷ by_proc 1 (rows.Finished (p 1) (j 23) outcomes.Activated) []
+    ∷ by_coord (rows.Delivered (p 1)) (rows.Applied (r 8) (changes.Traverse (t 1)) ∷ [])
+    ∷ by_proc 1 (rows.Taken (p 1) (j 24) true false) []
+    ∷ by_proc 1 (rows.Finished (p 1) (j 24) outcomes.Updated) []
+    ∷ by_coord (rows.Delivered (p 1)) []
+    ∷ by_proc 2 (rows.Taken (p 2) (j 21) true false) []
+    ∷ by_proc 2 (rows.Finished (p 2) (j 21) outcomes.Activated) []
+    ∷ by_coord (rows.Delivered (p 2)) []
+    ∷ by_proc 1 (rows.Taken (p 1) (j 25) true false) []
+    ∷ by_proc 1 (rows.Finished (p 1) (j 25) outcomes.Updated) []
+    ∷ by_coord (rows.Delivered (p 1)) []
+    ∷ by_proc 2 (rows.Taken (p 2) (j 22) true false) []
+    ∷ by_proc 2 (rows.Finished (p 2) (j 22) outcomes.Discarded) []
+    ∷ by_coord (rows.Delivered (p 2)) []
+    ∷ []
+
+abbrev pub back_before_it_was_shown_header : Header
+back_before_it_was_shown_header = record { keep = 3; sites = record { origin = codes "http://b.test"; proc = p 2 } ∷ []; pages = []; first = codes "http://a.test/" }
+
+pub back_before_it_was_shown_is_legal : IsLegal (log_of back_before_it_was_shown)
+unfolding url_on_literals is_web is_blank_url judged judged_parse read_against address_of url_of resolved with_fragment base_of fragment_of origin_text origin_of has_same_base is_rewritable events_of each_event after_opening AtEachEvent is_numbered opens is_formed is_once is_caused is_queued is_ordered is_checked ends_settled loads_end ends_told ends_stepped goes_in_time
+back_before_it_was_shown_is_legal = record { opened = refl; numbered = refl; formed = refl; once = refl; caused = refl; queued = refl; ordered = refl; checked = refl; settled = refl }
+
+pub back_before_it_was_shown_ends_loads : LoadsEndInTime (log_of back_before_it_was_shown)
+unfolding url_on_literals is_web is_blank_url judged judged_parse read_against address_of url_of resolved with_fragment base_of fragment_of origin_text origin_of has_same_base is_rewritable events_of each_event after_opening AtEachEvent is_numbered opens is_formed is_once is_caused is_queued is_ordered is_checked ends_settled loads_end ends_told ends_stepped goes_in_time
+back_before_it_was_shown_ends_loads = refl
+
+pub back_before_it_was_shown_acts_at_once : ActsAtOnce (log_of back_before_it_was_shown)
+unfolding url_on_literals is_web is_blank_url judged judged_parse read_against address_of url_of resolved with_fragment base_of fragment_of origin_text origin_of has_same_base is_rewritable events_of each_event after_opening AtEachEvent is_numbered opens is_formed is_once is_caused is_queued is_ordered is_checked ends_settled loads_end ends_told ends_stepped goes_in_time
+back_before_it_was_shown_acts_at_once = record { told = refl; stepped = refl; in_time = refl }
+
+pub back_before_it_was_shown_suits : Suits back_before_it_was_shown_header (log_of back_before_it_was_shown)
+unfolding url_on_literals is_web is_blank_url judged judged_parse read_against address_of url_of resolved with_fragment base_of fragment_of origin_text origin_of has_same_base is_rewritable events_of each_event after_opening AtEachEvent is_numbered opens is_formed is_once is_caused is_queued is_ordered is_checked ends_settled loads_end ends_told ends_stepped goes_in_time
+back_before_it_was_shown_suits = record { opened = refl; placed = refl; kept = refl }
+
+-- A document that a running traversal has shown goes forward: it joins the queue, and is not held back.
+abbrev pub document_goes_during_a_traversal : List Event
+document_goes_during_a_traversal =
+    before 41 held_back_push
+    ++ by_ui (rows.Accepted (r 6) (Some (d 1)) (requests.Poke (n 0) (actions.Go (pos 1)))) []
+    ∷ by_proc 1 (made 1 6 1 2 (whats.Go (pos 1))) []
+    ∷ by_coord (rows.Delivered (p 1)) []
+    ∷ by_coord (rows.Delivered (p 1)) []
+    ∷ by_proc 1 (rows.Taken (p 1) (j 11) true false) []
+    ∷ by_proc 1 (rows.Finished (p 1) (j 11) outcomes.Activated) []
+    ∷ by_coord (rows.Delivered (p 1)) (rows.Applied (r 5) (changes.Traverse (t 0)) ∷ rows.Started (r 6) (Some (t 1)) ∷ sent 12 1 0 1 (whys.Req (r 6)) (tasks.Activate (e 1 1) (epoch 3) 3 1 None (codes "http://a.test/#x")) ∷ [])
+    ∷ by_proc 1 (rows.Taken (p 1) (j 12) true false) []
+    ∷ by_proc 1 (rows.Finished (p 1) (j 12) outcomes.Activated) []
+    ∷ by_coord (rows.Delivered (p 1)) (rows.Applied (r 6) (changes.Traverse (t 1)) ∷ sent 13 1 0 3 (whys.Req (r 6)) (tasks.Update 3 1) ∷ [])
+    ∷ by_proc 1 (rows.Taken (p 1) (j 13) true false) []
+    ∷ by_proc 1 (rows.Finished (p 1) (j 13) outcomes.Updated) []
+    ∷ by_coord (rows.Delivered (p 1)) []
+    ∷ []
+
+pub document_goes_during_a_traversal_is_legal : IsLegal (log_of document_goes_during_a_traversal)
+unfolding url_on_literals is_web is_blank_url judged judged_parse read_against address_of url_of resolved with_fragment base_of fragment_of origin_text origin_of has_same_base is_rewritable events_of each_event after_opening AtEachEvent is_numbered opens is_formed is_once is_caused is_queued is_ordered is_checked ends_settled loads_end ends_told ends_stepped goes_in_time
+document_goes_during_a_traversal_is_legal = record { opened = refl; numbered = refl; formed = refl; once = refl; caused = refl; queued = refl; ordered = refl; checked = refl; settled = refl }
+
+pub document_goes_during_a_traversal_ends_loads : LoadsEndInTime (log_of document_goes_during_a_traversal)
+unfolding url_on_literals is_web is_blank_url judged judged_parse read_against address_of url_of resolved with_fragment base_of fragment_of origin_text origin_of has_same_base is_rewritable events_of each_event after_opening AtEachEvent is_numbered opens is_formed is_once is_caused is_queued is_ordered is_checked ends_settled loads_end ends_told ends_stepped goes_in_time
+document_goes_during_a_traversal_ends_loads = refl
+
+pub document_goes_during_a_traversal_acts_at_once : ActsAtOnce (log_of document_goes_during_a_traversal)
+unfolding url_on_literals is_web is_blank_url judged judged_parse read_against address_of url_of resolved with_fragment base_of fragment_of origin_text origin_of has_same_base is_rewritable events_of each_event after_opening AtEachEvent is_numbered opens is_formed is_once is_caused is_queued is_ordered is_checked ends_settled loads_end ends_told ends_stepped goes_in_time
+document_goes_during_a_traversal_acts_at_once = record { told = refl; stepped = refl; in_time = refl }
+
+pub document_goes_during_a_traversal_suits : Suits plain_settings (log_of document_goes_during_a_traversal)
+unfolding url_on_literals is_web is_blank_url judged judged_parse read_against address_of url_of resolved with_fragment base_of fragment_of origin_text origin_of has_same_base is_rewritable events_of each_event after_opening AtEachEvent is_numbered opens is_formed is_once is_caused is_queued is_ordered is_checked ends_settled loads_end ends_told ends_stepped goes_in_time
+document_goes_during_a_traversal_suits = record { opened = refl; placed = refl; kept = refl }

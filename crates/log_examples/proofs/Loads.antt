@@ -626,3 +626,72 @@ fragment_above_a_load_acts_at_once = record { told = refl; stepped = refl; in_ti
 pub fragment_above_a_load_suits : Suits fragment_above_a_load_header (log_of fragment_above_a_load)
 unfolding url_on_literals is_web is_blank_url judged judged_parse read_against address_of url_of resolved with_fragment base_of fragment_of origin_text origin_of has_same_base is_rewritable events_of each_event after_opening AtEachEvent is_numbered opens is_formed is_once is_caused is_queued is_ordered is_checked ends_settled loads_end ends_told ends_stepped goes_in_time
 fragment_above_a_load_suits = record { opened = refl; placed = refl; kept = refl }
+
+-- A fragment navigation that is to be a push.
+abbrev pub fragment_as_a_push : List Event
+fragment_as_a_push =
+    by_start (rows.Opened (e 0 1) (s 1) (d 1) (p 1) None (codes "http://a.test/")) []
+    ∷ by_ui (rows.Accepted (r 1) None (requests.Load (n 0) modes.Push (codes "http://a.test/#x"))) (sent 1 1 0 1 (whys.Req (r 1)) (tasks.DoFragment (r 1) modes.Push (codes "http://a.test/#x")) ∷ [])
+    ∷ by_proc 1 (rows.Taken (p 1) (j 1) true false) []
+    ∷ by_proc 1 (rows.Finished (p 1) (j 1) outcomes.Fragmented) (made 1 1 1 1 (whats.Push (e 1 1) None (codes "http://a.test/#x")) ∷ [])
+    ∷ by_coord (rows.Delivered (p 1)) (rows.Applied (r 1) (changes.Push (n 0) (e 1 1) (s 1) (codes "http://a.test/#x") None) ∷ sent 2 1 0 1 (whys.Req (r 1)) (tasks.Update 2 1) ∷ [])
+    ∷ by_proc 1 (rows.Taken (p 1) (j 2) true false) []
+    ∷ by_proc 1 (rows.Finished (p 1) (j 2) outcomes.Updated) []
+    ∷ by_coord (rows.Delivered (p 1)) []
+    ∷ []
+
+pub fragment_as_a_push_is_legal : IsLegal (log_of fragment_as_a_push)
+unfolding url_on_literals is_web is_blank_url judged judged_parse read_against address_of url_of resolved with_fragment base_of fragment_of origin_text origin_of has_same_base is_rewritable events_of each_event after_opening AtEachEvent is_numbered opens is_formed is_once is_caused is_queued is_ordered is_checked ends_settled loads_end ends_told ends_stepped goes_in_time
+fragment_as_a_push_is_legal = record { opened = refl; numbered = refl; formed = refl; once = refl; caused = refl; queued = refl; ordered = refl; checked = refl; settled = refl }
+
+pub fragment_as_a_push_ends_loads : LoadsEndInTime (log_of fragment_as_a_push)
+unfolding url_on_literals is_web is_blank_url judged judged_parse read_against address_of url_of resolved with_fragment base_of fragment_of origin_text origin_of has_same_base is_rewritable events_of each_event after_opening AtEachEvent is_numbered opens is_formed is_once is_caused is_queued is_ordered is_checked ends_settled loads_end ends_told ends_stepped goes_in_time
+fragment_as_a_push_ends_loads = refl
+
+pub fragment_as_a_push_acts_at_once : ActsAtOnce (log_of fragment_as_a_push)
+unfolding url_on_literals is_web is_blank_url judged judged_parse read_against address_of url_of resolved with_fragment base_of fragment_of origin_text origin_of has_same_base is_rewritable events_of each_event after_opening AtEachEvent is_numbered opens is_formed is_once is_caused is_queued is_ordered is_checked ends_settled loads_end ends_told ends_stepped goes_in_time
+fragment_as_a_push_acts_at_once = record { told = refl; stepped = refl; in_time = refl }
+
+pub fragment_as_a_push_suits : Suits plain_settings (log_of fragment_as_a_push)
+unfolding url_on_literals is_web is_blank_url judged judged_parse read_against address_of url_of resolved with_fragment base_of fragment_of origin_text origin_of has_same_base is_rewritable events_of each_event after_opening AtEachEvent is_numbered opens is_formed is_once is_caused is_queued is_ordered is_checked ends_settled loads_end ends_told ends_stepped goes_in_time
+fragment_as_a_push_suits = record { opened = refl; placed = refl; kept = refl }
+
+-- A fragment of the top is applied beside the reload of a frame, which drops a load of that frame.
+abbrev pub fragment_beside_a_reload : List Event
+fragment_beside_a_reload =
+    before 11 fragment_above_a_load
+    ++ by_proc 2 (rows.Taken (p 2) (j 3) true false) []
+    ∷ by_proc 2 (rows.Finished (p 2) (j 3) (outcomes.Populated None)) []
+    ∷ by_coord (rows.Delivered (p 2)) (rows.Applied (r 2) (changes.Replace (n 1) (e 0 2) (e 0 3) (s 3) (codes "http://b.test/f") None) ∷ sent 4 1 0 2 (whys.Req (r 2)) tasks.Discard ∷ sent 5 2 0 3 (whys.Req (r 2)) (tasks.Activate (e 0 3) (epoch 2) 1 0 None (codes "http://b.test/f")) ∷ [])
+    ∷ by_proc 1 (rows.Taken (p 1) (j 4) true false) []
+    ∷ by_proc 1 (rows.Finished (p 1) (j 4) outcomes.Discarded) []
+    ∷ by_coord (rows.Delivered (p 1)) []
+    ∷ by_proc 2 (rows.Taken (p 2) (j 5) true false) []
+    ∷ by_proc 2 (rows.Finished (p 2) (j 5) outcomes.Activated) []
+    ∷ by_coord (rows.Delivered (p 2)) []
+    ∷ by_ui (rows.Accepted (r 3) None (requests.Reload (n 1))) (rows.Started (r 3) None ∷ rows.Applied (r 3) (changes.Reload (n 1)) ∷ sent 6 2 0 4 (whys.Req (r 3)) (tasks.Populate (n 1) (s 3) (codes "http://b.test/f") false) ∷ [])
+    ∷ by_ui (rows.Accepted (r 4) None (requests.Load (n 0) modes.Auto (codes "http://a.test/#x"))) (sent 7 1 0 1 (whys.Req (r 4)) (tasks.DoFragment (r 4) modes.Auto (codes "http://a.test/#x")) ∷ [])
+    ∷ by_proc 1 (rows.Taken (p 1) (j 7) true false) []
+    ∷ by_proc 1 (rows.Finished (p 1) (j 7) outcomes.Fragmented) (made 1 4 1 1 (whats.Push (e 1 1) None (codes "http://a.test/#x")) ∷ [])
+    ∷ by_coord (rows.Delivered (p 1)) (rows.Applied (r 4) (changes.Push (n 0) (e 1 1) (s 1) (codes "http://a.test/#x") None) ∷ sent 8 1 0 1 (whys.Req (r 4)) (tasks.Update 2 1) ∷ sent 9 2 0 3 (whys.Req (r 4)) (tasks.Update 2 1) ∷ [])
+    ∷ by_ui (rows.Accepted (r 5) None (requests.Load (n 1) modes.Auto (codes "http://b.test/g"))) (rows.Dropped (r 5) (drops.By (r 3)) ∷ [])
+    ∷ []
+
+abbrev pub fragment_beside_a_reload_header : Header
+fragment_beside_a_reload_header = record { keep = 3; sites = record { origin = codes "http://b.test"; proc = p 2 } ∷ []; pages = []; first = codes "http://a.test/" }
+
+pub fragment_beside_a_reload_is_legal : IsLegal (log_of fragment_beside_a_reload)
+unfolding url_on_literals is_web is_blank_url judged judged_parse read_against address_of url_of resolved with_fragment base_of fragment_of origin_text origin_of has_same_base is_rewritable events_of each_event after_opening AtEachEvent is_numbered opens is_formed is_once is_caused is_queued is_ordered is_checked ends_settled loads_end ends_told ends_stepped goes_in_time
+fragment_beside_a_reload_is_legal = record { opened = refl; numbered = refl; formed = refl; once = refl; caused = refl; queued = refl; ordered = refl; checked = refl; settled = refl }
+
+pub fragment_beside_a_reload_ends_loads : LoadsEndInTime (log_of fragment_beside_a_reload)
+unfolding url_on_literals is_web is_blank_url judged judged_parse read_against address_of url_of resolved with_fragment base_of fragment_of origin_text origin_of has_same_base is_rewritable events_of each_event after_opening AtEachEvent is_numbered opens is_formed is_once is_caused is_queued is_ordered is_checked ends_settled loads_end ends_told ends_stepped goes_in_time
+fragment_beside_a_reload_ends_loads = refl
+
+pub fragment_beside_a_reload_acts_at_once : ActsAtOnce (log_of fragment_beside_a_reload)
+unfolding url_on_literals is_web is_blank_url judged judged_parse read_against address_of url_of resolved with_fragment base_of fragment_of origin_text origin_of has_same_base is_rewritable events_of each_event after_opening AtEachEvent is_numbered opens is_formed is_once is_caused is_queued is_ordered is_checked ends_settled loads_end ends_told ends_stepped goes_in_time
+fragment_beside_a_reload_acts_at_once = record { told = refl; stepped = refl; in_time = refl }
+
+pub fragment_beside_a_reload_suits : Suits fragment_beside_a_reload_header (log_of fragment_beside_a_reload)
+unfolding url_on_literals is_web is_blank_url judged judged_parse read_against address_of url_of resolved with_fragment base_of fragment_of origin_text origin_of has_same_base is_rewritable events_of each_event after_opening AtEachEvent is_numbered opens is_formed is_once is_caused is_queued is_ordered is_checked ends_settled loads_end ends_told ends_stepped goes_in_time
+fragment_beside_a_reload_suits = record { opened = refl; placed = refl; kept = refl }

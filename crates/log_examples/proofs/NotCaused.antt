@@ -27,12 +27,12 @@ use Rattle.log_examples.specs.Logs.{Event, by_start, by_ui, by_coord, by_proc, l
 use Rattle.log_examples.proofs.Pushes.{push_beside_a_frame}
 use Rattle.log_examples.proofs.Traversals.{push_after_going_back, document_goes_back, push_under_an_old_epoch}
 use Rattle.log_examples.proofs.Interleavings.{push_beside_a_running_traversal}
-use Rattle.log_examples.proofs.Loads.{later_load, two_processes, load_ended_by_a_reload}
+use Rattle.log_examples.proofs.Loads.{later_load, two_processes, load_ended_by_a_reload, fragment_above_a_load, fragment_beside_a_reload}
 use Rattle.log_examples.proofs.Frames.{taken_number, frame_at_a_later_step, replace_above_a_load, load_of_a_new_frame}
-use Rattle.log_examples.proofs.Removals.{removed_frame, push_of_a_removed_frame, removal_and_push}
+use Rattle.log_examples.proofs.Removals.{removed_frame, push_of_a_removed_frame, removal_and_push, removal_and_push_of_two_processes}
 use Rattle.log_examples.proofs.Reloads.{kept_frame_document_at_an_eviction}
-use Rattle.log_examples.proofs.Prompts.{stay, load_behind_an_answer}
-use Rattle.log_examples.proofs.Deaths.{one_of_two_processes_dies, questions_of_the_dead, load_below_a_lost_navigable, reload_whose_target_changes, poke_of_a_dead_document}
+use Rattle.log_examples.proofs.Prompts.{stay, one_prompt_for_two, load_behind_an_answer, frames_asked_in_order}
+use Rattle.log_examples.proofs.Deaths.{one_of_two_processes_dies, questions_of_the_dead, load_below_a_lost_navigable, reload_whose_target_changes, poke_of_a_dead_document, death_of_a_fragment_order, death_above_what_a_frame_made}
 use Rattle.log_examples.proofs.Pending.{reload_of_a_removed_frame}
 
 -- A load is dropped by a request that has ended.
@@ -693,3 +693,237 @@ traversal_destroyed =
 pub traversal_destroyed_is_refused : IsLegal (log_of traversal_destroyed) → ⊥
 unfolding url_on_literals is_web is_blank_url judged judged_parse read_against address_of url_of resolved with_fragment base_of fragment_of origin_text origin_of has_same_base is_rewritable events_of each_event after_opening AtEachEvent is_numbered opens is_formed is_once is_caused is_queued is_ordered is_checked ends_settled loads_end ends_told ends_stepped goes_in_time
 traversal_destroyed_is_refused holds = false≢true holds.caused
+
+-- The removal of a frame of its document is refused. denial_at_delivery: by_what: were `holds (λ (d : Document). holds (λ (owner : StateId). owner.0 == d.state.0) (owner_of nav s.history.rows)) (document_of s made.doc)` never so, `caused` would hold.
+abbrev pub removal_refused : List Event
+removal_refused =
+    before 11 push_of_a_removed_frame
+    ++ by_proc 1 (made 1 2 1 1 (whats.RemoveFrame (n 1))) []
+    ∷ by_coord (rows.Delivered (p 1)) (rows.Refused (r 2) denials.NoNavigable ∷ [])
+    ∷ []
+
+pub removal_refused_is_refused : IsLegal (log_of removal_refused) → ⊥
+unfolding url_on_literals is_web is_blank_url judged judged_parse read_against address_of url_of resolved with_fragment base_of fragment_of origin_text origin_of has_same_base is_rewritable events_of each_event after_opening AtEachEvent is_numbered opens is_formed is_once is_caused is_queued is_ordered is_checked ends_settled loads_end ends_told ends_stepped goes_in_time
+removal_refused_is_refused holds = false≢true holds.caused
+
+-- A load of a new frame is dropped by a traversal that still asks. is_passed_traversal: without conjunct `has_passed s r`, `caused` would hold.
+abbrev pub dropped_by_a_traversal_that_asks : List Event
+dropped_by_a_traversal_that_asks =
+    before 11 one_prompt_for_two
+    ++ by_ui (rows.Accepted (r 2) None (requests.Go (negsuc 0))) (rows.Started (r 2) (Some (t 0)) ∷ sent 4 1 0 2 (whys.Req (r 2)) (tasks.Ask 1 leavings.Traverse) ∷ [])
+    ∷ by_ui (rows.Accepted (r 3) (Some (d 2)) (requests.Poke (n 0) (actions.AddFrame (n 1)))) []
+    ∷ by_proc 1 (made 1 3 2 2 (whats.AddFrame (n 1))) []
+    ∷ by_coord (rows.Delivered (p 1)) (rows.Applied (r 3) (changes.AddFrame (s 2) (n 1) (e 0 3) (s 3)) ∷ sent 5 1 0 3 (whys.Req (r 3)) (tasks.Populate (n 1) (s 3) (codes "about:blank") true) ∷ [])
+    ∷ by_ui (rows.Accepted (r 4) None (requests.Load (n 1) modes.Auto (codes "http://a.test/f"))) (rows.Dropped (r 4) (drops.By (r 2)) ∷ [])
+    ∷ []
+
+pub dropped_by_a_traversal_that_asks_is_refused : IsLegal (log_of dropped_by_a_traversal_that_asks) → ⊥
+unfolding url_on_literals is_web is_blank_url judged judged_parse read_against address_of url_of resolved with_fragment base_of fragment_of origin_text origin_of has_same_base is_rewritable events_of each_event after_opening AtEachEvent is_numbered opens is_formed is_once is_caused is_queued is_ordered is_checked ends_settled loads_end ends_told ends_stepped goes_in_time
+dropped_by_a_traversal_that_asks_is_refused holds = false≢true holds.caused
+
+-- What a frame made is dropped by a push that took an entry of another frame. has_moved_away: without test `same_entry entry`, `caused` would hold.
+abbrev pub dropped_by_what_took_another_entry : List Event
+dropped_by_what_took_another_entry =
+    before 19 push_beside_a_running_traversal
+    ++ by_ui (rows.Accepted (r 3) None (requests.Load (n 2) modes.Auto (codes "http://a.test/g"))) (rows.Started (r 3) None ∷ sent 5 1 0 4 (whys.Req (r 3)) (tasks.Populate (n 2) (s 4) (codes "http://a.test/g") false) ∷ [])
+    ∷ by_proc 1 (rows.Taken (p 1) (j 5) true false) []
+    ∷ by_proc 1 (rows.Finished (p 1) (j 5) (outcomes.Populated None)) []
+    ∷ by_coord (rows.Delivered (p 1)) (rows.Applied (r 3) (changes.Replace (n 2) (e 0 3) (e 0 4) (s 4) (codes "http://a.test/g") None) ∷ sent 6 1 0 3 (whys.Req (r 3)) tasks.Discard ∷ sent 7 1 0 4 (whys.Req (r 3)) (tasks.Activate (e 0 4) (epoch 2) 1 0 None (codes "http://a.test/g")) ∷ [])
+    ∷ by_proc 1 (rows.Taken (p 1) (j 6) true false) []
+    ∷ by_proc 1 (rows.Finished (p 1) (j 6) outcomes.Discarded) []
+    ∷ by_coord (rows.Delivered (p 1)) []
+    ∷ by_proc 1 (rows.Taken (p 1) (j 7) true false) []
+    ∷ by_proc 1 (rows.Finished (p 1) (j 7) outcomes.Activated) []
+    ∷ by_coord (rows.Delivered (p 1)) []
+    ∷ by_ui (rows.Accepted (r 4) None (requests.Load (n 2) modes.Auto (codes "http://a.test/g2"))) (rows.Started (r 4) None ∷ sent 8 1 0 5 (whys.Req (r 4)) (tasks.Populate (n 2) (s 5) (codes "http://a.test/g2") false) ∷ [])
+    ∷ by_proc 1 (rows.Taken (p 1) (j 8) true false) []
+    ∷ by_proc 1 (rows.Finished (p 1) (j 8) (outcomes.Populated None)) []
+    ∷ by_coord (rows.Delivered (p 1)) (rows.Applied (r 4) (changes.Push (n 2) (e 0 5) (s 5) (codes "http://a.test/g2") None) ∷ sent 9 1 0 4 (whys.Req (r 4)) tasks.Freeze ∷ sent 10 1 0 5 (whys.Req (r 4)) (tasks.Activate (e 0 5) (epoch 3) 2 1 None (codes "http://a.test/g2")) ∷ sent 11 1 0 1 (whys.Req (r 4)) (tasks.Update 2 1) ∷ sent 12 1 0 2 (whys.Req (r 4)) (tasks.Update 2 1) ∷ [])
+    ∷ by_proc 1 (rows.Taken (p 1) (j 9) true false) []
+    ∷ by_proc 1 (rows.Finished (p 1) (j 9) outcomes.Frozen) []
+    ∷ by_coord (rows.Delivered (p 1)) []
+    ∷ by_proc 1 (rows.Taken (p 1) (j 10) true false) []
+    ∷ by_proc 1 (rows.Finished (p 1) (j 10) outcomes.Activated) []
+    ∷ by_coord (rows.Delivered (p 1)) []
+    ∷ by_proc 1 (rows.Taken (p 1) (j 11) true false) []
+    ∷ by_proc 1 (rows.Finished (p 1) (j 11) outcomes.Updated) []
+    ∷ by_coord (rows.Delivered (p 1)) []
+    ∷ by_proc 1 (rows.Taken (p 1) (j 12) true false) []
+    ∷ by_proc 1 (rows.Finished (p 1) (j 12) outcomes.Updated) []
+    ∷ by_coord (rows.Delivered (p 1)) []
+    ∷ by_ui (rows.Accepted (r 5) None (requests.Go (negsuc 0))) (rows.Started (r 5) (Some (t 0)) ∷ sent 13 1 0 5 (whys.Req (r 5)) tasks.Freeze ∷ sent 14 1 0 4 (whys.Req (r 5)) (tasks.Activate (e 0 4) (epoch 4) 2 0 None (codes "http://a.test/g")) ∷ [])
+    ∷ by_proc 1 (rows.Taken (p 1) (j 13) true false) []
+    ∷ by_proc 1 (rows.Finished (p 1) (j 13) outcomes.Frozen) []
+    ∷ by_coord (rows.Delivered (p 1)) []
+    ∷ by_proc 1 (rows.Taken (p 1) (j 14) true false) []
+    ∷ by_proc 1 (rows.Finished (p 1) (j 14) outcomes.Activated) []
+    ∷ by_coord (rows.Delivered (p 1)) (rows.Applied (r 5) (changes.Traverse (t 0)) ∷ sent 15 1 0 1 (whys.Req (r 5)) (tasks.Update 2 0) ∷ sent 16 1 0 2 (whys.Req (r 5)) (tasks.Update 2 0) ∷ [])
+    ∷ by_proc 1 (rows.Taken (p 1) (j 15) true false) []
+    ∷ by_proc 1 (rows.Finished (p 1) (j 15) outcomes.Updated) []
+    ∷ by_coord (rows.Delivered (p 1)) []
+    ∷ by_proc 1 (rows.Taken (p 1) (j 16) true false) []
+    ∷ by_proc 1 (rows.Finished (p 1) (j 16) outcomes.Updated) []
+    ∷ by_coord (rows.Delivered (p 1)) []
+    ∷ by_ui (rows.Accepted (r 6) (Some (d 4)) (requests.Poke (n 2) (actions.Push (Some (codes "t")) None))) []
+    ∷ by_proc 1 (made 1 6 4 4 (whats.Push (e 4 1) (Some (codes "t")) (codes "http://a.test/g"))) []
+    ∷ by_ui (rows.Accepted (r 7) (Some (d 2)) (requests.Poke (n 1) (actions.Push (Some (codes "s")) None))) []
+    ∷ by_proc 1 (made 1 7 2 1 (whats.Replace (e 0 2) (e 2 1) (Some (codes "s")) (codes "about:blank"))) []
+    ∷ by_coord (rows.Delivered (p 1)) (rows.Applied (r 6) (changes.Push (n 2) (e 4 1) (s 4) (codes "http://a.test/g") (Some (codes "t"))) ∷ sent 17 1 0 2 (whys.Req (r 6)) tasks.Freeze ∷ [])
+    ∷ by_coord (rows.Delivered (p 1)) (rows.Dropped (r 7) (drops.By (r 6)) ∷ [])
+    ∷ []
+
+pub dropped_by_what_took_another_entry_is_refused : IsLegal (log_of dropped_by_what_took_another_entry) → ⊥
+unfolding url_on_literals is_web is_blank_url judged judged_parse read_against address_of url_of resolved with_fragment base_of fragment_of origin_text origin_of has_same_base is_rewritable events_of each_event after_opening AtEachEvent is_numbered opens is_formed is_once is_caused is_queued is_ordered is_checked ends_settled loads_end ends_told ends_stepped goes_in_time
+dropped_by_what_took_another_entry_is_refused holds = false≢true holds.caused
+
+-- A load of a new frame is dropped by a pending reload of another frame. by_last_step: without conjunct `changed_one_of r (way_of_request e q)`, `caused` would hold.
+abbrev pub dropped_by_a_reload_of_another_frame : List Event
+dropped_by_a_reload_of_another_frame =
+    before 5 frames_asked_in_order
+    ++ by_proc 1 (rows.Finished (p 1) (j 1) (outcomes.Populated None)) []
+    ∷ by_coord (rows.Delivered (p 1)) (sent 2 1 0 2 (whys.Req (r 1)) (tasks.Activate (e 0 2) (epoch 1) 1 0 None (codes "about:blank")) ∷ [])
+    ∷ by_proc 1 (rows.Taken (p 1) (j 2) true false) []
+    ∷ by_proc 1 (rows.Finished (p 1) (j 2) outcomes.Activated) []
+    ∷ by_coord (rows.Delivered (p 1)) []
+    ∷ by_ui (rows.Accepted (r 2) None (requests.Reload (n 2))) (rows.Started (r 2) None ∷ rows.Applied (r 2) (changes.Reload (n 2)) ∷ sent 3 1 0 3 (whys.Req (r 2)) (tasks.Populate (n 2) (s 2) (codes "about:blank") true) ∷ [])
+    ∷ by_ui (rows.Accepted (r 3) (Some (d 1)) (requests.Poke (n 0) (actions.AddFrame (n 1)))) []
+    ∷ by_proc 1 (made 1 3 1 1 (whats.AddFrame (n 1))) []
+    ∷ by_coord (rows.Delivered (p 1)) (rows.Applied (r 3) (changes.AddFrame (s 1) (n 1) (e 0 3) (s 3)) ∷ sent 4 1 0 4 (whys.Req (r 3)) (tasks.Populate (n 1) (s 3) (codes "about:blank") true) ∷ [])
+    ∷ by_ui (rows.Accepted (r 4) None (requests.Load (n 1) modes.Auto (codes "http://a.test/f"))) (rows.Dropped (r 4) (drops.By (r 2)) ∷ [])
+    ∷ []
+
+pub dropped_by_a_reload_of_another_frame_is_refused : IsLegal (log_of dropped_by_a_reload_of_another_frame) → ⊥
+unfolding url_on_literals is_web is_blank_url judged judged_parse read_against address_of url_of resolved with_fragment base_of fragment_of origin_text origin_of has_same_base is_rewritable events_of each_event after_opening AtEachEvent is_numbered opens is_formed is_once is_caused is_queued is_ordered is_checked ends_settled loads_end ends_told ends_stepped goes_in_time
+dropped_by_a_reload_of_another_frame_is_refused holds = false≢true holds.caused
+
+-- A load of the top, which stands, is dropped by a reload after which a frame doesn't stand yet. by_last_step: without test `not (stands e e.history.current nav)`, `caused` would hold.
+abbrev pub dropped_where_it_stands : List Event
+dropped_where_it_stands =
+    before 10 push_beside_a_frame
+    ++ by_ui (rows.Accepted (r 2) None (requests.Reload (n 0))) (rows.Started (r 2) None ∷ rows.Applied (r 2) (changes.Reload (n 0)) ∷ sent 3 1 0 3 (whys.Req (r 2)) (tasks.Populate (n 0) (s 1) (codes "http://a.test/") false) ∷ [])
+    ∷ by_proc 1 (rows.Taken (p 1) (j 3) true false) []
+    ∷ by_proc 1 (rows.Finished (p 1) (j 3) (outcomes.Populated None)) []
+    ∷ by_coord (rows.Delivered (p 1)) (sent 4 1 0 1 (whys.Req (r 2)) tasks.Discard ∷ sent 5 1 0 2 (whys.Req (r 2)) tasks.Discard ∷ sent 6 1 0 3 (whys.Req (r 2)) (tasks.Activate (e 0 1) (epoch 2) 1 0 None (codes "http://a.test/")) ∷ sent 7 1 0 4 (whys.Req (r 2)) (tasks.Populate (n 1) (s 2) (codes "about:blank") true) ∷ [])
+    ∷ by_proc 1 (rows.Taken (p 1) (j 4) true false) []
+    ∷ by_proc 1 (rows.Finished (p 1) (j 4) outcomes.Discarded) []
+    ∷ by_coord (rows.Delivered (p 1)) []
+    ∷ by_proc 1 (rows.Taken (p 1) (j 5) true false) []
+    ∷ by_proc 1 (rows.Finished (p 1) (j 5) outcomes.Discarded) []
+    ∷ by_coord (rows.Delivered (p 1)) []
+    ∷ by_proc 1 (rows.Taken (p 1) (j 6) true false) []
+    ∷ by_proc 1 (rows.Finished (p 1) (j 6) outcomes.Activated) []
+    ∷ by_coord (rows.Delivered (p 1)) []
+    ∷ by_ui (rows.Accepted (r 3) None (requests.Load (n 0) modes.Auto (codes "http://a.test/x"))) (rows.Dropped (r 3) (drops.By (r 2)) ∷ [])
+    ∷ []
+
+pub dropped_where_it_stands_is_refused : IsLegal (log_of dropped_where_it_stands) → ⊥
+unfolding url_on_literals is_web is_blank_url judged judged_parse read_against address_of url_of resolved with_fragment base_of fragment_of origin_text origin_of has_same_base is_rewritable events_of each_event after_opening AtEachEvent is_numbered opens is_formed is_once is_caused is_queued is_ordered is_checked ends_settled loads_end ends_told ends_stepped goes_in_time
+dropped_where_it_stands_is_refused holds = false≢true holds.caused
+
+-- A fragment load is dropped for a death whose report waits, in an event that takes another report. takes_death: is_death: were equation 2 true, `caused` would hold.
+abbrev pub gone_before_the_death_is_told : List Event
+gone_before_the_death_is_told =
+    before 20 fragment_beside_a_reload
+    ++ by_ui (rows.Accepted (r 3) None (requests.Load (n 0) modes.Auto (codes "http://a.test/#x"))) (sent 6 1 0 1 (whys.Req (r 3)) (tasks.DoFragment (r 3) modes.Auto (codes "http://a.test/#x")) ∷ [])
+    ∷ by_ui (rows.Accepted (r 4) (Some (d 3)) (requests.Poke (n 1) (actions.Push (Some (codes "s")) None))) []
+    ∷ by_proc 2 (made 2 4 3 2 (whats.Push (e 3 1) (Some (codes "s")) (codes "http://b.test/f"))) []
+    ∷ by_ui (rows.Killed (p 1) (x 1)) []
+    ∷ by_coord (rows.Delivered (p 2)) (rows.Dropped (r 3) (drops.Gone (x 1)) ∷ [])
+    ∷ []
+
+pub gone_before_the_death_is_told_is_refused : IsLegal (log_of gone_before_the_death_is_told) → ⊥
+unfolding url_on_literals is_web is_blank_url judged judged_parse read_against address_of url_of resolved with_fragment base_of fragment_of origin_text origin_of has_same_base is_rewritable events_of each_event after_opening AtEachEvent is_numbered opens is_formed is_once is_caused is_queued is_ordered is_checked ends_settled loads_end ends_told ends_stepped goes_in_time
+gone_before_the_death_is_told_is_refused holds = false≢true holds.caused
+
+-- A fragment load is dropped for a death whose report waits, in an event that takes that of another death. takes_death: is_death: were equation 1 true, `caused` would hold.
+abbrev pub gone_at_another_death : List Event
+gone_at_another_death =
+    before 3 death_of_a_fragment_order
+    ++ by_ui (rows.Killed (p 2) (x 2)) []
+    ∷ by_coord (rows.Delivered (p 2)) (rows.Dropped (r 1) (drops.Gone (x 1)) ∷ [])
+    ∷ []
+
+pub gone_at_another_death_is_refused : IsLegal (log_of gone_at_another_death) → ⊥
+unfolding url_on_literals is_web is_blank_url judged judged_parse read_against address_of url_of resolved with_fragment base_of fragment_of origin_text origin_of has_same_base is_rewritable events_of each_event after_opening AtEachEvent is_numbered opens is_formed is_once is_caused is_queued is_ordered is_checked ends_settled loads_end ends_told ends_stepped goes_in_time
+gone_at_another_death_is_refused holds = false≢true holds.caused
+
+-- A reload that hasn't begun is dropped for a death above its frame. is_begun_unapplied: without conjunct `q.is_started`, `caused` would hold.
+abbrev pub waiting_reload_is_gone : List Event
+waiting_reload_is_gone =
+    before 21 fragment_beside_a_reload
+    ++ by_ui (rows.Accepted (r 4) None (requests.Reload (n 1))) []
+    ∷ by_ui (rows.Killed (p 1) (x 1)) []
+    ∷ by_coord (rows.Delivered (p 1)) (rows.Dropped (r 4) (drops.Gone (x 1)) ∷ [])
+    ∷ []
+
+pub waiting_reload_is_gone_is_refused : IsLegal (log_of waiting_reload_is_gone) → ⊥
+unfolding url_on_literals is_web is_blank_url judged judged_parse read_against address_of url_of resolved with_fragment base_of fragment_of origin_text origin_of has_same_base is_rewritable events_of each_event after_opening AtEachEvent is_numbered opens is_formed is_once is_caused is_queued is_ordered is_checked ends_settled loads_end ends_told ends_stepped goes_in_time
+waiting_reload_is_gone_is_refused holds = false≢true holds.caused
+
+-- A load of a frame is dropped for a death of its own process, while the document above lives. is_bereft_above: without test `is_taken_by e death`, `caused` would hold.
+abbrev pub load_gone_with_its_parent_alive : List Event
+load_gone_with_its_parent_alive =
+    before 11 fragment_above_a_load
+    ++ by_ui (rows.Killed (p 2) (x 1)) []
+    ∷ by_coord (rows.Delivered (p 2)) (rows.Dropped (r 2) (drops.Gone (x 1)) ∷ [])
+    ∷ []
+
+pub load_gone_with_its_parent_alive_is_refused : IsLegal (log_of load_gone_with_its_parent_alive) → ⊥
+unfolding url_on_literals is_web is_blank_url judged judged_parse read_against address_of url_of resolved with_fragment base_of fragment_of origin_text origin_of has_same_base is_rewritable events_of each_event after_opening AtEachEvent is_numbered opens is_formed is_once is_caused is_queued is_ordered is_checked ends_settled loads_end ends_told ends_stepped goes_in_time
+load_gone_with_its_parent_alive_is_refused holds = false≢true holds.caused
+
+-- A fragment load is dropped for a death of another process. load_is_gone: without test `is_taken_by (end_of p row) death`, `caused` would hold.
+abbrev pub fragment_gone_with_another_process : List Event
+fragment_gone_with_another_process =
+    by_start (rows.Opened (e 0 1) (s 1) (d 1) (p 1) None (codes "http://a.test/")) []
+    ∷ by_ui (rows.Accepted (r 1) None (requests.Load (n 0) modes.Auto (codes "http://a.test/#x"))) (sent 1 1 0 1 (whys.Req (r 1)) (tasks.DoFragment (r 1) modes.Auto (codes "http://a.test/#x")) ∷ [])
+    ∷ by_ui (rows.Killed (p 2) (x 1)) []
+    ∷ by_coord (rows.Delivered (p 2)) (rows.Dropped (r 1) (drops.Gone (x 1)) ∷ [])
+    ∷ []
+
+pub fragment_gone_with_another_process_is_refused : IsLegal (log_of fragment_gone_with_another_process) → ⊥
+unfolding url_on_literals is_web is_blank_url judged judged_parse read_against address_of url_of resolved with_fragment base_of fragment_of origin_text origin_of has_same_base is_rewritable events_of each_event after_opening AtEachEvent is_numbered opens is_formed is_once is_caused is_queued is_ordered is_checked ends_settled loads_end ends_told ends_stepped goes_in_time
+fragment_gone_with_another_process_is_refused holds = false≢true holds.caused
+
+-- The traversal of a frame's document is dropped for a death above. load_is_gone: without conjunct `is_load q.what || is_reload q.what`, `caused` would hold.
+abbrev pub traversal_is_gone : List Event
+traversal_is_gone =
+    before 33 removal_and_push_of_two_processes
+    ++ by_ui (rows.Accepted (r 4) (Some (d 4)) (requests.Poke (n 1) (actions.Go (negsuc 0)))) []
+    ∷ by_proc 2 (made 2 4 4 3 (whats.Go (negsuc 0))) []
+    ∷ by_coord (rows.Delivered (p 2)) (rows.Started (r 4) (Some (t 0)) ∷ sent 10 2 0 4 (whys.Req (r 4)) tasks.Freeze ∷ sent 11 2 0 3 (whys.Req (r 4)) (tasks.Activate (e 0 3) (epoch 4) 2 0 None (codes "http://b.test/f")) ∷ [])
+    ∷ by_ui (rows.Killed (p 1) (x 1)) []
+    ∷ by_coord (rows.Delivered (p 1)) (rows.Dropped (r 4) (drops.Gone (x 1)) ∷ [])
+    ∷ []
+
+pub traversal_is_gone_is_refused : IsLegal (log_of traversal_is_gone) → ⊥
+unfolding url_on_literals is_web is_blank_url judged judged_parse read_against address_of url_of resolved with_fragment base_of fragment_of origin_text origin_of has_same_base is_rewritable events_of each_event after_opening AtEachEvent is_numbered opens is_formed is_once is_caused is_queued is_ordered is_checked ends_settled loads_end ends_told ends_stepped goes_in_time
+traversal_is_gone_is_refused holds = false≢true holds.caused
+
+-- Two answers to stay in one event, and one drop. is_stayed_duly: stays: were equation 1 true, `caused` would hold.
+abbrev pub stay_of_one_answers_for_another : List Event
+stay_of_one_answers_for_another =
+    by_start (rows.Opened (e 0 1) (s 1) (d 1) (p 1) (Some 1) (codes "http://a.test/")) []
+    ∷ by_ui (rows.Accepted (r 1) None (requests.Load (n 0) modes.Auto (codes "http://a.test/1"))) (rows.Started (r 1) None ∷ sent 1 1 0 1 (whys.Req (r 1)) (tasks.Ask 1 leavings.Load) ∷ [])
+    ∷ by_proc 1 (rows.Taken (p 1) (j 1) true false) []
+    ∷ by_proc 1 (rows.Finished (p 1) (j 1) (outcomes.Asked verdicts.Prompt)) []
+    ∷ by_coord (rows.Delivered (p 1)) (rows.Prompted (r 1) (d 1) ∷ [])
+    ∷ by_ui (rows.Accepted (r 2) None (requests.Load (n 0) modes.Auto (codes "http://a.test/2"))) (rows.Dropped (r 1) (drops.By (r 2)) ∷ rows.Started (r 2) None ∷ sent 2 1 0 1 (whys.Req (r 2)) (tasks.Ask 1 leavings.Load) ∷ [])
+    ∷ by_ui (rows.Answered (r 1) true) (rows.Answered (r 2) true ∷ rows.Dropped (r 1) drops.Stay ∷ [])
+    ∷ []
+
+pub stay_of_one_answers_for_another_is_refused : IsLegal (log_of stay_of_one_answers_for_another) → ⊥
+unfolding url_on_literals is_web is_blank_url judged judged_parse read_against address_of url_of resolved with_fragment base_of fragment_of origin_text origin_of has_same_base is_rewritable events_of each_event after_opening AtEachEvent is_numbered opens is_formed is_once is_caused is_queued is_ordered is_checked ends_settled loads_end ends_told ends_stepped goes_in_time
+stay_of_one_answers_for_another_is_refused holds = false≢true holds.caused
+
+-- What a frame made is dropped for the death of its own document, though it was another death that put the frame to sleep. same_why: were equation 2 true, `caused` would hold.
+abbrev pub gone_by_a_later_death : List Event
+gone_by_a_later_death =
+    before 34 death_above_what_a_frame_made
+    ++ by_ui (rows.Killed (p 1) (x 2)) []
+    ∷ by_coord (rows.Delivered (p 1)) (rows.Dropped (r 4) (drops.Gone (x 2)) ∷ [])
+    ∷ []
+
+pub gone_by_a_later_death_is_refused : IsLegal (log_of gone_by_a_later_death) → ⊥
+unfolding url_on_literals is_web is_blank_url judged judged_parse read_against address_of url_of resolved with_fragment base_of fragment_of origin_text origin_of has_same_base is_rewritable events_of each_event after_opening AtEachEvent is_numbered opens is_formed is_once is_caused is_queued is_ordered is_checked ends_settled loads_end ends_told ends_stepped goes_in_time
+gone_by_a_later_death_is_refused holds = false≢true holds.caused

@@ -1,6 +1,6 @@
 -- Broken logs, each refused by the field `checked`.
 -- A log is its events: those before one of another log, since one, or between two, and its own.
-use Rattle.std.proofs.Common.{true, false, List, [], ◌∷◌, ◌++◌, codes, Some, None}
+use Rattle.std.proofs.Common.{negsuc, true, false, List, [], ◌∷◌, ◌++◌, codes, Some, None}
 use Rattle.std.proofs.lemmas.Bool.{false≢true}
 use Rattle.url.proofs.OnLiterals.{url_on_literals}
 use Rattle.address.specs.Addresses.{is_web, is_blank_url, judged, judged_parse, read_against, address_of, url_of, resolved, with_fragment, base_of, fragment_of, origin_text, origin_of, has_same_base, is_rewritable}
@@ -239,3 +239,46 @@ is_of_run_2 =
 pub is_of_run_2_is_refused : IsLegal (log_of is_of_run_2) → ⊥
 unfolding url_on_literals is_web is_blank_url judged judged_parse read_against address_of url_of resolved with_fragment base_of fragment_of origin_text origin_of has_same_base is_rewritable events_of each_event after_opening AtEachEvent is_numbered opens is_formed is_once is_caused is_queued is_ordered is_checked ends_settled loads_end ends_told ends_stepped goes_in_time
 is_of_run_2_is_refused holds = false≢true holds.checked
+
+-- A load is refused, and then the report comes that its document wants a prompt. due_prompt: without test `is_drop`, `checked` would hold.
+abbrev pub refused_before_the_wish_is_told : List Event
+refused_before_the_wish_is_told =
+    by_start (rows.Opened (e 0 1) (s 1) (d 1) (p 1) (Some 1) (codes "http://a.test/")) []
+    ∷ by_ui (rows.Accepted (r 1) None (requests.Load (n 0) modes.Auto (codes "http://a.test/1"))) (rows.Started (r 1) None ∷ sent 1 1 0 1 (whys.Req (r 1)) (tasks.Ask 1 leavings.Load) ∷ [])
+    ∷ by_proc 1 (rows.Taken (p 1) (j 1) true false) []
+    ∷ by_proc 1 (rows.Finished (p 1) (j 1) (outcomes.Asked verdicts.Prompt)) []
+    ∷ by_ui (rows.Accepted (r 2) None (requests.Go (negsuc 0))) (rows.Refused (r 1) denials.NoStep ∷ [])
+    ∷ by_coord (rows.Delivered (p 1)) []
+    ∷ []
+
+pub refused_before_the_wish_is_told_is_refused : IsLegal (log_of refused_before_the_wish_is_told) → ⊥
+unfolding url_on_literals is_web is_blank_url judged judged_parse read_against address_of url_of resolved with_fragment base_of fragment_of origin_text origin_of has_same_base is_rewritable events_of each_event after_opening AtEachEvent is_numbered opens is_formed is_once is_caused is_queued is_ordered is_checked ends_settled loads_end ends_told ends_stepped goes_in_time
+refused_before_the_wish_is_told_is_refused holds = false≢true holds.checked
+
+-- A document that wants a prompt is frozen, and then the user is asked. goes_on_with: by_task: were equation 3 false, `checked` would hold.
+abbrev pub frozen_before_the_prompt : List Event
+frozen_before_the_prompt =
+    by_start (rows.Opened (e 0 1) (s 1) (d 1) (p 1) (Some 1) (codes "http://a.test/")) []
+    ∷ by_ui (rows.Accepted (r 1) None (requests.Load (n 0) modes.Auto (codes "http://a.test/1"))) (rows.Started (r 1) None ∷ sent 1 1 0 1 (whys.Req (r 1)) (tasks.Ask 1 leavings.Load) ∷ [])
+    ∷ by_proc 1 (rows.Taken (p 1) (j 1) true false) []
+    ∷ by_proc 1 (rows.Finished (p 1) (j 1) (outcomes.Asked verdicts.Prompt)) []
+    ∷ by_coord (rows.Delivered (p 1)) (sent 2 1 0 1 (whys.Req (r 1)) tasks.Freeze ∷ rows.Prompted (r 1) (d 1) ∷ [])
+    ∷ []
+
+pub frozen_before_the_prompt_is_refused : IsLegal (log_of frozen_before_the_prompt) → ⊥
+unfolding url_on_literals is_web is_blank_url judged judged_parse read_against address_of url_of resolved with_fragment base_of fragment_of origin_text origin_of has_same_base is_rewritable events_of each_event after_opening AtEachEvent is_numbered opens is_formed is_once is_caused is_queued is_ordered is_checked ends_settled loads_end ends_told ends_stepped goes_in_time
+frozen_before_the_prompt_is_refused holds = false≢true holds.checked
+
+-- A load goes on, and then the user is asked for a document that wants no prompt. is_prompted_after: without conjunct `prompts_are due q.nr p.later`, `checked` would hold.
+abbrev pub prompt_for_none_that_wants_it : List Event
+prompt_for_none_that_wants_it =
+    by_start (rows.Opened (e 0 1) (s 1) (d 1) (p 1) (Some 0) (codes "http://a.test/")) []
+    ∷ by_ui (rows.Accepted (r 1) None (requests.Load (n 0) modes.Auto (codes "http://a.test/1"))) (rows.Started (r 1) None ∷ sent 1 1 0 1 (whys.Req (r 1)) (tasks.Ask 0 leavings.Load) ∷ [])
+    ∷ by_proc 1 (rows.Taken (p 1) (j 1) true false) []
+    ∷ by_proc 1 (rows.Finished (p 1) (j 1) (outcomes.Asked verdicts.Leave)) []
+    ∷ by_coord (rows.Delivered (p 1)) (sent 2 1 0 2 (whys.Req (r 1)) (tasks.Populate (n 0) (s 2) (codes "http://a.test/1") false) ∷ rows.Prompted (r 1) (d 1) ∷ [])
+    ∷ []
+
+pub prompt_for_none_that_wants_it_is_refused : IsLegal (log_of prompt_for_none_that_wants_it) → ⊥
+unfolding url_on_literals is_web is_blank_url judged judged_parse read_against address_of url_of resolved with_fragment base_of fragment_of origin_text origin_of has_same_base is_rewritable events_of each_event after_opening AtEachEvent is_numbered opens is_formed is_once is_caused is_queued is_ordered is_checked ends_settled loads_end ends_told ends_stepped goes_in_time
+prompt_for_none_that_wants_it_is_refused holds = false≢true holds.checked

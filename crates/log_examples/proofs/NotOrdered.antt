@@ -24,7 +24,7 @@ use Rattle.log_model.specs.LoadsEndInTime.{loads_end}
 use Rattle.log_model.specs.ActsAtOnce.{ends_told, ends_stepped, goes_in_time}
 use Rattle.log_examples.specs.Rows.{n, s, r, p, t, x, d, j, e, epoch, sent, made}
 use Rattle.log_examples.specs.Logs.{Event, by_start, by_ui, by_coord, by_proc, log_of, before, since}
-use Rattle.log_examples.proofs.Pushes.{one_push, push_after_a_death}
+use Rattle.log_examples.proofs.Pushes.{one_push, push_after_a_death, push_beside_a_frame}
 use Rattle.log_examples.proofs.Traversals.{document_goes_back}
 use Rattle.log_examples.proofs.Interleavings.{held_back_push, held_back_push_and_removal}
 use Rattle.log_examples.proofs.Loads.{later_load, no_document_kept, push_over_a_kept_document, evicted_documents, fragment_load}
@@ -640,3 +640,100 @@ displaces_1 =
 pub displaces_1_is_refused : IsLegal (log_of displaces_1) → ⊥
 unfolding url_on_literals is_web is_blank_url judged judged_parse read_against address_of url_of resolved with_fragment base_of fragment_of origin_text origin_of has_same_base is_rewritable events_of each_event after_opening AtEachEvent is_numbered opens is_formed is_once is_caused is_queued is_ordered is_checked ends_settled loads_end ends_told ends_stepped goes_in_time
 displaces_1_is_refused holds = false≢true holds.ordered
+
+-- A frame of the second document is shown its entry at the step of the first. first_step: without test `row.state.0 == state.0`, `ordered` would hold.
+abbrev pub frame_shown_before_its_first_step : List Event
+frame_shown_before_its_first_step =
+    before 11 evicted_documents
+    ++ by_ui (rows.Accepted (r 2) (Some (d 2)) (requests.Poke (n 0) (actions.AddFrame (n 1)))) []
+    ∷ by_proc 1 (made 1 2 2 2 (whats.AddFrame (n 1))) []
+    ∷ by_coord (rows.Delivered (p 1)) (rows.Applied (r 2) (changes.AddFrame (s 2) (n 1) (e 0 3) (s 3)) ∷ sent 4 1 0 3 (whys.Req (r 2)) (tasks.Populate (n 1) (s 3) (codes "about:blank") true) ∷ [])
+    ∷ by_proc 1 (rows.Taken (p 1) (j 4) true false) []
+    ∷ by_proc 1 (rows.Finished (p 1) (j 4) (outcomes.Populated None)) []
+    ∷ by_coord (rows.Delivered (p 1)) (sent 5 1 0 3 (whys.Req (r 2)) (tasks.Activate (e 0 3) (epoch 1) 2 1 None (codes "about:blank")) ∷ [])
+    ∷ by_proc 1 (rows.Taken (p 1) (j 5) true false) []
+    ∷ by_proc 1 (rows.Finished (p 1) (j 5) outcomes.Activated) []
+    ∷ by_coord (rows.Delivered (p 1)) []
+    ∷ by_ui (rows.Accepted (r 3) None (requests.Go (negsuc 0))) (rows.Started (r 3) (Some (t 0)) ∷ sent 6 1 0 2 (whys.Req (r 3)) tasks.Freeze ∷ sent 7 1 0 3 (whys.Req (r 3)) tasks.Freeze ∷ sent 8 1 0 1 (whys.Req (r 3)) (tasks.Activate (e 0 1) (epoch 3) 2 0 None (codes "http://a.test/")) ∷ [])
+    ∷ by_proc 1 (rows.Taken (p 1) (j 6) true false) []
+    ∷ by_proc 1 (rows.Finished (p 1) (j 6) outcomes.Frozen) []
+    ∷ by_coord (rows.Delivered (p 1)) []
+    ∷ by_proc 1 (rows.Taken (p 1) (j 7) true false) []
+    ∷ by_proc 1 (rows.Finished (p 1) (j 7) outcomes.Frozen) []
+    ∷ by_coord (rows.Delivered (p 1)) []
+    ∷ by_proc 1 (rows.Taken (p 1) (j 8) true false) []
+    ∷ by_proc 1 (rows.Finished (p 1) (j 8) outcomes.Activated) []
+    ∷ by_coord (rows.Delivered (p 1)) (rows.Applied (r 3) (changes.Traverse (t 0)) ∷ [])
+    ∷ by_ui (rows.Accepted (r 4) None (requests.Go (pos 5))) (sent 9 1 0 3 (whys.Req (r 4)) (tasks.Activate (e 0 3) (epoch 9) 2 0 None (codes "about:blank")) ∷ [])
+    ∷ []
+
+pub frame_shown_before_its_first_step_is_refused : IsLegal (log_of frame_shown_before_its_first_step) → ⊥
+unfolding url_on_literals is_web is_blank_url judged judged_parse read_against address_of url_of resolved with_fragment base_of fragment_of origin_text origin_of has_same_base is_rewritable events_of each_event after_opening AtEachEvent is_numbered opens is_formed is_once is_caused is_queued is_ordered is_checked ends_settled loads_end ends_told ends_stepped goes_in_time
+frame_shown_before_its_first_step_is_refused holds = false≢true holds.ordered
+
+-- The top document is discarded, and its frame is shown one. shows_another: by_task: without test `other.nav.0 == d.nav.0`, `ordered` would hold.
+abbrev pub discarded_as_another_frame_is_shown : List Event
+discarded_as_another_frame_is_shown =
+    before 10 push_beside_a_frame
+    ++ by_ui (rows.Accepted (r 2) None (requests.Go (pos 5))) (sent 3 1 0 1 (whys.Req (r 2)) tasks.Discard ∷ sent 4 1 0 2 (whys.Req (r 2)) (tasks.Activate (e 0 2) (epoch 2) 1 0 None (codes "about:blank")) ∷ [])
+    ∷ []
+
+pub discarded_as_another_frame_is_shown_is_refused : IsLegal (log_of discarded_as_another_frame_is_shown) → ⊥
+unfolding url_on_literals is_web is_blank_url judged judged_parse read_against address_of url_of resolved with_fragment base_of fragment_of origin_text origin_of has_same_base is_rewritable events_of each_event after_opening AtEachEvent is_numbered opens is_formed is_once is_caused is_queued is_ordered is_checked ends_settled loads_end ends_told ends_stepped goes_in_time
+discarded_as_another_frame_is_shown_is_refused holds = false≢true holds.ordered
+
+-- A frame has the document state on which it hangs, and its dead document is discarded as below itself. is_below_gone: without conjunct `not (other.nr.0 == d.nr.0)`, `ordered` would hold.
+abbrev pub discarded_as_below_itself : List Event
+discarded_as_below_itself =
+    before 3 push_beside_a_frame
+    ++ by_coord (rows.Delivered (p 1)) (rows.Applied (r 1) (changes.AddFrame (s 1) (n 1) (e 0 2) (s 1)) ∷ [])
+    ∷ by_ui (rows.Accepted (r 2) None (requests.Reload (n 1))) (rows.Started (r 2) None ∷ rows.Applied (r 2) (changes.Reload (n 1)) ∷ sent 1 2 0 2 (whys.Req (r 2)) (tasks.Populate (n 1) (s 1) (codes "about:blank") true) ∷ [])
+    ∷ by_ui (rows.Killed (p 2) (x 1)) []
+    ∷ by_coord (rows.Delivered (p 2)) (sent 2 2 1 2 (whys.Death (x 1)) tasks.Discard ∷ [])
+    ∷ []
+
+pub discarded_as_below_itself_is_refused : IsLegal (log_of discarded_as_below_itself) → ⊥
+unfolding url_on_literals is_web is_blank_url judged judged_parse read_against address_of url_of resolved with_fragment base_of fragment_of origin_text origin_of has_same_base is_rewritable events_of each_event after_opening AtEachEvent is_numbered opens is_formed is_once is_caused is_queued is_ordered is_checked ends_settled loads_end ends_told ends_stepped goes_in_time
+discarded_as_below_itself_is_refused holds = false≢true holds.ordered
+
+-- A kept document is evicted, and shown instead of discarded. is_evicted_duly: discards: without conjunct `is_discard job.task`, `ordered` would hold.
+abbrev pub evicted_and_shown : List Event
+evicted_and_shown =
+    before 11 evicted_documents
+    ++ by_ui (rows.Evicted (s 1)) (rows.Accepted (r 2) None (requests.Go (negsuc 0)) ∷ rows.Started (r 2) (Some (t 0)) ∷ sent 4 1 0 1 (whys.Req (r 2)) (tasks.Activate (e 0 1) (epoch 3) 2 0 None (codes "http://a.test/")) ∷ [])
+    ∷ []
+
+pub evicted_and_shown_is_refused : IsLegal (log_of evicted_and_shown) → ⊥
+unfolding url_on_literals is_web is_blank_url judged judged_parse read_against address_of url_of resolved with_fragment base_of fragment_of origin_text origin_of has_same_base is_rewritable events_of each_event after_opening AtEachEvent is_numbered opens is_formed is_once is_caused is_queued is_ordered is_checked ends_settled loads_end ends_told ends_stepped goes_in_time
+evicted_and_shown_is_refused holds = false≢true holds.ordered
+
+-- The document of a frame is asked in the place of the one that has a handler. same_question: without conjunct `a.0.0 == b.0.0`, `ordered` would hold.
+abbrev pub another_document_asked : List Event
+another_document_asked =
+    by_start (rows.Opened (e 0 1) (s 1) (d 1) (p 1) (Some 1) (codes "http://a.test/")) []
+    ∷ by_ui (rows.Accepted (r 1) (Some (d 1)) (requests.Poke (n 0) (actions.AddFrame (n 1)))) []
+    ∷ by_proc 1 (made 1 1 1 1 (whats.AddFrame (n 1))) []
+    ∷ by_coord (rows.Delivered (p 1)) (rows.Applied (r 1) (changes.AddFrame (s 1) (n 1) (e 0 2) (s 2)) ∷ sent 1 1 0 2 (whys.Req (r 1)) (tasks.Populate (n 1) (s 2) (codes "about:blank") true) ∷ [])
+    ∷ by_proc 1 (rows.Taken (p 1) (j 1) true false) []
+    ∷ by_proc 1 (rows.Finished (p 1) (j 1) (outcomes.Populated None)) []
+    ∷ by_coord (rows.Delivered (p 1)) (sent 2 1 0 2 (whys.Req (r 1)) (tasks.Activate (e 0 2) (epoch 1) 1 0 None (codes "about:blank")) ∷ [])
+    ∷ by_proc 1 (rows.Taken (p 1) (j 2) true false) []
+    ∷ by_proc 1 (rows.Finished (p 1) (j 2) outcomes.Activated) []
+    ∷ by_coord (rows.Delivered (p 1)) []
+    ∷ by_ui (rows.Accepted (r 2) None (requests.Load (n 0) modes.Auto (codes "http://a.test/1"))) (rows.Started (r 2) None ∷ sent 3 1 0 2 (whys.Req (r 2)) (tasks.Ask 1 leavings.Load) ∷ [])
+    ∷ []
+
+pub another_document_asked_is_refused : IsLegal (log_of another_document_asked) → ⊥
+unfolding url_on_literals is_web is_blank_url judged judged_parse read_against address_of url_of resolved with_fragment base_of fragment_of origin_text origin_of has_same_base is_rewritable events_of each_event after_opening AtEachEvent is_numbered opens is_formed is_once is_caused is_queued is_ordered is_checked ends_settled loads_end ends_told ends_stepped goes_in_time
+another_document_asked_is_refused holds = false≢true holds.ordered
+
+-- A document is asked, and after another row once more. asks_at_once: without conjunct `same_list same_question (filter_map (question_in req) later) due`, `ordered` would hold.
+abbrev pub asked_again_later : List Event
+asked_again_later =
+    by_start (rows.Opened (e 0 1) (s 1) (d 1) (p 1) (Some 1) (codes "http://a.test/")) []
+    ∷ by_ui (rows.Accepted (r 1) None (requests.Load (n 0) modes.Auto (codes "http://a.test/1"))) (rows.Started (r 1) None ∷ sent 1 1 0 1 (whys.Req (r 1)) (tasks.Ask 1 leavings.Load) ∷ rows.Accepted (r 2) None (requests.Go (pos 5)) ∷ sent 2 1 0 1 (whys.Req (r 1)) (tasks.Ask 1 leavings.Load) ∷ [])
+    ∷ []
+
+pub asked_again_later_is_refused : IsLegal (log_of asked_again_later) → ⊥
+unfolding url_on_literals is_web is_blank_url judged judged_parse read_against address_of url_of resolved with_fragment base_of fragment_of origin_text origin_of has_same_base is_rewritable events_of each_event after_opening AtEachEvent is_numbered opens is_formed is_once is_caused is_queued is_ordered is_checked ends_settled loads_end ends_told ends_stepped goes_in_time
+asked_again_later_is_refused holds = false≢true holds.ordered

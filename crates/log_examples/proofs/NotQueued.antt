@@ -248,3 +248,14 @@ is_unparked_duly_1 =
 pub is_unparked_duly_1_is_refused : IsLegal (log_of is_unparked_duly_1) → ⊥
 unfolding url_on_literals is_web is_blank_url judged judged_parse read_against address_of url_of resolved with_fragment base_of fragment_of origin_text origin_of has_same_base is_rewritable events_of each_event after_opening AtEachEvent is_numbered opens is_formed is_once is_caused is_queued is_ordered is_checked ends_settled loads_end ends_told ends_stepped goes_in_time
 is_unparked_duly_1_is_refused holds = false≢true holds.queued
+
+-- The traversal is dropped for which a push is held back, and the push is applied without it. is_queued_row: by_kind: without conjunct `is_unparked_duly p req`, `queued` would hold.
+abbrev pub held_back_push_without_its_traversal : List Event
+held_back_push_without_its_traversal =
+    before 45 held_back_push
+    ++ by_ui (rows.Accepted (r 7) None (requests.Go (pos 5))) (rows.Dropped (r 5) drops.Stay ∷ rows.Applied (r 6) (changes.Push (n 0) (e 1 2) (s 1) (codes "http://a.test/2") (Some (codes "s"))) ∷ [])
+    ∷ []
+
+pub held_back_push_without_its_traversal_is_refused : IsLegal (log_of held_back_push_without_its_traversal) → ⊥
+unfolding url_on_literals is_web is_blank_url judged judged_parse read_against address_of url_of resolved with_fragment base_of fragment_of origin_text origin_of has_same_base is_rewritable events_of each_event after_opening AtEachEvent is_numbered opens is_formed is_once is_caused is_queued is_ordered is_checked ends_settled loads_end ends_told ends_stepped goes_in_time
+held_back_push_without_its_traversal_is_refused holds = false≢true holds.queued

@@ -10,6 +10,8 @@ use Rattle.log_model.specs.declared.job.Task.TheVariants as tasks
 use Rattle.log_model.specs.declared.job.Why.TheVariants as whys
 use Rattle.log_model.specs.declared.made.What.TheVariants as whats
 use Rattle.log_model.specs.declared.outcome.Cause.TheVariants as drops
+use Rattle.log_model.specs.declared.outcome.Outcome.TheVariants as outcomes
+use Rattle.log_model.specs.declared.request.Mode.TheVariants as modes
 use Rattle.log_model.specs.declared.request.Request.TheVariants as requests
 use Rattle.log_model.specs.declared.row_kind.RowKind.TheVariants as rows
 use Rattle.log_model.specs.Events.{events_of, each_event, after_opening, AtEachEvent}
@@ -17,9 +19,10 @@ use Rattle.log_model.specs.Formed.{is_numbered}
 use Rattle.log_model.specs.Legal.{IsLegal, opens, is_formed, is_once, is_caused, is_queued, is_ordered, is_checked, ends_settled}
 use Rattle.log_model.specs.LoadsEndInTime.{loads_end}
 use Rattle.log_model.specs.ActsAtOnce.{ends_told, ends_stepped, goes_in_time}
-use Rattle.log_examples.specs.Rows.{n, s, r, p, t, x, d, j, e, sent, made}
+use Rattle.log_examples.specs.Rows.{n, s, r, p, t, x, d, j, e, epoch, sent, made}
 use Rattle.log_examples.specs.Logs.{Event, by_start, by_ui, by_coord, by_proc, log_of, before, between}
 use Rattle.log_examples.proofs.Pushes.{replace_and_fragment, push_beside_a_frame, push_in_an_initial_document}
+use Rattle.log_examples.proofs.Interleavings.{push_beside_a_running_traversal}
 use Rattle.log_examples.proofs.Loads.{two_processes}
 use Rattle.log_examples.proofs.Frames.{taken_number}
 use Rattle.log_examples.proofs.Removals.{removal_and_push}
@@ -202,3 +205,40 @@ shows_2 =
 pub shows_2_is_refused : IsLegal (log_of shows_2) → ⊥
 unfolding url_on_literals is_web is_blank_url judged judged_parse read_against address_of url_of resolved with_fragment base_of fragment_of origin_text origin_of has_same_base is_rewritable events_of each_event after_opening AtEachEvent is_numbered opens is_formed is_once is_caused is_queued is_ordered is_checked ends_settled loads_end ends_told ends_stepped goes_in_time
 shows_2_is_refused holds = false≢true holds.settled
+
+-- A reload is met by the document that was there before it. applied_to: were equation 3 left out, `settled` would hold.
+abbrev pub reload_met_by_the_old_document : List Event
+reload_met_by_the_old_document =
+    by_start (rows.Opened (e 0 1) (s 1) (d 1) (p 1) None (codes "http://a.test/")) []
+    ∷ by_ui (rows.Accepted (r 1) None (requests.Reload (n 0))) (rows.Started (r 1) None ∷ rows.Applied (r 1) (changes.Reload (n 0)) ∷ sent 1 1 0 1 (whys.Req (r 1)) (tasks.Activate (e 0 1) (epoch 2) 1 0 None (codes "http://a.test/")) ∷ [])
+    ∷ by_proc 1 (rows.Taken (p 1) (j 1) true false) []
+    ∷ by_proc 1 (rows.Finished (p 1) (j 1) outcomes.Activated) []
+    ∷ by_coord (rows.Delivered (p 1)) []
+    ∷ []
+
+pub reload_met_by_the_old_document_is_refused : IsLegal (log_of reload_met_by_the_old_document) → ⊥
+unfolding url_on_literals is_web is_blank_url judged judged_parse read_against address_of url_of resolved with_fragment base_of fragment_of origin_text origin_of has_same_base is_rewritable events_of each_event after_opening AtEachEvent is_numbered opens is_formed is_once is_caused is_queued is_ordered is_checked ends_settled loads_end ends_told ends_stepped goes_in_time
+reload_met_by_the_old_document_is_refused holds = false≢true holds.settled
+
+-- A frame is added once more, below a lost one, which is removed and then reloaded. has_lost_document: without conjunct `not place.is_pending`, `settled` would hold.
+abbrev pub frame_below_a_removed_lost_one : List Event
+frame_below_a_removed_lost_one =
+    before 19 push_beside_a_running_traversal
+    ++ by_ui (rows.Accepted (r 3) None (requests.Load (n 2) modes.Auto (codes "http://b.test/f"))) (rows.Started (r 3) None ∷ sent 5 2 0 4 (whys.Req (r 3)) (tasks.Populate (n 2) (s 4) (codes "http://b.test/f") false) ∷ [])
+    ∷ by_proc 2 (rows.Taken (p 2) (j 5) true false) []
+    ∷ by_proc 2 (rows.Finished (p 2) (j 5) (outcomes.Populated None)) []
+    ∷ by_coord (rows.Delivered (p 2)) (rows.Applied (r 3) (changes.Replace (n 2) (e 0 3) (e 0 4) (s 4) (codes "http://b.test/f") None) ∷ sent 6 1 0 3 (whys.Req (r 3)) tasks.Discard ∷ sent 7 2 0 4 (whys.Req (r 3)) (tasks.Activate (e 0 4) (epoch 2) 1 0 None (codes "http://b.test/f")) ∷ [])
+    ∷ by_proc 1 (rows.Taken (p 1) (j 6) true false) []
+    ∷ by_proc 1 (rows.Finished (p 1) (j 6) outcomes.Discarded) []
+    ∷ by_coord (rows.Delivered (p 1)) []
+    ∷ by_proc 2 (rows.Taken (p 2) (j 7) true false) []
+    ∷ by_proc 2 (rows.Finished (p 2) (j 7) outcomes.Activated) []
+    ∷ by_coord (rows.Delivered (p 2)) []
+    ∷ by_ui (rows.Killed (p 2) (x 1)) []
+    ∷ by_coord (rows.Delivered (p 2)) []
+    ∷ by_ui (rows.Accepted (r 4) None (requests.Reload (n 2))) (rows.Applied (r 1) (changes.AddFrame (s 4) (n 1) (e 0 5) (s 5)) ∷ rows.Applied (r 4) (changes.RemoveFrame (n 2)) ∷ rows.Accepted (r 5) None (requests.Reload (n 2)) ∷ rows.Applied (r 5) (changes.Reload (n 2)) ∷ [])
+    ∷ []
+
+pub frame_below_a_removed_lost_one_is_refused : IsLegal (log_of frame_below_a_removed_lost_one) → ⊥
+unfolding url_on_literals is_web is_blank_url judged judged_parse read_against address_of url_of resolved with_fragment base_of fragment_of origin_text origin_of has_same_base is_rewritable events_of each_event after_opening AtEachEvent is_numbered opens is_formed is_once is_caused is_queued is_ordered is_checked ends_settled loads_end ends_told ends_stepped goes_in_time
+frame_below_a_removed_lost_one_is_refused holds = false≢true holds.settled

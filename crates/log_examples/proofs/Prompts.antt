@@ -1,6 +1,6 @@
 -- Legal logs: prompts.
 -- A log is its events: those before one of another log, since one, or between two, and its own.
-use Rattle.std.proofs.Common.{negsuc, true, false, List, [], ◌∷◌, ◌++◌, codes, refl, Some, None}
+use Rattle.std.proofs.Common.{pos, negsuc, true, false, List, [], ◌∷◌, ◌++◌, codes, refl, Some, None}
 use Rattle.url.proofs.OnLiterals.{url_on_literals}
 use Rattle.address.specs.Addresses.{is_web, is_blank_url, judged, judged_parse, read_against, address_of, url_of, resolved, with_fragment, base_of, fragment_of, origin_text, origin_of, has_same_base, is_rewritable}
 use Rattle.log_model.specs.declared.action.Action.TheVariants as actions
@@ -23,10 +23,10 @@ use Rattle.log_model.specs.LoadsEndInTime.{LoadsEndInTime, loads_end}
 use Rattle.log_model.specs.ActsAtOnce.{ActsAtOnce, ends_told, ends_stepped, goes_in_time}
 use Rattle.log_model.specs.Suits.{Suits}
 use Rattle.log_model.specs.declared.header.Header.{Header}
-use Rattle.log_examples.specs.Rows.{n, s, r, p, t, d, j, e, epoch, sent, made}
+use Rattle.log_examples.specs.Rows.{n, s, r, p, t, x, d, j, e, epoch, sent, made}
 use Rattle.log_examples.specs.Logs.{Event, by_start, by_ui, by_coord, by_proc, log_of, before}
 use Rattle.log_examples.proofs.Pushes.{push_beside_a_frame}
-use Rattle.log_examples.proofs.Loads.{no_document_kept, push_over_a_kept_document}
+use Rattle.log_examples.proofs.Loads.{no_document_kept, push_over_a_kept_document, evicted_documents}
 
 -- The user stays on a page with unsaved edits.
 abbrev pub stay : List Event
@@ -537,3 +537,148 @@ load_dropped_before_its_answer_acts_at_once = record { told = refl; stepped = re
 pub load_dropped_before_its_answer_suits : Suits load_dropped_before_its_answer_header (log_of load_dropped_before_its_answer)
 unfolding url_on_literals is_web is_blank_url judged judged_parse read_against address_of url_of resolved with_fragment base_of fragment_of origin_text origin_of has_same_base is_rewritable events_of each_event after_opening AtEachEvent is_numbered opens is_formed is_once is_caused is_queued is_ordered is_checked ends_settled loads_end ends_told ends_stepped goes_in_time
 load_dropped_before_its_answer_suits = record { opened = refl; placed = refl; kept = refl }
+
+-- A death settles the questions of a load and of a traversal, and the user is asked for both.
+abbrev pub two_prompts_at_once : List Event
+two_prompts_at_once =
+    before 20 one_prompt_for_two
+    ++ by_ui (rows.Accepted (r 3) None (requests.Load (n 1) modes.Auto (codes "http://b.test/f"))) (rows.Started (r 3) None ∷ sent 6 2 0 4 (whys.Req (r 3)) (tasks.Populate (n 1) (s 4) (codes "http://b.test/f") false) ∷ [])
+    ∷ by_proc 2 (rows.Taken (p 2) (j 6) true false) []
+    ∷ by_proc 2 (rows.Finished (p 2) (j 6) (outcomes.Populated (Some 1))) []
+    ∷ by_coord (rows.Delivered (p 2)) (rows.Applied (r 3) (changes.Replace (n 1) (e 0 3) (e 0 4) (s 4) (codes "http://b.test/f") None) ∷ sent 7 1 0 3 (whys.Req (r 3)) tasks.Discard ∷ sent 8 2 0 4 (whys.Req (r 3)) (tasks.Activate (e 0 4) (epoch 2) 2 1 None (codes "http://b.test/f")) ∷ [])
+    ∷ by_proc 1 (rows.Taken (p 1) (j 7) true false) []
+    ∷ by_proc 1 (rows.Finished (p 1) (j 7) outcomes.Discarded) []
+    ∷ by_coord (rows.Delivered (p 1)) []
+    ∷ by_proc 2 (rows.Taken (p 2) (j 8) true false) []
+    ∷ by_proc 2 (rows.Finished (p 2) (j 8) outcomes.Activated) []
+    ∷ by_coord (rows.Delivered (p 2)) []
+    ∷ by_ui (rows.Accepted (r 4) None (requests.Load (n 0) modes.Auto (codes "http://a.test/2"))) (rows.Started (r 4) None ∷ sent 9 1 0 2 (whys.Req (r 4)) (tasks.Ask 1 leavings.Load) ∷ sent 10 2 0 4 (whys.Req (r 4)) (tasks.Ask 1 leavings.Load) ∷ [])
+    ∷ by_ui (rows.Accepted (r 5) None (requests.Go (negsuc 0))) (rows.Started (r 5) (Some (t 0)) ∷ sent 11 1 0 2 (whys.Req (r 5)) (tasks.Ask 1 leavings.Traverse) ∷ sent 12 2 0 4 (whys.Req (r 5)) (tasks.Ask 1 leavings.Traverse) ∷ [])
+    ∷ by_proc 1 (rows.Taken (p 1) (j 9) true false) []
+    ∷ by_proc 1 (rows.Finished (p 1) (j 9) (outcomes.Asked verdicts.Prompt)) []
+    ∷ by_coord (rows.Delivered (p 1)) []
+    ∷ by_proc 1 (rows.Taken (p 1) (j 11) true false) []
+    ∷ by_proc 1 (rows.Finished (p 1) (j 11) (outcomes.Asked verdicts.Prompt)) []
+    ∷ by_coord (rows.Delivered (p 1)) []
+    ∷ by_ui (rows.Killed (p 2) (x 1)) []
+    ∷ by_coord (rows.Delivered (p 2)) (rows.Prompted (r 4) (d 2) ∷ rows.Prompted (r 5) (d 2) ∷ [])
+    ∷ []
+
+abbrev pub two_prompts_at_once_header : Header
+two_prompts_at_once_header = record { keep = 3; sites = record { origin = codes "http://b.test"; proc = p 2 } ∷ []; pages = record { base = codes "http://a.test/1"; slot = 1 } ∷ record { base = codes "http://b.test/f"; slot = 1 } ∷ []; first = codes "http://a.test/" }
+
+pub two_prompts_at_once_is_legal : IsLegal (log_of two_prompts_at_once)
+unfolding url_on_literals is_web is_blank_url judged judged_parse read_against address_of url_of resolved with_fragment base_of fragment_of origin_text origin_of has_same_base is_rewritable events_of each_event after_opening AtEachEvent is_numbered opens is_formed is_once is_caused is_queued is_ordered is_checked ends_settled loads_end ends_told ends_stepped goes_in_time
+two_prompts_at_once_is_legal = record { opened = refl; numbered = refl; formed = refl; once = refl; caused = refl; queued = refl; ordered = refl; checked = refl; settled = refl }
+
+pub two_prompts_at_once_ends_loads : LoadsEndInTime (log_of two_prompts_at_once)
+unfolding url_on_literals is_web is_blank_url judged judged_parse read_against address_of url_of resolved with_fragment base_of fragment_of origin_text origin_of has_same_base is_rewritable events_of each_event after_opening AtEachEvent is_numbered opens is_formed is_once is_caused is_queued is_ordered is_checked ends_settled loads_end ends_told ends_stepped goes_in_time
+two_prompts_at_once_ends_loads = refl
+
+pub two_prompts_at_once_acts_at_once : ActsAtOnce (log_of two_prompts_at_once)
+unfolding url_on_literals is_web is_blank_url judged judged_parse read_against address_of url_of resolved with_fragment base_of fragment_of origin_text origin_of has_same_base is_rewritable events_of each_event after_opening AtEachEvent is_numbered opens is_formed is_once is_caused is_queued is_ordered is_checked ends_settled loads_end ends_told ends_stepped goes_in_time
+two_prompts_at_once_acts_at_once = record { told = refl; stepped = refl; in_time = refl }
+
+pub two_prompts_at_once_suits : Suits two_prompts_at_once_header (log_of two_prompts_at_once)
+unfolding url_on_literals is_web is_blank_url judged judged_parse read_against address_of url_of resolved with_fragment base_of fragment_of origin_text origin_of has_same_base is_rewritable events_of each_event after_opening AtEachEvent is_numbered opens is_formed is_once is_caused is_queued is_ordered is_checked ends_settled loads_end ends_told ends_stepped goes_in_time
+two_prompts_at_once_suits = record { opened = refl; placed = refl; kept = refl }
+
+-- A traversal hides a frame, and asks its document.
+abbrev pub hidden_frame_is_asked : List Event
+hidden_frame_is_asked =
+    before 11 evicted_documents
+    ++ by_ui (rows.Accepted (r 2) None (requests.Go (negsuc 0))) (rows.Started (r 2) (Some (t 0)) ∷ sent 4 1 0 2 (whys.Req (r 2)) tasks.Freeze ∷ sent 5 1 0 1 (whys.Req (r 2)) (tasks.Activate (e 0 1) (epoch 3) 2 0 None (codes "http://a.test/")) ∷ [])
+    ∷ by_proc 1 (rows.Taken (p 1) (j 4) true false) []
+    ∷ by_proc 1 (rows.Finished (p 1) (j 4) outcomes.Frozen) []
+    ∷ by_coord (rows.Delivered (p 1)) []
+    ∷ by_proc 1 (rows.Taken (p 1) (j 5) true false) []
+    ∷ by_proc 1 (rows.Finished (p 1) (j 5) outcomes.Activated) []
+    ∷ by_coord (rows.Delivered (p 1)) (rows.Applied (r 2) (changes.Traverse (t 0)) ∷ [])
+    ∷ by_ui (rows.Accepted (r 3) (Some (d 1)) (requests.Poke (n 0) (actions.AddFrame (n 1)))) []
+    ∷ by_proc 1 (made 1 3 1 3 (whats.AddFrame (n 1))) []
+    ∷ by_coord (rows.Delivered (p 1)) (rows.Applied (r 3) (changes.AddFrame (s 1) (n 1) (e 0 3) (s 3)) ∷ sent 6 1 0 3 (whys.Req (r 3)) (tasks.Populate (n 1) (s 3) (codes "about:blank") true) ∷ [])
+    ∷ by_proc 1 (rows.Taken (p 1) (j 6) true false) []
+    ∷ by_proc 1 (rows.Finished (p 1) (j 6) (outcomes.Populated None)) []
+    ∷ by_coord (rows.Delivered (p 1)) (sent 7 1 0 3 (whys.Req (r 3)) (tasks.Activate (e 0 3) (epoch 1) 2 0 None (codes "about:blank")) ∷ [])
+    ∷ by_proc 1 (rows.Taken (p 1) (j 7) true false) []
+    ∷ by_proc 1 (rows.Finished (p 1) (j 7) outcomes.Activated) []
+    ∷ by_coord (rows.Delivered (p 1)) []
+    ∷ by_ui (rows.Accepted (r 4) None (requests.Load (n 1) modes.Auto (codes "http://a.test/f"))) (rows.Started (r 4) None ∷ sent 8 1 0 4 (whys.Req (r 4)) (tasks.Populate (n 1) (s 4) (codes "http://a.test/f") false) ∷ [])
+    ∷ by_proc 1 (rows.Taken (p 1) (j 8) true false) []
+    ∷ by_proc 1 (rows.Finished (p 1) (j 8) (outcomes.Populated (Some 1))) []
+    ∷ by_coord (rows.Delivered (p 1)) (rows.Applied (r 4) (changes.Replace (n 1) (e 0 3) (e 0 4) (s 4) (codes "http://a.test/f") None) ∷ sent 9 1 0 3 (whys.Req (r 4)) tasks.Discard ∷ sent 10 1 0 4 (whys.Req (r 4)) (tasks.Activate (e 0 4) (epoch 2) 2 0 None (codes "http://a.test/f")) ∷ [])
+    ∷ by_proc 1 (rows.Taken (p 1) (j 9) true false) []
+    ∷ by_proc 1 (rows.Finished (p 1) (j 9) outcomes.Discarded) []
+    ∷ by_coord (rows.Delivered (p 1)) []
+    ∷ by_proc 1 (rows.Taken (p 1) (j 10) true false) []
+    ∷ by_proc 1 (rows.Finished (p 1) (j 10) outcomes.Activated) []
+    ∷ by_coord (rows.Delivered (p 1)) []
+    ∷ by_ui (rows.Accepted (r 5) None (requests.Go (pos 1))) (rows.Started (r 5) (Some (t 1)) ∷ sent 11 1 0 4 (whys.Req (r 5)) (tasks.Ask 1 leavings.Traverse) ∷ [])
+    ∷ []
+
+abbrev pub hidden_frame_is_asked_header : Header
+hidden_frame_is_asked_header = record { keep = 3; sites = []; pages = record { base = codes "http://a.test/f"; slot = 1 } ∷ []; first = codes "http://a.test/" }
+
+pub hidden_frame_is_asked_is_legal : IsLegal (log_of hidden_frame_is_asked)
+unfolding url_on_literals is_web is_blank_url judged judged_parse read_against address_of url_of resolved with_fragment base_of fragment_of origin_text origin_of has_same_base is_rewritable events_of each_event after_opening AtEachEvent is_numbered opens is_formed is_once is_caused is_queued is_ordered is_checked ends_settled loads_end ends_told ends_stepped goes_in_time
+hidden_frame_is_asked_is_legal = record { opened = refl; numbered = refl; formed = refl; once = refl; caused = refl; queued = refl; ordered = refl; checked = refl; settled = refl }
+
+pub hidden_frame_is_asked_ends_loads : LoadsEndInTime (log_of hidden_frame_is_asked)
+unfolding url_on_literals is_web is_blank_url judged judged_parse read_against address_of url_of resolved with_fragment base_of fragment_of origin_text origin_of has_same_base is_rewritable events_of each_event after_opening AtEachEvent is_numbered opens is_formed is_once is_caused is_queued is_ordered is_checked ends_settled loads_end ends_told ends_stepped goes_in_time
+hidden_frame_is_asked_ends_loads = refl
+
+pub hidden_frame_is_asked_acts_at_once : ActsAtOnce (log_of hidden_frame_is_asked)
+unfolding url_on_literals is_web is_blank_url judged judged_parse read_against address_of url_of resolved with_fragment base_of fragment_of origin_text origin_of has_same_base is_rewritable events_of each_event after_opening AtEachEvent is_numbered opens is_formed is_once is_caused is_queued is_ordered is_checked ends_settled loads_end ends_told ends_stepped goes_in_time
+hidden_frame_is_asked_acts_at_once = record { told = refl; stepped = refl; in_time = refl }
+
+pub hidden_frame_is_asked_suits : Suits hidden_frame_is_asked_header (log_of hidden_frame_is_asked)
+unfolding url_on_literals is_web is_blank_url judged judged_parse read_against address_of url_of resolved with_fragment base_of fragment_of origin_text origin_of has_same_base is_rewritable events_of each_event after_opening AtEachEvent is_numbered opens is_formed is_once is_caused is_queued is_ordered is_checked ends_settled loads_end ends_told ends_stepped goes_in_time
+hidden_frame_is_asked_suits = record { opened = refl; placed = refl; kept = refl }
+
+-- A traversal waits for a reload, and asks as it begins.
+abbrev pub waiting_traversal_asks : List Event
+waiting_traversal_asks =
+    before 11 stay
+    ++ by_ui (rows.Accepted (r 2) None (requests.Reload (n 0))) (rows.Started (r 2) None ∷ sent 4 1 0 2 (whys.Req (r 2)) (tasks.Ask 0 leavings.Reload) ∷ [])
+    ∷ by_ui (rows.Accepted (r 3) None (requests.Go (negsuc 0))) []
+    ∷ by_proc 1 (rows.Taken (p 1) (j 4) true false) []
+    ∷ by_proc 1 (rows.Finished (p 1) (j 4) (outcomes.Asked verdicts.Leave)) []
+    ∷ by_coord (rows.Delivered (p 1)) (rows.Applied (r 2) (changes.Reload (n 0)) ∷ sent 5 1 0 3 (whys.Req (r 2)) (tasks.Populate (n 0) (s 2) (codes "http://a.test/1") false) ∷ [])
+    ∷ by_proc 1 (rows.Taken (p 1) (j 5) true false) []
+    ∷ by_proc 1 (rows.Finished (p 1) (j 5) (outcomes.Populated (Some 0))) []
+    ∷ by_coord (rows.Delivered (p 1)) (sent 6 1 0 2 (whys.Req (r 2)) tasks.Discard ∷ sent 7 1 0 3 (whys.Req (r 2)) (tasks.Activate (e 0 2) (epoch 3) 2 1 None (codes "http://a.test/1")) ∷ [])
+    ∷ by_proc 1 (rows.Taken (p 1) (j 6) true false) []
+    ∷ by_proc 1 (rows.Finished (p 1) (j 6) outcomes.Discarded) []
+    ∷ by_coord (rows.Delivered (p 1)) []
+    ∷ by_proc 1 (rows.Taken (p 1) (j 7) true false) []
+    ∷ by_proc 1 (rows.Finished (p 1) (j 7) outcomes.Activated) []
+    ∷ by_coord (rows.Delivered (p 1)) (rows.Started (r 3) (Some (t 0)) ∷ sent 8 1 0 3 (whys.Req (r 3)) (tasks.Ask 0 leavings.Traverse) ∷ [])
+    ∷ by_proc 1 (rows.Taken (p 1) (j 8) true false) []
+    ∷ by_proc 1 (rows.Finished (p 1) (j 8) (outcomes.Asked verdicts.Leave)) []
+    ∷ by_coord (rows.Delivered (p 1)) (sent 9 1 0 3 (whys.Req (r 3)) tasks.Freeze ∷ sent 10 1 0 1 (whys.Req (r 3)) (tasks.Activate (e 0 1) (epoch 4) 2 0 None (codes "http://a.test/")) ∷ [])
+    ∷ by_proc 1 (rows.Taken (p 1) (j 9) true false) []
+    ∷ by_proc 1 (rows.Finished (p 1) (j 9) outcomes.Frozen) []
+    ∷ by_coord (rows.Delivered (p 1)) []
+    ∷ by_proc 1 (rows.Taken (p 1) (j 10) true false) []
+    ∷ by_proc 1 (rows.Finished (p 1) (j 10) outcomes.Activated) []
+    ∷ by_coord (rows.Delivered (p 1)) (rows.Applied (r 3) (changes.Traverse (t 0)) ∷ [])
+    ∷ []
+
+abbrev pub waiting_traversal_asks_header : Header
+waiting_traversal_asks_header = record { keep = 3; sites = []; pages = record { base = codes "http://a.test/1"; slot = 0 } ∷ []; first = codes "http://a.test/" }
+
+pub waiting_traversal_asks_is_legal : IsLegal (log_of waiting_traversal_asks)
+unfolding url_on_literals is_web is_blank_url judged judged_parse read_against address_of url_of resolved with_fragment base_of fragment_of origin_text origin_of has_same_base is_rewritable events_of each_event after_opening AtEachEvent is_numbered opens is_formed is_once is_caused is_queued is_ordered is_checked ends_settled loads_end ends_told ends_stepped goes_in_time
+waiting_traversal_asks_is_legal = record { opened = refl; numbered = refl; formed = refl; once = refl; caused = refl; queued = refl; ordered = refl; checked = refl; settled = refl }
+
+pub waiting_traversal_asks_ends_loads : LoadsEndInTime (log_of waiting_traversal_asks)
+unfolding url_on_literals is_web is_blank_url judged judged_parse read_against address_of url_of resolved with_fragment base_of fragment_of origin_text origin_of has_same_base is_rewritable events_of each_event after_opening AtEachEvent is_numbered opens is_formed is_once is_caused is_queued is_ordered is_checked ends_settled loads_end ends_told ends_stepped goes_in_time
+waiting_traversal_asks_ends_loads = refl
+
+pub waiting_traversal_asks_acts_at_once : ActsAtOnce (log_of waiting_traversal_asks)
+unfolding url_on_literals is_web is_blank_url judged judged_parse read_against address_of url_of resolved with_fragment base_of fragment_of origin_text origin_of has_same_base is_rewritable events_of each_event after_opening AtEachEvent is_numbered opens is_formed is_once is_caused is_queued is_ordered is_checked ends_settled loads_end ends_told ends_stepped goes_in_time
+waiting_traversal_asks_acts_at_once = record { told = refl; stepped = refl; in_time = refl }
+
+pub waiting_traversal_asks_suits : Suits waiting_traversal_asks_header (log_of waiting_traversal_asks)
+unfolding url_on_literals is_web is_blank_url judged judged_parse read_against address_of url_of resolved with_fragment base_of fragment_of origin_text origin_of has_same_base is_rewritable events_of each_event after_opening AtEachEvent is_numbered opens is_formed is_once is_caused is_queued is_ordered is_checked ends_settled loads_end ends_told ends_stepped goes_in_time
+waiting_traversal_asks_suits = record { opened = refl; placed = refl; kept = refl }

@@ -21,7 +21,7 @@ use Rattle.log_model.specs.declared.header.Header.{Header}
 use Rattle.log_examples.specs.Rows.{n, s, r, p, t, x, d, j, e, epoch, sent}
 use Rattle.log_examples.specs.Logs.{Event, by_start, by_ui, by_coord, by_proc, log_of, before, plain_settings}
 use Rattle.log_examples.proofs.Pushes.{push_beside_a_frame}
-use Rattle.log_examples.proofs.Frames.{load_while_frames_are_moved}
+use Rattle.log_examples.proofs.Loads.{fragment_beside_a_reload}
 use Rattle.log_examples.proofs.Removals.{removal_and_push}
 
 -- A kept document of a frame outlives the reload of its parent.
@@ -78,7 +78,7 @@ kept_frame_document_at_a_reload_suits = record { opened = refl; placed = refl; k
 -- A kept document of a frame goes with its parent's.
 abbrev pub kept_frame_document_at_an_eviction : List Event
 kept_frame_document_at_an_eviction =
-    before 20 load_while_frames_are_moved
+    before 20 fragment_beside_a_reload
     ++ by_ui (rows.Accepted (r 3) None (requests.Load (n 0) modes.Auto (codes "http://b.test/p0"))) (rows.Started (r 3) None ∷ sent 6 2 0 4 (whys.Req (r 3)) (tasks.Populate (n 0) (s 4) (codes "http://b.test/p0") false) ∷ [])
     ∷ by_proc 2 (rows.Taken (p 2) (j 6) true false) []
     ∷ by_proc 2 (rows.Finished (p 2) (j 6) (outcomes.Populated None)) []

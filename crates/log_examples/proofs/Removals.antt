@@ -25,7 +25,8 @@ use Rattle.log_examples.specs.Rows.{n, s, r, p, t, d, j, e, epoch, sent, made}
 use Rattle.log_examples.specs.Logs.{Event, by_ui, by_coord, by_proc, log_of, before, plain_settings}
 use Rattle.log_examples.proofs.Pushes.{push_beside_a_frame}
 use Rattle.log_examples.proofs.Interleavings.{held_back_push}
-use Rattle.log_examples.proofs.Frames.{frame_loads_and_fragment, load_while_frames_are_moved}
+use Rattle.log_examples.proofs.Loads.{fragment_beside_a_reload}
+use Rattle.log_examples.proofs.Frames.{frame_loads_and_fragment}
 
 -- A frame is loaded twice and removed; its steps go with it.
 abbrev pub removed_frame : List Event
@@ -244,7 +245,7 @@ removal_and_push_suits = record { opened = refl; placed = refl; kept = refl }
 -- The same, in two processes.
 abbrev pub removal_and_push_of_two_processes : List Event
 removal_and_push_of_two_processes =
-    before 20 load_while_frames_are_moved
+    before 20 fragment_beside_a_reload
     ++ by_ui (rows.Accepted (r 3) None (requests.Load (n 1) modes.Auto (codes "http://b.test/g"))) (rows.Started (r 3) None ∷ sent 6 2 0 4 (whys.Req (r 3)) (tasks.Populate (n 1) (s 4) (codes "http://b.test/g") false) ∷ [])
     ∷ by_proc 2 (rows.Taken (p 2) (j 6) true false) []
     ∷ by_proc 2 (rows.Finished (p 2) (j 6) (outcomes.Populated None)) []
@@ -322,3 +323,37 @@ removal_and_push_of_two_processes_acts_at_once = record { told = refl; stepped =
 pub removal_and_push_of_two_processes_suits : Suits removal_and_push_of_two_processes_header (log_of removal_and_push_of_two_processes)
 unfolding url_on_literals is_web is_blank_url judged judged_parse read_against address_of url_of resolved with_fragment base_of fragment_of origin_text origin_of has_same_base is_rewritable events_of each_event after_opening AtEachEvent is_numbered opens is_formed is_once is_caused is_queued is_ordered is_checked ends_settled loads_end ends_told ends_stepped goes_in_time
 removal_and_push_of_two_processes_suits = record { opened = refl; placed = refl; kept = refl }
+
+-- A push of a frame that was removed is dropped by the removal, behind another push.
+abbrev pub push_of_a_removed_frame_behind_another : List Event
+push_of_a_removed_frame_behind_another =
+    before 20 fragment_beside_a_reload
+    ++ by_ui (rows.Accepted (r 3) (Some (d 3)) (requests.Poke (n 1) (actions.Push (Some (codes "s")) None))) []
+    ∷ by_proc 2 (made 2 3 3 2 (whats.Push (e 3 1) (Some (codes "s")) (codes "http://b.test/f"))) []
+    ∷ by_ui (rows.Accepted (r 4) (Some (d 1)) (requests.Poke (n 0) (actions.RemoveFrame (n 1)))) []
+    ∷ by_proc 1 (made 1 4 1 1 (whats.RemoveFrame (n 1))) []
+    ∷ by_coord (rows.Delivered (p 1)) (rows.Applied (r 4) (changes.RemoveFrame (n 1)) ∷ sent 6 2 0 3 (whys.Req (r 4)) tasks.Discard ∷ [])
+    ∷ by_ui (rows.Accepted (r 5) (Some (d 1)) (requests.Poke (n 0) (actions.Push (Some (codes "t")) None))) []
+    ∷ by_proc 1 (made 1 5 1 1 (whats.Push (e 1 1) (Some (codes "t")) (codes "http://a.test/"))) []
+    ∷ by_coord (rows.Delivered (p 1)) (rows.Applied (r 5) (changes.Push (n 0) (e 1 1) (s 1) (codes "http://a.test/") (Some (codes "t"))) ∷ sent 7 1 0 1 (whys.Req (r 5)) (tasks.Update 2 1) ∷ [])
+    ∷ by_coord (rows.Delivered (p 2)) (rows.Dropped (r 3) (drops.Destroyed (r 4)) ∷ [])
+    ∷ []
+
+abbrev pub push_of_a_removed_frame_behind_another_header : Header
+push_of_a_removed_frame_behind_another_header = record { keep = 3; sites = record { origin = codes "http://b.test"; proc = p 2 } ∷ []; pages = []; first = codes "http://a.test/" }
+
+pub push_of_a_removed_frame_behind_another_is_legal : IsLegal (log_of push_of_a_removed_frame_behind_another)
+unfolding url_on_literals is_web is_blank_url judged judged_parse read_against address_of url_of resolved with_fragment base_of fragment_of origin_text origin_of has_same_base is_rewritable events_of each_event after_opening AtEachEvent is_numbered opens is_formed is_once is_caused is_queued is_ordered is_checked ends_settled loads_end ends_told ends_stepped goes_in_time
+push_of_a_removed_frame_behind_another_is_legal = record { opened = refl; numbered = refl; formed = refl; once = refl; caused = refl; queued = refl; ordered = refl; checked = refl; settled = refl }
+
+pub push_of_a_removed_frame_behind_another_ends_loads : LoadsEndInTime (log_of push_of_a_removed_frame_behind_another)
+unfolding url_on_literals is_web is_blank_url judged judged_parse read_against address_of url_of resolved with_fragment base_of fragment_of origin_text origin_of has_same_base is_rewritable events_of each_event after_opening AtEachEvent is_numbered opens is_formed is_once is_caused is_queued is_ordered is_checked ends_settled loads_end ends_told ends_stepped goes_in_time
+push_of_a_removed_frame_behind_another_ends_loads = refl
+
+pub push_of_a_removed_frame_behind_another_acts_at_once : ActsAtOnce (log_of push_of_a_removed_frame_behind_another)
+unfolding url_on_literals is_web is_blank_url judged judged_parse read_against address_of url_of resolved with_fragment base_of fragment_of origin_text origin_of has_same_base is_rewritable events_of each_event after_opening AtEachEvent is_numbered opens is_formed is_once is_caused is_queued is_ordered is_checked ends_settled loads_end ends_told ends_stepped goes_in_time
+push_of_a_removed_frame_behind_another_acts_at_once = record { told = refl; stepped = refl; in_time = refl }
+
+pub push_of_a_removed_frame_behind_another_suits : Suits push_of_a_removed_frame_behind_another_header (log_of push_of_a_removed_frame_behind_another)
+unfolding url_on_literals is_web is_blank_url judged judged_parse read_against address_of url_of resolved with_fragment base_of fragment_of origin_text origin_of has_same_base is_rewritable events_of each_event after_opening AtEachEvent is_numbered opens is_formed is_once is_caused is_queued is_ordered is_checked ends_settled loads_end ends_told ends_stepped goes_in_time
+push_of_a_removed_frame_behind_another_suits = record { opened = refl; placed = refl; kept = refl }

@@ -16,23 +16,23 @@ use Rattle.log_model.specs.declared.outcome.Outcome.TheVariants as outcomes
 use Rattle.log_model.specs.declared.request.Mode.TheVariants as modes
 use Rattle.log_model.specs.declared.request.Request.TheVariants as requests
 use Rattle.log_model.specs.declared.row_kind.RowKind.TheVariants as rows
-use Rattle.log_model.specs.Events.{at_end, events_of, each_event, after_opening, AtEachEvent}
+use Rattle.log_model.specs.Events.{at_end, each_row, events_of, each_event, after_opening, AtEachEvent}
 use Rattle.log_model.specs.Formed.{is_numbered}
 use Rattle.log_model.specs.Legal.{IsLegal, IsFormed, EachRequestOnce, OutcomesAreCaused, KeepsQueueOrder, OrdersAreCaused, ChecksAreKept, QuietIsSettled, opens, is_formed, is_once, is_caused, is_queued, is_ordered, is_checked, ends_settled}
 use Rattle.log_model.specs.LoadsEndInTime.{LoadsEndInTime, loads_end}
 use Rattle.log_model.specs.ActsAtOnce.{ActsAtOnce, ends_told, ends_stepped, goes_in_time}
-use Rattle.log_model.specs.Suits.{Suits}
+use Rattle.log_model.specs.Suits.{Suits, is_suitable_row}
 use Rattle.log_model.specs.declared.header.Header.{Header}
 use Rattle.log_examples.specs.Rows.{n, s, r, p, t, x, d, j, e, epoch, sent, made}
 use Rattle.log_examples.specs.Logs.{Event, by_start, by_ui, by_coord, by_proc, log_of, before, plain_settings}
-use Rattle.log_examples.proofs.Pushes.{replace_and_fragment, push_after_a_death, push_beside_a_frame, poke_of_the_newer_document}
+use Rattle.log_examples.proofs.Pushes.{one_push, replace_and_fragment, push_after_a_death, push_beside_a_frame, poke_of_the_newer_document}
 use Rattle.log_examples.proofs.Traversals.{document_goes_back}
-use Rattle.log_examples.proofs.Interleavings.{goal_cleared_by_a_push, held_back_push_and_removal, back_after_a_held_back_push}
+use Rattle.log_examples.proofs.Interleavings.{push_beside_a_running_traversal, goal_cleared_by_a_push, held_back_push_and_removal, back_after_a_held_back_push}
 use Rattle.log_examples.proofs.Loads.{no_document_kept, load_ended_by_a_traversal, load_of_no_navigable}
 use Rattle.log_examples.proofs.Frames.{taken_number}
-use Rattle.log_examples.proofs.Removals.{removal_and_push}
-use Rattle.log_examples.proofs.Reloads.{kept_frame_document_at_a_reload, reload_and_death}
-use Rattle.log_examples.proofs.Prompts.{stay, load_behind_a_prompt, question_settled_by_a_discard, frames_asked_in_order}
+use Rattle.log_examples.proofs.Removals.{push_of_a_removed_frame, removal_and_push}
+use Rattle.log_examples.proofs.Reloads.{kept_frame_document_at_a_reload, reload_of_a_hidden_frame, reload_and_death}
+use Rattle.log_examples.proofs.Prompts.{stay, load_behind_a_prompt, question_settled_by_a_discard, frames_asked_in_order, hidden_frame_is_asked}
 use Rattle.log_examples.proofs.Deaths.{one_of_two_processes_dies, load_below_a_lost_navigable}
 use Rattle.log_examples.proofs.Pending.{load_over_a_frame}
 
@@ -799,3 +799,202 @@ request_served_1 =
 pub request_served_1_keeps_told : AtEachEvent (at_end ends_told) (log_of request_served_1)
 unfolding url_on_literals is_web is_blank_url judged judged_parse read_against address_of url_of resolved with_fragment base_of fragment_of origin_text origin_of has_same_base is_rewritable events_of each_event after_opening AtEachEvent is_numbered opens is_formed is_once is_caused is_queued is_ordered is_checked ends_settled loads_end ends_told ends_stepped goes_in_time
 request_served_1_keeps_told = refl
+
+-- A load shows its document before the one before it is frozen: that puts the frame to sleep. sleepers_below: were `holds (λ (last : DocId). last.0 == doc.0) place.last` always so, it would be refused.
+abbrev pub shown_before_the_other_is_frozen : List Event
+shown_before_the_other_is_frozen =
+    before 13 reload_of_a_hidden_frame
+    ++ by_coord (rows.Delivered (p 1)) (rows.Applied (r 2) (changes.Push (n 0) (e 0 3) (s 3) (codes "http://a.test/1") None) ∷ sent 4 1 0 3 (whys.Req (r 2)) (tasks.Activate (e 0 3) (epoch 2) 2 1 None (codes "http://a.test/1")) ∷ sent 5 1 0 1 (whys.Req (r 2)) tasks.Freeze ∷ [])
+    ∷ []
+
+pub shown_before_the_other_is_frozen_is_legal : IsLegal (log_of shown_before_the_other_is_frozen)
+unfolding url_on_literals is_web is_blank_url judged judged_parse read_against address_of url_of resolved with_fragment base_of fragment_of origin_text origin_of has_same_base is_rewritable events_of each_event after_opening AtEachEvent is_numbered opens is_formed is_once is_caused is_queued is_ordered is_checked ends_settled loads_end ends_told ends_stepped goes_in_time
+shown_before_the_other_is_frozen_is_legal = record { opened = refl; numbered = refl; formed = refl; once = refl; caused = refl; queued = refl; ordered = refl; checked = refl; settled = refl }
+
+pub shown_before_the_other_is_frozen_ends_loads : LoadsEndInTime (log_of shown_before_the_other_is_frozen)
+unfolding url_on_literals is_web is_blank_url judged judged_parse read_against address_of url_of resolved with_fragment base_of fragment_of origin_text origin_of has_same_base is_rewritable events_of each_event after_opening AtEachEvent is_numbered opens is_formed is_once is_caused is_queued is_ordered is_checked ends_settled loads_end ends_told ends_stepped goes_in_time
+shown_before_the_other_is_frozen_ends_loads = refl
+
+pub shown_before_the_other_is_frozen_acts_at_once : ActsAtOnce (log_of shown_before_the_other_is_frozen)
+unfolding url_on_literals is_web is_blank_url judged judged_parse read_against address_of url_of resolved with_fragment base_of fragment_of origin_text origin_of has_same_base is_rewritable events_of each_event after_opening AtEachEvent is_numbered opens is_formed is_once is_caused is_queued is_ordered is_checked ends_settled loads_end ends_told ends_stepped goes_in_time
+shown_before_the_other_is_frozen_acts_at_once = record { told = refl; stepped = refl; in_time = refl }
+
+pub shown_before_the_other_is_frozen_suits : Suits plain_settings (log_of shown_before_the_other_is_frozen)
+unfolding url_on_literals is_web is_blank_url judged judged_parse read_against address_of url_of resolved with_fragment base_of fragment_of origin_text origin_of has_same_base is_rewritable events_of each_event after_opening AtEachEvent is_numbered opens is_formed is_once is_caused is_queued is_ordered is_checked ends_settled loads_end ends_told ends_stepped goes_in_time
+shown_before_the_other_is_frozen_suits = record { opened = refl; placed = refl; kept = refl }
+
+-- The document of a removed frame is frozen, for it is discarded in the same event. displaces: by_task: were equation 2 false, it would be refused.
+abbrev pub frozen_before_it_is_discarded : List Event
+frozen_before_it_is_discarded =
+    before 11 push_of_a_removed_frame
+    ++ by_proc 1 (made 1 2 1 1 (whats.RemoveFrame (n 1))) []
+    ∷ by_coord (rows.Delivered (p 1)) (rows.Applied (r 2) (changes.RemoveFrame (n 1)) ∷ sent 3 1 0 2 (whys.Req (r 2)) tasks.Freeze ∷ sent 4 1 0 2 (whys.Req (r 2)) tasks.Discard ∷ [])
+    ∷ []
+
+pub frozen_before_it_is_discarded_is_legal : IsLegal (log_of frozen_before_it_is_discarded)
+unfolding url_on_literals is_web is_blank_url judged judged_parse read_against address_of url_of resolved with_fragment base_of fragment_of origin_text origin_of has_same_base is_rewritable events_of each_event after_opening AtEachEvent is_numbered opens is_formed is_once is_caused is_queued is_ordered is_checked ends_settled loads_end ends_told ends_stepped goes_in_time
+frozen_before_it_is_discarded_is_legal = record { opened = refl; numbered = refl; formed = refl; once = refl; caused = refl; queued = refl; ordered = refl; checked = refl; settled = refl }
+
+pub frozen_before_it_is_discarded_ends_loads : LoadsEndInTime (log_of frozen_before_it_is_discarded)
+unfolding url_on_literals is_web is_blank_url judged judged_parse read_against address_of url_of resolved with_fragment base_of fragment_of origin_text origin_of has_same_base is_rewritable events_of each_event after_opening AtEachEvent is_numbered opens is_formed is_once is_caused is_queued is_ordered is_checked ends_settled loads_end ends_told ends_stepped goes_in_time
+frozen_before_it_is_discarded_ends_loads = refl
+
+pub frozen_before_it_is_discarded_acts_at_once : ActsAtOnce (log_of frozen_before_it_is_discarded)
+unfolding url_on_literals is_web is_blank_url judged judged_parse read_against address_of url_of resolved with_fragment base_of fragment_of origin_text origin_of has_same_base is_rewritable events_of each_event after_opening AtEachEvent is_numbered opens is_formed is_once is_caused is_queued is_ordered is_checked ends_settled loads_end ends_told ends_stepped goes_in_time
+frozen_before_it_is_discarded_acts_at_once = record { told = refl; stepped = refl; in_time = refl }
+
+pub frozen_before_it_is_discarded_suits : Suits plain_settings (log_of frozen_before_it_is_discarded)
+unfolding url_on_literals is_web is_blank_url judged judged_parse read_against address_of url_of resolved with_fragment base_of fragment_of origin_text origin_of has_same_base is_rewritable events_of each_event after_opening AtEachEvent is_numbered opens is_formed is_once is_caused is_queued is_ordered is_checked ends_settled loads_end ends_told ends_stepped goes_in_time
+frozen_before_it_is_discarded_suits = record { opened = refl; placed = refl; kept = refl }
+
+-- A traversal is applied out of its turn while a reload is pending, and a load is dropped by that reload. is_new_step: without conjunct `is_load q.what`, `caused` would not hold.
+abbrev pub reload_before_a_traversal_out_of_turn : List Event
+reload_before_a_traversal_out_of_turn =
+    one_push
+    ++ by_ui (rows.Accepted (r 2) None (requests.Reload (n 0))) (rows.Started (r 2) None ∷ rows.Applied (r 2) (changes.Reload (n 0)) ∷ sent 2 1 0 2 (whys.Req (r 2)) (tasks.Populate (n 0) (s 1) (codes "http://a.test/1") false) ∷ [])
+    ∷ by_ui (rows.Accepted (r 3) None (requests.Go (negsuc 0))) (rows.Started (r 3) (Some (t 0)) ∷ rows.Applied (r 3) (changes.Traverse (t 0)) ∷ [])
+    ∷ by_ui (rows.Accepted (r 4) None (requests.Load (n 0) modes.Auto (codes "http://a.test/x"))) (rows.Dropped (r 4) (drops.By (r 2)) ∷ [])
+    ∷ []
+
+pub reload_before_a_traversal_out_of_turn_keeps_caused : OutcomesAreCaused (log_of reload_before_a_traversal_out_of_turn)
+unfolding url_on_literals is_web is_blank_url judged judged_parse read_against address_of url_of resolved with_fragment base_of fragment_of origin_text origin_of has_same_base is_rewritable events_of each_event after_opening AtEachEvent is_numbered opens is_formed is_once is_caused is_queued is_ordered is_checked ends_settled loads_end ends_told ends_stepped goes_in_time
+reload_before_a_traversal_out_of_turn_keeps_caused = refl
+
+-- Between the report of a reloaded document and its being shown another frame is reloaded; then a load of the first one begins. applied_to: were `d.nav.0 == nav.0` always so, `once` would not hold.
+abbrev pub reload_of_another_frame_between : List Event
+reload_of_another_frame_between =
+    before 19 push_beside_a_running_traversal
+    ++ by_ui (rows.Accepted (r 3) None (requests.Reload (n 1))) (rows.Started (r 3) None ∷ rows.Applied (r 3) (changes.Reload (n 1)) ∷ sent 5 1 0 4 (whys.Req (r 3)) (tasks.Populate (n 1) (s 2) (codes "about:blank") true) ∷ [])
+    ∷ by_proc 1 (rows.Taken (p 1) (j 5) true false) []
+    ∷ by_proc 1 (rows.Finished (p 1) (j 5) (outcomes.Populated None)) []
+    ∷ by_coord (rows.Delivered (p 1)) []
+    ∷ by_ui (rows.Accepted (r 4) None (requests.Reload (n 2))) (rows.Started (r 4) None ∷ rows.Applied (r 4) (changes.Reload (n 2)) ∷ sent 6 1 0 4 (whys.Req (r 3)) (tasks.Activate (e 0 2) (epoch 3) 1 0 None (codes "about:blank")) ∷ [])
+    ∷ by_proc 1 (rows.Taken (p 1) (j 6) true false) []
+    ∷ by_proc 1 (rows.Finished (p 1) (j 6) outcomes.Activated) []
+    ∷ by_coord (rows.Delivered (p 1)) []
+    ∷ by_ui (rows.Accepted (r 5) None (requests.Load (n 1) modes.Auto (codes "http://a.test/f"))) (rows.Started (r 5) None ∷ [])
+    ∷ []
+
+pub reload_of_another_frame_between_keeps_once : EachRequestOnce (log_of reload_of_another_frame_between)
+unfolding url_on_literals is_web is_blank_url judged judged_parse read_against address_of url_of resolved with_fragment base_of fragment_of origin_text origin_of has_same_base is_rewritable events_of each_event after_opening AtEachEvent is_numbered opens is_formed is_once is_caused is_queued is_ordered is_checked ends_settled loads_end ends_told ends_stepped goes_in_time
+reload_of_another_frame_between_keeps_once = refl
+
+-- A reload is applied as a push, above a load of a frame. is_begun_load: without conjunct `is_load q.what`, `loads` would not hold.
+abbrev pub reload_applied_as_a_push : List Event
+reload_applied_as_a_push =
+    before 10 push_beside_a_frame
+    ++ by_ui (rows.Accepted (r 2) None (requests.Load (n 1) modes.Auto (codes "http://c.test/p0"))) (rows.Started (r 2) None ∷ sent 3 2 0 3 (whys.Req (r 2)) (tasks.Populate (n 1) (s 3) (codes "http://c.test/p0") false) ∷ [])
+    ∷ by_ui (rows.Accepted (r 3) None (requests.Reload (n 0))) (rows.Started (r 3) None ∷ rows.Applied (r 3) (changes.Push (n 0) (e 0 3) (s 1) (codes "http://a.test/") None) ∷ [])
+    ∷ []
+
+pub reload_applied_as_a_push_keeps_loads : LoadsEndInTime (log_of reload_applied_as_a_push)
+unfolding url_on_literals is_web is_blank_url judged judged_parse read_against address_of url_of resolved with_fragment base_of fragment_of origin_text origin_of has_same_base is_rewritable events_of each_event after_opening AtEachEvent is_numbered opens is_formed is_once is_caused is_queued is_ordered is_checked ends_settled loads_end ends_told ends_stepped goes_in_time
+reload_applied_as_a_push_keeps_loads = refl
+
+-- A traversal that hides a frame begins as the document of that frame is made, which is discarded with its report. is_unneeded: is_target: without conjunct `is_shown s.history.rows (aim_of s) place.nav`, `ordered` would not hold.
+abbrev pub discarded_for_a_traversal_out_of_turn : List Event
+discarded_for_a_traversal_out_of_turn =
+    before 23 hidden_frame_is_asked
+    ++ by_ui (rows.Accepted (r 4) None (requests.Go (pos 1))) (rows.Started (r 4) (Some (t 1)) ∷ [])
+    ∷ by_coord (rows.Delivered (p 1)) (sent 7 1 0 3 (whys.Req (r 4)) tasks.Discard ∷ [])
+    ∷ []
+
+pub discarded_for_a_traversal_out_of_turn_keeps_ordered : OrdersAreCaused (log_of discarded_for_a_traversal_out_of_turn)
+unfolding url_on_literals is_web is_blank_url judged judged_parse read_against address_of url_of resolved with_fragment base_of fragment_of origin_text origin_of has_same_base is_rewritable events_of each_event after_opening AtEachEvent is_numbered opens is_formed is_once is_caused is_queued is_ordered is_checked ends_settled loads_end ends_told ends_stepped goes_in_time
+discarded_for_a_traversal_out_of_turn_keeps_ordered = refl
+
+-- Two loads begin in one event, and each asks. question_in: were `is_for req job` always so, `ordered` would not hold.
+abbrev pub two_loads_begin_in_an_event : List Event
+two_loads_begin_in_an_event =
+    by_start (rows.Opened (e 0 1) (s 1) (d 1) (p 1) (Some 1) (codes "http://a.test/")) []
+    ∷ by_ui (rows.Accepted (r 1) None (requests.Load (n 0) modes.Auto (codes "http://a.test/1"))) (rows.Started (r 1) None ∷ sent 1 1 0 1 (whys.Req (r 1)) (tasks.Ask 1 leavings.Load) ∷ rows.Accepted (r 2) None (requests.Load (n 0) modes.Auto (codes "http://a.test/2")) ∷ rows.Started (r 2) None ∷ sent 2 1 0 1 (whys.Req (r 2)) (tasks.Ask 1 leavings.Load) ∷ [])
+    ∷ []
+
+pub two_loads_begin_in_an_event_keeps_ordered : OrdersAreCaused (log_of two_loads_begin_in_an_event)
+unfolding url_on_literals is_web is_blank_url judged judged_parse read_against address_of url_of resolved with_fragment base_of fragment_of origin_text origin_of has_same_base is_rewritable events_of each_event after_opening AtEachEvent is_numbered opens is_formed is_once is_caused is_queued is_ordered is_checked ends_settled loads_end ends_told ends_stepped goes_in_time
+two_loads_begin_in_an_event_keeps_ordered = refl
+
+-- A document numbered 0 pushes in a frame, so that its entry has the number of the first one, and a load of the frame begins. given_row: without conjunct `is_of place.nav row`, `once` would not hold.
+abbrev pub one_entry_of_two_navigables : List Event
+one_entry_of_two_navigables =
+    before 10 push_beside_a_frame
+    ++ by_ui (sent 3 1 0 0 (whys.Req (r 1)) (tasks.Populate (n 1) (s 2) (codes "http://a.test/f") false)) []
+    ∷ by_proc 1 (rows.Taken (p 1) (j 3) true false) []
+    ∷ by_proc 1 (rows.Finished (p 1) (j 3) (outcomes.Populated None)) []
+    ∷ by_coord (rows.Delivered (p 1)) (sent 4 1 0 0 (whys.Req (r 1)) (tasks.Activate (e 0 2) (epoch 2) 1 0 None (codes "http://a.test/f")) ∷ [])
+    ∷ by_proc 1 (rows.Taken (p 1) (j 4) true false) []
+    ∷ by_proc 1 (rows.Finished (p 1) (j 4) outcomes.Activated) []
+    ∷ by_coord (rows.Delivered (p 1)) []
+    ∷ by_ui (rows.Accepted (r 2) (Some (d 0)) (requests.Poke (n 1) (actions.Push (Some (codes "s")) None))) []
+    ∷ by_proc 1 (made 1 2 0 2 (whats.Push (e 0 1) (Some (codes "s")) (codes "http://a.test/f"))) []
+    ∷ by_coord (rows.Delivered (p 1)) (rows.Applied (r 2) (changes.Push (n 1) (e 0 1) (s 2) (codes "http://a.test/f") (Some (codes "s"))) ∷ [])
+    ∷ by_ui (rows.Accepted (r 3) None (requests.Load (n 1) modes.Auto (codes "http://a.test/#x"))) (rows.Started (r 3) None ∷ [])
+    ∷ []
+
+pub one_entry_of_two_navigables_keeps_once : EachRequestOnce (log_of one_entry_of_two_navigables)
+unfolding url_on_literals is_web is_blank_url judged judged_parse read_against address_of url_of resolved with_fragment base_of fragment_of origin_text origin_of has_same_base is_rewritable events_of each_event after_opening AtEachEvent is_numbered opens is_formed is_once is_caused is_queued is_ordered is_checked ends_settled loads_end ends_told ends_stepped goes_in_time
+one_entry_of_two_navigables_keeps_once = refl
+
+-- A document is discarded, and then shown. shows_another: by_task: without conjunct `not (job.doc.0 == d.nr.0)`, `placed` would not hold.
+abbrev pub discarded_and_shown : List Event
+discarded_and_shown =
+    by_start (rows.Opened (e 0 1) (s 1) (d 1) (p 1) None (codes "http://a.test/")) []
+    ∷ by_ui (rows.Accepted (r 1) None (requests.Go (pos 5))) (sent 1 1 0 1 (whys.Req (r 1)) tasks.Discard ∷ sent 2 1 0 1 (whys.Req (r 1)) (tasks.Activate (e 0 1) (epoch 2) 1 0 None (codes "http://a.test/")) ∷ [])
+    ∷ []
+
+pub discarded_and_shown_keeps_placed : AtEachEvent (each_row (is_suitable_row plain_settings)) (log_of discarded_and_shown)
+unfolding url_on_literals is_web is_blank_url judged judged_parse read_against address_of url_of resolved with_fragment base_of fragment_of origin_text origin_of has_same_base is_rewritable events_of each_event after_opening AtEachEvent is_numbered opens is_formed is_once is_caused is_queued is_ordered is_checked ends_settled loads_end ends_told ends_stepped goes_in_time
+discarded_and_shown_keeps_placed = refl
+
+-- A document is discarded, and then told a length and index. shows_another: by_task: were equation 2 true, `placed` would not hold.
+abbrev pub discarded_and_told : List Event
+discarded_and_told =
+    by_start (rows.Opened (e 0 1) (s 1) (d 1) (p 1) None (codes "http://a.test/")) []
+    ∷ by_ui (rows.Accepted (r 1) None (requests.Go (pos 5))) (sent 1 1 0 1 (whys.Req (r 1)) tasks.Discard ∷ sent 2 1 0 1 (whys.Req (r 1)) (tasks.Update 2 1) ∷ [])
+    ∷ []
+
+pub discarded_and_told_keeps_placed : AtEachEvent (each_row (is_suitable_row plain_settings)) (log_of discarded_and_told)
+unfolding url_on_literals is_web is_blank_url judged judged_parse read_against address_of url_of resolved with_fragment base_of fragment_of origin_text origin_of has_same_base is_rewritable events_of each_event after_opening AtEachEvent is_numbered opens is_formed is_once is_caused is_queued is_ordered is_checked ends_settled loads_end ends_told ends_stepped goes_in_time
+discarded_and_told_keeps_placed = refl
+
+-- A document is discarded that is neither left nor kept. is_spare: without conjunct `is_left p d || has_doc p.now.kept d.nr`, `placed` would not hold.
+abbrev pub discarded_while_awake : List Event
+discarded_while_awake =
+    by_start (rows.Opened (e 0 1) (s 1) (d 1) (p 1) None (codes "http://a.test/")) []
+    ∷ by_ui (rows.Accepted (r 1) None (requests.Go (pos 5))) (sent 1 1 0 1 (whys.Req (r 1)) tasks.Discard ∷ [])
+    ∷ []
+
+pub discarded_while_awake_keeps_placed : AtEachEvent (each_row (is_suitable_row plain_settings)) (log_of discarded_while_awake)
+unfolding url_on_literals is_web is_blank_url judged judged_parse read_against address_of url_of resolved with_fragment base_of fragment_of origin_text origin_of has_same_base is_rewritable events_of each_event after_opening AtEachEvent is_numbered opens is_formed is_once is_caused is_queued is_ordered is_checked ends_settled loads_end ends_told ends_stepped goes_in_time
+discarded_while_awake_keeps_placed = refl
+
+-- A document is discarded, and once more as it is left. is_spare: without conjunct `not d.is_discarded`, `placed` would not hold.
+abbrev pub discarded_and_left : List Event
+discarded_and_left =
+    before 4 no_document_kept
+    ++ by_ui (rows.Accepted (r 2) None (requests.Go (pos 5))) (sent 2 1 0 1 (whys.Req (r 2)) tasks.Discard ∷ [])
+    ∷ by_coord (rows.Delivered (p 1)) (rows.Applied (r 1) (changes.Push (n 0) (e 0 2) (s 2) (codes "http://a.test/1") None) ∷ sent 3 1 0 1 (whys.Req (r 1)) tasks.Discard ∷ sent 4 1 0 2 (whys.Req (r 1)) (tasks.Activate (e 0 2) (epoch 2) 2 1 None (codes "http://a.test/1")) ∷ [])
+    ∷ []
+
+pub discarded_and_left_keeps_placed : AtEachEvent (each_row (is_suitable_row plain_settings)) (log_of discarded_and_left)
+unfolding url_on_literals is_web is_blank_url judged judged_parse read_against address_of url_of resolved with_fragment base_of fragment_of origin_text origin_of has_same_base is_rewritable events_of each_event after_opening AtEachEvent is_numbered opens is_formed is_once is_caused is_queued is_ordered is_checked ends_settled loads_end ends_told ends_stepped goes_in_time
+discarded_and_left_keeps_placed = refl
+
+abbrev pub dead_document_is_left_header : Header
+dead_document_is_left_header = record { keep = 0; sites = []; pages = []; first = codes "http://a.test/" }
+
+-- A dead document is left, and discarded since none may be kept. kept_then: were `is_left p d` never so, `placed` would not hold.
+abbrev pub dead_document_is_left : List Event
+dead_document_is_left =
+    by_start (rows.Opened (e 0 1) (s 1) (d 1) (p 1) None (codes "http://a.test/")) []
+    ∷ by_ui (rows.Killed (p 1) (x 1)) []
+    ∷ by_coord (rows.Delivered (p 1)) []
+    ∷ by_ui (rows.Accepted (r 1) None (requests.Load (n 0) modes.Auto (codes "http://b.test/"))) (rows.Started (r 1) None ∷ sent 1 1 1 2 (whys.Req (r 1)) (tasks.Populate (n 0) (s 2) (codes "http://b.test/") false) ∷ [])
+    ∷ by_proc 1 (rows.Taken (p 1) (j 1) true false) []
+    ∷ by_proc 1 (rows.Finished (p 1) (j 1) (outcomes.Populated None)) []
+    ∷ by_coord (rows.Delivered (p 1)) (rows.Applied (r 1) (changes.Push (n 0) (e 0 2) (s 2) (codes "http://b.test/") None) ∷ sent 2 1 1 1 (whys.Req (r 1)) tasks.Discard ∷ sent 3 1 1 2 (whys.Req (r 1)) (tasks.Activate (e 0 2) (epoch 2) 2 1 None (codes "http://b.test/")) ∷ [])
+    ∷ []
+
+pub dead_document_is_left_keeps_placed : AtEachEvent (each_row (is_suitable_row dead_document_is_left_header)) (log_of dead_document_is_left)
+unfolding url_on_literals is_web is_blank_url judged judged_parse read_against address_of url_of resolved with_fragment base_of fragment_of origin_text origin_of has_same_base is_rewritable events_of each_event after_opening AtEachEvent is_numbered opens is_formed is_once is_caused is_queued is_ordered is_checked ends_settled loads_end ends_told ends_stepped goes_in_time
+dead_document_is_left_keeps_placed = refl
