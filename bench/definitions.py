@@ -83,6 +83,10 @@ REASONS = [
         'AfterRequests:requests_finished/by_task: field is_not_found of `record q { is_not_found = not (is_running s job.doc) }` is not changed',
         'Causes:is_outdated: without disjunct `q.is_not_found`', 'Formed:is_followed_duly: as if `is_running s job.doc`',
         'Formed:is_followed_duly: `length later == 0` is turned', 'Views:made_of_task: as if `view.running`']),
+    ('the last document of a navigable is not kept: to be shown took it out, and one joins as another one is shown', ['AfterPlaces:kept_leaving: as if not `left.0 == doc.0`']),
+    ('`is_destroyed_by` asks for a navigable without a row, and the last change that met it with one is the one that took it', [
+        'AfterPlaces:with_taker: without conjunct `not (has_row place.nav new.rows)`']),
+    ('`made_of_task` makes nothing of another order', ['Once:is_made_of_order/answers: equation 2 is true']),
     ('an entry has one address', ['Settled:shows: without conjunct `bytes_eq view.address row.address`']),
 ]
 KNOWN = {name: reason for reason, names in REASONS for name in names}
