@@ -1,6 +1,6 @@
 -- Broken logs, each refused by the field `opened`.
 -- A log is its events: those before one of another log, since one, or between two, and its own.
-use Rattle.std.proofs.Common.{pos, true, false, List, [], ◌∷◌, codes, None}
+use Rattle.std.proofs.Common.{pos, List, [], ◌∷◌, codes, None}
 use Rattle.std.proofs.lemmas.Bool.{false≢true}
 use Rattle.url.proofs.OnLiterals.{url_on_literals}
 use Rattle.address.specs.Addresses.{is_web, is_blank_url, judged, judged_parse, read_against, address_of, url_of, resolved, with_fragment, base_of, fragment_of, origin_text, origin_of, has_same_base, is_rewritable}
