@@ -46,48 +46,22 @@ REASONS = [
     ('this is read of a load alone', [
         'AfterRequests:load_replaces: equation 2 is true', 'Once:loads: equation 2 is true', 'Orders:populates_load/loads_there: equation 2 is true']),
     ('a load has no delta', ['Causes:denial_at_start: equation 1 is left out']),
-    ('only a poke has a document (`names_document`)', [
-        'Causes:denial_at_act/makes: equation 2 is true', 'Causes:poke_is_gone: without conjunct `is_poke q.what`']),
     ('a reason is compared with a request or a death alone', ['Equal:same_why: equation 3 is false', 'Equal:same_why: equation 4 is false']),
-    ('a navigable is made after those above it', ['Walk:is_way_before: equation 2 is true']),
     ('the two numbers differ there', ['Walk:is_way_before: `nat_lt nav.0 other.0` is nat_le']),
-    ('documents of a navigable that run have different epochs', ['Formed:newer: `nat_lt (epoch best) (epoch d)` is nat_le']),
     ('documents of one number are the same', ['Checks:lower_doc: `nat_lt doc.0 best.0` is nat_le']),
-    ('no log but the empty one tells it, and `opened` refuses that', ['Events:after_opening: equation 1 is false']),
     ('`may_follow` lets no row follow a Taken row', ['Formed:is_said_rightly/by_kind: without conjunct `length p.later == 0`']),
     ('`is_followed_duly` says which rows follow a Finished row', ['Formed:may_follow: equation 6 is true', 'Formed:is_made: equation 2 is true']),
     ('`may_follow` lets none but Made rows follow a Finished row', ['Formed:is_followed_by_made/by_kind: equation 2 is true']),
     ('`is_applied_duly` says which rows follow a Made row', ['Formed:may_follow: equation 7 is true', 'Formed:is_applied_edit: equation 2 is true']),
     ('`may_follow` lets none but an applied edit follow a Made row', ['Formed:is_applied_duly/by_kind: equation 2 is true']),
-    ('what is made of an order is a push or a replace (`is_made_of_order`), and no row follows it (`is_followed_by_made`)',
-     ['Formed:is_said_rightly/by_kind: without premise `length p.done == 0`']),
-    ('a document numbers its entries (`is_made_of`), and what it made is applied once (`is_open`)',
-     ['Once:is_later_entry: `nat_lt d.last_applied entry.nr` is nat_le']),
-    ('the applied request itself is no ongoing load', [
-        'LoadsEndInTime:has_no_earlier_load_below: `nat_lt q.nr.0 req.0` is nat_le', 'LoadsEndInTime:has_no_earlier_load_at: `nat_lt q.nr.0 req.0` is nat_le']),
-    ('a Killed row drops the pokes of the input alone (`is_said_rightly`), and this death takes their documents', ['Causes:poke_is_gone/kills: equation 1 is true']),
     ('`request_served` changes nothing then', ['AfterRequests:requests_sent: equation 2 is left out', 'AfterRequests:requests_sent: equation 3 is left out']),
-    ('the user is asked for the sake of a document that wants it (`is_prompted_after`)', [
-        'Causes:is_stay: without test `wanted_prompt q`',
-        'Causes:is_stay/wanted_prompt: equation 1 is true', 'Causes:is_stay/wanted_prompt: without conjunct `asking.doc.0 == doc.0`',
-        'Causes:is_stay/wanted_prompt: without conjunct `holds is_prompt asking.verdict`', 'Causes:is_stay/wanted_prompt: without test `is_prompt`',
-        'Causes:is_stay/is_prompt: equation 2 is true']),
-    ('`change_of_made` makes a removal of a frame that has a row, and the top hangs on nothing', [
-        'History:fits: equation 4 is true', 'History:fits: without conjunct `not (nav.0 == 0)` (2)', 'History:fits: without conjunct `has_row nav history.rows`']),
-    ('`change_of_report` gives no change of a traversal or a reload', [
-        'Once:has_to_begin: without disjunct `is_traversal what`', 'Once:has_to_begin: without disjunct `is_reload what`',
-        'Once:due_change: as if not `has_to_begin q.what`']),
-    ('a refusal has the reason that is due (`due_denial`)', ['Points:is_refused_in/by_kind: without conjunct `same_denial why reason`']),
-    ('a document that is sent a fragment order runs still as it ends it: a process takes its orders in turn', [
-        'AfterRequests:requests_finished: equation 3 is left out', 'AfterRequests:requests_finished/by_task: equation 1 is left out',
-        'AfterRequests:requests_finished/by_task: field is_not_found of `record q { is_not_found = not (is_running s job.doc) }` is not changed',
-        'Causes:is_outdated: without disjunct `q.is_not_found`', 'Formed:is_followed_duly: as if `is_running s job.doc`',
-        'Formed:is_followed_duly: `length later == 0` is turned', 'Views:made_of_task: as if `view.running`']),
     ('the last document of a navigable is not kept: to be shown took it out, and one joins as another one is shown', ['AfterPlaces:kept_leaving: as if not `left.0 == doc.0`']),
     ('`is_destroyed_by` asks for a navigable without a row, and the last change that met it with one is the one that took it', [
         'AfterPlaces:with_taker: without conjunct `not (has_row place.nav new.rows)`']),
+    ('`change_of_made` makes a removal of a frame that has a row, and the top hangs on nothing', [
+        'History:fits: equation 4 is true', 'History:fits: without conjunct `not (nav.0 == 0)` (2)', 'History:fits: without conjunct `has_row nav history.rows`']),
     ('`made_of_task` makes nothing of another order', ['Once:is_made_of_order/answers: equation 2 is true']),
-    ('an entry has one address', ['Settled:shows: without conjunct `bytes_eq view.address row.address`']),
+    ('`is_made_of` asks for a document that runs', ['Views:made_of_task: as if `view.running`']),
 ]
 KNOWN = {name: reason for reason, names in REASONS for name in names}
 

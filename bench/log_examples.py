@@ -811,6 +811,7 @@ def gate(model):
     for name, sentence, log in NOT_OPENED:
         unsuited.append('-- %s\npub %s_is_refused : Suits plain_settings %s → ⊥\n%s\n%s_is_refused holds = false≢true holds.opened\n' % (
             sentence, name, log, log_rows.UNFOLDING, name))
+    unsuited[-1] += '\n-- it has no event: after_opening: were equation 1 false, `formed` would not hold\n' + lemma_of('no_row', 'keeps_formed', 'IsFormed []', 'refl')
     names.append(module(logs, folder, 'NotSuited', 'Logs that do not suit their settings.', unsuited + apart.pop('NotSuited', [])))
     with open(os.path.join(folder, 'Lib.antt'), 'w') as file:
         file.write(''.join('pub mod %s\n' % name for name in names))

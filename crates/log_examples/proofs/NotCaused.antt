@@ -927,3 +927,81 @@ gone_by_a_later_death =
 pub gone_by_a_later_death_is_refused : IsLegal (log_of gone_by_a_later_death) → ⊥
 unfolding url_on_literals is_web is_blank_url judged judged_parse read_against address_of url_of resolved with_fragment base_of fragment_of origin_text origin_of has_same_base is_rewritable events_of each_event after_opening AtEachEvent is_numbered opens is_formed is_once is_caused is_queued is_ordered is_checked ends_settled loads_end ends_told ends_stepped goes_in_time
 gone_by_a_later_death_is_refused holds = false≢true holds.caused
+
+-- A poke outlives the death of its document, and is dropped for it at another death. poke_is_gone: kills: were equation 1 true, `caused` would hold.
+abbrev pub poke_dropped_at_another_death : List Event
+poke_dropped_at_another_death =
+    by_start (rows.Opened (e 0 1) (s 1) (d 1) (p 1) None (codes "http://a.test/")) []
+    ∷ by_ui (rows.Accepted (r 1) (Some (d 1)) (requests.Poke (n 0) (actions.Push (Some (codes "s")) None))) []
+    ∷ by_ui (rows.Killed (p 1) (x 1)) []
+    ∷ by_ui (rows.Killed (p 2) (x 2)) (rows.Dropped (r 1) (drops.Gone (x 1)) ∷ [])
+    ∷ []
+
+pub poke_dropped_at_another_death_is_refused : IsLegal (log_of poke_dropped_at_another_death) → ⊥
+unfolding url_on_literals is_web is_blank_url judged judged_parse read_against address_of url_of resolved with_fragment base_of fragment_of origin_text origin_of has_same_base is_rewritable events_of each_event after_opening AtEachEvent is_numbered opens is_formed is_once is_caused is_queued is_ordered is_checked ends_settled loads_end ends_told ends_stepped goes_in_time
+poke_dropped_at_another_death_is_refused holds = false≢true holds.caused
+
+-- A traversal of the user names a document, and is dropped as that dies. poke_is_gone: without conjunct `is_poke q.what`, `caused` would hold.
+abbrev pub traversal_of_the_user_with_a_dead_document : List Event
+traversal_of_the_user_with_a_dead_document =
+    by_start (rows.Opened (e 0 1) (s 1) (d 1) (p 1) None (codes "http://a.test/")) []
+    ∷ by_ui (rows.Accepted (r 1) (Some (d 1)) (requests.Go (pos 5))) []
+    ∷ by_ui (rows.Killed (p 1) (x 1)) (rows.Dropped (r 1) (drops.Gone (x 1)) ∷ [])
+    ∷ []
+
+pub traversal_of_the_user_with_a_dead_document_is_refused : IsLegal (log_of traversal_of_the_user_with_a_dead_document) → ⊥
+unfolding url_on_literals is_web is_blank_url judged judged_parse read_against address_of url_of resolved with_fragment base_of fragment_of origin_text origin_of has_same_base is_rewritable events_of each_event after_opening AtEachEvent is_numbered opens is_formed is_once is_caused is_queued is_ordered is_checked ends_settled loads_end ends_told ends_stepped goes_in_time
+traversal_of_the_user_with_a_dead_document_is_refused holds = false≢true holds.caused
+
+-- The user is asked for a document that wants no prompt, and stays. is_stay: wanted_prompt: without conjunct `holds is_prompt asking.verdict`, `caused` would hold.
+abbrev pub stay_for_one_that_wants_no_prompt : List Event
+stay_for_one_that_wants_no_prompt =
+    by_start (rows.Opened (e 0 1) (s 1) (d 1) (p 1) (Some 0) (codes "http://a.test/")) []
+    ∷ by_ui (rows.Accepted (r 1) None (requests.Load (n 0) modes.Auto (codes "http://a.test/1"))) (rows.Started (r 1) None ∷ sent 1 1 0 1 (whys.Req (r 1)) (tasks.Ask 0 leavings.Load) ∷ [])
+    ∷ by_proc 1 (rows.Taken (p 1) (j 1) true false) []
+    ∷ by_proc 1 (rows.Finished (p 1) (j 1) (outcomes.Asked verdicts.Leave)) []
+    ∷ by_coord (rows.Delivered (p 1)) (rows.Prompted (r 1) (d 1) ∷ [])
+    ∷ by_ui (rows.Answered (r 1) true) (rows.Dropped (r 1) drops.Stay ∷ [])
+    ∷ []
+
+pub stay_for_one_that_wants_no_prompt_is_refused : IsLegal (log_of stay_for_one_that_wants_no_prompt) → ⊥
+unfolding url_on_literals is_web is_blank_url judged judged_parse read_against address_of url_of resolved with_fragment base_of fragment_of origin_text origin_of has_same_base is_rewritable events_of each_event after_opening AtEachEvent is_numbered opens is_formed is_once is_caused is_queued is_ordered is_checked ends_settled loads_end ends_told ends_stepped goes_in_time
+stay_for_one_that_wants_no_prompt_is_refused holds = false≢true holds.caused
+
+-- Of two documents one wants a prompt; the user is asked for the other one, and stays. is_stay: wanted_prompt: without conjunct `asking.doc.0 == doc.0`, `caused` would hold.
+abbrev pub stay_for_another_document : List Event
+stay_for_another_document =
+    by_start (rows.Opened (e 0 1) (s 1) (d 1) (p 1) (Some 1) (codes "http://a.test/")) []
+    ∷ by_ui (rows.Accepted (r 1) (Some (d 1)) (requests.Poke (n 0) (actions.AddFrame (n 1)))) []
+    ∷ by_proc 1 (made 1 1 1 1 (whats.AddFrame (n 1))) []
+    ∷ by_coord (rows.Delivered (p 1)) (rows.Applied (r 1) (changes.AddFrame (s 1) (n 1) (e 0 2) (s 2)) ∷ sent 1 1 0 2 (whys.Req (r 1)) (tasks.Populate (n 1) (s 2) (codes "about:blank") true) ∷ [])
+    ∷ by_proc 1 (rows.Taken (p 1) (j 1) true false) []
+    ∷ by_proc 1 (rows.Finished (p 1) (j 1) (outcomes.Populated (Some 0))) []
+    ∷ by_coord (rows.Delivered (p 1)) (sent 2 1 0 2 (whys.Req (r 1)) (tasks.Activate (e 0 2) (epoch 1) 1 0 None (codes "about:blank")) ∷ [])
+    ∷ by_proc 1 (rows.Taken (p 1) (j 2) true false) []
+    ∷ by_proc 1 (rows.Finished (p 1) (j 2) outcomes.Activated) []
+    ∷ by_coord (rows.Delivered (p 1)) []
+    ∷ by_ui (rows.Accepted (r 2) None (requests.Load (n 0) modes.Auto (codes "http://a.test/1"))) (rows.Started (r 2) None ∷ sent 3 1 0 1 (whys.Req (r 2)) (tasks.Ask 1 leavings.Load) ∷ sent 4 1 0 2 (whys.Req (r 2)) (tasks.Ask 0 leavings.Load) ∷ [])
+    ∷ by_proc 1 (rows.Taken (p 1) (j 3) true false) []
+    ∷ by_proc 1 (rows.Finished (p 1) (j 3) (outcomes.Asked verdicts.Prompt)) []
+    ∷ by_coord (rows.Delivered (p 1)) []
+    ∷ by_proc 1 (rows.Taken (p 1) (j 4) true false) []
+    ∷ by_proc 1 (rows.Finished (p 1) (j 4) (outcomes.Asked verdicts.Leave)) []
+    ∷ by_coord (rows.Delivered (p 1)) (rows.Prompted (r 2) (d 2) ∷ [])
+    ∷ by_ui (rows.Answered (r 2) true) (rows.Dropped (r 2) drops.Stay ∷ [])
+    ∷ []
+
+pub stay_for_another_document_is_refused : IsLegal (log_of stay_for_another_document) → ⊥
+unfolding url_on_literals is_web is_blank_url judged judged_parse read_against address_of url_of resolved with_fragment base_of fragment_of origin_text origin_of has_same_base is_rewritable events_of each_event after_opening AtEachEvent is_numbered opens is_formed is_once is_caused is_queued is_ordered is_checked ends_settled loads_end ends_told ends_stepped goes_in_time
+stay_for_another_document_is_refused holds = false≢true holds.caused
+
+-- A load of no navigable is refused by a process, for want of a document. is_refused_in: by_kind: without conjunct `same_denial why reason`, `caused` would hold.
+abbrev pub load_refused_by_a_process : List Event
+load_refused_by_a_process =
+    by_start (rows.Opened (e 0 1) (s 1) (d 1) (p 1) None (codes "http://a.test/")) []
+    ∷ by_proc 1 (rows.Accepted (r 1) None (requests.Load (n 5) modes.Auto (codes "http://a.test/1"))) (rows.Refused (r 1) denials.NoDocument ∷ [])
+    ∷ []
+
+pub load_refused_by_a_process_is_refused : IsLegal (log_of load_refused_by_a_process) → ⊥
+unfolding url_on_literals is_web is_blank_url judged judged_parse read_against address_of url_of resolved with_fragment base_of fragment_of origin_text origin_of has_same_base is_rewritable events_of each_event after_opening AtEachEvent is_numbered opens is_formed is_once is_caused is_queued is_ordered is_checked ends_settled loads_end ends_told ends_stepped goes_in_time
+load_refused_by_a_process_is_refused holds = false≢true holds.caused

@@ -973,3 +973,49 @@ load_begun_in_a_frame_about_to_hide =
 pub load_begun_in_a_frame_about_to_hide_is_refused : IsLegal (log_of load_begun_in_a_frame_about_to_hide) → ⊥
 unfolding url_on_literals is_web is_blank_url judged judged_parse read_against address_of url_of resolved with_fragment base_of fragment_of origin_text origin_of has_same_base is_rewritable events_of each_event after_opening AtEachEvent is_numbered opens is_formed is_once is_caused is_queued is_ordered is_checked ends_settled loads_end ends_told ends_stepped goes_in_time
 load_begun_in_a_frame_about_to_hide_is_refused holds = false≢true holds.once
+
+-- A document is made anew under its number, and makes its first entry again. is_later_entry: were `nat_lt d.last_applied entry.nr` `nat_le`, `once` would hold.
+abbrev pub entry_made_twice : List Event
+entry_made_twice =
+    one_push
+    ++ by_ui (rows.Accepted (r 2) None (requests.Go (pos 5))) (sent 2 1 0 1 (whys.Req (r 1)) (tasks.Populate (n 0) (s 1) (codes "http://a.test/1") false) ∷ sent 3 1 0 1 (whys.Req (r 1)) (tasks.Activate (e 1 1) (epoch 2) 2 1 (Some (codes "s")) (codes "http://a.test/1")) ∷ [])
+    ∷ by_proc 1 (rows.Taken (p 1) (j 2) true false) []
+    ∷ by_proc 1 (rows.Finished (p 1) (j 2) (outcomes.Populated None)) []
+    ∷ by_proc 1 (rows.Taken (p 1) (j 3) true false) []
+    ∷ by_proc 1 (rows.Finished (p 1) (j 3) outcomes.Activated) []
+    ∷ by_ui (rows.Accepted (r 3) (Some (d 1)) (requests.Poke (n 0) (actions.Push (Some (codes "t")) (Some (codes "/2"))))) []
+    ∷ by_proc 1 (made 1 3 1 2 (whats.Push (e 1 1) (Some (codes "t")) (codes "http://a.test/2"))) []
+    ∷ by_coord (rows.Delivered (p 1)) (rows.Applied (r 3) (changes.Push (n 0) (e 1 1) (s 1) (codes "http://a.test/2") (Some (codes "t"))) ∷ [])
+    ∷ []
+
+pub entry_made_twice_is_refused : IsLegal (log_of entry_made_twice) → ⊥
+unfolding url_on_literals is_web is_blank_url judged judged_parse read_against address_of url_of resolved with_fragment base_of fragment_of origin_text origin_of has_same_base is_rewritable events_of each_event after_opening AtEachEvent is_numbered opens is_formed is_once is_caused is_queued is_ordered is_checked ends_settled loads_end ends_told ends_stepped goes_in_time
+entry_made_twice_is_refused holds = false≢true holds.once
+
+-- A fragment order is sent for a reload, and what the document makes of it is applied. has_to_begin: without disjunct `is_reload what`, `once` would hold.
+abbrev pub reload_answered_as_a_fragment : List Event
+reload_answered_as_a_fragment =
+    by_start (rows.Opened (e 0 1) (s 1) (d 1) (p 1) None (codes "http://a.test/")) []
+    ∷ by_ui (rows.Accepted (r 1) None (requests.Reload (n 0))) (sent 1 1 0 1 (whys.Req (r 1)) (tasks.DoFragment (r 1) modes.Auto (codes "http://a.test/#x")) ∷ [])
+    ∷ by_proc 1 (rows.Taken (p 1) (j 1) true false) []
+    ∷ by_proc 1 (rows.Finished (p 1) (j 1) outcomes.Fragmented) (made 1 1 1 1 (whats.Push (e 1 1) None (codes "http://a.test/#x")) ∷ [])
+    ∷ by_coord (rows.Delivered (p 1)) (rows.Applied (r 1) (changes.Push (n 0) (e 1 1) (s 1) (codes "http://a.test/#x") None) ∷ [])
+    ∷ []
+
+pub reload_answered_as_a_fragment_is_refused : IsLegal (log_of reload_answered_as_a_fragment) → ⊥
+unfolding url_on_literals is_web is_blank_url judged judged_parse read_against address_of url_of resolved with_fragment base_of fragment_of origin_text origin_of has_same_base is_rewritable events_of each_event after_opening AtEachEvent is_numbered opens is_formed is_once is_caused is_queued is_ordered is_checked ends_settled loads_end ends_told ends_stepped goes_in_time
+reload_answered_as_a_fragment_is_refused holds = false≢true holds.once
+
+-- A fragment order is sent for a traversal, and what the document makes of it is applied. has_to_begin: without disjunct `is_traversal what`, `once` would hold.
+abbrev pub traversal_answered_as_a_fragment : List Event
+traversal_answered_as_a_fragment =
+    by_start (rows.Opened (e 0 1) (s 1) (d 1) (p 1) None (codes "http://a.test/")) []
+    ∷ by_ui (rows.Accepted (r 1) None (requests.Go (pos 5))) (sent 1 1 0 1 (whys.Req (r 1)) (tasks.DoFragment (r 1) modes.Auto (codes "http://a.test/#x")) ∷ [])
+    ∷ by_proc 1 (rows.Taken (p 1) (j 1) true false) []
+    ∷ by_proc 1 (rows.Finished (p 1) (j 1) outcomes.Fragmented) (made 1 1 1 1 (whats.Push (e 1 1) None (codes "http://a.test/#x")) ∷ [])
+    ∷ by_coord (rows.Delivered (p 1)) (rows.Applied (r 1) (changes.Push (n 0) (e 1 1) (s 1) (codes "http://a.test/#x") None) ∷ [])
+    ∷ []
+
+pub traversal_answered_as_a_fragment_is_refused : IsLegal (log_of traversal_answered_as_a_fragment) → ⊥
+unfolding url_on_literals is_web is_blank_url judged judged_parse read_against address_of url_of resolved with_fragment base_of fragment_of origin_text origin_of has_same_base is_rewritable events_of each_event after_opening AtEachEvent is_numbered opens is_formed is_once is_caused is_queued is_ordered is_checked ends_settled loads_end ends_told ends_stepped goes_in_time
+traversal_answered_as_a_fragment_is_refused holds = false≢true holds.once

@@ -1,6 +1,6 @@
 -- Logs that do not suit their settings.
 -- A log is its events: those before one of another log, since one, or between two, and its own.
-use Rattle.std.proofs.Common.{negsuc, true, false, List, [], ◌∷◌, ◌++◌, codes, Some, None}
+use Rattle.std.proofs.Common.{negsuc, true, false, List, [], ◌∷◌, ◌++◌, codes, refl, Some, None}
 use Rattle.std.proofs.lemmas.Bool.{false≢true}
 use Rattle.url.proofs.OnLiterals.{url_on_literals}
 use Rattle.address.specs.Addresses.{is_web, is_blank_url, judged, judged_parse, read_against, address_of, url_of, resolved, with_fragment, base_of, fragment_of, origin_text, origin_of, has_same_base, is_rewritable}
@@ -15,7 +15,7 @@ use Rattle.log_model.specs.declared.request.Request.TheVariants as requests
 use Rattle.log_model.specs.declared.row_kind.RowKind.TheVariants as rows
 use Rattle.log_model.specs.Events.{events_of, each_event, after_opening, AtEachEvent}
 use Rattle.log_model.specs.Formed.{is_numbered}
-use Rattle.log_model.specs.Legal.{opens, is_formed, is_once, is_caused, is_queued, is_ordered, is_checked, ends_settled}
+use Rattle.log_model.specs.Legal.{IsFormed, opens, is_formed, is_once, is_caused, is_queued, is_ordered, is_checked, ends_settled}
 use Rattle.log_model.specs.LoadsEndInTime.{loads_end}
 use Rattle.log_model.specs.ActsAtOnce.{ends_told, ends_stepped, goes_in_time}
 use Rattle.log_model.specs.Suits.{Suits}
@@ -92,6 +92,11 @@ log_without_its_opening_is_refused holds = false≢true holds.opened
 pub no_row_is_refused : Suits plain_settings [] → ⊥
 unfolding url_on_literals is_web is_blank_url judged judged_parse read_against address_of url_of resolved with_fragment base_of fragment_of origin_text origin_of has_same_base is_rewritable events_of each_event after_opening AtEachEvent is_numbered opens is_formed is_once is_caused is_queued is_ordered is_checked ends_settled loads_end ends_told ends_stepped goes_in_time
 no_row_is_refused holds = false≢true holds.opened
+
+-- it has no event: after_opening: were equation 1 false, `formed` would not hold
+pub no_row_keeps_formed : IsFormed []
+unfolding url_on_literals is_web is_blank_url judged judged_parse read_against address_of url_of resolved with_fragment base_of fragment_of origin_text origin_of has_same_base is_rewritable events_of each_event after_opening AtEachEvent is_numbered opens is_formed is_once is_caused is_queued is_ordered is_checked ends_settled loads_end ends_told ends_stepped goes_in_time
+no_row_keeps_formed = refl
 
 abbrev pub home_of_1_header : Header
 home_of_1_header = record { keep = 3; sites = record { origin = codes "http://b.test"; proc = p 2 } ∷ record { origin = codes "http://c.test"; proc = p 3 } ∷ []; pages = []; first = codes "http://a.test/" }

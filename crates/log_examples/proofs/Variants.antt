@@ -28,7 +28,7 @@ use Rattle.log_examples.specs.Logs.{Event, by_start, by_ui, by_coord, by_proc, l
 use Rattle.log_examples.proofs.Pushes.{one_push, replace_and_fragment, push_after_a_death, push_beside_a_frame, poke_of_the_newer_document}
 use Rattle.log_examples.proofs.Traversals.{document_goes_back}
 use Rattle.log_examples.proofs.Interleavings.{push_beside_a_running_traversal, goal_cleared_by_a_push, held_back_push_and_removal, back_after_a_held_back_push}
-use Rattle.log_examples.proofs.Loads.{no_document_kept, load_ended_by_a_traversal, load_of_no_navigable}
+use Rattle.log_examples.proofs.Loads.{no_document_kept, load_ended_by_a_traversal, evicted_documents, fragment_load, load_of_no_navigable}
 use Rattle.log_examples.proofs.Frames.{taken_number}
 use Rattle.log_examples.proofs.Removals.{push_of_a_removed_frame, removal_and_push}
 use Rattle.log_examples.proofs.Reloads.{kept_frame_document_at_a_reload, reload_of_a_hidden_frame, reload_and_death}
@@ -998,3 +998,120 @@ dead_document_is_left =
 pub dead_document_is_left_keeps_placed : AtEachEvent (each_row (is_suitable_row dead_document_is_left_header)) (log_of dead_document_is_left)
 unfolding url_on_literals is_web is_blank_url judged judged_parse read_against address_of url_of resolved with_fragment base_of fragment_of origin_text origin_of has_same_base is_rewritable events_of each_event after_opening AtEachEvent is_numbered opens is_formed is_once is_caused is_queued is_ordered is_checked ends_settled loads_end ends_told ends_stepped goes_in_time
 dead_document_is_left_keeps_placed = refl
+
+-- A frame is added once more, behind a frame in it, and shown again for a reload; then a load of the top asks in the order of the walk. is_way_before: were equation 2 true, `ordered` would not hold.
+abbrev pub asked_twice_in_the_walk : List Event
+asked_twice_in_the_walk =
+    before 10 question_settled_by_a_discard
+    ++ by_ui (rows.Accepted (r 2) (Some (d 2)) (requests.Poke (n 1) (actions.AddFrame (n 2)))) []
+    ∷ by_proc 1 (made 1 2 2 1 (whats.AddFrame (n 2))) []
+    ∷ by_coord (rows.Delivered (p 1)) (rows.Applied (r 2) (changes.AddFrame (s 2) (n 2) (e 0 3) (s 3)) ∷ sent 3 1 0 3 (whys.Req (r 2)) (tasks.Populate (n 2) (s 3) (codes "about:blank") true) ∷ [])
+    ∷ by_proc 1 (rows.Taken (p 1) (j 3) true false) []
+    ∷ by_proc 1 (rows.Finished (p 1) (j 3) (outcomes.Populated (Some 1))) []
+    ∷ by_coord (rows.Delivered (p 1)) (sent 4 1 0 3 (whys.Req (r 2)) (tasks.Activate (e 0 3) (epoch 1) 1 0 None (codes "about:blank")) ∷ [])
+    ∷ by_proc 1 (rows.Taken (p 1) (j 4) true false) []
+    ∷ by_proc 1 (rows.Finished (p 1) (j 4) outcomes.Activated) []
+    ∷ by_coord (rows.Delivered (p 1)) []
+    ∷ by_ui (rows.Accepted (r 3) None (requests.Go (pos 5))) (rows.Applied (r 1) (changes.AddFrame (s 1) (n 1) (e 0 4) (s 4)) ∷ rows.Applied (r 1) (changes.Reload (n 1)) ∷ sent 5 1 0 2 (whys.Req (r 1)) (tasks.Activate (e 0 2) (epoch 2) 1 0 None (codes "about:blank")) ∷ [])
+    ∷ by_ui (rows.Accepted (r 4) None (requests.Load (n 0) modes.Auto (codes "http://a.test/1"))) (rows.Started (r 4) None ∷ sent 6 1 0 2 (whys.Req (r 4)) (tasks.Ask 1 leavings.Load) ∷ sent 7 1 0 2 (whys.Req (r 4)) (tasks.Ask 1 leavings.Load) ∷ sent 8 1 0 3 (whys.Req (r 4)) (tasks.Ask 1 leavings.Load) ∷ [])
+    ∷ []
+
+pub asked_twice_in_the_walk_keeps_ordered : OrdersAreCaused (log_of asked_twice_in_the_walk)
+unfolding url_on_literals is_web is_blank_url judged judged_parse read_against address_of url_of resolved with_fragment base_of fragment_of origin_text origin_of has_same_base is_rewritable events_of each_event after_opening AtEachEvent is_numbered opens is_formed is_once is_caused is_queued is_ordered is_checked ends_settled loads_end ends_told ends_stepped goes_in_time
+asked_twice_in_the_walk_keeps_ordered = refl
+
+-- A second document is shown under the epoch of the first, and both run; a poke reaches the first. newer: were `nat_lt (epoch best) (epoch d)` `nat_le`, `formed` would not hold.
+abbrev pub two_documents_of_one_epoch : List Event
+two_documents_of_one_epoch =
+    by_start (rows.Opened (e 0 1) (s 1) (d 1) (p 1) None (codes "http://a.test/")) []
+    ∷ by_ui (rows.Accepted (r 1) None (requests.Go (pos 5))) (sent 1 1 0 2 (whys.Req (r 1)) (tasks.Populate (n 0) (s 1) (codes "http://a.test/") false) ∷ sent 2 1 0 2 (whys.Req (r 1)) (tasks.Activate (e 0 1) (epoch 1) 1 0 None (codes "http://a.test/")) ∷ [])
+    ∷ by_proc 1 (rows.Taken (p 1) (j 1) true false) []
+    ∷ by_proc 1 (rows.Finished (p 1) (j 1) (outcomes.Populated None)) []
+    ∷ by_proc 1 (rows.Taken (p 1) (j 2) true false) []
+    ∷ by_proc 1 (rows.Finished (p 1) (j 2) outcomes.Activated) []
+    ∷ by_ui (rows.Accepted (r 2) (Some (d 1)) (requests.Poke (n 0) (actions.Push (Some (codes "s")) None))) []
+    ∷ []
+
+pub two_documents_of_one_epoch_keeps_formed : IsFormed (log_of two_documents_of_one_epoch)
+unfolding url_on_literals is_web is_blank_url judged judged_parse read_against address_of url_of resolved with_fragment base_of fragment_of origin_text origin_of has_same_base is_rewritable events_of each_event after_opening AtEachEvent is_numbered opens is_formed is_once is_caused is_queued is_ordered is_checked ends_settled loads_end ends_told ends_stepped goes_in_time
+two_documents_of_one_epoch_keeps_formed = refl
+
+-- A fragment order is answered by an edit, which is not applied. is_said_rightly: by_kind: without premise `length p.done == 0`, `formed` would not hold.
+abbrev pub fragment_answered_by_an_edit : List Event
+fragment_answered_by_an_edit =
+    before 3 fragment_load
+    ++ by_proc 1 (rows.Finished (p 1) (j 1) outcomes.Fragmented) (made 1 1 1 1 whats.Edit ∷ [])
+    ∷ []
+
+pub fragment_answered_by_an_edit_keeps_formed : IsFormed (log_of fragment_answered_by_an_edit)
+unfolding url_on_literals is_web is_blank_url judged judged_parse read_against address_of url_of resolved with_fragment base_of fragment_of origin_text origin_of has_same_base is_rewritable events_of each_event after_opening AtEachEvent is_numbered opens is_formed is_once is_caused is_queued is_ordered is_checked ends_settled loads_end ends_told ends_stepped goes_in_time
+fragment_answered_by_an_edit_keeps_formed = refl
+
+-- A load of a frame and a reload above it have one number. has_no_earlier_load_at: were `nat_lt q.nr.0 req.0` `nat_le`, `loads` would not hold.
+abbrev pub reload_numbered_as_a_load : List Event
+reload_numbered_as_a_load =
+    before 10 push_beside_a_frame
+    ++ by_ui (rows.Accepted (r 2) None (requests.Reload (n 0))) (rows.Accepted (r 2) None (requests.Load (n 1) modes.Auto (codes "http://a.test/f")) ∷ rows.Started (r 3) None ∷ rows.Started (r 2) None ∷ rows.Applied (r 2) (changes.Reload (n 0)) ∷ [])
+    ∷ []
+
+pub reload_numbered_as_a_load_keeps_loads : LoadsEndInTime (log_of reload_numbered_as_a_load)
+unfolding url_on_literals is_web is_blank_url judged judged_parse read_against address_of url_of resolved with_fragment base_of fragment_of origin_text origin_of has_same_base is_rewritable events_of each_event after_opening AtEachEvent is_numbered opens is_formed is_once is_caused is_queued is_ordered is_checked ends_settled loads_end ends_told ends_stepped goes_in_time
+reload_numbered_as_a_load_keeps_loads = refl
+
+-- A load of a frame and one above it, which is applied with the document state that was there, have one number. has_no_earlier_load_below: were `nat_lt q.nr.0 req.0` `nat_le`, `loads` would not hold.
+abbrev pub load_numbered_as_a_load_below : List Event
+load_numbered_as_a_load_below =
+    before 10 push_beside_a_frame
+    ++ by_ui (rows.Accepted (r 2) None (requests.Load (n 0) modes.Auto (codes "http://a.test/1"))) (rows.Accepted (r 2) None (requests.Load (n 1) modes.Auto (codes "http://a.test/f")) ∷ rows.Started (r 3) None ∷ rows.Started (r 2) None ∷ rows.Applied (r 2) (changes.Push (n 0) (e 0 3) (s 1) (codes "http://a.test/1") None) ∷ [])
+    ∷ []
+
+pub load_numbered_as_a_load_below_keeps_loads : LoadsEndInTime (log_of load_numbered_as_a_load_below)
+unfolding url_on_literals is_web is_blank_url judged judged_parse read_against address_of url_of resolved with_fragment base_of fragment_of origin_text origin_of has_same_base is_rewritable events_of each_event after_opening AtEachEvent is_numbered opens is_formed is_once is_caused is_queued is_ordered is_checked ends_settled loads_end ends_told ends_stepped goes_in_time
+load_numbered_as_a_load_below_keeps_loads = refl
+
+-- A traversal of the user names a document, and its process refuses it. denial_at_act: makes: were equation 2 true, `caused` would not hold.
+abbrev pub traversal_of_the_user_with_a_document : List Event
+traversal_of_the_user_with_a_document =
+    by_start (rows.Opened (e 0 1) (s 1) (d 1) (p 1) None (codes "http://a.test/")) []
+    ∷ by_ui (rows.Accepted (r 1) (Some (d 1)) (requests.Go (pos 5))) []
+    ∷ by_proc 1 (rows.Refused (r 1) denials.BadAddress) []
+    ∷ []
+
+pub traversal_of_the_user_with_a_document_keeps_caused : OutcomesAreCaused (log_of traversal_of_the_user_with_a_document)
+unfolding url_on_literals is_web is_blank_url judged judged_parse read_against address_of url_of resolved with_fragment base_of fragment_of origin_text origin_of has_same_base is_rewritable events_of each_event after_opening AtEachEvent is_numbered opens is_formed is_once is_caused is_queued is_ordered is_checked ends_settled loads_end ends_told ends_stepped goes_in_time
+traversal_of_the_user_with_a_document_keeps_caused = refl
+
+-- A document is frozen before it ends a fragment order, and makes nothing of it. is_followed_duly: were `is_running s job.doc` always so, `formed` would not hold.
+abbrev pub fragment_of_a_frozen_document : List Event
+fragment_of_a_frozen_document =
+    by_start (rows.Opened (e 0 1) (s 1) (d 1) (p 1) None (codes "http://a.test/")) []
+    ∷ by_ui (rows.Accepted (r 1) None (requests.Load (n 0) modes.Auto (codes "http://a.test/#x"))) (sent 1 1 0 1 (whys.Req (r 1)) tasks.Freeze ∷ sent 2 1 0 1 (whys.Req (r 1)) (tasks.DoFragment (r 1) modes.Auto (codes "http://a.test/#x")) ∷ [])
+    ∷ by_proc 1 (rows.Taken (p 1) (j 1) true false) []
+    ∷ by_proc 1 (rows.Finished (p 1) (j 1) outcomes.Frozen) []
+    ∷ by_proc 1 (rows.Taken (p 1) (j 2) true false) []
+    ∷ by_proc 1 (rows.Finished (p 1) (j 2) outcomes.Fragmented) []
+    ∷ []
+
+pub fragment_of_a_frozen_document_keeps_formed : IsFormed (log_of fragment_of_a_frozen_document)
+unfolding url_on_literals is_web is_blank_url judged judged_parse read_against address_of url_of resolved with_fragment base_of fragment_of origin_text origin_of has_same_base is_rewritable events_of each_event after_opening AtEachEvent is_numbered opens is_formed is_once is_caused is_queued is_ordered is_checked ends_settled loads_end ends_told ends_stepped goes_in_time
+fragment_of_a_frozen_document_keeps_formed = refl
+
+-- A document that a load has left ends a fragment order, and the fragment load is dropped by that load. is_outdated: without disjunct `q.is_not_found`, `caused` would not hold.
+abbrev pub fragment_of_a_document_that_was_left : List Event
+fragment_of_a_document_that_was_left =
+    before 5 evicted_documents
+    ++ by_ui (rows.Accepted (r 2) None (requests.Load (n 0) modes.Auto (codes "http://a.test/#x"))) (sent 4 1 0 1 (whys.Req (r 2)) (tasks.DoFragment (r 2) modes.Auto (codes "http://a.test/#x")) ∷ [])
+    ∷ by_proc 1 (rows.Taken (p 1) (j 2) true false) []
+    ∷ by_proc 1 (rows.Finished (p 1) (j 2) outcomes.Frozen) []
+    ∷ by_proc 1 (rows.Taken (p 1) (j 3) true false) []
+    ∷ by_proc 1 (rows.Finished (p 1) (j 3) outcomes.Activated) []
+    ∷ by_proc 1 (rows.Taken (p 1) (j 4) true false) []
+    ∷ by_proc 1 (rows.Finished (p 1) (j 4) outcomes.Fragmented) []
+    ∷ by_coord (rows.Delivered (p 1)) []
+    ∷ by_coord (rows.Delivered (p 1)) []
+    ∷ by_coord (rows.Delivered (p 1)) (rows.Dropped (r 2) (drops.By (r 1)) ∷ [])
+    ∷ []
+
+pub fragment_of_a_document_that_was_left_keeps_caused : OutcomesAreCaused (log_of fragment_of_a_document_that_was_left)
+unfolding url_on_literals is_web is_blank_url judged judged_parse read_against address_of url_of resolved with_fragment base_of fragment_of origin_text origin_of has_same_base is_rewritable events_of each_event after_opening AtEachEvent is_numbered opens is_formed is_once is_caused is_queued is_ordered is_checked ends_settled loads_end ends_told ends_stepped goes_in_time
+fragment_of_a_document_that_was_left_keeps_caused = refl
