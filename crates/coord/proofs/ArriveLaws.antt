@@ -9,7 +9,7 @@ use Rattle.log_model.specs.declared.request.Request.TheVariants as requests
 use Rattle.log_model.specs.declared.row_kind.RowKind.{RowKind}
 use Rattle.log_model.specs.declared.row_kind.RowKind.TheVariants as rows
 use Rattle.log_model.specs.After.{ended}
-use Rattle.log_model.specs.AfterRequests.{on_request, entries_taken}
+use Rattle.log_model.specs.AfterRequests.{entries_taken}
 use Rattle.log_model.specs.Places.{pair_at}
 use Rattle.log_model.specs.Seen.{Seen, Asked}
 use Rattle.log_model.proofs.Refl.{nat_eq_refl}
@@ -17,11 +17,11 @@ use Rattle.seen_laws.specs.InEvent.{InEvent, now_of, AreLegal, IsClear}
 use Rattle.seen_laws.proofs.InEvents.{clear_more}
 use Rattle.seen_laws.proofs.Sums.{over}
 use Rattle.coord_facts.proofs.Unread.{next}
-use Rattle.request_facts.proofs.Readers.{SameReads, reads_then, on_read}
+use Rattle.request_facts.proofs.Readers.{SameReads}
 use Rattle.request_facts.specs.Whereabouts.{times_at}
 use Rattle.plain_tab.specs.Between.{IsTab, IsIdle}
 use Rattle.plain_tab.specs.Calm.{is_run}
-use Rattle.plain_tab.proofs.Courses.{runs_applied, runs_ended}
+use Rattle.plain_tab.proofs.Courses.{runs_applied, runs_ended, applied_courses}
 use Rattle.plain_tab.proofs.SoleRows.{traversed_current}
 use Rattle.plain_tab.proofs.TabTurns.{traversed_tab}
 use Rattle.plain_tab.proofs.Turns.{IsWaiting, waiting, due, at_goal}
@@ -35,7 +35,7 @@ use Rattle.coord.proofs.TurnLaws.{rest_left, queued_on}
 use Rattle.coord.specs.declared.addressee.Addressee.{Addressee}
 use Rattle.move_queue.specs.declared.queue_step.QueueStep.{QueueStep}
 use Rattle.coord.specs.Arriving.{HasArrived}
-use Rattle.coord.proofs.QueueLaws.{home_on, room_left}
+use Rattle.coord.proofs.QueueLaws.{home_on, room_left, asks_same}
 use Rattle.coord.specs.declared.tables.Tables.{Tables}
 use Rattle.coord.proofs.IdleLaws.{next_now, first_off}
 
@@ -104,10 +104,7 @@ module _ (e : InEvent) (out : List RowKind) (tables : Tables) (req : ReqId) (goa
       }
 
   ended_asks : SameReads (λ (q : Asked). q.what) s.requests ended_.requests
-  ended_asks =
-      reads_then (λ (q : Asked). q.what) s.requests (ended s.requests req endings.Applied) _ (on_read (λ (q : Asked). q.what) s.requests req (λ q. record q { ending = Some endings.Applied }) (λ q. refl))
-      (reads_then (λ (q : Asked). q.what) (ended s.requests req endings.Applied) (on_request req (λ q. record q { change = Some (changes.Traverse goal) }) (ended s.requests req endings.Applied)) _ (on_read (λ (q : Asked). q.what) (ended s.requests req endings.Applied) req (λ q. record q { change = Some (changes.Traverse goal) }) (λ q. refl))
-      (on_read (λ (q : Asked). q.what) (on_request req (λ q. record q { change = Some (changes.Traverse goal) }) (ended s.requests req endings.Applied)) req (λ q. record q { took = entries_taken s.history (changes.Traverse goal) }) (λ q. refl)))
+  ended_asks = asks_same s ended_ (applied_courses s e.event e.actor req (changes.Traverse goal))
 
   module _ (more : List RowKind) (is : more ≡ out ++ rows.Applied req (changes.Traverse goal) ∷ []) where
     now : now_of e more ≡ ended_

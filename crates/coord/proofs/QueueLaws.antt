@@ -1,4 +1,6 @@
 -- What the turn of a traversal leaves of the queue, and what the next turn reads.
+use Rattle.plain_tab.proofs.Courses.{applied_courses, ended_courses}
+use Rattle.plain_tab.specs.Courses.{Course, course}
 use Rattle.std.proofs.Common.{◌≡◌, ℤ, pos, negsuc, ◌+ℤ◌, ℕ, zero, suc, ◌+◌, ◌<◌, ◌≤◌, Bool, true, false, ◌==◌, List, [], ◌∷◌, ◌++◌, length, Option, Some, None, refl, sym, ap, ◌∙◌, subst, arith, append_assoc}
 use Rattle.std.proofs.lemmas.Bool.Decides.{nat_tests}
 use Rattle.std.specs.Prelude.{slice_get, option_map, nat_lt, IfSome}
@@ -14,11 +16,10 @@ use Rattle.log_model.specs.declared.row_kind.Actor.{Actor}
 use Rattle.log_model.specs.declared.row_kind.RowKind.{RowKind}
 use Rattle.log_model.specs.declared.row_kind.RowKind.TheVariants as rows
 use Rattle.log_model.specs.History.{history_length}
-use Rattle.log_model.specs.After.{ended}
-use Rattle.log_model.specs.AfterRequests.{on_request, request_begun, entries_taken}
+use Rattle.log_model.specs.AfterRequests.{on_request, request_begun}
 use Rattle.log_model.specs.Once.{step_at_delta}
 use Rattle.log_model.specs.Places.{top}
-use Rattle.log_model.specs.Seen.{Seen, Asked, Place, place_in}
+use Rattle.log_model.specs.Seen.{Seen, Asked, Place, place_in, request_in}
 use Rattle.seen_laws.specs.InEvent.{InEvent, now_of}
 use Rattle.seen_laws.proofs.Sums.{over}
 use Rattle.coord_facts.proofs.Unread.{next}
@@ -49,12 +50,18 @@ what q = q.what
 blind : IsBlind what
 blind = record { moves = λ q activated moved. refl; asks = λ q asks. refl; fragments = λ q doc. refl; misses = λ q is. refl }
 
+-- requests whose courses are the same ask the same
+pub asks_same : (s t : Seen) → SameReads course s.requests t.requests → (r : ReqId) → what_in t.requests r ≡ what_in s.requests r
+asks_same s t courses r =
+    sym (read (request_in t.requests r)) ∙ (ap (λ (o : Option Course). option_map (λ (x : Course). x.what) o) (courses r) ∙ read (request_in s.requests r))
+  where
+    read : (o : Option Asked) → option_map (λ (x : Course). x.what) (option_map course o) ≡ option_map (λ (q : Asked). q.what) o
+    read None = refl
+    read (Some q) = refl
+
 -- ---- what each row leaves
 
 module _ (s : Seen) (event : ℕ) (actor : Actor) (req : ReqId) where
-  refused_asks : SameReads what s.requests (next s event actor (rows.Refused req denials.NoStep)).requests
-  refused_asks = on_read what s.requests req (λ q. record q { ending = Some (endings.Refused denials.NoStep) }) (λ q. refl)
-
   started_asks : (goal : Option Step) → SameReads what s.requests (next s event actor (rows.Started req goal)).requests
   started_asks goal =
       reads_then what s.requests (on_request req (λ q. record q { is_started = true; goal = goal }) s.requests) _ (on_read what s.requests req (λ q. record q { is_started = true; goal = goal }) (λ q. refl))
@@ -64,7 +71,7 @@ pub refused_on : (e : InEvent) (out more : List RowKind) (req : ReqId) → more 
 refused_on e out more req is =
     subst (λ (s : Seen). IsOneOn (now_of e out) s req (now_of e out).history.current) (sym (next_now e out more (rows.Refused req denials.NoStep) is)) (record {
       joined = refl;
-      asks = refused_asks (now_of e out) e.event e.actor req;
+      asks = asks_same (now_of e out) (next (now_of e out) e.event e.actor (rows.Refused req denials.NoStep)) (ended_courses (now_of e out) e.event e.actor req (endings.Refused denials.NoStep));
       documents = refl;
       places = refl;
       jobs = refl;
@@ -87,9 +94,7 @@ module _ (e : InEvent) (out begun more : List RowKind) (req : ReqId) (goal : Ste
 
   applied_asks : SameReads what t.requests (next t e.event e.actor (rows.Applied req (changes.Traverse goal))).requests
   applied_asks =
-      reads_then what t.requests (ended t.requests req endings.Applied) _ (on_read what t.requests req (λ q. record q { ending = Some endings.Applied }) (λ q. refl))
-      (reads_then what (ended t.requests req endings.Applied) (on_request req (λ q. record q { change = Some (changes.Traverse goal) }) (ended t.requests req endings.Applied)) _ (on_read what (ended t.requests req endings.Applied) req (λ q. record q { change = Some (changes.Traverse goal) }) (λ q. refl))
-      (on_read what (on_request req (λ q. record q { change = Some (changes.Traverse goal) }) (ended t.requests req endings.Applied)) req (λ q. record q { took = entries_taken t.history (changes.Traverse goal) }) (λ q. refl)))
+      asks_same t (next t e.event e.actor (rows.Applied req (changes.Traverse goal))) (applied_courses t e.event e.actor req (changes.Traverse goal))
 
   -- its entry is on its way
   pub shown_on : (job : Job) → more ≡ begun ++ rows.Sent job ∷ [] → ((now_of e more).joined ≡ s.joined) × ((r : ReqId) → what_in (now_of e more).requests r ≡ what_in s.requests r)

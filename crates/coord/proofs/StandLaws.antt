@@ -1,10 +1,11 @@
 -- What the coordinator of a tab of one document keeps, from row to row, and that quiet is settled then.
+use Rattle.coord.proofs.QueueLaws.{asks_same}
 use Rattle.request_facts.proofs.Times.{itself}
 use Rattle.plain_tab.proofs.Courses.{runs_ended_other}
 use Rattle.log_model.specs.declared.outcome.Ending.{Ending}
 use Rattle.std.proofs.lemmas.Bool.Decides.{nat_tests}
 use Rattle.std.proofs.Common.{◌≡◌, ℕ, ◌+◌, ◌≤◌, true, List, [], ◌∷◌, ◌++◌, length, append-nil, Option, Some, None, refl, sym, ap, ◌∙◌, subst, Bool, false, ◌&&◌, ◌==◌, arith}
-use Rattle.std.specs.Prelude.{slice_get, option_map, IfSome}
+use Rattle.std.specs.Prelude.{slice_get, IfSome}
 use Rattle.tab_ids.specs.declared.ReqId.{ReqId}
 use Rattle.tab_ids.specs.declared.Step.{Step}
 use Rattle.log_model.specs.History.{History}
@@ -16,14 +17,14 @@ use Rattle.log_model.specs.Settled.{is_settled, is_settled_if_quiet}
 use Rattle.request_facts.proofs.Readers.{SameReads}
 use Rattle.plain_tab.specs.Between.{IsTab}
 use Rattle.plain_tab.specs.Calm.{OnlyRuns, is_run, is_this, EachAsked}
-use Rattle.plain_tab.specs.Courses.{Course, course}
+use Rattle.plain_tab.specs.Courses.{course}
 use Rattle.plain_tab.proofs.Quiets.{none_goes, rests_settled, settled_if_still}
 use Rattle.plain_tab.proofs.Soles.{place_found}
 use Rattle.plain_tab.proofs.TabRows.{going_same, idle_more, going_more}
 use Rattle.step_index.specs.Held.{history_held}
 use Rattle.move_queue.specs.declared.queue_step.QueueStep.{QueueStep}
 use Rattle.coord.specs.Ties.{Ties}
-use Rattle.coord.specs.Queueing.{what_in, AreQueued}
+use Rattle.coord.specs.Queueing.{AreQueued}
 use Rattle.coord.proofs.Asks.{what_grown}
 use Rattle.move_queue.specs.declared.queue_step.QueueStep.TheVariants.{Traverse, Reload, Ready}
 use Rattle.tab_ids.specs.declared.DocId.{DocId}
@@ -36,15 +37,6 @@ use Rattle.coord.specs.declared.coordinator.Coordinator.{Coordinator}
 use Rattle.coord.proofs.TurnLaws.{queued_on}
 
 -- ---- the queue goes on
-
--- requests whose courses are the same ask the same
-asks_same : (s t : Seen) → SameReads course s.requests t.requests → (r : ReqId) → what_in t.requests r ≡ what_in s.requests r
-asks_same s t courses r =
-    sym (read (request_in t.requests r)) ∙ (ap (λ (o : Option Course). option_map (λ (x : Course). x.what) o) (courses r) ∙ read (request_in s.requests r))
-  where
-    read : (o : Option Asked) → option_map (λ (x : Course). x.what) (option_map course o) ≡ option_map (λ (q : Asked). q.what) o
-    read None = refl
-    read (Some q) = refl
 
 -- a row that leaves the courses of the requests, which of them runs, the history and the queue
 pub record LeavesRuns (s t : Seen) : Type 0 where
