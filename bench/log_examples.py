@@ -704,7 +704,18 @@ def broken_lemma(logs, name, sentence, lines, base, claim, fact):
 CLAIMS = {**{field: ('IsLegal %s', 'holds.' + field, 'Not' + field.capitalize()) for field in FIELDS},
           'loads': ('LoadsEndInTime %s', 'holds', 'NotEnding'),
           **{field: ('ActsAtOnce %s', 'holds.' + field, 'NotAtOnce') for field in ('told', 'stepped', 'in_time')},
-          **{field: ('Suits {} %s', 'holds.' + field, 'NotSuited') for field in ('placed', 'kept')}}
+          **{field: ('Suits {} %s', 'holds.' + field, 'NotSuited') for field in ('placed', 'kept')},
+          'once': ('IsLegal %s', 'holds.once', 'OnceApart'), 'caused': ('IsLegal %s', 'holds.caused', 'CausesApart')}
+
+# files of their own for what would make others long
+APART = [('Variants', 'Legal logs that each tell one sentence of a definition.'),
+         ('KeptApart', 'Logs that keep one part of the rules and break another, and so tell one sentence of a definition.'),
+         ('OnceApart', 'Broken logs, each refused by the field `once`, that each tell one sentence of a definition.'),
+         ('MadeApart', 'The same, where a Made row is among the rows that end the log.'),
+         ('CausesApart', 'Broken logs, each refused by the field `caused`, that each tell one sentence of a definition.'),
+         ('DropsApart', 'The same, where a drop is among the rows that end the log.')]
+# of one field, a file for the logs in whose last event such a row stands
+BY_ROW = {'OnceApart': (' made ', 'MadeApart'), 'CausesApart': (' dropped ', 'DropsApart')}
 
 
 # the part of the rules that a log keeps, though it breaks another
@@ -744,12 +755,14 @@ def told_apart(model, logs, played, texts):
             claim = KEPT[field[6:]]
             settings, also = header_of(name, header) if '{}' in claim else ('', '')
             defined, log = logs.defined(name, sentence, lines, base)
-            out.setdefault('Variants', []).append(also + defined + lemma_of(name, field, '%s %s' % (claim.replace('{}', settings), log), 'refl'))
+            out.setdefault('KeptApart', []).append(also + defined + lemma_of(name, field, '%s %s' % (claim.replace('{}', settings), log), 'refl'))
             continue
         claim, fact, home = CLAIMS[field]
         settings, also = header_of(name, header) if '{}' in claim else ('', '')
         if field in FIELDS and verdict is None or '{}' in claim and not model.check.suits(model.rows(lines), header):
             raise SystemExit('%s: the checker judges otherwise' % name)
+        word, other = BY_ROW.get(home, ('', home))
+        home = other if any(word in row for row in rows) else home
         out.setdefault(home, []).append(also + broken_lemma(logs, name, sentence, lines, base, claim.replace('{}', settings), fact)[0])
     return out
 
@@ -776,7 +789,7 @@ def gate(model):
             legal += 1
         names.append(module(logs, folder, topic, 'Legal logs: %s.' % topic.lower(), lemmas))
     apart = told_apart(model, logs, {texts[name]: lines for name, lines in played.items()}, texts)
-    names.append(module(logs, folder, 'Variants', 'Logs that tell one sentence of a definition: legal ones, and ones that keep one part of the rules.', apart.pop('Variants')))
+    names += [module(logs, folder, name, title, apart.pop(name)) for name, title in APART]
     for field, examples in BROKEN:
         lemmas = []
         for name, sentence, scenario, edits in examples:

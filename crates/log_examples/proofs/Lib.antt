@@ -10,6 +10,11 @@ pub mod Deaths
 pub mod Pending
 pub mod Session
 pub mod Variants
+pub mod KeptApart
+pub mod OnceApart
+pub mod MadeApart
+pub mod CausesApart
+pub mod DropsApart
 pub mod NotOpened
 pub mod NotNumbered
 pub mod NotFormed
