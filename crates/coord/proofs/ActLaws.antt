@@ -81,7 +81,7 @@ new_mapped view push memo (Some address) what e =
     let same : new_entry view (push address) memo address ≡ what = (let both_ : Some (new_entry view (push address) memo address) ≡ Some what = e in cc) in
     subst (λ (w : What). IsNewOf view w × (is_go w ≡ false)) same (new_of view (push address) memo address)
 
-new_of_made : (view : View) (nav : NavId) (action : Action) (what : What) → IsPlainRequest (requests.Poke nav action) → made_by view action ≡ Some what → IsNewOf view what × (goes action ≡ is_go what)
+pub new_of_made : (view : View) (nav : NavId) (action : Action) (what : What) → IsPlainRequest (requests.Poke nav action) → made_by view action ≡ Some what → IsNewOf view what × (goes action ≡ is_go what)
 new_of_made view nav (acts.Push memo reference) what is e =
     let it = new_mapped view (λ address. not view.initial) memo (new_address view reference) what e in (it.0, sym it.1)
 new_of_made view nav (acts.Replace memo reference) what is e =
@@ -173,7 +173,7 @@ module _ (e : InEvent) (c : Coordinator) (stands : StandsFor e.start c) where
               },
             )
 
-    enters : IsPlainRequest (requests.Poke to_act.1 poke.action)
+    pub enters : IsPlainRequest (requests.Poke to_act.1 poke.action)
     enters = subst (λ (w : Request). IsPlainRequest w) to_act.2.asks (stands.tab.sole.calm poke.req to_act.0 to_act.2.asked).what
 
     pub made_acted : (what : What) → made_by its_view poke.action ≡ Some what → e.own ≡ rows.Made d.proc (made_for its_view poke.req what) → HasActed e [] c
@@ -187,7 +187,7 @@ module _ (e : InEvent) (c : Coordinator) (stands : StandsFor e.start c) where
 
   -- ---- a poke of the document is accepted
 
-  runs_alone : (nav : NavId) → nav ≡ top → running_documents e.start nav ≡ d ∷ []
+  pub runs_alone : (nav : NavId) → nav ≡ top → running_documents e.start nav ≡ d ∷ []
   runs_alone nav of_top =
       running_alone e.start d its_view nav stands.tab.sole.documents (subst (λ (n : NavId). (d.nav.0 == n.0) ≡ true) (stands.tab.sole.there.nav ∙ sym of_top) (nat_eq_refl d.nav.0)) stands.tab.flowing.own.running.seen stands.tab.flowing.own.running.runs
 

@@ -24,7 +24,7 @@ use Rattle.log_model.specs.Queue.{is_queued_row}
 use Rattle.log_model.specs.Seen.{Seen}
 use Rattle.log_model.specs.Settled.{is_settled_if_quiet}
 use Rattle.log_model.specs.Suits.{is_suitable_row, keeps_few}
-use Rattle.log_model.proofs.FurtherLaws.{at_once_more, suits_more}
+use Rattle.log_model.proofs.FurtherLaws.{at_once_more, suits_more, opened_before}
 use Rattle.log_model.proofs.Laws.{seen_of_append}
 use Rattle.log_model.proofs.LegalLaws.{legal_more}
 use Rattle.log_model.proofs.Refl.{same_actor_refl}
@@ -67,7 +67,7 @@ fold_rows : (h : Here) (rows : List LogRow) → (on_rows h rows).now ≡ fold af
 fold_rows h [] = refl
 fold_rows h (row ∷ rows) = fold_rows (on_row h row) rows
 
-now_fold : (e : InEvent) (out : List RowKind) → now_of e out ≡ fold after e.start (row_of e e.own ∷ map (row_of e) out)
+pub now_fold : (e : InEvent) (out : List RowKind) → now_of e out ≡ fold after e.start (row_of e e.own ∷ map (row_of e) out)
 unfolding now_of
 now_fold e out = fold_rows (start_of e) (row_of e e.own ∷ map (row_of e) out)
 
@@ -127,6 +127,6 @@ module _ (e : InEvent) (log : List LogRow) (old : Coordinator) (keeps : Keeps e.
         some = subst (λ (s : Seen). 0 < s.events) (sym (seen_of_append log (row_of e e.own ∷ rows_))) (events_some (seen_of log) (row_of e e.own ∷ rows_) keeps.some);
         legal = legal_more log (row_of e e.own) rows_ keeps.some keeps.legal legal_event;
         at_once = at_once_more log (row_of e e.own) rows_ keeps.some number keeps.at_once (ap ends_told comes ∙ stands_told (now_of e out) new acted.stands) (ap ends_stepped comes ∙ stands_stepped (now_of e out) new acted.stands) (pass is_row_in_time (λ p row passes. passes.in_time));
-        suits = suits_more e.header log (row_of e e.own) rows_ keeps.some number keeps.suits (pass (is_suitable_row e.header) (λ p row passes. passes.suits)) (ap (keeps_few e.header) comes ∙ few);
+        suits = λ opened. suits_more e.header log (row_of e e.own) rows_ keeps.some number (keeps.suits (opened_before e.header log (row_of e e.own ∷ rows_) keeps.some opened)) (pass (is_suitable_row e.header) (λ p row passes. passes.suits)) (ap (keeps_few e.header) comes ∙ few);
         stands = subst (λ (s : Seen). StandsFor s new) (sym led) acted.stands;
       }

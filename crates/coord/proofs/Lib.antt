@@ -29,4 +29,3 @@ pub mod WorkLaws
 pub mod Opened
 pub mod EventLaws
 pub mod ActLaws
-pub mod Rooms

@@ -183,3 +183,7 @@ still_found log from is below =
 
 pub busy_found : (log : List LogRow) (p : ProcId) → is_idle (desk_of (seen_of log) p) ≡ false → is_still (seen_of log) ≡ false
 busy_found log p busy = one_busy (seen_of log).desks p busy
+
+-- where each process is idle, nothing is in transit
+pub all_still : (log : List LogRow) → ((proc : ProcId) → is_idle (desk_of (seen_of log) proc) ≡ true) → is_still (seen_of log) ≡ true
+all_still log idle = all_idle (seen_of log).desks (apart_log log) idle

@@ -1,1 +1,2 @@
-pub mod PlainReport
+pub mod StoreReads
+pub mod WorldReport

@@ -1,3 +1,3 @@
 pub mod Reports
 pub mod Summary
-pub mod Plain
+pub mod Endings

@@ -1,6 +1,6 @@
 -- The summary of a log, line by line: how many requests there were and how they ended, where the history stands, and whether all is quiet.
 -- This project's own; the current step, length and index are the HTML Standard's, as the module on histories says.
-use Rattle.std.specs.Prelude.{ℕ, Bool, true, false, List, ◌++◌, length, map, codes, Option, Some, None}
+use Rattle.std.specs.Prelude.{ℕ, Bool, true, false, List, ◌++◌, length, map, codes, Option, Some}
 use Rattle.std.specs.List.{count_by}
 use Rattle.log_model.specs.declared.outcome.Ending.{Ending}
 use Rattle.log_model.specs.declared.outcome.Ending.TheVariants as endings

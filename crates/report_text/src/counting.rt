@@ -1,37 +1,35 @@
 //! `summary`, the summary of a world's log.
 ghost use Rattle.std.specs.Prelude.{◌≡◌, ◌++◌, false, IfOk, OnOk};
 ghost use Rattle.std.specs.List.{count_by};
-ghost use Rattle.report_text.specs.Plain.{plain_summary};
+ghost use Rattle.log_model.specs.Logs.{seen_of};
 ghost use Rattle.report_text.specs.Reports.{number_word};
 ghost use Rattle.report_text.specs.Summary as spec;
 
 use crate::pieces::{put, put_number, put_quiet, put_step};
-use crate::writing::current_step;
+use crate::writing::stands_at;
 use address::{OutOfMemory, Text};
-use entry_store::Store;
 use log_model::Ending;
 use std::alloc::Global;
 use world::World;
 
 /// The summary of a world's log, three lines: how many requests there were and how they ended, the current step with length and index, and whether nothing is in transit and no prompt is up. It is made of what the world keeps beside the log.
-#[tactic(auto, using(crate::proofs::PlainReport::summaries))]
+#[tactic(auto, using(crate::proofs::WorldReport::summary_is))]
 pub fn summary(alloc: Global, world: &World) -> Result<Text, OutOfMemory>
     requires open { world.now.closed ≡ false }
     ensures { IfOk result (λ text. text ≡ spec.summary_of world.now.log) }
 {
     let mut out = Vec::new(alloc);
-    let _log = world.log();
     write(&mut out, world)?;
     Ok(Text::of(alloc, out.as_slice())?)
 }
 
 fn write(out: &mut Vec<u8>, world: &World) -> Result<(), OutOfMemory>
-    ensures { OnOk result (out.new.items ≡ out.old.items ++ plain_summary world.now.single) }
+    requires open { world.now.closed ≡ false }
+    ensures { OnOk result (out.new.items ≡ out.old.items ++ spec.summary_with (seen_of world.now.log)) }
 {
-    let length = world.store().rows()?.len() as u64;
-    let current = u64::from(current_step(world).0);
+    let at = stands_at(world);
     put_requests(out, world.endings())?;
-    put_step(out, current, length, current)?;
+    put_step(out, at.step, at.length, at.index)?;
     put_quiet(out, world.is_quiet())?;
     Ok(())
 }

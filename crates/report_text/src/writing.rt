@@ -1,9 +1,13 @@
 //! `report`, the report of a world's log.
-ghost use Rattle.std.specs.Prelude.{◌≡◌, ◌++◌, false, IfOk, IfSome, OnOk, flat_map, length, slice_get};
-ghost use Rattle.std.specs.Option.{option_copied};
+ghost use Rattle.std.specs.Prelude.{◌≡◌, ◌++◌, false, [], IfOk, OnOk, flat_map};
+ghost use Rattle.std.specs.Option.{option_copied, option_map_or};
 ghost use Rattle.log_model.specs.Equal.{holds};
+ghost use Rattle.log_model.specs.History.{history_length, history_index, target_entry};
+ghost use Rattle.log_model.specs.Logs.{history_of, seen_of};
+ghost use Rattle.log_model.specs.Order.{ordered};
+ghost use Rattle.log_model.specs.Places.{top};
+ghost use Rattle.report_text.specs.Endings.{ending_lines};
 ghost use Rattle.report_text.specs.Reports as spec;
-ghost use Rattle.report_text.specs.Plain.{ending_lines, plain_top, plain_report};
 
 use crate::pieces::{put_entry, put_moves, put_quiet, put_request, put_runs, put_step};
 use address::{OutOfMemory, Text};
@@ -11,47 +15,65 @@ use doc_view::View;
 use entry_store::Store;
 use log_model::{Ending, Row, Rows};
 use std::alloc::Global;
-use tab_ids::{NavId, Step};
+use tab_ids::NavId;
 use world::World;
 
 /// The report of a world's log. It is made of what the world keeps beside the log, so it reads no row again.
-#[tactic(auto, using(crate::proofs::PlainReport::reports))]
+#[tactic(auto, using(crate::proofs::WorldReport::report_is))]
 pub fn report(alloc: Global, world: &World) -> Result<Text, OutOfMemory>
     requires open { world.now.closed ≡ false }
     ensures { IfOk result (λ text. text ≡ spec.report_of world.now.log) }
 {
     let mut out = Vec::new(alloc);
-    let _log = world.log();
     write(&mut out, world)?;
     Text::from_vec(out)
 }
 
 fn write(out: &mut Vec<u8>, world: &World) -> Result<(), OutOfMemory>
-    ensures { OnOk result (out.new.items ≡ out.old.items ++ plain_report world.now.single) }
+    requires open { world.now.closed ≡ false }
+    ensures { OnOk result (out.new.items ≡ out.old.items ++ spec.report_with (seen_of world.now.log)) }
 {
     let rows = entries(world)?;
-    let length = rows.len() as u64;
-    let current = u64::from(current_step(world).0);
+    let at = stands_at(world);
     put_quiet(out, world.is_quiet())?;
-    put_step(out, current, length, current)?;
+    put_step(out, at.step, at.length, at.index)?;
     put_entries(out, rows.as_slice())?;
-    put_top(out, rows.as_slice(), world)?;
-    put_requests(out, world.endings())?;
+    put_top(out, world)?;
+    put_endings(out, world)?;
     Ok(())
 }
 
-/// The entries, in the order of their steps.
+/// The entries, by navigable and then by step.
 fn entries(world: &World) -> Result<Rows, OutOfMemory>
-    ensures { IfOk result (λ rows. rows ≡ world.now.single.history.rows) }
+    requires open { world.now.closed ≡ false }
+    ensures { IfOk result (λ rows. rows ≡ ordered (history_of world.now.log).rows) }
 {
     world.store().rows()
 }
 
-/// The current step.
-pub(crate) fn current_step(world: &World) -> Step
-    ensures { result.0 ≡ world.now.single.history.current }
+/// The current step, with the history's length and index.
+#[derive(Clone, Copy)]
+pub(crate) struct Position {
+    pub(crate) step: u64,
+    pub(crate) length: u64,
+    pub(crate) index: u64,
+}
+
+/// Where the history stands.
+pub(crate) fn stands_at(world: &World) -> Position
+    requires open { world.now.closed ≡ false }
+    ensures step { result.step ≡ (history_of world.now.log).current }
+    ensures length { result.length ≡ history_length (history_of world.now.log).rows }
+    ensures index { result.index ≡ history_index (history_of world.now.log).rows (history_of world.now.log).current }
 {
-    world.store().current()
+    let store = world.store();
+    let step = store.current();
+    let (length, index) = store.length_index(step);
+    Position {
+        step: u64::from(step.0),
+        length: u64::from(length),
+        index: u64::from(index),
+    }
 }
 
 fn put_entries(out: &mut Vec<u8>, rows: &[Row]) -> Result<(), OutOfMemory>
@@ -63,6 +85,15 @@ fn put_entries(out: &mut Vec<u8>, rows: &[Row]) -> Result<(), OutOfMemory>
     Ok(())
 }
 
+/// How each request ended.
+#[tactic(auto, using(crate::proofs::WorldReport::lines_of_endings))]
+fn put_endings(out: &mut Vec<u8>, world: &World) -> Result<(), OutOfMemory>
+    requires open { world.now.closed ≡ false }
+    ensures { OnOk result (out.new.items ≡ out.old.items ++ spec.request_lines 1 (seen_of world.now.log).requests) }
+{
+    put_requests(out, world.endings())
+}
+
 fn put_requests(out: &mut Vec<u8>, endings: &[Option<Ending>]) -> Result<(), OutOfMemory>
     ensures { OnOk result (out.new.items ≡ out.old.items ++ ending_lines 1 endings.now) }
 {
@@ -72,30 +103,52 @@ fn put_requests(out: &mut Vec<u8>, endings: &[Option<Ending>]) -> Result<(), Out
     Ok(())
 }
 
-/// The line of the top navigable: its document runs, and shows its target or is on its way there.
-fn put_top(out: &mut Vec<u8>, rows: &[Row], world: &World) -> Result<(), OutOfMemory>
-    requires rows { rows.now ≡ world.now.single.history.rows }
-    ensures { OnOk result (out.new.items ≡ out.old.items ++ plain_top world.now.single) }
+/// The line of the top navigable: its document shows its target, or is on its way there.
+fn put_top(out: &mut Vec<u8>, world: &World) -> Result<(), OutOfMemory>
+    requires open { world.now.closed ≡ false }
+    ensures { OnOk result (out.new.items ≡ out.old.items ++ option_map_or (spec.top_line (seen_of world.now.log)) (target_entry (history_of world.now.log).rows top (history_of world.now.log).current) []) }
 {
-    let length = rows.len() as u64;
-    let step = current_step(world);
-    let current = u64::from(step.0);
-    let shown = is_shown(rows, step, world.view(NavId(0)));
+    match target(world) {
+        Some(row) => put_target(out, world, row),
+        None => Ok(()),
+    }
+}
+
+/// The row that is the top's target at the current step.
+fn target(world: &World) -> Option<&Row>
+    requires open { world.now.closed ≡ false }
+    ensures { option_copied result ≡ target_entry (history_of world.now.log).rows top (history_of world.now.log).current }
+{
+    let store = world.store();
+    match store.target(NavId(0), store.current()) {
+        Some(entry) => store.row(entry),
+        None => None,
+    }
+}
+
+/// The line of the top navigable with its target.
+fn put_target(out: &mut Vec<u8>, world: &World, row: &Row) -> Result<(), OutOfMemory>
+    requires open { world.now.closed ≡ false }
+    ensures { OnOk result (out.new.items ≡ out.old.items ++ spec.top_line (seen_of world.now.log) row.now) }
+{
+    let at = stands_at(world);
+    let step = u64::from(row.step.0);
+    let shown = is_shown(row, at, world.view(NavId(0)));
     if shown {
-        put_runs(out, current, length, current)?;
+        put_runs(out, step, at.length, at.index)?;
     } else {
-        put_moves(out, current)?;
+        put_moves(out, step)?;
     }
     Ok(())
 }
 
-/// Whether the view is at the row of the current step.
-fn is_shown(rows: &[Row], current: Step, view: Option<&View>) -> bool
-    ensures { IfSome (option_copied view.entry) (λ v. result ≡ holds (λ row. spec.is_at row (length rows.now) current.0 v) (slice_get rows.now current.0)) }
+/// Whether the view is at the row.
+fn is_shown(row: &Row, at: Position, view: Option<&View>) -> bool
+    ensures { result ≡ holds (λ v. spec.is_at row.now at.length at.index v) (option_copied view.entry) }
 {
-    match (rows.get(current.0 as usize), view) {
-        (Some(row), Some(view)) => { is_at(row, rows.len() as u64, u64::from(current.0), view) }
-        (Some(_), None) | (None, Some(_)) | (None, None) => false,
+    match view {
+        Some(view) => is_at(row, at.length, at.index, view),
+        None => false,
     }
 }
 

@@ -1,94 +1,80 @@
 -- How each step moves a world on.
-use Rattle.std.proofs.Common.{◌≡◌, ◌<◌, Bool, true, false, not, ◌&&◌, ◌==◌, List, [], ◌∷◌, length, Option, Some, None, Ok, refl, sym, ap, ◌∙◌, arith, length-append}
-use Rattle.std.specs.Prelude.{slice_get, is_some, if◌then◌else◌, Result, Err, OnOk}
-use Rattle.tab_ids.specs.declared.ProcId.{ProcId}
-use Rattle.log_model.specs.declared.job.Job.{Job}
-use Rattle.log_model.specs.declared.job.Order.{Order}
-use Rattle.log_model.specs.declared.made.Made.{Made}
-use Rattle.log_model.specs.declared.made.What.{What}
-use Rattle.log_model.specs.declared.made.What.TheVariants as whats
-use Rattle.log_model.specs.declared.made.Report.{Report}
-use Rattle.log_model.specs.declared.made.Report.TheVariants as reports
-use Rattle.log_model.specs.declared.request.Poke.{Poke}
-use Rattle.log_model.specs.Views.{made_by}
-use Rattle.world_laws.specs.Single.{Single}
-use Rattle.world.specs.declared.event.Event.TheVariants as events
-use Rattle.world.specs.declared.event.Reply.TheVariants as replies
-use Rattle.world.specs.declared.event.Reply.{Reply}
-use Rattle.world.specs.Kept.{WorldState}
-use Rattle.proc_work.specs.Work as worked
-use Rattle.log_model.specs.declared.row_kind.LogRow.{LogRow}
-use Rattle.log_model.specs.Logs.{is_idle}
-use Rattle.world_laws.specs.Single.{desk_with, finish_rows, finished}
-use Rattle.world_laws.specs.Keeps.{IsWorld}
-use Rattle.tab_ids.specs.declared.ReqId.{ReqId}
-use Rattle.tab_ids.specs.declared.Step.{Step}
-use Rattle.log_model.specs.declared.job.Why.{Why}
-use Rattle.log_model.specs.declared.job.Why.TheVariants as whys
-use Rattle.log_model.specs.declared.outcome.Outcome.{Outcome}
-use Rattle.log_model.specs.declared.outcome.Outcome.TheVariants as outcomes
-use Rattle.world.specs.Taking.{IsTaken, IsForRequest, MayJudge, MayTake}
-use Rattle.world.proofs.Ready.{is_report}
+use Rattle.std.proofs.Common.{◌≡◌, ℕ, ◌<◌, Bool, true, false, not, ◌&&◌, ◌||◌, ◌==◌, List, length, Option, Some, None, Ok, refl, sym, ap, ◌∙◌, subst, arith, length-append}
+use Rattle.std.specs.Prelude.{is_none, is_some, if◌then◌else◌, Result, Err, OnOk}
 use Rattle.std.proofs.lemmas.Bool.{eq-eqb}
-use Rattle.std.proofs.lemmas.Option.{slice_get_within}
-use Rattle.world.specs.Steps.{Stepped, idle, logs, act_with, act_of, begin_of, finish_of, take_up, drop_of, take_done, deliver_of, step_of, Steps}
+use Rattle.tab_ids.specs.declared.ProcId.{ProcId}
+use Rattle.log_model.specs.declared.job.Order.{Order}
+use Rattle.log_model.specs.declared.row_kind.LogRow.{LogRow}
+use Rattle.log_model.specs.Logs.{seen_of, in_hand_of, input_of, mail_of, reports_of, is_idle}
+use Rattle.log_model.specs.Seen.{desk_of}
+use Rattle.proc_work.specs.Work as worked
+use Rattle.world.specs.declared.event.Event.{Event}
+use Rattle.world.specs.declared.event.Event.TheVariants as events
+use Rattle.world.specs.declared.event.Reply.{Reply}
+use Rattle.world.specs.declared.event.Reply.TheVariants as replies
+use Rattle.world.specs.Kept.{WorldState}
+use Rattle.world.specs.Open.{row_limit}
+use Rattle.world.specs.Steps.{begin_idles, idle_reply, StepsAs, Steps}
+use Rattle.scenario_play.specs.Courses.{order_of}
 use Rattle.scenario_play.specs.Moves.{MovesOn, MovesIf, has_poke, has_order, has_mail, has_report}
 
--- an answered step leaves an open world with a log that is no shorter
-pub answered_moves : (old new : WorldState) (stepped : Stepped) (reply : Reply) → old.closed ≡ false → Steps old stepped (Ok reply) new → MovesOn old new
-answered_moves old new (idle answer) reply open_ steps =
-    rw steps.1 (record { opened = open_; longer = omega arith })
-answered_moves old new (logs answer rows next) reply open_ steps =
-    rw steps.2 (record { opened = refl; longer = omega (arith, length-append old.log rows) })
-
--- an answer that logs nothing changes nothing
-idle_moves : (old new : WorldState) (answer reply : Reply) → old.closed ≡ false → Steps old (idle answer) (Ok reply) new → MovesIf false old new
-idle_moves old new answer reply open_ steps =
-    rw steps.1 (record { opened = open_; longer = omega arith; more = λ e. cc; idle = λ e. refl })
-
--- an event with a row makes the log longer
-logs_moves : (old new : WorldState) (answer reply : Reply) (rows : List LogRow) (next : Single) → 0 < length rows → Steps old (logs answer rows next) (Ok reply) new → MovesIf true old new
-logs_moves old new answer reply rows next some steps =
-    rw steps.2 (record {
-      opened = refl;
-      longer = omega (arith, length-append old.log rows);
-      more = λ e. omega (arith, length-append old.log rows);
+-- an event that logs makes the log longer, from below the limit on, and another answer changes nothing
+answered_moves : (old new : WorldState) (event : Event) (idle : Option Reply) (reply : Reply) → old.closed ≡ false → StepsAs old event idle (Ok reply) new → MovesIf (is_none idle) old new
+answered_moves old new event (Some answer) reply open_ steps =
+    rw steps.1 (record { opened = open_; longer = omega arith; more = λ e. cc; below = λ e. cc; idle = λ e. refl })
+answered_moves old new event None reply open_ steps =
+    let grown : length old.log < length new.log = rw steps.1.log (omega (arith, length-append old.log)) in
+    record {
+      opened = ap (λ (w : WorldState). w.closed) steps.2 ∙ open_;
+      longer = omega (arith, grown);
+      more = λ e. grown;
+      below = λ e. steps.0;
       idle = λ e. cc;
-    })
+    }
 
-pub act_moves : (old new : WorldState) (proc : ProcId) (reply : Reply) → old.closed ≡ false → Steps old (step_of old.single (events.Act proc)) (Ok reply) new → MovesIf (has_poke old.single proc) old new
-act_moves old new proc reply open_ steps = by_first (proc.0 == 1) (slice_get old.single.input 0) steps
+-- where the answer that logs nothing is told by a test
+none_if : (b : Bool) (answer : Reply) → is_none (if b then Some answer else None) ≡ not b
+none_if true answer = refl
+none_if false answer = refl
+
+pub act_moves : (old new : WorldState) (proc : ProcId) (reply : Reply) → old.closed ≡ false → Steps old (events.Act proc) (Ok reply) new → MovesIf (has_poke old.log proc) old new
+act_moves old new proc reply open_ steps =
+    subst (λ (due : Bool). MovesIf due old new) (none_if (length (input_of old.log proc) == 0) replies.Empty) (answered_moves old new (events.Act proc) _ reply open_ steps)
+
+pub deliver_moves : (old new : WorldState) (proc : ProcId) (reply : Reply) → old.closed ≡ false → Steps old (events.Deliver proc) (Ok reply) new → MovesIf (has_report old.log proc) old new
+deliver_moves old new proc reply open_ steps =
+    subst (λ (due : Bool). MovesIf due old new) (none_if (length (reports_of old.log proc) == 0) replies.Empty) (answered_moves old new (events.Deliver proc) _ reply open_ steps)
+
+none_begins : (hand : Option Order) (waiting : ℕ) → is_none (begin_idles hand waiting) ≡ (not (is_some hand) && not (waiting == 0))
+none_begins (Some order) waiting = refl
+none_begins None waiting = none_if (waiting == 0) replies.Empty
+
+-- no order is taken up then
+pub idles_without : (hand : Option Order) (waiting : ℕ) (answer : Reply) → begin_idles hand waiting ≡ Some answer → order_of answer ≡ None
+idles_without (Some order) waiting answer e = let same : replies.Busy ≡ answer = cc in ap order_of (sym same)
+idles_without None waiting answer e = by_test (waiting == 0) e
   where
-    by_made : (poke : Poke) (made : Option What) → Steps old (act_with old.single poke.req made) (Ok reply) new → MovesIf true old new
-    by_made poke None steps = logs_moves old new _ reply _ _ (omega arith) steps
-    by_made poke (Some what) steps = logs_moves old new _ reply _ _ (omega arith) steps
+    by_test : (b : Bool) → (if b then Some replies.Empty else None) ≡ Some answer → order_of answer ≡ None
+    by_test true e = let same : replies.Empty ≡ answer = cc in ap order_of (sym same)
+    by_test false e = cc
 
-    by_first : (here : Bool) (first : Option Poke) → Steps old (if here then act_of old.single first else idle replies.Empty) (Ok reply) new → MovesIf (here && is_some first) old new
-    by_first false first steps = idle_moves old new _ reply open_ steps
-    by_first true None steps = idle_moves old new _ reply open_ steps
-    by_first true (Some poke) steps = by_made poke (made_by old.single.view poke.action) steps
-
-pub begin_moves : (old new : WorldState) (proc : ProcId) (reply : Reply) → old.closed ≡ false → Steps old (step_of old.single (events.Begin proc)) (Ok reply) new → MovesIf (has_mail old.single proc) old new
-begin_moves old new proc reply open_ steps = by_first (proc.0 == 1) old.single.in_hand (slice_get old.single.mail 0) steps
-  where
-    by_first : (here : Bool) (hand : Option Order) (first : Option Job) → Steps old (if here then begin_of old.single hand first else idle replies.Empty) (Ok reply) new → MovesIf (here && (not (is_some hand) && is_some first)) old new
-    by_first false hand first steps = idle_moves old new _ reply open_ steps
-    by_first true (Some order) first steps = idle_moves old new _ reply open_ steps
-    by_first true None None steps = idle_moves old new _ reply open_ steps
-    by_first true None (Some job) steps = logs_moves old new _ reply _ _ (omega arith) steps
+pub begin_moves : (old new : WorldState) (proc : ProcId) (reply : Reply) → old.closed ≡ false → Steps old (events.Begin proc) (Ok reply) new → MovesIf (has_mail old.log proc) old new
+begin_moves old new proc reply open_ steps =
+    subst (λ (due : Bool). MovesIf due old new) (none_begins (in_hand_of old.log proc) (length (mail_of old.log proc))) (answered_moves old new (events.Begin proc) _ reply open_ steps)
 
 -- where an order was taken up, one waited
-pub took_moves : (old mid : WorldState) (proc : ProcId) (order : Order) → Steps old (step_of old.single (events.Begin proc)) (Ok (replies.Took order)) mid → has_mail old.single proc ≡ true
-took_moves old mid proc order steps = by_first (proc.0 == 1) old.single.in_hand (slice_get old.single.mail 0) steps
+pub took_moves : (old mid : WorldState) (proc : ProcId) (order : Order) → Steps old (events.Begin proc) (Ok (replies.Took order)) mid → has_mail old.log proc ≡ true
+took_moves old mid proc order steps = by_idle (idle_reply (seen_of old.log) (events.Begin proc)) refl steps
   where
-    by_first : (here : Bool) (hand : Option Order) (first : Option Job) → Steps old (if here then begin_of old.single hand first else idle replies.Empty) (Ok (replies.Took order)) mid → (here && (not (is_some hand) && is_some first)) ≡ true
-    by_first false hand first steps = let e : replies.Took order ≡ replies.Empty = steps.0 in cc
-    by_first true (Some o) first steps = let e : replies.Took order ≡ replies.Busy = steps.0 in cc
-    by_first true None None steps = let e : replies.Took order ≡ replies.Empty = steps.0 in cc
-    by_first true None (Some job) steps = refl
+    by_idle : (idle : Option Reply) → idle_reply (seen_of old.log) (events.Begin proc) ≡ idle → StepsAs old (events.Begin proc) idle (Ok (replies.Took order)) mid → has_mail old.log proc ≡ true
+    by_idle (Some answer) e steps =
+        let none : order_of answer ≡ None = idles_without (in_hand_of old.log proc) (length (mail_of old.log proc)) answer e in
+        let some : order_of answer ≡ Some order = ap order_of (sym steps.0) in
+        cc
+    by_idle None e steps = sym (none_begins (in_hand_of old.log proc) (length (mail_of old.log proc))) ∙ ap (λ (o : Option Reply). is_none o) e
 
 -- an order that was taken up and finished
-pub begun_moves : (old mid new : WorldState) (proc : ProcId) (order : Order) → old.closed ≡ false → Steps old (step_of old.single (events.Begin proc)) (Ok (replies.Took order)) mid → MovesOn mid new → MovesIf (has_mail old.single proc) old new
+pub begun_moves : (old mid new : WorldState) (proc : ProcId) (order : Order) → old.closed ≡ false → Steps old (events.Begin proc) (Ok (replies.Took order)) mid → MovesOn mid new → MovesIf (has_mail old.log proc) old new
 begun_moves old mid new proc order open_ steps moves =
     let due = took_moves old mid proc order steps in
     let first = begin_moves old mid proc (replies.Took order) open_ steps in
@@ -97,98 +83,51 @@ begun_moves old mid new proc order open_ steps moves =
       opened = moves.opened;
       longer = omega (arith, moves.longer);
       more = λ e. omega (arith, moves.longer);
+      below = λ e. first.below due;
       idle = λ e. absurd (let wrong : true ≡ false = sym due ∙ e in cc);
     }
 
-pub finish_moves : (old new : WorldState) (proc : ProcId) (order : Order) (done : worked.Done) (reply : Reply) → old.closed ≡ false → (if proc.0 == 1 then old.single.in_hand else None) ≡ Some order → done.order ≡ order → Steps old (step_of old.single (events.Finish proc done)) (Ok reply) new → MovesIf true old new
-finish_moves old new proc order done reply open_ hand same steps = by_here (proc.0 == 1) old.single.in_hand hand steps
-  where
-    by_here : (here : Bool) (in_hand : Option Order) → (if here then in_hand else None) ≡ Some order → Steps old (if here then finish_of old.single done in_hand else idle replies.Stale) (Ok reply) new → MovesIf true old new
-    by_here false in_hand hand steps = cc
-    by_here true None hand steps = cc
-    by_here true (Some o) hand steps =
-        let is : o ≡ done.order = (let e : o ≡ order = cc in e) ∙ sym same in
-        let test : (o.job.nr.0 == done.order.job.nr.0) ≡ true = rw is (eq-eqb done.order.job.nr.0 done.order.job.nr.0 refl) in
-        let did : Steps old (logs replies.Finished (finish_rows old.single o.job) (finished old.single o.job)) (Ok reply) new = rw test at steps in
-        logs_moves old new _ reply _ _ (omega arith) did
-
-pub deliver_moves : (old new : WorldState) (proc : ProcId) (reply : Reply) → old.closed ≡ false → IsWorld old.log old.single → Steps old (step_of old.single (events.Deliver proc)) (Ok reply) new → MovesIf (has_report old.single proc) old new
-deliver_moves old new proc reply open_ world steps = by_first (proc.0 == 1) (slice_get old.single.reports 0) refl steps
-  where
-    by_what : (made : Made) (what : What) → IsTaken old.single what → Steps old (take_up old.single made what) (Ok reply) new → MovesIf true old new
-    by_what made (whats.Push entry memo address) may steps = logs_moves old new _ reply _ _ (omega arith) steps
-    by_what made (whats.Replace over entry memo address) may steps = logs_moves old new _ reply _ _ (omega arith) steps
-    by_what made _ may steps = elim may [ ]
-
-    by_why : (made : Made) (why : Why) → IsForRequest why → Steps old (drop_of old.single made why) (Ok reply) new → MovesIf true old new
-    by_why made (whys.Req by) may steps = logs_moves old new _ reply _ _ (omega arith) steps
-    by_why made _ may steps = elim may [ ]
-
-    by_judge : (made : Made) (same : Bool) → MayJudge same old.single made.what → Steps old (if same then take_up old.single made made.what else drop_of old.single made old.single.why) (Ok reply) new → MovesIf true old new
-    by_judge made true may steps = by_what made made.what may steps
-    by_judge made false may steps = by_why made old.single.why may steps
-
-    by_done : (outcome : Outcome) (running : Option (ReqId × Step)) → Steps old (take_done old.single outcome running) (Ok reply) new → MovesIf true old new
-    by_done outcomes.Activated (Some run) steps = logs_moves old new _ reply _ _ (omega arith) steps
-    by_done outcomes.Activated None steps = logs_moves old new _ reply _ _ (omega arith) steps
-    by_done (outcomes.Populated slot) running steps = logs_moves old new _ reply _ _ (omega arith) steps
-    by_done outcomes.Updated running steps = logs_moves old new _ reply _ _ (omega arith) steps
-    by_done outcomes.Frozen running steps = logs_moves old new _ reply _ _ (omega arith) steps
-    by_done outcomes.Discarded running steps = logs_moves old new _ reply _ _ (omega arith) steps
-    by_done (outcomes.Asked verdict) running steps = logs_moves old new _ reply _ _ (omega arith) steps
-    by_done outcomes.Fragmented running steps = logs_moves old new _ reply _ _ (omega arith) steps
-
-    by_report : (report : Report) → MayTake old.single report → Steps old (deliver_of old.single (Some report)) (Ok reply) new → MovesIf true old new
-    by_report (reports.Made made) may steps = by_judge made (made.epoch.0 == old.single.epoch.0) may.1 steps
-    by_report (reports.Done job outcome made) may steps = by_done outcome old.single.running steps
-    by_report (reports.Died death) may steps = elim may [ ]
-
-    by_first : (here : Bool) (first : Option Report) → slice_get old.single.reports 0 ≡ first → Steps old (if here then deliver_of old.single first else idle replies.Empty) (Ok reply) new → MovesIf (here && is_some first) old new
-    by_first false first at steps = idle_moves old new _ reply open_ steps
-    by_first true None at steps = idle_moves old new _ reply open_ steps
-    by_first true (Some report) at steps =
-        let some : 0 < length old.single.reports = omega (arith, slice_get_within old.single.reports 0 report at) in
-        let may : MayTake old.single report = rw at at (is_report old.log old.single world some) in
-        by_report report may steps
+pub finish_moves : (old new : WorldState) (proc : ProcId) (order : Order) (done : worked.Done) (reply : Reply) → old.closed ≡ false → in_hand_of old.log proc ≡ Some order → done.order ≡ order → Steps old (events.Finish proc done) (Ok reply) new → MovesIf true old new
+finish_moves old new proc order done reply open_ hand same steps =
+    let test : (order.job.nr.0 == done.order.job.nr.0) ≡ true = rw same (eq-eqb order.job.nr.0 order.job.nr.0 refl) in
+    let due : idle_reply (seen_of old.log) (events.Finish proc done) ≡ None = rw hand (rw test refl) in
+    subst (λ (b : Bool). MovesIf b old new) (ap (λ (o : Option Reply). is_none o) due) (answered_moves old new (events.Finish proc done) _ reply open_ steps)
 
 -- where something waits, and neither a poke nor an order does, a report does
-busy_report : (t : Single) (proc : ProcId) → proc.0 ≡ 1 → is_idle (desk_with t) ≡ false → has_poke t proc ≡ false → has_order t proc ≡ false → has_report t proc ≡ true
-busy_report t proc one busy poke order = by_input t.input refl
+busy_report : (log : List LogRow) (proc : ProcId) → is_idle (desk_of (seen_of log) proc) ≡ false → has_poke log proc ≡ false → has_order log proc ≡ false → has_report log proc ≡ true
+busy_report log proc busy poke order =
+    by_parts (length (input_of log proc) == 0) (length (mail_of log proc) == 0) (in_hand_of log proc) (length (reports_of log proc) == 0) busy poke order
   where
-    here : (proc.0 == 1) ≡ true
-    here = eq-eqb proc.0 1 one
+    by_parts : (a b : Bool) (hand : Option Order) (d : Bool) → (a && b && is_none hand && d) ≡ false → not a ≡ false → (is_some hand || not b) ≡ false → not d ≡ true
+    by_parts true true None true busy poke order = cc
+    by_parts true true None false busy poke order = refl
+    by_parts true true (Some o) d busy poke order = cc
+    by_parts true false None d busy poke order = cc
+    by_parts true false (Some o) d busy poke order = cc
+    by_parts false b hand d busy poke order = cc
 
-    by_reports : (waiting : List Report) → t.input ≡ [] → t.mail ≡ [] → t.in_hand ≡ None → t.reports ≡ waiting → has_report t proc ≡ true
-    by_reports [] input mail hand e =
-        let still : is_idle (desk_with t) ≡ true = rw (input, mail, hand, e) refl in cc
-    by_reports (r ∷ rs) input mail hand e = rw (here, e) refl
+-- a log that began below the limit is longer
+pub record Grows (old new : WorldState) : Type 0 where
+  pub longer : length old.log < length new.log
+  pub below : length old.log < row_limit
 
-    by_mail : (mail : List Job) → t.input ≡ [] → t.in_hand ≡ None → t.mail ≡ mail → has_report t proc ≡ true
-    by_mail [] input hand e = by_reports t.reports input e hand refl
-    by_mail (j ∷ js) input hand e = let some : has_order t proc ≡ true = rw (here, hand, e) refl in cc
-
-    by_hand : (hand : Option Order) → t.input ≡ [] → t.in_hand ≡ hand → has_report t proc ≡ true
-    by_hand None input e = by_mail t.mail input e refl
-    by_hand (Some o) input e = let some : has_order t proc ≡ true = rw (here, e) refl in cc
-
-    by_input : (input : List Poke) → t.input ≡ input → has_report t proc ≡ true
-    by_input [] e = by_hand t.in_hand e refl
-    by_input (p ∷ ps) e = let some : has_poke t proc ≡ true = rw (here, e) refl in cc
-
--- a turn of the document's process, where something waits in it
-pub turn_moves : (old first second new : WorldState) (proc : ProcId) → proc.0 ≡ 1 → is_idle (desk_with old.single) ≡ false → MovesIf (has_poke old.single proc) old first → MovesIf (has_order first.single proc) first second → MovesIf (has_report second.single proc) second new → length old.log < length new.log
-turn_moves old first second new proc one busy poke order report = by_poke (has_poke old.single proc) refl
+-- a turn of a process in which something waits
+pub turn_moves : (old first second new : WorldState) (proc : ProcId) → is_idle (desk_of (seen_of old.log) proc) ≡ false → MovesIf (has_poke old.log proc) old first → MovesIf (has_order first.log proc) first second → MovesIf (has_report second.log proc) second new → Grows old new
+turn_moves old first second new proc busy poke order report = by_poke (has_poke old.log proc) refl
   where
-    by_order : first ≡ old → has_poke old.single proc ≡ false → (due : Bool) → has_order first.single proc ≡ due → length old.log < length new.log
-    by_order same none true e = omega (arith, order.more e, report.longer, ap (λ (w : WorldState). length w.log) same)
+    by_order : first ≡ old → has_poke old.log proc ≡ false → (due : Bool) → has_order first.log proc ≡ due → Grows old new
+    by_order same none true e =
+        let long : length first.log ≡ length old.log = ap (λ (w : WorldState). length w.log) same in
+        record { longer = omega (arith, order.more e, report.longer, long); below = omega (arith, order.below e, long) }
     by_order same none false e =
         let still : second ≡ old = order.idle e ∙ same in
-        let due : has_report second.single proc ≡ true = ap (λ (w : WorldState). has_report w.single proc) still ∙ busy_report old.single proc one busy none (sym (ap (λ (w : WorldState). has_order w.single proc) same) ∙ e) in
-        omega (arith, report.more due, ap (λ (w : WorldState). length w.log) still)
+        let due : has_report second.log proc ≡ true = ap (λ (w : WorldState). has_report w.log proc) still ∙ busy_report old.log proc busy none (sym (ap (λ (w : WorldState). has_order w.log proc) same) ∙ e) in
+        let long : length second.log ≡ length old.log = ap (λ (w : WorldState). length w.log) still in
+        record { longer = omega (arith, report.more due, long); below = omega (arith, report.below due, long) }
 
-    by_poke : (due : Bool) → has_poke old.single proc ≡ due → length old.log < length new.log
-    by_poke true e = omega (arith, poke.more e, order.longer, report.longer)
-    by_poke false e = by_order (poke.idle e) e (has_order first.single proc) refl
+    by_poke : (due : Bool) → has_poke old.log proc ≡ due → Grows old new
+    by_poke true e = record { longer = omega (arith, poke.more e, order.longer, report.longer); below = poke.below e }
+    by_poke false e = by_order (poke.idle e) e (has_order first.log proc) refl
 
 -- what follows from success follows of a result
 pub on_ok : {T E : Type 0} (r : Result T E) (P Q : Type 0) → (P → Q) → OnOk r P → OnOk r Q

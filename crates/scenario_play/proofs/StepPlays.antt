@@ -1,32 +1,28 @@
 -- A step of a world is the event of its line, or the line is passed over, or there is an error where the event was due.
-use Rattle.std.proofs.Common.{◌≡◌, ℕ, ℤ, ◌<◌, Bool, true, false, ◌&&◌, ◌||◌, ◌==◌, List, [], ◌∷◌, ◌++◌, length, Option, Some, None, Result, Ok, Err, refl, sym, ap, ◌∙◌, subst, arith}
-use Rattle.std.specs.Prelude.{IsSome, slice_get, is_some, is_none, if◌then◌else◌}
+use Rattle.std.proofs.Common.{◌≡◌, ℕ, ◌+◌, ◌<◌, Bool, true, false, ◌&&◌, ◌||◌, ◌==◌, List, [], ◌∷◌, ◌++◌, map, length, Option, Some, None, Result, Ok, Err, IsTrue, refl, sym, ap, ◌∙◌, subst, arith}
+use Rattle.std.specs.Prelude.{IsSome, IsSomeAnd, slice_get, is_some, is_none, option_map, if◌then◌else◌}
 use Rattle.std.proofs.lemmas.Bool.{eq-eqb}
-use Rattle.std.proofs.lemmas.Bool.Decides.{nat_tests}
-use Rattle.std.proofs.lemmas.Option.{slice_get_within}
-use Rattle.tab_ids.specs.declared.NavId.{NavId}
 use Rattle.tab_ids.specs.declared.ProcId.{ProcId}
 use Rattle.tab_ids.specs.declared.ReqId.{ReqId}
-use Rattle.log_model.specs.declared.action.Action.{Action}
 use Rattle.log_model.specs.declared.job.Job.{Job}
 use Rattle.log_model.specs.declared.job.Order.{Order}
-use Rattle.log_model.specs.declared.made.Made.{Made}
 use Rattle.log_model.specs.declared.made.What.{What}
-use Rattle.log_model.specs.declared.made.What.TheVariants as whats
-use Rattle.log_model.specs.declared.made.Report.{Report}
-use Rattle.log_model.specs.declared.made.Report.TheVariants as reports
-use Rattle.log_model.specs.declared.request.Poke.{Poke}
 use Rattle.log_model.specs.declared.request.Request.TheVariants as requests
 use Rattle.log_model.specs.declared.row_kind.LogRow.{LogRow}
 use Rattle.log_model.specs.declared.row_kind.RowKind.{RowKind}
-use Rattle.log_model.specs.Events.{have_number}
-use Rattle.log_model.specs.Logs.{seen_of, is_idle, in_hand_of}
-use Rattle.log_model.specs.Seen.{Seen, Desk, desk_of, empty_desk}
-use Rattle.log_model.specs.Views.{made_by}
+use Rattle.log_model.specs.declared.row_kind.RowKind.TheVariants as rows
+use Rattle.log_model.specs.After.{desk_taken}
+use Rattle.log_model.specs.Events.{events_of, have_number}
+use Rattle.log_model.specs.Legal.{IsLegal, opens}
+use Rattle.log_model.specs.Logs.{seen_of, is_idle, in_hand_of, mail_of}
+use Rattle.log_model.specs.Seen.{Seen, Desk, nothing, desk_of}
+use Rattle.log_model.specs.Views.{View, made_by}
+use Rattle.log_model.proofs.Laws.{next_event, events_fold, seen_of_append}
+use Rattle.seen_laws.proofs.Desks.{desk_on_same}
 use Rattle.scenario_text.specs.declared.line.ScenarioLine.{ScenarioLine}
 use Rattle.scenario_text.specs.declared.line.ScenarioLine.TheVariants as lines
-use Rattle.scenario_text.specs.Follows.{is_passed, is_event, does, does_all, turn_of}
-use Rattle.scenario_text.proofs.SameRequest.{same_action_itself}
+use Rattle.scenario_text.specs.Follows.{is_passed, is_actor, is_own, does, does_all, turn_of}
+use Rattle.scenario_text.proofs.SameRequest.{same_request_itself}
 use Rattle.world.specs.declared.error.StepError.{StepError}
 use Rattle.world.specs.declared.error.StepError.TheVariants as errors
 use Rattle.world.specs.declared.event.Event.{Event}
@@ -34,208 +30,110 @@ use Rattle.world.specs.declared.event.Event.TheVariants as events
 use Rattle.world.specs.declared.event.Reply.{Reply}
 use Rattle.world.specs.declared.event.Reply.TheVariants as replies
 use Rattle.world.specs.Kept.{WorldState}
-use Rattle.world.specs.Steps.{Stepped, idle, logs, act_with, act_of, begin_of, finish_of, take_up, drop_of, take_done, deliver_of, poke_of, step_of, IsBuilt, Steps}
-use Rattle.tab_ids.specs.declared.Step.{Step}
-use Rattle.log_model.specs.declared.job.Why.{Why}
-use Rattle.log_model.specs.declared.job.Why.TheVariants as whys
-use Rattle.log_model.specs.declared.outcome.Outcome.{Outcome}
-use Rattle.log_model.specs.declared.outcome.Outcome.TheVariants as outcomes
-use Rattle.log_model.specs.declared.row_kind.Actor.{Actor}
-use Rattle.log_model.specs.declared.row_kind.Actor.TheVariants as actors
-use Rattle.log_model.proofs.Refl.{same_delta_refl}
-use Rattle.world_laws.specs.Going.{start_kinds, arrived, go_kinds}
-use Rattle.world.specs.Taking.{IsTaken, IsForRequest, MayJudge, MayTake}
-use Rattle.world.proofs.Ready.{is_report}
-use Rattle.world_laws.specs.Single.{Single, Past, seen_with, desk_with, logged}
-use Rattle.world_laws.specs.Keeps.{IsWorld}
-use Rattle.proc_work.specs.Work as worked
+use Rattle.world.specs.Open.{view_in}
+use Rattle.world.specs.Steps.{actor_of, act_row, order_for, row_in, begin_idles, idle_reply, Begins, HasHappened, StepsAs, Steps}
 use Rattle.scenario_play.specs.Courses.{Leads, Cuts, Plays, line_of, order_of, IsOfHand}
+use Rattle.scenario_play.proofs.StepMoves.{idles_without}
 use Rattle.scenario_play.proofs.LeadLaws.{leads_none, leads_event, cuts_here, all_done, all_leads, all_cuts, all_then, all_cut, all_last, all_appended, all_appended_cut, all_cut_front}
 
 number_itself : (n : ℕ) → (n == n) ≡ true
 number_itself n = eq-eqb n n refl
 
--- ---- what a world's log has come to
+-- ---- a log that has opened
 
-one_first : (n : ℕ) → (1 == n) ≡ (n == 1)
-one_first n = by_test (n == 1) refl
+later_event : (n : ℕ) (log : List LogRow) → 0 < n → 0 < next_event n log
+later_event n [] some = some
+later_event n (row ∷ log) some = later_event (row.event + 1) log (omega arith)
+
+-- it has an event
+some_event : (log : List LogRow) → IsTrue (opens (events_of log)) → 0 < (seen_of log).events
+unfolding opens events_of seen_of
+some_event [] opened = let wrong : false ≡ true = opened in cc
+some_event (row ∷ log) opened =
+    subst (λ (n : ℕ). 0 < n) (sym (events_fold nothing (row ∷ log))) (later_event (row.event + 1) log (omega arith))
+
+-- ---- the line of an event
+
+-- an answer that a test tells
+some_if : (b : Bool) → b ≡ is_some (if b then Some replies.Empty else None)
+some_if true = refl
+some_if false = refl
+
+-- the line is passed over where the event logs nothing
+passed_is : (log : List LogRow) (event : Event) → IsOfHand log event → is_passed (seen_of log) (line_of event) ≡ is_some (idle_reply (seen_of log) event)
+passed_is log (events.Go delta) hand = refl
+passed_is log (events.Poke nav action) hand = refl
+passed_is log (events.Act proc) hand = some_if (length (desk_of (seen_of log) proc).input == 0)
+passed_is log (events.Begin proc) hand = by_hand (in_hand_of log proc) (length (mail_of log proc))
   where
-    by_test : (b : Bool) → (n == 1) ≡ b → (1 == n) ≡ b
-    by_test true e = let same : n ≡ 1 = grind (arith, nat_tests) in eq-eqb 1 n (sym same)
-    by_test false e = grind (arith, nat_tests)
+    by_hand : (order : Option Order) (waiting : ℕ) → (is_some order || waiting == 0) ≡ is_some (begin_idles order waiting)
+    by_hand (Some order) waiting = refl
+    by_hand None waiting = some_if (waiting == 0)
+passed_is log (events.Finish proc done) hand = rw hand (rw (number_itself done.order.job.nr.0) refl)
+passed_is log (events.Deliver proc) hand = some_if (length (desk_of (seen_of log) proc).reports == 0)
 
-desk_of_world : (log : List LogRow) (t : Single) (proc : ProcId) → IsWorld log t → desk_of (seen_of log) proc ≡ (if proc.0 == 1 then desk_with t else empty_desk proc)
-desk_of_world log t proc world = ap (λ (s : Seen). desk_of s proc) world.tied ∙ rw (one_first proc.0) refl
+-- what follows from what is there
+of_some : {A : Type 0} {C : Type 0} (o : Option A) (P : A → Type 0) → ((x : A) → P x → C) → IsSomeAnd o P → C
+of_some None P f some = elim some [ ]
+of_some (Some x) P f some = f x some
 
-pub hand_of_world : (log : List LogRow) (t : Single) (proc : ProcId) → IsWorld log t → in_hand_of log proc ≡ (if proc.0 == 1 then t.in_hand else None)
-hand_of_world log t proc world =
-    ap (λ (desk : Desk). desk.in_hand) (desk_of_world log t proc world) ∙ by_test (proc.0 == 1)
+-- its actor is the line's
+actor_is : (event : Event) → is_actor (line_of event) (actor_of event) ≡ true
+actor_is (events.Go delta) = refl
+actor_is (events.Poke nav action) = refl
+actor_is (events.Act proc) = number_itself proc.0
+actor_is (events.Begin proc) = number_itself proc.0
+actor_is (events.Finish proc done) = number_itself proc.0
+actor_is (events.Deliver proc) = refl
+
+-- and its own row
+own_is : (s : Seen) (event : Event) (reply : Reply) (own : RowKind) (out : List RowKind) → Begins s event reply own out → is_own (line_of event) own ≡ true
+own_is s (events.Go delta) reply own out begins = rw begins.1 (same_request_itself (requests.Go delta))
+own_is s (events.Poke nav action) reply own out begins = rw begins.1 (same_request_itself (requests.Poke nav action))
+own_is s (events.Act proc) reply own out begins =
+    of_some (slice_get (desk_of s proc).input 0) _ (λ poke shown. of_some (view_in s poke.doc) _ (λ view is. rw is (by_made view poke.req (made_by view poke.action))) shown) begins.2
   where
-    by_test : (b : Bool) → (let desk : Desk = if b then desk_with t else empty_desk proc in desk.in_hand) ≡ (if b then t.in_hand else None)
-    by_test true = refl
-    by_test false = refl
+    by_made : (view : View) (req : ReqId) (made : Option What) → is_own (lines.Act proc) (act_row proc view req made) ≡ true
+    by_made view req (Some what) = number_itself proc.0
+    by_made view req None = refl
+own_is s (events.Begin proc) reply own out begins =
+    of_some (slice_get (desk_of s proc).mail 0) _ (λ job is. rw is.1 (number_itself proc.0)) begins.1
+own_is s (events.Finish proc done) reply own out begins =
+    of_some (desk_of s proc).in_hand _ (λ order is. rw is (number_itself proc.0)) begins.2
+own_is s (events.Deliver proc) reply own out begins = rw begins.1 (number_itself proc.0)
 
-some_events : (log : List LogRow) (t : Single) → IsWorld log t → 0 < (seen_of log).events
-some_events log t world = subst (λ (n : ℕ). 0 < n) (sym (ap (λ (s : Seen). s.events) world.tied)) world.keeps.some
+-- its rows have its number
+numbered_is : (s : Seen) (event : Event) (kinds : List RowKind) → have_number s.events (map (row_in s event) kinds) ≡ true
+numbered_is s event [] = refl
+numbered_is s event (kind ∷ kinds) = rw (number_itself s.events) (numbered_is s event kinds)
 
 -- ---- a step
 
--- what the event comes to is the line's: it is passed over, or its event is logged
-abbrev Matches : Seen → ScenarioLine → Stepped → Type 0
-Matches s line (idle reply) = is_passed s line ≡ true
-Matches s line (logs reply rows next) =
-    (is_passed s line ≡ false) × (is_event line rows ≡ true) × (have_number s.events rows ≡ true)
-
-matched_leads : (line : ScenarioLine) (log rows : List LogRow) → 0 < (seen_of log).events → is_passed (seen_of log) line ≡ false → is_event line rows ≡ true → have_number (seen_of log).events rows ≡ true → Leads (does line) log (log ++ rows)
-matched_leads line log [] some due is number = cc
-matched_leads line log (first ∷ rows) some due is number = leads_event line log first rows some due is number
+-- the event has happened
+happened_leads : (event : Event) (reply : Reply) (old new : List LogRow) → IsLegal old → is_passed (seen_of old) (line_of event) ≡ false → HasHappened event reply old new → Leads (does (line_of event)) old new
+happened_leads event reply old new legal due happened =
+    subst (λ (log : List LogRow). Leads (does (line_of event)) old log) (sym happened.log) (leads_event (line_of event) old (row_in (seen_of old) event happened.own) (map (row_in (seen_of old) event) happened.out) (some_event old legal.opened) due (rw (actor_is event) (own_is (seen_of old) event reply happened.own happened.out happened.begins)) (numbered_is (seen_of old) event (happened.own ∷ happened.out)))
 
 cuts_as_it_stands : (line : ScenarioLine) (old new : List LogRow) → new ≡ old → is_passed (seen_of old) line ≡ false → Cuts (does line) old new
 cuts_as_it_stands line old new same due = subst (λ (l : List LogRow). Cuts (does line) old l) (sym same) (cuts_here line old due)
 
-matched_plays : (line : ScenarioLine) (old new : WorldState) (stepped : Stepped) (result : Result Reply StepError) → 0 < (seen_of old.log).events → Matches (seen_of old.log) line stepped → Steps old stepped result new → Plays (does line) old.log result new.log
-matched_plays line old new (idle reply) (Ok answer) some matches steps = rw steps.1 (leads_none line old.log matches)
-matched_plays line old new (idle reply) (Err error) some matches steps = elim steps [ ]
-matched_plays line old new (logs reply rows next) (Ok answer) some matches steps =
-    rw steps.2 (matched_leads line old.log rows some matches.0 matches.1 matches.2)
-matched_plays line old new (logs reply rows next) (Err errors.Closed) some matches steps = elim steps [ ]
-matched_plays line old new (logs reply rows next) (Err errors.LogFull) some matches steps =
-    cuts_as_it_stands line old.log new.log (ap (λ (w : WorldState). w.log) steps.1) matches.0
-matched_plays line old new (logs reply rows next) (Err (errors.UrlOverflow overflowed)) some matches steps =
-    cuts_as_it_stands line old.log new.log steps.1 matches.0
-matched_plays line old new (logs reply rows next) (Err errors.OutOfMemory) some matches steps =
-    cuts_as_it_stands line old.log new.log steps.1 matches.0
-
--- ---- each kind of event
-
--- a list without a first item is empty
-none_waits : {A : Type 0} (xs : List A) → slice_get xs 0 ≡ None → (length xs == 0) ≡ true
-none_waits [] at = refl
-none_waits (x ∷ xs) at = cc
-
-one_waits : {A : Type 0} (xs : List A) (x : A) → slice_get xs 0 ≡ Some x → (length xs == 0) ≡ false
-one_waits [] x at = cc
-one_waits (y ∷ ys) x at = grind (arith, nat_tests)
-
--- the rows that are logged have the event's number
-have_logged : (event : ℕ) (actor : Actor) (kinds : List RowKind) → have_number event (logged event actor kinds) ≡ true
-have_logged event actor [] = refl
-have_logged event actor (kind ∷ kinds) = rw (number_itself event) (have_logged event actor kinds)
-
-poke_matches : (p : Past) (t : Single) (nav : NavId) (action : Action) → Matches (seen_with p t) (lines.Ask (requests.Poke nav action)) (step_of t (events.Poke nav action))
-poke_matches p t nav action = by_top (nav.0 == 0) refl
-  where
-    by_top : (b : Bool) → (nav.0 == 0) ≡ b → Matches (seen_with p t) (lines.Ask (requests.Poke nav action)) (poke_of t nav action)
-    by_top true e =
-        let top : nav.0 ≡ 0 = grind (arith, nat_tests, e) in
-        let there : (0 == nav.0) ≡ true = rw top refl in
-        rw e (refl, rw (there, same_action_itself action) refl, rw (number_itself t.events) refl)
-    by_top false e =
-        rw e (refl, rw (number_itself nav.0, same_action_itself action) refl, rw (number_itself t.events) refl)
-
-go_matches : (p : Past) (t : Single) (delta : ℤ) → Matches (seen_with p t) (lines.Ask (requests.Go delta)) (step_of t (events.Go delta))
-go_matches p t delta = (refl, by_running t.running, have_logged t.events actors.Ui (go_kinds t delta t.running))
-  where
-    by_running : (running : Option (ReqId × Step)) → is_event (lines.Ask (requests.Go delta)) (logged t.events actors.Ui (go_kinds t delta running)) ≡ true
-    by_running (Some run) = same_delta_refl delta
-    by_running None = same_delta_refl delta
-
-act_matches : (p : Past) (t : Single) (proc : ProcId) → Matches (seen_with p t) (lines.Act proc) (step_of t (events.Act proc))
-act_matches p t proc = by_here (proc.0 == 1) refl
-  where
-    by_made : (1 == proc.0) ≡ true → (req : ReqId) (made : Option What) → (length t.input == 0) ≡ false → Matches (seen_with p t) (lines.Act proc) (act_with t req made)
-    by_made there req None some = (rw there some, rw there refl, rw (number_itself t.events) refl)
-    by_made there req (Some what) some = (rw there some, rw there refl, rw (number_itself t.events) refl)
-
-    by_first : (1 == proc.0) ≡ true → (first : Option Poke) → slice_get t.input 0 ≡ first → Matches (seen_with p t) (lines.Act proc) (act_of t first)
-    by_first there None at = rw there (none_waits t.input at)
-    by_first there (Some poke) at = by_made there poke.req (made_by t.view poke.action) (one_waits t.input poke at)
-
-    by_here : (b : Bool) → (proc.0 == 1) ≡ b → Matches (seen_with p t) (lines.Act proc) (if b then act_of t (slice_get t.input 0) else idle replies.Empty)
-    by_here false e = rw (one_first proc.0 ∙ e) refl
-    by_here true e = by_first (one_first proc.0 ∙ e) (slice_get t.input 0) refl
-
-begin_matches : (p : Past) (t : Single) (proc : ProcId) → Matches (seen_with p t) (lines.Begin proc) (step_of t (events.Begin proc))
-begin_matches p t proc = by_here (proc.0 == 1) refl
-  where
-    by_first : (1 == proc.0) ≡ true → (hand : Option Order) → t.in_hand ≡ hand → (first : Option Job) → slice_get t.mail 0 ≡ first → Matches (seen_with p t) (lines.Begin proc) (begin_of t hand first)
-    by_first there (Some order) hand first at = rw (there, hand) refl
-    by_first there None hand None at = rw (there, hand) (none_waits t.mail at)
-    by_first there None hand (Some job) at =
-        (rw (there, hand) (one_waits t.mail job at), rw there refl, rw (number_itself t.events) refl)
-
-    by_here : (b : Bool) → (proc.0 == 1) ≡ b → Matches (seen_with p t) (lines.Begin proc) (if b then begin_of t t.in_hand (slice_get t.mail 0) else idle replies.Empty)
-    by_here false e = rw (one_first proc.0 ∙ e) refl
-    by_here true e = by_first (one_first proc.0 ∙ e) t.in_hand refl (slice_get t.mail 0) refl
-
-finish_matches : (p : Past) (t : Single) (proc : ProcId) (done : worked.Done) → (if proc.0 == 1 then t.in_hand else None) ≡ Some done.order → Matches (seen_with p t) (lines.Finish proc) (step_of t (events.Finish proc done))
-finish_matches p t proc done hand = by_here (proc.0 == 1) refl t.in_hand refl hand
-  where
-    by_here : (b : Bool) → (proc.0 == 1) ≡ b → (in_hand : Option Order) → t.in_hand ≡ in_hand → (if b then in_hand else None) ≡ Some done.order → Matches (seen_with p t) (lines.Finish proc) (if b then finish_of t done in_hand else idle replies.Stale)
-    by_here false e in_hand is hand = cc
-    by_here true e None is hand = cc
-    by_here true e (Some order) is hand =
-        let same : order ≡ done.order = cc in
-        let test : (order.job.nr.0 == done.order.job.nr.0) ≡ true = rw same (number_itself done.order.job.nr.0) in
-        let there : (1 == proc.0) ≡ true = one_first proc.0 ∙ e in
-        rw test (rw (there, is) refl, rw there refl, rw (number_itself t.events) refl)
-
-deliver_matches : (log : List LogRow) (p : Past) (t : Single) (proc : ProcId) → IsWorld log t → Matches (seen_with p t) (lines.Deliver proc) (step_of t (events.Deliver proc))
-deliver_matches log p t proc world = by_here (proc.0 == 1) refl
-  where
-    by_what : (1 == proc.0) ≡ true → (length t.reports == 0) ≡ false → (made : Made) (what : What) → IsTaken t what → Matches (seen_with p t) (lines.Deliver proc) (take_up t made what)
-    by_what there some made (whats.Push entry memo address) may = (rw there some, rw there refl, rw (number_itself t.events) refl)
-    by_what there some made (whats.Replace over entry memo address) may = (rw there some, rw there refl, rw (number_itself t.events) refl)
-    by_what there some made _ may = elim may [ ]
-
-    by_why : (1 == proc.0) ≡ true → (length t.reports == 0) ≡ false → (made : Made) (why : Why) → IsForRequest why → Matches (seen_with p t) (lines.Deliver proc) (drop_of t made why)
-    by_why there some made (whys.Req by) may = (rw there some, rw there refl, rw (number_itself t.events) refl)
-    by_why there some made _ may = elim may [ ]
-
-    by_judge : (1 == proc.0) ≡ true → (length t.reports == 0) ≡ false → (made : Made) (same : Bool) → MayJudge same t made.what → Matches (seen_with p t) (lines.Deliver proc) (if same then take_up t made made.what else drop_of t made t.why)
-    by_judge there some made true may = by_what there some made made.what may
-    by_judge there some made false may = by_why there some made t.why may
-
-    by_done : (1 == proc.0) ≡ true → (length t.reports == 0) ≡ false → (outcome : Outcome) (running : Option (ReqId × Step)) → Matches (seen_with p t) (lines.Deliver proc) (take_done t outcome running)
-    by_done there some outcomes.Activated (Some run) = (rw there some, rw there refl, rw (number_itself t.events) (have_logged t.events actors.Coord (start_kinds (arrived t run.0 run.1) t.queue)))
-    by_done there some outcomes.Activated None = (rw there some, rw there refl, rw (number_itself t.events) refl)
-    by_done there some (outcomes.Populated slot) running = (rw there some, rw there refl, rw (number_itself t.events) refl)
-    by_done there some outcomes.Updated running = (rw there some, rw there refl, rw (number_itself t.events) refl)
-    by_done there some outcomes.Frozen running = (rw there some, rw there refl, rw (number_itself t.events) refl)
-    by_done there some outcomes.Discarded running = (rw there some, rw there refl, rw (number_itself t.events) refl)
-    by_done there some (outcomes.Asked verdict) running = (rw there some, rw there refl, rw (number_itself t.events) refl)
-    by_done there some outcomes.Fragmented running = (rw there some, rw there refl, rw (number_itself t.events) refl)
-
-    by_report : (1 == proc.0) ≡ true → (length t.reports == 0) ≡ false → (report : Report) → MayTake t report → Matches (seen_with p t) (lines.Deliver proc) (deliver_of t (Some report))
-    by_report there some (reports.Made made) may = by_judge there some made (made.epoch.0 == t.epoch.0) may.1
-    by_report there some (reports.Done job outcome made) may = by_done there some outcome t.running
-    by_report there some (reports.Died death) may = elim may [ ]
-
-    by_first : (1 == proc.0) ≡ true → (first : Option Report) → slice_get t.reports 0 ≡ first → Matches (seen_with p t) (lines.Deliver proc) (deliver_of t first)
-    by_first there None at = rw there (none_waits t.reports at)
-    by_first there (Some report) at =
-        let some : 0 < length t.reports = omega (arith, slice_get_within t.reports 0 report at) in
-        let may : MayTake t report = rw at at (is_report log t world some) in
-        by_report there (one_waits t.reports report at) report may
-
-    by_here : (b : Bool) → (proc.0 == 1) ≡ b → Matches (seen_with p t) (lines.Deliver proc) (if b then deliver_of t (slice_get t.reports 0) else idle replies.Empty)
-    by_here false e = rw (one_first proc.0 ∙ e) refl
-    by_here true e = by_first (one_first proc.0 ∙ e) (slice_get t.reports 0) refl
-
-step_matches : (log : List LogRow) (p : Past) (t : Single) (event : Event) → IsWorld log t → IsBuilt event → IsOfHand log event → Matches (seen_with p t) (line_of event) (step_of t event)
-step_matches log p t (events.Go delta) world built hand = go_matches p t delta
-step_matches log p t (events.Poke nav action) world built hand = poke_matches p t nav action
-step_matches log p t (events.Act proc) world built hand = act_matches p t proc
-step_matches log p t (events.Begin proc) world built hand = begin_matches p t proc
-step_matches log p t (events.Finish proc done) world built hand =
-    finish_matches p t proc done (sym (hand_of_world log t proc world) ∙ hand)
-step_matches log p t (events.Deliver proc) world built hand = deliver_matches log p t proc world
+answered_plays : (old new : WorldState) (event : Event) (idle : Option Reply) (result : Result Reply StepError) → IsLegal old.log → is_passed (seen_of old.log) (line_of event) ≡ is_some idle → StepsAs old event idle result new → Plays (does (line_of event)) old.log result new.log
+answered_plays old new event (Some idle) (Ok reply) legal passed steps = rw steps.1 (leads_none (line_of event) old.log passed)
+answered_plays old new event (Some idle) (Err error) legal passed steps = elim steps [ ]
+answered_plays old new event None (Ok reply) legal passed steps =
+    happened_leads event reply old.log new.log legal passed steps.1
+answered_plays old new event None (Err errors.Closed) legal passed steps = elim steps [ ]
+answered_plays old new event None (Err errors.LogFull) legal passed steps =
+    cuts_as_it_stands (line_of event) old.log new.log (ap (λ (w : WorldState). w.log) steps.1) passed
+answered_plays old new event None (Err (errors.UrlOverflow overflowed)) legal passed steps =
+    cuts_as_it_stands (line_of event) old.log new.log (ap (λ (w : WorldState). w.log) steps.1) passed
+answered_plays old new event None (Err errors.OutOfMemory) legal passed steps =
+    cuts_as_it_stands (line_of event) old.log new.log (ap (λ (w : WorldState). w.log) steps.1) passed
 
 -- a step of an open world plays the line of its event
-pub step_plays : (old new : WorldState) (event : Event) (result : Result Reply StepError) → IsWorld old.log old.single → IsBuilt event → IsOfHand old.log event → Steps old (step_of old.single event) result new → Plays (does (line_of event)) old.log result new.log
-step_plays old new event result world built hand steps =
-    let matches : Matches (seen_of old.log) (line_of event) (step_of old.single event) = rw world.tied (step_matches old.log world.past old.single event world built hand) in
-    matched_plays (line_of event) old new (step_of old.single event) result (some_events old.log old.single world) matches steps
+pub step_plays : (old new : WorldState) (event : Event) (result : Result Reply StepError) → IsLegal old.log → IsOfHand old.log event → Steps old event result new → Plays (does (line_of event)) old.log result new.log
+step_plays old new event result legal hand steps =
+    answered_plays old new event (idle_reply (seen_of old.log) event) result legal (passed_is old.log event hand) steps
 
 -- ---- lines that are passed over, or due
 
@@ -263,32 +161,41 @@ took_is (replies.Took o) order e = let same : o ≡ order = cc in ap (λ (x : Or
 took_is _ order e = cc
 
 -- the order that was taken up is in hand
-pub taken_in_hand : (old new : WorldState) (proc : ProcId) (reply : Reply) (order : Order) → IsWorld new.log new.single → Steps old (step_of old.single (events.Begin proc)) (Ok reply) new → order_of reply ≡ Some order → in_hand_of new.log proc ≡ Some order
-taken_in_hand old new proc reply order world steps taken =
-    hand_of_world new.log new.single proc world ∙ by_here (proc.0 == 1) old.single.in_hand (slice_get old.single.mail 0) steps
+pub taken_in_hand : (old new : WorldState) (proc : ProcId) (reply : Reply) (order : Order) → Steps old (events.Begin proc) (Ok reply) new → order_of reply ≡ Some order → in_hand_of new.log proc ≡ Some order
+taken_in_hand old new proc reply order steps taken = by_idle (idle_reply (seen_of old.log) (events.Begin proc)) refl steps
   where
-    is : reply ≡ replies.Took order
-    is = took_is reply order taken
+    s : Seen
+    s = seen_of old.log
 
-    by_here : (here : Bool) (hand : Option Order) (first : Option Job) → Steps old (if here then begin_of old.single hand first else idle replies.Empty) (Ok reply) new → (if here then new.single.in_hand else None) ≡ Some order
-    by_here false hand first steps = let e : replies.Took order ≡ replies.Empty = sym is ∙ steps.0 in cc
-    by_here true (Some o) first steps = let e : replies.Took order ≡ replies.Busy = sym is ∙ steps.0 in cc
-    by_here true None None steps = let e : replies.Took order ≡ replies.Empty = sym is ∙ steps.0 in cc
-    by_here true None (Some job) steps =
-        let e : replies.Took order ≡ replies.Took (record { job = job; dirty = old.single.view.dirty }) = sym is ∙ steps.1 in
-        let same : order ≡ record { job = job; dirty = old.single.view.dirty } = cc in
-        ap (λ (w : WorldState). w.single.in_hand) steps.2 ∙ ap Some (sym same)
+    event : Event
+    event = events.Begin proc
+
+    by_job : (happened : HasHappened (events.Begin proc) reply old.log new.log) (job : Job) → slice_get (desk_of s proc).mail 0 ≡ Some job → (reply ≡ replies.Took (order_for s job)) × (happened.own ≡ rows.Taken proc job.nr true (order_for s job).dirty) → in_hand_of new.log proc ≡ Some order
+    by_job happened job at is =
+        ap (λ (log : List LogRow). in_hand_of log proc) (happened.log ∙ (ap (λ (kind : RowKind). old.log ++ row_in s event kind ∷ map (row_in s event) happened.out) is.1 ∙ ap (λ (kinds : List RowKind). old.log ++ row_in s event (rows.Taken proc job.nr true (order_for s job).dirty) ∷ map (row_in s event) kinds) happened.begins.0))
+        ∙ ap (λ (t : Seen). (desk_of t proc).in_hand) (seen_of_append old.log (row_in s event (rows.Taken proc job.nr true (order_for s job).dirty) ∷ []))
+        ∙ ap (λ (d : Desk). d.in_hand) (desk_on_same (desk_taken true (order_for s job).dirty) s.desks proc (λ d. refl))
+        ∙ (ap (λ (o : Option Job). option_map (λ (j : Job). let order_ : Order = record { job = j; dirty = (order_for s job).dirty } in order_) o) at ∙ (sym (ap order_of is.0) ∙ taken))
+
+    by_first : (happened : HasHappened (events.Begin proc) reply old.log new.log) (first : Option Job) → slice_get (desk_of s proc).mail 0 ≡ first → IsSomeAnd first (λ job. (reply ≡ replies.Took (order_for s job)) × (happened.own ≡ rows.Taken proc job.nr true (order_for s job).dirty)) → in_hand_of new.log proc ≡ Some order
+    by_first happened None at some = elim some [ ]
+    by_first happened (Some job) at some = by_job happened job at some
+
+    by_idle : (idle : Option Reply) → idle_reply s (events.Begin proc) ≡ idle → StepsAs old (events.Begin proc) idle (Ok reply) new → in_hand_of new.log proc ≡ Some order
+    by_idle (Some answer) e steps =
+        let none : order_of answer ≡ None = idles_without (in_hand_of old.log proc) (length (mail_of old.log proc)) answer e in
+        let some : order_of answer ≡ Some order = ap order_of (sym steps.0) ∙ taken in
+        cc
+    by_idle None e steps = by_first steps.1 (slice_get (desk_of s proc).mail 0) refl steps.1.begins.1
 
 -- where none was, nothing happened
-pub none_taken : (old new : WorldState) (proc : ProcId) (reply : Reply) → Steps old (step_of old.single (events.Begin proc)) (Ok reply) new → order_of reply ≡ None → new ≡ old
-none_taken old new proc reply steps taken = by_here (proc.0 == 1) old.single.in_hand (slice_get old.single.mail 0) steps
+pub none_taken : (old new : WorldState) (proc : ProcId) (reply : Reply) → Steps old (events.Begin proc) (Ok reply) new → order_of reply ≡ None → new ≡ old
+none_taken old new proc reply steps taken = by_idle (idle_reply (seen_of old.log) (events.Begin proc)) steps
   where
-    by_here : (here : Bool) (hand : Option Order) (first : Option Job) → Steps old (if here then begin_of old.single hand first else idle replies.Empty) (Ok reply) new → new ≡ old
-    by_here false hand first steps = steps.1
-    by_here true (Some o) first steps = steps.1
-    by_here true None None steps = steps.1
-    by_here true None (Some job) steps =
-        let some : order_of reply ≡ Some (record { job = job; dirty = old.single.view.dirty }) = ap order_of steps.1 in cc
+    by_idle : (idle : Option Reply) → StepsAs old (events.Begin proc) idle (Ok reply) new → new ≡ old
+    by_idle (Some answer) steps = steps.1
+    by_idle None steps =
+        of_some (slice_get (desk_of (seen_of old.log) proc).mail 0) _ (λ job is. let some : order_of reply ≡ Some (order_for (seen_of old.log) job) = ap order_of is.0 in cc) steps.1.begins.1
 
 -- ---- the work of a turn
 

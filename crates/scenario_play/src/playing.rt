@@ -25,6 +25,7 @@ pub struct Played {
 pub fn play(scenario: &Scenario, world: World) -> Played
     requires open { world.closed ≡ false }
     requires opened { length world.log ≡ 1 }
+    requires header { world.header ≡ scenario.now.header }
     requires suits { Suits scenario.now.header world.log }
     requires built { All IsBuiltLine scenario.now.lines }
     ensures follows { result.fault ≡ None → IfSome result.world (λ w. Follows w.log scenario.now) }
@@ -53,6 +54,7 @@ fn play_lines(world: &mut World, lines: &[ScenarioLine]) -> Result<(), StepError
     requires open { world.old.closed ≡ false }
     requires built { All IsBuiltLine lines.now }
     ensures open { OnOk result (world.new.closed ≡ false) }
+    ensures header { world.new.header ≡ world.old.header }
     ensures faults { IfErr result (IsFault world.new) }
     ensures plays { Plays (plays lines.now) world.old.log result world.new.log }
 {
@@ -67,6 +69,7 @@ fn play_line(world: &mut World, line: &ScenarioLine) -> Result<(), StepError>
     requires open { world.old.closed ≡ false }
     requires built { IsBuiltLine line.now }
     ensures open { OnOk result (world.new.closed ≡ false) }
+    ensures header { world.new.header ≡ world.old.header }
     ensures faults { IfErr result (IsFault world.new) }
     ensures plays { Plays (plays_line line.now) world.old.log result world.new.log }
 {
@@ -87,6 +90,7 @@ fn ask(world: &mut World, request: &Request) -> Result<(), StepError>
     requires open { world.old.closed ≡ false }
     requires built { IsBuiltRequest request.now }
     ensures open { OnOk result (world.new.closed ≡ false) }
+    ensures header { world.new.header ≡ world.old.header }
     ensures faults { IfErr result (IsFault world.new) }
     ensures plays { Plays (does (lines.Ask request.now)) world.old.log result world.new.log }
 {

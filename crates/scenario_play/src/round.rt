@@ -1,11 +1,11 @@
 //! Rounds of steps of the processes and of the coordinator.
-ghost use Rattle.std.specs.Prelude.{◌≡◌, ◌<◌, ◌≤◌, ◌==◌, if◌then◌else◌, ◌∷◌, [], true, false, None, Some, IfErr, IfOk, IsErr, IsSome, OnOk, length};
+ghost use Rattle.std.specs.Prelude.{◌≡◌, ◌<◌, ◌∷◌, [], true, false, None, Some, IfErr, IfOk, IsErr, IsSome, OnOk, length};
 ghost use Rattle.log_model.specs.Logs.{seen_of, is_still, is_idle, in_hand_of};
 ghost use Rattle.log_model.specs.Seen.{desk_of};
 ghost use Rattle.scenario_text.specs.declared.line.ScenarioLine.TheVariants as lines;
 ghost use Rattle.scenario_text.specs.Follows.{a_round, does, does_all, is_passed, settles, turn_of};
-ghost use Rattle.world_laws.specs.Single.{desk_with};
-ghost use Rattle.world.specs.Steps.{IsBuilt, Steps, step_of};
+ghost use Rattle.world.specs.Open.{first_process, row_limit};
+ghost use Rattle.world.specs.Steps.{IsBuilt, Steps};
 ghost use Rattle.scenario_play.specs.Courses.{IsOfHand, Plays, line_of, order_of};
 ghost use Rattle.scenario_play.specs.Moves.{IsFault, MovesOn, MovesIf, has_poke, has_order, has_mail, has_report};
 
@@ -18,34 +18,26 @@ use world::{Event, Reply, StepError, World};
 pub(crate) fn settle(world: &mut World) -> Result<(), StepError>
     requires open { world.old.closed ≡ false }
     ensures open { OnOk result (world.new.closed ≡ false) }
+    ensures header { world.new.header ≡ world.old.header }
     ensures faults { IfErr result (IsFault world.new) }
-    ensures still { OnOk result (is_idle (desk_with world.new.single) ≡ true) }
+    ensures still { OnOk result (is_still (seen_of world.new.log) ≡ true) }
     ensures plays { Plays settles world.old.log result world.new.log }
 {
-    'rounds: while !is_still(world) {
+    'rounds: while !world.is_still() {
         round(world)?;
     }
     Ok(())
 }
 
-/// Whether nothing is in transit.
-fn is_still(world: &World) -> bool
-    requires open { world.now.closed ≡ false }
-    ensures value { result ≡ is_idle (desk_with world.now.single) }
-    ensures log { result ≡ is_still (seen_of world.now.log) }
-    ensures short { length world.now.log ≤ 3000002 }
-{
-    let _stands = world.log();
-    world.is_still()
-}
-
 /// One round, through all processes that a scenario may name.
 fn round(world: &mut World) -> Result<(), StepError>
     requires open { world.old.closed ≡ false }
-    requires busy { is_idle (desk_with world.old.single) ≡ false }
+    requires busy { is_idle (desk_of (seen_of world.old.log) first_process) ≡ false }
     ensures open { OnOk result (world.new.closed ≡ false) }
+    ensures header { world.new.header ≡ world.old.header }
     ensures faults { IfErr result (IsFault world.new) }
     ensures longer { OnOk result (length world.old.log < length world.new.log) }
+    ensures below { OnOk result (length world.old.log < row_limit) }
     ensures plays { Plays a_round world.old.log result world.new.log }
 {
     first_turn(world)?;
@@ -58,10 +50,12 @@ fn round(world: &mut World) -> Result<(), StepError>
 /// The turn of the document's process, where something waits in it.
 fn first_turn(world: &mut World) -> Result<(), StepError>
     requires open { world.old.closed ≡ false }
-    requires busy { is_idle (desk_with world.old.single) ≡ false }
+    requires busy { is_idle (desk_of (seen_of world.old.log) first_process) ≡ false }
     ensures open { OnOk result (world.new.closed ≡ false) }
+    ensures header { world.new.header ≡ world.old.header }
     ensures faults { IfErr result (IsFault world.new) }
     ensures longer { OnOk result (length world.old.log < length world.new.log) }
+    ensures below { OnOk result (length world.old.log < row_limit) }
     ensures plays { Plays (does_all (turn_of (record { 0 = 1 }))) world.old.log result world.new.log }
 {
     act(world, ProcId(1))?;
@@ -73,6 +67,7 @@ fn first_turn(world: &mut World) -> Result<(), StepError>
 /// The turn of a process: it acts, works on an order, and the coordinator takes a report of it.
 fn turn(world: &mut World, proc: ProcId) -> Result<(), StepError>
     requires open { world.old.closed ≡ false }
+    ensures header { world.new.header ≡ world.old.header }
     ensures faults { IfErr result (IsFault world.new) }
     ensures moves { OnOk result (MovesOn world.old world.new) }
     ensures plays { Plays (does_all (turn_of proc)) world.old.log result world.new.log }
@@ -92,7 +87,6 @@ fn is_idle(world: &World, proc: ProcId) -> bool
     requires open { world.now.closed ≡ false }
     ensures { result ≡ is_idle (desk_of (seen_of world.now.log) proc) }
 {
-    let _stands = world.log();
     let waiting = world.waiting(proc);
     waiting.input == 0 && waiting.mail == 0 && world.in_hand(proc).is_none() && waiting.reports == 0
 }
@@ -100,8 +94,9 @@ fn is_idle(world: &World, proc: ProcId) -> bool
 /// Lets a document of the process act, where a poke waits.
 pub(crate) fn act(world: &mut World, proc: ProcId) -> Result<(), StepError>
     requires open { world.old.closed ≡ false }
+    ensures header { world.new.header ≡ world.old.header }
     ensures faults { IfErr result (IsFault world.new) }
-    ensures moves { OnOk result (MovesIf (has_poke world.old.single proc) world.old world.new) }
+    ensures moves { OnOk result (MovesIf (has_poke world.old.log proc) world.old world.new) }
     ensures plays { Plays (does (lines.Act proc)) world.old.log result world.new.log }
 {
     // Where no poke waits, the step would only say so.
@@ -117,18 +112,18 @@ pub(crate) fn act(world: &mut World, proc: ProcId) -> Result<(), StepError>
 /// Whether a poke waits in a process.
 fn has_poke(world: &World, proc: ProcId) -> bool
     requires open { world.now.closed ≡ false }
-    ensures value { result ≡ has_poke world.now.single proc }
+    ensures value { result ≡ has_poke world.now.log proc }
     ensures log { result ≡ false → is_passed (seen_of world.now.log) (lines.Act proc) ≡ true }
 {
-    let _stands = world.log();
     world.waiting(proc).input > 0
 }
 
 /// Lets the process finish the order in hand, or else take one up and finish it.
 fn work_on(world: &mut World, proc: ProcId) -> Result<(), StepError>
     requires open { world.old.closed ≡ false }
+    ensures header { world.new.header ≡ world.old.header }
     ensures faults { IfErr result (IsFault world.new) }
-    ensures moves { OnOk result (MovesIf (has_order world.old.single proc) world.old world.new) }
+    ensures moves { OnOk result (MovesIf (has_order world.old.log proc) world.old world.new) }
     ensures plays { Plays (does_all (lines.Begin proc ∷ lines.Finish proc ∷ [])) world.old.log result world.new.log }
 {
     match in_hand(world, proc)? {
@@ -141,11 +136,9 @@ fn work_on(world: &mut World, proc: ProcId) -> Result<(), StepError>
 fn in_hand(world: &World, proc: ProcId) -> Result<Option<Order>, StepError>
     requires open { world.now.closed ≡ false }
     ensures faults { IfErr result (IsFault world.now) }
-    ensures ok { IfOk result (λ order. order ≡ (if proc.0 == 1 then world.now.single.in_hand else None)) }
     ensures log { IfOk result (λ order. order ≡ in_hand_of world.now.log proc) }
     ensures some { IsErr result → IsSome (in_hand_of world.now.log proc) }
 {
-    let _stands = world.log();
     match world.in_hand(proc) {
         Some(order) => match order.copy() {
             Ok(order) => Ok(Some(order)),
@@ -159,11 +152,11 @@ fn in_hand(world: &World, proc: ProcId) -> Result<Option<Order>, StepError>
 fn finish(world: &mut World, proc: ProcId, order: Order) -> Result<(), StepError>
     requires open { world.old.closed ≡ false }
     requires hand { in_hand_of world.old.log proc ≡ Some order }
+    ensures header { world.new.header ≡ world.old.header }
     ensures faults { IfErr result (IsFault world.new) }
     ensures moves { OnOk result (MovesIf true world.old world.new) }
     ensures plays { Plays (does (lines.Finish proc)) world.old.log result world.new.log }
 {
-    let _stands = world.log();
     let done = match work(order) {
         Ok(done) => done,
         Err(_) => return Err(StepError::OutOfMemory),
@@ -178,6 +171,7 @@ fn finish(world: &mut World, proc: ProcId, order: Order) -> Result<(), StepError
 pub(crate) fn take_up(world: &mut World, proc: ProcId) -> Result<(), StepError>
     requires open { world.old.closed ≡ false }
     ensures open { OnOk result (world.new.closed ≡ false) }
+    ensures header { world.new.header ≡ world.old.header }
     ensures faults { IfErr result (IsFault world.new) }
     ensures plays { Plays (does (lines.Begin proc)) world.old.log result world.new.log }
 {
@@ -191,6 +185,7 @@ pub(crate) fn take_up(world: &mut World, proc: ProcId) -> Result<(), StepError>
 pub(crate) fn finish_in_hand(world: &mut World, proc: ProcId) -> Result<(), StepError>
     requires open { world.old.closed ≡ false }
     ensures open { OnOk result (world.new.closed ≡ false) }
+    ensures header { world.new.header ≡ world.old.header }
     ensures faults { IfErr result (IsFault world.new) }
     ensures plays { Plays (does (lines.Finish proc)) world.old.log result world.new.log }
 {
@@ -204,8 +199,9 @@ pub(crate) fn finish_in_hand(world: &mut World, proc: ProcId) -> Result<(), Step
 fn begin(world: &mut World, proc: ProcId) -> Result<(), StepError>
     requires open { world.old.closed ≡ false }
     requires free { in_hand_of world.old.log proc ≡ None }
+    ensures header { world.new.header ≡ world.old.header }
     ensures faults { IfErr result (IsFault world.new) }
-    ensures moves { OnOk result (MovesIf (has_mail world.old.single proc) world.old world.new) }
+    ensures moves { OnOk result (MovesIf (has_mail world.old.log proc) world.old world.new) }
     ensures plays { Plays (does_all (lines.Begin proc ∷ lines.Finish proc ∷ [])) world.old.log result world.new.log }
 {
     // Where no order waits, the step would only say so.
@@ -213,7 +209,6 @@ fn begin(world: &mut World, proc: ProcId) -> Result<(), StepError>
         return Ok(());
     }
     let reply = step(world, Event::Begin { proc })?;
-    let _stands = world.log();
     match taken(reply) {
         Some(order) => finish(world, proc, order),
         None => Ok(()),
@@ -224,10 +219,9 @@ fn begin(world: &mut World, proc: ProcId) -> Result<(), StepError>
 fn has_mail(world: &World, proc: ProcId) -> bool
     requires open { world.now.closed ≡ false }
     requires free { in_hand_of world.now.log proc ≡ None }
-    ensures value { result ≡ has_mail world.now.single proc }
+    ensures value { result ≡ has_mail world.now.log proc }
     ensures log { result ≡ false → is_passed (seen_of world.now.log) (lines.Begin proc) ≡ true }
 {
-    let _stands = world.log();
     world.waiting(proc).mail > 0
 }
 
@@ -251,11 +245,11 @@ fn taken(reply: Reply) -> Option<Order>
 /// Lets the coordinator take a report of the process, where one waits.
 pub(crate) fn deliver(world: &mut World, proc: ProcId) -> Result<(), StepError>
     requires open { world.old.closed ≡ false }
+    ensures header { world.new.header ≡ world.old.header }
     ensures faults { IfErr result (IsFault world.new) }
-    ensures moves { OnOk result (MovesIf (has_report world.old.single proc) world.old world.new) }
+    ensures moves { OnOk result (MovesIf (has_report world.old.log proc) world.old world.new) }
     ensures plays { Plays (does (lines.Deliver proc)) world.old.log result world.new.log }
 {
-    let _stands = world.log();
     match step(world, Event::Deliver { proc }) {
         Ok(_) => return Ok(()),
         Err(error) => return Err(error),
@@ -267,11 +261,13 @@ pub(crate) fn step(world: &mut World, event: Event) -> Result<Reply, StepError>
     requires open { world.old.closed ≡ false }
     requires built { IsBuilt event }
     requires hand { IsOfHand world.old.log event }
-    ensures steps { Steps world.old (step_of world.old.single event) result world.new }
+    ensures steps { Steps world.old event result world.new }
+    ensures header { world.new.header ≡ world.old.header }
     ensures faults { IfErr result (IsFault world.new) }
     ensures plays { Plays (does (line_of event)) world.old.log result world.new.log }
 {
-    let _stands = world.log();
+    // Brings that the log is legal.
+    let _log = world.log();
     match world.step(event) {
         Ok(reply) => Ok(reply),
         Err(StepError::Closed) => unreachable!(),

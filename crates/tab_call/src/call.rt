@@ -3,7 +3,7 @@ ghost use Rattle.std.specs.Prelude.{◌≡◌, ◌↔◌, ℕ, false, List, None
 ghost use Rattle.log_model.specs.ActsAtOnce.{ActsAtOnce};
 ghost use Rattle.log_model.specs.Legal.{IsLegal};
 ghost use Rattle.log_model.specs.Limits.{BeginsBelow};
-ghost use Rattle.world.specs.Kept.{row_limit};
+ghost use Rattle.world.specs.Open.{row_limit};
 ghost use Rattle.report_text.specs.Reports.{report_of};
 ghost use Rattle.tab_call.specs.Words.{text_asked, work_of};
 ghost use Rattle.tab_call.specs.Writes.{text_with};

@@ -1,8 +1,11 @@
-pub mod Tops
-pub mod Stores
-pub mod Ready
-pub mod Delivers
-pub mod Starts
-pub mod Queues
-pub mod Opens
-pub mod StepLaws
+mod EndingLaws
+mod FaceLaws
+mod NoteLaws
+mod Facts
+mod EventLaws
+mod AcceptLaws
+mod WorkLaws
+mod DeliverLaws
+mod Opens
+mod Readers
+mod StepLaws

@@ -1,4 +1,7 @@
 pub mod Kept
-pub mod Held
+pub mod Open
+pub mod Opening
+pub mod Notes
 pub mod Steps
-pub mod Taking
+pub mod Turns
+pub mod Asking

@@ -1,19 +1,15 @@
-//! `World`, one tab under one step: a contract sees its log, what the log has come to, and whether it is closed.
+//! `World`, one tab under one step: a contract sees its settings, its log, and whether it is closed.
 #![tactic(auto)]
 
-mod acting;
+mod accepting;
+mod delivering;
+mod desk;
+mod endings;
 mod error;
 mod event;
-mod history;
-mod noting;
-mod poking;
-mod queue;
-mod report;
-mod settling;
+mod idling;
+mod logging;
 mod state;
-mod steps;
-mod top;
-mod traversal;
 mod working;
 mod world;
 

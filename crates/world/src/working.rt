@@ -1,74 +1,119 @@
-//! The events in which the process takes up and finishes an order.
-ghost use Rattle.std.specs.Prelude.{◌≡◌, ◌<◌, ◌+◌, ◌^◌, ◌++◌, ◌∷◌, [], OnOk, OnErr, IfOk, take, length, true, None, Some, slice_get, IsSomeAnd};
+//! The events in which the process acts, takes up an order, and finishes it.
+ghost use Rattle.std.specs.Prelude.{◌≡◌, Bool, ◌<◌, ◌+◌, ◌^◌, length, take, IsSome, None, IfOk, IfErr, OnOk, OnErr};
 ghost use Rattle.log_model.specs.Views.{after_task};
-ghost use Rattle.world.specs.Taking.{IsSentHere};
-ghost use Rattle.world_laws.specs.Single.{begin_rows, begun, finish_rows, finished, outcome_of};
-ghost use Rattle.world_laws.specs.Single.{first_document};
-ghost use Rattle.world.specs.Kept.{IsRoomy};
+ghost use Rattle.proc_work.specs.Work.{outcome_of_task};
+ghost use Rattle.seen_laws.specs.Sending.{IsToldTask};
+ghost use Rattle.world.specs.declared.event.Event.TheVariants as events;
+ghost use Rattle.proc_work.specs.Work as worked;
+ghost use Rattle.world.specs.Open.{IsOpen, first_process, row_limit};
+ghost use Rattle.world.specs.Turns.{HasGone, Shuts};
 
+use crate::endings::end;
+use crate::error::StepError;
+use crate::event::Reply;
+use crate::logging::log_row;
 use crate::state::State;
 use address::OutOfMemory;
-use doc_view::View;
+use doc_view::{ActError, View};
 use history_log::Log;
-use log_model::{Actor, Job, LogRow, Order, Outcome, Report, RowKind, Task};
-use tab_ids::ProcId;
+use log_model::{Actor, Denial, Ending, Header, Job, Order, Outcome, Report, RowKind, Task};
 
-/// Takes up the first order of the mail.
-pub(crate) fn begin(log: &mut Log, state: &mut State) -> Result<Order, OutOfMemory>
-    requires some { 0 < length state.old.mail }
-    requires room { IsRoomy state.old }
-    ensures took { IfOk result (λ order. IsSomeAnd (slice_get state.old.mail 0) (λ job. order ≡ record { job = job; dirty = state.old.view.dirty })) }
-    ensures log { OnOk result (IsSomeAnd (slice_get state.old.mail 0) (λ job. log.new ≡ log.old ++ begin_rows state.old job)) }
-    ensures state { OnOk result (IsSomeAnd (slice_get state.old.mail 0) (λ job. state.new ≡ begun state.old job)) }
-    ensures err { OnErr result (take (length log.old) log.new ≡ log.old) }
+/// The document acts on its first poke.
+pub(crate) fn act(log: &mut Log, header: &Header, state: &mut State) -> Result<Reply, StepError>
+    requires open { IsOpen header.now log.old state.old }
+    requires short { length log.old < row_limit }
+    requires due { 0 < length state.old.desk.input }
+    ensures gone { IfOk result (λ reply. HasGone header.now (events.Act first_process) reply log.old log.new state.new) }
+    ensures shuts { IfErr result Shuts }
+    ensures front { OnErr result (take (length log.old) log.new ≡ log.old) }
 {
-    let Some(job) = state.mail.pop_front() else {
+    let proc = state.desk.home();
+    let event = state.events;
+    let Some(poke) = state.desk.next_poke() else {
         unreachable!()
     };
+    match state.view.act(poke.req, &poke.action) {
+        Ok(made) => {
+            let told = made.copy()?;
+            state.desk.report(Report::Made(told))?;
+            log_row(log, event, Actor::Proc(proc), RowKind::Made { proc, made })?;
+            state.events += 1;
+            Ok(Reply::Acted)
+        }
+        Err(ActError::NotRewritable) => {
+            let req = poke.req;
+            let reason = Denial::BadAddress;
+            end(&mut state.endings, req, Ending::Refused(reason));
+            log_row(
+                log,
+                event,
+                Actor::Proc(proc),
+                RowKind::Refused { req, reason },
+            )?;
+            state.events += 1;
+            Ok(Reply::Acted)
+        }
+        Err(ActError::NotRunning) => unreachable!(),
+        Err(ActError::UrlOverflow(overflowed)) => Err(StepError::UrlOverflow(overflowed)),
+        Err(ActError::OutOfMemory) => Err(StepError::OutOfMemory),
+    }
+}
+
+/// The process takes up the first order of its mail.
+pub(crate) fn begin(log: &mut Log, header: &Header, state: &mut State) -> Result<Reply, StepError>
+    requires open { IsOpen header.now log.old state.old }
+    requires short { length log.old < row_limit }
+    requires free { state.old.desk.in_hand ≡ None }
+    requires due { 0 < length state.old.desk.mail }
+    ensures gone { IfOk result (λ reply. HasGone header.now (events.Begin first_process) reply log.old log.new state.new) }
+    ensures shuts { IfErr result Shuts }
+    ensures front { OnErr result (take (length log.old) log.new ≡ log.old) }
+{
+    let proc = state.desk.home();
     let dirty = state.view.dirty();
+    let Some(job) = state.desk.next_job() else {
+        unreachable!()
+    };
     let nr = job.nr;
     let order = Order { job, dirty };
     let taken = order.copy()?;
-    log.push_row(LogRow {
-        event: state.events,
-        actor: Actor::Proc(ProcId(1)),
-        row: RowKind::Taken {
-            proc: ProcId(1),
-            job: nr,
-            live: true,
-            dirty,
-        },
-    })?;
-    state.in_hand = Some(order);
+    let own = RowKind::Taken {
+        proc,
+        job: nr,
+        live: true,
+        dirty,
+    };
+    log_row(log, state.events, Actor::Proc(proc), own)?;
+    state.desk.hold(order);
     state.events += 1;
-    Ok(taken)
+    Ok(Reply::Took(taken))
 }
 
-/// Finishes the order in hand.
-pub(crate) fn finish(log: &mut Log, state: &mut State, order: Order) -> Result<(), OutOfMemory>
-    requires room { IsRoomy state.old }
-    requires doc { order.job.doc ≡ state.old.view.doc }
-    requires task { IsSentHere order.job.task }
-    ensures log { OnOk result (log.new ≡ log.old ++ finish_rows state.old order.job) }
-    ensures state { OnOk result (state.new ≡ finished state.old order.job) }
-    ensures err { OnErr result (take (length log.old) log.new ≡ log.old) }
+/// The process finishes the order in hand.
+pub(crate) fn finish(log: &mut Log, header: &Header, state: &mut State) -> Result<Reply, StepError>
+    requires open { IsOpen header.now log.old state.old }
+    requires short { length log.old < row_limit }
+    requires due { IsSome state.old.desk.in_hand }
+    ensures gone { (done : worked.Done) → IfOk result (λ reply. HasGone header.now (events.Finish first_process done) reply log.old log.new state.new) }
+    ensures shuts { IfErr result Shuts }
+    ensures front { OnErr result (take (length log.old) log.new ≡ log.old) }
 {
+    let proc = state.desk.home();
+    let Some(order) = state.desk.let_go() else {
+        unreachable!()
+    };
     let Order { job, dirty: _ } = order;
     let nr = job.nr;
     let outcome = work(&mut state.view, &job)?;
-    state.reports.push_back(Report::Done(job, outcome, None))?;
-    log.push_row(LogRow {
-        event: state.events,
-        actor: Actor::Proc(ProcId(1)),
-        row: RowKind::Finished {
-            proc: ProcId(1),
-            job: nr,
-            outcome,
-        },
-    })?;
-    state.in_hand = None;
+    state.desk.report(Report::Done(job, outcome, None))?;
+    let own = RowKind::Finished {
+        proc,
+        job: nr,
+        outcome,
+    };
+    log_row(log, state.events, Actor::Proc(proc), own)?;
     state.events += 1;
-    Ok(())
+    Ok(Reply::Finished)
 }
 
 /// Does an order to the view, and answers how it went.
@@ -76,19 +121,19 @@ fn work(view: &mut View, job: &Job) -> Result<Outcome, OutOfMemory>
     requires index { view.old.index + 2 < 2 ^ 32 }
     requires numbered { view.old.numbered + 1 < 2 ^ 32 }
     requires doc { job.now.doc ≡ view.old.doc }
-    requires task { IsSentHere job.now.task }
-    ensures outcome { IfOk result (λ outcome. outcome ≡ outcome_of job.now.task) }
+    requires told { IsToldTask job.now.task }
+    ensures outcome { IfOk result (λ outcome. (dirty : Bool) → outcome ≡ outcome_of_task job.now.task dirty None) }
     ensures view { OnOk result (view.new ≡ after_task view.old job.now.task) }
 {
-    let outcome = outcome(&job.task);
+    let outcome = outcome_of(&job.task);
     view.do_job(job)?;
     Ok(outcome)
 }
 
-/// What a process answers to an order that is sent here.
-fn outcome(task: &Task) -> Outcome
-    requires task { IsSentHere task.now }
-    ensures { result ≡ outcome_of task.now }
+/// What comes of an order that shows an entry, or tells length and index.
+fn outcome_of(task: &Task) -> Outcome
+    requires told { IsToldTask task.now }
+    ensures { (dirty : Bool) → result ≡ outcome_of_task task.now dirty None }
 {
     match task {
         Task::Activate { .. } => Outcome::Activated,

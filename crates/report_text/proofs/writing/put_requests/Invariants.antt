@@ -1,5 +1,5 @@
 use Rattle.std.proofs.Common.{◌≡◌, ◌+◌, ◌++◌, drop}
-use Rattle.report_text.specs.Plain.{ending_lines}
+use Rattle.report_text.specs.Endings.{ending_lines}
 use Rattle.report_text.proofs.writing.put_requests.Given as goal
 
 abbrev pub invariant-loop-i : goal.invariant-loop-i

@@ -1,4 +1,4 @@
-use Rattle.std.proofs.Common.{List, subst}
+use Rattle.std.proofs.Common.{List, refl, ◌∙◌, subst}
 use Rattle.std.proofs.lemmas.List.{take_all}
 use Rattle.scenario_text.specs.declared.line.ScenarioLine.{ScenarioLine}
 use Rattle.scenario_text.specs.Follows.{plays}
@@ -7,12 +7,13 @@ use Rattle.scenario_play.proofs.LeadLaws.{failed, plays_none, line_leads, line_c
 use Rattle.scenario_play.proofs.playing.play_lines.Goals as goal
 
 pub loop-line-init : goal.loop-line-init
-loop-line-init c = record { opened = c.requires.open; played = plays_none c.args.world.now.log }
+loop-line-init c = record { opened = c.requires.open; header = refl; played = plays_none c.args.world.now.log }
 
 pub loop-line-preserved : goal.loop-line-preserved
 loop-line-preserved c =
     record {
       opened = c.in_ok-play_line.ensures.open;
+      header = c.play_line.ensures.header ∙ c.loop-line.invariant.header;
       played = line_leads c.args.lines.now c.loop-line.line-index c.line-item.result _ _ _ c.loop-line-test.true c.line-item.is c.loop-line.invariant.played c.in_ok-play_line.ensures.plays;
     }
 

@@ -6,5 +6,6 @@ use Rattle.scenario_play.proofs.playing.play_lines.Given as goal
 abbrev pub invariant-loop-line : goal.invariant-loop-line
 invariant-loop-line l = record {
   opened : l.world.closed ≡ false;
+  header : l.world.header ≡ l.fn.world.header;
   played : Leads (plays (take l.line-index l.lines)) l.fn.world.log l.world.log;
 }

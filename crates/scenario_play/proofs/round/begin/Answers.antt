@@ -7,7 +7,7 @@ use Rattle.world.specs.declared.event.Reply.TheVariants as replies
 use Rattle.scenario_play.specs.Moves.{MovesIf, has_mail}
 use Rattle.scenario_play.proofs.LeadLaws.{all_cut, failed, leads_none}
 use Rattle.scenario_play.proofs.StepMoves.{begin_moves, begun_moves, on_ok}
-use Rattle.scenario_play.proofs.StepPlays.{took_is, none_taken, works, no_work}
+use Rattle.scenario_play.proofs.StepPlays.{took_is, taken_in_hand, none_taken, works, no_work}
 use Rattle.scenario_play.proofs.round.begin.Goals as goal
 
 pub returns-in_err-reply-clause-plays : goal.returns-in_err-reply-clause-plays
@@ -17,7 +17,7 @@ returns-in_err-reply-clause-plays c =
 pub returns-in-Some-clause-moves : goal.returns-in-Some-clause-moves
 returns-in-Some-clause-moves c =
     let took : c.in_ok-reply.reply ≡ replies.Took c.in-Some.order = took_is c.in_ok-reply.reply c.in-Some.order (sym c.taken.ensures ∙ c.in-Some.is) in
-    on_ok c.finish.result (MovesIf true c.step.new.world c.finish.new.world) (MovesIf (has_mail c.args.world.now.single c.args.proc) c.args.world.now c.finish.new.world) (λ moves. begun_moves c.args.world.now c.step.new.world c.finish.new.world c.args.proc c.in-Some.order c.requires.open (rw took at c.in_ok-reply.ensures.steps) (record { opened = moves.opened; longer = moves.longer })) c.finish.ensures.moves
+    on_ok c.finish.result (MovesIf true c.step.new.world c.finish.new.world) (MovesIf (has_mail c.args.world.now.log c.args.proc) c.args.world.now c.finish.new.world) (λ moves. begun_moves c.args.world.now c.step.new.world c.finish.new.world c.args.proc c.in-Some.order c.requires.open (rw took at c.in_ok-reply.ensures.steps) (record { opened = moves.opened; longer = moves.longer })) c.finish.ensures.moves
 
 pub returns-in-Some-clause-plays : goal.returns-in-Some-clause-plays
 returns-in-Some-clause-plays c =
@@ -35,3 +35,7 @@ returns-in-None-clause-plays c =
 pub returns-then-not-has_mail-clause-plays : goal.returns-then-not-has_mail-clause-plays
 returns-then-not-has_mail-clause-plays c =
     no_work c.args.proc c.args.world.now.log c.args.world.now.log (leads_none (lines.Begin c.args.proc) c.args.world.now.log (c.if-not-has_mail.ensures.log refl)) c.requires.free
+
+pub finish-requires-clause-hand : goal.finish-requires-clause-hand
+finish-requires-clause-hand c =
+    taken_in_hand c.args.world.now c.step.new.world c.args.proc c.in_ok-reply.reply c.in-Some.order c.in_ok-reply.ensures.steps (sym c.taken.ensures ∙ c.in-Some.is)

@@ -1,4 +1,3 @@
-use Rattle.std.proofs.Common.{refl}
 use Rattle.scenario_text.specs.declared.line.ScenarioLine.TheVariants as lines
 use Rattle.scenario_text.specs.Follows.{does_all, turn_of}
 use Rattle.scenario_play.proofs.LeadLaws.{all_cut, failed}
@@ -8,7 +7,11 @@ use Rattle.scenario_play.proofs.round.first_turn.Goals as goal
 
 pub returns-clause-longer : goal.returns-clause-longer
 returns-clause-longer c =
-    turn_moves c.args.world.now c.act.new.world c.work_on.new.world c.deliver.new.world (record { 0 = 1 }) refl c.requires.busy c.in_ok-act.ensures.moves c.in_ok-work_on.ensures.moves c.in_ok-deliver.ensures.moves
+    (turn_moves c.args.world.now c.act.new.world c.work_on.new.world c.deliver.new.world (record { 0 = 1 }) c.requires.busy c.in_ok-act.ensures.moves c.in_ok-work_on.ensures.moves c.in_ok-deliver.ensures.moves).longer
+
+pub returns-clause-below : goal.returns-clause-below
+returns-clause-below c =
+    (turn_moves c.args.world.now c.act.new.world c.work_on.new.world c.deliver.new.world (record { 0 = 1 }) c.requires.busy c.in_ok-act.ensures.moves c.in_ok-work_on.ensures.moves c.in_ok-deliver.ensures.moves).below
 
 pub returns-in_err-act-clause-plays : goal.returns-in_err-act-clause-plays
 returns-in_err-act-clause-plays c =

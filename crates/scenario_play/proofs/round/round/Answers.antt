@@ -1,4 +1,4 @@
-use Rattle.std.proofs.Common.{◌≡◌, ℕ, ◌-◌, subst, arith}
+use Rattle.std.proofs.Common.{◌≡◌, ◌∙◌, ℕ, ◌-◌, subst, arith}
 use Rattle.scenario_text.specs.Follows.{does_all, turns_to, a_round}
 use Rattle.scenario_play.specs.Courses.{Leads}
 use Rattle.scenario_play.proofs.LeadLaws.{failed, later_turns, turn_more, turn_cut}
@@ -12,7 +12,9 @@ pub loop-number-init : goal.loop-number-init
 loop-number-init c =
     record {
       opened = c.in_ok-first_turn.ensures.open;
+      header = c.first_turn.ensures.header;
       longer = c.in_ok-first_turn.ensures.longer;
+      below = c.in_ok-first_turn.ensures.below;
       played = c.in_ok-first_turn.ensures.plays;
     }
 
@@ -20,7 +22,9 @@ pub loop-number-preserved : goal.loop-number-preserved
 loop-number-preserved c =
     record {
       opened = c.in_ok-turn.ensures.moves.opened;
+      header = c.turn.ensures.header ∙ c.loop-number.invariant.header;
       longer = omega (arith, c.loop-number.invariant.longer, c.in_ok-turn.ensures.moves.longer);
+      below = c.loop-number.invariant.below;
       played = turn_more c.loop-number.number _ _ _ (omega (arith, c.loop-number.auto.number)) c.loop-number.invariant.played c.in_ok-turn.ensures.plays;
     }
 

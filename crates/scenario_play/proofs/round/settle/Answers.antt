@@ -1,21 +1,22 @@
-use Rattle.std.proofs.Common.{sym}
+use Rattle.std.proofs.Common.{refl, sym, ◌∙◌}
 use Rattle.scenario_text.specs.Follows.{settles}
 use Rattle.scenario_play.proofs.LeadLaws.{failed, no_rounds, one_more_round, rounds_settle, rounds_cut}
 use Rattle.scenario_play.proofs.round.settle.Goals as goal
 
 pub rounds-init : goal.rounds-init
-rounds-init c = record { opened = c.requires.open; played = no_rounds _ }
+rounds-init c = record { opened = c.requires.open; header = refl; played = no_rounds _ }
 
 pub rounds-preserved : goal.rounds-preserved
 rounds-preserved c =
     record {
       opened = c.in_ok-round.ensures.open;
-      played = one_more_round _ _ _ c.rounds.invariant.played (sym c.rounds-test.ensures.log) c.in_ok-round.ensures.longer c.in_ok-round.ensures.plays;
+      header = c.round.ensures.header ∙ c.rounds.invariant.header;
+      played = one_more_round _ _ _ c.rounds.invariant.played (sym (c.rounds-test.ensures.still c.rounds.invariant.opened)) c.in_ok-round.ensures.longer c.in_ok-round.ensures.plays;
     }
 
 pub returns-in_err-round-clause-plays : goal.returns-in_err-round-clause-plays
 returns-in_err-round-clause-plays c =
-    failed settles _ _ c.from_residual.result c.from_residual.ensures.0 (rounds_cut _ _ _ c.rounds.invariant.played (sym c.rounds-test.ensures.log) c.in_err-round.ensures.plays)
+    failed settles _ _ c.from_residual.result c.from_residual.ensures.0 (rounds_cut _ _ _ c.rounds.invariant.played (sym (c.rounds-test.ensures.still c.rounds.invariant.opened)) c.in_err-round.ensures.plays)
 
 pub returns-clause-plays : goal.returns-clause-plays
-returns-clause-plays c = rounds_settle _ _ c.rounds.invariant.played (sym c.rounds-test.ensures.log)
+returns-clause-plays c = rounds_settle _ _ c.rounds.invariant.played (sym (c.rounds-test.ensures.still c.rounds.invariant.opened))

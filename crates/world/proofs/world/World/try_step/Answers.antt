@@ -1,26 +1,30 @@
--- The world's invariant holds of what a step leaves: what an event comes to keeps the world, and an error cuts its rows off.
-use Rattle.std.proofs.Common.{◌≡◌, ◌∙◌, false, refl, ap, length, take}
-use Rattle.std.specs.Prelude.{ℕ}
-use Rattle.world.specs.Kept.{IsKept}
-use Rattle.world.proofs.StepLaws.{step_stays, answered_kept, closed_kept, overflow_front, memory_front}
+use Rattle.std.proofs.Common.{◌≡◌, ◌∙◌, ℕ, ◌<◌, true, false, length, take, Ok, Err, sym, ap, subst, arith}
+use Rattle.world.specs.Open.{row_limit}
+use Rattle.world.specs.declared.error.StepError.TheVariants as errors
+use Rattle.world.specs.Kept.{WorldState}
+use Rattle.world.specs.Steps.{Steps}
+use Rattle.world.proofs.StepLaws.{idle_steps, full_steps, gone_steps, failed_steps, is_due}
 use Rattle.world.proofs.world.World.try_step.Goals as goal
 
-pub invariant_of-self : goal.invariant_of-self
-invariant_of-self c =
-    let kept : IsKept c.self.inside.log c.self.inside.state false = rw c.if-self.false at c.self.invariant in
-    let stays = step_stays c.self.inside.log c.self.inside.state c.args.event (kept.stands refl) c.requires.built in
-    rw c.if-self.false (answered_kept _ _ _ _ _ _ kept stays (c.in-Ok.ensures))
+pub returns-in-Some-clause-steps : goal.returns-in-Some-clause-steps
+returns-in-Some-clause-steps c =
+    subst (λ (w : WorldState). w.closed ≡ false → Steps w c.args.event (Ok c.in-Some.reply) w) c.self.view_is (λ e. idle_steps _ _ (c.self.invariant.stands e) c.args.event c.in-Some.reply (sym c.idle.ensures ∙ c.in-Some.is))
 
-pub invariant_of-self-in-Err-UrlOverflow : goal.invariant_of-self-in-Err-UrlOverflow
-invariant_of-self-in-Err-UrlOverflow c =
-    let kept : IsKept c.self.inside.log c.self.inside.state false = rw c.if-self.false at c.self.invariant in
-    let front : take (length c.self.inside.log) c.take.new.log ≡ c.self.inside.log = overflow_front _ _ _ _ _ c.in-Err-UrlOverflow.overflowed (rw c.in-Err-UrlOverflow.field-0-is at (c.in-Err-UrlOverflow.ensures)) in
-    let cut : c.cut.new.self ≡ c.self.inside.log = c.cut.ensures ∙ ap (λ (n : ℕ). take n c.take.new.log) c.len-before.ensures ∙ front in
-    rw cut (closed_kept c.self.inside.log c.self.inside.state c.take.new.state kept)
+pub returns-then-before-ge-ROW_LIMIT-clause-steps : goal.returns-then-before-ge-ROW_LIMIT-clause-steps
+returns-then-before-ge-ROW_LIMIT-clause-steps c =
+    subst (λ (w : WorldState). w.closed ≡ false → Steps w c.args.event (Err errors.LogFull) w) c.self.view_is (λ e. full_steps _ _ (c.self.invariant.stands e) c.args.event (sym c.idle.ensures ∙ c.in_default.is) (omega (arith, c.if-before-ge-ROW_LIMIT.true, c.len-before.ensures)))
 
-pub invariant_of-self-in-Err-OutOfMemory : goal.invariant_of-self-in-Err-OutOfMemory
-invariant_of-self-in-Err-OutOfMemory c =
-    let kept : IsKept c.self.inside.log c.self.inside.state false = rw c.if-self.false at c.self.invariant in
-    let front : take (length c.self.inside.log) c.take.new.log ≡ c.self.inside.log = memory_front _ _ _ _ _ (rw c.in-Err-OutOfMemory.field-0-is at (c.in-Err-OutOfMemory.ensures)) in
-    let cut : c.cut-in-Err-OutOfMemory.new.self ≡ c.self.inside.log = c.cut-in-Err-OutOfMemory.ensures ∙ ap (λ (n : ℕ). take n c.take.new.log) c.len-before.ensures ∙ front in
-    rw cut (closed_kept c.self.inside.log c.self.inside.state c.take.new.state kept)
+pub go-requires-clause-due : goal.go-requires-clause-due
+go-requires-clause-due c =
+    is_due (record { header = c.self.inside.header; log = c.self.inside.log; closed = false }) _ (c.self.invariant.stands c.if-self.false) c.args.event (sym c.idle.ensures ∙ c.in_default.is)
+
+pub returns-in-Ok-clause-steps : goal.returns-in-Ok-clause-steps
+returns-in-Ok-clause-steps c =
+    let room : length c.self.inside.log < row_limit = omega (arith, c.if-before-ge-ROW_LIMIT.false, c.len-before.ensures) in
+    subst (λ (w : WorldState). w.closed ≡ false → Steps w c.args.event (Ok c.in-Ok.reply) (record { header = c.self.inside.header; log = c.go.new.log; closed = c.self.inside.closed })) c.self.view_is (λ e. gone_steps _ _ (c.self.invariant.stands e) c.args.event (sym c.idle.ensures ∙ c.in_default.is) c.in-Ok.reply _ _ room c.in-Ok.ensures.gone)
+
+pub returns-in-Err-clause-steps : goal.returns-in-Err-clause-steps
+returns-in-Err-clause-steps c =
+    let room : length c.self.inside.log < row_limit = omega (arith, c.if-before-ge-ROW_LIMIT.false, c.len-before.ensures) in
+    let cut : c.cut.new.self ≡ c.self.inside.log = c.cut.ensures ∙ (ap (λ (n : ℕ). take n c.go.new.log) c.len-before.ensures ∙ c.in-Err.ensures.front) in
+    rw cut (subst (λ (w : WorldState). w.closed ≡ false → Steps w c.args.event (Err c.in-Err.error) (record { header = c.self.inside.header; log = c.self.inside.log; closed = true })) c.self.view_is (λ e. failed_steps _ _ (c.self.invariant.stands e) c.args.event (sym c.idle.ensures ∙ c.in_default.is) c.in-Err.error room c.in-Err.ensures.shuts))

@@ -1,0 +1,9 @@
+pub mod Jobs
+pub mod Numbered
+pub mod Rows
+pub mod Endings
+pub mod Requests
+pub mod Desks
+pub mod Told
+pub mod EachRow
+pub mod Fews

@@ -1,0 +1,57 @@
+-- What an open world keeps beside its log, which is what the log has come to.
+-- This project's own.
+use Rattle.std.specs.Prelude.{◌≡◌, ℕ, ◌≤◌, ◌*◌, ◌==◌, List, map, Option, Some, if◌then◌else◌, option_map, option_and_then}
+use Rattle.tab_ids.specs.declared.DocId.{DocId}
+use Rattle.tab_ids.specs.declared.ProcId.{ProcId}
+use Rattle.log_model.specs.declared.header.Header.{Header}
+use Rattle.log_model.specs.declared.outcome.Ending.{Ending}
+use Rattle.log_model.specs.declared.row_kind.LogRow.{LogRow}
+use Rattle.log_model.specs.Limits.{BeginsBelow}
+use Rattle.log_model.specs.Logs.{seen_of}
+use Rattle.log_model.specs.Seen.{Seen, Document, Desk, Asked, document_of, desk_of, empty_desk}
+use Rattle.log_model.specs.Views.{View}
+use Rattle.coord.specs.Keeping.{Keeps}
+use Rattle.world.specs.declared.state.State.{State}
+
+-- no event begins at this many rows or more
+abbrev pub row_limit : ℕ
+row_limit = 1000000
+
+-- the document with which a tab opens, and its process
+abbrev pub first_document : DocId
+first_document = record { 0 = 1 }
+
+abbrev pub first_process : ProcId
+first_process = record { 0 = 1 }
+
+-- the desk of each process, where something waits in one alone
+abbrev pub desk_at : Desk → ProcId → Desk
+desk_at desk proc = if proc.0 == desk.proc.0 then desk else empty_desk proc
+
+-- the view of a document
+abbrev pub view_in : Seen → DocId → Option View
+view_in s doc = option_and_then (λ (d : Document). d.view) (document_of s doc)
+
+-- its view, and its process
+abbrev pub face : Document → Option View × ProcId
+face d = (d.view, d.proc)
+
+-- how each request ended, in the order of acceptance
+abbrev pub endings_of : Seen → List (Option Ending)
+endings_of s = map (λ (q : Asked). q.ending) s.requests
+
+-- the number of the next event, the lists of the one process, the view of the one document, and how each request ended
+pub record Holds (s : Seen) (t : State) : Type 0 where
+  pub events : s.events ≡ t.events
+  pub desk : desk_of s first_process ≡ t.desk
+  pub face : option_map face (document_of s first_document) ≡ Some (Some t.view, first_process)
+  pub endings : endings_of s ≡ t.endings.items
+  -- a document numbers an entry in an event of its own, and its index is that of an order, or one more with each entry
+  pub numbered : t.view.numbered ≤ t.events
+  pub index : t.view.index ≤ 2 * t.events
+
+-- the log keeps all rules, the coordinator stands for it, and the rest is what it has come to
+pub record IsOpen (header : Header) (log : List LogRow) (t : State) : Type 0 where
+  pub keeps : Keeps header log t.coordinator
+  pub limited : BeginsBelow row_limit log
+  pub holds : Holds (seen_of log) t

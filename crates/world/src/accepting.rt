@@ -1,0 +1,177 @@
+//! The events in which a request is accepted.
+ghost use Rattle.std.specs.Prelude.{◌≡◌, ◌<◌, ◌+◌, [], length, take, IfOk, IfErr, OnOk, OnErr};
+ghost use Rattle.coord.specs.Keeping.{Keeps};
+ghost use Rattle.coord.specs.Queueing.{HasRoom};
+ghost use Rattle.coord.specs.Standing.{HasActed};
+ghost use Rattle.log_model.specs.Entries.{HasPassed, is_change_of_entry};
+ghost use Rattle.log_model.specs.Logs.{seen_of};
+ghost use Rattle.seen_laws.specs.InEvent.{InEvent};
+ghost use Rattle.world.specs.declared.event.Event.TheVariants as events;
+ghost use Rattle.world.specs.Asking.{asking};
+ghost use Rattle.world.specs.Open.{IsOpen, row_limit};
+ghost use Rattle.world.specs.Turns.{HasGone, Shuts};
+
+use crate::endings::{add, next_request};
+use crate::error::StepError;
+use crate::event::Reply;
+use crate::logging::{log_row, log_work};
+use crate::state::State;
+use address::OutOfMemory;
+use coord::Coordinator;
+use history_log::Log;
+use log_model::{Action, Actor, Denial, Ending, Header, Out, Poke, Request, RowKind};
+use std::alloc::Global;
+use tab_ids::{NavId, ReqId};
+
+/// A traversal is accepted: it joins the queue, and has its turn where none runs.
+pub(crate) fn accept_go(
+    log: &mut Log,
+    header: &Header,
+    state: &mut State,
+    delta: i32,
+) -> Result<Reply, StepError>
+    requires open { IsOpen header.now log.old state.old }
+    requires short { length log.old < row_limit }
+    ensures gone { IfOk result (λ reply. HasGone header.now (events.Go delta) reply log.old log.new state.new) }
+    ensures shuts { IfErr result Shuts }
+    ensures front { OnErr result (take (length log.old) log.new ≡ log.old) }
+{
+    let alloc = *state.endings.allocator();
+    let req = next_request(&state.endings);
+    let mut out = Out::new(alloc);
+    ask(
+        log,
+        header,
+        &mut state.coordinator,
+        alloc,
+        &mut out,
+        req,
+        delta,
+    )?;
+    add(&mut state.endings, None)?;
+    let event = state.events;
+    let own = RowKind::Accepted {
+        req,
+        doc: None,
+        what: Request::Go { delta },
+    };
+    log_row(log, event, Actor::Ui, own)?;
+    log_work(
+        log,
+        &mut state.desk,
+        &mut state.endings,
+        event,
+        Actor::Ui,
+        &out,
+    )?;
+    state.events += 1;
+    Ok(Reply::Accepted(req))
+}
+
+/// Hands a traversal to the coordinator.
+fn ask(
+    log: &Log,
+    header: &Header,
+    coordinator: &mut Coordinator,
+    alloc: Global,
+    out: &mut Out,
+    req: ReqId,
+    delta: i32,
+) -> Result<(), OutOfMemory>
+    ghost e: { InEvent }
+    requires is { e ≡ asking header.now log.now req delta }
+    requires keeps { Keeps header.now log.now coordinator.old }
+    requires room { HasRoom (seen_of log.now) }
+    requires next { req.0 ≡ length (seen_of log.now).requests + 1 }
+    requires first { out.old ≡ [] }
+    ensures acted { OnOk result (HasActed (asking header.now log.now req delta) out.new coordinator.new) }
+{
+    coordinator.request(alloc, out, req, delta)
+}
+
+/// A poke is accepted: it waits in the process of the one document, or is refused where it names another navigable.
+pub(crate) fn accept_poke(
+    log: &mut Log,
+    header: &Header,
+    state: &mut State,
+    nav: NavId,
+    action: Action,
+) -> Result<Reply, StepError>
+    requires open { IsOpen header.now log.old state.old }
+    requires short { length log.old < row_limit }
+    requires built { HasPassed (is_change_of_entry action) }
+    ensures gone { IfOk result (λ reply. HasGone header.now (events.Poke nav action) reply log.old log.new state.new) }
+    ensures shuts { IfErr result Shuts }
+    ensures front { OnErr result (take (length log.old) log.new ≡ log.old) }
+{
+    if nav.0 == 0 {
+        return accept_here(log, header, state, nav, action);
+    }
+    refuse_stray(log, header, state, nav, action)
+}
+
+/// A poke of the top waits in the process of its document.
+fn accept_here(
+    log: &mut Log,
+    header: &Header,
+    state: &mut State,
+    nav: NavId,
+    action: Action,
+) -> Result<Reply, StepError>
+    requires open { IsOpen header.now log.old state.old }
+    requires short { length log.old < row_limit }
+    requires built { HasPassed (is_change_of_entry action) }
+    requires here { nav.0 ≡ 0 }
+    ensures gone { IfOk result (λ reply. HasGone header.now (events.Poke nav action) reply log.old log.new state.new) }
+    ensures shuts { IfErr result Shuts }
+    ensures front { OnErr result (take (length log.old) log.new ≡ log.old) }
+{
+    let req = next_request(&state.endings);
+    let doc = state.view.doc();
+    let kept = action.copy()?;
+    add(&mut state.endings, None)?;
+    state.desk.poke(Poke {
+        req,
+        doc,
+        action: kept,
+    })?;
+    let own = RowKind::Accepted {
+        req,
+        doc: Some(doc),
+        what: Request::Poke { nav, action },
+    };
+    log_row(log, state.events, Actor::Ui, own)?;
+    state.events += 1;
+    Ok(Reply::Accepted(req))
+}
+
+/// A poke of a navigable without a row is refused.
+fn refuse_stray(
+    log: &mut Log,
+    header: &Header,
+    state: &mut State,
+    nav: NavId,
+    action: Action,
+) -> Result<Reply, StepError>
+    requires open { IsOpen header.now log.old state.old }
+    requires short { length log.old < row_limit }
+    requires built { HasPassed (is_change_of_entry action) }
+    requires stray { 0 < nav.0 }
+    ensures gone { IfOk result (λ reply. HasGone header.now (events.Poke nav action) reply log.old log.new state.new) }
+    ensures shuts { IfErr result Shuts }
+    ensures front { OnErr result (take (length log.old) log.new ≡ log.old) }
+{
+    let req = next_request(&state.endings);
+    let reason = Denial::NoNavigable;
+    add(&mut state.endings, Some(Ending::Refused(reason)))?;
+    let event = state.events;
+    let own = RowKind::Accepted {
+        req,
+        doc: None,
+        what: Request::Poke { nav, action },
+    };
+    log_row(log, event, Actor::Ui, own)?;
+    log_row(log, event, Actor::Ui, RowKind::Refused { req, reason })?;
+    state.events += 1;
+    Ok(Reply::Accepted(req))
+}

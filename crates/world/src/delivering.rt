@@ -1,0 +1,80 @@
+//! The event in which the coordinator takes a report.
+ghost use Rattle.std.specs.Prelude.{◌≡◌, ◌<◌, [], length, slice_get, take, Some, IfOk, IfErr, OnOk, OnErr};
+ghost use Rattle.coord.specs.Keeping.{Keeps};
+ghost use Rattle.coord.specs.Queueing.{HasRoom};
+ghost use Rattle.coord.specs.Standing.{HasActed};
+ghost use Rattle.log_model.specs.Logs.{seen_of};
+ghost use Rattle.log_model.specs.Seen.{desk_of};
+ghost use Rattle.seen_laws.specs.InEvent.{InEvent};
+ghost use Rattle.world.specs.declared.event.Event.TheVariants as events;
+ghost use Rattle.world.specs.Asking.{delivering};
+ghost use Rattle.world.specs.Open.{IsOpen, first_process, row_limit};
+ghost use Rattle.world.specs.Turns.{HasGone, Shuts};
+
+use crate::error::StepError;
+use crate::event::Reply;
+use crate::logging::{log_row, log_work};
+use crate::state::State;
+use address::OutOfMemory;
+use coord::Coordinator;
+use history_log::Log;
+use log_model::{Actor, Header, Out, Report, RowKind};
+use std::alloc::Global;
+
+/// The coordinator takes the first report of the process.
+pub(crate) fn deliver(log: &mut Log, header: &Header, state: &mut State) -> Result<Reply, StepError>
+    requires open { IsOpen header.now log.old state.old }
+    requires short { length log.old < row_limit }
+    requires due { 0 < length state.old.desk.reports }
+    ensures gone { IfOk result (λ reply. HasGone header.now (events.Deliver first_process) reply log.old log.new state.new) }
+    ensures shuts { IfErr result Shuts }
+    ensures front { OnErr result (take (length log.old) log.new ≡ log.old) }
+{
+    let alloc = *state.endings.allocator();
+    let proc = state.desk.home();
+    let Some(report) = state.desk.next_report() else {
+        unreachable!()
+    };
+    let mut out = Out::new(alloc);
+    take(
+        log,
+        header,
+        &mut state.coordinator,
+        alloc,
+        &mut out,
+        &report,
+    )?;
+    let event = state.events;
+    log_row(log, event, Actor::Coord, RowKind::Delivered { proc })?;
+    log_work(
+        log,
+        &mut state.desk,
+        &mut state.endings,
+        event,
+        Actor::Coord,
+        &out,
+    )?;
+    state.events += 1;
+    Ok(Reply::Delivered)
+}
+
+/// Hands a report of the one document's process to the coordinator.
+fn take(
+    log: &Log,
+    header: &Header,
+    coordinator: &mut Coordinator,
+    alloc: Global,
+    out: &mut Out,
+    report: &Report,
+) -> Result<(), OutOfMemory>
+    ghost e: { InEvent }
+    requires is { e ≡ delivering header.now log.now }
+    requires keeps { Keeps header.now log.now coordinator.old }
+    requires home { coordinator.old.home.proc ≡ first_process }
+    requires waits { slice_get (desk_of (seen_of log.now) first_process).reports 0 ≡ Some report.now }
+    requires room { HasRoom (seen_of log.now) }
+    requires first { out.old ≡ [] }
+    ensures acted { OnOk result (HasActed (delivering header.now log.now) out.new coordinator.new) }
+{
+    coordinator.deliver(alloc, out, report)
+}

@@ -1,0 +1,46 @@
+//! The rows of an event.
+ghost use Rattle.std.specs.Prelude.{◌≡◌, ◌++◌, ◌∷◌, [], ◌+◌, ◌<◌, ◌≤◌, fold, map, take, length, OnOk, OnErr};
+ghost use Rattle.world.specs.Notes.{desk_noted, endings_noted, row_with};
+
+use crate::desk::Desk;
+use crate::endings::note_ending;
+use address::OutOfMemory;
+use history_log::Log;
+use log_model::{Actor, Ending, LogRow, Out, RowKind};
+
+/// Logs what the coordinator put out, and notes it in the lists of the process and in the table of endings.
+pub(crate) fn log_work(
+    log: &mut Log,
+    desk: &mut Desk,
+    endings: &mut Vec<Option<Ending>>,
+    event: u32,
+    actor: Actor,
+    out: &Out,
+) -> Result<(), OutOfMemory>
+    ensures log { OnOk result (log.new ≡ log.old ++ map (row_with event actor) out.now) }
+    ensures desk { OnOk result (desk.new ≡ fold desk_noted desk.old out.now) }
+    ensures endings { OnOk result (endings.new.items ≡ fold endings_noted endings.old.items out.now) }
+    ensures err { OnErr result (take (length log.old) log.new ≡ log.old) }
+{
+    for row in out.as_slice() {
+        desk.note(row)?;
+        note_ending(endings, row);
+        let row = row.copy()?;
+        log.push_row(LogRow { event, actor, row })?;
+    }
+    Ok(())
+}
+
+/// Logs a row of an event.
+pub(crate) fn log_row(
+    log: &mut Log,
+    event: u32,
+    actor: Actor,
+    row: RowKind,
+) -> Result<(), OutOfMemory>
+    ensures ok { OnOk result (log.new ≡ log.old ++ row_with event actor row ∷ []) }
+    ensures err { OnErr result (log.new ≡ log.old) }
+{
+    log.push_row(LogRow { event, actor, row })?;
+    Ok(())
+}

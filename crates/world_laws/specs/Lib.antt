@@ -1,4 +1,0 @@
-pub mod Single
-pub mod Going
-pub mod Pasts
-pub mod Keeps
