@@ -1,0 +1,4 @@
+pub mod Targets
+pub mod Ways
+pub mod Walks
+pub mod Plans
