@@ -18,6 +18,7 @@ use Rattle.nav_tree.specs.declared.status.NavStatus.{NavStatus}
 use Rattle.nav_tree.specs.declared.status.NavStatus.TheVariants as kept
 use Rattle.nav_tree.specs.declared.place.Place as live
 use Rattle.nav_tree.specs.Tree.{Tree, nav_of, document_of}
+use Rattle.hang_facts.specs.AsPlaces.{AreDistinct, HangsAs, IsChain}
 use Rattle.apply_plan.specs.Reaches.{is_awake}
 use Rattle.apply_plan.specs.Needs.{is_pending}
 use Rattle.apply_plan.specs.Order.{parent_in, made_in}
@@ -26,11 +27,6 @@ use Rattle.apply_plan.specs.Order.{parent_in, made_in}
 abbrev pub AreAbove : Tree → NavId → List NavId → Type 0
 AreAbove tree nav [] = parent_in tree nav ≡ None
 AreAbove tree nav (parent ∷ above) = (parent_in tree nav ≡ Some parent) × AreAbove tree parent above
-
--- no two places have one navigable
-abbrev pub AreDistinct : List Place → Type 0
-AreDistinct [] = Unit {0}
-AreDistinct (place ∷ places) = (place_in places place.nav ≡ None) × AreDistinct places
 
 -- the tree has the places' navigables, in the same order, each below the same ones
 pub record AreHeld (places : List Place) (tree : Tree) : Type 0 where
@@ -58,36 +54,6 @@ pub record IsKept (tree : Tree) (place : Place) : Type 0 where
   pub unmet : is_pending fields.reload ≡ place.is_unmet
   -- whether its last Activate is finished and told, as long as it is awake
   pub stands : is_awake fields.status ≡ true → fields.stands ≡ place.is_delivered
-
--- a navigable with entries hangs on this document state, of this navigable
-pub record IsHung (rows : List Row) (place : Place) (parent : NavId) : Type 0 where
-  pub owner : StateId
-  pub owner_is : owner_of place.nav rows ≡ Some owner
-  pub holder_is : holder_of owner rows ≡ Some parent
-  pub first : slice_get place.owners 0 ≡ Some owner
-
--- the navigables hang together in the history as the places tell
-pub record HangsAs (rows : List Row) (place : Place) : Type 0 where
-  -- the top alone has none above it
-  pub top : place.above ≡ [] → place.nav.0 ≡ 0
-  pub child : (parent : NavId) (above : List NavId) → place.above ≡ parent ∷ above → place.nav.0 ≢ 0
-  -- one with entries hangs on a document state of the first one above it
-  pub hung : (step : ℕ) (parent : NavId) (above : List NavId) → is_some (target_entry rows place.nav step) ≡ true → place.above ≡ parent ∷ above → IsHung rows place parent
-  -- then so do those above it, so that they aren't more than the rows
-  pub rooted : (step : ℕ) → is_some (target_entry rows place.nav step) ≡ true → length place.above ≤ length rows
-  -- one that is shown has a target
-  pub begun : (step : ℕ) → is_shown rows step place.nav ≡ true → is_some (target_entry rows place.nav step) ≡ true
-
--- a navigable's place, below these
-pub record IsLink (places : List Place) (nav : NavId) (above : List NavId) : Type 0 where
-  pub place : Place
-  pub found : place_in places nav ≡ Some place
-  pub above_is : place.above ≡ above
-
--- each of these navigables has its place below those that follow
-abbrev pub IsChain : List Place → List NavId → Type 0
-IsChain places [] = Unit {0}
-IsChain places (nav ∷ above) = IsLink places nav above × IsChain places above
 
 -- the tree and the history stand for the places
 pub record StandFor (rows : List Row) (places : List Place) (tree : Tree) : Type 0 where

@@ -1,0 +1,11 @@
+pub mod Members
+pub mod Forms
+pub mod Frames
+pub mod Leasts
+pub mod Parts
+pub mod Changes
+pub mod Added
+pub mod Rows
+pub mod Targets
+pub mod Depths
+pub mod Hung

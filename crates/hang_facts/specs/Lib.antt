@@ -1,0 +1,5 @@
+pub mod Members
+pub mod Forms
+pub mod Hanging
+pub mod Changing
+pub mod AsPlaces
