@@ -41,48 +41,53 @@ chain places (nav ∷ above) linked =
 -- ---- who is shown
 
 -- the navigable is the top, or hangs on the document state of a parent's target
-pub record IsUp (rows : List Row) (step : ℕ) (nav : NavId) : Type 0 where
+pub record IsUp (rows : List Row) (step : ℕ) (nav parent : NavId) : Type 0 where
   pub owner : StateId
-  pub parent : NavId
   pub target : Row
   pub owner_at : owner_of nav rows ≡ Some owner
   pub holder_at : holder_of owner rows ≡ Some parent
   pub at : target_entry rows parent step ≡ Some target
   pub its_state : target.state ≡ owner
 
-pub is_up : (rows : List Row) (step : ℕ) (nav parent : NavId) → way_up rows step nav ≡ Some parent → IsUp rows step nav
+pub is_up : (rows : List Row) (step : ℕ) (nav parent : NavId) → way_up rows step nav ≡ Some parent → IsUp rows step nav parent
 is_up rows step nav parent e = by_owner (owner_of nav rows) refl e
   where
-    by_target : (owner : StateId) (holder : NavId) → owner_of nav rows ≡ Some owner → holder_of owner rows ≡ Some holder → (o : Option Row) → target_entry rows holder step ≡ o → holds (λ (row : Row). row.state.0 == owner.0) o ≡ true → IsUp rows step nav
+    by_target : (owner : StateId) (holder : NavId) → owner_of nav rows ≡ Some owner → holder_of owner rows ≡ Some holder → (o : Option Row) → target_entry rows holder step ≡ o → holds (λ (row : Row). row.state.0 == owner.0) o ≡ true → IsUp rows step nav holder
     by_target owner holder one two None t has = cc
     by_target owner holder one two (Some row) t has =
-        record { owner = owner; parent = holder; target = row; owner_at = one; holder_at = two; at = t; its_state = state_is row.state owner has }
+        record { owner = owner; target = row; owner_at = one; holder_at = two; at = t; its_state = state_is row.state owner has }
 
-    by_test : (owner : StateId) (holder : NavId) → owner_of nav rows ≡ Some owner → holder_of owner rows ≡ Some holder → (b : Bool) → targets_state rows step holder owner ≡ b → cond b (Some holder) None ≡ Some parent → IsUp rows step nav
-    by_test owner holder one two true t h = by_target owner holder one two (target_entry rows holder step) refl t
+    by_test : (owner : StateId) (holder : NavId) → owner_of nav rows ≡ Some owner → holder_of owner rows ≡ Some holder → (b : Bool) → targets_state rows step holder owner ≡ b → cond b (Some holder) None ≡ Some parent → IsUp rows step nav parent
+    by_test owner holder one two true t h =
+        let same : holder ≡ parent = cc in
+        subst (λ (p : NavId). IsUp rows step nav p) same (by_target owner holder one two (target_entry rows holder step) refl t)
     by_test owner holder one two false t h = cc
 
-    by_holder : (owner : StateId) → owner_of nav rows ≡ Some owner → (o : Option NavId) → holder_of owner rows ≡ o → option_and_then (λ (p : NavId). if targets_state rows step p owner then Some p else None) o ≡ Some parent → IsUp rows step nav
+    by_holder : (owner : StateId) → owner_of nav rows ≡ Some owner → (o : Option NavId) → holder_of owner rows ≡ o → option_and_then (λ (p : NavId). if targets_state rows step p owner then Some p else None) o ≡ Some parent → IsUp rows step nav parent
     by_holder owner one None two h = cc
     by_holder owner one (Some holder) two h = by_test owner holder one two (targets_state rows step holder owner) refl h
 
-    by_owner : (o : Option StateId) → owner_of nav rows ≡ o → option_and_then (λ (owner : StateId). option_and_then (λ (p : NavId). if targets_state rows step p owner then Some p else None) (holder_of owner rows)) o ≡ Some parent → IsUp rows step nav
+    by_owner : (o : Option StateId) → owner_of nav rows ≡ o → option_and_then (λ (owner : StateId). option_and_then (λ (p : NavId). if targets_state rows step p owner then Some p else None) (holder_of owner rows)) o ≡ Some parent → IsUp rows step nav parent
     by_owner None one h = cc
     by_owner (Some owner) one h = by_holder owner one (holder_of owner rows) refl h
 
-pub shown_up : (n : ℕ) (rows : List Row) (step : ℕ) (nav : NavId) → is_shown_within n rows step (Some nav) ≡ true → ((nav.0 == 0) ≡ true) ⊎ IsUp rows step nav
+pub record IsUpTo (rows : List Row) (step : ℕ) (nav : NavId) : Type 0 where
+  pub parent : NavId
+  pub up : IsUp rows step nav parent
+
+pub shown_up : (n : ℕ) (rows : List Row) (step : ℕ) (nav : NavId) → is_shown_within n rows step (Some nav) ≡ true → ((nav.0 == 0) ≡ true) ⊎ IsUpTo rows step nav
 shown_up zero rows step nav shown = inl shown
 shown_up (suc n) rows step nav shown = by_test (nav.0 == 0) refl shown
   where
-    by_way : (o : Option NavId) → way_up rows step nav ≡ o → is_shown_within n rows step o ≡ true → IsUp rows step nav
+    by_way : (o : Option NavId) → way_up rows step nav ≡ o → is_shown_within n rows step o ≡ true → IsUpTo rows step nav
     by_way None e h = none_shown n h
       where
-        none_shown : (m : ℕ) → is_shown_within m rows step None ≡ true → IsUp rows step nav
+        none_shown : (m : ℕ) → is_shown_within m rows step None ≡ true → IsUpTo rows step nav
         none_shown zero h = cc
         none_shown (suc m) h = cc
-    by_way (Some parent) e h = is_up rows step nav parent e
+    by_way (Some parent) e h = record { parent = parent; up = is_up rows step nav parent e }
 
-    by_test : (b : Bool) → (nav.0 == 0) ≡ b → (b || is_shown_within n rows step (way_up rows step nav)) ≡ true → ((nav.0 == 0) ≡ true) ⊎ IsUp rows step nav
+    by_test : (b : Bool) → (nav.0 == 0) ≡ b → (b || is_shown_within n rows step (way_up rows step nav)) ≡ true → ((nav.0 == 0) ≡ true) ⊎ IsUpTo rows step nav
     by_test true e h = inl e
     by_test false e h = inr (by_way (way_up rows step nav) refl h)
 
@@ -138,16 +143,17 @@ module _ (s : Seen) (sound : IsSound s.history) (hangs : Hangs s) where
   pub has_begun : (step : ℕ) (nav : NavId) → is_shown s.history.rows step nav ≡ true → is_some (target_entry s.history.rows nav step) ≡ true
   has_begun step nav shown = by_case (shown_up (length s.history.rows) s.history.rows step nav shown)
     where
-      by_case : ((nav.0 == 0) ≡ true) ⊎ IsUp s.history.rows step nav → is_some (target_entry s.history.rows nav step) ≡ true
+      by_case : ((nav.0 == 0) ≡ true) ⊎ IsUpTo s.history.rows step nav → is_some (target_entry s.history.rows nav step) ≡ true
       by_case (inl top) =
           let at_top : nav.0 ≡ 0 = eqb-true nav.0 0 top in
           let a = any_has (stands_at nav 0) s.history.rows (sound.top_row nav at_top) in
           let both = and_parts (is_of nav a.it) (a.it.step.0 == 0) a.passes in
           let first : a.it.step.0 ≡ 0 = eqb-true a.it.step.0 0 both.1 in
           target_there s.history.rows nav step a.it a.there (nav_is a.it.nav nav both.0) (omega (arith, first))
-      by_case (inr up) =
+      by_case (inr to) =
+          let up : IsUp s.history.rows step nav to.parent = to.up in
           let first = first_of nav up.owner up.owner_at in
-          let t : IsTarget s.history.rows up.parent step up.target = target_has s.history.rows up.parent step up.target up.at in
+          let t : IsTarget s.history.rows to.parent step up.target = target_has s.history.rows to.parent step up.target up.at in
           let b : BeginsBy s.history.rows first.row.nav up.target.step.0 = hangs.rows.begins first.row up.target first.there t.there (first.its_owner ∙ ap (λ (x : StateId). Some x) (sym up.its_state)) in
           target_there s.history.rows nav step b.row b.there (b.nav_is ∙ first.its_nav) (omega (arith, b.by, t.by))
 
