@@ -71,7 +71,7 @@ several (nav ∷ navs) rows apart each =
 -- ---- ways
 
 -- a navigable on a way is below fewer than the way has
-way_shorter : (forms : List Form) (above : List NavId) (nav : NavId) (form : Form) → AreLinked forms above → Has above nav → form_in forms nav ≡ Some form → length form.above < length above
+pub way_shorter : (forms : List Form) (above : List NavId) (nav : NavId) (form : Form) → AreLinked forms above → Has above nav → form_in forms nav ≡ Some form → length form.above < length above
 way_shorter forms [] nav form linked h found = absurd h
 way_shorter forms (first ∷ above) nav form linked (inl same) found =
     let both : Some linked.0.form ≡ Some form = sym linked.0.found ∙ ap (λ (n : NavId). form_in forms n) same ∙ found in

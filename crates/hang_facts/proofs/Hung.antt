@@ -1,5 +1,5 @@
 -- How each place's navigable hangs in the history, once the navigables hang together.
-use Rattle.std.proofs.Common.{◌≡◌, ◌≢◌, ◌⊎◌, inl, inr, ℕ, zero, suc, ◌≤◌, Bool, true, false, ◌&&◌, ◌||◌, cond, List, [], ◌∷◌, map, length, refl, sym, ap, ◌∙◌, subst, arith, Option, Some, None, ◌==◌}
+use Rattle.std.proofs.Common.{◌≡◌, ◌≢◌, ◌⊎◌, inl, inr, ℕ, zero, suc, ◌≤◌, ◌<◌, Bool, true, false, ◌&&◌, ◌||◌, cond, List, [], ◌∷◌, map, length, refl, sym, ap, ◌∙◌, subst, arith, Option, Some, None, ◌==◌}
 use Rattle.std.specs.Prelude.{find, option_map, option_and_then, is_some, slice_get, if◌then◌else◌}
 use Rattle.std.proofs.lemmas.Bool.{and_parts, eqb-true}
 use Rattle.std.proofs.lemmas.Bool.Decides.{nat_tests}
@@ -7,7 +7,7 @@ use Rattle.tab_ids.specs.declared.NavId.{NavId}
 use Rattle.tab_ids.specs.declared.StateId.{StateId}
 use Rattle.log_model.specs.declared.row.Row.{Row}
 use Rattle.log_model.specs.Equal.{holds}
-use Rattle.log_model.specs.History.{History, is_of, owner_of, target_entry}
+use Rattle.log_model.specs.History.{has_nav, is_of, owner_of, target_entry}
 use Rattle.log_model.specs.Places.{holder_of, targets_state, way_up, is_shown_within, is_shown}
 use Rattle.log_model.specs.Seen.{Seen, Place, place_in, place_of}
 use Rattle.log_model.specs.Soundness.{stands_at, IsSound}
@@ -19,7 +19,7 @@ use Rattle.hang_facts.specs.AsPlaces.{AreDistinct, IsHung, HangsAs, IsLink, IsCh
 use Rattle.hang_facts.proofs.Forms.{IsPlaceOf, nav_is, form_found, form_there, place_there}
 use Rattle.hang_facts.proofs.Members.{any_has, find_has, has_found}
 use Rattle.hang_facts.proofs.Parts.{nav_number, state_is, same_state, owner_is}
-use Rattle.hang_facts.proofs.Depths.{IsBelow, below, depth}
+use Rattle.hang_facts.proofs.Depths.{IsBelow, way_shorter, below, depth}
 use Rattle.hang_facts.proofs.Targets.{IsTarget, target_has, target_there, some_is}
 
 -- ---- the places
@@ -175,3 +175,16 @@ module _ (s : Seen) (sound : IsSound s.history) (hangs : Hangs s) where
 
   pub place_chain : (nav : NavId) (place : Place) → place_of s nav ≡ Some place → IsChain s.places place.above
   place_chain nav place found = chain s.places place.above (hangs.woven.linked nav (form_of place) (form_there s.places nav place found))
+
+  -- none is above itself
+  pub not_above_itself : (nav : NavId) (place : Place) → place_of s nav ≡ Some place → has_nav place.above place.nav ≡ false
+  not_above_itself nav place found = by_test (has_nav place.above place.nav) refl
+    where
+      by_test : (b : Bool) → has_nav place.above place.nav ≡ b → has_nav place.above place.nav ≡ false
+      by_test false e = e
+      by_test true e =
+          let a = any_has (λ (n : NavId). n.0 == place.nav.0) place.above e in
+          let navs : a.it ≡ place.nav = nav_is a.it place.nav a.passes in
+          let own : form_in (forms_of s.places) a.it ≡ Some (form_of place) = ap (λ (n : NavId). form_in (forms_of s.places) n) navs ∙ own_form nav place found in
+          let less : length place.above < length place.above = way_shorter (forms_of s.places) place.above a.it (form_of place) (hangs.woven.linked nav (form_of place) (form_there s.places nav place found)) a.there own in
+          absurd (omega (arith, less))
