@@ -4,3 +4,5 @@ pub mod Rows
 pub mod Below
 pub mod Away
 pub mod Shown
+pub mod Changed
+pub mod Left

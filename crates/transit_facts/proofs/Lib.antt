@@ -1,0 +1,3 @@
+pub mod Desks
+pub mod Again
+pub mod Rows
