@@ -1,3 +1,4 @@
 pub mod Desks
 pub mod Again
 pub mod Rows
+pub mod Delivered
