@@ -2,3 +2,4 @@ pub mod Desks
 pub mod Again
 pub mod Rows
 pub mod Delivered
+pub mod Applied
