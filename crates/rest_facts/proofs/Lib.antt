@@ -1,3 +1,4 @@
 pub mod Running
 pub mod Again
 pub mod Rows
+pub mod Orders
