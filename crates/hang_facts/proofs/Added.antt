@@ -1,16 +1,14 @@
 -- An added frame hangs on the document state of its parent, from that state's first step on.
-use Rattle.std.proofs.Common.{◌≡◌, ◌≢◌, ◌⊎◌, inl, inr, ℕ, ◌≤◌, Bool, true, false, not, ◌&&◌, ◌||◌, List, [], ◌∷◌, ◌++◌, refl, sym, ap, ◌∙◌, subst, arith, Option, Some, None, ◌==◌}
+use Rattle.std.proofs.Common.{◌≡◌, ◌⊎◌, inl, inr, ℕ, Bool, true, false, ◌||◌, List, [], ◌∷◌, ◌++◌, refl, sym, ap, ◌∙◌, subst, Option, Some, None, ◌==◌}
 use Rattle.std.specs.List.{list_any}
-use Rattle.std.proofs.lemmas.Bool.{and_parts, and_from, eqb-true}
-use Rattle.std.proofs.lemmas.Bool.Decides.{nat_tests}
 use Rattle.std.proofs.lemmas.List.Folds.{list_any-append}
 use Rattle.tab_ids.specs.declared.EntryId.{EntryId}
 use Rattle.tab_ids.specs.declared.NavId.{NavId}
 use Rattle.tab_ids.specs.declared.StateId.{StateId}
 use Rattle.address.specs.Addresses.{blank_text}
 use Rattle.log_model.specs.declared.row.Row.{Row}
-use Rattle.log_model.specs.History.{History, has_nav, is_of, first_step}
-use Rattle.log_model.specs.Soundness.{is_in_state, holds, IsSound}
+use Rattle.log_model.specs.History.{History, has_nav, first_step}
+use Rattle.log_model.specs.Soundness.{holds, IsSound}
 use Rattle.log_model.proofs.Refl.{nat_eq_refl}
 use Rattle.history_laws.proofs.Tidying.{held}
 use Rattle.hang_facts.specs.Members.{Has}
@@ -18,7 +16,7 @@ use Rattle.hang_facts.specs.Forms.{Form, form_in, AreLinked, IsOneOf, AreWoven}
 use Rattle.hang_facts.specs.Hanging.{IsPlaced, BeginsBy, HangIn}
 use Rattle.hang_facts.specs.Changing.{IsNewState}
 use Rattle.hang_facts.proofs.Forms.{nav_is, form_found, form_last, form_stays, form_other, apart_more, linked_more}
-use Rattle.hang_facts.proofs.Members.{Passing, is_in, has_any, has_more, into_more, into_last}
+use Rattle.hang_facts.proofs.Members.{is_in, has_any, has_more, into_more, into_last}
 use Rattle.hang_facts.proofs.Leasts.{first_least}
 use Rattle.hang_facts.proofs.Parts.{nav_number, same_state}
 use Rattle.hang_facts.proofs.Changes.{none_hangs}

@@ -1,8 +1,8 @@
 -- A push, a replace and a removed frame leave the navigables hanging together in the history.
-use Rattle.std.proofs.Common.{◌≡◌, ◌⊎◌, inl, inr, ℕ, ◌+◌, ◌≤◌, Bool, true, false, not, ◌&&◌, cond, List, [], ◌∷◌, ◌++◌, map, refl, sym, ap, ◌∙◌, subst, arith, Option, Some, None, ◌==◌}
-use Rattle.std.specs.Prelude.{filter, find, nat_le, slice_get, option_and_then}
+use Rattle.std.proofs.Common.{◌≡◌, ◌⊎◌, inl, inr, ℕ, ◌+◌, ◌≤◌, Bool, true, false, not, List, map, refl, sym, ap, ◌∙◌, arith, Option, Some, None, ◌==◌}
+use Rattle.std.specs.Prelude.{filter, nat_le, option_and_then}
 use Rattle.std.specs.Option.{option_map_or}
-use Rattle.std.proofs.lemmas.Bool.{leb-true, le-leb, and_parts, and_from}
+use Rattle.std.proofs.lemmas.Bool.{leb-true, le-leb}
 use Rattle.tab_ids.specs.declared.EntryId.{EntryId}
 use Rattle.tab_ids.specs.declared.NavId.{NavId}
 use Rattle.tab_ids.specs.declared.StateId.{StateId}
@@ -10,15 +10,14 @@ use Rattle.tab_ids.specs.declared.Step.{Step}
 use Rattle.log_model.specs.declared.row.Row.{Row}
 use Rattle.log_model.specs.History.{History, same_entry, is_of, has_row, has_state, owner_of, tidied, cleared, replaced_row, pushed}
 use Rattle.log_model.specs.Soundness.{IsSound}
-use Rattle.log_model.proofs.Refl.{nat_eq_refl}
 use Rattle.history_laws.proofs.Tidying.{hung}
 use Rattle.hang_facts.specs.Members.{Has}
 use Rattle.hang_facts.specs.Forms.{Form, form_in}
 use Rattle.hang_facts.specs.Hanging.{IsPlaced, BeginsBy, HangIn}
 use Rattle.hang_facts.specs.Changing.{IsItsState, IsNewState, HasState}
 use Rattle.hang_facts.proofs.Forms.{nav_is}
-use Rattle.hang_facts.proofs.Members.{Passing, IsOf, is_in, any_has, has_any, find_has, has_found, has_filter, has_map, into_map, has_tidied, into_tidied}
-use Rattle.hang_facts.proofs.Parts.{IsEarlier, nav_number, state_is, anchored_by, owner_is, part_hangs, more_hangs}
+use Rattle.hang_facts.proofs.Members.{Passing, IsOf, is_in, any_has, find_has, has_found, has_filter, has_map, into_map, has_tidied, into_tidied}
+use Rattle.hang_facts.proofs.Parts.{IsEarlier, state_is, anchored_by, owner_is, part_hangs, more_hangs}
 
 module _ (history : History) (forms : List Form) (sound : IsSound history) (hang : HangIn history.rows forms) where
   -- a row of the document state on which another one hangs

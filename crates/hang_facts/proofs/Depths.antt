@@ -1,6 +1,6 @@
 -- Those above a navigable with entries have entries, and aren't more than there are entries.
-use Rattle.std.proofs.Common.{◌≡◌, ◌⊎◌, inl, inr, ℕ, suc, ◌+◌, ◌≤◌, ◌<◌, Bool, true, false, not, ◌||◌, cond, List, [], ◌∷◌, length, refl, sym, ap, ◌∙◌, subst, arith, Option, Some, None, ◌==◌}
-use Rattle.std.specs.Prelude.{filter, slice_get}
+use Rattle.std.proofs.Common.{◌≡◌, ◌⊎◌, inl, inr, ◌≤◌, ◌<◌, Bool, true, false, not, ◌||◌, cond, List, [], ◌∷◌, length, refl, sym, ap, ◌∙◌, subst, arith, Option, Some, None, ◌==◌}
+use Rattle.std.specs.Prelude.{filter}
 use Rattle.std.specs.List.{list_any}
 use Rattle.tab_ids.specs.declared.NavId.{NavId}
 use Rattle.tab_ids.specs.declared.StateId.{StateId}
@@ -11,9 +11,9 @@ use Rattle.log_model.proofs.Refl.{nat_eq_refl}
 use Rattle.history_laws.proofs.Tidying.{free}
 use Rattle.hang_facts.specs.Members.{Has}
 use Rattle.hang_facts.specs.Forms.{Form, form_in, AreLinked, AreWoven}
-use Rattle.hang_facts.specs.Hanging.{IsPlaced, HangIn}
+use Rattle.hang_facts.specs.Hanging.{HangIn}
 use Rattle.hang_facts.proofs.Forms.{nav_is, form_found}
-use Rattle.hang_facts.proofs.Members.{Passing, is_in, any_has, has_any, into_filter}
+use Rattle.hang_facts.proofs.Members.{is_in, any_has, has_any, into_filter}
 use Rattle.hang_facts.proofs.Parts.{nav_number, state_is}
 use Rattle.hang_facts.proofs.Changes.{anchor}
 

@@ -5,7 +5,7 @@ use Rattle.std.proofs.lemmas.Bool.Decides.{nat_tests}
 use Rattle.tab_ids.specs.declared.NavId.{NavId}
 use Rattle.log_model.specs.Seen.{Place, place_in}
 use Rattle.log_model.proofs.Refl.{nat_eq_refl}
-use Rattle.hang_facts.specs.Forms.{Form, form_of, forms_of, form_in, AreApart, IsLinked, AreLinked}
+use Rattle.hang_facts.specs.Forms.{Form, form_of, forms_of, form_in, AreApart, AreLinked}
 
 pub nav_is : (one other : NavId) → (one.0 == other.0) ≡ true → one ≡ other
 nav_is one other e =

@@ -1,8 +1,7 @@
 -- How each place's navigable hangs in the history, once the navigables hang together.
-use Rattle.std.proofs.Common.{◌≡◌, ◌≢◌, ◌⊎◌, inl, inr, ℕ, zero, suc, ◌≤◌, ◌<◌, Bool, true, false, ◌&&◌, ◌||◌, cond, List, [], ◌∷◌, map, length, refl, sym, ap, ◌∙◌, subst, arith, Option, Some, None, ◌==◌}
+use Rattle.std.proofs.Common.{◌≡◌, ◌⊎◌, inl, inr, ℕ, zero, suc, ◌<◌, Bool, true, false, ◌||◌, cond, List, [], ◌∷◌, length, refl, sym, ap, ◌∙◌, subst, arith, Option, Some, None, ◌==◌}
 use Rattle.std.specs.Prelude.{find, option_map, option_and_then, is_some, slice_get, if◌then◌else◌}
 use Rattle.std.proofs.lemmas.Bool.{and_parts, eqb-true}
-use Rattle.std.proofs.lemmas.Bool.Decides.{nat_tests}
 use Rattle.tab_ids.specs.declared.NavId.{NavId}
 use Rattle.tab_ids.specs.declared.StateId.{StateId}
 use Rattle.log_model.specs.declared.row.Row.{Row}
@@ -15,10 +14,10 @@ use Rattle.log_model.proofs.Refl.{nat_eq_refl}
 use Rattle.hang_facts.specs.Members.{Has}
 use Rattle.hang_facts.specs.Forms.{Form, form_of, forms_of, form_in, AreApart, AreLinked, IsOneOf}
 use Rattle.hang_facts.specs.Hanging.{IsPlaced, BeginsBy, Hangs}
-use Rattle.hang_facts.specs.AsPlaces.{AreDistinct, IsHung, HangsAs, IsLink, IsChain}
+use Rattle.hang_facts.specs.AsPlaces.{AreDistinct, IsHung, HangsAs, IsChain}
 use Rattle.hang_facts.proofs.Forms.{IsPlaceOf, nav_is, form_found, form_there, place_there}
 use Rattle.hang_facts.proofs.Members.{any_has, find_has, has_found}
-use Rattle.hang_facts.proofs.Parts.{nav_number, state_is, same_state, owner_is}
+use Rattle.hang_facts.proofs.Parts.{state_is, same_state, owner_is}
 use Rattle.hang_facts.proofs.Depths.{IsBelow, way_shorter, below, depth}
 use Rattle.hang_facts.proofs.Targets.{IsTarget, target_has, target_there, some_is}
 
@@ -110,7 +109,7 @@ module _ (s : Seen) (sound : IsSound s.history) (hangs : Hangs s) where
           let has = find_has (is_of nav) s.history.rows row f in
           record { row = row; there = has.0; its_nav = nav_is row.nav nav has.1; its_owner = h }
 
-  own_form : (nav : NavId) (place : Place) → place_of s nav ≡ Some place → form_in (forms_of s.places) place.nav ≡ Some (form_of place)
+  pub own_form : (nav : NavId) (place : Place) → place_of s nav ≡ Some place → form_in (forms_of s.places) place.nav ≡ Some (form_of place)
   own_form nav place found =
       let at : form_in (forms_of s.places) nav ≡ Some (form_of place) = form_there s.places nav place found in
       ap (λ (n : NavId). form_in (forms_of s.places) n) (form_found (forms_of s.places) nav (form_of place) at) ∙ at

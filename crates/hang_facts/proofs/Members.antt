@@ -1,5 +1,5 @@
 -- The items of a list, and what filters, changes of each and longer lists make of them.
-use Rattle.std.proofs.Common.{◌≡◌, ◌⊎◌, inl, inr, ℕ, zero, suc, Bool, true, false, cond, ◌||◌, List, [], ◌∷◌, ◌++◌, map, refl, sym, ap, ◌∙◌, subst, Option, Some, None}
+use Rattle.std.proofs.Common.{◌≡◌, ◌⊎◌, inl, inr, ℕ, zero, suc, Bool, true, false, cond, ◌||◌, List, [], ◌∷◌, ◌++◌, map, refl, sym, ap, ◌∙◌, subst, Some}
 use Rattle.std.specs.Prelude.{filter, find, slice_get}
 use Rattle.std.specs.List.{list_any}
 use Rattle.log_model.specs.declared.row.Row.{Row}

@@ -1,6 +1,6 @@
 -- The navigables hang together from row to row.
-use Rattle.std.proofs.Common.{◌≡◌, ◌≢◌, ◌⊎◌, inl, inr, ℕ, zero, suc, Bool, true, false, not, ◌&&◌, List, [], ◌∷◌, ◌++◌, refl, sym, ap, ◌∙◌, subst, arith, Option, Some, None, ◌==◌}
-use Rattle.std.specs.Prelude.{find, option_map, option_and_then, slice_get}
+use Rattle.std.proofs.Common.{◌≡◌, inl, inr, ℕ, Bool, true, false, not, ◌&&◌, List, [], ◌∷◌, ◌++◌, refl, sym, ap, ◌∙◌, subst, Option, Some, None, ◌==◌}
+use Rattle.std.specs.Prelude.{option_map, option_and_then, slice_get}
 use Rattle.std.specs.Option.{option_map_or}
 use Rattle.std.proofs.lemmas.Bool.{and_parts}
 use Rattle.tab_ids.specs.declared.DocId.{DocId}
@@ -15,8 +15,8 @@ use Rattle.log_model.specs.declared.row.Row.{Row}
 use Rattle.log_model.specs.declared.row_kind.Actor.{Actor}
 use Rattle.log_model.specs.declared.row_kind.RowKind.{RowKind}
 use Rattle.log_model.specs.declared.row_kind.RowKind.TheVariants as rows
-use Rattle.log_model.specs.After.{after, history_after}
-use Rattle.log_model.specs.AfterPlaces.{new_place, with_taker, places_after, places_added, places_applied}
+use Rattle.log_model.specs.After.{after}
+use Rattle.log_model.specs.AfterPlaces.{new_place, places_added, places_applied}
 use Rattle.log_model.specs.History.{History, has_nav, has_state, fits, applied}
 use Rattle.log_model.specs.Opening.{opening_history}
 use Rattle.log_model.specs.Places.{holder_of}
@@ -26,11 +26,11 @@ use Rattle.hang_facts.specs.Members.{Has}
 use Rattle.hang_facts.specs.Forms.{Form, form_of, forms_of, form_in, AreLinked, IsOneOf, AreWoven}
 use Rattle.hang_facts.specs.Hanging.{IsPlaced, HangIn, Hangs}
 use Rattle.hang_facts.specs.Changing.{IsNewState, BringsState}
-use Rattle.hang_facts.proofs.Forms.{IsPlaceOf, nav_is, form_found, form_there, place_there, forms_joined}
+use Rattle.hang_facts.proofs.Forms.{IsPlaceOf, form_found, form_there, place_there, forms_joined}
 use Rattle.hang_facts.proofs.Frames.{IsNoFrame, sent_kept, delivered_kept, taken_kept, applied_kept}
 use Rattle.hang_facts.proofs.Members.{any_has, find_has, has_found}
 use Rattle.hang_facts.proofs.Parts.{state_is}
-use Rattle.hang_facts.proofs.Changes.{cleared_hangs, removed_hangs, pushed_hangs, replaced_hangs}
+use Rattle.hang_facts.proofs.Changes.{removed_hangs, pushed_hangs, replaced_hangs}
 use Rattle.hang_facts.proofs.Added.{child_form, none_there, woven_more, added_hangs}
 
 -- the row is neither the opening nor an applied change

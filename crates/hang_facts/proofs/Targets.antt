@@ -1,5 +1,5 @@
 -- A navigable's target at a step is an entry of it, up to that step; and it has one where it has such an entry.
-use Rattle.std.proofs.Common.{◌≡◌, ◌⊎◌, inl, inr, ℕ, ◌≤◌, Bool, true, false, ◌&&◌, cond, List, [], ◌∷◌, refl, sym, ap, ◌∙◌, subst, arith, Option, Some, None, fold, ◌==◌}
+use Rattle.std.proofs.Common.{◌≡◌, ◌⊎◌, inl, inr, ℕ, ◌≤◌, Bool, true, false, ◌&&◌, cond, List, [], ◌∷◌, refl, ◌∙◌, subst, Option, Some, None, fold, ◌==◌}
 use Rattle.std.specs.Prelude.{filter, nat_le, nat_lt, is_some}
 use Rattle.std.proofs.lemmas.Bool.{and_parts, and_from, leb-true, le-leb}
 use Rattle.tab_ids.specs.declared.NavId.{NavId}

@@ -1,6 +1,6 @@
 -- How the navigables of a log hang together: each below those above it. No row changes that of a navigable that is there.
 -- HTML Standard, "Navigables" and "Child navigables"; that a removed one keeps its place is this project's own.
-use Rattle.std.specs.Prelude.{◌≡◌, ◌≢◌, ◌⊎◌, ◌==◌, ℕ, true, List, [], ◌∷◌, map, find, Option, Some, None}
+use Rattle.std.specs.Prelude.{◌≡◌, ◌≢◌, ◌⊎◌, ◌==◌, true, List, [], ◌∷◌, map, find, Option, Some, None}
 use Rattle.tab_ids.specs.declared.NavId.{NavId}
 use Rattle.tab_ids.specs.declared.StateId.{StateId}
 use Rattle.log_model.specs.History.{has_nav}

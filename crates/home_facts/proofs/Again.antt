@@ -1,17 +1,15 @@
 -- Rows that leave each awake navigable's place, and of its document what is told here, as they were.
-use Rattle.std.proofs.Common.{◌≡◌, ℕ, Bool, true, false, cond, ◌==◌, List, [], ◌∷◌, ◌++◌, map, Option, Some, None, refl, sym, ap, ◌∙◌, subst}
+use Rattle.std.proofs.Common.{◌≡◌, Bool, true, false, cond, ◌==◌, List, [], ◌∷◌, ◌++◌, map, Option, Some, refl, sym, ap, ◌∙◌, subst}
 use Rattle.std.specs.Prelude.{find, option_map, slice_get}
 use Rattle.tab_ids.specs.declared.DocId.{DocId}
-use Rattle.tab_ids.specs.declared.EntryId.{EntryId}
 use Rattle.tab_ids.specs.declared.NavId.{NavId}
 use Rattle.tab_ids.specs.declared.StateId.{StateId}
 use Rattle.log_model.specs.declared.row.Row.{Row}
 use Rattle.log_model.specs.AfterDocuments.{on_document}
-use Rattle.log_model.specs.History.{History}
-use Rattle.log_model.specs.Seen.{Seen, Document, Place, awake, document_of, place_of}
+use Rattle.log_model.specs.Seen.{Seen, Document, Place, awake, place_of}
 use Rattle.seen_laws.proofs.Keyed.{find_map}
 use Rattle.hang_facts.specs.Members.{Has}
-use Rattle.home_facts.specs.Homes.{document_in, IsAtHome, EachWake, IsHomed, IsOfState, IsOnAwake, HangsOnAwake, AreHomed}
+use Rattle.home_facts.specs.Homes.{document_in, IsAtHome, EachWake, IsHomed, IsOfState, HangsOnAwake, AreHomed}
 
 -- ---- documents
 

@@ -1,17 +1,12 @@
 -- A document that is frozen or discarded: its navigable falls asleep, and those below it.
-use Rattle.std.proofs.Common.{◌≡◌, ℕ, Bool, true, false, cond, not, ◌&&◌, ◌||◌, ◌==◌, List, [], ◌∷◌, map, Option, Some, None, refl, sym, ap, ◌∙◌, subst, inl, inr, ◌⊎◌, suc}
-use Rattle.std.specs.Prelude.{find, option_map, slice_get}
+use Rattle.std.proofs.Common.{◌≡◌, ℕ, Bool, true, false, cond, not, ◌&&◌, ◌||◌, ◌==◌, List, [], ◌∷◌, Option, Some, None, refl, sym, ap, ◌∙◌, subst, inl, inr, ◌⊎◌, suc}
+use Rattle.std.specs.Prelude.{option_map, slice_get}
 use Rattle.std.specs.Option.{option_map_or}
 use Rattle.std.proofs.lemmas.Bool.{and_parts, eqb-true}
 use Rattle.tab_ids.specs.declared.DocId.{DocId}
 use Rattle.tab_ids.specs.declared.NavId.{NavId}
 use Rattle.log_model.specs.declared.job.Job.{Job}
-use Rattle.log_model.specs.declared.job.Task.TheVariants as tasks
-use Rattle.log_model.specs.declared.row.Row.{Row}
-use Rattle.log_model.specs.declared.row_kind.Actor.{Actor}
-use Rattle.log_model.specs.declared.row_kind.RowKind.TheVariants as rows
-use Rattle.log_model.specs.After.{after}
-use Rattle.log_model.specs.AfterDocuments.{addressed, on_document}
+use Rattle.log_model.specs.AfterDocuments.{on_document}
 use Rattle.log_model.specs.AfterPlaces.{woken_below, sleepers_with, put_to_sleep}
 use Rattle.log_model.specs.Equal.{holds}
 use Rattle.log_model.specs.History.{History, has_nav}
@@ -24,13 +19,13 @@ use Rattle.hang_facts.specs.Hanging.{Hangs}
 use Rattle.hang_facts.specs.Members.{Has}
 use Rattle.hang_facts.proofs.Forms.{nav_is}
 use Rattle.hang_facts.proofs.Hung.{place_chain, places_distinct}
-use Rattle.hang_facts.proofs.Members.{find_has, has_found, slice_has}
+use Rattle.hang_facts.proofs.Members.{find_has, has_found}
 use Rattle.seen_laws.proofs.Keyed.{find_map}
 use Rattle.walk_facts.proofs.Placed.{found_nav, each_found}
 use Rattle.walk_facts.proofs.Sleepers.{has_nav_where}
-use Rattle.home_facts.specs.Homes.{document_in, IsAtHome, EachWake, IsHomed, AreHomed}
-use Rattle.home_facts.proofs.Again.{KeepsHome, StaysIn, WasOn, all_on, homed_again, state_again, hung_again}
-use Rattle.home_facts.proofs.Below.{wakes_not, woken, above_cases}
+use Rattle.home_facts.specs.Homes.{document_in, IsHomed, AreHomed}
+use Rattle.home_facts.proofs.Again.{StaysIn, WasOn, homed_again, state_again, hung_again}
+use Rattle.home_facts.proofs.Below.{woken, above_cases}
 
 awake_on : (place : Place) (doc : DocId) → place.status ≡ awake doc → is_awake_on doc place ≡ true
 awake_on place doc wakes = rw wakes (nat_eq_refl doc.0)

@@ -1,13 +1,12 @@
 -- Who is below a navigable: with one, all below that one.
-use Rattle.std.proofs.Common.{◌≡◌, ℕ, Bool, true, false, cond, not, ◌&&◌, ◌||◌, ◌==◌, List, [], ◌∷◌, Option, Some, None, refl, sym, ap, ◌∙◌, subst, inl, inr, ◌⊎◌}
-use Rattle.std.specs.List.{list_any}
+use Rattle.std.proofs.Common.{◌≡◌, Bool, true, false, not, ◌&&◌, ◌||◌, ◌==◌, List, ◌∷◌, Option, Some, refl, sym, ap, ◌∙◌, subst, inl, inr, ◌⊎◌}
 use Rattle.tab_ids.specs.declared.NavId.{NavId}
 use Rattle.tab_ids.specs.declared.DocId.{DocId}
 use Rattle.log_model.specs.AfterPlaces.{woken_below}
 use Rattle.log_model.specs.Equal.{holds}
 use Rattle.log_model.specs.History.{has_nav}
 use Rattle.log_model.specs.Places.{is_asleep, is_below}
-use Rattle.log_model.specs.Seen.{Seen, Place, Status, awake, lost, asleep, place_in, place_of}
+use Rattle.log_model.specs.Seen.{Seen, Place, awake, place_in, place_of}
 use Rattle.hang_facts.specs.AsPlaces.{AreDistinct, IsLink, IsChain}
 use Rattle.walk_facts.proofs.Sleepers.{has_nav_where}
 

@@ -1,6 +1,6 @@
 -- Each awake navigable's document is at home as a change is applied.
 use Rattle.std.proofs.Common.{◌≡◌, ◌≢◌, ◌⊎◌, inl, inr, ℕ, ◌+◌, Bool, true, false, cond, not, ◌&&◌, ◌==◌, List, [], ◌∷◌, ◌++◌, map, Option, Some, None, refl, sym, ap, ◌∙◌, subst}
-use Rattle.std.specs.Prelude.{filter, find, is_none, nat_le, option_map, option_and_then}
+use Rattle.std.specs.Prelude.{filter, nat_le, option_map, option_and_then}
 use Rattle.std.specs.Option.{option_map_or}
 use Rattle.tab_ids.specs.declared.DocId.{DocId}
 use Rattle.tab_ids.specs.declared.EntryId.{EntryId}
@@ -16,20 +16,20 @@ use Rattle.log_model.specs.declared.row.Row.{Row}
 use Rattle.log_model.specs.declared.row_kind.Actor.{Actor}
 use Rattle.log_model.specs.declared.row_kind.RowKind.TheVariants as rows
 use Rattle.log_model.specs.After.{after}
-use Rattle.log_model.specs.AfterDocuments.{told_after_change, with_applied, applied_to}
-use Rattle.log_model.specs.AfterPlaces.{on_place, given_entry, new_place, with_taker, places_added, places_given, places_applied}
-use Rattle.log_model.specs.History.{History, same_entry, is_of, has_row, first_step, owner_of, tidied, cleared, replaced_row, applied}
+use Rattle.log_model.specs.AfterDocuments.{told_after_change, applied_to}
+use Rattle.log_model.specs.AfterPlaces.{on_place, given_entry, new_place, places_added, places_given, places_applied}
+use Rattle.log_model.specs.History.{History, same_entry, is_of, has_row, first_step, owner_of, cleared, replaced_row, applied}
 use Rattle.log_model.specs.Places.{holder_of}
-use Rattle.log_model.specs.Seen.{Seen, Document, Asked, Place, Status, awake, asleep, place_in, place_of, request_of}
+use Rattle.log_model.specs.Seen.{Seen, Document, Asked, Place, awake, asleep, place_in, place_of, request_of}
 use Rattle.log_model.proofs.Refl.{nat_eq_refl}
 use Rattle.seen_laws.proofs.Keyed.{find_map}
 use Rattle.hang_facts.specs.Members.{Has}
 use Rattle.hang_facts.proofs.Forms.{nav_is}
 use Rattle.hang_facts.proofs.Members.{IsOf, has_filter, has_map, has_more, has_tidied}
 use Rattle.walk_facts.proofs.Placed.{found_nav}
-use Rattle.home_facts.specs.Homes.{document_in, IsAtHome, EachWake, IsHomed, IsOfState, IsOnAwake, HangsOnAwake, AreHomed}
+use Rattle.home_facts.specs.Homes.{document_in, EachWake, IsHomed, IsOfState, AreHomed}
 use Rattle.home_facts.proofs.Again.{KeepsHome, StaysIn, AllStayIn, WasOn, all_mapped, homed_again, state_again, hung_again}
-use Rattle.home_facts.proofs.Mapped.{KeepsWake, keeps_on, keeps_both, WasAt, was_at, was_on, mapped_homed, alike_homed}
+use Rattle.home_facts.proofs.Mapped.{KeepsWake, keeps_on, keeps_both, WasAt, was_at, mapped_homed, alike_homed}
 
 -- ---- the documents
 

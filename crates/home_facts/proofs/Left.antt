@@ -1,5 +1,5 @@
 -- A document is frozen, or discarded; and a tab is opened.
-use Rattle.std.proofs.Common.{◌≡◌, ℕ, Bool, true, List, [], ◌∷◌, Option, Some, None, refl, sym, ap, ◌∙◌, subst, inl, inr, ◌⊎◌, ◌==◌}
+use Rattle.std.proofs.Common.{◌≡◌, ℕ, true, List, [], ◌∷◌, Option, Some, refl, sym, ap, ◌∙◌, subst, inl, inr, ◌⊎◌, ◌==◌}
 use Rattle.tab_ids.specs.declared.DocId.{DocId}
 use Rattle.tab_ids.specs.declared.EntryId.{EntryId}
 use Rattle.tab_ids.specs.declared.NavId.{NavId}
@@ -14,7 +14,6 @@ use Rattle.log_model.specs.After.{after}
 use Rattle.log_model.specs.AfterDocuments.{addressed, opening_document}
 use Rattle.log_model.specs.AfterPlaces.{opening_place}
 use Rattle.log_model.specs.Opening.{opening_history}
-use Rattle.log_model.specs.Places.{top}
 use Rattle.log_model.specs.Seen.{nothing, Seen, Document, Place, awake, place_of}
 use Rattle.log_model.specs.Soundness.{IsSound}
 use Rattle.log_model.proofs.Refl.{nat_eq_refl}

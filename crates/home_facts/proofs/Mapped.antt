@@ -1,14 +1,13 @@
 -- Rows that change each place but not how awake it is, on which document, and how it hangs.
-use Rattle.std.proofs.Common.{◌≡◌, ℕ, Bool, true, false, cond, ◌==◌, List, [], ◌∷◌, map, Option, Some, None, refl, sym, ap, ◌∙◌, subst}
-use Rattle.std.specs.Prelude.{find, option_map}
+use Rattle.std.proofs.Common.{◌≡◌, true, false, cond, ◌==◌, List, ◌∷◌, map, Option, Some, None, refl, sym, ap, ◌∙◌}
+use Rattle.std.specs.Prelude.{option_map}
 use Rattle.tab_ids.specs.declared.DocId.{DocId}
 use Rattle.tab_ids.specs.declared.NavId.{NavId}
 use Rattle.log_model.specs.declared.row.Row.{Row}
-use Rattle.log_model.specs.AfterPlaces.{on_place}
 use Rattle.log_model.specs.Seen.{Seen, Document, Place, awake, place_in, place_of}
 use Rattle.seen_laws.proofs.Keyed.{find_map}
 use Rattle.hang_facts.specs.Members.{Has}
-use Rattle.home_facts.specs.Homes.{document_in, EachWake, IsHomed, IsOfState, HangsOnAwake, AreHomed}
+use Rattle.home_facts.specs.Homes.{document_in, EachWake, IsOfState, AreHomed}
 use Rattle.home_facts.proofs.Again.{StaysIn, AllStayIn, WasOn, homed_again, state_again, hung_again}
 
 -- of the place all of this stays

@@ -1,34 +1,26 @@
 -- Each awake navigable's document is at home from row to row: rows that leave who is awake.
-use Rattle.std.proofs.Common.{◌≡◌, ℕ, Bool, true, false, cond, not, ◌&&◌, ◌==◌, List, [], ◌∷◌, ◌++◌, map, Option, Some, None, refl, sym, ap, ◌∙◌, subst}
+use Rattle.std.proofs.Common.{◌≡◌, ℕ, Bool, true, false, cond, ◌&&◌, ◌==◌, List, [], ◌∷◌, ◌++◌, map, Option, Some, None, refl, sym, ◌∙◌, subst}
 use Rattle.std.specs.Prelude.{is_none, option_map, slice_get}
 use Rattle.std.specs.Option.{option_map_or}
 use Rattle.std.proofs.lemmas.List.{map-id}
-use Rattle.tab_ids.specs.declared.Death.{Death}
-use Rattle.tab_ids.specs.declared.DocId.{DocId}
-use Rattle.tab_ids.specs.declared.JobId.{JobId}
 use Rattle.tab_ids.specs.declared.NavId.{NavId}
 use Rattle.tab_ids.specs.declared.ProcId.{ProcId}
-use Rattle.tab_ids.specs.declared.ReqId.{ReqId}
 use Rattle.tab_ids.specs.declared.StateId.{StateId}
-use Rattle.tab_ids.specs.declared.Step.{Step}
 use Rattle.log_model.specs.declared.job.Job.{Job}
 use Rattle.log_model.specs.declared.job.Task.{Task}
 use Rattle.log_model.specs.declared.job.Task.TheVariants as tasks
-use Rattle.log_model.specs.declared.made.Made.{Made}
 use Rattle.log_model.specs.declared.made.Report.{Report}
 use Rattle.log_model.specs.declared.made.Report.TheVariants as reports
 use Rattle.log_model.specs.declared.outcome.Outcome.{Outcome}
 use Rattle.log_model.specs.declared.outcome.Outcome.TheVariants as outcomes
-use Rattle.log_model.specs.declared.row.Row.{Row}
 use Rattle.log_model.specs.declared.row_kind.Actor.{Actor}
 use Rattle.log_model.specs.declared.row_kind.RowKind.{RowKind}
 use Rattle.log_model.specs.declared.row_kind.RowKind.TheVariants as rows
 use Rattle.log_model.specs.After.{after}
-use Rattle.log_model.specs.AfterDocuments.{addressed, new_document, on_document, task_in_hand, view_finished, documents_finished, slot_finished, documents_delivered, documents_killed}
+use Rattle.log_model.specs.AfterDocuments.{addressed, new_document, on_document, task_in_hand, view_finished, documents_finished, slot_finished, documents_delivered}
 use Rattle.log_model.specs.AfterPlaces.{on_place, place_arrived, places_delivered}
 use Rattle.log_model.specs.Seen.{Seen, Document, Place, document_of, desk_of}
 use Rattle.log_model.specs.Views.{View, after_made}
-use Rattle.hang_facts.specs.Members.{Has}
 use Rattle.home_facts.specs.Homes.{AreHomed}
 use Rattle.home_facts.proofs.Again.{KeepsHome, AllStayIn, all_same, all_mapped, all_on, all_more, all_both, left_homed}
 use Rattle.home_facts.proofs.Mapped.{KeepsWake, keeps_on, alike_homed}

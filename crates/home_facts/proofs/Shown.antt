@@ -1,7 +1,7 @@
 -- A navigable is shown a document of its target: it is at home, and those who stay awake are.
-use Rattle.std.proofs.Common.{◌≡◌, ℕ, ◌≤◌, ◌<◌, ◌+◌, Bool, true, false, cond, not, ◌&&◌, ◌||◌, ◌==◌, List, [], ◌∷◌, map, Option, Some, None, refl, sym, ap, ◌∙◌, subst, inl, inr, ◌⊎◌, arith}
-use Rattle.std.specs.Prelude.{find, option_map, slice_get}
-use Rattle.std.specs.List.{list_any, count_by}
+use Rattle.std.proofs.Common.{◌≡◌, ℕ, ◌≤◌, ◌+◌, Bool, true, false, cond, not, ◌&&◌, ◌==◌, List, [], ◌∷◌, Option, Some, None, refl, sym, ap, ◌∙◌, subst, inl, inr, ◌⊎◌, arith}
+use Rattle.std.specs.Prelude.{option_map, slice_get}
+use Rattle.std.specs.List.{count_by}
 use Rattle.std.specs.Option.{option_map_or}
 use Rattle.std.proofs.lemmas.Bool.{and_parts, eqb-true}
 use Rattle.std.proofs.lemmas.List.Sums.{sum_by-cons}
@@ -19,7 +19,7 @@ use Rattle.log_model.specs.AfterPlaces.{woken_below, sleepers_below, activated}
 use Rattle.log_model.specs.Equal.{holds}
 use Rattle.log_model.specs.History.{has_nav}
 use Rattle.log_model.specs.Places.{is_asleep, is_below}
-use Rattle.log_model.specs.Seen.{Seen, Document, Place, Status, awake, asleep, place_in, place_of, document_of}
+use Rattle.log_model.specs.Seen.{Seen, Document, Place, awake, asleep, place_of, document_of}
 use Rattle.log_model.specs.Soundness.{is_entry, IsSound}
 use Rattle.log_model.proofs.Refl.{nat_eq_refl, same_entry_refl}
 use Rattle.hang_facts.specs.AsPlaces.{AreDistinct}
@@ -27,11 +27,10 @@ use Rattle.hang_facts.specs.Hanging.{Hangs}
 use Rattle.hang_facts.specs.Members.{Has}
 use Rattle.hang_facts.proofs.Forms.{nav_is}
 use Rattle.hang_facts.proofs.Hung.{place_chain, places_distinct, not_above_itself}
-use Rattle.hang_facts.proofs.Members.{find_has, has_any}
 use Rattle.walk_facts.proofs.Placed.{found_nav}
-use Rattle.walk_facts.proofs.Sleepers.{has_nav_where, sleepers_of, slept, shown_on, slept_same, shown_same, after_show, becomes, place_becomes}
+use Rattle.walk_facts.proofs.Sleepers.{has_nav_where, sleepers_of, slept, slept_same, after_show, becomes, place_becomes}
 use Rattle.home_facts.specs.Homes.{document_in, IsAtHome, EachWake, IsHomed, IsOfState, IsOnAwake, HangsOnAwake, AreHomed}
-use Rattle.home_facts.proofs.Again.{KeepsHome, StaysIn, AllStayIn, all_on, home_again}
+use Rattle.home_facts.proofs.Again.{AllStayIn, all_on, home_again}
 use Rattle.home_facts.proofs.Below.{woken, above_cases}
 
 -- an item that passes is counted

@@ -3,9 +3,8 @@
 use Rattle.std.specs.Prelude.{◌≡◌, true, false, ◌==◌, List, ◌∷◌, find, slice_get, Option, Some}
 use Rattle.tab_ids.specs.declared.DocId.{DocId}
 use Rattle.tab_ids.specs.declared.NavId.{NavId}
-use Rattle.tab_ids.specs.declared.StateId.{StateId}
 use Rattle.log_model.specs.declared.row.Row.{Row}
-use Rattle.log_model.specs.Seen.{Seen, Document, Place, awake, document_of, place_of}
+use Rattle.log_model.specs.Seen.{Seen, Document, Place, awake, place_of}
 use Rattle.hang_facts.specs.Members.{Has}
 
 -- the document with a number

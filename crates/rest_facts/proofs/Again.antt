@@ -1,18 +1,15 @@
 -- Rows that leave documents resting: who is unshown was so, and its orders lead to the same.
-use Rattle.std.proofs.Common.{◌≡◌, ◌⊎◌, inl, inr, ℕ, Bool, true, false, cond, not, ◌||◌, ◌==◌, List, [], ◌∷◌, map, length, Option, Some, None, refl, sym, ap, ◌∙◌, subst}
-use Rattle.std.specs.Prelude.{find, option_map, slice_get}
+use Rattle.std.proofs.Common.{◌≡◌, ℕ, Bool, true, false, cond, ◌||◌, ◌==◌, List, map, Option, Some, None, refl, sym, ap, ◌∙◌, subst}
+use Rattle.std.specs.Prelude.{find, option_map}
 use Rattle.std.proofs.lemmas.Bool.{eqb-true}
 use Rattle.tab_ids.specs.declared.DocId.{DocId}
 use Rattle.tab_ids.specs.declared.NavId.{NavId}
 use Rattle.tab_ids.specs.declared.ProcId.{ProcId}
 use Rattle.tab_ids.specs.declared.StateId.{StateId}
-use Rattle.log_model.specs.declared.job.Job.{Job}
 use Rattle.log_model.specs.declared.row.Row.{Row}
 use Rattle.log_model.specs.After.{on_desk}
-use Rattle.log_model.specs.AfterDocuments.{on_document}
-use Rattle.log_model.specs.History.{History, has_state}
+use Rattle.log_model.specs.History.{has_state}
 use Rattle.log_model.specs.Seen.{Seen, Document, Desk, Place, awake, desk_in, document_of, desk_of, place_in, place_of}
-use Rattle.log_model.specs.Views.{View}
 use Rattle.coord_facts.specs.Leading.{orders_for}
 use Rattle.coord_facts.proofs.Leadings.{proc_same}
 use Rattle.coord_facts.proofs.Unread.{DesksLeft}

@@ -3,3 +3,7 @@ pub mod Again
 pub mod Rows
 pub mod Orders
 pub mod Taken
+pub mod Still
+pub mod Stands
+pub mod Seated
+pub mod Settled

@@ -1,6 +1,6 @@
 -- As orders are sent, documents that no navigable shows rest.
-use Rattle.std.proofs.Common.{◌≡◌, ◌⊎◌, inl, inr, ℕ, Bool, true, false, cond, not, ◌&&◌, ◌||◌, ◌==◌, List, [], ◌∷◌, ◌++◌, map, length, Option, Some, None, refl, sym, ap, ◌∙◌, subst}
-use Rattle.std.specs.Prelude.{filter, find, option_map, slice_get}
+use Rattle.std.proofs.Common.{◌≡◌, ◌⊎◌, inl, inr, ℕ, Bool, true, false, cond, ◌==◌, List, [], ◌∷◌, ◌++◌, length, Option, Some, None, refl, sym, ap, ◌∙◌, subst}
+use Rattle.std.specs.Prelude.{find, option_map}
 use Rattle.std.proofs.lemmas.Bool.{eqb-true}
 use Rattle.tab_ids.specs.declared.DocId.{DocId}
 use Rattle.tab_ids.specs.declared.EntryId.{EntryId}
@@ -16,10 +16,10 @@ use Rattle.log_model.specs.declared.row_kind.RowKind.TheVariants as rows
 use Rattle.log_model.specs.After.{after}
 use Rattle.log_model.specs.AfterDocuments.{addressed, new_document, on_document}
 use Rattle.log_model.specs.AfterPlaces.{sleepers_with, put_to_sleep, activated}
-use Rattle.log_model.specs.History.{has_nav, has_state}
-use Rattle.log_model.specs.Seen.{Seen, Document, Desk, Place, Status, awake, asleep, document_of, desk_of, place_in, place_of}
+use Rattle.log_model.specs.History.{has_nav}
+use Rattle.log_model.specs.Seen.{Seen, Document, Desk, Place, awake, asleep, document_of, desk_of, place_in, place_of}
 use Rattle.log_model.proofs.Refl.{nat_eq_refl}
-use Rattle.coord_facts.specs.Leading.{orders_for, is_live_order}
+use Rattle.coord_facts.specs.Leading.{is_live_order}
 use Rattle.coord_facts.proofs.Kept.{IsSentHome, is_mine}
 use Rattle.coord_facts.proofs.Leadings.{proc_same}
 use Rattle.coord_facts.proofs.OneDocument.{mailed}
@@ -27,10 +27,10 @@ use Rattle.seen_laws.proofs.Desks.{desk_on_same, desk_on_other}
 use Rattle.seen_laws.proofs.Keyed.{find_map}
 use Rattle.hang_facts.proofs.Forms.{nav_is}
 use Rattle.walk_facts.proofs.Placed.{found_nav}
-use Rattle.walk_facts.proofs.Sleepers.{sleepers_of, slept, shown_on, slept_same, shown_same, becomes, place_becomes}
-use Rattle.rest_facts.specs.Resting.{runs_in, run_after, will_run, is_resting, IsUnshown, is_swept, EachRests}
+use Rattle.walk_facts.proofs.Sleepers.{sleepers_of, slept, slept_same, becomes, place_becomes}
+use Rattle.rest_facts.specs.Resting.{run_after, will_run, is_resting, IsUnshown, is_swept, EachRests}
 use Rattle.rest_facts.proofs.Running.{mailed_run_own, mailed_run_other}
-use Rattle.rest_facts.proofs.Again.{StayShown, unshown_before, same_shown, WasOf, was_of, its_number}
+use Rattle.rest_facts.proofs.Again.{unshown_before, same_shown, WasOf, was_of, its_number}
 
 module _ (s : Seen) (event : ℕ) (actor : Actor) (each : EachRests s) (job : Job) (sent : IsSentHome s job) where
   abbrev t : Seen

@@ -1,40 +1,32 @@
 -- Documents that no navigable shows rest, from row to row.
-use Rattle.std.proofs.Common.{◌≡◌, ◌⊎◌, inl, inr, ℕ, Bool, true, false, cond, not, ◌&&◌, ◌||◌, ◌==◌, List, [], ◌∷◌, ◌++◌, map, length, Option, Some, None, refl, sym, ap, ◌∙◌, subst}
-use Rattle.std.specs.Prelude.{filter, find, is_some, option_map, slice_get}
-use Rattle.std.specs.Option.{option_map_or}
+use Rattle.std.proofs.Common.{◌≡◌, ℕ, Bool, true, false, cond, ◌==◌, List, [], ◌∷◌, map, length, Option, Some, None, refl, sym, ap, ◌∙◌, subst}
+use Rattle.std.specs.Prelude.{filter, option_map, slice_get}
 use Rattle.std.proofs.lemmas.Bool.{eqb-true}
 use Rattle.std.proofs.lemmas.List.{map-id}
 use Rattle.tab_ids.specs.declared.DocId.{DocId}
-use Rattle.tab_ids.specs.declared.EntryId.{EntryId}
-use Rattle.tab_ids.specs.declared.Epoch.{Epoch}
-use Rattle.tab_ids.specs.declared.NavId.{NavId}
 use Rattle.tab_ids.specs.declared.ProcId.{ProcId}
-use Rattle.tab_ids.specs.declared.StateId.{StateId}
 use Rattle.log_model.specs.declared.job.Job.{Job}
 use Rattle.log_model.specs.declared.job.Order.{Order}
-use Rattle.log_model.specs.declared.job.Task.{Task}
-use Rattle.log_model.specs.declared.job.Task.TheVariants as tasks
 use Rattle.log_model.specs.declared.made.Made.{Made}
 use Rattle.log_model.specs.declared.outcome.Outcome.{Outcome}
 use Rattle.log_model.specs.declared.outcome.Outcome.TheVariants as outcomes
 use Rattle.log_model.specs.declared.row_kind.Actor.{Actor}
 use Rattle.log_model.specs.declared.row_kind.RowKind.{RowKind}
 use Rattle.log_model.specs.declared.row_kind.RowKind.TheVariants as rows
-use Rattle.log_model.specs.After.{after, follows_finished, on_desk, desk_taken, desk_finished, desk_made}
-use Rattle.log_model.specs.AfterDocuments.{addressed, new_document, on_document, task_in_hand, view_finished, documents_finished, slot_finished}
-use Rattle.log_model.specs.History.{has_nav, has_state}
-use Rattle.log_model.specs.Seen.{Seen, Document, Desk, Place, awake, document_of, desk_of, place_of}
+use Rattle.log_model.specs.After.{after, follows_finished, desk_taken, desk_finished, desk_made}
+use Rattle.log_model.specs.AfterDocuments.{task_in_hand, view_finished}
+use Rattle.log_model.specs.Seen.{Seen, Document, Desk, document_of, desk_of}
 use Rattle.log_model.specs.Views.{View, after_made}
 use Rattle.log_model.proofs.Refl.{nat_eq_refl}
-use Rattle.coord_facts.specs.Leading.{orders_for, is_live_order}
-use Rattle.coord_facts.proofs.Kept.{IsInHand, IsSentHome, is_mine}
+use Rattle.coord_facts.specs.Leading.{is_live_order}
+use Rattle.coord_facts.proofs.Kept.{IsInHand, is_mine}
 use Rattle.coord_facts.proofs.Leadings.{proc_same}
-use Rattle.coord_facts.proofs.OneDocument.{mailed, orders_taken}
+use Rattle.coord_facts.proofs.OneDocument.{orders_taken}
 use Rattle.coord_facts.proofs.Unread.{DesksLeft}
 use Rattle.seen_laws.proofs.Desks.{desk_on_same, desk_on_other}
-use Rattle.rest_facts.specs.Resting.{runs_in, run_after, will_run, is_resting, IsUnshown, is_swept, EachRests}
-use Rattle.rest_facts.proofs.Running.{finished_runs, made_runs, run_alike, finished_run_own, finished_run_other, mailed_run_own, mailed_run_other}
-use Rattle.rest_facts.proofs.Again.{RanSo, StayShown, unshown_before, rests_again, same_shown, WasOf, was_of, KeepsRunning, keeps_at, NoNewStates, old_states, swept_before, rests_left, orders_left, orders_on, its_number}
+use Rattle.rest_facts.specs.Resting.{will_run, is_swept, EachRests}
+use Rattle.rest_facts.proofs.Running.{made_runs, finished_run_own, finished_run_other}
+use Rattle.rest_facts.proofs.Again.{RanSo, rests_again, same_shown, was_of, KeepsRunning, keeps_at, old_states, swept_before, rests_left, orders_left, orders_on, its_number}
 
 -- nothing is changed
 unchanged : KeepsRunning (λ d. d)

@@ -1,5 +1,5 @@
 -- Whether a document will run, as its desk and its view change.
-use Rattle.std.proofs.Common.{◌≡◌, ℕ, Bool, true, false, cond, ◌==◌, List, [], ◌∷◌, ◌++◌, length, Option, Some, None, refl, sym, ap, ◌∙◌, subst}
+use Rattle.std.proofs.Common.{◌≡◌, Bool, true, false, ◌==◌, List, [], ◌∷◌, ◌++◌, length, Option, Some, None, refl, ap, ◌∙◌}
 use Rattle.std.specs.Prelude.{filter, fold, option_map, slice_get}
 use Rattle.std.proofs.lemmas.List.{append-nil}
 use Rattle.std.proofs.lemmas.List.Sums.{fold-append}
@@ -14,8 +14,8 @@ use Rattle.log_model.specs.declared.outcome.Outcome.{Outcome}
 use Rattle.log_model.specs.After.{desk_taken, desk_finished}
 use Rattle.log_model.specs.AfterDocuments.{view_finished}
 use Rattle.log_model.specs.Seen.{Document, Desk}
-use Rattle.log_model.specs.Views.{View, after_made, after_task}
-use Rattle.coord_facts.specs.Leading.{orders_for, orders_of_desk, is_live_order}
+use Rattle.log_model.specs.Views.{View, after_made}
+use Rattle.coord_facts.specs.Leading.{orders_for, is_live_order}
 use Rattle.coord_facts.proofs.OneDocument.{orders_finished_own, orders_finished_other, orders_taken, mailed, orders_mailed}
 use Rattle.rest_facts.specs.Resting.{runs_in, run_after, will_run}
 

@@ -1,5 +1,5 @@
 -- As reports are delivered, of no death, and changes applied, documents that no navigable shows rest; so they do as a tab is opened.
-use Rattle.std.proofs.Common.{◌≡◌, ◌⊎◌, inl, inr, ℕ, Bool, true, false, cond, not, ◌&&◌, ◌||◌, ◌==◌, List, [], ◌∷◌, ◌++◌, map, Option, Some, None, refl, sym, ap, ◌∙◌, subst}
+use Rattle.std.proofs.Common.{◌≡◌, ◌⊎◌, inl, inr, ℕ, Bool, true, false, cond, not, ◌&&◌, ◌==◌, List, [], ◌∷◌, ◌++◌, map, Option, Some, None, refl, sym, ap, ◌∙◌}
 use Rattle.std.specs.Prelude.{option_map, option_and_then, slice_get}
 use Rattle.std.specs.Option.{option_map_or}
 use Rattle.std.proofs.lemmas.Bool.{eqb-true}
@@ -18,20 +18,18 @@ use Rattle.log_model.specs.declared.job.Task.TheVariants as tasks
 use Rattle.log_model.specs.declared.made.Made.{Made}
 use Rattle.log_model.specs.declared.made.Report.{Report}
 use Rattle.log_model.specs.declared.made.Report.TheVariants as reports
-use Rattle.log_model.specs.declared.outcome.Outcome.{Outcome}
 use Rattle.log_model.specs.declared.outcome.Outcome.TheVariants as outcomes
 use Rattle.log_model.specs.declared.row_kind.Actor.{Actor}
 use Rattle.log_model.specs.declared.row_kind.RowKind.TheVariants as rows
 use Rattle.log_model.specs.After.{after, desk_delivered}
-use Rattle.log_model.specs.AfterDocuments.{told_after_change, applied_to, opening_document, on_document, documents_delivered}
-use Rattle.log_model.specs.AfterPlaces.{on_place, given_entry, new_place, opening_place, with_taker, place_arrived, places_added, places_given, places_applied, places_delivered}
-use Rattle.log_model.specs.History.{History, has_row, has_state, applied}
+use Rattle.log_model.specs.AfterDocuments.{told_after_change, applied_to, opening_document, documents_delivered}
+use Rattle.log_model.specs.AfterPlaces.{on_place, given_entry, new_place, opening_place, with_taker, place_arrived, places_added, places_given, places_applied}
+use Rattle.log_model.specs.History.{has_row, applied}
 use Rattle.log_model.specs.Places.{holder_of}
 use Rattle.log_model.specs.Seen.{nothing, Seen, Document, Asked, Place, awake, document_of, desk_of, place_in, place_of, request_of}
-use Rattle.log_model.proofs.Refl.{nat_eq_refl}
 use Rattle.seen_laws.proofs.Keyed.{find_map}
 use Rattle.hang_facts.proofs.Members.{find_has}
-use Rattle.rest_facts.specs.Resting.{runs_in, IsUnshown, is_swept, EachRests}
+use Rattle.rest_facts.specs.Resting.{runs_in, EachRests}
 use Rattle.rest_facts.proofs.Again.{StayShown, same_shown, mapped_shown, KeepsRunning, keeps_at, NoNewStates, old_states, rests_left, orders_on}
 
 -- the report tells of no death

@@ -1,13 +1,11 @@
 -- Rows that leave what is on its way: who waits, waited before, and what is outstanding stays so.
-use Rattle.std.proofs.Common.{◌≡◌, ◌⊎◌, inl, inr, ℕ, Bool, true, false, cond, not, ◌&&◌, ◌==◌, List, [], ◌∷◌, ◌++◌, map, Option, Some, None, refl, sym, ap, ◌∙◌, subst}
+use Rattle.std.proofs.Common.{◌≡◌, ◌⊎◌, inl, inr, Bool, true, false, cond, ◌==◌, List, map, Option, Some, None, refl, sym, ap, ◌∙◌, subst}
 use Rattle.std.specs.Prelude.{find, is_some, option_map}
 use Rattle.tab_ids.specs.declared.DocId.{DocId}
-use Rattle.tab_ids.specs.declared.JobId.{JobId}
 use Rattle.tab_ids.specs.declared.NavId.{NavId}
 use Rattle.tab_ids.specs.declared.ProcId.{ProcId}
 use Rattle.log_model.specs.declared.job.Job.{Job}
 use Rattle.log_model.specs.After.{on_desk}
-use Rattle.log_model.specs.AfterDocuments.{on_document}
 use Rattle.log_model.specs.Orders.{is_being_made}
 use Rattle.log_model.specs.Seen.{Seen, Document, Desk, Place, awake, desk_in, document_of, desk_of, place_in, place_of}
 use Rattle.coord_facts.proofs.Leadings.{proc_same}

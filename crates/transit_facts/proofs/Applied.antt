@@ -1,6 +1,6 @@
 -- A change is applied, or a tab is opened: nothing on its way is lost.
-use Rattle.std.proofs.Common.{◌≡◌, ◌⊎◌, inl, inr, ℕ, Bool, true, false, cond, not, ◌&&◌, ◌==◌, List, [], ◌∷◌, ◌++◌, map, Option, Some, None, refl, sym, ap, ◌∙◌, subst}
-use Rattle.std.specs.Prelude.{find, is_some, option_map, option_and_then}
+use Rattle.std.proofs.Common.{◌≡◌, ◌⊎◌, inl, inr, ℕ, Bool, true, false, cond, not, ◌&&◌, ◌==◌, List, [], ◌∷◌, ◌++◌, map, Option, Some, None, refl, sym, ap, ◌∙◌}
+use Rattle.std.specs.Prelude.{is_some, option_map, option_and_then}
 use Rattle.std.specs.Option.{option_map_or}
 use Rattle.tab_ids.specs.declared.DocId.{DocId}
 use Rattle.tab_ids.specs.declared.EntryId.{EntryId}
@@ -19,11 +19,11 @@ use Rattle.log_model.specs.AfterPlaces.{on_place, given_entry, new_place, openin
 use Rattle.log_model.specs.History.{History, has_row, applied}
 use Rattle.log_model.specs.Orders.{is_being_made}
 use Rattle.log_model.specs.Places.{holder_of}
-use Rattle.log_model.specs.Seen.{nothing, Seen, Document, Asked, Place, awake, asleep, document_of, place_in, place_of, request_of}
+use Rattle.log_model.specs.Seen.{nothing, Seen, Document, Asked, Place, awake, asleep, place_in, place_of, request_of}
 use Rattle.seen_laws.proofs.Keyed.{find_map}
 use Rattle.hang_facts.proofs.Members.{find_has}
 use Rattle.transit_facts.specs.Waiting.{AreOnTheirWay}
-use Rattle.transit_facts.proofs.Again.{WaitedSo, AllWaited, AllWere, AllOutstand, ways_again, KeepsDocument, all_were, KeepsWaiting, all_waited, keeps_one, keeps_twice}
+use Rattle.transit_facts.proofs.Again.{WaitedSo, AllWaited, ways_again, KeepsDocument, all_were, KeepsWaiting, all_waited, keeps_one, keeps_twice}
 
 -- ---- the documents
 

@@ -1,9 +1,8 @@
 -- A report is delivered, of no death: who waited for it has arrived, or is made, and what others wait for is on its way still.
-use Rattle.std.proofs.Common.{◌≡◌, ◌⊎◌, inl, inr, ℕ, Bool, true, false, cond, not, ◌&&◌, ◌||◌, ◌==◌, List, [], ◌∷◌, map, Option, Some, None, refl, sym, ap, ◌∙◌, subst}
+use Rattle.std.proofs.Common.{◌≡◌, ◌⊎◌, inl, inr, ℕ, Bool, true, false, cond, ◌||◌, ◌==◌, List, Option, Some, None, refl, sym, ap, ◌∙◌, subst}
 use Rattle.std.specs.Prelude.{find, is_some, option_map, slice_get}
 use Rattle.std.specs.Option.{option_map_or}
 use Rattle.std.proofs.lemmas.Bool.{eqb-true}
-use Rattle.std.proofs.lemmas.List.{map-id}
 use Rattle.tab_ids.specs.declared.DocId.{DocId}
 use Rattle.tab_ids.specs.declared.JobId.{JobId}
 use Rattle.tab_ids.specs.declared.NavId.{NavId}
@@ -18,12 +17,12 @@ use Rattle.log_model.specs.declared.outcome.Outcome.{Outcome}
 use Rattle.log_model.specs.declared.outcome.Outcome.TheVariants as outcomes
 use Rattle.log_model.specs.declared.row_kind.Actor.{Actor}
 use Rattle.log_model.specs.declared.row_kind.RowKind.TheVariants as rows
-use Rattle.log_model.specs.After.{after, desk_delivered, on_desk}
-use Rattle.log_model.specs.AfterDocuments.{on_document, documents_delivered}
-use Rattle.log_model.specs.AfterPlaces.{on_place, place_arrived, places_delivered}
+use Rattle.log_model.specs.After.{after, desk_delivered}
+use Rattle.log_model.specs.AfterDocuments.{documents_delivered}
+use Rattle.log_model.specs.AfterPlaces.{on_place, place_arrived}
 use Rattle.log_model.specs.Equal.{holds}
 use Rattle.log_model.specs.Orders.{is_being_made}
-use Rattle.log_model.specs.Seen.{Seen, Document, Desk, Place, awake, desk_in, document_of, desk_of, place_in, place_of}
+use Rattle.log_model.specs.Seen.{Seen, Document, Desk, Place, document_of, desk_of, place_in, place_of}
 use Rattle.log_model.proofs.Refl.{nat_eq_refl}
 use Rattle.coord_facts.proofs.Leadings.{proc_same}
 use Rattle.seen_laws.proofs.Desks.{desk_on_same, desk_on_other}
@@ -31,11 +30,10 @@ use Rattle.seen_laws.proofs.Keyed.{find_map}
 use Rattle.hang_facts.proofs.Members.{find_has}
 use Rattle.home_facts.specs.Homes.{AreHomed, IsHomed}
 use Rattle.home_facts.proofs.Rows.{IsNoDeath}
-use Rattle.walk_facts.proofs.Placed.{found_nav}
 use Rattle.transit_facts.specs.Orders.{IsOutcomeOf, TellsOf, IsOutstanding, IsShowOf, IsMakeOf}
 use Rattle.transit_facts.specs.Waiting.{Comes, EachComes, IsOnItsMaking, EachIsMade, AreOnTheirWay}
 use Rattle.transit_facts.proofs.Desks.{delivered_outstanding}
-use Rattle.transit_facts.proofs.Again.{WaitedSo, WasDocument, AllWaited, AllWere, KeepsDocument, all_were, same_documents, keeps_at, same_places, KeepsWaiting, all_waited, keeps_one}
+use Rattle.transit_facts.proofs.Again.{WaitedSo, WasDocument, AllWaited, AllWere, all_were, same_documents, keeps_at, same_places, KeepsWaiting, all_waited, keeps_one}
 
 module _ (s : Seen) (event : ℕ) (actor : Actor) (proc : ProcId) (homes : AreHomed s) (ways : AreOnTheirWay s) where
   abbrev t : Seen

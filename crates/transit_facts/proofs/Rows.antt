@@ -1,13 +1,10 @@
 -- What is on its way stays so from row to row, or begins, or is told of.
-use Rattle.std.proofs.Common.{◌≡◌, ◌⊎◌, inl, inr, ℕ, Bool, true, false, cond, not, ◌&&◌, ◌||◌, ◌==◌, List, [], ◌∷◌, ◌++◌, map, Option, Some, None, refl, sym, ap, ◌∙◌, subst}
+use Rattle.std.proofs.Common.{◌≡◌, ◌⊎◌, inl, inr, ℕ, Bool, true, false, cond, ◌==◌, List, [], ◌∷◌, ◌++◌, map, Option, Some, None, refl, sym, ap, ◌∙◌, subst}
 use Rattle.std.specs.Prelude.{find, is_some, option_map, slice_get}
-use Rattle.std.specs.Option.{option_map_or}
 use Rattle.std.proofs.lemmas.Bool.{eqb-true}
-use Rattle.std.proofs.lemmas.List.{map-id}
 use Rattle.tab_ids.specs.declared.DocId.{DocId}
 use Rattle.tab_ids.specs.declared.EntryId.{EntryId}
 use Rattle.tab_ids.specs.declared.Epoch.{Epoch}
-use Rattle.tab_ids.specs.declared.JobId.{JobId}
 use Rattle.tab_ids.specs.declared.NavId.{NavId}
 use Rattle.tab_ids.specs.declared.ProcId.{ProcId}
 use Rattle.tab_ids.specs.declared.StateId.{StateId}
@@ -16,33 +13,27 @@ use Rattle.log_model.specs.declared.job.Order.{Order}
 use Rattle.log_model.specs.declared.job.Task.{Task}
 use Rattle.log_model.specs.declared.job.Task.TheVariants as tasks
 use Rattle.log_model.specs.declared.made.Made.{Made}
-use Rattle.log_model.specs.declared.made.Report.{Report}
-use Rattle.log_model.specs.declared.made.Report.TheVariants as reports
 use Rattle.log_model.specs.declared.outcome.Outcome.{Outcome}
 use Rattle.log_model.specs.declared.outcome.Outcome.TheVariants as outcomes
 use Rattle.log_model.specs.declared.row_kind.Actor.{Actor}
 use Rattle.log_model.specs.declared.row_kind.RowKind.{RowKind}
 use Rattle.log_model.specs.declared.row_kind.RowKind.TheVariants as rows
-use Rattle.log_model.specs.After.{after, follows_finished, on_desk, desk_taken, desk_finished, desk_made, desk_delivered}
-use Rattle.log_model.specs.AfterDocuments.{addressed, new_document, on_document, task_in_hand, view_finished, documents_finished, slot_finished, documents_delivered}
-use Rattle.log_model.specs.AfterPlaces.{on_place, put_to_sleep, sleepers_with, activated, place_arrived, places_delivered}
-use Rattle.log_model.specs.Equal.{holds}
+use Rattle.log_model.specs.After.{after, follows_finished, desk_taken, desk_finished, desk_made}
+use Rattle.log_model.specs.AfterDocuments.{addressed, new_document, task_in_hand, view_finished}
+use Rattle.log_model.specs.AfterPlaces.{put_to_sleep, sleepers_with, activated}
 use Rattle.log_model.specs.History.{has_nav}
 use Rattle.log_model.specs.Orders.{is_being_made}
-use Rattle.log_model.specs.Seen.{Seen, Document, Desk, Place, Status, awake, asleep, document_of, desk_of, place_in, place_of}
+use Rattle.log_model.specs.Seen.{Seen, Document, Desk, Place, awake, asleep, document_of, desk_of, place_in, place_of}
 use Rattle.log_model.specs.Views.{View, after_made}
-use Rattle.log_model.proofs.Refl.{nat_eq_refl}
 use Rattle.coord_facts.proofs.Unread.{DesksLeft}
 use Rattle.seen_laws.proofs.Desks.{desk_on_same}
 use Rattle.seen_laws.proofs.Keyed.{find_map}
-use Rattle.hang_facts.proofs.Forms.{nav_is}
 use Rattle.hang_facts.proofs.Members.{find_has}
-use Rattle.walk_facts.proofs.Placed.{found_nav}
-use Rattle.walk_facts.proofs.Sleepers.{sleepers_of, slept, shown_on, slept_same, shown_same, after_show, becomes, place_becomes}
-use Rattle.transit_facts.specs.Orders.{IsOutcomeOf, TellsOf, IsOutstanding, IsShowOf, IsMakeOf}
+use Rattle.walk_facts.proofs.Sleepers.{sleepers_of, slept, becomes, place_becomes}
+use Rattle.transit_facts.specs.Orders.{IsOutcomeOf, IsOutstanding, IsShowOf, IsMakeOf}
 use Rattle.transit_facts.specs.Waiting.{Comes, EachComes, IsOnItsMaking, EachIsMade, AreOnTheirWay}
-use Rattle.transit_facts.proofs.Desks.{mailed_outstanding, mailed_itself, taken_outstanding, finished_outstanding, made_outstanding, delivered_outstanding}
-use Rattle.transit_facts.proofs.Again.{WaitedSo, AllWaited, WasDocument, AllWere, AllOutstand, still_comes, still_making, comes_again, made_again, ways_again, one_desk, inputs_left, KeepsDocument, all_were, same_documents, keeps_at, same_places, KeepsWaiting, all_waited, keeps_one}
+use Rattle.transit_facts.proofs.Desks.{mailed_outstanding, mailed_itself, taken_outstanding, finished_outstanding, made_outstanding}
+use Rattle.transit_facts.proofs.Again.{WaitedSo, AllWaited, WasDocument, AllWere, AllOutstand, still_comes, still_making, made_again, ways_again, one_desk, inputs_left, KeepsDocument, all_were, same_documents, keeps_at, same_places}
 
 abbrev mailed : Job → Desk → Desk
 mailed job desk = record desk { mail = desk.mail ++ job ∷ [] }

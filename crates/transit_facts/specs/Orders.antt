@@ -1,6 +1,6 @@
 -- An order that its process has still to finish, or the report of which waits.
 -- This project's own.
-use Rattle.std.specs.Prelude.{◌≡◌, ◌⊎◌, List, Option, Some}
+use Rattle.std.specs.Prelude.{◌≡◌, ◌⊎◌, List}
 use Rattle.tab_ids.specs.declared.DocId.{DocId}
 use Rattle.tab_ids.specs.declared.JobId.{JobId}
 use Rattle.log_model.specs.declared.job.Job.{Job}

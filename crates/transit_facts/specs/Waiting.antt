@@ -1,6 +1,6 @@
 -- What each navigable that hasn't arrived waits for, and each document that isn't made: an order that is outstanding, unless the document is dead.
 -- HTML Standard, "apply the history step": it waits until each changed navigable's document has told; processes and deaths are this project's own.
-use Rattle.std.specs.Prelude.{◌≡◌, ◌⊎◌, true, false, is_some, Option, Some}
+use Rattle.std.specs.Prelude.{◌≡◌, ◌⊎◌, true, false, is_some, Some}
 use Rattle.tab_ids.specs.declared.DocId.{DocId}
 use Rattle.tab_ids.specs.declared.JobId.{JobId}
 use Rattle.tab_ids.specs.declared.NavId.{NavId}

@@ -1,5 +1,5 @@
 -- The aim reads which documents are gone, the requests but for what their orders moved and what they took, and the history.
-use Rattle.std.proofs.Common.{◌≡◌, ℕ, zero, suc, ◌-◌, Bool, true, false, cond, ◌&&◌, ◌||◌, ◌==◌, List, [], ◌∷◌, ◌++◌, map, Option, Some, None, refl, sym, ap, ◌∙◌, subst}
+use Rattle.std.proofs.Common.{◌≡◌, ℕ, zero, suc, ◌-◌, Bool, true, false, cond, ◌&&◌, ◌||◌, ◌==◌, List, [], ◌∷◌, ◌++◌, map, Option, Some, None, refl, sym, ap, ◌∙◌}
 use Rattle.std.specs.Prelude.{find, option_map, slice_get}
 use Rattle.std.specs.List.{slice_set}
 use Rattle.std.specs.Option.{option_map_or}
@@ -12,7 +12,7 @@ use Rattle.log_model.specs.AfterDocuments.{on_document}
 use Rattle.log_model.specs.AfterRequests.{on_request, on_served}
 use Rattle.log_model.specs.Equal.{holds}
 use Rattle.log_model.specs.History.{History, used_step_at}
-use Rattle.log_model.specs.Places.{is_gone, is_under_way, is_traversal, has_passed_with, passed_in, aim_with, aim_of}
+use Rattle.log_model.specs.Places.{is_gone, is_under_way, is_traversal, has_passed_with, aim_with, aim_of}
 use Rattle.log_model.specs.Seen.{Seen, Document, Asked, document_of, request_in}
 use Rattle.coord_facts.proofs.Held.{fun_ext}
 use Rattle.seen_laws.proofs.Keyed.{find_map}

@@ -1,18 +1,17 @@
 -- Who is served stays so while rows serve another navigable, that isn't above it; so one turn of a walk after the other serves all.
-use Rattle.std.proofs.Common.{◌≡◌, ℕ, zero, suc, ◌+◌, ◌<◌, Bool, true, false, cond, not, ◌&&◌, ◌||◌, ◌==◌, List, [], ◌∷◌, length, Option, Some, None, refl, sym, ap, ◌∙◌, subst, arith}
+use Rattle.std.proofs.Common.{◌≡◌, ℕ, zero, suc, ◌+◌, ◌<◌, Bool, true, false, not, ◌||◌, ◌==◌, List, [], ◌∷◌, length, Option, Some, None, refl, sym, ap, ◌∙◌, subst, arith}
 use Rattle.std.specs.Prelude.{option_map, slice_get}
 use Rattle.std.specs.List.{list_any}
 use Rattle.std.proofs.lemmas.Bool.Decides.{nat_tests}
 use Rattle.tab_ids.specs.declared.NavId.{NavId}
 use Rattle.tab_ids.specs.declared.StateId.{StateId}
-use Rattle.log_model.specs.declared.row.Row.{Row}
 use Rattle.log_model.specs.Equal.{holds}
 use Rattle.log_model.specs.History.{History, has_nav, target_entry}
-use Rattle.log_model.specs.Places.{is_shown, is_awake, is_asleep, is_below, is_given_target, aim_of}
+use Rattle.log_model.specs.Places.{is_shown, aim_of}
 use Rattle.log_model.specs.Seen.{Seen, Place, place_in, place_of}
 use Rattle.log_model.specs.Soundness.{IsSound}
 use Rattle.log_model.proofs.Refl.{nat_eq_refl}
-use Rattle.hang_facts.specs.AsPlaces.{IsLink, IsChain}
+use Rattle.hang_facts.specs.AsPlaces.{IsChain}
 use Rattle.hang_facts.specs.Hanging.{Hangs}
 use Rattle.hang_facts.proofs.Forms.{nav_is}
 use Rattle.hang_facts.proofs.Hung.{place_chain}

@@ -1,22 +1,20 @@
 -- Where each navigable that the walk visits is served, each that is to stand does, or waits, or is held up by one above it.
-use Rattle.std.proofs.Common.{◌≡◌, ◌⊎◌, inl, inr, ℕ, zero, suc, ◌<◌, Bool, true, false, not, ◌&&◌, ◌||◌, cond, List, [], ◌∷◌, length, refl, sym, ap, ◌∙◌, subst, Option, Some, None, ◌==◌, arith}
-use Rattle.std.specs.Prelude.{slice_get}
+use Rattle.std.proofs.Common.{◌≡◌, ◌⊎◌, inl, inr, ℕ, ◌<◌, Bool, true, false, not, ◌&&◌, ◌||◌, List, [], ◌∷◌, length, refl, sym, ap, ◌∙◌, subst, Option, Some, arith}
 use Rattle.std.specs.List.{list_any}
 use Rattle.std.proofs.lemmas.Bool.{and_parts}
 use Rattle.tab_ids.specs.declared.NavId.{NavId}
 use Rattle.log_model.specs.declared.row.Row.{Row}
 use Rattle.log_model.specs.Equal.{holds}
 use Rattle.log_model.specs.History.{target_entry}
-use Rattle.log_model.specs.Places.{is_shown, is_awake, is_asleep, is_given_target, is_standing, is_lost_in, is_wanted, has_arrived}
-use Rattle.log_model.specs.Seen.{Seen, Document, Place, Status, awake, lost, asleep, place_in, place_of}
+use Rattle.log_model.specs.Places.{is_shown, is_asleep, is_given_target, is_lost_in, is_wanted, has_arrived}
+use Rattle.log_model.specs.Seen.{Seen, Place, Status, awake, lost, asleep, place_of}
 use Rattle.log_model.specs.Soundness.{IsSound}
 use Rattle.coord_facts.specs.OnItsWay.{stands_in, IsHeldUp, EachOnItsWay}
-use Rattle.hang_facts.specs.Members.{Has}
-use Rattle.hang_facts.specs.AsPlaces.{AreDistinct, IsLink, IsChain}
+use Rattle.hang_facts.specs.AsPlaces.{IsLink, IsChain}
 use Rattle.hang_facts.specs.Hanging.{Hangs}
 use Rattle.hang_facts.proofs.Hung.{has_begun, place_chain, places_distinct}
 use Rattle.hang_facts.proofs.Targets.{some_is}
-use Rattle.walk_facts.specs.Serving.{is_in_place, is_stopping, is_needing, IsMaking, IsServed, IsComing, IsMadeFor, Waits}
+use Rattle.walk_facts.specs.Serving.{is_in_place, is_stopping, is_needing, IsServed, IsComing, Waits}
 use Rattle.walk_facts.proofs.Upwards.{shown_up}
 use Rattle.walk_facts.proofs.Placed.{found_nav, found_at, each_found}
 

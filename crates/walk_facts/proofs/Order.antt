@@ -1,5 +1,5 @@
 -- The navigables in the order of the walk: none comes before one above it.
-use Rattle.std.proofs.Common.{◌≡◌, ◌≢◌, ℕ, zero, suc, ◌+◌, ◌<◌, ◌⊎◌, inl, inr, Bool, true, false, cond, not, ◌&&◌, ◌||◌, ◌==◌, List, [], ◌∷◌, ◌++◌, map, Option, Some, None, refl, sym, ap, ◌∙◌, subst, arith}
+use Rattle.std.proofs.Common.{◌≡◌, ℕ, zero, suc, ◌<◌, ◌⊎◌, inl, inr, Bool, true, false, cond, ◌||◌, ◌==◌, List, [], ◌∷◌, ◌++◌, map, Some, None, refl, sym, ap, ◌∙◌, subst, arith}
 use Rattle.std.specs.Prelude.{slice_get, fold, nat_lt}
 use Rattle.std.proofs.lemmas.Bool.Decides.{nat_tests}
 use Rattle.tab_ids.specs.declared.NavId.{NavId}
@@ -8,7 +8,7 @@ use Rattle.log_model.specs.Seen.{Seen, Place, place_in, place_of}
 use Rattle.log_model.specs.Soundness.{IsSound}
 use Rattle.log_model.specs.Places.{way_of, is_below}
 use Rattle.log_model.specs.Walk.{backwards, way_from_top, is_way_before, walk_with, walk_of}
-use Rattle.hang_facts.specs.AsPlaces.{AreDistinct, IsLink, IsChain}
+use Rattle.hang_facts.specs.AsPlaces.{AreDistinct, IsChain}
 use Rattle.hang_facts.specs.Hanging.{Hangs}
 use Rattle.hang_facts.proofs.Forms.{nav_is}
 use Rattle.hang_facts.proofs.Hung.{place_chain, places_distinct}

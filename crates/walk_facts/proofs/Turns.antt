@@ -1,7 +1,6 @@
 -- An order that shows a navigable the document of its target, and one that makes that document, serve the navigable and leave the others.
-use Rattle.std.proofs.Common.{◌≡◌, ◌⊎◌, inl, inr, ℕ, Bool, true, false, cond, not, ◌&&◌, ◌||◌, ◌==◌, List, [], ◌∷◌, ◌++◌, map, Option, Some, None, refl, sym, ap, ◌∙◌, subst}
+use Rattle.std.proofs.Common.{◌≡◌, ℕ, Bool, true, false, cond, not, ◌&&◌, ◌==◌, List, [], ◌∷◌, ◌++◌, map, Option, Some, None, refl, sym, ap, ◌∙◌, subst}
 use Rattle.std.specs.Prelude.{find, option_map}
-use Rattle.std.specs.Option.{option_map_or}
 use Rattle.tab_ids.specs.declared.EntryId.{EntryId}
 use Rattle.tab_ids.specs.declared.Epoch.{Epoch}
 use Rattle.tab_ids.specs.declared.NavId.{NavId}
@@ -17,19 +16,18 @@ use Rattle.log_model.specs.AfterDocuments.{addressed, new_document, on_document}
 use Rattle.log_model.specs.AfterPlaces.{activated}
 use Rattle.log_model.specs.AfterRequests.{request_served, requests_sent}
 use Rattle.log_model.specs.Equal.{holds}
-use Rattle.log_model.specs.History.{same_entry, has_nav, target_entry}
+use Rattle.log_model.specs.History.{has_nav, target_entry}
 use Rattle.log_model.specs.Orders.{is_being_made}
 use Rattle.log_model.specs.Places.{is_asleep, is_given_target, aim_of}
 use Rattle.log_model.specs.Seen.{asleep, Seen, Document, Asked, Place, place_in, place_of, document_of}
 use Rattle.log_model.proofs.Refl.{nat_eq_refl, same_entry_refl}
-use Rattle.hang_facts.specs.Members.{Has}
 use Rattle.hang_facts.specs.AsPlaces.{AreDistinct}
 use Rattle.hang_facts.proofs.Members.{into_map, into_more, into_last}
 use Rattle.walk_facts.specs.Serving.{is_needing, IsMaking, IsServedAt}
 use Rattle.walk_facts.specs.Walking.{IsApart, LeavesOthers}
 use Rattle.walk_facts.proofs.Aims.{blur, aim_again, on_served_blur, is_away, gone_on, gone_more}
 use Rattle.walk_facts.proofs.Placed.{found_nav}
-use Rattle.walk_facts.proofs.Sleepers.{sleepers_of, slept, shown_on, slept_same, shown_same, after_show, becomes, place_becomes, wakes_on}
+use Rattle.walk_facts.proofs.Sleepers.{sleepers_of, slept, slept_same, shown_same, after_show, becomes, place_becomes, wakes_on}
 
 -- ---- an Activate
 

@@ -1,5 +1,5 @@
 -- Those above a navigable that is shown are shown, at each step.
-use Rattle.std.proofs.Common.{◌≡◌, ◌≢◌, ◌⊎◌, inl, inr, ℕ, zero, suc, Bool, true, false, ◌||◌, List, ◌∷◌, length, refl, sym, ap, ◌∙◌, subst, Option, Some, None, ◌==◌, arith}
+use Rattle.std.proofs.Common.{◌≡◌, ◌≢◌, ℕ, zero, suc, Bool, true, false, ◌||◌, List, ◌∷◌, length, refl, sym, ap, ◌∙◌, subst, Option, Some, None, ◌==◌}
 use Rattle.std.proofs.lemmas.Bool.{eqb-true}
 use Rattle.tab_ids.specs.declared.NavId.{NavId}
 use Rattle.tab_ids.specs.declared.StateId.{StateId}
@@ -16,7 +16,7 @@ none_shown zero rows step = refl
 none_shown (suc n) rows step = refl
 
 -- one way more does no harm
-one_more : (n : ℕ) (rows : List Row) (step : ℕ) (o : Option NavId) → is_shown_within n rows step o ≡ true → is_shown_within (suc n) rows step o ≡ true
+pub one_more : (n : ℕ) (rows : List Row) (step : ℕ) (o : Option NavId) → is_shown_within n rows step o ≡ true → is_shown_within (suc n) rows step o ≡ true
 one_more n rows step None e = let no_ : false ≡ true = sym (none_shown n rows step) ∙ e in cc
 one_more zero rows step (Some nav) e = ap (λ (b : Bool). b || is_shown_within zero rows step (way_up rows step nav)) e
 one_more (suc n) rows step (Some nav) e = by_test (nav.0 == 0) (one_more n rows step (way_up rows step nav)) e
