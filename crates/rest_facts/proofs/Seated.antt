@@ -174,7 +174,7 @@ module _ (s : Seen) (is : IsComposed s) (still : is_still s ≡ true) where
   has_row : (nav : NavId) (place : Place) (doc : DocId) → place_of s nav ≡ Some place → place.status ≡ awake doc → HasRow place
   has_row nav place doc found wakes =
       let h : IsHomed s.documents place doc = is.homes.homed nav place doc found wakes in
-      let swept : has_state h.home.document.state s.history.rows ≡ true = is.kept.swept doc h.home.document h.home.found h.home.ready h.home.undiscarded in
+      let swept : has_state h.home.document.state s.history.rows ≡ true = is.plain.swept doc h.home.document h.home.found h.home.ready h.home.undiscarded in
       let a = any_has (λ (row : Row). row.state.0 == h.home.document.state.0) s.history.rows swept in
       record { row = a.it; there = a.there; nav_is = is.kept.whose doc h.home.document a.it h.home.found a.there (state_is a.it.state h.home.document.state a.passes) ∙ h.home.nav_is }
 

@@ -81,7 +81,7 @@ module _ (s : Seen) (is : IsComposed s) (still : is_still s ≡ true) where
   swept doc d found = by_discarded d.is_discarded refl
     where
       by_ready : (b : Bool) → d.is_ready ≡ b → d.is_discarded ≡ false → is_swept s d ≡ true
-      by_ready true ready there = either d.is_discarded (is.kept.swept doc d found ready there)
+      by_ready true ready there = either d.is_discarded (is.plain.swept doc d found ready there)
       by_ready false unready there = absurd (none_making s is still doc d found (rw unready (rw (is.plain.unknown doc d found) refl)))
 
       by_discarded : (b : Bool) → d.is_discarded ≡ b → is_swept s d ≡ true

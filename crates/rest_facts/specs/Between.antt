@@ -21,17 +21,17 @@ use Rattle.home_facts.specs.Homes.{AreHomed}
 use Rattle.transit_facts.specs.Waiting.{AreOnTheirWay}
 use Rattle.rest_facts.specs.Resting.{EachRests}
 
--- the documents have numbers of their own; the entries of a document's state are its navigable's; and a document that is made, and not discarded, is of a state with entries
+-- the documents have numbers of their own, and the entries of a document's state are its navigable's
 pub record AreKept (s : Seen) : Type 0 where
   pub numbered : AreApart (λ (d : Document). d.nr.0) s.documents
   pub whose : (doc : DocId) (d : Document) (row : Row) → document_of s doc ≡ Some d → Has s.history.rows row → row.state ≡ d.state → row.nav ≡ d.nav
-  pub swept : (doc : DocId) (d : Document) → document_of s doc ≡ Some d → d.is_ready ≡ true → d.is_discarded ≡ false → has_state d.state s.history.rows ≡ true
 
--- nothing died, nothing is loaded, and a step that has begun is a traversal that has passed its check; no report is held back but for one
+-- nothing died; nothing is loaded, so that a document that is made and not discarded is of a state with entries; and a step that has begun is a traversal that has passed its check, for which alone a report is held back
 pub record IsPlain (s : Seen) : Type 0 where
   pub alive : (doc : DocId) (d : Document) → document_of s doc ≡ Some d → d.dead_by ≡ None
   pub unknown : (doc : DocId) (d : Document) → document_of s doc ≡ Some d → d.is_known_dead ≡ false
   pub unlost : (nav : NavId) (place : Place) → place_of s nav ≡ Some place → place.status ≡ lost → ⊥
+  pub swept : (doc : DocId) (d : Document) → document_of s doc ≡ Some d → d.is_ready ≡ true → d.is_discarded ≡ false → has_state d.state s.history.rows ≡ true
   pub no_loads : (req : ReqId) → is_of_load (request_in s.requests req) ≡ false
   pub steps : (req : ReqId) (q : Asked) → request_in s.requests req ≡ Some q → is_step_under_way q ≡ true → (is_traversal q.what ≡ true) × (has_passed s q ≡ true)
   pub unparked : passed_traversal s ≡ None → s.parked ≡ []
