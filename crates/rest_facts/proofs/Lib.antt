@@ -7,3 +7,4 @@ pub mod Still
 pub mod Stands
 pub mod Seated
 pub mod Settled
+pub mod Opened
