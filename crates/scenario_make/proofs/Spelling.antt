@@ -1,5 +1,5 @@
 -- A made scenario is spelled, and its addresses are written as they are read.
-use Rattle.std.proofs.Common.{◌≡◌, ℕ, ◌*◌, ◌≤◌, false, List, [], ◌∷◌, ◌++◌, length, Ok, refl, ◌∙◌, arith, length-append}
+use Rattle.std.proofs.Common.{◌≡◌, ℕ, ◌*◌, ◌≤◌, false, List, [], ◌∷◌, ◌++◌, length, Ok, refl, ap, ◌∙◌, arith, length-append}
 use Rattle.std.specs.Prelude.{codes, flat_map}
 use Rattle.url.proofs.OnLiterals.{url_on_literals}
 use Rattle.address.specs.Addresses.{address_of, is_blank_url, is_web, judged, judged_parse, read_against, url_of, origin_of, origin_text, fragment_of}
@@ -13,7 +13,7 @@ use Rattle.scenario_text.specs.declared.place.Settings.{Settings}
 use Rattle.scenario_text.specs.declared.place.Stage.TheVariants as stages
 use Rattle.scenario_text.specs.Numbers.{number_of}
 use Rattle.scenario_text.specs.Pieces.{pieces}
-use Rattle.scenario_text.specs.Printed.{line_text}
+use Rattle.scenario_text.specs.Printed.{line_text, text_of}
 use Rattle.scenario_text.specs.Readings.{origin_field, base_field}
 use Rattle.scenario_text.specs.Heading.{plain_settings, keep_line, site_line, page_line, open_line, heading_line}
 use Rattle.scenario_text.specs.Grammar.{after_counted, after_line, read_pieces, scenario_of, IsSpelled}
@@ -118,21 +118,30 @@ header_read rest =
 whole_short : (rest : List ℕ) → length rest ≤ 4000000 → length (whole rest) ≤ 4194304
 whole_short rest short = omega (arith, short)
 
--- lines that are made, and not too many of them, are spelled with the settings before them
-lines_spelled : (lines : List ScenarioLine) → Each IsMade lines → length lines ≤ 65000 → scenario_of false builts.All (whole (flat_map line_text lines)) ≡ Ok (record { header = made_header; lines = lines })
-lines_spelled lines are few =
-    reads_text false builts.All (whole (flat_map line_text lines)) (whole_short (flat_map line_text lines) (omega (arith, text_short lines are, few)))
+-- the text of a scenario with these settings
+text_is : (lines : List ScenarioLine) → text_of (record { header = made_header; lines = lines }) ≡ whole (flat_map line_text lines)
+unfolding url_on_literals text_of
+text_is lines = refl
+
+-- lines that are made, and not too many of them, are read back from the text with the settings before them
+lines_read : (lines : List ScenarioLine) → Each IsMade lines → length lines ≤ 65000 → scenario_of false builts.All (text_of (record { header = made_header; lines = lines })) ≡ Ok (record { header = made_header; lines = lines })
+lines_read lines are few =
+    ap (λ (text : List ℕ). scenario_of false builts.All text) (text_is lines)
+    ∙ reads_text false builts.All (whole (flat_map line_text lines)) (whole_short (flat_map line_text lines) (omega (arith, text_short lines are, few)))
     ∙ header_read (flat_map line_text lines)
     ∙ lines_read_back builts.All 7 made_header [] lines (each_kept lines are) (each_written lines are) (omega (arith, few))
 
--- what is made is spelled
+-- what is made is read back from its text
+pub made_read_back : (header : Header) (lines : List ScenarioLine) (n : ℕ) → header ≡ made_header → lines ≡ made_lines n → scenario_of false builts.All (text_of (record { header = header; lines = lines })) ≡ Ok (record { header = header; lines = lines })
+made_read_back header lines n is_header is_lines =
+    rw (is_header, is_lines) (lines_read (made_lines n) (each_made n) (omega (arith, made_few n)))
+
+-- so it is spelled
 pub made_spelled : (header : Header) (lines : List ScenarioLine) (n : ℕ) → header ≡ made_header → lines ≡ made_lines n → IsSpelled (record { header = header; lines = lines })
 made_spelled header lines n is_header is_lines =
-    rw (is_header, is_lines) (false, builts.All, whole (flat_map line_text (made_lines n)), lines_spelled (made_lines n) (each_made n) (omega (arith, made_few n)))
+    (false, builts.All, text_of (record { header = header; lines = lines }), made_read_back header lines n is_header is_lines)
 
 -- and its addresses are written as they are read
 pub made_written : (header : Header) (lines : List ScenarioLine) (n : ℕ) → header ≡ made_header → lines ≡ made_lines n → AreWritten (record { header = header; lines = lines })
 made_written header lines n is_header is_lines =
     rw (is_header, is_lines) (record { header = header_written; lines = each_written (made_lines n) (each_made n) })
-
-pub ruleset laws = (made_spelled, made_written)

@@ -1,6 +1,8 @@
 //! `make`, the scenario of a number.
-ghost use Rattle.std.specs.Prelude.{◌≡◌, ◌++◌, ◌<◌, ◌+◌, ◌^◌, IfOk, OnOk};
-ghost use Rattle.scenario_text.specs.Grammar.{IsSpelled};
+ghost use Rattle.std.specs.Prelude.{◌≡◌, ◌++◌, ◌<◌, ◌+◌, ◌^◌, false, Ok, IfOk, OnOk};
+ghost use Rattle.scenario_text.specs.declared.built.Built.TheVariants as builts;
+ghost use Rattle.scenario_text.specs.Grammar.{IsSpelled, scenario_of};
+ghost use Rattle.scenario_text.specs.Printed.{text_of};
 ghost use Rattle.scenario_make.specs.Turns.{turn_after};
 ghost use Rattle.scenario_make.specs.Scenarios.{made_lines, made_scenario, made_turns, number_after, turn_lines};
 
@@ -66,6 +68,7 @@ fn lines(alloc: Global, n: u32) -> Result<Lines, MakeError>
 pub fn make(alloc: Global, n: u32) -> Result<Scenario, MakeError>
     ensures made { IfOk result (λ scenario. scenario ≡ made_scenario n) }
     ensures spelled { IfOk result (λ scenario. IsSpelled scenario) }
+    ensures read_back { IfOk result (λ scenario. scenario_of false builts.All (text_of scenario) ≡ Ok scenario) }
 {
     let header = header(alloc)?;
     let lines = lines(alloc, n)?;
