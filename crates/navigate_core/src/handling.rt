@@ -13,7 +13,7 @@ pub enum Handling {
     Replace,
 }
 
-/// What a navigation does: `mode` is what it was asked to do, `initial` whether the navigable's document is an initial about:blank one, and `equal` whether the navigation's address is the given entry's. HTML Standard, "navigate".
+/// What a navigation does: `mode` is what it was asked to do, `initial` whether the navigable's document is an initial about:blank one, and `equal` whether the navigation's address is the given entry's. It takes no memory. HTML Standard, "navigate".
 pub fn choose(mode: Mode, initial: bool, equal: bool) -> Handling
     ensures { result ≡ handling_of mode initial equal }
 {

@@ -8,7 +8,7 @@ use load_table::Load;
 use log_model::Change;
 use tab_ids::EntryId;
 
-/// Whether a navigation from a document at an address to another address stays with the document: the addresses are the same, their fragments aside, and the other one has a fragment. HTML Standard, "navigate to a fragment".
+/// Whether a navigation from a document at an address to another address stays with the document: the addresses are the same, their fragments aside, and the other one has a fragment. It takes no memory. HTML Standard, "navigate to a fragment".
 pub fn is_fragment(from: &Address, to: &Address) -> bool
     ensures { result ≡ is_fragment_navigation from.now to.now }
 {

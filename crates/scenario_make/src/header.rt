@@ -43,7 +43,6 @@ fn made_pages(alloc: Global) -> Result<Pages, OutOfMemory>
 }
 
 /// The settings.
-#[tactic(auto, using(crate::proofs::Addresses::first_reads))]
 pub fn header(alloc: Global) -> Result<Header, MakeError>
     ensures { IfOk result (λ header. header ≡ made_header) }
 {

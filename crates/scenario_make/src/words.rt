@@ -35,7 +35,6 @@ fn host_text(host: u32) -> &'static str
 }
 
 /// The address of a page of a host.
-#[tactic(auto, using(crate::proofs::Addresses::page_reads))]
 pub fn page_address(alloc: Global, host: u32, page: u32) -> Result<Address, MakeError>
     requires host { host < 3 }
     requires page { page < 4 }
