@@ -65,7 +65,7 @@ kill proc = lines.Kill (record { 0 = proc })
 
 -- ---- turns
 
--- the turns that draw further: HOST and J, J alone, or which of four lines, and P for a killed process; of the number that is kept before
+-- a load: HOST and J are drawn; like those below of the number that is kept before these draws
 unfoldable pub load_turn : ℕ → ℕ → Turn
 load_turn nav kept =
     record {
@@ -73,16 +73,19 @@ load_turn nav kept =
       kept = after_draw (after_draw kept);
     }
 
+-- a push: J is drawn
 unfoldable pub push_turn : ℕ → ℕ → Turn
 push_turn nav kept = record { line = push nav (drawn 4 (after_draw kept)); kept = after_draw kept }
 
+-- a fragment: J is drawn
 unfoldable pub fragment_turn : ℕ → Turn
 fragment_turn kept = record { line = fragment (drawn 4 (after_draw kept)); kept = after_draw kept }
 
+-- the end of a process: P is drawn, from 1
 unfoldable pub kill_turn : ℕ → Turn
 kill_turn kept = record { line = kill (drawn 3 (after_draw kept) + 1); kept = after_draw kept }
 
--- which of four lines, of the number that is kept after that draw
+-- one of four lines, by what was drawn, with the number that is kept after that draw
 unfoldable pub rare_turn : ℕ → ℕ → Turn
 rare_turn which kept =
     if which == 0 then record { line = reload; kept = kept }
@@ -90,7 +93,7 @@ rare_turn which kept =
     else (if which == 2 then kill_turn kept
     else record { line = lines.Evict; kept = kept }))
 
--- the kind of a turn, of the number that is kept after that draw
+-- a turn of a kind that was drawn, with the number that is kept after that draw
 unfoldable pub turn_of_kind : ℕ → ℕ → Turn
 turn_of_kind kind kept =
     if kind == 0 then load_turn 0 kept
