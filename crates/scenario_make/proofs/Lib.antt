@@ -1,0 +1,4 @@
+pub mod Addresses
+pub mod MadeLines
+pub mod MadeTurns
+pub mod Spelling
