@@ -8,3 +8,4 @@ pub mod Stands
 pub mod Seated
 pub mod Settled
 pub mod Opened
+pub mod Kept

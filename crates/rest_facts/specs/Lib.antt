@@ -1,2 +1,3 @@
 pub mod Resting
 pub mod Between
+pub mod Owning
