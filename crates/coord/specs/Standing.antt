@@ -52,13 +52,13 @@ pub record StandsFor (s : Seen) (c : Coordinator) : Type 0 where
   pub unparked : c.queue.parked ≡ []
   pub kept : s.kept ≡ []
 
--- a tab that was just opened at an address: what its log has come to
-abbrev pub opened_at : List ℕ → Seen
-opened_at address =
+-- a tab that was just opened at an address, with its document in a process: what its log has come to
+abbrev pub opened_at : List ℕ → ProcId → Seen
+opened_at address proc =
     after nothing (record {
       event = 0;
       actor = actors.Start;
-      row = rows.Opened (record { maker = 0; nr = 1 }) (record { 0 = 1 }) (record { 0 = 1 }) (record { 0 = 1 }) None address;
+      row = rows.Opened (record { maker = 0; nr = 1 }) (record { 0 = 1 }) (record { 0 = 1 }) proc None address;
     })
 
 -- so it does as the event ends with these rows, each of which passes

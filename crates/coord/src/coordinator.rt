@@ -27,13 +27,17 @@ pub struct Coordinator {
 }
 
 impl Coordinator {
-    /// The coordinator of a tab that was just opened at an address, with its document in process 1.
+    /// The coordinator of a tab that was just opened at an address, with its document in a process.
     #[tactic(auto, using(crate::proofs::Opened::opened_stands))]
-    pub fn fresh(alloc: Global, first: &Address) -> Result<Coordinator, OutOfMemory>
-        ensures stands { IfOk result (λ c. StandsFor (opened_at first.now) c) }
+    pub fn fresh(
+        alloc: Global,
+        first: &Address,
+        proc: ProcId,
+    ) -> Result<Coordinator, OutOfMemory>
+        ensures stands { IfOk result (λ c. StandsFor (opened_at first.now proc) c) }
     {
         let store = StepIndex::fresh(alloc, first)?;
-        let tree = NavTree::fresh(alloc, DocId(1), ProcId(1), None)?;
+        let tree = NavTree::fresh(alloc, DocId(1), proc, None)?;
         Ok(Coordinator {
             tables: Tables {
                 store,
@@ -44,7 +48,7 @@ impl Coordinator {
             running: None,
             home: Addressee {
                 doc: DocId(1),
-                proc: ProcId(1),
+                proc,
                 incarnation: 0,
             },
         })

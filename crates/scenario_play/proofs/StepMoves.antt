@@ -1,5 +1,5 @@
 -- How each step moves a world on.
-use Rattle.std.proofs.Common.{◌≡◌, ℕ, ◌<◌, Bool, true, false, not, ◌&&◌, ◌||◌, ◌==◌, List, length, Option, Some, None, Ok, refl, sym, ap, ◌∙◌, subst, arith, length-append}
+use Rattle.std.proofs.Common.{◌≡◌, ℕ, ◌+◌, ◌<◌, ◌≤◌, Bool, true, false, not, ◌&&◌, ◌||◌, ◌==◌, List, length, Option, Some, None, Ok, refl, sym, ap, ◌∙◌, subst, arith, length-append, eq-or-lt_of_le, ◌⊎◌, inl, inr}
 use Rattle.std.specs.Prelude.{is_none, is_some, if◌then◌else◌, Result, Err, OnOk}
 use Rattle.std.proofs.lemmas.Bool.{eq-eqb}
 use Rattle.tab_ids.specs.declared.ProcId.{ProcId}
@@ -16,7 +16,12 @@ use Rattle.world.specs.Kept.{WorldState}
 use Rattle.world.specs.Open.{row_limit}
 use Rattle.world.specs.Steps.{begin_idles, idle_reply, StepsAs, Steps}
 use Rattle.scenario_play.specs.Courses.{order_of}
-use Rattle.scenario_play.specs.Moves.{MovesOn, MovesIf, has_poke, has_order, has_mail, has_report}
+use Rattle.scenario_play.specs.Moves.{MovesIf, has_poke, has_order, has_mail, has_report}
+
+-- the world is open, and its log is no shorter
+pub record MovesOn (old new : WorldState) : Type 0 where
+  pub opened : new.closed ≡ false
+  pub longer : length old.log ≤ length new.log
 
 -- an event that logs makes the log longer, from below the limit on, and another answer changes nothing
 answered_moves : (old new : WorldState) (event : Event) (idle : Option Reply) (reply : Reply) → old.closed ≡ false → StepsAs old event idle (Ok reply) new → MovesIf (is_none idle) old new
@@ -128,6 +133,55 @@ turn_moves old first second new proc busy poke order report = by_poke (has_poke 
     by_poke : (due : Bool) → has_poke old.log proc ≡ due → Grows old new
     by_poke true e = record { longer = omega (arith, poke.more e, order.longer, report.longer); below = poke.below e }
     by_poke false e = by_order (poke.idle e) e (has_order first.log proc) refl
+
+-- a turn moves the world on if something waits in its process
+pub turn_stays : (old : WorldState) (proc : ProcId) → old.closed ≡ false → is_idle (desk_of (seen_of old.log) proc) ≡ true → MovesIf (not (is_idle (desk_of (seen_of old.log) proc))) old old
+turn_stays old proc open_ idle =
+    rw idle (record { opened = open_; longer = omega arith; more = λ e. absurd cc; below = λ e. absurd cc; idle = λ e. refl })
+
+pub turn_goes : (old first second new : WorldState) (proc : ProcId) → is_idle (desk_of (seen_of old.log) proc) ≡ false → MovesIf (has_poke old.log proc) old first → MovesIf (has_order first.log proc) first second → MovesIf (has_report second.log proc) second new → MovesIf (not (is_idle (desk_of (seen_of old.log) proc))) old new
+turn_goes old first second new proc busy poke order report =
+    let grows = turn_moves old first second new proc busy poke order report in
+    rw busy (record { opened = report.opened; longer = omega (arith, grows.longer); more = λ e. grows.longer; below = λ e. grows.below; idle = λ e. absurd cc })
+
+-- a round so far has changed nothing, and the turn of the process is still to come; or its log has grown
+pub record HasMoved (home : ProcId) (number : ℕ) (old now : WorldState) : Type 0 where
+  pub grown : home.0 < number → Grows old now
+  pub either : (now ≡ old) ⊎ Grows old now
+
+pub none_moved : (home : ProcId) (old : WorldState) → 1 ≤ home.0 → HasMoved home 1 old old
+none_moved home old some = record { grown = λ e. absurd (let wrong : ⊥ = omega (arith, e, some) in wrong); either = inl refl }
+
+-- one turn more, where something waits in the process as the round begins
+pub moved_more : (home : ProcId) (number : ℕ) (old now new : WorldState) → is_idle (desk_of (seen_of old.log) home) ≡ false → HasMoved home number old now → MovesIf (not (is_idle (desk_of (seen_of now.log) (record { 0 = number })))) now new → HasMoved home (number + 1) old new
+moved_more home number old now new busy has moves =
+    elim has.either [
+      | inr grows ↦ grown_on (record { longer = omega (arith, grows.longer, moves.longer); below = grows.below })
+      | inl same ↦ by_idle same (is_idle (desk_of (seen_of now.log) (record { 0 = number }))) refl
+    ]
+  where
+    grown_on : Grows old new → HasMoved home (number + 1) old new
+    grown_on grows = record { grown = λ e. grows; either = inr grows }
+
+    its_turn : now ≡ old → is_idle (desk_of (seen_of now.log) (record { 0 = number })) ≡ true → home.0 ≡ number → ⊥
+    its_turn same idle at =
+        let here : is_idle (desk_of (seen_of old.log) home) ≡ true = ap (λ (n : ℕ). is_idle (desk_of (seen_of old.log) (record { 0 = n }))) at ∙ (ap (λ (w : WorldState). is_idle (desk_of (seen_of w.log) (record { 0 = number }))) (sym same) ∙ idle) in
+        let wrong : true ≡ false = sym here ∙ busy in absurd cc
+
+    by_idle : now ≡ old → (idle : Bool) → is_idle (desk_of (seen_of now.log) (record { 0 = number })) ≡ idle → HasMoved home (number + 1) old new
+    by_idle same false e =
+        let due : not (is_idle (desk_of (seen_of now.log) (record { 0 = number }))) ≡ true = ap not e in
+        let long : length now.log ≡ length old.log = ap (λ (w : WorldState). length w.log) same in
+        grown_on (record { longer = omega (arith, moves.more due, long); below = omega (arith, moves.below due, long) })
+    by_idle same true e =
+        let still : new ≡ old = moves.idle (ap not e) ∙ same in
+        record {
+          grown = λ past. elim (eq-or-lt_of_le (omega (arith, past))) [
+            | inl at ↦ absurd (its_turn same e at)
+            | inr before ↦ (let grows = has.grown before in record { longer = omega (arith, grows.longer, moves.longer); below = grows.below })
+          ];
+          either = inl still;
+        }
 
 -- what follows from success follows of a result
 pub on_ok : {T E : Type 0} (r : Result T E) (P Q : Type 0) → (P → Q) → OnOk r P → OnOk r Q

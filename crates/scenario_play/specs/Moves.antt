@@ -9,12 +9,11 @@ use Rattle.world.specs.declared.error.StepError.TheVariants as errors
 use Rattle.world.specs.Kept.{WorldState}
 use Rattle.world.specs.Open.{row_limit}
 
--- the world is open, and its log is no shorter
-pub record MovesOn (old new : WorldState) : Type 0 where
-  pub opened : new.closed ≡ false
-  pub longer : length old.log ≤ length new.log
+-- a round has a turn of the process
+abbrev pub HasTurn : ProcId → Type 0
+HasTurn proc = (1 ≤ proc.0) × (proc.0 ≤ 16)
 
--- the same, and where something was due more was logged, from below the limit on, and where nothing was nothing changed
+-- the world is open, its log is no shorter, and where something was due more was logged, from below the limit on, and where nothing was nothing changed
 pub record MovesIf (due : Bool) (old new : WorldState) : Type 0 where
   pub opened : new.closed ≡ false
   pub longer : length old.log ≤ length new.log

@@ -5,7 +5,8 @@ ghost use Rattle.log_model.specs.Suits.{Suits};
 ghost use Rattle.scenario_text.specs.Follows.{Follows, IsCutShort, does, plays, plays_line};
 ghost use Rattle.scenario_play.specs.Courses.{Plays};
 ghost use Rattle.scenario_play.specs.Lines.{IsBuiltLine, IsBuiltRequest};
-ghost use Rattle.scenario_play.specs.Moves.{IsFault};
+ghost use Rattle.scenario_play.specs.Moves.{HasTurn, IsFault};
+ghost use Rattle.world.specs.Open.{opening_process};
 
 use crate::round::{act, deliver, finish_in_hand, settle, step, take_up};
 use log_model::Request;
@@ -27,6 +28,8 @@ pub fn play(scenario: &Scenario, world: World) -> Played
     requires opened { length world.log ≡ 1 }
     requires header { world.header ≡ scenario.now.header }
     requires suits { Suits scenario.now.header world.log }
+    // A round of a settle has a turn of the document's process.
+    requires turn { HasTurn (opening_process scenario.now.header) }
     requires built { All IsBuiltLine scenario.now.lines }
     ensures follows { result.fault ≡ None → IfSome result.world (λ w. Follows w.log scenario.now) }
     ensures open { result.fault ≡ None → IfSome result.world (λ w. w.closed ≡ false) }
@@ -52,6 +55,7 @@ pub fn play(scenario: &Scenario, world: World) -> Played
 
 fn play_lines(world: &mut World, lines: &[ScenarioLine]) -> Result<(), StepError>
     requires open { world.old.closed ≡ false }
+    requires turn { HasTurn (opening_process world.old.header) }
     requires built { All IsBuiltLine lines.now }
     ensures open { OnOk result (world.new.closed ≡ false) }
     ensures header { world.new.header ≡ world.old.header }
@@ -67,6 +71,7 @@ fn play_lines(world: &mut World, lines: &[ScenarioLine]) -> Result<(), StepError
 /// Plays one line. An answer that logs nothing is passed over.
 fn play_line(world: &mut World, line: &ScenarioLine) -> Result<(), StepError>
     requires open { world.old.closed ≡ false }
+    requires turn { HasTurn (opening_process world.old.header) }
     requires built { IsBuiltLine line.now }
     ensures open { OnOk result (world.new.closed ≡ false) }
     ensures header { world.new.header ≡ world.old.header }

@@ -1,13 +1,13 @@
 //! Rounds of steps of the processes and of the coordinator.
-ghost use Rattle.std.specs.Prelude.{◌≡◌, ◌<◌, ◌∷◌, [], true, false, None, Some, IfErr, IfOk, IsErr, IsSome, OnOk, length};
+ghost use Rattle.std.specs.Prelude.{◌≡◌, ◌<◌, ◌∷◌, [], true, false, not, None, Some, IfErr, IfOk, IsErr, IsSome, OnOk, length};
 ghost use Rattle.log_model.specs.Logs.{seen_of, is_still, is_idle, in_hand_of};
 ghost use Rattle.log_model.specs.Seen.{desk_of};
 ghost use Rattle.scenario_text.specs.declared.line.ScenarioLine.TheVariants as lines;
 ghost use Rattle.scenario_text.specs.Follows.{a_round, does, does_all, is_passed, settles, turn_of};
-ghost use Rattle.world.specs.Open.{first_process, row_limit};
+ghost use Rattle.world.specs.Open.{opening_process, row_limit};
 ghost use Rattle.world.specs.Steps.{IsBuilt, Steps};
 ghost use Rattle.scenario_play.specs.Courses.{IsOfHand, Plays, line_of, order_of};
-ghost use Rattle.scenario_play.specs.Moves.{IsFault, MovesOn, MovesIf, has_poke, has_order, has_mail, has_report};
+ghost use Rattle.scenario_play.specs.Moves.{HasTurn, IsFault, MovesIf, has_poke, has_order, has_mail, has_report};
 
 use log_model::Order;
 use proc_work::work;
@@ -17,6 +17,7 @@ use world::{Event, Reply, StepError, World};
 /// Goes in rounds until nothing is in transit.
 pub(crate) fn settle(world: &mut World) -> Result<(), StepError>
     requires open { world.old.closed ≡ false }
+    requires turn { HasTurn (opening_process world.old.header) }
     ensures open { OnOk result (world.new.closed ≡ false) }
     ensures header { world.new.header ≡ world.old.header }
     ensures faults { IfErr result (IsFault world.new) }
@@ -32,7 +33,8 @@ pub(crate) fn settle(world: &mut World) -> Result<(), StepError>
 /// One round, through all processes that a scenario may name.
 fn round(world: &mut World) -> Result<(), StepError>
     requires open { world.old.closed ≡ false }
-    requires busy { is_idle (desk_of (seen_of world.old.log) first_process) ≡ false }
+    requires turn { HasTurn (opening_process world.old.header) }
+    requires busy { is_idle (desk_of (seen_of world.old.log) (opening_process world.old.header)) ≡ false }
     ensures open { OnOk result (world.new.closed ≡ false) }
     ensures header { world.new.header ≡ world.old.header }
     ensures faults { IfErr result (IsFault world.new) }
@@ -40,27 +42,9 @@ fn round(world: &mut World) -> Result<(), StepError>
     ensures below { OnOk result (length world.old.log < row_limit) }
     ensures plays { Plays a_round world.old.log result world.new.log }
 {
-    first_turn(world)?;
-    for number in 2..17 {
+    for number in 1..17 {
         turn(world, ProcId(number))?;
     }
-    Ok(())
-}
-
-/// The turn of the document's process, where something waits in it.
-fn first_turn(world: &mut World) -> Result<(), StepError>
-    requires open { world.old.closed ≡ false }
-    requires busy { is_idle (desk_of (seen_of world.old.log) first_process) ≡ false }
-    ensures open { OnOk result (world.new.closed ≡ false) }
-    ensures header { world.new.header ≡ world.old.header }
-    ensures faults { IfErr result (IsFault world.new) }
-    ensures longer { OnOk result (length world.old.log < length world.new.log) }
-    ensures below { OnOk result (length world.old.log < row_limit) }
-    ensures plays { Plays (does_all (turn_of (record { 0 = 1 }))) world.old.log result world.new.log }
-{
-    act(world, ProcId(1))?;
-    work_on(world, ProcId(1))?;
-    deliver(world, ProcId(1))?;
     Ok(())
 }
 
@@ -69,7 +53,7 @@ fn turn(world: &mut World, proc: ProcId) -> Result<(), StepError>
     requires open { world.old.closed ≡ false }
     ensures header { world.new.header ≡ world.old.header }
     ensures faults { IfErr result (IsFault world.new) }
-    ensures moves { OnOk result (MovesOn world.old world.new) }
+    ensures moves { OnOk result (MovesIf (not (is_idle (desk_of (seen_of world.old.log) proc))) world.old world.new) }
     ensures plays { Plays (does_all (turn_of proc)) world.old.log result world.new.log }
 {
     // Where nothing waits, each of the steps would only say so.

@@ -30,9 +30,8 @@ abbrev pub plays : Built → ScenarioLine → Bool
 plays builts.Document line = is_of_document line
 plays builts.All line = true
 
--- the caller can play a header that has come so far: one document wants no sites and no pages
+-- the caller can play a header that has come so far: a tab of one document has no handlers yet
 abbrev pub plays_stage : Built → Stage → Bool
-plays_stage builts.Document stages.Site = false
 plays_stage builts.Document stages.Page = false
 plays_stage _ _ = true
 

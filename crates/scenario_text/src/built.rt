@@ -41,8 +41,8 @@ impl Built {
         ensures { result ≡ spec.plays_stage self stage }
     {
         match (self, stage) {
-            (Built::Document, Stage::Site | Stage::Page) => false,
-            (Built::Document, Stage::Version | Stage::Keep) | (Built::All, _) => true,
+            (Built::Document, Stage::Page) => false,
+            (Built::Document, Stage::Version | Stage::Keep | Stage::Site) | (Built::All, _) => true,
         }
     }
 }

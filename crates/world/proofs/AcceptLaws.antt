@@ -22,8 +22,8 @@ use Rattle.log_model.specs.After.{after, new_request}
 use Rattle.log_model.specs.Entries.{HasPassed, is_change_of_entry}
 use Rattle.log_model.specs.Logs.{seen_of}
 use Rattle.log_model.specs.Places.{top}
-use Rattle.log_model.specs.Seen.{Seen, Document, Desk, Asked, document_of}
-use Rattle.history_log.proofs.DeskLaws.{desk_of-after}
+use Rattle.log_model.specs.Seen.{Seen, Document, Desk, Asked, desk_of, document_of}
+use Rattle.history_log.proofs.DeskLaws.{desk_of-after, desk_poked}
 use Rattle.plain_tab.specs.Calm.{IsPlainRequest}
 use Rattle.plain_tab.proofs.Soles.{doc_found}
 use Rattle.coord.specs.Standing.{HasActed}
@@ -34,13 +34,13 @@ use Rattle.world.specs.declared.event.Reply.TheVariants as replies
 use Rattle.world.specs.declared.state.State.{State}
 use Rattle.world.specs.Asking.{event_of, asking}
 use Rattle.world.specs.Notes.{desk_noted, endings_noted, ended_in, row_with}
-use Rattle.world.specs.Open.{IsOpen, first_document, first_process, row_limit}
+use Rattle.world.specs.Open.{IsOpen, first_document, opening_process, row_limit}
 use Rattle.world.specs.Steps.{next_request}
 use Rattle.world.specs.Turns.{HasGone}
 use Rattle.world.proofs.EndingLaws.{endings}
 use Rattle.world.proofs.EventLaws.{works_on}
 use Rattle.world.proofs.Facts.{one, poked_is, unpoked, asked_long}
-use Rattle.world.proofs.NoteLaws.{Keeping}
+use Rattle.world.proofs.NoteLaws.{Keeping, own_desk}
 
 -- one request more, which is open
 more_endings : (asked : List Asked) (new : Asked) → endings (asked ++ new ∷ []) ≡ endings asked ++ new.ending ∷ []
@@ -75,7 +75,7 @@ module _ (header : Header) (log : List LogRow) (t : State) (is : IsOpen header l
   s = seen_of log
 
   -- a request that waits in no process
-  unsent : (req : ReqId) (what : Request) → Keeping (after s (row_with s.events actors.Ui (rows.Accepted req None what))) s.events t.desk (t.endings.items ++ None ∷ []) (Some t.view, first_process)
+  unsent : (req : ReqId) (what : Request) → Keeping (opening_process header) (after s (row_with s.events actors.Ui (rows.Accepted req None what))) s.events t.desk (t.endings.items ++ None ∷ []) (Some t.view, (opening_process header))
   unsent req what =
       record {
         events = refl;
@@ -129,11 +129,11 @@ module _ (header : Header) (log : List LogRow) (t : State) (is : IsOpen header l
       found =
           subst (λ (n : DocId). document_of s n ≡ Some is.keeps.stands.d) (one header log t is).nr (doc_found s is.keeps.stands.d is.keeps.stands.place is.keeps.stands.tab.sole)
 
-      kept : Keeping (after s (row_with s.events actors.Ui own)) s.events (record t.desk { input = t.desk.input ++ record { req = req; doc = first_document; action = action } ∷ [] }) (t.endings.items ++ None ∷ []) (Some t.view, first_process)
+      kept : Keeping (opening_process header) (after s (row_with s.events actors.Ui own)) s.events (record t.desk { input = t.desk.input ++ record { req = req; doc = first_document; action = action } ∷ [] }) (t.endings.items ++ None ∷ []) (Some t.view, (opening_process header))
       kept =
           record {
             events = refl;
-            desk = desk_of-after s first_process s.events actors.Ui own ∙ (rw (found, (one header log t is).proc) (ap (λ (d : Desk). let x : Desk = record d { input = d.input ++ record { req = req; doc = first_document; action = action } ∷ [] } in x) is.holds.desk));
+            desk = desk_of-after s (opening_process header) s.events actors.Ui own ∙ (rw (found, (one header log t is).proc) (own_desk (opening_process header) (desk_poked req first_document action) (desk_of s (opening_process header)) ∙ ap (λ (d : Desk). let x : Desk = record d { input = d.input ++ record { req = req; doc = first_document; action = action } ∷ [] } in x) is.holds.desk));
             endings = more_endings s.requests (new_request req (Some first_document) (requests.Poke nav action)) ∙ ap (λ (l : List (Option Ending)). l ++ None ∷ []) is.holds.endings;
             face = is.holds.face;
           }

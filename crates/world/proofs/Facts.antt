@@ -34,7 +34,7 @@ use Rattle.coord.specs.Standing.{StandsFor}
 use Rattle.coord.proofs.ActLaws.{runs_alone}
 use Rattle.world.specs.declared.state.State.{State}
 use Rattle.world.specs.Asking.{event_of}
-use Rattle.world.specs.Open.{IsOpen, face, desk_at, first_document, first_process, row_limit}
+use Rattle.world.specs.Open.{IsOpen, face, desk_at, first_document, opening_process, row_limit}
 use Rattle.world.specs.Steps.{next_request}
 
 as_long : {A B : Type 0} (f : A → B) (xs : List A) → length (map f xs) ≡ length xs
@@ -52,22 +52,22 @@ module _ (header : Header) (log : List LogRow) (t : State) (is : IsOpen header l
 
   pub record IsOne : Type 0 where
     pub nr : stands.d.nr ≡ first_document
-    pub proc : stands.d.proc ≡ first_process
+    pub proc : stands.d.proc ≡ (opening_process header)
     pub view : stands.d.view ≡ Some t.view
 
   pub one : IsOne
   one = by_nr (stands.d.nr.0 == 1) refl
     where
-      alone : option_map face (find (λ (d : Document). d.nr.0 == 1) (stands.d ∷ [])) ≡ Some (Some t.view, first_process)
+      alone : option_map face (find (λ (d : Document). d.nr.0 == 1) (stands.d ∷ [])) ≡ Some (Some t.view, (opening_process header))
       alone =
           ap (λ (l : List Document). option_map face (find (λ (d : Document). d.nr.0 == 1) l)) (sym stands.tab.sole.documents) ∙ is.holds.face
 
       by_nr : (b : Bool) → (stands.d.nr.0 == 1) ≡ b → IsOne
       by_nr false e =
-          let never : (let o : Option (Option View × ProcId) = None in o) ≡ Some (Some t.view, first_process) = sym (ap (λ (b : Bool). option_map face (cond b (Some stands.d) None)) e) ∙ alone in cc
+          let never : (let o : Option (Option View × ProcId) = None in o) ≡ Some (Some t.view, (opening_process header)) = sym (ap (λ (b : Bool). option_map face (cond b (Some stands.d) None)) e) ∙ alone in cc
       by_nr true e =
-          let at : Some (face stands.d) ≡ Some (Some t.view, first_process) = sym (ap (λ (b : Bool). option_map face (cond b (Some stands.d) None)) e) ∙ alone in
-          let same : face stands.d ≡ (Some t.view, first_process) = cc in
+          let at : Some (face stands.d) ≡ Some (Some t.view, (opening_process header)) = sym (ap (λ (b : Bool). option_map face (cond b (Some stands.d) None)) e) ∙ alone in
+          let same : face stands.d ≡ (Some t.view, (opening_process header)) = cc in
           let number : stands.d.nr.0 ≡ 1 = grind (arith, nat_tests, e) in
           record {
             nr = ap (λ (n : ℕ). let x : DocId = record { 0 = n } in x) number;
@@ -83,7 +83,7 @@ module _ (header : Header) (log : List LogRow) (t : State) (is : IsOpen header l
   pub viewed_doc : t.view.doc ≡ first_document
   viewed_doc = ap (λ (v : View). v.doc) (sym same_view) ∙ (stands.tab.flowing.own.running.doc ∙ one.nr)
 
-  pub home_proc : t.coordinator.home.proc ≡ first_process
+  pub home_proc : t.coordinator.home.proc ≡ (opening_process header)
   home_proc =
       let same : stands.lives.d ≡ stands.d = (let both : stands.lives.d ∷ [] ≡ stands.d ∷ [] = sym stands.lives.only ∙ stands.tab.sole.documents in cc) in
       stands.lives.proc ∙ (ap (λ (d : Document). d.proc) same ∙ one.proc)
@@ -92,7 +92,7 @@ module _ (header : Header) (log : List LogRow) (t : State) (is : IsOpen header l
 
   pub one_runs : (nav : NavId) → nav ≡ top → running_documents s nav ≡ stands.d ∷ []
   one_runs nav of_top =
-      runs_alone (event_of header log actors.Ui (rows.Delivered first_process)) t.coordinator stands nav of_top
+      runs_alone (event_of header log actors.Ui (rows.Delivered (opening_process header))) t.coordinator stands nav of_top
 
   pub poked_is : (nav : NavId) → nav ≡ top → poked_document s nav ≡ Some stands.d
   poked_is nav of_top =
@@ -112,16 +112,16 @@ module _ (header : Header) (log : List LogRow) (t : State) (is : IsOpen header l
   -- ---- the processes
 
   -- nothing waits in another process
-  no_pokes : (proc : ProcId) (pokes : List Poke) → (proc.0 == 1) ≡ false → Each (IsPokeTo stands.d proc) pokes → pokes ≡ []
+  no_pokes : (proc : ProcId) (pokes : List Poke) → (proc.0 == (opening_process header).0) ≡ false → Each (IsPokeTo stands.d proc) pokes → pokes ≡ []
   no_pokes proc [] other are = refl
   no_pokes proc (poke ∷ pokes) other are =
-      let its : proc.0 ≡ 1 = ap (λ (p : ProcId). p.0) (are.0.1 ∙ one.proc) in
-      let here : (proc.0 == 1) ≡ true = grind (arith, nat_tests, its) in
+      let its : proc.0 ≡ (opening_process header).0 = ap (λ (p : ProcId). p.0) (are.0.1 ∙ one.proc) in
+      let here : (proc.0 == (opening_process header).0) ≡ true = grind (arith, nat_tests, its) in
       let wrong : true ≡ false = sym here ∙ other in absurd cc
 
-  pub other_desk : (proc : ProcId) → (proc.0 == 1) ≡ false → desk_of s proc ≡ empty_desk proc
+  pub other_desk : (proc : ProcId) → (proc.0 == (opening_process header).0) ≡ false → desk_of s proc ≡ empty_desk proc
   other_desk proc other =
-      let apart : (stands.d.proc.0 == proc.0) ≡ false = (let at : stands.d.proc.0 ≡ 1 = ap (λ (p : ProcId). p.0) one.proc in grind (arith, nat_tests, at, other)) in
+      let apart : (stands.d.proc.0 == proc.0) ≡ false = (let at : stands.d.proc.0 ≡ (opening_process header).0 = ap (λ (p : ProcId). p.0) one.proc in grind (arith, nat_tests, at, other)) in
       let none = stands.tab.flowing.others proc apart in
       let died = stands.tab.sole.died proc in
       let pokes : (desk_of s proc).input ≡ [] = no_pokes proc (desk_of s proc).input other (stands.tab.pokes proc) in
@@ -138,25 +138,25 @@ module _ (header : Header) (log : List LogRow) (t : State) (is : IsOpen header l
           ∙ (ap (λ (l : List Death). let d : Desk = record desk { proc = proc; input = []; mail = []; in_hand = None; reports = []; killed = l } in d) killed
           ∙ ap (λ (n : ℕ). let d : Desk = record desk { proc = proc; input = []; mail = []; in_hand = None; reports = []; killed = []; known = n } in d) known)))))
 
-  pub desk_proc : t.desk.proc ≡ first_process
+  pub desk_proc : t.desk.proc ≡ (opening_process header)
   desk_proc =
-      ap (λ (d : Desk). d.proc) (sym is.holds.desk) ∙ ap (λ (n : ℕ). let x : ProcId = record { 0 = n } in x) (desk_has s.desks first_process)
+      ap (λ (d : Desk). d.proc) (sym is.holds.desk) ∙ ap (λ (n : ℕ). let x : ProcId = record { 0 = n } in x) (desk_has s.desks (opening_process header))
 
-  pub first_desk : (proc : ProcId) → (proc.0 == 1) ≡ true → desk_of s proc ≡ t.desk
-  first_desk proc here =
-      let same : proc ≡ first_process = (let n : proc.0 ≡ 1 = grind (arith, nat_tests, here) in ap (λ (i : ℕ). let x : ProcId = record { 0 = i } in x) n) in
+  pub home_desk : (proc : ProcId) → (proc.0 == (opening_process header).0) ≡ true → desk_of s proc ≡ t.desk
+  home_desk proc here =
+      let same : proc ≡ (opening_process header) = (let n : proc.0 ≡ (opening_process header).0 = grind (arith, nat_tests, here) in ap (λ (i : ℕ). let x : ProcId = record { 0 = i } in x) n) in
       ap (λ (p : ProcId). desk_of s p) same ∙ is.holds.desk
 
   pub desks_are : (proc : ProcId) → desk_of s proc ≡ desk_at t.desk proc
-  desks_are proc = by_test (proc.0 == 1) refl
+  desks_are proc = by_test (proc.0 == (opening_process header).0) refl
     where
-      its_number : t.desk.proc.0 ≡ 1
-      its_number = ap (λ (d : Desk). d.proc.0) (sym is.holds.desk) ∙ desk_has s.desks first_process
+      its_number : t.desk.proc.0 ≡ (opening_process header).0
+      its_number = ap (λ (d : Desk). d.proc.0) (sym is.holds.desk) ∙ desk_has s.desks (opening_process header)
 
-      by_test : (b : Bool) → (proc.0 == 1) ≡ b → desk_of s proc ≡ desk_at t.desk proc
+      by_test : (b : Bool) → (proc.0 == (opening_process header).0) ≡ b → desk_of s proc ≡ desk_at t.desk proc
       by_test true e =
           let here : (proc.0 == t.desk.proc.0) ≡ true = ap (λ (n : ℕ). proc.0 == n) its_number ∙ e in
-          rw here (first_desk proc e)
+          rw here (home_desk proc e)
       by_test false e =
           let away : (proc.0 == t.desk.proc.0) ≡ false = ap (λ (n : ℕ). proc.0 == n) its_number ∙ e in
           rw away (other_desk proc e)
@@ -203,6 +203,6 @@ module _ (header : Header) (log : List LogRow) (t : State) (is : IsOpen header l
 
   pub hand_small : (order : Order) → t.desk.in_hand ≡ Some order → told_index order.job.task ≤ t.events
   hand_small order hand =
-      let told : told_index order.job.task ≤ s.events = few.hand first_process order (ap (λ (d : Desk). d.in_hand) is.holds.desk ∙ hand) in
+      let told : told_index order.job.task ≤ s.events = few.hand (opening_process header) order (ap (λ (d : Desk). d.in_hand) is.holds.desk ∙ hand) in
       let same : s.events ≡ t.events = is.holds.events in
       omega (arith, told, same)

@@ -1,8 +1,8 @@
 -- The opening of a world.
-use Rattle.std.proofs.Common.{◌≡◌, ℕ, Bool, true, false, ◌&&◌, ◌==◌, List, [], ◌∷◌, Option, Some, refl, sym, ap, arith}
+use Rattle.std.proofs.Common.{◌≡◌, ℕ, Bool, true, false, ◌&&◌, ◌==◌, List, [], ◌∷◌, Option, Some, refl, sym, ap, ◌∙◌, subst, arith}
 use Rattle.std.specs.Prelude.{bytes_eq, if◌then◌else◌}
-use Rattle.log_model.proofs.Refl.{bytes_eq_refl}
-use Rattle.address.specs.Addresses.{base_of, blank_text}
+use Rattle.log_model.proofs.Refl.{bytes_eq_refl, nat_eq_refl}
+use Rattle.address.specs.Addresses.{base_of, blank_text, origin_of}
 use Rattle.tab_ids.specs.declared.ProcId.{ProcId}
 use Rattle.log_model.specs.declared.header.Header.{Header}
 use Rattle.log_model.specs.declared.row_kind.LogRow.{LogRow}
@@ -12,27 +12,27 @@ use Rattle.log_model.specs.Events.{events_of, AtEachEvent, after_opening, each_e
 use Rattle.log_model.specs.Legal.{IsLegal, opens}
 use Rattle.log_model.specs.Limits.{BeginsBelow, starts_from}
 use Rattle.log_model.specs.Logs.{seen_of}
-use Rattle.log_model.specs.Seen.{nothing}
-use Rattle.log_model.specs.Suits.{Suits, first_process, opens_suitably}
+use Rattle.log_model.specs.Seen.{nothing, desk_of, empty_desk}
+use Rattle.log_model.specs.Suits.{Suits, first_process, home_of, opens_suitably, process_of_origin}
 use Rattle.log_model.specs.Views.{View}
 use Rattle.coord.specs.Keeping.{Keeps}
 use Rattle.coord.specs.Standing.{StandsFor, opened_at}
 use Rattle.coord.specs.declared.coordinator.Coordinator.{Coordinator}
 use Rattle.coord.proofs.StandLaws.{stands_settled}
 use Rattle.world.specs.declared.state.State.{State}
-use Rattle.world.specs.Kept.{IsKept, IsPlainHeader, OpensAs}
-use Rattle.world.specs.Open.{IsOpen, row_limit}
+use Rattle.world.specs.Kept.{IsKept, OpensAs, OpensUnhandled}
+use Rattle.world.specs.Open.{IsOpen, Holds, opening_process, row_limit}
 use Rattle.world.specs.Opening.{opening_row, IsJustOpened}
 
-opened_below : (address : List ℕ) → BeginsBelow row_limit (opening_row address ∷ [])
+opened_below : (address : List ℕ) (proc : ProcId) → BeginsBelow row_limit (opening_row address proc ∷ [])
 unfolding BeginsBelow starts_from events_of
-opened_below address = refl
+opened_below address proc = refl
 
-opened_legal : (address : List ℕ) (c : Coordinator) → StandsFor (opened_at address) c → IsLegal (opening_row address ∷ [])
+opened_legal : (address : List ℕ) (proc : ProcId) (c : Coordinator) → StandsFor (opened_at address proc) c → IsLegal (opening_row address proc ∷ [])
 unfolding events_of AtEachEvent after_opening each_event opens
-opened_legal address c stands =
+opened_legal address proc c stands =
     record {
-      opened = stands_settled (opened_at address) c stands;
+      opened = stands_settled (opened_at address proc) c stands;
       numbered = refl;
       formed = refl;
       once = refl;
@@ -43,40 +43,43 @@ opened_legal address c stands =
       settled = refl;
     }
 
-opened_at_once : (address : List ℕ) → ActsAtOnce (opening_row address ∷ [])
+opened_at_once : (address : List ℕ) (proc : ProcId) → ActsAtOnce (opening_row address proc ∷ [])
 unfolding events_of AtEachEvent after_opening each_event
-opened_at_once address = record { told = refl; stepped = refl; in_time = refl }
+opened_at_once address proc = record { told = refl; stepped = refl; in_time = refl }
 
-opened_suits : (header : Header) (address : List ℕ) → OpensAs header (opening_row address ∷ []) → Suits header (opening_row address ∷ [])
+opened_suits : (header : Header) (address : List ℕ) (proc : ProcId) → OpensAs header (opening_row address proc ∷ []) → Suits header (opening_row address proc ∷ [])
 unfolding events_of AtEachEvent after_opening each_event
-opened_suits header address opened = record { opened = opened; placed = refl; kept = refl }
+opened_suits header address proc opened = record { opened = opened; placed = refl; kept = refl }
 
-opened_keeps : (header : Header) (c : Coordinator) → StandsFor (opened_at header.first) c → Keeps header (opening_row header.first ∷ []) c
+opened_keeps : (header : Header) (proc : ProcId) (c : Coordinator) → StandsFor (opened_at header.first proc) c → Keeps header (opening_row header.first proc ∷ []) c
 unfolding seen_of
-opened_keeps header c stands =
+opened_keeps header proc c stands =
     record {
       some = omega arith;
-      legal = opened_legal header.first c stands;
-      at_once = opened_at_once header.first;
-      suits = opened_suits header header.first;
+      legal = opened_legal header.first proc c stands;
+      at_once = opened_at_once header.first proc;
+      suits = opened_suits header header.first proc;
       stands = stands;
     }
 
-pub opened_open : (header : Header) (t : State) → IsJustOpened header.first t → IsOpen header (opening_row header.first ∷ []) t
+pub opened_open : (header : Header) (proc : ProcId) (t : State) → proc ≡ opening_process header → IsJustOpened header.first proc t → IsOpen header (opening_row header.first proc ∷ []) t
 unfolding seen_of
-opened_open header t just =
+opened_open header proc t home just =
     record {
-      keeps = opened_keeps header t.coordinator just.stands;
-      limited = opened_below header.first;
-      holds = record {
+      keeps = opened_keeps header proc t.coordinator just.stands;
+      limited = opened_below header.first proc;
+      holds = subst (λ (p : ProcId). Holds p (seen_of (opening_row header.first proc ∷ [])) t) home (record {
         events = sym just.events;
-        desk = sym just.desk;
-        face = ap (λ (v : View). let o : Option (Option View × ProcId) = Some (Some v, first_process) in o) (sym just.view);
+        desk = its_desk ∙ sym just.desk;
+        face = ap (λ (v : View). let o : Option (Option View × ProcId) = Some (Some v, proc) in o) (sym just.view);
         endings = sym just.endings;
         numbered = rw just.view (omega arith);
         index = rw just.view (omega arith);
-      };
+      });
     }
+  where
+    its_desk : desk_of (seen_of (opening_row header.first proc ∷ [])) proc ≡ empty_desk proc
+    its_desk = rw (nat_eq_refl proc.0) refl
 
 -- an open world keeps what each world does
 pub open_kept : (header : Header) (log : List LogRow) (t : State) → IsOpen header log t → IsKept header log t false
@@ -88,15 +91,22 @@ pub closed_kept : (header : Header) (log : List LogRow) (t new : State) → IsOp
 closed_kept header log t new is =
     record { legal = is.keeps.legal; at_once = is.keeps.at_once; suits = is.keeps.suits; limited = is.limited; stands = λ e. absurd cc }
 
--- the row opens the tab as plain settings say
-opens_plainly : (header : Header) → IsPlainHeader header → opens_suitably header nothing (opening_row header.first).row ≡ true
-opens_plainly header plain = rw (bytes_eq_refl header.first, plain.no_sites, plain.no_pages) (by_base (bytes_eq (base_of header.first) blank_text))
+-- the process of the first document is the opening one
+first_home : (header : Header) → home_of header nothing (record { 0 = 0 }) header.first ≡ Some (opening_process header)
+unfolding opening_process
+first_home header = by_base (bytes_eq (base_of header.first) blank_text)
   where
-    by_base : (blank : Bool) → (holds (λ (home : ProcId). home.0 == 1) (if blank then Some first_process else Some first_process) && true) ≡ true
+    by_base : (blank : Bool) → (if blank then Some first_process else Some (process_of_origin header (origin_of header.first))) ≡ Some (if blank then first_process else process_of_origin header (origin_of header.first))
     by_base true = refl
     by_base false = refl
 
--- a tab that was just opened suits plain settings
-pub opened_plainly : (header : Header) → IsPlainHeader header → Suits header (opening_row header.first ∷ [])
+-- the row opens the tab as settings say that give the first document no handler
+opens_unhandled : (header : Header) → OpensUnhandled header → opens_suitably header nothing (opening_row header.first (opening_process header)).row ≡ true
+opens_unhandled header none =
+    rw (bytes_eq_refl header.first, none) (rw (first_home header) (rw (nat_eq_refl (opening_process header).0) refl))
+
+-- a tab that was just opened suits them
+pub opened_unhandled : (header : Header) → OpensUnhandled header → Suits header (opening_row header.first (opening_process header) ∷ [])
 unfolding events_of
-opened_plainly header plain = opened_suits header header.first (opens_plainly header plain)
+opened_unhandled header none =
+    opened_suits header header.first (opening_process header) (opens_unhandled header none)

@@ -16,8 +16,8 @@ use Rattle.history_log.proofs.StillLaws.{all_still, busy_found}
 use Rattle.seen_laws.proofs.Sendings.{both}
 use Rattle.plain_tab.specs.Calm.{EachIsCalm}
 use Rattle.world.specs.declared.state.State.{State}
-use Rattle.world.specs.Open.{IsOpen, first_process}
-use Rattle.world.proofs.Facts.{one, one_runs, none_runs, poked_is, unpoked, first_desk, other_desk}
+use Rattle.world.specs.Open.{IsOpen, opening_process}
+use Rattle.world.proofs.Facts.{one, one_runs, none_runs, poked_is, unpoked, home_desk, other_desk}
 
 -- ---- prompts
 
@@ -67,14 +67,14 @@ module _ (header : Header) (log : List LogRow) (t : State) (is : IsOpen header l
 
   -- ---- what is in transit
 
-  pub home_is : is_idle t.desk ≡ is_idle (desk_of s first_process)
+  pub home_is : is_idle t.desk ≡ is_idle (desk_of s (opening_process header))
   home_is = ap is_idle (sym is.holds.desk)
 
   idle_of : (proc : ProcId) → is_idle t.desk ≡ true → is_idle (desk_of s proc) ≡ true
-  idle_of proc idle = by_test (proc.0 == 1) refl
+  idle_of proc idle = by_test (proc.0 == (opening_process header).0) refl
     where
-      by_test : (b : Bool) → (proc.0 == 1) ≡ b → is_idle (desk_of s proc) ≡ true
-      by_test true e = ap is_idle (first_desk header log t is proc e) ∙ idle
+      by_test : (b : Bool) → (proc.0 == (opening_process header).0) ≡ b → is_idle (desk_of s proc) ≡ true
+      by_test true e = ap is_idle (home_desk header log t is proc e) ∙ idle
       by_test false e = ap is_idle (other_desk header log t is proc e)
 
   pub still_is : is_idle t.desk ≡ is_still s
@@ -82,7 +82,7 @@ module _ (header : Header) (log : List LogRow) (t : State) (is : IsOpen header l
     where
       by_test : (b : Bool) → is_idle t.desk ≡ b → is_idle t.desk ≡ is_still s
       by_test true e = e ∙ sym (all_still log (λ proc. idle_of proc e))
-      by_test false e = e ∙ sym (busy_found log first_process (sym home_is ∙ e))
+      by_test false e = e ∙ sym (busy_found log (opening_process header) (sym home_is ∙ e))
 
   pub quiet_is : is_idle t.desk ≡ is_quiet s
   quiet_is =

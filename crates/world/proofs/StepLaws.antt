@@ -18,10 +18,10 @@ use Rattle.world.specs.declared.state.State.{State}
 use Rattle.world.specs.declared.error.StepError.{StepError}
 use Rattle.world.specs.declared.error.StepError.TheVariants as errors
 use Rattle.world.specs.Kept.{WorldState}
-use Rattle.world.specs.Open.{IsOpen, desk_at, first_process, row_limit}
+use Rattle.world.specs.Open.{IsOpen, desk_at, opening_process, row_limit}
 use Rattle.world.specs.Steps.{Steps, begin_idles, idle_at, idle_reply}
 use Rattle.world.specs.Turns.{HasGone, Shuts}
-use Rattle.world.proofs.Facts.{desks_are, first_desk, other_desk}
+use Rattle.world.proofs.Facts.{desks_are, home_desk, other_desk}
 
 same_at : (desk other : ProcId → Desk) (event : Event) → ((proc : ProcId) → desk proc ≡ other proc) → idle_at desk event ≡ idle_at other event
 same_at desk other (events.Go delta) same = refl
@@ -45,17 +45,17 @@ module _ (header : Header) (log : List LogRow) (t : State) (is : IsOpen header l
   -- ---- an event that logs is one of the first process
 
   pub record IsDue (proc : ProcId) (Waits : Desk → Type 0) : Type 0 where
-    pub here : proc ≡ first_process
+    pub here : proc ≡ (opening_process header)
     pub waits : Waits t.desk
 
   due_here : (proc : ProcId) (Waits : Desk → Type 0) → Waits (desk_of s proc) → (Waits (empty_desk proc) → ⊥) → IsDue proc Waits
-  due_here proc Waits waits never = by_test (proc.0 == 1) refl
+  due_here proc Waits waits never = by_test (proc.0 == (opening_process header).0) refl
     where
-      by_test : (b : Bool) → (proc.0 == 1) ≡ b → IsDue proc Waits
+      by_test : (b : Bool) → (proc.0 == (opening_process header).0) ≡ b → IsDue proc Waits
       by_test true e =
           record {
-            here = (let n : proc.0 ≡ 1 = grind (arith, nat_tests, e) in ap (λ (i : ℕ). let x : ProcId = record { 0 = i } in x) n);
-            waits = subst Waits (first_desk header log t is proc e) waits;
+            here = (let n : proc.0 ≡ (opening_process header).0 = grind (arith, nat_tests, e) in ap (λ (i : ℕ). let x : ProcId = record { 0 = i } in x) n);
+            waits = subst Waits (home_desk header log t is proc e) waits;
           }
       by_test false e = elim (never (subst Waits (other_desk header log t is proc e) waits)) [ ]
 

@@ -25,14 +25,14 @@ use Rattle.log_model.specs.declared.row_kind.Actor.TheVariants as actors
 use Rattle.log_model.specs.declared.row_kind.LogRow.{LogRow}
 use Rattle.log_model.specs.declared.row_kind.RowKind.{RowKind}
 use Rattle.log_model.specs.declared.row_kind.RowKind.TheVariants as rows
-use Rattle.log_model.specs.After.{after, follows_finished, desk_made, desks_made, reports_made, on_document, slot_finished, view_finished}
+use Rattle.log_model.specs.After.{after, follows_finished, desk_finished, desk_made, desk_taken, desks_made, reports_made, on_document, slot_finished, view_finished}
 use Rattle.log_model.specs.AfterRequests.{requests_finished}
 use Rattle.log_model.specs.Equal.{holds}
 use Rattle.log_model.specs.Logs.{seen_of}
 use Rattle.log_model.specs.Seen.{Seen, Document, Desk, desk_of, document_of}
 use Rattle.log_model.specs.Views.{View, made_by, made_for, after_made, after_task}
 use Rattle.log_counts.specs.Counts.{told_index}
-use Rattle.history_log.proofs.DeskLaws.{desk_of-after}
+use Rattle.history_log.proofs.DeskLaws.{desk_of-after, desk_served}
 use Rattle.seen_laws.specs.InEvent.{InEvent}
 use Rattle.seen_laws.specs.Sending.{IsToldTask}
 use Rattle.seen_laws.proofs.Processes.{told_outcome}
@@ -52,13 +52,13 @@ use Rattle.world.specs.declared.event.Reply.TheVariants as replies
 use Rattle.world.specs.declared.state.State.{State}
 use Rattle.world.specs.Asking.{event_of}
 use Rattle.world.specs.Notes.{ended_in, row_with}
-use Rattle.world.specs.Open.{IsOpen, face, first_document, first_process, row_limit, view_in}
+use Rattle.world.specs.Open.{IsOpen, face, first_document, opening_process, row_limit, view_in}
 use Rattle.world.specs.Steps.{act_row, order_for}
 use Rattle.world.specs.Turns.{HasGone}
 use Rattle.world.proofs.EndingLaws.{left_on, ended_on}
 use Rattle.world.proofs.EventLaws.{alone_on, holds_all}
 use Rattle.world.proofs.Facts.{one, same_view, viewed_doc, hand_small}
-use Rattle.world.proofs.NoteLaws.{Keeping}
+use Rattle.world.proofs.NoteLaws.{Keeping, own_desk}
 
 -- the row of one number, at the log's own
 row_same : (log : List LogRow) (n m : ℕ) (actor : Actor) (own : RowKind) → n ≡ m → log ++ row_with n actor own ∷ [] ≡ log ++ row_with m actor own ∷ []
@@ -122,9 +122,9 @@ module _ (header : Header) (log : List LogRow) (t : State) (is : IsOpen header l
   s = seen_of log
 
   abbrev by : Actor
-  by = actors.Proc first_process
+  by = actors.Proc (opening_process header)
 
-  d_is : is.keeps.stands.d.proc ≡ first_process
+  d_is : is.keeps.stands.d.proc ≡ (opening_process header)
   d_is = (one header log t is).proc
 
   -- the desk of the document's own process
@@ -145,7 +145,7 @@ module _ (header : Header) (log : List LogRow) (t : State) (is : IsOpen header l
       view_of_found (Some d) = d.view
 
   -- the document after a row that changes its view alone
-  face_on : (next : List Document) (f : Document → Document) (view : View) → next ≡ f is.keeps.stands.d ∷ [] → (f is.keeps.stands.d).nr ≡ is.keeps.stands.d.nr → (f is.keeps.stands.d).proc ≡ is.keeps.stands.d.proc → (f is.keeps.stands.d).view ≡ Some view → option_map face (find (λ (d : Document). d.nr.0 == 1) next) ≡ Some (Some view, first_process)
+  face_on : (next : List Document) (f : Document → Document) (view : View) → next ≡ f is.keeps.stands.d ∷ [] → (f is.keeps.stands.d).nr ≡ is.keeps.stands.d.nr → (f is.keeps.stands.d).proc ≡ is.keeps.stands.d.proc → (f is.keeps.stands.d).view ≡ Some view → option_map face (find (λ (d : Document). d.nr.0 == 1) next) ≡ Some (Some view, (opening_process header))
   face_on next f view are nr proc viewed =
       let number : ((f is.keeps.stands.d).nr.0 == 1) ≡ true = ap (λ (n : DocId). n.0 == 1) (nr ∙ (one header log t is).nr) in
       rw are (rw number (rw viewed (ap (λ (p : ProcId). let o : Option (Option View × ProcId) = Some (Some view, p) in o) (proc ∙ d_is))))
@@ -156,21 +156,21 @@ module _ (header : Header) (log : List LogRow) (t : State) (is : IsOpen header l
   dirty_is job first free =
       (each_first (IsOrderOf is.keeps.stands.d.nr is.keeps.stands.place.epoch is.keeps.stands.place.last_job) (orders_of_desk (desk_of s is.keeps.stands.d.proc)) job (rw (its_desk, free) first) is.keeps.stands.tab.flowing.own.orders).of_doc
 
-  pub begin_gone : (job : Job) (dirty : Bool) (new : State) (longer : List LogRow) → slice_get t.desk.mail 0 ≡ Some job → t.desk.in_hand ≡ None → dirty ≡ t.view.dirty → new.coordinator ≡ t.coordinator → new.events ≡ t.events + 1 → new.view ≡ t.view → new.desk ≡ record t.desk { mail = drop 1 t.desk.mail; in_hand = Some (record { job = job; dirty = dirty }) } → new.endings.items ≡ t.endings.items → longer ≡ log ++ row_with t.events by (rows.Taken first_process job.nr true dirty) ∷ [] → HasGone header (events.Begin first_process) (replies.Took (record { job = job; dirty = dirty })) log longer new
+  pub begin_gone : (job : Job) (dirty : Bool) (new : State) (longer : List LogRow) → slice_get t.desk.mail 0 ≡ Some job → t.desk.in_hand ≡ None → dirty ≡ t.view.dirty → new.coordinator ≡ t.coordinator → new.events ≡ t.events + 1 → new.view ≡ t.view → new.desk ≡ record t.desk { mail = drop 1 t.desk.mail; in_hand = Some (record { job = job; dirty = dirty }) } → new.endings.items ≡ t.endings.items → longer ≡ log ++ row_with t.events by (rows.Taken (opening_process header) job.nr true dirty) ∷ [] → HasGone header (events.Begin (opening_process header)) (replies.Took (record { job = job; dirty = dirty })) log longer new
   begin_gone job dirty new longer first free dirt coordinator events_ view desk ends_ more =
       let whole : longer ≡ log ++ row_with s.events by own ∷ [] = more ∙ row_same log t.events s.events by own (sym is.holds.events) in
       record {
         happened = record {
           own = own;
           out = [];
-          begins = (refl, rw (is.holds.desk, first) (ap (λ (b : Bool). replies.Took (record { job = job; dirty = b })) its_dirt, ap (λ (b : Bool). rows.Taken first_process job.nr true b) its_dirt));
+          begins = (refl, rw (is.holds.desk, first) (ap (λ (b : Bool). replies.Took (record { job = job; dirty = b })) its_dirt, ap (λ (b : Bool). rows.Taken (opening_process header) job.nr true b) its_dirt));
           log = whole;
         };
-        stands = subst (λ (l : List LogRow). IsOpen header l new) (sym whole) (alone_on header log t is short by own new acted (holds_all (after s (row_with s.events by own)) new s.events kept (events_ ∙ ap (λ (k : ℕ). k + 1) (sym is.holds.events)) (rw view (let n : t.view.numbered ≤ t.events = is.holds.numbered in omega (arith, n, events_))) (rw view (let i : t.view.index ≤ 2 * t.events = is.holds.index in omega (arith, i, events_)))));
+        stands = subst (λ (l : List LogRow). IsOpen header l new) (sym whole) (alone_on header log t is short by own new acted (holds_all (opening_process header) (after s (row_with s.events by own)) new s.events kept (events_ ∙ ap (λ (k : ℕ). k + 1) (sym is.holds.events)) (rw view (let n : t.view.numbered ≤ t.events = is.holds.numbered in omega (arith, n, events_))) (rw view (let i : t.view.index ≤ 2 * t.events = is.holds.index in omega (arith, i, events_)))));
       }
     where
       own : RowKind
-      own = rows.Taken first_process job.nr true dirty
+      own = rows.Taken (opening_process header) job.nr true dirty
 
       its_dirt : dirty ≡ (order_for s job).dirty
       its_dirt =
@@ -180,13 +180,13 @@ module _ (header : Header) (log : List LogRow) (t : State) (is : IsOpen header l
       acted =
           subst (λ (c : Coordinator). HasActed (event_of header log by own) [] c) (sym coordinator) (taken_acted (event_of header log by own) t.coordinator is.keeps.stands job (ap (λ (d : Desk). d.in_hand) its_desk ∙ free) (ap (λ (d : Desk). slice_get d.mail 0) its_desk ∙ first) (ap (λ (p : ProcId). actors.Proc p) (sym d_is)) (ap (λ (p : ProcId). rows.Taken p job.nr true dirty) (sym d_is) ∙ ap (λ (b : Bool). rows.Taken is.keeps.stands.d.proc job.nr true b) (dirt ∙ ap (λ (v : View). v.dirty) (sym (same_view header log t is)))))
 
-      kept : Keeping (after s (row_with s.events by own)) s.events new.desk new.endings.items (Some new.view, first_process)
+      kept : Keeping (opening_process header) (after s (row_with s.events by own)) s.events new.desk new.endings.items (Some new.view, (opening_process header))
       kept =
           record {
             events = refl;
-            desk = desk_of-after s first_process s.events by own ∙ (rw (is.holds.desk, first, desk) refl);
+            desk = desk_of-after s (opening_process header) s.events by own ∙ (own_desk (opening_process header) (desk_taken true dirty) (desk_of s (opening_process header)) ∙ rw (is.holds.desk, first, desk) refl);
             endings = is.holds.endings ∙ sym ends_;
-            face = is.holds.face ∙ ap (λ (v : View). let o : Option (Option View × ProcId) = Some (Some v, first_process) in o) (sym view);
+            face = is.holds.face ∙ ap (λ (v : View). let o : Option (Option View × ProcId) = Some (Some v, (opening_process header)) in o) (sym view);
           }
 
   -- ---- an order is finished
@@ -202,21 +202,21 @@ module _ (header : Header) (log : List LogRow) (t : State) (is : IsOpen header l
     pub its_doc : order.job.doc ≡ t.view.doc
     its_doc = its_order.of_doc ∙ ((one header log t is).nr ∙ sym (viewed_doc header log t is))
 
-    pub finish_gone : (outcome : Outcome) (new : State) (longer : List LogRow) → ((dirty : Bool) → outcome ≡ outcome_of_task order.job.task dirty None) → new.coordinator ≡ t.coordinator → new.events ≡ t.events + 1 → new.view ≡ after_task t.view order.job.task → new.desk ≡ record t.desk { in_hand = None; reports = t.desk.reports ++ told.Done order.job outcome None ∷ [] } → new.endings.items ≡ t.endings.items → longer ≡ log ++ row_with t.events by (rows.Finished first_process order.job.nr outcome) ∷ [] → (done : worked.Done) → HasGone header (events.Finish first_process done) replies.Finished log longer new
+    pub finish_gone : (outcome : Outcome) (new : State) (longer : List LogRow) → ((dirty : Bool) → outcome ≡ outcome_of_task order.job.task dirty None) → new.coordinator ≡ t.coordinator → new.events ≡ t.events + 1 → new.view ≡ after_task t.view order.job.task → new.desk ≡ record t.desk { in_hand = None; reports = t.desk.reports ++ told.Done order.job outcome None ∷ [] } → new.endings.items ≡ t.endings.items → longer ≡ log ++ row_with t.events by (rows.Finished (opening_process header) order.job.nr outcome) ∷ [] → (done : worked.Done) → HasGone header (events.Finish (opening_process header) done) replies.Finished log longer new
     finish_gone outcome new longer out_is coordinator events_ view desk ends_ more done =
         let whole : longer ≡ log ++ row_with s.events by own ∷ [] = more ∙ row_same log t.events s.events by own (sym is.holds.events) in
         record {
           happened = record {
             own = own;
             out = [];
-            begins = (refl, refl, rw (is.holds.desk, hand) (ap (λ (o : Outcome). rows.Finished first_process order.job.nr o) (out_is order.dirty)));
+            begins = (refl, refl, rw (is.holds.desk, hand) (ap (λ (o : Outcome). rows.Finished (opening_process header) order.job.nr o) (out_is order.dirty)));
             log = whole;
           };
-          stands = subst (λ (l : List LogRow). IsOpen header l new) (sym whole) (alone_on header log t is short by own new acted (holds_all (after s (row_with s.events by own)) new s.events kept (events_ ∙ ap (λ (k : ℕ). k + 1) (sym is.holds.events)) numbered index));
+          stands = subst (λ (l : List LogRow). IsOpen header l new) (sym whole) (alone_on header log t is short by own new acted (holds_all (opening_process header) (after s (row_with s.events by own)) new s.events kept (events_ ∙ ap (λ (k : ℕ). k + 1) (sym is.holds.events)) numbered index));
         }
       where
         own : RowKind
-        own = rows.Finished first_process order.job.nr outcome
+        own = rows.Finished (opening_process header) order.job.nr outcome
 
         is_its : outcome ≡ told_outcome order.job.task
         is_its = out_is true ∙ same_outcome order.job.task true its_told
@@ -229,14 +229,14 @@ module _ (header : Header) (log : List LogRow) (t : State) (is : IsOpen header l
         ends =
             subst (λ (o : Outcome). IsFinishing s is.keeps.stands.d order o t.view) (sym is_its) (finishing s is.keeps.stands.d order order.job.task t.view is.keeps.stands.tab.sole.documents its_order.of_doc (one header log t is).view refl its_told)
 
-        held : (desk_of s first_process).in_hand ≡ Some order
+        held : (desk_of s (opening_process header)).in_hand ≡ Some order
         held = ap (λ (d : Desk). d.in_hand) is.holds.desk ∙ hand
 
-        kept : Keeping (after s (row_with s.events by own)) s.events new.desk new.endings.items (Some new.view, first_process)
+        kept : Keeping (opening_process header) (after s (row_with s.events by own)) s.events new.desk new.endings.items (Some new.view, (opening_process header))
         kept =
             record {
               events = refl;
-              desk = desk_of-after s first_process s.events by own ∙ rw (is.holds.desk, hand, desk) refl;
+              desk = desk_of-after s (opening_process header) s.events by own ∙ (own_desk (opening_process header) (desk_finished outcome) (desk_of s (opening_process header)) ∙ rw (is.holds.desk, hand, desk) refl);
               endings = rw (held, ends.requests) (is.holds.endings ∙ sym ends_);
               face = rw (held, view) (face_on _ (λ (d : Document). record d { view = Some (after_task t.view order.job.task) }) (after_task t.view order.job.task) ends.documents refl refl refl);
             }
@@ -263,24 +263,24 @@ module _ (header : Header) (log : List LogRow) (t : State) (is : IsOpen header l
     there : slice_get (desk_of s is.keeps.stands.d.proc).input 0 ≡ Some poke
     there = ap (λ (d : Desk). slice_get d.input 0) its_desk ∙ first
 
-    begins_with : (own : RowKind) → (own ≡ act_row first_process t.view poke.req (made_by t.view poke.action)) → IsSomeAnd (slice_get (desk_of s first_process).input 0) (λ (p : Poke). IsSomeAnd (view_in s p.doc) (λ (view : View). own ≡ act_row first_process view p.req (made_by view p.action)))
+    begins_with : (own : RowKind) → (own ≡ act_row (opening_process header) t.view poke.req (made_by t.view poke.action)) → IsSomeAnd (slice_get (desk_of s (opening_process header)).input 0) (λ (p : Poke). IsSomeAnd (view_in s p.doc) (λ (view : View). own ≡ act_row (opening_process header) view p.req (made_by view p.action)))
     begins_with own own_is = rw (is.holds.desk, first, seen_view poke.doc its_poke) own_is
 
-    pub made_gone : (what : What) (new : State) (longer : List LogRow) → made_by t.view poke.action ≡ Some what → new.coordinator ≡ t.coordinator → new.events ≡ t.events + 1 → new.view ≡ after_made t.view what → new.desk ≡ record t.desk { input = drop 1 t.desk.input; reports = t.desk.reports ++ told.Made (made_for t.view poke.req what) ∷ [] } → new.endings.items ≡ t.endings.items → longer ≡ log ++ row_with t.events by (rows.Made first_process (made_for t.view poke.req what)) ∷ [] → HasGone header (events.Act first_process) replies.Acted log longer new
+    pub made_gone : (what : What) (new : State) (longer : List LogRow) → made_by t.view poke.action ≡ Some what → new.coordinator ≡ t.coordinator → new.events ≡ t.events + 1 → new.view ≡ after_made t.view what → new.desk ≡ record t.desk { input = drop 1 t.desk.input; reports = t.desk.reports ++ told.Made (made_for t.view poke.req what) ∷ [] } → new.endings.items ≡ t.endings.items → longer ≡ log ++ row_with t.events by (rows.Made (opening_process header) (made_for t.view poke.req what)) ∷ [] → HasGone header (events.Act (opening_process header)) replies.Acted log longer new
     made_gone what new longer made coordinator events_ view desk ends_ more =
         let whole : longer ≡ log ++ row_with s.events by own ∷ [] = more ∙ row_same log t.events s.events by own (sym is.holds.events) in
         record {
           happened = record {
             own = own;
             out = [];
-            begins = (refl, refl, begins_with own (ap (λ (o : Option What). act_row first_process t.view poke.req o) (sym made)));
+            begins = (refl, refl, begins_with own (ap (λ (o : Option What). act_row (opening_process header) t.view poke.req o) (sym made)));
             log = whole;
           };
-          stands = subst (λ (l : List LogRow). IsOpen header l new) (sym whole) (alone_on header log t is short by own new acted (holds_all (after s (row_with s.events by own)) new s.events kept (events_ ∙ ap (λ (k : ℕ). k + 1) (sym is.holds.events)) numbered index));
+          stands = subst (λ (l : List LogRow). IsOpen header l new) (sym whole) (alone_on header log t is short by own new acted (holds_all (opening_process header) (after s (row_with s.events by own)) new s.events kept (events_ ∙ ap (λ (k : ℕ). k + 1) (sym is.holds.events)) numbered index));
         }
       where
         own : RowKind
-        own = rows.Made first_process (made_for t.view poke.req what)
+        own = rows.Made (opening_process header) (made_for t.view poke.req what)
 
         e : InEvent
         e = event_of header log by own
@@ -302,14 +302,15 @@ module _ (header : Header) (log : List LogRow) (t : State) (is : IsOpen header l
         apart : follows_finished s (row_with s.events by own) ≡ false
         apart = let never : (s.events == (s.events + 1)) ≡ false = grind (arith, nat_tests) in rw never refl
 
-        kept : Keeping (after s (row_with s.events by own)) s.events new.desk new.endings.items (Some new.view, first_process)
+        kept : Keeping (opening_process header) (after s (row_with s.events by own)) s.events new.desk new.endings.items (Some new.view, (opening_process header))
         kept =
             record {
               events = refl;
-              desk = desk_of-after s first_process s.events by own
-                  ∙ (ap (λ (b : Bool). desks_made b (made_for t.view poke.req what) (desk_of s first_process)) apart
+              desk = desk_of-after s (opening_process header) s.events by own
+                  ∙ (own_desk (opening_process header) (desks_made (follows_finished s (row_with s.events by own)) (made_for t.view poke.req what)) (desk_of s (opening_process header))
+                  ∙ (ap (λ (b : Bool). desks_made b (made_for t.view poke.req what) (desk_of s (opening_process header))) apart
                   ∙ (ap (desk_made (made_for t.view poke.req what)) is.holds.desk
-                  ∙ (ap (λ (l : List Report). let d : Desk = record t.desk { input = drop 1 t.desk.input; reports = l } in d) (makes.reported t.desk.reports) ∙ sym desk)));
+                  ∙ (ap (λ (l : List Report). let d : Desk = record t.desk { input = drop 1 t.desk.input; reports = l } in d) (makes.reported t.desk.reports) ∙ sym desk))));
               endings = left_on s.requests poke.req _ (λ q. refl) ∙ (is.holds.endings ∙ sym ends_);
               face = rw view (face_on _ (λ (d : Document). record d { view = option_map (λ (v : View). after_made v what) d.view }) (after_made t.view what) (on_sole s.documents is.keeps.stands.d t.view.doc _ is.keeps.stands.tab.sole.documents (viewed_doc header log t is ∙ sym (one header log t is).nr)) refl refl (ap (λ (o : Option View). option_map (λ (v : View). after_made v what) o) (one header log t is).view));
             }
@@ -327,17 +328,17 @@ module _ (header : Header) (log : List LogRow) (t : State) (is : IsOpen header l
             let up : (after_made t.view what).index ≤ t.view.index + 1 = makes.index in
             omega (arith, i, same, up, events_)
 
-    pub refused_gone : (new : State) (longer : List LogRow) → made_by t.view poke.action ≡ None → new.coordinator ≡ t.coordinator → new.events ≡ t.events + 1 → new.view ≡ t.view → new.desk ≡ record t.desk { input = drop 1 t.desk.input } → new.endings.items ≡ ended_in t.endings.items poke.req (ends.Refused denials.BadAddress) → longer ≡ log ++ row_with t.events by (rows.Refused poke.req denials.BadAddress) ∷ [] → HasGone header (events.Act first_process) replies.Acted log longer new
+    pub refused_gone : (new : State) (longer : List LogRow) → made_by t.view poke.action ≡ None → new.coordinator ≡ t.coordinator → new.events ≡ t.events + 1 → new.view ≡ t.view → new.desk ≡ record t.desk { input = drop 1 t.desk.input } → new.endings.items ≡ ended_in t.endings.items poke.req (ends.Refused denials.BadAddress) → longer ≡ log ++ row_with t.events by (rows.Refused poke.req denials.BadAddress) ∷ [] → HasGone header (events.Act (opening_process header)) replies.Acted log longer new
     refused_gone new longer none coordinator events_ view desk ends_ more =
         let whole : longer ≡ log ++ row_with s.events by own ∷ [] = more ∙ row_same log t.events s.events by own (sym is.holds.events) in
         record {
           happened = record {
             own = own;
             out = [];
-            begins = (refl, refl, begins_with own (ap (λ (o : Option What). act_row first_process t.view poke.req o) (sym none)));
+            begins = (refl, refl, begins_with own (ap (λ (o : Option What). act_row (opening_process header) t.view poke.req o) (sym none)));
             log = whole;
           };
-          stands = subst (λ (l : List LogRow). IsOpen header l new) (sym whole) (alone_on header log t is short by own new acted (holds_all (after s (row_with s.events by own)) new s.events kept (events_ ∙ ap (λ (k : ℕ). k + 1) (sym is.holds.events)) (rw view (let n : t.view.numbered ≤ t.events = is.holds.numbered in omega (arith, n, events_))) (rw view (let i : t.view.index ≤ 2 * t.events = is.holds.index in omega (arith, i, events_)))));
+          stands = subst (λ (l : List LogRow). IsOpen header l new) (sym whole) (alone_on header log t is short by own new acted (holds_all (opening_process header) (after s (row_with s.events by own)) new s.events kept (events_ ∙ ap (λ (k : ℕ). k + 1) (sym is.holds.events)) (rw view (let n : t.view.numbered ≤ t.events = is.holds.numbered in omega (arith, n, events_))) (rw view (let i : t.view.index ≤ 2 * t.events = is.holds.index in omega (arith, i, events_)))));
         }
       where
         own : RowKind
@@ -350,11 +351,11 @@ module _ (header : Header) (log : List LogRow) (t : State) (is : IsOpen header l
         acted =
             subst (λ (c : Coordinator). HasActed e [] c) (sym coordinator) (refused_acted e t.coordinator is.keeps.stands poke there (ap (λ (p : ProcId). actors.Proc p) (sym d_is)) refl (ap (λ (v : View). made_by v poke.action) (same_view header log t is) ∙ none) refl)
 
-        kept : Keeping (after s (row_with s.events by own)) s.events new.desk new.endings.items (Some new.view, first_process)
+        kept : Keeping (opening_process header) (after s (row_with s.events by own)) s.events new.desk new.endings.items (Some new.view, (opening_process header))
         kept =
             record {
               events = refl;
-              desk = desk_of-after s first_process s.events by own ∙ rw (is.holds.desk, desk) refl;
+              desk = desk_of-after s (opening_process header) s.events by own ∙ (own_desk (opening_process header) desk_served (desk_of s (opening_process header)) ∙ rw (is.holds.desk, desk) refl);
               endings = ended_on s.requests poke.req _ (ends.Refused denials.BadAddress) (λ q. refl) ∙ (ap (λ (l : List (Option Ending)). ended_in l poke.req (ends.Refused denials.BadAddress)) is.holds.endings ∙ sym ends_);
-              face = is.holds.face ∙ ap (λ (v : View). let o : Option (Option View × ProcId) = Some (Some v, first_process) in o) (sym view);
+              face = is.holds.face ∙ ap (λ (v : View). let o : Option (Option View × ProcId) = Some (Some v, (opening_process header)) in o) (sym view);
             }

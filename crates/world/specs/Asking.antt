@@ -11,7 +11,7 @@ use Rattle.log_model.specs.declared.row_kind.RowKind.{RowKind}
 use Rattle.log_model.specs.declared.row_kind.RowKind.TheVariants as rows
 use Rattle.log_model.specs.Logs.{seen_of}
 use Rattle.seen_laws.specs.InEvent.{InEvent}
-use Rattle.world.specs.Open.{first_process}
+use Rattle.world.specs.Open.{opening_process}
 
 -- the next event of a log, with its own row
 abbrev pub event_of : Header → List LogRow → Actor → RowKind → InEvent
@@ -24,4 +24,4 @@ asking header log req delta = event_of header log actors.Ui (rows.Accepted req N
 
 -- a report is delivered
 abbrev pub delivering : Header → List LogRow → InEvent
-delivering header log = event_of header log actors.Coord (rows.Delivered first_process)
+delivering header log = event_of header log actors.Coord (rows.Delivered (opening_process header))

@@ -1,6 +1,6 @@
 -- What a world is to its callers: its settings, its log, and whether it is closed; and what holds of every world.
 -- This project's own.
-use Rattle.std.specs.Prelude.{◌≡◌, Bool, false, List, [], IsTrue}
+use Rattle.std.specs.Prelude.{◌≡◌, Bool, false, List, None, IsTrue}
 use Rattle.log_model.specs.declared.row_kind.LogRow.{LogRow}
 use Rattle.log_model.specs.declared.header.Header.{Header}
 use Rattle.log_model.specs.Seen.{nothing}
@@ -8,7 +8,7 @@ use Rattle.log_model.specs.Events.{events_of}
 use Rattle.log_model.specs.Legal.{IsLegal}
 use Rattle.log_model.specs.ActsAtOnce.{ActsAtOnce}
 use Rattle.log_model.specs.Limits.{BeginsBelow}
-use Rattle.log_model.specs.Suits.{Suits, opens_as}
+use Rattle.log_model.specs.Suits.{Suits, opens_as, slot_of}
 use Rattle.world.specs.Open.{IsOpen, row_limit}
 use Rattle.world.specs.declared.state.State.{State}
 
@@ -32,7 +32,6 @@ pub record IsKept (header : Header) (log : List LogRow) (state : State) (closed 
   -- and what is kept beside the log is what it has come to, unless the world is closed
   pub stands : closed ≡ false → IsOpen header log state
 
--- the settings place no document otherwise than in the first process, and give it no handler
-pub record IsPlainHeader (header : Header) : Type 0 where
-  pub no_sites : header.sites ≡ []
-  pub no_pages : header.pages ≡ []
+-- the settings give the first document no handler
+abbrev pub OpensUnhandled : Header → Type 0
+OpensUnhandled header = slot_of header header.first ≡ None

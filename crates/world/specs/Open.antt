@@ -1,14 +1,16 @@
 -- What an open world keeps beside its log, which is what the log has come to.
 -- This project's own.
-use Rattle.std.specs.Prelude.{◌≡◌, ℕ, ◌≤◌, ◌*◌, ◌==◌, List, map, Option, Some, if◌then◌else◌, option_map, option_and_then}
+use Rattle.std.specs.Prelude.{◌≡◌, ℕ, ◌≤◌, ◌*◌, ◌==◌, List, map, Option, Some, bytes_eq, if◌then◌else◌, option_map, option_and_then}
 use Rattle.tab_ids.specs.declared.DocId.{DocId}
 use Rattle.tab_ids.specs.declared.ProcId.{ProcId}
+use Rattle.address.specs.Addresses.{base_of, origin_of, blank_text}
 use Rattle.log_model.specs.declared.header.Header.{Header}
 use Rattle.log_model.specs.declared.outcome.Ending.{Ending}
 use Rattle.log_model.specs.declared.row_kind.LogRow.{LogRow}
 use Rattle.log_model.specs.Limits.{BeginsBelow}
 use Rattle.log_model.specs.Logs.{seen_of}
 use Rattle.log_model.specs.Seen.{Seen, Document, Desk, Asked, document_of, desk_of, empty_desk}
+use Rattle.log_model.specs.Suits.{first_process, process_of_origin}
 use Rattle.log_model.specs.Views.{View}
 use Rattle.coord.specs.Keeping.{Keeps}
 use Rattle.world.specs.declared.state.State.{State}
@@ -17,12 +19,15 @@ use Rattle.world.specs.declared.state.State.{State}
 abbrev pub row_limit : ℕ
 row_limit = 1000000
 
--- the document with which a tab opens, and its process
+-- the document with which a tab opens
 abbrev pub first_document : DocId
 first_document = record { 0 = 1 }
 
-abbrev pub first_process : ProcId
-first_process = record { 0 = 1 }
+-- its process: that of the site of its address's origin; for an about:blank document the first
+unfoldable pub opening_process : Header → ProcId
+opening_process header =
+    if bytes_eq (base_of header.first) blank_text then first_process
+    else process_of_origin header (origin_of header.first)
 
 -- the desk of each process, where something waits in one alone
 abbrev pub desk_at : Desk → ProcId → Desk
@@ -41,10 +46,10 @@ abbrev pub endings_of : Seen → List (Option Ending)
 endings_of s = map (λ (q : Asked). q.ending) s.requests
 
 -- the number of the next event, the lists of the one process, the view of the one document, and how each request ended
-pub record Holds (s : Seen) (t : State) : Type 0 where
+pub record Holds (home : ProcId) (s : Seen) (t : State) : Type 0 where
   pub events : s.events ≡ t.events
-  pub desk : desk_of s first_process ≡ t.desk
-  pub face : option_map face (document_of s first_document) ≡ Some (Some t.view, first_process)
+  pub desk : desk_of s home ≡ t.desk
+  pub face : option_map face (document_of s first_document) ≡ Some (Some t.view, home)
   pub endings : endings_of s ≡ t.endings.items
   -- a document numbers an entry in an event of its own, and its index is that of an order, or one more with each entry
   pub numbered : t.view.numbered ≤ t.events
@@ -54,4 +59,4 @@ pub record Holds (s : Seen) (t : State) : Type 0 where
 pub record IsOpen (header : Header) (log : List LogRow) (t : State) : Type 0 where
   pub keeps : Keeps header log t.coordinator
   pub limited : BeginsBelow row_limit log
-  pub holds : Holds (seen_of log) t
+  pub holds : Holds (opening_process header) (seen_of log) t

@@ -1,6 +1,7 @@
 -- The row with which a tab opens, and what is kept then.
 -- This project's own.
 use Rattle.std.specs.Prelude.{◌≡◌, ℕ, List, [], None}
+use Rattle.tab_ids.specs.declared.ProcId.{ProcId}
 use Rattle.log_model.specs.declared.row_kind.Actor.TheVariants as actors
 use Rattle.log_model.specs.declared.row_kind.LogRow.{LogRow}
 use Rattle.log_model.specs.declared.row_kind.RowKind.TheVariants as rows
@@ -8,21 +9,21 @@ use Rattle.log_model.specs.Seen.{empty_desk}
 use Rattle.log_model.specs.Views.{opening_view}
 use Rattle.coord.specs.Standing.{StandsFor, opened_at}
 use Rattle.world.specs.declared.state.State.{State}
-use Rattle.world.specs.Open.{first_document, first_process}
+use Rattle.world.specs.Open.{first_document}
 
--- its first entry, document state and document, in the first process, without a handler
-abbrev pub opening_row : List ℕ → LogRow
-opening_row address =
+-- its first entry, document state and document, in a process, without a handler
+abbrev pub opening_row : List ℕ → ProcId → LogRow
+opening_row address proc =
     record {
       event = 0;
       actor = actors.Start;
-      row = rows.Opened (record { maker = 0; nr = 1 }) (record { 0 = 1 }) first_document first_process None address;
+      row = rows.Opened (record { maker = 0; nr = 1 }) (record { 0 = 1 }) first_document proc None address;
     }
 
 -- a coordinator that stands for that log, the view of the document, and empty lists
-pub record IsJustOpened (address : List ℕ) (t : State) : Type 0 where
+pub record IsJustOpened (address : List ℕ) (proc : ProcId) (t : State) : Type 0 where
   pub events : t.events ≡ 1
-  pub stands : StandsFor (opened_at address) t.coordinator
+  pub stands : StandsFor (opened_at address proc) t.coordinator
   pub view : t.view ≡ opening_view first_document (record { maker = 0; nr = 1 }) address
-  pub desk : t.desk ≡ empty_desk first_process
+  pub desk : t.desk ≡ empty_desk proc
   pub endings : t.endings.items ≡ []

@@ -8,7 +8,7 @@ ghost use Rattle.log_model.specs.Seen.{desk_of};
 ghost use Rattle.seen_laws.specs.InEvent.{InEvent};
 ghost use Rattle.world.specs.declared.event.Event.TheVariants as events;
 ghost use Rattle.world.specs.Asking.{delivering};
-ghost use Rattle.world.specs.Open.{IsOpen, first_process, row_limit};
+ghost use Rattle.world.specs.Open.{IsOpen, opening_process, row_limit};
 ghost use Rattle.world.specs.Turns.{HasGone, Shuts};
 
 use crate::error::StepError;
@@ -26,7 +26,7 @@ pub(crate) fn deliver(log: &mut Log, header: &Header, state: &mut State) -> Resu
     requires open { IsOpen header.now log.old state.old }
     requires short { length log.old < row_limit }
     requires due { 0 < length state.old.desk.reports }
-    ensures gone { IfOk result (λ reply. HasGone header.now (events.Deliver first_process) reply log.old log.new state.new) }
+    ensures gone { IfOk result (λ reply. HasGone header.now (events.Deliver (opening_process header.now)) reply log.old log.new state.new) }
     ensures shuts { IfErr result Shuts }
     ensures front { OnErr result (take (length log.old) log.new ≡ log.old) }
 {
@@ -70,8 +70,8 @@ fn take(
     ghost e: { InEvent }
     requires is { e ≡ delivering header.now log.now }
     requires keeps { Keeps header.now log.now coordinator.old }
-    requires home { coordinator.old.home.proc ≡ first_process }
-    requires waits { slice_get (desk_of (seen_of log.now) first_process).reports 0 ≡ Some report.now }
+    requires home { coordinator.old.home.proc ≡ opening_process header.now }
+    requires waits { slice_get (desk_of (seen_of log.now) (opening_process header.now)).reports 0 ≡ Some report.now }
     requires room { HasRoom (seen_of log.now) }
     requires first { out.old ≡ [] }
     ensures acted { OnOk result (HasActed (delivering header.now log.now) out.new coordinator.new) }

@@ -9,6 +9,8 @@ mod error;
 mod event;
 mod idling;
 mod logging;
+mod opening;
+mod reading;
 mod state;
 mod working;
 mod world;

@@ -20,17 +20,21 @@ pub(crate) struct State {
     pub(crate) endings: Vec<Option<Ending>>,
 }
 
-/// What is kept of a tab that was just opened at an address.
-pub(crate) fn opened_at(alloc: Global, address: &Address) -> Result<State, OutOfMemory>
-    ensures { IfOk result (λ t. IsJustOpened address.now t) }
+/// What is kept of a tab that was just opened at an address, with its document in a process.
+pub(crate) fn opened_at(
+    alloc: Global,
+    address: &Address,
+    proc: ProcId,
+) -> Result<State, OutOfMemory>
+    ensures { IfOk result (λ t. IsJustOpened address.now proc t) }
 {
     let shown = address.copy()?;
-    let coordinator = Coordinator::fresh(alloc, address)?;
+    let coordinator = Coordinator::fresh(alloc, address, proc)?;
     Ok(State {
         events: 1,
         coordinator,
         view: View::opening(DocId(1), EntryId { maker: 0, nr: 1 }, shown),
-        desk: Desk::new(alloc, ProcId(1)),
+        desk: Desk::new(alloc, proc),
         endings: Vec::new(alloc),
     })
 }

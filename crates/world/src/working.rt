@@ -5,7 +5,7 @@ ghost use Rattle.proc_work.specs.Work.{outcome_of_task};
 ghost use Rattle.seen_laws.specs.Sending.{IsToldTask};
 ghost use Rattle.world.specs.declared.event.Event.TheVariants as events;
 ghost use Rattle.proc_work.specs.Work as worked;
-ghost use Rattle.world.specs.Open.{IsOpen, first_process, row_limit};
+ghost use Rattle.world.specs.Open.{IsOpen, opening_process, row_limit};
 ghost use Rattle.world.specs.Turns.{HasGone, Shuts};
 
 use crate::endings::end;
@@ -23,7 +23,7 @@ pub(crate) fn act(log: &mut Log, header: &Header, state: &mut State) -> Result<R
     requires open { IsOpen header.now log.old state.old }
     requires short { length log.old < row_limit }
     requires due { 0 < length state.old.desk.input }
-    ensures gone { IfOk result (λ reply. HasGone header.now (events.Act first_process) reply log.old log.new state.new) }
+    ensures gone { IfOk result (λ reply. HasGone header.now (events.Act (opening_process header.now)) reply log.old log.new state.new) }
     ensures shuts { IfErr result Shuts }
     ensures front { OnErr result (take (length log.old) log.new ≡ log.old) }
 {
@@ -65,7 +65,7 @@ pub(crate) fn begin(log: &mut Log, header: &Header, state: &mut State) -> Result
     requires short { length log.old < row_limit }
     requires free { state.old.desk.in_hand ≡ None }
     requires due { 0 < length state.old.desk.mail }
-    ensures gone { IfOk result (λ reply. HasGone header.now (events.Begin first_process) reply log.old log.new state.new) }
+    ensures gone { IfOk result (λ reply. HasGone header.now (events.Begin (opening_process header.now)) reply log.old log.new state.new) }
     ensures shuts { IfErr result Shuts }
     ensures front { OnErr result (take (length log.old) log.new ≡ log.old) }
 {
@@ -94,7 +94,7 @@ pub(crate) fn finish(log: &mut Log, header: &Header, state: &mut State) -> Resul
     requires open { IsOpen header.now log.old state.old }
     requires short { length log.old < row_limit }
     requires due { IsSome state.old.desk.in_hand }
-    ensures gone { (done : worked.Done) → IfOk result (λ reply. HasGone header.now (events.Finish first_process done) reply log.old log.new state.new) }
+    ensures gone { (done : worked.Done) → IfOk result (λ reply. HasGone header.now (events.Finish (opening_process header.now) done) reply log.old log.new state.new) }
     ensures shuts { IfErr result Shuts }
     ensures front { OnErr result (take (length log.old) log.new ≡ log.old) }
 {

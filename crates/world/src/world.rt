@@ -11,8 +11,8 @@ ghost use Rattle.log_model.specs.Logs.{seen_of, history_of, in_hand_of, input_of
 ghost use Rattle.log_model.specs.Order.{SameHistory};
 ghost use Rattle.log_model.specs.Seen.{desk_of};
 ghost use Rattle.step_index.specs.Held.{history_held};
-ghost use Rattle.world.specs.Kept.{IsPlainHeader, OpensAs};
-ghost use Rattle.world.specs.Open.{IsOpen, endings_of, first_process, row_limit};
+ghost use Rattle.world.specs.Kept.{OpensAs, OpensUnhandled};
+ghost use Rattle.world.specs.Open.{IsOpen, endings_of, opening_process, row_limit};
 ghost use Rattle.world.specs.Opening.{opening_row};
 ghost use Rattle.world.specs.Steps.{IsBuilt, Steps, idle_reply};
 ghost use Rattle.world.specs.Turns.{HasGone, Shuts};
@@ -22,6 +22,8 @@ use crate::delivering::deliver;
 use crate::error::StepError;
 use crate::event::{Event, Reply, Waiting};
 use crate::idling::idle;
+use crate::opening::opening_process;
+use crate::reading::{in_hand, waiting};
 use crate::state::{State, opened_at};
 use crate::working::{act, begin, finish};
 use address::OutOfMemory;
@@ -36,7 +38,7 @@ use tab_ids::{DocId, EntryId, NavId, ProcId, StateId};
 /// No event that logs begins at this many rows or more.
 const ROW_LIMIT: usize = 1_000_000;
 
-/// A tab with one document, in process 1.
+/// A tab with one document, in the process of its site.
 ///
 /// What the log has come to is kept beside it: no step reads the log again.
 #[derive(Drop)]
@@ -58,12 +60,13 @@ impl Model for World {
 }
 
 impl World {
-    /// A tab that was just opened at the header's address. It keeps the header; its sites and pages have no effect yet.
+    /// A tab that was just opened at the header's address, with its document in the process of its site. It keeps the header; its pages have no effect yet.
     pub fn fresh(alloc: Global, header: &Header) -> Result<World, OutOfMemory>
-        ensures ok { IfOk result (λ world. world ≡ record { header = header.now; log = opening_row header.now.first ∷ []; closed = false }) }
-        ensures suits { IsPlainHeader header.now → IfOk result (λ world. Suits header.now world.log) }
+        ensures ok { IfOk result (λ world. world ≡ record { header = header.now; log = opening_row header.now.first (opening_process header.now) ∷ []; closed = false }) }
+        ensures suits { OpensUnhandled header.now → IfOk result (λ world. Suits header.now world.log) }
     {
-        let state = opened_at(alloc, &header.first)?;
+        let proc = opening_process(header);
+        let state = opened_at(alloc, &header.first, proc)?;
         let address = header.first.copy()?;
         let header = header.copy(alloc)?;
         let log = Log::fresh(
@@ -75,7 +78,7 @@ impl World {
                     entry: EntryId { maker: 0, nr: 1 },
                     state: StateId(1),
                     doc: DocId(1),
-                    proc: ProcId(1),
+                    proc,
                     slot: None,
                     address,
                 },
@@ -193,11 +196,7 @@ impl World {
     pub fn in_hand(&self, proc: ProcId) -> Option<&Order>
         ensures order { self.now.closed ≡ false → option_copied result ≡ in_hand_of self.now.log proc }
     {
-        if proc.0 == 1 {
-            self.state.desk.in_hand.as_ref()
-        } else {
-            None
-        }
+        in_hand(&self.state.desk, proc)
     }
 
     /// How many pokes, orders and reports wait in a process.
@@ -206,26 +205,14 @@ impl World {
         ensures mail { self.now.closed ≡ false → result.mail ≡ length (mail_of self.now.log proc) }
         ensures reports { self.now.closed ≡ false → result.reports ≡ length (reports_of self.now.log proc) }
     {
-        if proc.0 == 1 {
-            Waiting {
-                input: self.state.desk.input.len() as u64,
-                mail: self.state.desk.mail.len() as u64,
-                reports: self.state.desk.reports.len() as u64,
-            }
-        } else {
-            Waiting {
-                input: 0,
-                mail: 0,
-                reports: 0,
-            }
-        }
+        waiting(&self.state.desk, proc)
     }
 
     /// Whether nothing is in transit.
     pub fn is_still(&self) -> bool
         ensures still { self.now.closed ≡ false → result ≡ is_still (seen_of self.now.log) }
         // What is in transit waits in the process of the one document.
-        ensures home { self.now.closed ≡ false → result ≡ is_idle (desk_of (seen_of self.now.log) first_process) }
+        ensures home { self.now.closed ≡ false → result ≡ is_idle (desk_of (seen_of self.now.log) (opening_process self.now.header)) }
     {
         self.state.desk.is_idle()
     }

@@ -17,6 +17,9 @@ suits_as header kept log same suits = subst (λ (h : Header). OpensAs h log → 
 pub play_lines-played-requires-clause-built : goal.play_lines-played-requires-clause-built
 play_lines-played-requires-clause-built c = rw (c.as_slice.ensures, lines_of c.scenario.view_is) c.requires.built
 
+pub play_lines-played-requires-clause-turn : goal.play_lines-played-requires-clause-turn
+play_lines-played-requires-clause-turn c = rw c.requires.header c.requires.turn
+
 pub returns-in-Ok-clause-follows : goal.returns-in-Ok-clause-follows
 returns-in-Ok-clause-follows c e =
     follows c.args.scenario.now c.args.world.log c.play_lines-played.new.world.log c.requires.opened c.requires.suits (suits_as c.args.scenario.now.header c.play_lines-played.new.world.header c.play_lines-played.new.world.log (c.play_lines-played.ensures.header ∙ c.requires.header) c.log-log.ensures.suits) (rw (c.as_slice.ensures, lines_of c.scenario.view_is) at c.in-Ok.ensures.plays)

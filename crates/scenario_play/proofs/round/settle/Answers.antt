@@ -4,13 +4,14 @@ use Rattle.scenario_play.proofs.LeadLaws.{failed, no_rounds, one_more_round, rou
 use Rattle.scenario_play.proofs.round.settle.Goals as goal
 
 pub rounds-init : goal.rounds-init
-rounds-init c = record { opened = c.requires.open; header = refl; played = no_rounds _ }
+rounds-init c = record { opened = c.requires.open; header = refl; turn = c.requires.turn; played = no_rounds _ }
 
 pub rounds-preserved : goal.rounds-preserved
 rounds-preserved c =
     record {
       opened = c.in_ok-round.ensures.open;
       header = c.round.ensures.header ∙ c.rounds.invariant.header;
+      turn = rw c.round.ensures.header c.rounds.invariant.turn;
       played = one_more_round _ _ _ c.rounds.invariant.played (sym (c.rounds-test.ensures.still c.rounds.invariant.opened)) c.in_ok-round.ensures.longer c.in_ok-round.ensures.plays;
     }
 

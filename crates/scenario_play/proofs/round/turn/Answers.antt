@@ -3,6 +3,7 @@ use Rattle.scenario_text.specs.declared.line.ScenarioLine.TheVariants as lines
 use Rattle.scenario_text.specs.Follows.{does_all, turn_of}
 use Rattle.scenario_play.proofs.LeadLaws.{all_cut, failed}
 use Rattle.scenario_play.proofs.StepPlays.{turn_is_idle, turn_leads, turn_cut_at_work, turn_cut_late}
+use Rattle.scenario_play.proofs.StepMoves.{turn_goes, turn_stays}
 use Rattle.scenario_play.proofs.round.turn.Goals as goal
 
 pub returns-then-is_idle-clause-plays : goal.returns-then-is_idle-clause-plays
@@ -23,3 +24,10 @@ returns-in_err-deliver-clause-plays c =
 pub returns-clause-plays : goal.returns-clause-plays
 returns-clause-plays c =
     turn_leads c.args.proc _ _ _ _ c.in_ok-act.ensures.plays c.in_ok-work_on.ensures.plays c.in_ok-deliver.ensures.plays
+
+pub returns-then-is_idle-clause-moves : goal.returns-then-is_idle-clause-moves
+returns-then-is_idle-clause-moves c = turn_stays _ _ c.requires.open (sym c.if-is_idle.ensures)
+
+pub returns-clause-moves : goal.returns-clause-moves
+returns-clause-moves c =
+    turn_goes _ _ _ _ _ (sym c.if-is_idle.ensures) c.in_ok-act.ensures.moves c.in_ok-work_on.ensures.moves c.in_ok-deliver.ensures.moves

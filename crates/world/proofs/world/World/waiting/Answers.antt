@@ -1,11 +1,18 @@
-use Rattle.std.proofs.Common.{◌≡◌, false, length, sym, ap, subst, arith}
-use Rattle.std.proofs.lemmas.Bool.Decides.{nat_tests}
-use Rattle.log_model.specs.Logs.{input_of}
+use Rattle.std.proofs.Common.{◌≡◌, ◌∙◌, false, length, sym, ap, subst}
+use Rattle.log_model.specs.Logs.{input_of, mail_of, reports_of}
 use Rattle.log_model.specs.Seen.{Desk}
 use Rattle.world.specs.Kept.{WorldState}
-use Rattle.world.proofs.Facts.{other_desk}
+use Rattle.world.proofs.Facts.{desks_are}
 use Rattle.world.proofs.world.World.waiting.Goals as goal
 
-pub returns-else-proc-eq1-clause-input : goal.returns-else-proc-eq1-clause-input
-returns-else-proc-eq1-clause-input c =
-    subst (λ (w : WorldState). w.closed ≡ false → 0 ≡ length (input_of w.log c.args.proc)) c.self.view_is (λ e. sym (ap (λ (d : Desk). length d.input) (other_desk _ _ _ (c.self.invariant.stands e) c.args.proc (grind (arith, nat_tests, c.if-proc-eq1.false)))))
+pub returns-clause-input : goal.returns-clause-input
+returns-clause-input c =
+    subst (λ (w : WorldState). w.closed ≡ false → c.waiting.result.input ≡ length (input_of w.log c.args.proc)) c.self.view_is (λ e. c.waiting.ensures.input ∙ sym (ap (λ (d : Desk). length d.input) (desks_are _ _ _ (c.self.invariant.stands e) c.args.proc)))
+
+pub returns-clause-mail : goal.returns-clause-mail
+returns-clause-mail c =
+    subst (λ (w : WorldState). w.closed ≡ false → c.waiting.result.mail ≡ length (mail_of w.log c.args.proc)) c.self.view_is (λ e. c.waiting.ensures.mail ∙ sym (ap (λ (d : Desk). length d.mail) (desks_are _ _ _ (c.self.invariant.stands e) c.args.proc)))
+
+pub returns-clause-reports : goal.returns-clause-reports
+returns-clause-reports c =
+    subst (λ (w : WorldState). w.closed ≡ false → c.waiting.result.reports ≡ length (reports_of w.log c.args.proc)) c.self.view_is (λ e. c.waiting.ensures.reports ∙ sym (ap (λ (d : Desk). length d.reports) (desks_are _ _ _ (c.self.invariant.stands e) c.args.proc)))
