@@ -29,11 +29,7 @@ pub struct Coordinator {
 impl Coordinator {
     /// The coordinator of a tab that was just opened at an address, with its document in a process.
     #[tactic(auto, using(crate::proofs::Opened::opened_stands))]
-    pub fn fresh(
-        alloc: Global,
-        first: &Address,
-        proc: ProcId,
-    ) -> Result<Coordinator, OutOfMemory>
+    pub fn fresh(alloc: Global, first: &Address, proc: ProcId) -> Result<Coordinator, OutOfMemory>
         ensures stands { IfOk result (λ c. StandsFor (opened_at first.now proc) c) }
     {
         let store = StepIndex::fresh(alloc, first)?;

@@ -83,11 +83,13 @@ way_shorter forms (first ∷ above) nav form linked (inr more) found =
 
 pub ways_differ : (forms : List Form) (above : List NavId) → AreLinked forms above → AreDifferent above
 ways_differ forms [] linked = tt
-ways_differ forms (nav ∷ above) linked =
-    (λ there.
-    let less : length linked.0.form.above < length above = way_shorter forms above nav linked.0.form linked.1 there linked.0.found in
-    let long : length linked.0.form.above ≡ length above = ap (λ (l : List NavId). length l) linked.0.above_is in
-    absurd (omega (arith, less, long)), ways_differ forms above linked.1)
+ways_differ forms (nav ∷ above) linked = (
+  λ there.
+      let less : length linked.0.form.above < length above = way_shorter forms above nav linked.0.form linked.1 there linked.0.found in
+      let long : length linked.0.form.above ≡ length above = ap (λ (l : List NavId). length l) linked.0.above_is in
+      absurd (omega (arith, less, long)),
+  ways_differ forms above linked.1,
+)
 
 module _ (history : History) (forms : List Form) (sound : IsSound history) (woven : AreWoven history.added forms) (hang : HangIn history.rows forms) where
   -- a navigable that isn't the top hangs on an owner, whose entries are its parent's

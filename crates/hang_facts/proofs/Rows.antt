@@ -176,13 +176,13 @@ module _ (event : ℕ) (actor : Actor) (entry : EntryId) (state : StateId) (doc 
   opened_hangs =
       record {
         woven = record {
-            apart = (refl, tt);
-            linked = λ nav form found. subst (λ (f : Form). AreLinked (the_form ∷ []) f.above) (one_form nav form found) tt;
-            each = λ nav form found. subst (λ (f : Form). IsOneOf [] f) (one_form nav form found) (record { top = λ e. refl; child = λ parent above e. absurd (let no_ : [] ≡ parent ∷ above = e in cc); known = inl refl });
-          };
+          apart = (refl, tt);
+          linked = λ nav form found. subst (λ (f : Form). AreLinked (the_form ∷ []) f.above) (one_form nav form found) tt;
+          each = λ nav form found. subst (λ (f : Form). IsOneOf [] f) (one_form nav form found) (record { top = λ e. refl; child = λ parent above e. absurd (let no_ : [] ≡ parent ∷ above = e in cc); known = inl refl });
+        };
         rows = record {
-            placed = λ row there. subst (λ (r : Row). IsPlaced (the_form ∷ []) r) (only row there) (record { form = the_form; found = refl; owner = refl });
-            holders = λ row holder form parent above there too found is owner. absurd (none_owned row holder.state there owner);
-            begins = λ row holder there too owner. absurd (none_owned row holder.state there owner);
-          };
+          placed = λ row there. subst (λ (r : Row). IsPlaced (the_form ∷ []) r) (only row there) (record { form = the_form; found = refl; owner = refl });
+          holders = λ row holder form parent above there too found is owner. absurd (none_owned row holder.state there owner);
+          begins = λ row holder there too owner. absurd (none_owned row holder.state there owner);
+        };
       }

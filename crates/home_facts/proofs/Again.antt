@@ -77,12 +77,12 @@ all_both old mid new one two doc d found =
       new = b.new;
       found = b.found;
       keeps = record {
-          nav = b.keeps.nav ∙ a.keeps.nav;
-          state = b.keeps.state ∙ a.keeps.state;
-          ready = λ e. b.keeps.ready (a.keeps.ready e);
-          discarded = b.keeps.discarded ∙ a.keeps.discarded;
-          known = b.keeps.known ∙ a.keeps.known;
-        };
+        nav = b.keeps.nav ∙ a.keeps.nav;
+        state = b.keeps.state ∙ a.keeps.state;
+        ready = λ e. b.keeps.ready (a.keeps.ready e);
+        discarded = b.keeps.discarded ∙ a.keeps.discarded;
+        known = b.keeps.known ∙ a.keeps.known;
+      };
     }
 
 -- ---- places

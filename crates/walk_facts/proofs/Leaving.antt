@@ -41,11 +41,11 @@ stopping_same s t step (nav ∷ above) history same =
 served_again : (s t : Seen) (step : ℕ) (place : Place) → t.history ≡ s.history → ((nav : NavId) → has_nav place.above nav ≡ true → place_of t nav ≡ place_of s nav) → ((state : StateId) → IsMaking s.documents state → IsMaking t.documents state) → IsServed s.history.rows s.places s.documents step place → IsServed t.history.rows t.places t.documents step place
 served_again s t step place history same making served shown reached needs target at =
     making target.state (served
-      (ap (λ (h : History). is_shown h.rows step place.nav) (sym history) ∙ shown)
-      (sym (stopping_same s t step place.above history same) ∙ reached)
-      (ap (λ (h : History). is_needing h.rows step place) (sym history) ∙ needs)
-      target
-      (ap (λ (h : History). target_entry h.rows place.nav step) (sym history) ∙ at))
+    (ap (λ (h : History). is_shown h.rows step place.nav) (sym history) ∙ shown)
+    (sym (stopping_same s t step place.above history same) ∙ reached)
+    (ap (λ (h : History). is_needing h.rows step place) (sym history) ∙ needs)
+    target
+    (ap (λ (h : History). target_entry h.rows place.nav step) (sym history) ∙ at))
 
 -- who is above one that is apart is apart
 above_apart : (s : Seen) (nav : NavId) (above : List NavId) → IsChain s.places above → has_nav above nav ≡ false → (other : NavId) → has_nav above other ≡ true → IsApart s nav other
@@ -66,12 +66,14 @@ above_apart s nav (first ∷ above) chain none other has = by_first (first.0 == 
 
 module _ (s t : Seen) (sound : IsSound s.history) (hangs : Hangs s) where
   pub served_kept : (nav other : NavId) → LeavesOthers s t nav → IsApart s nav other → IsServedAt s other → IsServedAt t other
-  served_kept nav other leaves apart served = record { serve = λ place found.
-      let was : place_of s other ≡ Some place = sym (leaves.others other apart) ∙ found in
-      subst (λ (step : ℕ). IsServed t.history.rows t.places t.documents step place) (sym leaves.aim) (served_again s t (aim_of s) place leaves.history
+  served_kept nav other leaves apart served = record {
+    serve = λ place found.
+        let was : place_of s other ≡ Some place = sym (leaves.others other apart) ∙ found in
+        subst (λ (step : ℕ). IsServed t.history.rows t.places t.documents step place) (sym leaves.aim) (served_again s t (aim_of s) place leaves.history
         (λ up has. leaves.others up (above_apart s nav place.above (place_chain s sound hangs other place was) (apart.beside place was) up has))
         leaves.making
-        (served.serve place was)) }
+        (served.serve place was));
+  }
 
   -- so one turn of the walk keeps what the turns before it did
   pub one_more : (walk : List NavId) (n : ℕ) (nav : NavId) → slice_get walk n ≡ Some nav → IsWalk s walk → LeavesOthers s t nav → IsServedAt t nav → AreServedUpTo s walk n → AreServedUpTo t walk (n + 1)

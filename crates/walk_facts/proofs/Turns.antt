@@ -163,8 +163,10 @@ module _ (s : Seen) (event : ℕ) (actor : Actor) (job : Job) (nav : NavId) (sta
       }
 
   pub make_serves : (target : Row) → target_entry s.history.rows nav (aim_of s) ≡ Some target → target.state ≡ state → IsServedAt making_ nav
-  make_serves target at_ state_is_ = record { serve = λ p here shown reached needs t there.
-      let navs : p.nav ≡ nav = found_nav making_.places nav p here in
-      let targets : Some t ≡ Some target = sym there ∙ ap (λ (n : NavId). target_entry s.history.rows n (aim_of making_)) navs ∙ ap (λ (k : ℕ). target_entry s.history.rows nav k) make_aim ∙ at_ in
-      let same : t.state ≡ state = (let eq : t ≡ target = cc in ap (λ (r : Row). r.state) eq ∙ state_is_) in
-      subst (λ (x : StateId). IsMaking making_.documents x) (sym same) make_making }
+  make_serves target at_ state_is_ = record {
+    serve = λ p here shown reached needs t there.
+        let navs : p.nav ≡ nav = found_nav making_.places nav p here in
+        let targets : Some t ≡ Some target = sym there ∙ ap (λ (n : NavId). target_entry s.history.rows n (aim_of making_)) navs ∙ ap (λ (k : ℕ). target_entry s.history.rows nav k) make_aim ∙ at_ in
+        let same : t.state ≡ state = (let eq : t ≡ target = cc in ap (λ (r : Row). r.state) eq ∙ state_is_) in
+        subst (λ (x : StateId). IsMaking making_.documents x) (sym same) make_making;
+  }
