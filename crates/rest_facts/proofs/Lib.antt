@@ -9,3 +9,4 @@ pub mod Seated
 pub mod Settled
 pub mod Opened
 pub mod Kept
+pub mod Working
