@@ -8,7 +8,8 @@ such line. Settings: `source=K` and `sink=K` fail the Kth call, `times=N` repeat
 last line feed. What is worked by hand stands in the case: `bad=L` is the line of a log that spells no row, and `none` and
 `many` say that a log has no line, or too many. The first word says what is run:
 
-    play, play log       the program's call, over a source and a sink that move 16 bytes a call
+    play, play log,      the program's call, over a source and a sink that move 16 bytes a call
+    make N
     faults WORDS         the call, with each call of its sink failing in turn
     scenario [one|run]   a scenario is read and printed: all lines, those of one document, those where threads run
     log                  a log is read and printed
@@ -16,6 +17,7 @@ last line feed. What is worked by hand stands in the case: `bad=L` is the line o
     views                a document's view acts on each accepted poke of a log, and does each order that is sent
     opened               the summary of a tab that was opened by the scenario's header
 """
+import re
 import sys
 
 from faults import PLAYED
@@ -61,6 +63,8 @@ def pieces(words, data):
     import tab
     from engine import World
 
+    if words[:1] == ["make"] and len(words) == 2 and re.fullmatch("0|[1-9][0-9]{0,8}", words[1]):
+        return [scenario.make(int(words[1]))], ""
     if words not in (["play"], ["play", "log"]):
         return [], f"! {USAGE}\n"
     line = refusal(scenario, data, False, False)

@@ -1,4 +1,4 @@
-//! `tab` plays what is asked of a browser tab and reports its session history.
+//! `tab` plays what is asked of a browser tab and reports its session history, or makes a scenario to play.
 #![tactic(auto)]
 
 use std::io::BufWriter;
@@ -8,7 +8,7 @@ use tab_call::{Ended, Status, play_call, status_line};
 use tab_io::{StdSink, StdSource};
 
 const USAGE: &str =
-    "usage: tab play [log] < SCENARIO\n\nPlays a scenario from standard input and prints the report of its log; with `log` the log before it, a line for each row.\n";
+    "usage: tab play [log] < SCENARIO\n       tab make N\n\n`play` plays a scenario from standard input and prints the report of its log; with `log` the log before it, a line for each row.\n`make` prints the scenario that is made of the number N, of 1 to 9 digits, and reads nothing.\n";
 
 fn main(rt: HostRuntime) -> ExitCode {
     let mut words = Vec::new(rt.alloc());

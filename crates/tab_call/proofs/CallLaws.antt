@@ -2,7 +2,6 @@
 use Rattle.std.proofs.Common.{◌≡◌, ◌↔◌, ℕ, ◌≤◌, true, false, List, ◌++◌, length, Option, Some, None, Result, Ok, Err, refl, sym, ap, ◌∙◌, subst, arith, append-nil, length-append, inl, inr}
 use Rattle.std.specs.Io.KnownBytes.{Consumes, IsAtEnd}
 use Rattle.log_model.specs.declared.row_kind.LogRow.{LogRow}
-use Rattle.std.specs.Prelude.{is_some}
 use Rattle.scenario_text.specs.declared.built.Built.TheVariants as builts
 use Rattle.scenario_text.specs.declared.error.Refusal.{Refusal}
 use Rattle.scenario_text.specs.Scenarios.{Scenario}
@@ -10,25 +9,25 @@ use Rattle.scenario_text.specs.Grammar.{scenario_of}
 use Rattle.scenario_text.specs.Follows.{IsCutShort, FollowsUpTo}
 use Rattle.scenario_text.specs.declared.reason.Reason.TheVariants.{TooLong}
 use Rattle.scenario_text.proofs.ForCallers.{scenario_of-too_long}
+use Rattle.tab_io.specs.Causes.{Rose}
 use Rattle.tab_io.specs.Streams.{ReadsBeyond}
 use Rattle.tab_call.specs.declared.status.Status.{Status}
 use Rattle.tab_call.specs.declared.status.Status.TheVariants as statuses
 use Rattle.tab_call.specs.declared.words.Work.{Work}
-use Rattle.tab_call.specs.Words.{text_asked, work_of}
-use Rattle.tab_call.specs.Writes.{text_with}
-use Rattle.report_text.specs.Reports.{report_of}
-use Rattle.tab_call.specs.Calls.{ReadsSuch, ReadsScenario, ReadsNone, HasReadCause, HasWriteCause, FollowsAs, FollowsRead, IsHeard, IsUnhindered, IsPlayEnd, IsReadEnd, ReadsAs, SpellsAs}
+use Rattle.tab_call.specs.declared.words.Work.TheVariants as works
+use Rattle.tab_call.specs.Words.{asks_to_play, text_due, work_of}
+use Rattle.tab_call.specs.Calls.{ReadsSuch, ReadsScenario, ReadsNone, HasReadCause, HasWriteCause, FollowsAs, FollowsFor, FollowsRead, IsDecided, IsHeard, IsMakeEnd, IsUnhindered, IsPlayEnd, IsReadEnd, ReadsAs, ReadsFor, SpellsAs}
 
 -- where no scenario was read nothing is written
-pub unwritten : (status : Status) (text : List LogRow → List ℕ) (taken : Option (List ℕ)) (faults : ℕ) (log : Option (List LogRow)) → IsReadEnd status → HasWriteCause status text taken taken faults faults log
-unwritten statuses.Done text taken faults log end = elim end [ ]
-unwritten statuses.Usage text taken faults log end = refl
-unwritten (statuses.Scenario refusal) text taken faults log end = refl
-unwritten statuses.ReadFault text taken faults log end = refl
-unwritten statuses.WriteFault text taken faults log end = elim end [ ]
-unwritten statuses.OutOfMemory text taken faults log end = refl
-unwritten statuses.LogFull text taken faults log end = elim end [ ]
-unwritten (statuses.UrlOverflow overflowed) text taken faults log end = refl
+pub unwritten : (status : Status) (due taken : Option (List ℕ)) (faults : ℕ) → IsReadEnd status → HasWriteCause status due taken taken faults faults
+unwritten statuses.Done due taken faults end = elim end [ ]
+unwritten statuses.Usage due taken faults end = refl
+unwritten (statuses.Scenario refusal) due taken faults end = refl
+unwritten statuses.ReadFault due taken faults end = refl
+unwritten statuses.WriteFault due taken faults end = elim end [ ]
+unwritten statuses.OutOfMemory due taken faults end = refl
+unwritten statuses.LogFull due taken faults end = elim end [ ]
+unwritten (statuses.UrlOverflow overflowed) due taken faults end = refl
 
 -- once a scenario was read, that is the cause
 pub played_read : (status : Status) (left rest : Option (List ℕ)) (before now : ℕ) → IsPlayEnd status → ReadsScenario left rest → HasReadCause status left rest before now
@@ -40,11 +39,6 @@ played_read statuses.WriteFault left rest before now end reads = reads
 played_read statuses.OutOfMemory left rest before now end reads = tt
 played_read statuses.LogFull left rest before now end reads = reads
 played_read (statuses.UrlOverflow overflowed) left rest before now end reads = tt
-
--- what was written for a work is what the words ask for
-pub as_asked : (status : Status) (work : Work) (asked : Option Work) (taken given : Option (List ℕ)) (old new : ℕ) (log : Option (List LogRow)) → asked ≡ Some work → HasWriteCause status (λ rows. text_with work rows (report_of rows)) taken given old new log → HasWriteCause status (text_asked asked) taken given old new log
-as_asked status work asked taken given old new log is written =
-    subst (λ (o : Option Work). HasWriteCause status (text_asked o) taken given old new log) (sym is) written
 
 -- what the bytes of the whole source spell
 pub read_as : (result : Result Scenario Status) (bytes : List ℕ) (left rest : Option (List ℕ)) (before now : ℕ) → Consumes left rest bytes → IsAtEnd rest → SpellsAs result bytes → ReadsAs result left rest before now
@@ -139,40 +133,93 @@ told_scenario bytes left rest IsSuch told reads =
 not_both : {A E : Type 0} (r : Result A E) (a : A) (e : E) → r ≡ Ok a → r ≡ Err e → ⊥
 not_both r a e ok err = cc
 
--- words that ask for something don't ask for nothing
-asks_nothing : (work : Option Work) → is_some work ≡ true → work ≡ None → ⊥
-asks_nothing (Some work) some none = cc
-asks_nothing None some none = cc
+-- ---- by what the words ask
 
--- a call that is heard and unhindered, of bytes that spell a scenario, is done
-pub completes : (status : Status) (text : List LogRow → List ℕ) (words : List (List ℕ)) (left rest : Option (List ℕ)) (before now : ℕ) (taken given : Option (List ℕ)) (old new : ℕ) (log : Option (List LogRow)) → ((status ≡ statuses.Usage) ↔ (work_of words ≡ None)) → HasReadCause status left rest before now → FollowsRead status left rest log → HasWriteCause status text taken given old new log → (bytes : List ℕ) (scenario : Scenario) → IsHeard words bytes left before now status → scenario_of false builts.Document bytes ≡ Ok scenario → IsUnhindered scenario old new log → status ≡ statuses.Done
-completes statuses.Done text words left rest before now taken given old new log usage read follows written bytes scenario heard spells free = refl
-completes statuses.Usage text words left rest before now taken given old new log usage read follows written bytes scenario heard spells free =
+-- what is said for a work is said for the words that ask for it
+pub asked_read : (asked work : Option Work) (status : Status) (left rest : Option (List ℕ)) (before now : ℕ) → work ≡ asked → ReadsFor work status left rest before now → ReadsFor asked status left rest before now
+asked_read asked work status left rest before now same read = subst (λ (w : Option Work). ReadsFor w status left rest before now) same read
+
+pub asked_follows : (asked work : Option Work) (status : Status) (left rest : Option (List ℕ)) (log : Option (List LogRow)) → work ≡ asked → FollowsFor work status left rest log → FollowsFor asked status left rest log
+asked_follows asked work status left rest log same follows = subst (λ (w : Option Work). FollowsFor w status left rest log) same follows
+
+pub asked_written : (asked work : Option Work) (status : Status) (taken given : Option (List ℕ)) (old new : ℕ) (log : Option (List LogRow)) → work ≡ asked → HasWriteCause status (text_due work log) taken given old new → HasWriteCause status (text_due asked log) taken given old new
+asked_written asked work status taken given old new log same written = subst (λ (w : Option Work). HasWriteCause status (text_due w log) taken given old new) same written
+
+-- words that ask to play don't ask for nothing
+asks_nothing : (work : Option Work) → asks_to_play work ≡ true → work ≡ None → ⊥
+asks_nothing (Some work) asks none = cc
+asks_nothing None asks none = cc
+
+-- and what was read and the log are as where a scenario is to be played
+plays_read : (work : Option Work) (status : Status) (left rest : Option (List ℕ)) (before now : ℕ) → asks_to_play work ≡ true → ReadsFor work status left rest before now → HasReadCause status left rest before now
+plays_read (Some (works.Play output)) status left rest before now asks read = read
+plays_read (Some (works.Make n)) status left rest before now asks read = cc
+plays_read None status left rest before now asks read = cc
+
+plays_follows : (work : Option Work) (status : Status) (left rest : Option (List ℕ)) (log : Option (List LogRow)) → asks_to_play work ≡ true → FollowsFor work status left rest log → FollowsRead status left rest log
+plays_follows (Some (works.Play output)) status left rest log asks follows = follows
+plays_follows (Some (works.Make n)) status left rest log asks follows = cc
+plays_follows None status left rest log asks follows = cc
+
+-- a call that makes a scenario is done, where its sink didn't fail and there was memory
+made_done : (status : Status) (due taken given : Option (List ℕ)) (old new : ℕ) → IsMakeEnd status → HasWriteCause status due taken given old new → IsDecided status → ¬ (Rose old new) → status ≡ statuses.Done
+made_done statuses.Done due taken given old new end written decided free = refl
+made_done statuses.Usage due taken given old new end written decided free = elim end [ ]
+made_done (statuses.Scenario refusal) due taken given old new end written decided free = elim end [ ]
+made_done statuses.ReadFault due taken given old new end written decided free = elim end [ ]
+made_done statuses.WriteFault due taken given old new end written decided free = absurd (free written.0)
+made_done statuses.OutOfMemory due taken given old new end written decided free = elim decided [ ]
+made_done statuses.LogFull due taken given old new end written decided free = elim end [ ]
+made_done (statuses.UrlOverflow overflowed) due taken given old new end written decided free = elim decided [ ]
+
+pub makes : (status : Status) (asked : Option Work) (left rest : Option (List ℕ)) (before now : ℕ) (due taken given : Option (List ℕ)) (old new : ℕ) → ReadsFor asked status left rest before now → HasWriteCause status due taken given old new → (n : ℕ) → asked ≡ Some (works.Make n) → IsDecided status → ¬ (Rose old new) → status ≡ statuses.Done
+makes status asked left rest before now due taken given old new read written n is decided free =
+    made_done status due taken given old new (subst (λ (w : Option Work). ReadsFor w status left rest before now) is read).1 written decided free
+
+-- ---- done, or refused
+
+-- a call that plays, is heard and unhindered, of bytes that spell a scenario, is done
+played_done : (status : Status) (due : Option (List ℕ)) (words : List (List ℕ)) (left rest : Option (List ℕ)) (before now : ℕ) (taken given : Option (List ℕ)) (old new : ℕ) (log : Option (List LogRow)) → ((status ≡ statuses.Usage) ↔ (work_of words ≡ None)) → HasReadCause status left rest before now → FollowsRead status left rest log → HasWriteCause status due taken given old new → (bytes : List ℕ) (scenario : Scenario) → IsHeard words bytes left before now status → scenario_of false builts.Document bytes ≡ Ok scenario → IsUnhindered scenario old new log → status ≡ statuses.Done
+played_done statuses.Done due words left rest before now taken given old new log usage read follows written bytes scenario heard spells free = refl
+played_done statuses.Usage due words left rest before now taken given old new log usage read follows written bytes scenario heard spells free =
     absurd (asks_nothing (work_of words) heard.asks (usage.0 refl))
-completes (statuses.Scenario refusal) text words left rest before now taken given old new log usage read follows written bytes scenario heard spells free =
+played_done (statuses.Scenario refusal) due words left rest before now taken given old new log usage read follows written bytes scenario heard spells free =
     absurd (not_both (scenario_of false builts.Document bytes) scenario refusal spells (told_none bytes left rest refusal heard.told read))
-completes statuses.ReadFault text words left rest before now taken given old new log usage read follows written bytes scenario heard spells free = absurd (heard.read read)
-completes statuses.WriteFault text words left rest before now taken given old new log usage read follows written bytes scenario heard spells free = absurd (free.written written.0)
-completes statuses.OutOfMemory text words left rest before now taken given old new log usage read follows written bytes scenario heard spells free = elim heard.decided [ ]
-completes statuses.LogFull text words left rest before now taken given old new None usage read follows written bytes scenario heard spells free = absurd follows.such
-completes statuses.LogFull text words left rest before now taken given old new (Some rows) usage read follows written bytes scenario heard spells free =
+played_done statuses.ReadFault due words left rest before now taken given old new log usage read follows written bytes scenario heard spells free = absurd (heard.read read)
+played_done statuses.WriteFault due words left rest before now taken given old new log usage read follows written bytes scenario heard spells free = absurd (free.written written.0)
+played_done statuses.OutOfMemory due words left rest before now taken given old new log usage read follows written bytes scenario heard spells free = elim heard.decided [ ]
+played_done statuses.LogFull due words left rest before now taken given old new None usage read follows written bytes scenario heard spells free = absurd follows.such
+played_done statuses.LogFull due words left rest before now taken given old new (Some rows) usage read follows written bytes scenario heard spells free =
     let same : follows.scenario ≡ scenario = (let e : Ok follows.scenario ≡ Ok scenario = sym (told_scenario bytes left rest (FollowsAs statuses.LogFull (Some rows)) heard.told follows) ∙ spells in cc) in
     absurd (omega (arith, follows.such.1, free.room (subst (λ (s : Scenario). IsCutShort rows s) same follows.such.0)))
-completes (statuses.UrlOverflow overflowed) text words left rest before now taken given old new log usage read follows written bytes scenario heard spells free = elim heard.decided [ ]
+played_done (statuses.UrlOverflow overflowed) due words left rest before now taken given old new log usage read follows written bytes scenario heard spells free = elim heard.decided [ ]
 
--- a call that is heard, of bytes that spell none, names the refusal
-pub refuses : (status : Status) (words : List (List ℕ)) (left rest : Option (List ℕ)) (before now : ℕ) → ((status ≡ statuses.Usage) ↔ (work_of words ≡ None)) → HasReadCause status left rest before now → (bytes : List ℕ) (refusal : Refusal) → IsHeard words bytes left before now status → scenario_of false builts.Document bytes ≡ Err refusal → status ≡ statuses.Scenario refusal
-refuses statuses.Done words left rest before now usage read bytes refusal heard none =
+-- a call that plays and is heard, of bytes that spell none, names the refusal
+played_refused : (status : Status) (words : List (List ℕ)) (left rest : Option (List ℕ)) (before now : ℕ) → ((status ≡ statuses.Usage) ↔ (work_of words ≡ None)) → HasReadCause status left rest before now → (bytes : List ℕ) (refusal : Refusal) → IsHeard words bytes left before now status → scenario_of false builts.Document bytes ≡ Err refusal → status ≡ statuses.Scenario refusal
+played_refused statuses.Done words left rest before now usage read bytes refusal heard none =
     absurd (not_both (scenario_of false builts.Document bytes) read.scenario refusal (told_scenario bytes left rest _ heard.told read) none)
-refuses statuses.Usage words left rest before now usage read bytes refusal heard none =
+played_refused statuses.Usage words left rest before now usage read bytes refusal heard none =
     absurd (asks_nothing (work_of words) heard.asks (usage.0 refl))
-refuses (statuses.Scenario given) words left rest before now usage read bytes refusal heard none =
+played_refused (statuses.Scenario given) words left rest before now usage read bytes refusal heard none =
     let e : Err given ≡ Err refusal = sym (told_none bytes left rest given heard.told read) ∙ none in
     let same : given ≡ refusal = cc in ap statuses.Scenario same
-refuses statuses.ReadFault words left rest before now usage read bytes refusal heard none = absurd (heard.read read)
-refuses statuses.WriteFault words left rest before now usage read bytes refusal heard none =
+played_refused statuses.ReadFault words left rest before now usage read bytes refusal heard none = absurd (heard.read read)
+played_refused statuses.WriteFault words left rest before now usage read bytes refusal heard none =
     absurd (not_both (scenario_of false builts.Document bytes) read.scenario refusal (told_scenario bytes left rest _ heard.told read) none)
-refuses statuses.OutOfMemory words left rest before now usage read bytes refusal heard none = elim heard.decided [ ]
-refuses statuses.LogFull words left rest before now usage read bytes refusal heard none =
+played_refused statuses.OutOfMemory words left rest before now usage read bytes refusal heard none = elim heard.decided [ ]
+played_refused statuses.LogFull words left rest before now usage read bytes refusal heard none =
     absurd (not_both (scenario_of false builts.Document bytes) read.scenario refusal (told_scenario bytes left rest _ heard.told read) none)
-refuses (statuses.UrlOverflow overflowed) words left rest before now usage read bytes refusal heard none = elim heard.decided [ ]
+played_refused (statuses.UrlOverflow overflowed) words left rest before now usage read bytes refusal heard none = elim heard.decided [ ]
+
+-- a call that is heard and unhindered, of bytes that spell a scenario, is done
+pub completes : (status : Status) (due : Option (List ℕ)) (words : List (List ℕ)) (left rest : Option (List ℕ)) (before now : ℕ) (taken given : Option (List ℕ)) (old new : ℕ) (log : Option (List LogRow)) → ((status ≡ statuses.Usage) ↔ (work_of words ≡ None)) → ReadsFor (work_of words) status left rest before now → FollowsFor (work_of words) status left rest log → HasWriteCause status due taken given old new → (bytes : List ℕ) (scenario : Scenario) → IsHeard words bytes left before now status → scenario_of false builts.Document bytes ≡ Ok scenario → IsUnhindered scenario old new log → status ≡ statuses.Done
+completes status due words left rest before now taken given old new log usage read follows written bytes scenario heard spells free =
+    played_done status due words left rest before now taken given old new log usage
+    (plays_read (work_of words) status left rest before now heard.asks read)
+    (plays_follows (work_of words) status left rest log heard.asks follows)
+    written bytes scenario heard spells free
+
+-- a call that is heard, of bytes that spell none, names the refusal
+pub refuses : (status : Status) (words : List (List ℕ)) (left rest : Option (List ℕ)) (before now : ℕ) → ((status ≡ statuses.Usage) ↔ (work_of words ≡ None)) → ReadsFor (work_of words) status left rest before now → (bytes : List ℕ) (refusal : Refusal) → IsHeard words bytes left before now status → scenario_of false builts.Document bytes ≡ Err refusal → status ≡ statuses.Scenario refusal
+refuses status words left rest before now usage read bytes refusal heard none =
+    played_refused status words left rest before now usage (plays_read (work_of words) status left rest before now heard.asks read) bytes refusal heard none

@@ -1,6 +1,6 @@
 -- How a call of the program ends: what was read and written, the log, and why.
 -- This project's own.
-use Rattle.std.specs.Prelude.{◌≡◌, ◌⊎◌, ℕ, ◌<◌, ◌≤◌, true, false, List, take, length, Option, Some, None, is_some, Result, Ok, Err, IfSome, IsSomeAnd}
+use Rattle.std.specs.Prelude.{◌≡◌, ◌⊎◌, ℕ, ◌<◌, ◌≤◌, true, false, List, length, Option, Some, None, Result, Ok, Err, IfSome, IsSomeAnd}
 use Rattle.std.specs.Io.KnownBytes.{Appends, Consumes, IsAtEnd}
 use Rattle.log_model.specs.declared.row_kind.LogRow.{LogRow}
 use Rattle.scenario_text.specs.declared.built.Built.TheVariants as builts
@@ -12,7 +12,10 @@ use Rattle.world.specs.Open.{row_limit}
 use Rattle.tab_io.specs.Causes.{Rose}
 use Rattle.tab_call.specs.declared.status.Status.{Status}
 use Rattle.tab_call.specs.declared.status.Status.TheVariants as statuses
-use Rattle.tab_call.specs.Words.{work_of}
+use Rattle.tab_call.specs.declared.words.Work.{Work}
+use Rattle.tab_call.specs.declared.words.Work.TheVariants as works
+use Rattle.tab_call.specs.Words.{asks_to_play, work_of}
+use Rattle.tab_call.specs.Writes.{WritesPart}
 
 -- the most bytes that a scenario may have
 abbrev pub byte_limit : ℕ
@@ -38,16 +41,7 @@ pub record ReadsNone (left rest : Option (List ℕ)) (refusal : Refusal) : Type 
   pub enough : IsAtEnd rest ⊎ (byte_limit < length bytes)
   pub spells_none : scenario_of false builts.Document bytes ≡ Err refusal
 
--- what was written is the text of the log
-abbrev pub WritesText : (List LogRow → List ℕ) → Option (List ℕ) → Option (List ℕ) → Option (List LogRow) → Type 0
-WritesText text before after log = IsSomeAnd log (λ rows. Appends before after (text rows))
-
--- a part of the text of the log was written, from its beginning
-abbrev pub WritesPart : (List LogRow → List ℕ) → Option (List ℕ) → Option (List ℕ) → Option (List LogRow) → Type 0
-WritesPart text before after log =
-    IsSomeAnd log (λ rows. (count : ℕ) × (count < length (text rows)) × Appends before after (take count (text rows)))
-
--- what each status says of what was read and of the counts of faults
+-- what each status says of what was read and of the counts of faults, where a scenario is to be played
 abbrev pub HasReadCause : Status → Option (List ℕ) → Option (List ℕ) → ℕ → ℕ → Type 0
 HasReadCause statuses.Done left rest before now = ReadsScenario left rest
 HasReadCause statuses.Usage left rest before now = rest ≡ left
@@ -58,16 +52,16 @@ HasReadCause statuses.OutOfMemory left rest before now = Unit {0}
 HasReadCause statuses.LogFull left rest before now = ReadsScenario left rest
 HasReadCause (statuses.UrlOverflow overflowed) left rest before now = Unit {0}
 
--- what each status says of what was written and of the log, of which this text is due
-abbrev pub HasWriteCause : Status → (List LogRow → List ℕ) → Option (List ℕ) → Option (List ℕ) → ℕ → ℕ → Option (List LogRow) → Type 0
-HasWriteCause statuses.Done text before after old now log = WritesText text before after log
-HasWriteCause statuses.Usage text before after old now log = after ≡ before
-HasWriteCause (statuses.Scenario refusal) text before after old now log = after ≡ before
-HasWriteCause statuses.ReadFault text before after old now log = after ≡ before
-HasWriteCause statuses.WriteFault text before after old now log = Rose old now × WritesPart text before after log
-HasWriteCause statuses.OutOfMemory text before after old now log = after ≡ before
-HasWriteCause statuses.LogFull text before after old now log = after ≡ before
-HasWriteCause (statuses.UrlOverflow overflowed) text before after old now log = after ≡ before
+-- what each status says of what was written, where this text is due
+abbrev pub HasWriteCause : Status → Option (List ℕ) → Option (List ℕ) → Option (List ℕ) → ℕ → ℕ → Type 0
+HasWriteCause statuses.Done due before after old now = IsSomeAnd due (λ text. Appends before after text)
+HasWriteCause statuses.Usage due before after old now = after ≡ before
+HasWriteCause (statuses.Scenario refusal) due before after old now = after ≡ before
+HasWriteCause statuses.ReadFault due before after old now = after ≡ before
+HasWriteCause statuses.WriteFault due before after old now = Rose old now × IsSomeAnd due (λ text. WritesPart before after text)
+HasWriteCause statuses.OutOfMemory due before after old now = after ≡ before
+HasWriteCause statuses.LogFull due before after old now = after ≡ before
+HasWriteCause (statuses.UrlOverflow overflowed) due before after old now = after ≡ before
 
 -- how the log follows the scenario that was played: to the end; or, in a log that is full, up to an event that was due; or up to a moment
 abbrev pub FollowsAs : Status → Option (List LogRow) → Scenario → Type 0
@@ -94,6 +88,36 @@ FollowsRead statuses.LogFull left rest log = ReadsSuch left rest (FollowsAs stat
 FollowsRead (statuses.UrlOverflow overflowed) left rest log =
     IfSome log (λ rows. ReadsSuch left rest (λ scenario. FollowsUpTo rows scenario))
 
+-- ---- by what the words ask
+
+-- nothing was read, and the source wasn't asked
+pub record IsUnread (left rest : Option (List ℕ)) (before now : ℕ) : Type 0 where
+  pub bytes : rest ≡ left
+  pub count : now ≡ before
+
+-- what a call may end with that makes a scenario and writes its text
+abbrev pub IsMakeEnd : Status → Type 0
+IsMakeEnd statuses.Done = Unit {0}
+IsMakeEnd statuses.Usage = ⊥
+IsMakeEnd (statuses.Scenario refusal) = ⊥
+IsMakeEnd statuses.ReadFault = ⊥
+IsMakeEnd statuses.WriteFault = Unit {0}
+IsMakeEnd statuses.OutOfMemory = Unit {0}
+IsMakeEnd statuses.LogFull = ⊥
+IsMakeEnd (statuses.UrlOverflow overflowed) = Unit {0}
+
+-- what was read: where a scenario is to be played, what the status says; else nothing
+abbrev pub ReadsFor : Option Work → Status → Option (List ℕ) → Option (List ℕ) → ℕ → ℕ → Type 0
+ReadsFor (Some (works.Play output)) status left rest before now = HasReadCause status left rest before now
+ReadsFor (Some (works.Make n)) status left rest before now = IsUnread left rest before now × IsMakeEnd status
+ReadsFor None status left rest before now = IsUnread left rest before now
+
+-- the log: where a scenario is to be played, it follows the one that was read; else there is none
+abbrev pub FollowsFor : Option Work → Status → Option (List ℕ) → Option (List ℕ) → Option (List LogRow) → Type 0
+FollowsFor (Some (works.Play output)) status left rest log = FollowsRead status left rest log
+FollowsFor (Some (works.Make n)) status left rest log = log ≡ None
+FollowsFor None status left rest log = log ≡ None
+
 -- ---- what has no cause doesn't come
 
 -- neither want of memory nor an overflow of `url`
@@ -107,9 +131,9 @@ IsDecided statuses.OutOfMemory = ⊥
 IsDecided statuses.LogFull = Unit {0}
 IsDecided (statuses.UrlOverflow overflowed) = ⊥
 
--- the words are the program's, the source tells its bytes, its count of faults didn't rise, and there was memory
+-- the words ask to play a scenario, the source tells its bytes, its count of faults didn't rise, and there was memory
 pub record IsHeard (words : List (List ℕ)) (bytes : List ℕ) (left : Option (List ℕ)) (before now : ℕ) (status : Status) : Type 0 where
-  pub asks : is_some (work_of words) ≡ true
+  pub asks : asks_to_play (work_of words) ≡ true
   pub told : left ≡ Some bytes
   pub read : ¬ (Rose before now)
   pub decided : IsDecided status

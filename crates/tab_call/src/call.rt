@@ -1,20 +1,21 @@
 //! `play_call`, all that the program does with its words, a source and a sink.
-ghost use Rattle.std.specs.Prelude.{◌≡◌, ◌↔◌, ℕ, false, List, None, Ok, Err, IfSome, IsSome, map, string_bytes};
+ghost use Rattle.std.specs.Prelude.{◌≡◌, ◌≢◌, ◌↔◌, ℕ, false, List, Some, None, Ok, Err, IfSome, IsSome, map, string_bytes};
 ghost use Rattle.log_model.specs.ActsAtOnce.{ActsAtOnce};
 ghost use Rattle.log_model.specs.Legal.{IsLegal};
 ghost use Rattle.log_model.specs.Limits.{BeginsBelow};
 ghost use Rattle.world.specs.Open.{row_limit};
-ghost use Rattle.report_text.specs.Reports.{report_of};
-ghost use Rattle.tab_call.specs.Words.{text_asked, work_of};
-ghost use Rattle.tab_call.specs.Writes.{text_with};
+ghost use Rattle.tab_io.specs.Causes.{Rose};
+ghost use Rattle.tab_call.specs.Words.{text_due, work_of};
+ghost use Rattle.tab_call.specs.Writes.{text_of_log};
 ghost use Rattle.scenario_play.specs.Moves.{IsFault};
 ghost use Rattle.scenario_text.specs.Follows.{Follows, IsCutShort};
 ghost use Rattle.scenario_text.specs.declared.built.Built.TheVariants as builts;
 ghost use Rattle.scenario_text.specs.Grammar.{scenario_of};
-ghost use Rattle.tab_call.specs.Calls.{FollowsAs, FollowsRead, HasReadCause, HasWriteCause, IsHeard, IsPlayEnd, IsUnhindered, ReadsAs, SpellsAs};
+ghost use Rattle.tab_call.specs.Calls.{FollowsAs, FollowsFor, FollowsRead, HasReadCause, HasWriteCause, IsDecided, IsHeard, IsPlayEnd, IsUnhindered, ReadsAs, ReadsFor, SpellsAs};
 
+use crate::making::write_made;
 use crate::status::Status;
-use crate::words::{Work, asked_work};
+use crate::words::{Output, Work, asked_work};
 use crate::writing::{Unwritten, write_due};
 use history_log::Log;
 use report_text::report;
@@ -34,9 +35,9 @@ pub struct Ended {
     pub log: Option<Log>,
 }
 
-/// Does what the words ask: `play` reads a scenario to its end, plays it, and writes the report of the log; `play log` writes the log before it, a line for each row.
+/// Does what the words ask: `play` reads a scenario to its end, plays it, and writes the report of the log; `play log` writes the log before it, a line for each row; `make N` writes the text of the scenario that is made of N, and reads nothing.
 ///
-/// Nothing is written unless all was read and played, and what takes memory is made. Each line of the log is a write of its own, and so is the report.
+/// Nothing is written unless all was read and played, or made, and what takes memory is there. Each line of the log is a write of its own, and so is the report, and so is the text of a scenario.
 pub fn play_call<S: Source, K: Sink>(
     alloc: Global,
     words: &[String],
@@ -44,9 +45,9 @@ pub fn play_call<S: Source, K: Sink>(
     sink: &mut K,
 ) -> Ended
     ensures usage { (result.status ≡ Status.Usage) ↔ (work_of (map (λ w. string_bytes w) words.now) ≡ None) }
-    ensures read { HasReadCause result.status (S.left source.old) (S.left source.new) (S.faults source.old) (S.faults source.new) }
-    ensures follows { FollowsRead result.status (S.left source.old) (S.left source.new) result.log }
-    ensures written { HasWriteCause result.status (text_asked (work_of (map (λ w. string_bytes w) words.now))) (K.taken sink.old) (K.taken sink.new) (K.faults sink.old) (K.faults sink.new) result.log }
+    ensures read { ReadsFor (work_of (map (λ w. string_bytes w) words.now)) result.status (S.left source.old) (S.left source.new) (S.faults source.old) (S.faults source.new) }
+    ensures follows { FollowsFor (work_of (map (λ w. string_bytes w) words.now)) result.status (S.left source.old) (S.left source.new) result.log }
+    ensures written { HasWriteCause result.status (text_due (work_of (map (λ w. string_bytes w) words.now)) result.log) (K.taken sink.old) (K.taken sink.new) (K.faults sink.old) (K.faults sink.new) }
     ensures legal { IfSome result.log IsLegal }
     ensures at_once { IfSome result.log ActsAtOnce }
     ensures limited { IfSome result.log (BeginsBelow row_limit) }
@@ -61,37 +62,61 @@ pub fn play_call<S: Source, K: Sink>(
         → IsHeard (map (λ w. string_bytes w) words.now) bytes (S.left source.old) (S.faults source.old) (S.faults source.new) result.status
         → scenario_of false builts.Document bytes ≡ Err refusal
         → result.status ≡ Status.Scenario refusal }
+    ensures made { (n : ℕ)
+        → work_of (map (λ w. string_bytes w) words.now) ≡ Some (Work.Make n)
+        → IsDecided result.status
+        → ¬ (Rose (K.faults sink.old) (K.faults sink.new))
+        → result.status ≡ Status.Done }
 {
-    carry_out(alloc, words, source, sink)
+    carry_out(alloc, asked_work(words), source, sink)
 }
 
-/// `play_call` without its last two clauses, which follow from these.
+/// What `play_call` does for this work, or for words that ask for nothing; its last three clauses follow from these.
 fn carry_out<S: Source, K: Sink>(
     alloc: Global,
-    words: &[String],
+    work: Option<Work>,
     source: &mut S,
     sink: &mut K,
 ) -> Ended
-    ensures usage { (result.status ≡ Status.Usage) ↔ (work_of (map (λ w. string_bytes w) words.now) ≡ None) }
-    ensures read { HasReadCause result.status (S.left source.old) (S.left source.new) (S.faults source.old) (S.faults source.new) }
-    ensures follows { FollowsRead result.status (S.left source.old) (S.left source.new) result.log }
-    ensures written { HasWriteCause result.status (text_asked (work_of (map (λ w. string_bytes w) words.now))) (K.taken sink.old) (K.taken sink.new) (K.faults sink.old) (K.faults sink.new) result.log }
+    ensures usage { (result.status ≡ Status.Usage) ↔ (work ≡ None) }
+    ensures read { ReadsFor work result.status (S.left source.old) (S.left source.new) (S.faults source.old) (S.faults source.new) }
+    ensures follows { FollowsFor work result.status (S.left source.old) (S.left source.new) result.log }
+    ensures written { HasWriteCause result.status (text_due work result.log) (K.taken sink.old) (K.taken sink.new) (K.faults sink.old) (K.faults sink.new) }
     ensures legal { IfSome result.log IsLegal }
     ensures at_once { IfSome result.log ActsAtOnce }
     ensures limited { IfSome result.log (BeginsBelow row_limit) }
 {
-    let Some(work) = asked_work(words) else {
-        return failed(Status::Usage);
-    };
+    match work {
+        Some(Work::Play(output)) => play_source(alloc, output, source, sink),
+        Some(Work::Make(n)) => without_log(write_made(alloc, n, sink)),
+        None => without_log(Status::Usage),
+    }
+}
+
+/// Reads a scenario, plays it, and writes what is asked for of its log.
+fn play_source<S: Source, K: Sink>(
+    alloc: Global,
+    output: Output,
+    source: &mut S,
+    sink: &mut K,
+) -> Ended
+    ensures usage { result.status ≢ Status.Usage }
+    ensures read { HasReadCause result.status (S.left source.old) (S.left source.new) (S.faults source.old) (S.faults source.new) }
+    ensures follows { FollowsRead result.status (S.left source.old) (S.left source.new) result.log }
+    ensures written { HasWriteCause result.status (text_of_log output result.log) (K.taken sink.old) (K.taken sink.new) (K.faults sink.old) (K.faults sink.new) }
+    ensures legal { IfSome result.log IsLegal }
+    ensures at_once { IfSome result.log ActsAtOnce }
+    ensures limited { IfSome result.log (BeginsBelow row_limit) }
+{
     let scenario = match read_scenario(alloc, source) {
         Ok(scenario) => scenario,
-        Err(status) => return failed(status),
+        Err(status) => return without_log(status),
     };
     let played = match World::fresh(alloc, &scenario.header) {
         Ok(world) => play(&scenario, world),
-        Err(_) => return failed(Status::OutOfMemory),
+        Err(_) => return without_log(Status::OutOfMemory),
     };
-    tell(alloc, work, &scenario, played, sink)
+    tell(alloc, output, &scenario, played, sink)
 }
 
 /// Reads the scenario; else the status says why there is none.
@@ -124,7 +149,7 @@ fn spelled(alloc: Global, bytes: Vec<u8>) -> Result<Scenario, Status>
 /// Tells what was played: the report, or why not all was.
 fn tell<K: Sink>(
     alloc: Global,
-    work: Work,
+    output: Output,
     scenario: &Scenario,
     played: Played,
     sink: &mut K,
@@ -136,7 +161,7 @@ fn tell<K: Sink>(
     requires faults { IfSome played.fault (λ e. IfSome played.world (λ w. IsFault w e)) }
     ensures kind { IsPlayEnd result.status }
     ensures follows { FollowsAs result.status result.log scenario.now }
-    ensures written { HasWriteCause result.status (λ log. text_with work log (report_of log)) (K.taken sink.old) (K.taken sink.new) (K.faults sink.old) (K.faults sink.new) result.log }
+    ensures written { HasWriteCause result.status (text_of_log output result.log) (K.taken sink.old) (K.taken sink.new) (K.faults sink.old) (K.faults sink.new) }
     ensures legal { IfSome result.log IsLegal }
     ensures at_once { IfSome result.log ActsAtOnce }
     ensures limited { IfSome result.log (BeginsBelow row_limit) }
@@ -144,21 +169,21 @@ fn tell<K: Sink>(
     let Played { world, fault } = played;
     let Some(world) = world else { unreachable!() };
     match fault {
-        None => write_text(alloc, work, scenario, world, sink),
+        None => write_text(alloc, output, scenario, world, sink),
         Some(StepError::LogFull) => Ended {
             status: Status::LogFull,
             log: Some(world.into_log()),
         },
         Some(StepError::Closed) => unreachable!(),
-        Some(StepError::UrlOverflow(overflowed)) => failed(Status::UrlOverflow(overflowed)),
-        Some(StepError::OutOfMemory) => failed(Status::OutOfMemory),
+        Some(StepError::UrlOverflow(overflowed)) => without_log(Status::UrlOverflow(overflowed)),
+        Some(StepError::OutOfMemory) => without_log(Status::OutOfMemory),
     }
 }
 
 /// Writes the report of a world's log, and before it the log where it is asked for.
 fn write_text<K: Sink>(
     alloc: Global,
-    work: Work,
+    output: Output,
     scenario: &Scenario,
     world: World,
     sink: &mut K,
@@ -167,17 +192,17 @@ fn write_text<K: Sink>(
     requires follows { Follows world.log scenario.now }
     ensures kind { IsPlayEnd result.status }
     ensures follows { FollowsAs result.status result.log scenario.now }
-    ensures written { HasWriteCause result.status (λ log. text_with work log (report_of log)) (K.taken sink.old) (K.taken sink.new) (K.faults sink.old) (K.faults sink.new) result.log }
+    ensures written { HasWriteCause result.status (text_of_log output result.log) (K.taken sink.old) (K.taken sink.new) (K.faults sink.old) (K.faults sink.new) }
     ensures legal { IfSome result.log IsLegal }
     ensures at_once { IfSome result.log ActsAtOnce }
     ensures limited { IfSome result.log (BeginsBelow row_limit) }
 {
     let text = match report(alloc, &world) {
         Ok(text) => text,
-        Err(_) => return failed(Status::OutOfMemory),
+        Err(_) => return without_log(Status::OutOfMemory),
     };
     let log = world.into_log();
-    match write_due(alloc, sink, work, log.rows(), text.bytes()) {
+    match write_due(alloc, sink, output, log.rows(), text.bytes()) {
         Ok(()) => Ended {
             status: Status::Done,
             log: Some(log),
@@ -186,12 +211,12 @@ fn write_text<K: Sink>(
             status: Status::WriteFault,
             log: Some(log),
         },
-        Err(Unwritten::OutOfMemory) => failed(Status::OutOfMemory),
+        Err(Unwritten::OutOfMemory) => without_log(Status::OutOfMemory),
     }
 }
 
 /// An end with no log.
-fn failed(status: Status) -> Ended
+fn without_log(status: Status) -> Ended
     ensures status { result.status ≡ status }
     ensures log { result.log ≡ None }
 {

@@ -2,6 +2,7 @@
 #![tactic(auto)]
 
 mod call;
+mod making;
 mod status;
 mod words;
 mod writing;

@@ -5,7 +5,7 @@ ghost use Rattle.tab_io.specs.Causes.{HasCause};
 ghost use Rattle.tab_io.specs.Streams.{WritesAll};
 ghost use Rattle.tab_call.specs.Writes.{IsWritten, text_with};
 
-use crate::words::Work;
+use crate::words::Output;
 use address::OutOfMemory;
 use log_model::LogRow;
 use log_text::Line;
@@ -54,19 +54,19 @@ fn write_log<K: Sink>(
     }
 }
 
-/// Writes what the work asks for of a log, whose report is given. What takes memory is made before the first write.
+/// Writes what is asked for of a log, whose report is given. What takes memory is made before the first write.
 pub(crate) fn write_due<K: Sink>(
     alloc: Global,
     sink: &mut K,
-    work: Work,
+    output: Output,
     rows: &[LogRow],
     report: &[u8],
 ) -> Result<(), Unwritten>
-    ensures { IsWritten result (text_with work rows.now report.now) (K.taken sink.old) (K.taken sink.new) (K.faults sink.old) (K.faults sink.new) }
+    ensures { IsWritten result (text_with output rows.now report.now) (K.taken sink.old) (K.taken sink.new) (K.faults sink.old) (K.faults sink.new) }
 {
-    let written = match work {
-        Work::Report => write_all(sink, report),
-        Work::LogAndReport => match Line::for_rows(alloc, rows) {
+    let written = match output {
+        Output::Report => write_all(sink, report),
+        Output::LogAndReport => match Line::for_rows(alloc, rows) {
             Ok(mut line) => write_log(sink, &mut line, rows, report),
             Err(OutOfMemory) => return Err(Unwritten::OutOfMemory),
         },
