@@ -1,14 +1,12 @@
 -- Each row keeps that documents have numbers of their own, and that the entries of a document's state are its navigable's.
 use Rattle.std.proofs.Common.{◌≡◌, ◌⊎◌, inl, inr, ℕ, ◌+◌, Bool, true, false, cond, not, ◌&&◌, ◌==◌, List, [], ◌∷◌, ◌++◌, Option, Some, None, refl, sym, ap, ◌∙◌, subst, arith}
 use Rattle.std.specs.Prelude.{find, filter, map, option_map, slice_get, is_none, nat_le}
-use Rattle.std.proofs.lemmas.Bool.{eqb-true}
 use Rattle.std.proofs.lemmas.Bool.Decides.{nat_tests}
 use Rattle.tab_ids.specs.declared.DocId.{DocId}
 use Rattle.tab_ids.specs.declared.EntryId.{EntryId}
 use Rattle.tab_ids.specs.declared.NavId.{NavId}
 use Rattle.tab_ids.specs.declared.ReqId.{ReqId}
 use Rattle.tab_ids.specs.declared.StateId.{StateId}
-use Rattle.tab_ids.specs.declared.Step.{Step}
 use Rattle.log_model.specs.declared.change.Change.{Change}
 use Rattle.log_model.specs.declared.change.Change.TheVariants as changes
 use Rattle.log_model.specs.declared.job.Job.{Job}
@@ -24,10 +22,10 @@ use Rattle.log_model.specs.declared.row_kind.RowKind.{RowKind}
 use Rattle.log_model.specs.declared.row_kind.RowKind.TheVariants as rows
 use Rattle.log_model.specs.Views.{after_made, View}
 use Rattle.log_model.specs.After.{after}
-use Rattle.log_model.specs.AfterDocuments.{on_document, told_after_change, applied_to, new_document, addressed, documents_sent, task_in_hand, view_finished, documents_finished, slot_finished, documents_delivered, documents_killed, documents_after}
+use Rattle.log_model.specs.AfterDocuments.{on_document, told_after_change, applied_to, new_document, addressed, documents_sent, task_in_hand, view_finished, documents_finished, slot_finished, documents_delivered}
 use Rattle.log_model.specs.AfterPlaces.{is_dead_by}
 use Rattle.log_model.specs.History.{same_entry, is_of, tidied, cleared, replaced_row, owner_of, first_step, applied}
-use Rattle.log_model.specs.Seen.{Seen, Document, Desk, document_of, desk_of}
+use Rattle.log_model.specs.Seen.{Seen, Document, document_of, desk_of}
 use Rattle.address.specs.Addresses.{blank_text}
 use Rattle.seen_laws.proofs.Keyed.{find_map}
 use Rattle.coord_facts.proofs.Singles.{AreApart}
@@ -35,7 +33,7 @@ use Rattle.hang_facts.specs.Members.{Has}
 use Rattle.hang_facts.proofs.Members.{IsOf, has_filter, has_map, has_more, has_tidied}
 use Rattle.rest_facts.specs.Between.{AreKept}
 use Rattle.rest_facts.specs.Owning.{AreOwned, BringsOwned}
-use Rattle.rest_facts.proofs.Again.{WasOf, was_of, its_number}
+use Rattle.rest_facts.proofs.Again.{WasOf, was_of}
 
 -- ---- documents that stay the same ones
 

@@ -1,5 +1,5 @@
 -- A tab that was just opened is as one is between two events.
-use Rattle.std.proofs.Common.{◌≡◌, ◌⊎◌, inl, inr, ℕ, Bool, true, false, cond, not, ◌&&◌, ◌||◌, ◌==◌, List, [], ◌∷◌, Option, Some, None, refl, sym, ap, ◌∙◌, subst}
+use Rattle.std.proofs.Common.{◌≡◌, ◌⊎◌, inl, inr, ℕ, Bool, true, false, cond, ◌==◌, List, [], ◌∷◌, Option, Some, None, refl, sym, ap, ◌∙◌}
 use Rattle.tab_ids.specs.declared.DocId.{DocId}
 use Rattle.tab_ids.specs.declared.EntryId.{EntryId}
 use Rattle.tab_ids.specs.declared.NavId.{NavId}
@@ -14,8 +14,8 @@ use Rattle.log_model.specs.AfterPlaces.{opening_place}
 use Rattle.log_model.specs.ActsAtOnce.{ends_told, ends_stepped}
 use Rattle.log_model.specs.Opening.{opening_history}
 use Rattle.log_model.specs.Places.{aim_of}
-use Rattle.log_model.specs.Seen.{Seen, Asked, Document, Place, Status, awake, lost, nothing, document_of, place_of, request_in}
-use Rattle.log_model.proofs.Refl.{nat_eq_refl, same_entry_refl, same_pair_refl}
+use Rattle.log_model.specs.Seen.{Seen, Asked, Document, Place, awake, lost, nothing, document_of, place_of, request_in}
+use Rattle.log_model.proofs.Refl.{nat_eq_refl, same_entry_refl}
 use Rattle.history_laws.proofs.Opening.{IsSound-opening}
 use Rattle.coord_facts.proofs.Opened.{opened_flows}
 use Rattle.hang_facts.proofs.Members.{find_has}

@@ -1,54 +1,63 @@
--- A process that takes up an order, or finishes one, leaves a tab as one is between two events.
-use Rattle.std.proofs.Common.{◌≡◌, ℕ, Bool, true, false, cond, not, ◌&&◌, ◌||◌, ◌==◌, List, [], ◌∷◌, length, Option, Some, None, refl, sym, ap, ◌∙◌, subst}
+-- A process that takes up an order, finishes one, or lets a document act leaves a tab as one is between two events.
+use Rattle.std.proofs.Common.{◌≡◌, ℕ, zero, suc, ◌+◌, ◌-◌, Bool, true, false, cond, not, ◌&&◌, ◌||◌, ◌==◌, List, [], ◌∷◌, length, Option, Some, None, refl, sym, ap, ◌∙◌, subst, arith}
 use Rattle.std.specs.Prelude.{find, map, option_map, option_and_then, is_some, slice_get}
-use Rattle.std.specs.List.{list_all}
-use Rattle.std.proofs.lemmas.Bool.{and_parts, and_from}
+use Rattle.std.specs.List.{list_all, slice_set}
+use Rattle.std.specs.Option.{option_map_or}
+use Rattle.std.proofs.lemmas.Bool.{and_parts}
+use Rattle.std.proofs.lemmas.Bool.Decides.{nat_tests}
 use Rattle.std.proofs.lemmas.List.{map-id}
 use Rattle.tab_ids.specs.declared.DocId.{DocId}
 use Rattle.tab_ids.specs.declared.NavId.{NavId}
 use Rattle.tab_ids.specs.declared.ProcId.{ProcId}
 use Rattle.tab_ids.specs.declared.ReqId.{ReqId}
 use Rattle.tab_ids.specs.declared.StateId.{StateId}
+use Rattle.tab_ids.specs.declared.Step.{Step}
 use Rattle.log_model.specs.declared.job.Job.{Job}
 use Rattle.log_model.specs.declared.job.Order.{Order}
+use Rattle.log_model.specs.declared.made.Made.{Made}
+use Rattle.log_model.specs.declared.made.What.{What}
 use Rattle.log_model.specs.declared.outcome.Outcome.{Outcome}
-use Rattle.log_model.specs.declared.row.Row.{Row}
+use Rattle.log_model.specs.declared.request.Poke.{Poke}
 use Rattle.log_model.specs.declared.row_kind.Actor.TheVariants as actors
 use Rattle.log_model.specs.declared.row_kind.RowKind.TheVariants as rows
 use Rattle.log_model.specs.ActsAtOnce.{is_told, ends_told, has_reason_to_run, has_no_step_waiting, is_ready_load, ends_stepped}
-use Rattle.log_model.specs.After.{after}
+use Rattle.log_model.specs.After.{after, follows_finished}
+use Rattle.log_model.specs.AfterRequests.{on_request}
 use Rattle.log_model.specs.Equal.{holds, implies, same_pair}
-use Rattle.log_model.specs.History.{History, has_state}
-use Rattle.log_model.specs.Places.{is_awake, is_gone, is_under_way, is_load, is_traversal, is_ongoing_load, has_passed, has_passed_with, passed_in, passed_traversal, aim_with, aim_of, all_stand, all_stand_in, awake_document, told_pair, due_pair, due_pair_with}
+use Rattle.log_model.specs.History.{History, has_nav, has_state, used_step_at}
+use Rattle.log_model.specs.Places.{is_awake, is_gone, is_under_way, is_load, is_traversal, is_ongoing_load, has_passed, has_passed_with, passed_in, passed_traversal, aim_with, aim_of, all_stand, all_stand_in, awake_document, told_pair, pair_in, running_in, is_moved_in, due_pair}
 use Rattle.log_model.specs.Queue.{is_step_under_way, is_queue_free}
 use Rattle.log_model.specs.Soundness.{IsSound}
-use Rattle.log_model.specs.Seen.{Seen, Asked, Document, Place, lost, document_of, desk_of, place_in, place_of, request_in}
+use Rattle.log_model.specs.Seen.{Seen, Asked, Document, Place, document_of, desk_of, place_in, place_of, request_in}
+use Rattle.log_model.specs.Views.{View, made_for}
+use Rattle.seen_laws.specs.Acting.{IsToAct, IsNoEdit}
 use Rattle.seen_laws.proofs.Keyed.{find_map}
 use Rattle.seen_laws.proofs.Sendings.{both}
 use Rattle.coord_facts.specs.Flowing.{Flows}
-use Rattle.coord_facts.specs.Leading.{once_finished}
-use Rattle.coord_facts.proofs.Flowings.{finished_flows, taken_flows}
+use Rattle.coord_facts.specs.Leading.{held_back, once_finished}
+use Rattle.coord_facts.proofs.Flowings.{finished_flows, taken_flows, made_flows}
+use Rattle.coord_facts.proofs.OneMade.{once_made}
 use Rattle.coord_facts.proofs.Held.{fun_ext}
 use Rattle.coord_facts.proofs.Kept.{IsInHand, IsPlainOutcome, finished_documents, finished_requests}
 use Rattle.coord_facts.proofs.Reached.{IsOfOne}
 use Rattle.request_facts.specs.Whereabouts.{is_of_load, AreOnce}
 use Rattle.request_facts.proofs.Onces.{taken_once, finished_once}
+use Rattle.request_facts.proofs.Placings.{made_once}
 use Rattle.hang_facts.specs.Hanging.{Hangs}
 use Rattle.hang_facts.specs.Members.{Has}
-use Rattle.hang_facts.proofs.Members.{has_map, into_map}
+use Rattle.hang_facts.proofs.Members.{into_map}
 use Rattle.hang_facts.proofs.Rows.{left_hangs}
 use Rattle.home_facts.specs.Homes.{AreHomed}
 use Rattle.home_facts.proofs.Rows.{left_rows}
 use Rattle.walk_facts.specs.Serving.{IsMaking, IsServed, AreServed}
-use Rattle.walk_facts.proofs.Aims.{blur, aim_again}
 use Rattle.transit_facts.specs.Orders.{IsOutcomeOf}
 use Rattle.transit_facts.specs.Waiting.{AreOnTheirWay}
-use Rattle.transit_facts.proofs.Rows.{taken_ways, finished_ways}
+use Rattle.transit_facts.proofs.Rows.{taken_ways, finished_ways, made_ways}
 use Rattle.rest_facts.specs.Between.{AreKept, IsPlain, IsComposed}
 use Rattle.rest_facts.specs.Resting.{EachRests}
 use Rattle.rest_facts.proofs.Again.{WasOf, was_of}
 use Rattle.rest_facts.proofs.Kept.{left_kept}
-use Rattle.rest_facts.proofs.Rows.{taken_rests, finished_rests}
+use Rattle.rest_facts.proofs.Rows.{taken_rests, finished_rests, made_rests}
 use Rattle.rest_facts.proofs.Stands.{all_requests}
 
 -- a change of a document's view and slot alone
@@ -65,12 +74,107 @@ same_along : {A : Type 0} (f g : A → Bool) (xs : List A) → ((x : A) → f x 
 same_along f g [] same = refl
 same_along f g (x ∷ xs) same = rw (same x) (ap (λ (b : Bool). g x && b) (same_along f g xs same))
 
+-- ---- requests but for what was made of them
+
+abbrev unmade : Asked → Asked
+unmade q = record q { made = None }
+
+-- a test that doesn't look at it
+abbrev Blind : (Asked → Bool) → Type 0
+Blind test = (q : Asked) → test (unmade q) ≡ test q
+
+abbrev AreAlike : List Asked → List Asked → Type 0
+AreAlike a b = map unmade a ≡ map unmade b
+
+find_unmade : (test : Asked → Bool) → Blind test → (asked : List Asked) → find test (map unmade asked) ≡ option_map unmade (find test asked)
+find_unmade test blind [] = refl
+find_unmade test blind (q ∷ asked) = rw (blind q) (by_test (test q) (find_unmade test blind asked))
+  where
+    by_test : (b : Bool) → find test (map unmade asked) ≡ option_map unmade (find test asked) → cond b (Some (unmade q)) (find test (map unmade asked)) ≡ option_map unmade (cond b (Some q) (find test asked))
+    by_test true more = refl
+    by_test false more = more
+
+find_alike : (test : Asked → Bool) → Blind test → (a b : List Asked) → AreAlike a b → option_map unmade (find test a) ≡ option_map unmade (find test b)
+find_alike test blind a b alike = sym (find_unmade test blind a) ∙ ap (λ (l : List Asked). find test l) alike ∙ find_unmade test blind b
+
+all_unmade : (test : Asked → Bool) → Blind test → (asked : List Asked) → list_all test (map unmade asked) ≡ list_all test asked
+all_unmade test blind [] = refl
+all_unmade test blind (q ∷ asked) = rw (blind q) (ap (λ (b : Bool). test q && b) (all_unmade test blind asked))
+
+all_alike : (test : Asked → Bool) → Blind test → (a b : List Asked) → AreAlike a b → list_all test a ≡ list_all test b
+all_alike test blind a b alike = sym (all_unmade test blind a) ∙ ap (λ (l : List Asked). list_all test l) alike ∙ all_unmade test blind b
+
+get_unmade : (asked : List Asked) (i : ℕ) → slice_get (map unmade asked) i ≡ option_map unmade (slice_get asked i)
+get_unmade [] i = refl
+get_unmade (q ∷ asked) zero = refl
+get_unmade (q ∷ asked) (suc i) = get_unmade asked i
+
+request_unmade : (asked : List Asked) (req : ReqId) → request_in (map unmade asked) req ≡ option_map unmade (request_in asked req)
+request_unmade asked req = by_number (req.0 == 0)
+  where
+    by_number : (b : Bool) → cond b None (slice_get (map unmade asked) (req.0 - 1)) ≡ option_map unmade (cond b None (slice_get asked (req.0 - 1)))
+    by_number true = refl
+    by_number false = get_unmade asked (req.0 - 1)
+
+request_alike : (a b : List Asked) → AreAlike a b → (req : ReqId) → option_map unmade (request_in a req) ≡ option_map unmade (request_in b req)
+request_alike a b alike req = sym (request_unmade a req) ∙ ap (λ (l : List Asked). request_in l req) alike ∙ request_unmade b req
+
+holds_alike : (test : Asked → Bool) → Blind test → (o p : Option Asked) → option_map unmade o ≡ option_map unmade p → holds test o ≡ holds test p
+holds_alike test blind o p alike = sym (same o) ∙ ap (λ (x : Option Asked). holds test x) alike ∙ same p
+  where
+    same : (x : Option Asked) → holds test (option_map unmade x) ≡ holds test x
+    same None = refl
+    same (Some q) = blind q
+
+some_alike : (o p : Option Asked) → option_map unmade o ≡ option_map unmade p → is_some o ≡ is_some p
+some_alike o p alike = sym (same o) ∙ ap (λ (x : Option Asked). is_some x) alike ∙ same p
+  where
+    same : (x : Option Asked) → is_some (option_map unmade x) ≡ is_some x
+    same None = refl
+    same (Some q) = refl
+
+none_of : (o : Option Asked) → is_some o ≡ false → o ≡ None
+none_of None e = refl
+none_of (Some q) e = cc
+
+aim_alike : (gone : DocId → Bool) (a b : List Asked) (h : History) → AreAlike a b → aim_with gone a h ≡ aim_with gone b h
+aim_alike gone a b h alike =
+    sym (same (passed_in gone a)) ∙ ap (λ (o : Option Asked). option_map_or goal o h.current) (find_alike test (λ q. refl) a b alike) ∙ same (passed_in gone b)
+  where
+    test : Asked → Bool
+    test q = is_under_way q && is_traversal q.what && has_passed_with gone q
+
+    goal : Asked → ℕ
+    goal q = option_map_or (λ (g : Step). used_step_at h.rows g.0) q.goal h.current
+
+    same : (o : Option Asked) → option_map_or goal (option_map unmade o) h.current ≡ option_map_or goal o h.current
+    same None = refl
+    same (Some q) = refl
+
+set_alike : (asked : List Asked) (n : ℕ) (q new : Asked) → slice_get asked n ≡ Some q → unmade new ≡ unmade q → map unmade (slice_set asked n new) ≡ map unmade asked
+set_alike [] n q new e same = refl
+set_alike (x ∷ asked) zero q new e same = let is : x ≡ q = cc in ap (λ (y : Asked). y ∷ map unmade asked) (same ∙ ap unmade (sym is))
+set_alike (x ∷ asked) (suc n) q new e same = ap (λ (l : List Asked). unmade x ∷ l) (set_alike asked n q new e same)
+
+on_request_alike : (req : ReqId) (made : Made) (asked : List Asked) → AreAlike (on_request req (λ q. record q { made = Some made }) asked) asked
+on_request_alike req made asked = by_found (request_in asked req) refl
+  where
+    number : (b : Bool) (n : ℕ) (q : Asked) → cond b None (slice_get asked n) ≡ Some q → slice_get asked n ≡ Some q
+    number true n q e = cc
+    number false n q e = e
+
+    by_found : (found : Option Asked) → request_in asked req ≡ found → map unmade (option_map_or (λ (q : Asked). slice_set asked (req.0 - 1) (record q { made = Some made })) found asked) ≡ map unmade asked
+    by_found None e = refl
+    by_found (Some q) e = set_alike asked (req.0 - 1) q (record q { made = Some made }) (number (req.0 == 0) (req.0 - 1) q e) refl
+
+-- ---- what a process does
+
 -- nothing else changes but desks
 record IsWork (s t : Seen) : Type 0 where
   g : Document → Document
   keeps : KeepsAll g
   documents : t.documents ≡ map g s.documents
-  requests : t.requests ≡ s.requests
+  alike : AreAlike t.requests s.requests
   history : t.history ≡ s.history
   places : t.places ≡ s.places
   joined : t.joined ≡ s.joined
@@ -94,10 +198,15 @@ module _ (s t : Seen) (work : IsWork s t) where
   all_gone = fun_ext gone
 
   aim_same : aim_of t ≡ aim_of s
-  aim_same = aim_again s t gone (ap (λ (l : List Asked). map blur l) work.requests) work.history
+  aim_same =
+      ap (λ (g : DocId → Bool). aim_with g t.requests t.history) all_gone
+      ∙ aim_alike (is_gone s) t.requests s.requests t.history work.alike
+      ∙ ap (λ (h : History). aim_with (is_gone s) s.requests h) work.history
 
-  passed_same : passed_traversal t ≡ passed_traversal s
-  passed_same = ap (λ (g : DocId → Bool). passed_in g t.requests) all_gone ∙ ap (λ (l : List Asked). passed_in (is_gone s) l) work.requests
+  passed_same : option_map unmade (passed_traversal t) ≡ option_map unmade (passed_traversal s)
+  passed_same =
+      ap (λ (g : DocId → Bool). option_map unmade (passed_in g t.requests)) all_gone
+      ∙ find_alike (λ (q : Asked). is_under_way q && is_traversal q.what && has_passed_with (is_gone s) q) (λ q. refl) t.requests s.requests work.alike
 
   stand_same : (n : ℕ) → all_stand t n ≡ all_stand s n
   stand_same n = ap (λ (h : History). all_stand_in h.rows t.places n) work.history ∙ ap (λ (l : List Place). all_stand_in s.history.rows l n) work.places
@@ -131,11 +240,16 @@ module _ (s t : Seen) (work : IsWork s t) where
       ap (λ (pair : ℕ × ℕ). implies (is_awake place) (holds (same_pair pair) (told_pair t place))) due
       ∙ ap (λ (o : Option (ℕ × ℕ)). implies (is_awake place) (holds (same_pair (due_pair s place.nav)) o)) (by_document (awake_document place))
     where
+      moved : is_moved_in t.requests place.nav ≡ is_moved_in s.requests place.nav
+      moved =
+          holds_alike (λ (q : Asked). has_nav q.moved place.nav) (λ q. refl) (running_in t.requests) (running_in s.requests)
+          (find_alike (λ (q : Asked). is_under_way q && is_traversal q.what) (λ q. refl) t.requests s.requests work.alike)
+
       due : due_pair t place.nav ≡ due_pair s place.nav
       due =
-          ap (λ (g : DocId → Bool). due_pair_with g t.requests t.history place.nav) all_gone
-          ∙ ap (λ (l : List Asked). due_pair_with (is_gone s) l t.history place.nav) work.requests
-          ∙ ap (λ (h : History). due_pair_with (is_gone s) s.requests h place.nav) work.history
+          ap (λ (b : Bool). pair_in t.history.rows (cond b (aim_of t) t.history.current)) moved
+          ∙ ap (λ (n : ℕ). pair_in t.history.rows (cond (is_moved_in s.requests place.nav) n t.history.current)) aim_same
+          ∙ ap (λ (h : History). pair_in h.rows (cond (is_moved_in s.requests place.nav) (aim_of s) h.current)) work.history
 
       by_told : (o : Option Document) → option_and_then (λ (d : Document). d.told) (option_map work.g o) ≡ option_and_then (λ (d : Document). d.told) o
       by_told None = refl
@@ -151,13 +265,13 @@ module _ (s t : Seen) (work : IsWork s t) where
 
   reason_same : has_reason_to_run t ≡ has_reason_to_run s
   reason_same =
-      ap (λ (o : Option Asked). implies (is_some o) (not (all_stand t (aim_of t)))) passed_same
+      ap (λ (b : Bool). implies b (not (all_stand t (aim_of t)))) (some_alike (passed_traversal t) (passed_traversal s) passed_same)
       ∙ ap (λ (n : ℕ). implies (is_some (passed_traversal s)) (not (all_stand t n))) aim_same
       ∙ ap (λ (b : Bool). implies (is_some (passed_traversal s)) (not b)) (stand_same (aim_of s))
 
   free_same : is_queue_free t ≡ is_queue_free s
   free_same =
-      ap (λ (l : List Asked). list_all (λ (q : Asked). not (is_step_under_way q)) l && all_stand t t.history.current) work.requests
+      ap (λ (b : Bool). b && all_stand t t.history.current) (all_alike (λ (q : Asked). not (is_step_under_way q)) (λ q. refl) t.requests s.requests work.alike)
       ∙ ap (λ (b : Bool). list_all (λ (q : Asked). not (is_step_under_way q)) s.requests && b) (stand_same t.history.current ∙ ap (λ (h : History). all_stand s h.current) work.history)
 
   -- no load is ready, where there is none
@@ -189,11 +303,18 @@ module _ (s t : Seen) (work : IsWork s t) where
         unknown = λ doc d found. (let w = before doc d found in sym (ap (λ (x : Document). x.is_known_dead) w.is) ∙ work.keeps.known w.before ∙ plain.unknown doc w.before w.there);
         unlost = λ nav place found lost_. plain.unlost nav place (ap (λ (l : List Place). place_in l nav) (sym work.places) ∙ found) lost_;
         swept = λ doc d found ready there. swept_ doc d ready there (before doc d found);
-        no_loads = λ req. ap (λ (l : List Asked). is_of_load (request_in l req)) work.requests ∙ plain.no_loads req;
-        steps = λ req q at going. (let its = plain.steps req q (ap (λ (l : List Asked). request_in l req) (sym work.requests) ∙ at) going in (its.0, ap (λ (g : DocId → Bool). has_passed_with g q) all_gone ∙ its.1));
-        unparked = λ none. work.parked ∙ plain.unparked (sym passed_same ∙ none);
+        no_loads = λ req. holds_alike (λ (q : Asked). is_load q.what) (λ q. refl) (request_in t.requests req) (request_in s.requests req) (request_alike t.requests s.requests work.alike req) ∙ plain.no_loads req;
+        steps = λ req q at going. steps_ req q (request_in s.requests req) refl (sym (request_alike t.requests s.requests work.alike req) ∙ ap (λ (o : Option Asked). option_map unmade o) at) going;
+        unparked = λ none. work.parked ∙ plain.unparked (none_of (passed_traversal s) (sym (some_alike (passed_traversal t) (passed_traversal s) passed_same) ∙ ap (λ (o : Option Asked). is_some o) none));
       }
     where
+      steps_ : (req : ReqId) (q : Asked) (o : Option Asked) → request_in s.requests req ≡ o → option_map unmade o ≡ Some (unmade q) → is_step_under_way q ≡ true → (is_traversal q.what ≡ true) × (has_passed t q ≡ true)
+      steps_ req q None at alike going = (let no_ : None ≡ Some (unmade q) = alike in cc)
+      steps_ req q (Some old) at alike going =
+          let same : unmade old ≡ unmade q = (let both_ : Some (unmade old) ≡ Some (unmade q) = alike in cc) in
+          let its = plain.steps req old at (ap (λ (x : Asked). is_step_under_way x) same ∙ going) in
+          (ap (λ (x : Asked). is_traversal x.what) (sym same) ∙ its.0, ap (λ (g : DocId → Bool). has_passed_with g q) all_gone ∙ ap (λ (x : Asked). has_passed_with (is_gone s) x) (sym same) ∙ its.1)
+
       swept_ : (doc : DocId) (d : Document) → d.is_ready ≡ true → d.is_discarded ≡ false → WasOf s work.g doc d → has_state d.state t.history.rows ≡ true
       swept_ doc d ready there w =
           ap (λ (h : History). has_state d.state h.rows) work.history
@@ -237,7 +358,7 @@ module _ (s : Seen) (event : ℕ) (proc : ProcId) (is : IsComposed s) where
           g = λ d. d;
           keeps = record { nr = λ d. refl; state = λ d. refl; told = λ d. refl; ready = λ d. refl; discarded = λ d. refl; dead = λ d. refl; known = λ d. refl };
           documents = sym (map-id s.documents);
-          requests = refl;
+          alike = refl;
           history = refl;
           places = refl;
           joined = refl;
@@ -274,7 +395,7 @@ module _ (s : Seen) (event : ℕ) (proc : ProcId) (is : IsComposed s) where
             known = λ d. elim (d.nr.0 == order.job.doc.0) as (λ b. (let x : Document = cond b (once_finished d order.job) d in x).is_known_dead ≡ d.is_known_dead) [ true ↦ refl | false ↦ refl ];
           };
           documents = finished_documents s event proc order outcome in_ plain;
-          requests = finished_requests s event proc order outcome in_ plain;
+          alike = ap (λ (l : List Asked). map unmade l) (finished_requests s event proc order outcome in_ plain);
           history = refl;
           places = refl;
           joined = refl;
@@ -291,3 +412,44 @@ module _ (s : Seen) (event : ℕ) (proc : ProcId) (is : IsComposed s) where
         (finished_rests s event (actors.Proc proc) is.rests proc order outcome in_)
         (finished_flows s event proc order outcome in_ plain of is.flows)
         (finished_once s [] event (actors.Proc proc) proc order.job.nr outcome is.once)
+
+-- a document makes something of its first poke, that is no edit
+module _ (s : Seen) (proc : ProcId) (is : IsComposed s) (poke : Poke) (q : Asked) (of : NavId) (d : Document) (view : View) (what : What) (acts : IsToAct s proc poke q of d view) (no_edit : IsNoEdit what) where
+  abbrev acted : Seen
+  acted = after s (record { event = s.events; actor = actors.Proc proc; row = rows.Made proc (made_for view poke.req what) })
+
+  anew : follows_finished s (record { event = s.events; actor = actors.Proc proc; row = rows.Made proc (made_for view poke.req what) }) ≡ false
+  anew = (let later : (s.events == (s.events + 1)) ≡ false = grind (arith, nat_tests) in rw later refl)
+
+  work_acted : IsWork s acted
+  work_acted =
+      record {
+        g = λ x. cond (x.nr.0 == view.doc.0) (once_made what x) x;
+        keeps = record {
+          nr = λ x. elim (x.nr.0 == view.doc.0) as (λ b. (let y : Document = cond b (once_made what x) x in y).nr ≡ x.nr) [ true ↦ refl | false ↦ refl ];
+          state = λ x. elim (x.nr.0 == view.doc.0) as (λ b. (let y : Document = cond b (once_made what x) x in y).state ≡ x.state) [ true ↦ refl | false ↦ refl ];
+          told = λ x. elim (x.nr.0 == view.doc.0) as (λ b. (let y : Document = cond b (once_made what x) x in y).told ≡ x.told) [ true ↦ refl | false ↦ refl ];
+          ready = λ x. elim (x.nr.0 == view.doc.0) as (λ b. (let y : Document = cond b (once_made what x) x in y).is_ready ≡ x.is_ready) [ true ↦ refl | false ↦ refl ];
+          discarded = λ x. elim (x.nr.0 == view.doc.0) as (λ b. (let y : Document = cond b (once_made what x) x in y).is_discarded ≡ x.is_discarded) [ true ↦ refl | false ↦ refl ];
+          dead = λ x. elim (x.nr.0 == view.doc.0) as (λ b. (let y : Document = cond b (once_made what x) x in y).dead_by ≡ x.dead_by) [ true ↦ refl | false ↦ refl ];
+          known = λ x. elim (x.nr.0 == view.doc.0) as (λ b. (let y : Document = cond b (once_made what x) x in y).is_known_dead ≡ x.is_known_dead) [ true ↦ refl | false ↦ refl ];
+        };
+        documents = refl;
+        alike = on_request_alike poke.req (made_for view poke.req what) s.requests;
+        history = refl;
+        places = refl;
+        joined = refl;
+        parked = refl;
+      }
+
+  -- where its request isn't held back
+  pub acted_composed : held_back acted.requests s.parked ≡ held_back s.requests s.parked → IsComposed acted
+  acted_composed held =
+      work_composed s acted work_acted is
+      (left_hangs s s.events (actors.Proc proc) is.hangs (rows.Made proc (made_for view poke.req what)) tt)
+      (left_rows s s.events (actors.Proc proc) is.homes (rows.Made proc (made_for view poke.req what)) tt)
+      (left_kept s s.events (actors.Proc proc) is.kept (rows.Made proc (made_for view poke.req what)) tt)
+      (made_ways s s.events (actors.Proc proc) is.ways proc (made_for view poke.req what) anew)
+      (made_rests s s.events (actors.Proc proc) is.rests proc (made_for view poke.req what) anew)
+      (made_flows s proc poke q of d view what acts no_edit is.flows held)
+      (made_once s [] s.events (actors.Proc proc) proc (made_for view poke.req what) poke acts.first refl no_edit anew is.once)
