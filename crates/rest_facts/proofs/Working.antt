@@ -1,6 +1,6 @@
 -- A process that takes up an order, finishes one, or lets a document act leaves a tab as one is between two events.
-use Rattle.std.proofs.Common.{◌≡◌, ℕ, zero, suc, ◌+◌, ◌-◌, Bool, true, false, cond, not, ◌&&◌, ◌||◌, ◌==◌, List, [], ◌∷◌, length, Option, Some, None, refl, sym, ap, ◌∙◌, subst, arith}
-use Rattle.std.specs.Prelude.{find, map, option_map, option_and_then, is_some, slice_get}
+use Rattle.std.proofs.Common.{◌≡◌, ℕ, zero, suc, ◌+◌, ◌-◌, ◌≤◌, Bool, true, false, cond, not, ◌&&◌, ◌||◌, ◌==◌, List, [], ◌∷◌, length, Option, Some, None, refl, sym, ap, ◌∙◌, subst, arith}
+use Rattle.std.specs.Prelude.{drop, find, map, option_map, option_and_then, is_some, slice_get}
 use Rattle.std.specs.List.{list_all, slice_set}
 use Rattle.std.specs.Option.{option_map_or}
 use Rattle.std.proofs.lemmas.Bool.{and_parts}
@@ -23,7 +23,7 @@ use Rattle.log_model.specs.declared.row_kind.RowKind.TheVariants as rows
 use Rattle.log_model.specs.ActsAtOnce.{is_told, ends_told, has_reason_to_run, has_no_step_waiting, is_ready_load, ends_stepped}
 use Rattle.log_model.specs.After.{after, follows_finished}
 use Rattle.log_model.specs.AfterRequests.{on_request}
-use Rattle.log_model.specs.Equal.{holds, implies, same_pair}
+use Rattle.log_model.specs.Equal.{holds, implies, same_pair, has_req}
 use Rattle.log_model.specs.History.{History, has_nav, has_state, used_step_at}
 use Rattle.log_model.specs.Places.{is_awake, is_gone, is_under_way, is_load, is_traversal, is_ongoing_load, has_passed, has_passed_with, passed_in, passed_traversal, aim_with, aim_of, all_stand, all_stand_in, awake_document, told_pair, pair_in, running_in, is_moved_in, due_pair}
 use Rattle.log_model.specs.Queue.{is_step_under_way, is_queue_free}
@@ -34,15 +34,18 @@ use Rattle.seen_laws.specs.Acting.{IsToAct, IsNoEdit}
 use Rattle.seen_laws.proofs.Keyed.{find_map}
 use Rattle.seen_laws.proofs.Sendings.{both}
 use Rattle.coord_facts.specs.Flowing.{Flows}
-use Rattle.coord_facts.specs.Leading.{held_back, once_finished}
+use Rattle.coord_facts.specs.Leading.{once_finished}
 use Rattle.coord_facts.proofs.Flowings.{finished_flows, taken_flows, made_flows}
 use Rattle.coord_facts.proofs.OneMade.{once_made}
-use Rattle.coord_facts.proofs.Held.{fun_ext}
+use Rattle.coord_facts.proofs.Held.{fun_ext, held_apart}
 use Rattle.coord_facts.proofs.Kept.{IsInHand, IsPlainOutcome, finished_documents, finished_requests}
 use Rattle.coord_facts.proofs.Reached.{IsOfOne}
-use Rattle.request_facts.specs.Whereabouts.{is_of_load, AreOnce}
+use Rattle.seen_laws.proofs.Sums.{over}
+use Rattle.request_facts.specs.Whereabouts.{times, poked, times_at, times_found, times_due, is_of_load, AreOnce}
+use Rattle.request_facts.proofs.Alls.{one_of_all}
 use Rattle.request_facts.proofs.Onces.{taken_once, finished_once}
-use Rattle.request_facts.proofs.Placings.{made_once}
+use Rattle.request_facts.proofs.Placings.{one_if, first_poked, made_once}
+use Rattle.request_facts.proofs.Times.{itself, times_none}
 use Rattle.hang_facts.specs.Hanging.{Hangs}
 use Rattle.hang_facts.specs.Members.{Has}
 use Rattle.hang_facts.proofs.Members.{into_map}
@@ -442,14 +445,24 @@ module _ (s : Seen) (proc : ProcId) (is : IsComposed s) (poke : Poke) (q : Asked
         parked = refl;
       }
 
-  -- where its request isn't held back
-  pub acted_composed : held_back acted.requests s.parked ≡ held_back s.requests s.parked → IsComposed acted
-  acted_composed held =
+  -- its request waits in the input, so it isn't held back
+  unparked : has_req s.parked poke.req ≡ false
+  unparked =
+      let own : one_if poke.req poke.req ≡ 1 = rw (itself poke.req) refl in
+      let first : times poke.req (poked (desk_of s proc).input) ≡ one_if poke.req poke.req + times poke.req (poked (drop 1 (desk_of s proc).input)) = first_poked poke.req (desk_of s proc).input poke acts.first in
+      let here : times_at poke.req (desk_of s proc) ≤ over (times_at poke.req) s.desks = one_of_all (times_at poke.req) s.desks proc refl in
+      let all : times_found poke.req s.desks s.joined s.parked [] ≡ times_due (request_in s.requests poke.req) = is.once poke.req (is.plain.no_loads poke.req) in
+      let due : times_due (request_in s.requests poke.req) ≡ 1 = ap times_due acts.asked ∙ rw acts.unended refl in
+      let none : times poke.req s.parked ≡ 0 = omega (arith, own, first, here, all, due) in
+      times_none poke.req s.parked none
+
+  pub acted_composed : IsComposed acted
+  acted_composed =
       work_composed s acted work_acted is
       (left_hangs s s.events (actors.Proc proc) is.hangs (rows.Made proc (made_for view poke.req what)) tt)
       (left_rows s s.events (actors.Proc proc) is.homes (rows.Made proc (made_for view poke.req what)) tt)
       (left_kept s s.events (actors.Proc proc) is.kept (rows.Made proc (made_for view poke.req what)) tt)
       (made_ways s s.events (actors.Proc proc) is.ways proc (made_for view poke.req what) anew)
       (made_rests s s.events (actors.Proc proc) is.rests proc (made_for view poke.req what) anew)
-      (made_flows s proc poke q of d view what acts no_edit is.flows held)
+      (made_flows s proc poke q of d view what acts no_edit is.flows (held_apart s.requests s.parked poke.req (λ x. record x { made = Some (made_for view poke.req what) }) unparked))
       (made_once s [] s.events (actors.Proc proc) proc (made_for view poke.req what) poke acts.first refl no_edit anew is.once)
