@@ -14,5 +14,4 @@ play-played-requires-clause-suits g c =
 
 pub play-played-requires-clause-turn : goal.play-played-requires-clause-turn
 play-played-requires-clause-turn g c =
-    let same = ap (λ (s : Scenario). s.header) c.scenario.view_is in
-    rw same (spelled_turn false c.in-Ok.ensures.bytes c.in-Ok.scenario (c.in-Ok.ensures.spells ∙ ap Ok c.in-Ok.ensures.such))
+    spelled_turn false c.in-Ok.ensures.bytes c.in-Ok.scenario (c.in-Ok.ensures.spells ∙ ap Ok c.in-Ok.ensures.such)
