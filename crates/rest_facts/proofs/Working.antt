@@ -1,5 +1,5 @@
--- A process that takes up an order, finishes one, or lets a document act leaves a tab as one is between two events.
-use Rattle.std.proofs.Common.{◌≡◌, ℕ, zero, suc, ◌+◌, ◌-◌, ◌≤◌, Bool, true, false, cond, not, ◌&&◌, ◌||◌, ◌==◌, List, [], ◌∷◌, length, Option, Some, None, refl, sym, ap, ◌∙◌, subst, arith}
+-- A poke that is accepted, and a process that takes up an order, finishes one, or lets a document act, leave a tab as one is between two events.
+use Rattle.std.proofs.Common.{◌≡◌, ◌⊎◌, inl, inr, ℕ, zero, suc, ◌+◌, ◌-◌, ◌≤◌, Bool, true, false, cond, not, ◌&&◌, ◌||◌, ◌==◌, List, [], ◌∷◌, ◌++◌, length, Option, Some, None, refl, sym, ap, ◌∙◌, subst, arith}
 use Rattle.std.specs.Prelude.{drop, find, map, option_map, option_and_then, is_some, slice_get}
 use Rattle.std.specs.List.{list_all, slice_set}
 use Rattle.std.specs.Option.{option_map_or}
@@ -17,11 +17,15 @@ use Rattle.log_model.specs.declared.job.Order.{Order}
 use Rattle.log_model.specs.declared.made.Made.{Made}
 use Rattle.log_model.specs.declared.made.What.{What}
 use Rattle.log_model.specs.declared.outcome.Outcome.{Outcome}
+use Rattle.log_model.specs.declared.action.Action.{Action}
 use Rattle.log_model.specs.declared.request.Poke.{Poke}
+use Rattle.log_model.specs.declared.request.Request.TheVariants as requests
+use Rattle.log_model.specs.declared.row_kind.Actor.{Actor}
 use Rattle.log_model.specs.declared.row_kind.Actor.TheVariants as actors
+use Rattle.log_model.specs.declared.row_kind.RowKind.{RowKind}
 use Rattle.log_model.specs.declared.row_kind.RowKind.TheVariants as rows
 use Rattle.log_model.specs.ActsAtOnce.{is_told, ends_told, has_reason_to_run, has_no_step_waiting, is_ready_load, ends_stepped}
-use Rattle.log_model.specs.After.{after, follows_finished}
+use Rattle.log_model.specs.After.{after, follows_finished, new_request}
 use Rattle.log_model.specs.AfterRequests.{on_request}
 use Rattle.log_model.specs.Equal.{holds, implies, same_pair, has_req}
 use Rattle.log_model.specs.History.{History, has_nav, has_state, used_step_at}
@@ -35,7 +39,8 @@ use Rattle.seen_laws.proofs.Keyed.{find_map}
 use Rattle.seen_laws.proofs.Sendings.{both}
 use Rattle.coord_facts.specs.Flowing.{Flows}
 use Rattle.coord_facts.specs.Leading.{once_finished}
-use Rattle.coord_facts.proofs.Flowings.{finished_flows, taken_flows, made_flows}
+use Rattle.coord_facts.proofs.Flowings.{finished_flows, taken_flows, made_flows, left_flows}
+use Rattle.coord_facts.proofs.Unread.{DesksLeft, accepted_left, accepted_held}
 use Rattle.coord_facts.proofs.OneMade.{once_made}
 use Rattle.coord_facts.proofs.Held.{fun_ext, held_apart}
 use Rattle.coord_facts.proofs.Kept.{IsInHand, IsPlainOutcome, finished_documents, finished_requests}
@@ -44,7 +49,7 @@ use Rattle.seen_laws.proofs.Sums.{over}
 use Rattle.request_facts.specs.Whereabouts.{times, poked, times_at, times_found, times_due, is_of_load, AreOnce}
 use Rattle.request_facts.proofs.Alls.{one_of_all}
 use Rattle.request_facts.proofs.Onces.{taken_once, finished_once}
-use Rattle.request_facts.proofs.Placings.{one_if, first_poked, made_once}
+use Rattle.request_facts.proofs.Placings.{one_if, first_poked, poke_once, made_once}
 use Rattle.request_facts.proofs.Times.{itself, times_none}
 use Rattle.hang_facts.specs.Hanging.{Hangs}
 use Rattle.hang_facts.specs.Members.{Has}
@@ -55,12 +60,12 @@ use Rattle.home_facts.proofs.Rows.{left_rows}
 use Rattle.walk_facts.specs.Serving.{IsMaking, IsServed, AreServed}
 use Rattle.transit_facts.specs.Orders.{IsOutcomeOf}
 use Rattle.transit_facts.specs.Waiting.{AreOnTheirWay}
-use Rattle.transit_facts.proofs.Rows.{taken_ways, finished_ways, made_ways}
+use Rattle.transit_facts.proofs.Rows.{left_ways, taken_ways, finished_ways, made_ways}
 use Rattle.rest_facts.specs.Between.{AreKept, IsPlain, IsComposed}
 use Rattle.rest_facts.specs.Resting.{EachRests}
 use Rattle.rest_facts.proofs.Again.{WasOf, was_of}
 use Rattle.rest_facts.proofs.Kept.{left_kept}
-use Rattle.rest_facts.proofs.Rows.{taken_rests, finished_rests, made_rests}
+use Rattle.rest_facts.proofs.Rows.{left_rests, taken_rests, finished_rests, made_rests}
 use Rattle.rest_facts.proofs.Stands.{all_requests}
 
 -- a change of a document's view and slot alone
@@ -140,13 +145,9 @@ none_of : (o : Option Asked) → is_some o ≡ false → o ≡ None
 none_of None e = refl
 none_of (Some q) e = cc
 
-aim_alike : (gone : DocId → Bool) (a b : List Asked) (h : History) → AreAlike a b → aim_with gone a h ≡ aim_with gone b h
-aim_alike gone a b h alike =
-    sym (same (passed_in gone a)) ∙ ap (λ (o : Option Asked). option_map_or goal o h.current) (find_alike test (λ q. refl) a b alike) ∙ same (passed_in gone b)
+aim_alike : (gone : DocId → Bool) (a b : List Asked) (h : History) → option_map unmade (passed_in gone a) ≡ option_map unmade (passed_in gone b) → aim_with gone a h ≡ aim_with gone b h
+aim_alike gone a b h alike = sym (same (passed_in gone a)) ∙ ap (λ (o : Option Asked). option_map_or goal o h.current) alike ∙ same (passed_in gone b)
   where
-    test : Asked → Bool
-    test q = is_under_way q && is_traversal q.what && has_passed_with gone q
-
     goal : Asked → ℕ
     goal q = option_map_or (λ (g : Step). used_step_at h.rows g.0) q.goal h.current
 
@@ -170,6 +171,90 @@ on_request_alike req made asked = by_found (request_in asked req) refl
     by_found None e = refl
     by_found (Some q) e = set_alike asked (req.0 - 1) q (record q { made = Some made }) (number (req.0 == 0) (req.0 - 1) q e) refl
 
+-- ---- what is read of the requests
+
+-- a step under way was one before
+record WasUnderWay (asked : List Asked) (req : ReqId) (q : Asked) : Type 0 where
+  old : Asked
+  at : request_in asked req ≡ Some old
+  same : unmade old ≡ unmade q
+
+-- nothing else is read of these requests than of those
+record ReadsSame (next asked : List Asked) : Type 0 where
+  passed : (gone : DocId → Bool) → option_map unmade (passed_in gone next) ≡ option_map unmade (passed_in gone asked)
+  running : option_map unmade (running_in next) ≡ option_map unmade (running_in asked)
+  free : list_all (λ (q : Asked). not (is_step_under_way q)) next ≡ list_all (λ (q : Asked). not (is_step_under_way q)) asked
+  loads : ((req : ReqId) → is_of_load (request_in asked req) ≡ false) → (req : ReqId) → is_of_load (request_in next req) ≡ false
+  going : (req : ReqId) (q : Asked) → request_in next req ≡ Some q → is_step_under_way q ≡ true → WasUnderWay asked req q
+
+alike_reads : (next asked : List Asked) → AreAlike next asked → ReadsSame next asked
+alike_reads next asked alike =
+    record {
+      passed = λ gone. find_alike (λ (q : Asked). is_under_way q && is_traversal q.what && has_passed_with gone q) (λ q. refl) next asked alike;
+      running = find_alike (λ (q : Asked). is_under_way q && is_traversal q.what) (λ q. refl) next asked alike;
+      free = all_alike (λ (q : Asked). not (is_step_under_way q)) (λ q. refl) next asked alike;
+      loads = λ none req. holds_alike (λ (q : Asked). is_load q.what) (λ q. refl) (request_in next req) (request_in asked req) (request_alike next asked alike req) ∙ none req;
+      going = λ req q at going. was req q (request_in asked req) refl (sym (request_alike next asked alike req) ∙ ap (λ (o : Option Asked). option_map unmade o) at);
+    }
+  where
+    was : (req : ReqId) (q : Asked) (o : Option Asked) → request_in asked req ≡ o → option_map unmade o ≡ Some (unmade q) → WasUnderWay asked req q
+    was req q None at same = (let no_ : None ≡ Some (unmade q) = same in cc)
+    was req q (Some old) at same = record { old = old; at = at; same = (let both_ : Some (unmade old) ≡ Some (unmade q) = same in cc) }
+
+-- a request more, that hasn't begun and is no load
+module _ (asked : List Asked) (new : Asked) (idle : new.is_started ≡ false) (no_load : is_load new.what ≡ false) where
+  abbrev more : List Asked
+  more = asked ++ new ∷ []
+
+  find_more : (test : Asked → Bool) (xs : List Asked) → test new ≡ false → find test (xs ++ new ∷ []) ≡ find test xs
+  find_more test [] fails = rw fails refl
+  find_more test (x ∷ xs) fails = by_test (test x) (find_more test xs fails)
+    where
+      by_test : (b : Bool) → find test (xs ++ new ∷ []) ≡ find test xs → cond b (Some x) (find test (xs ++ new ∷ [])) ≡ cond b (Some x) (find test xs)
+      by_test true rest = refl
+      by_test false rest = rest
+
+  all_more : (test : Asked → Bool) (xs : List Asked) → test new ≡ true → list_all test (xs ++ new ∷ []) ≡ list_all test xs
+  all_more test [] passes = rw passes refl
+  all_more test (x ∷ xs) passes = ap (λ (b : Bool). test x && b) (all_more test xs passes)
+
+  get_more : (xs : List Asked) (i : ℕ) (q : Asked) → slice_get (xs ++ new ∷ []) i ≡ Some q → (slice_get xs i ≡ Some q) ⊎ (new ≡ q)
+  get_more [] zero q at = inr cc
+  get_more [] (suc i) q at = cc
+  get_more (x ∷ xs) zero q at = inl at
+  get_more (x ∷ xs) (suc i) q at = get_more xs i q at
+
+  request_more : (req : ReqId) (q : Asked) → request_in more req ≡ Some q → (request_in asked req ≡ Some q) ⊎ (new ≡ q)
+  request_more req q at = by_number (req.0 == 0) at
+    where
+      by_number : (b : Bool) → cond b None (slice_get more (req.0 - 1)) ≡ Some q → (cond b None (slice_get asked (req.0 - 1)) ≡ Some q) ⊎ (new ≡ q)
+      by_number true h = cc
+      by_number false h = get_more asked (req.0 - 1) q h
+
+  more_reads : ReadsSame more asked
+  more_reads =
+      record {
+        passed = λ gone. ap (λ (o : Option Asked). option_map unmade o) (find_more (λ (q : Asked). is_under_way q && is_traversal q.what && has_passed_with gone q) asked (rw idle refl));
+        running = ap (λ (o : Option Asked). option_map unmade o) (find_more (λ (q : Asked). is_under_way q && is_traversal q.what) asked (rw idle refl));
+        free = all_more (λ (q : Asked). not (is_step_under_way q)) asked (rw idle refl);
+        loads = λ none req. by_found req (none req) (request_in more req) refl;
+        going = λ req q at going. by_case req q going (request_more req q at);
+      }
+    where
+      by_found : (req : ReqId) → is_of_load (request_in asked req) ≡ false → (o : Option Asked) → request_in more req ≡ o → is_of_load o ≡ false
+      by_found req none None e = refl
+      by_found req none (Some q) e = by_either (request_more req q e)
+        where
+          by_either : (request_in asked req ≡ Some q) ⊎ (new ≡ q) → is_load q.what ≡ false
+          by_either (inl old) = ap (λ (o : Option Asked). is_of_load o) (sym old) ∙ none
+          by_either (inr same) = ap (λ (x : Asked). is_load x.what) (sym same) ∙ no_load
+
+      by_case : (req : ReqId) (q : Asked) → is_step_under_way q ≡ true → (request_in asked req ≡ Some q) ⊎ (new ≡ q) → WasUnderWay asked req q
+      by_case req q going (inl old) = record { old = q; at = old; same = refl }
+      by_case req q going (inr same) =
+          let rests : is_step_under_way new ≡ false = rw idle refl in
+          let no_ : false ≡ true = sym rests ∙ ap (λ (x : Asked). is_step_under_way x) same ∙ going in cc
+
 -- ---- what a process does
 
 -- nothing else changes but desks
@@ -177,7 +262,7 @@ record IsWork (s t : Seen) : Type 0 where
   g : Document → Document
   keeps : KeepsAll g
   documents : t.documents ≡ map g s.documents
-  alike : AreAlike t.requests s.requests
+  reads : ReadsSame t.requests s.requests
   history : t.history ≡ s.history
   places : t.places ≡ s.places
   joined : t.joined ≡ s.joined
@@ -203,13 +288,13 @@ module _ (s t : Seen) (work : IsWork s t) where
   aim_same : aim_of t ≡ aim_of s
   aim_same =
       ap (λ (g : DocId → Bool). aim_with g t.requests t.history) all_gone
-      ∙ aim_alike (is_gone s) t.requests s.requests t.history work.alike
+      ∙ aim_alike (is_gone s) t.requests s.requests t.history (work.reads.passed (is_gone s))
       ∙ ap (λ (h : History). aim_with (is_gone s) s.requests h) work.history
 
   passed_same : option_map unmade (passed_traversal t) ≡ option_map unmade (passed_traversal s)
   passed_same =
       ap (λ (g : DocId → Bool). option_map unmade (passed_in g t.requests)) all_gone
-      ∙ find_alike (λ (q : Asked). is_under_way q && is_traversal q.what && has_passed_with (is_gone s) q) (λ q. refl) t.requests s.requests work.alike
+      ∙ work.reads.passed (is_gone s)
 
   stand_same : (n : ℕ) → all_stand t n ≡ all_stand s n
   stand_same n = ap (λ (h : History). all_stand_in h.rows t.places n) work.history ∙ ap (λ (l : List Place). all_stand_in s.history.rows l n) work.places
@@ -245,8 +330,7 @@ module _ (s t : Seen) (work : IsWork s t) where
     where
       moved : is_moved_in t.requests place.nav ≡ is_moved_in s.requests place.nav
       moved =
-          holds_alike (λ (q : Asked). has_nav q.moved place.nav) (λ q. refl) (running_in t.requests) (running_in s.requests)
-          (find_alike (λ (q : Asked). is_under_way q && is_traversal q.what) (λ q. refl) t.requests s.requests work.alike)
+          holds_alike (λ (q : Asked). has_nav q.moved place.nav) (λ q. refl) (running_in t.requests) (running_in s.requests) work.reads.running
 
       due : due_pair t place.nav ≡ due_pair s place.nav
       due =
@@ -274,7 +358,7 @@ module _ (s t : Seen) (work : IsWork s t) where
 
   free_same : is_queue_free t ≡ is_queue_free s
   free_same =
-      ap (λ (b : Bool). b && all_stand t t.history.current) (all_alike (λ (q : Asked). not (is_step_under_way q)) (λ q. refl) t.requests s.requests work.alike)
+      ap (λ (b : Bool). b && all_stand t t.history.current) work.reads.free
       ∙ ap (λ (b : Bool). list_all (λ (q : Asked). not (is_step_under_way q)) s.requests && b) (stand_same t.history.current ∙ ap (λ (h : History). all_stand s h.current) work.history)
 
   -- no load is ready, where there is none
@@ -306,17 +390,15 @@ module _ (s t : Seen) (work : IsWork s t) where
         unknown = λ doc d found. (let w = before doc d found in sym (ap (λ (x : Document). x.is_known_dead) w.is) ∙ work.keeps.known w.before ∙ plain.unknown doc w.before w.there);
         unlost = λ nav place found lost_. plain.unlost nav place (ap (λ (l : List Place). place_in l nav) (sym work.places) ∙ found) lost_;
         swept = λ doc d found ready there. swept_ doc d ready there (before doc d found);
-        no_loads = λ req. holds_alike (λ (q : Asked). is_load q.what) (λ q. refl) (request_in t.requests req) (request_in s.requests req) (request_alike t.requests s.requests work.alike req) ∙ plain.no_loads req;
-        steps = λ req q at going. steps_ req q (request_in s.requests req) refl (sym (request_alike t.requests s.requests work.alike req) ∙ ap (λ (o : Option Asked). option_map unmade o) at) going;
+        no_loads = work.reads.loads plain.no_loads;
+        steps = λ req q at going. steps_ req q (work.reads.going req q at going) going;
         unparked = λ none. work.parked ∙ plain.unparked (none_of (passed_traversal s) (sym (some_alike (passed_traversal t) (passed_traversal s) passed_same) ∙ ap (λ (o : Option Asked). is_some o) none));
       }
     where
-      steps_ : (req : ReqId) (q : Asked) (o : Option Asked) → request_in s.requests req ≡ o → option_map unmade o ≡ Some (unmade q) → is_step_under_way q ≡ true → (is_traversal q.what ≡ true) × (has_passed t q ≡ true)
-      steps_ req q None at alike going = (let no_ : None ≡ Some (unmade q) = alike in cc)
-      steps_ req q (Some old) at alike going =
-          let same : unmade old ≡ unmade q = (let both_ : Some (unmade old) ≡ Some (unmade q) = alike in cc) in
-          let its = plain.steps req old at (ap (λ (x : Asked). is_step_under_way x) same ∙ going) in
-          (ap (λ (x : Asked). is_traversal x.what) (sym same) ∙ its.0, ap (λ (g : DocId → Bool). has_passed_with g q) all_gone ∙ ap (λ (x : Asked). has_passed_with (is_gone s) x) (sym same) ∙ its.1)
+      steps_ : (req : ReqId) (q : Asked) → WasUnderWay s.requests req q → is_step_under_way q ≡ true → (is_traversal q.what ≡ true) × (has_passed t q ≡ true)
+      steps_ req q w going =
+          let its = plain.steps req w.old w.at (ap (λ (x : Asked). is_step_under_way x) w.same ∙ going) in
+          (ap (λ (x : Asked). is_traversal x.what) (sym w.same) ∙ its.0, ap (λ (g : DocId → Bool). has_passed_with g q) all_gone ∙ ap (λ (x : Asked). has_passed_with (is_gone s) x) (sym w.same) ∙ its.1)
 
       swept_ : (doc : DocId) (d : Document) → d.is_ready ≡ true → d.is_discarded ≡ false → WasOf s work.g doc d → has_state d.state t.history.rows ≡ true
       swept_ doc d ready there w =
@@ -361,7 +443,7 @@ module _ (s : Seen) (event : ℕ) (proc : ProcId) (is : IsComposed s) where
           g = λ d. d;
           keeps = record { nr = λ d. refl; state = λ d. refl; told = λ d. refl; ready = λ d. refl; discarded = λ d. refl; dead = λ d. refl; known = λ d. refl };
           documents = sym (map-id s.documents);
-          alike = refl;
+          reads = alike_reads s.requests s.requests refl;
           history = refl;
           places = refl;
           joined = refl;
@@ -398,7 +480,7 @@ module _ (s : Seen) (event : ℕ) (proc : ProcId) (is : IsComposed s) where
             known = λ d. elim (d.nr.0 == order.job.doc.0) as (λ b. (let x : Document = cond b (once_finished d order.job) d in x).is_known_dead ≡ d.is_known_dead) [ true ↦ refl | false ↦ refl ];
           };
           documents = finished_documents s event proc order outcome in_ plain;
-          alike = ap (λ (l : List Asked). map unmade l) (finished_requests s event proc order outcome in_ plain);
+          reads = alike_reads finished.requests s.requests (ap (λ (l : List Asked). map unmade l) (finished_requests s event proc order outcome in_ plain));
           history = refl;
           places = refl;
           joined = refl;
@@ -438,7 +520,7 @@ module _ (s : Seen) (proc : ProcId) (is : IsComposed s) (poke : Poke) (q : Asked
           known = λ x. elim (x.nr.0 == view.doc.0) as (λ b. (let y : Document = cond b (once_made what x) x in y).is_known_dead ≡ x.is_known_dead) [ true ↦ refl | false ↦ refl ];
         };
         documents = refl;
-        alike = on_request_alike poke.req (made_for view poke.req what) s.requests;
+        reads = alike_reads acted.requests s.requests (on_request_alike poke.req (made_for view poke.req what) s.requests);
         history = refl;
         places = refl;
         joined = refl;
@@ -466,3 +548,36 @@ module _ (s : Seen) (proc : ProcId) (is : IsComposed s) (poke : Poke) (q : Asked
       (made_rests s s.events (actors.Proc proc) is.rests proc (made_for view poke.req what) anew)
       (made_flows s proc poke q of d view what acts no_edit is.flows (held_apart s.requests s.parked poke.req (λ x. record x { made = Some (made_for view poke.req what) }) unparked))
       (made_once s [] s.events (actors.Proc proc) proc (made_for view poke.req what) poke acts.first refl no_edit anew is.once)
+
+-- a poke is accepted, for a document that is there
+module _ (s : Seen) (event : ℕ) (actor : Actor) (is : IsComposed s) (req : ReqId) (nr : req.0 ≡ length s.requests + 1) (doc : DocId) (d : Document) (found : document_of s doc ≡ Some d) (nav : NavId) (action : Action) where
+  abbrev accepts : RowKind
+  accepts = rows.Accepted req (Some doc) (requests.Poke nav action)
+
+  abbrev poked_ : Seen
+  poked_ = after s (record { event = event; actor = actor; row = accepts })
+
+  work_poked : IsWork s poked_
+  work_poked =
+      record {
+        g = λ x. x;
+        keeps = record { nr = λ x. refl; state = λ x. refl; told = λ x. refl; ready = λ x. refl; discarded = λ x. refl; dead = λ x. refl; known = λ x. refl };
+        documents = sym (map-id s.documents);
+        reads = more_reads s.requests (new_request req (Some doc) (requests.Poke nav action)) refl refl;
+        history = refl;
+        places = refl;
+        joined = refl;
+        parked = refl;
+      }
+
+  pub poked_composed : IsComposed poked_
+  poked_composed =
+      let left : DesksLeft s poked_ = accepted_left s event actor req (Some doc) (requests.Poke nav action) in
+      work_composed s poked_ work_poked is
+      (left_hangs s event actor is.hangs accepts tt)
+      (left_rows s event actor is.homes accepts tt)
+      (left_kept s event actor is.kept accepts tt)
+      (left_ways s event actor is.ways accepts left refl refl)
+      (left_rests s event actor is.rests accepts left refl refl refl)
+      (left_flows s poked_ left refl refl refl (accepted_held s event actor req (Some doc) (requests.Poke nav action)) is.flows)
+      (poke_once s [] event actor req nr doc d nav action found is.once)
