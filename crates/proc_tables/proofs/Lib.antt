@@ -1,0 +1,2 @@
+pub mod DeskChanges
+pub mod ViewChanges
