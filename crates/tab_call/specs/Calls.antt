@@ -90,7 +90,7 @@ FollowsRead (statuses.UrlOverflow overflowed) left rest log =
 
 -- ---- by what the words ask
 
--- nothing was read, and the source wasn't asked
+-- nothing was read: what is left of the source, and its count of faults, are as they were
 pub record IsUnread (left rest : Option (List ℕ)) (before now : ℕ) : Type 0 where
   pub bytes : rest ≡ left
   pub count : now ≡ before
@@ -106,7 +106,7 @@ IsMakeEnd statuses.OutOfMemory = Unit {0}
 IsMakeEnd statuses.LogFull = ⊥
 IsMakeEnd (statuses.UrlOverflow overflowed) = Unit {0}
 
--- what was read: where a scenario is to be played, what the status says; else nothing
+-- what was read: where a scenario is to be played, what the status says; else nothing, and a call that makes one ends as such a call may
 abbrev pub ReadsFor : Option Work → Status → Option (List ℕ) → Option (List ℕ) → ℕ → ℕ → Type 0
 ReadsFor (Some (works.Play output)) status left rest before now = HasReadCause status left rest before now
 ReadsFor (Some (works.Make n)) status left rest before now = IsUnread left rest before now × IsMakeEnd status
