@@ -17,6 +17,7 @@ use Rattle.log_model.specs.declared.job.Order.{Order}
 use Rattle.log_model.specs.declared.made.Made.{Made}
 use Rattle.log_model.specs.declared.made.What.{What}
 use Rattle.log_model.specs.declared.outcome.Outcome.{Outcome}
+use Rattle.log_model.specs.declared.outcome.Outcome.TheVariants as outcomes
 use Rattle.log_model.specs.declared.action.Action.{Action}
 use Rattle.log_model.specs.declared.request.Poke.{Poke}
 use Rattle.log_model.specs.declared.request.Request.TheVariants as requests
@@ -26,13 +27,14 @@ use Rattle.log_model.specs.declared.row_kind.RowKind.{RowKind}
 use Rattle.log_model.specs.declared.row_kind.RowKind.TheVariants as rows
 use Rattle.log_model.specs.ActsAtOnce.{is_told, ends_told, has_reason_to_run, has_no_step_waiting, is_ready_load, ends_stepped}
 use Rattle.log_model.specs.After.{after, follows_finished, new_request}
-use Rattle.log_model.specs.AfterRequests.{on_request}
+use Rattle.log_model.specs.AfterDocuments.{documents_finished, slot_finished}
+use Rattle.log_model.specs.AfterRequests.{on_request, requests_finished}
 use Rattle.log_model.specs.Equal.{holds, implies, same_pair, has_req}
 use Rattle.log_model.specs.History.{History, has_nav, has_state, used_step_at}
 use Rattle.log_model.specs.Places.{is_awake, is_gone, is_under_way, is_load, is_traversal, is_ongoing_load, has_passed, has_passed_with, passed_in, passed_traversal, aim_with, aim_of, all_stand, all_stand_in, awake_document, told_pair, pair_in, running_in, is_moved_in, due_pair}
 use Rattle.log_model.specs.Queue.{is_step_under_way, is_queue_free}
 use Rattle.log_model.specs.Soundness.{IsSound}
-use Rattle.log_model.specs.Seen.{Seen, Asked, Document, Place, document_of, desk_of, place_in, place_of, request_in}
+use Rattle.log_model.specs.Seen.{Seen, awake, Asked, Document, Place, document_of, desk_of, place_in, place_of, request_in}
 use Rattle.log_model.specs.Views.{View, made_for}
 use Rattle.seen_laws.specs.Acting.{IsToAct, IsNoEdit}
 use Rattle.seen_laws.proofs.Keyed.{find_map}
@@ -42,6 +44,7 @@ use Rattle.coord_facts.specs.Leading.{once_finished}
 use Rattle.coord_facts.proofs.Flowings.{finished_flows, taken_flows, made_flows, left_flows}
 use Rattle.coord_facts.proofs.Unread.{DesksLeft, accepted_left, accepted_held}
 use Rattle.coord_facts.proofs.OneMade.{once_made}
+use Rattle.coord_facts.proofs.Populated.{making_flows}
 use Rattle.coord_facts.proofs.Held.{fun_ext, held_apart}
 use Rattle.coord_facts.proofs.Kept.{IsInHand, IsPlainOutcome, finished_documents, finished_requests}
 use Rattle.coord_facts.proofs.Reached.{IsOfOne}
@@ -77,6 +80,31 @@ record KeepsAll (g : Document → Document) : Type 0 where
   discarded : (d : Document) → (g d).is_discarded ≡ d.is_discarded
   dead : (d : Document) → (g d).dead_by ≡ d.dead_by
   known : (d : Document) → (g d).is_known_dead ≡ d.is_known_dead
+
+-- of some documents
+keeps_if : (test : Document → Bool) (f : Document → Document) → KeepsAll f → KeepsAll (λ (d : Document). cond (test d) (f d) d)
+keeps_if test f keeps =
+    record {
+      nr = λ d. elim (test d) as (λ b. (let x : Document = cond b (f d) d in x).nr ≡ d.nr) [ true ↦ keeps.nr d | false ↦ refl ];
+      state = λ d. elim (test d) as (λ b. (let x : Document = cond b (f d) d in x).state ≡ d.state) [ true ↦ keeps.state d | false ↦ refl ];
+      told = λ d. elim (test d) as (λ b. (let x : Document = cond b (f d) d in x).told ≡ d.told) [ true ↦ keeps.told d | false ↦ refl ];
+      ready = λ d. elim (test d) as (λ b. (let x : Document = cond b (f d) d in x).is_ready ≡ d.is_ready) [ true ↦ keeps.ready d | false ↦ refl ];
+      discarded = λ d. elim (test d) as (λ b. (let x : Document = cond b (f d) d in x).is_discarded ≡ d.is_discarded) [ true ↦ keeps.discarded d | false ↦ refl ];
+      dead = λ d. elim (test d) as (λ b. (let x : Document = cond b (f d) d in x).dead_by ≡ d.dead_by) [ true ↦ keeps.dead d | false ↦ refl ];
+      known = λ d. elim (test d) as (λ b. (let x : Document = cond b (f d) d in x).is_known_dead ≡ d.is_known_dead) [ true ↦ keeps.known d | false ↦ refl ];
+    }
+
+keeps_both : (f g : Document → Document) → KeepsAll f → KeepsAll g → KeepsAll (λ (d : Document). g (f d))
+keeps_both f g one two =
+    record {
+      nr = λ d. two.nr (f d) ∙ one.nr d;
+      state = λ d. two.state (f d) ∙ one.state d;
+      told = λ d. two.told (f d) ∙ one.told d;
+      ready = λ d. two.ready (f d) ∙ one.ready d;
+      discarded = λ d. two.discarded (f d) ∙ one.discarded d;
+      dead = λ d. two.dead (f d) ∙ one.dead d;
+      known = λ d. two.known (f d) ∙ one.known d;
+    }
 
 same_along : {A : Type 0} (f g : A → Bool) (xs : List A) → ((x : A) → f x ≡ g x) → list_all f xs ≡ list_all g xs
 same_along f g [] same = refl
@@ -470,15 +498,7 @@ module _ (s : Seen) (event : ℕ) (proc : ProcId) (is : IsComposed s) where
     work_finished =
         record {
           g = λ d. cond (d.nr.0 == order.job.doc.0) (once_finished d order.job) d;
-          keeps = record {
-            nr = λ d. elim (d.nr.0 == order.job.doc.0) as (λ b. (let x : Document = cond b (once_finished d order.job) d in x).nr ≡ d.nr) [ true ↦ refl | false ↦ refl ];
-            state = λ d. elim (d.nr.0 == order.job.doc.0) as (λ b. (let x : Document = cond b (once_finished d order.job) d in x).state ≡ d.state) [ true ↦ refl | false ↦ refl ];
-            told = λ d. elim (d.nr.0 == order.job.doc.0) as (λ b. (let x : Document = cond b (once_finished d order.job) d in x).told ≡ d.told) [ true ↦ refl | false ↦ refl ];
-            ready = λ d. elim (d.nr.0 == order.job.doc.0) as (λ b. (let x : Document = cond b (once_finished d order.job) d in x).is_ready ≡ d.is_ready) [ true ↦ refl | false ↦ refl ];
-            discarded = λ d. elim (d.nr.0 == order.job.doc.0) as (λ b. (let x : Document = cond b (once_finished d order.job) d in x).is_discarded ≡ d.is_discarded) [ true ↦ refl | false ↦ refl ];
-            dead = λ d. elim (d.nr.0 == order.job.doc.0) as (λ b. (let x : Document = cond b (once_finished d order.job) d in x).dead_by ≡ d.dead_by) [ true ↦ refl | false ↦ refl ];
-            known = λ d. elim (d.nr.0 == order.job.doc.0) as (λ b. (let x : Document = cond b (once_finished d order.job) d in x).is_known_dead ≡ d.is_known_dead) [ true ↦ refl | false ↦ refl ];
-          };
+          keeps = keeps_if (λ d. d.nr.0 == order.job.doc.0) (λ d. once_finished d order.job) (record { nr = λ d. refl; state = λ d. refl; told = λ d. refl; ready = λ d. refl; discarded = λ d. refl; dead = λ d. refl; known = λ d. refl });
           documents = finished_documents s event proc order outcome in_ plain;
           reads = alike_reads finished.requests s.requests (ap (λ (l : List Asked). map unmade l) (finished_requests s event proc order outcome in_ plain));
           history = refl;
@@ -498,6 +518,49 @@ module _ (s : Seen) (event : ℕ) (proc : ProcId) (is : IsComposed s) where
         (finished_flows s event proc order outcome in_ plain of is.flows)
         (finished_once s [] event (actors.Proc proc) proc order.job.nr outcome is.once)
 
+-- the order in hand is finished: it has made its document, on which nobody is awake yet
+module _ (s : Seen) (event : ℕ) (proc : ProcId) (is : IsComposed s) (order : Order) (slot : Option ℕ) (in_ : IsInHand s proc order) (making : IsOutcomeOf order.job.task (outcomes.Populated slot)) (unused : (nav : NavId) (place : Place) → place_of s nav ≡ Some place → place.status ≡ awake order.job.doc → ⊥) where
+  abbrev populated : Seen
+  populated = after s (record { event = event; actor = actors.Proc proc; row = rows.Finished proc order.job.nr (outcomes.Populated slot) })
+
+  abbrev seen_by : Document → Document
+  seen_by d = cond (d.nr.0 == order.job.doc.0) (once_finished d order.job) d
+
+  abbrev slotted : Document → Document
+  slotted d = cond (d.nr.0 == order.job.doc.0) (record d { slot = slot }) d
+
+  twice : (documents : List Document) → map slotted (map seen_by documents) ≡ map (λ (d : Document). slotted (seen_by d)) documents
+  twice [] = refl
+  twice (d ∷ documents) = ap (λ (l : List Document). slotted (seen_by d) ∷ l) (twice documents)
+
+  work_populated : IsWork s populated
+  work_populated =
+      record {
+        g = λ d. slotted (seen_by d);
+        keeps = keeps_both seen_by slotted
+            (keeps_if (λ d. d.nr.0 == order.job.doc.0) (λ d. once_finished d order.job) (record { nr = λ d. refl; state = λ d. refl; told = λ d. refl; ready = λ d. refl; discarded = λ d. refl; dead = λ d. refl; known = λ d. refl }))
+            (keeps_if (λ d. d.nr.0 == order.job.doc.0) (λ d. record d { slot = slot }) (record { nr = λ d. refl; state = λ d. refl; told = λ d. refl; ready = λ d. refl; discarded = λ d. refl; dead = λ d. refl; known = λ d. refl }));
+        documents =
+            ap (λ (job : Option Job). slot_finished (documents_finished s.documents job) job (outcomes.Populated slot)) (ap (λ (o : Option Order). option_map (λ (x : Order). x.job) o) in_.hand)
+            ∙ twice s.documents;
+        reads = alike_reads populated.requests s.requests (ap (λ (o : Option Order). map unmade (requests_finished s o (outcomes.Populated slot) s.requests)) in_.hand);
+        history = refl;
+        places = refl;
+        joined = refl;
+        parked = refl;
+      }
+
+  pub populated_composed : IsComposed populated
+  populated_composed =
+      work_composed s populated work_populated is
+      (left_hangs s event (actors.Proc proc) is.hangs (rows.Finished proc order.job.nr (outcomes.Populated slot)) tt)
+      (left_rows s event (actors.Proc proc) is.homes (rows.Finished proc order.job.nr (outcomes.Populated slot)) tt)
+      (left_kept s event (actors.Proc proc) is.kept (rows.Finished proc order.job.nr (outcomes.Populated slot)) tt)
+      (finished_ways s event (actors.Proc proc) is.ways proc order (outcomes.Populated slot) in_.hand making)
+      (finished_rests s event (actors.Proc proc) is.rests proc order (outcomes.Populated slot) in_)
+      (making_flows s event proc order slot in_ unused is.flows)
+      (finished_once s [] event (actors.Proc proc) proc order.job.nr (outcomes.Populated slot) is.once)
+
 -- a document makes something of its first poke, that is no edit
 module _ (s : Seen) (proc : ProcId) (is : IsComposed s) (poke : Poke) (q : Asked) (of : NavId) (d : Document) (view : View) (what : What) (acts : IsToAct s proc poke q of d view) (no_edit : IsNoEdit what) where
   abbrev acted : Seen
@@ -510,15 +573,7 @@ module _ (s : Seen) (proc : ProcId) (is : IsComposed s) (poke : Poke) (q : Asked
   work_acted =
       record {
         g = λ x. cond (x.nr.0 == view.doc.0) (once_made what x) x;
-        keeps = record {
-          nr = λ x. elim (x.nr.0 == view.doc.0) as (λ b. (let y : Document = cond b (once_made what x) x in y).nr ≡ x.nr) [ true ↦ refl | false ↦ refl ];
-          state = λ x. elim (x.nr.0 == view.doc.0) as (λ b. (let y : Document = cond b (once_made what x) x in y).state ≡ x.state) [ true ↦ refl | false ↦ refl ];
-          told = λ x. elim (x.nr.0 == view.doc.0) as (λ b. (let y : Document = cond b (once_made what x) x in y).told ≡ x.told) [ true ↦ refl | false ↦ refl ];
-          ready = λ x. elim (x.nr.0 == view.doc.0) as (λ b. (let y : Document = cond b (once_made what x) x in y).is_ready ≡ x.is_ready) [ true ↦ refl | false ↦ refl ];
-          discarded = λ x. elim (x.nr.0 == view.doc.0) as (λ b. (let y : Document = cond b (once_made what x) x in y).is_discarded ≡ x.is_discarded) [ true ↦ refl | false ↦ refl ];
-          dead = λ x. elim (x.nr.0 == view.doc.0) as (λ b. (let y : Document = cond b (once_made what x) x in y).dead_by ≡ x.dead_by) [ true ↦ refl | false ↦ refl ];
-          known = λ x. elim (x.nr.0 == view.doc.0) as (λ b. (let y : Document = cond b (once_made what x) x in y).is_known_dead ≡ x.is_known_dead) [ true ↦ refl | false ↦ refl ];
-        };
+        keeps = keeps_if (λ x. x.nr.0 == view.doc.0) (λ x. once_made what x) (record { nr = λ x. refl; state = λ x. refl; told = λ x. refl; ready = λ x. refl; discarded = λ x. refl; dead = λ x. refl; known = λ x. refl });
         documents = refl;
         reads = alike_reads acted.requests s.requests (on_request_alike poke.req (made_for view poke.req what) s.requests);
         history = refl;
