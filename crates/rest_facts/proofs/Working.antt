@@ -14,6 +14,10 @@ use Rattle.tab_ids.specs.declared.StateId.{StateId}
 use Rattle.tab_ids.specs.declared.Step.{Step}
 use Rattle.log_model.specs.declared.job.Job.{Job}
 use Rattle.log_model.specs.declared.job.Order.{Order}
+use Rattle.log_model.specs.declared.job.Task.{Task}
+use Rattle.log_model.specs.declared.job.Task.TheVariants as tasks
+use Rattle.log_model.specs.declared.made.Report.{Report}
+use Rattle.log_model.specs.declared.made.Report.TheVariants as reports
 use Rattle.log_model.specs.declared.made.Made.{Made}
 use Rattle.log_model.specs.declared.made.What.{What}
 use Rattle.log_model.specs.declared.outcome.Outcome.{Outcome}
@@ -27,8 +31,9 @@ use Rattle.log_model.specs.declared.row_kind.RowKind.{RowKind}
 use Rattle.log_model.specs.declared.row_kind.RowKind.TheVariants as rows
 use Rattle.log_model.specs.ActsAtOnce.{is_told, ends_told, has_reason_to_run, has_no_step_waiting, is_ready_load, ends_stepped}
 use Rattle.log_model.specs.After.{after, follows_finished, new_request}
-use Rattle.log_model.specs.AfterDocuments.{documents_finished, slot_finished}
-use Rattle.log_model.specs.AfterRequests.{on_request, requests_finished}
+use Rattle.log_model.specs.AfterDocuments.{documents_finished, slot_finished, documents_delivered}
+use Rattle.log_model.specs.AfterPlaces.{places_delivered}
+use Rattle.log_model.specs.AfterRequests.{on_request, requests_finished, requests_delivered}
 use Rattle.log_model.specs.Equal.{holds, implies, same_pair, has_req}
 use Rattle.log_model.specs.History.{History, has_nav, has_state, used_step_at}
 use Rattle.log_model.specs.Places.{is_awake, is_gone, is_under_way, is_load, is_traversal, is_ongoing_load, has_passed, has_passed_with, passed_in, passed_traversal, aim_with, aim_of, all_stand, all_stand_in, awake_document, told_pair, pair_in, running_in, is_moved_in, due_pair}
@@ -41,7 +46,8 @@ use Rattle.seen_laws.proofs.Keyed.{find_map}
 use Rattle.seen_laws.proofs.Sendings.{both}
 use Rattle.coord_facts.specs.Flowing.{Flows}
 use Rattle.coord_facts.specs.Leading.{once_finished}
-use Rattle.coord_facts.proofs.Flowings.{finished_flows, taken_flows, made_flows, left_flows}
+use Rattle.coord_facts.proofs.Flowings.{finished_flows, taken_flows, made_flows, report_flows, left_flows}
+use Rattle.coord_facts.proofs.Arrived.{IsFirstReport}
 use Rattle.coord_facts.proofs.Unread.{DesksLeft, accepted_left, accepted_held}
 use Rattle.coord_facts.proofs.OneMade.{once_made}
 use Rattle.coord_facts.proofs.Populated.{making_flows}
@@ -52,17 +58,18 @@ use Rattle.seen_laws.proofs.Sums.{over}
 use Rattle.request_facts.specs.Whereabouts.{times, poked, times_at, times_found, times_due, is_of_load, AreOnce}
 use Rattle.request_facts.proofs.Alls.{one_of_all}
 use Rattle.request_facts.proofs.Onces.{taken_once, finished_once}
-use Rattle.request_facts.proofs.Placings.{one_if, first_poked, poke_once, made_once}
+use Rattle.request_facts.proofs.Placings.{one_if, first_poked, poke_once, made_once, untold_once}
 use Rattle.request_facts.proofs.Times.{itself, times_none}
 use Rattle.hang_facts.specs.Hanging.{Hangs}
 use Rattle.hang_facts.specs.Members.{Has}
 use Rattle.hang_facts.proofs.Members.{into_map}
 use Rattle.hang_facts.proofs.Rows.{left_hangs}
 use Rattle.home_facts.specs.Homes.{AreHomed}
-use Rattle.home_facts.proofs.Rows.{left_rows}
+use Rattle.home_facts.proofs.Rows.{left_rows, delivered_homed}
 use Rattle.walk_facts.specs.Serving.{IsMaking, IsServed, AreServed}
 use Rattle.transit_facts.specs.Orders.{IsOutcomeOf}
 use Rattle.transit_facts.specs.Waiting.{AreOnTheirWay}
+use Rattle.transit_facts.proofs.Delivered.{delivered_ways}
 use Rattle.transit_facts.proofs.Rows.{left_ways, taken_ways, finished_ways, made_ways}
 use Rattle.rest_facts.specs.Between.{AreKept, IsPlain, IsComposed}
 use Rattle.rest_facts.specs.Resting.{EachRests}
@@ -70,6 +77,7 @@ use Rattle.rest_facts.proofs.Again.{WasOf, was_of}
 use Rattle.rest_facts.proofs.Kept.{left_kept}
 use Rattle.rest_facts.proofs.Rows.{left_rests, taken_rests, finished_rests, made_rests}
 use Rattle.rest_facts.proofs.Stands.{all_requests}
+use Rattle.rest_facts.proofs.Taken.{delivered_rests}
 
 -- a change of a document's view and slot alone
 record KeepsAll (g : Document → Document) : Type 0 where
@@ -636,3 +644,82 @@ module _ (s : Seen) (event : ℕ) (actor : Actor) (is : IsComposed s) (req : Req
       (left_rests s event actor is.rests accepts left refl refl refl)
       (left_flows s poked_ left refl refl refl (accepted_held s event actor req (Some doc) (requests.Poke nav action)) is.flows)
       (poke_once s [] event actor req nr doc d nav action found is.once)
+
+-- ---- a report is delivered that asks nothing of the coordinator
+
+-- an order told its document something, froze it or discarded it
+abbrev pub IsTold : Outcome → Type 0
+IsTold outcomes.Updated = Unit {0}
+IsTold outcomes.Frozen = Unit {0}
+IsTold outcomes.Discarded = Unit {0}
+IsTold _ = ⊥
+
+told_plain : (outcome : Outcome) → IsTold outcome → IsPlainOutcome outcome
+told_plain outcomes.Updated is = tt
+told_plain outcomes.Frozen is = tt
+told_plain outcomes.Discarded is = tt
+told_plain outcomes.Activated never = absurd never
+told_plain (outcomes.Populated slot) never = absurd never
+told_plain (outcomes.Asked verdict) never = absurd never
+told_plain outcomes.Fragmented never = absurd never
+
+told_documents : (documents : List Document) (job : Job) (outcome : Outcome) → IsTold outcome → documents_delivered documents (Some (reports.Done job outcome None)) ≡ documents
+told_documents documents job outcomes.Updated is = refl
+told_documents documents job outcomes.Frozen is = refl
+told_documents documents job outcomes.Discarded is = refl
+told_documents documents job outcomes.Activated never = absurd never
+told_documents documents job (outcomes.Populated slot) never = absurd never
+told_documents documents job (outcomes.Asked verdict) never = absurd never
+told_documents documents job outcomes.Fragmented never = absurd never
+
+told_requests : (asked : List Asked) (job : Job) (outcome : Outcome) → IsTold outcome → requests_delivered (Some (reports.Done job outcome None)) asked ≡ asked
+told_requests asked job outcomes.Updated is = refl
+told_requests asked job outcomes.Frozen is = refl
+told_requests asked job outcomes.Discarded is = refl
+told_requests asked job outcomes.Activated never = absurd never
+told_requests asked job (outcomes.Populated slot) never = absurd never
+told_requests asked job (outcomes.Asked verdict) never = absurd never
+told_requests asked job outcomes.Fragmented never = absurd never
+
+told_places : (s : Seen) (job : Job) (outcome : Outcome) → IsTold outcome → (task : Task) → job.task ≡ task → IsOutcomeOf task outcome → places_delivered s (Some (reports.Done job outcome None)) ≡ s.places
+told_places s job outcome is (tasks.Update length index) task its = rw task refl
+told_places s job outcome is tasks.Freeze task its = rw task refl
+told_places s job outcome is tasks.Discard task its = rw task refl
+told_places s job outcome is (tasks.Ask slot cause) task its = rw task refl
+told_places s job outcome is (tasks.DoFragment req mode address) task its = rw task refl
+told_places s job outcome is (tasks.Populate nav state address initial) task its = rw task refl
+told_places s job outcomes.Activated never (tasks.Activate entry epoch length index memo address) task its = absurd never
+told_places s job outcomes.Updated is (tasks.Activate entry epoch length index memo address) task never = absurd never
+told_places s job outcomes.Frozen is (tasks.Activate entry epoch length index memo address) task never = absurd never
+told_places s job outcomes.Discarded is (tasks.Activate entry epoch length index memo address) task never = absurd never
+told_places s job (outcomes.Populated slot) never (tasks.Activate entry epoch length index memo address) task its = absurd never
+told_places s job (outcomes.Asked verdict) never (tasks.Activate entry epoch length index memo address) task its = absurd never
+told_places s job outcomes.Fragmented never (tasks.Activate entry epoch length index memo address) task its = absurd never
+
+module _ (s : Seen) (event : ℕ) (proc : ProcId) (is : IsComposed s) (job : Job) (outcome : Outcome) (first : IsFirstReport (desk_of s proc) job outcome) (tells : IsTold outcome) (its : IsOutcomeOf job.task outcome) where
+  abbrev delivered : Seen
+  delivered = after s (record { event = event; actor = actors.Coord; row = rows.Delivered proc })
+
+  work_delivered : IsWork s delivered
+  work_delivered =
+      record {
+        g = λ d. d;
+        keeps = record { nr = λ d. refl; state = λ d. refl; told = λ d. refl; ready = λ d. refl; discarded = λ d. refl; dead = λ d. refl; known = λ d. refl };
+        documents = ap (λ (o : Option Report). documents_delivered s.documents o) first ∙ told_documents s.documents job outcome tells ∙ sym (map-id s.documents);
+        reads = alike_reads delivered.requests s.requests (ap (λ (l : List Asked). map unmade l) (ap (λ (o : Option Report). requests_delivered o s.requests) first ∙ told_requests s.requests job outcome tells));
+        history = refl;
+        places = ap (λ (o : Option Report). places_delivered s o) first ∙ told_places s job outcome tells job.task refl its;
+        joined = rw first refl;
+        parked = rw first refl;
+      }
+
+  pub told_composed : IsComposed delivered
+  told_composed =
+      work_composed s delivered work_delivered is
+      (left_hangs s event actors.Coord is.hangs (rows.Delivered proc) tt)
+      (delivered_homed s event actors.Coord is.homes proc (rw first tt))
+      (left_kept s event actors.Coord is.kept (rows.Delivered proc) tt)
+      (delivered_ways s event actors.Coord proc is.homes is.ways (rw first tt))
+      (delivered_rests s event actors.Coord is.rests proc (rw first tt))
+      (report_flows s event proc job outcome first (told_plain outcome tells) is.flows)
+      (untold_once s [] event actors.Coord proc (reports.Done job outcome None) first refl is.once)
