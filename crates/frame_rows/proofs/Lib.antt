@@ -1,0 +1,5 @@
+pub mod LawfulLaws
+pub mod Makes
+pub mod Discards
+pub mod Takes
+pub mod Turns

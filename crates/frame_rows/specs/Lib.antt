@@ -1,0 +1,4 @@
+pub mod Lawful
+pub mod Making
+pub mod Discarding
+pub mod Taking
