@@ -1,0 +1,11 @@
+pub mod LookUps
+pub mod Nodes
+pub mod Keyed
+pub mod Sights
+pub mod Holding
+pub mod Telling
+pub mod Showing
+pub mod Making
+pub mod Discarding
+pub mod Requests
+pub mod Changing

@@ -1,0 +1,87 @@
+-- What is read of the requests stays, where a row changes them in other fields: who was moved, and which traversal runs.
+use Rattle.doors.specs.Look.{moved_by}
+use Rattle.doors.specs.Ties.{IsRunning}
+use Rattle.log_model.specs.After.{after}
+use Rattle.log_model.specs.AfterRequests.{entries_taken, request_begun}
+use Rattle.log_model.specs.Seen.{Asked, Seen, request_in}
+use Rattle.log_model.specs.declared.change.Change.{Change}
+use Rattle.log_model.specs.declared.outcome.Ending.{Ending}
+use Rattle.log_model.specs.declared.row_kind.Actor.{Actor}
+use Rattle.log_model.specs.declared.row_kind.RowKind.{RowKind}
+use Rattle.plain_tab.proofs.Courses.{is_asked, runs_again, runs_ended, runs_ended_other}
+use Rattle.plain_tab.specs.Calm.{is_this}
+use Rattle.request_facts.proofs.Readers.{SameReads, on_read}
+use Rattle.std.proofs.Common.{List, None, Option, Some, [], false, refl, sym, true, ℕ, ◌≡◌}
+use Rattle.std.specs.Option.{option_map_or}
+use Rattle.std.specs.Prelude.{option_map}
+use Rattle.tab_ids.specs.declared.NavId.{NavId}
+use Rattle.tab_ids.specs.declared.ReqId.{ReqId}
+use Rattle.tab_ids.specs.declared.Step.{Step}
+use Rattle.log_model.specs.declared.outcome.Ending.TheVariants as endings
+use Rattle.log_model.specs.declared.row_kind.RowKind.TheVariants as rows
+
+abbrev pub moved_read : Asked → List NavId
+moved_read q = q.moved
+
+same_moved : (a b : Option Asked) → option_map moved_read a ≡ option_map moved_read b → option_map_or moved_read a [] ≡ option_map_or moved_read b []
+same_moved None None is = refl
+same_moved (Some a) (Some b) is = let same : a.moved ≡ b.moved = cc in same
+same_moved None (Some b) is = cc
+same_moved (Some a) None is = cc
+
+pub moved_same : (asked next_ : List Asked) (run : Option ReqId) → SameReads moved_read asked next_ → moved_by next_ run ≡ moved_by asked run
+moved_same asked next_ None same = refl
+moved_same asked next_ (Some req) same = sym (same_moved (request_in asked req) (request_in next_ req) (same req))
+
+-- the traversal that runs is there still
+pub runs_same : (asked next_ : List Asked) (run : Option ReqId) → SameReads is_run asked next_ → IsRunning asked run → IsRunning next_ run
+runs_same asked next_ run same runs =
+    record {
+      only = runs_again run asked next_ same runs.only;
+      there = λ req is. let it = runs.there req is in let now = is_asked is_run asked next_ same req it.0 it.1 in (now.0, now.1);
+    }
+
+-- ---- rows that change the requests in what isn't read here
+
+module _ (s : Seen) (event : ℕ) (actor : Actor) where
+  abbrev then_ : RowKind → Seen
+  then_ kind = after s (record { event = event; actor = actor; row = kind })
+
+  pub ended_moved : (req : ReqId) (ending : Ending) → SameReads moved_read s.requests (ended s.requests req ending)
+  ended_moved req ending = on_read moved_read s.requests req (λ q. record q { ending = Some ending }) (λ q. refl)
+
+  pub applied_moved : (req : ReqId) (change : Change) → SameReads moved_read s.requests (then_ (rows.Applied req change)).requests
+  applied_moved req change =
+      reads_then moved_read s.requests (ended s.requests req endings.Applied) _ (ended_moved req endings.Applied)
+      (reads_then moved_read (ended s.requests req endings.Applied) (on_request req (λ q. record q { change = Some change }) (ended s.requests req endings.Applied)) _ (on_read moved_read (ended s.requests req endings.Applied) req (λ q. record q { change = Some change }) (λ q. refl))
+      (on_read moved_read (on_request req (λ q. record q { change = Some change }) (ended s.requests req endings.Applied)) req (λ q. record q { took = entries_taken s.history change }) (λ q. refl)))
+
+  pub started_moved : (req : ReqId) (goal : Option Step) → SameReads moved_read s.requests (then_ (rows.Started req goal)).requests
+  started_moved req goal =
+      reads_then moved_read s.requests (on_request req (λ q. record q { is_started = true; goal = goal }) s.requests) _ (on_read moved_read s.requests req (λ q. record q { is_started = true; goal = goal }) (λ q. refl))
+      (on_read moved_read (on_request req (λ q. record q { is_started = true; goal = goal }) s.requests) req (request_begun s) (λ q. refl))
+
+-- ---- one that doesn't run ends
+
+pub runs_ended_apart : (asked : List Asked) (run : Option ReqId) (req : ReqId) (ending : Ending) → is_this run req ≡ false → IsRunning asked run → IsRunning (ended asked req ending) run
+runs_ended_apart asked run req ending apart runs =
+    record {
+      only = runs_ended_other run asked req ending apart runs.only;
+      there = λ r is. by_run run r is apart runs;
+    }
+  where
+    still : (r : ReqId) (q : Asked) → request_in asked r ≡ Some q → (x : Asked) × (request_in (ended asked req ending) r ≡ Some x)
+    still r q at = let now = is_asked moved_read asked (ended asked req ending) (on_read moved_read asked req (λ x. record x { ending = Some ending }) (λ x. refl)) r q at in (now.0, now.1)
+
+    by_run : (o : Option ReqId) (r : ReqId) → o ≡ Some r → is_this o req ≡ false → IsRunning asked o → (x : Asked) × (request_in (ended asked req ending) r ≡ Some x)
+    by_run o r is apart_ runs_ = let it = runs_.there r is in still r it.0 it.1
+
+pub runs_applied_apart : (s : Seen) (event : ℕ) (actor : Actor) (run : Option ReqId) (req : ReqId) (change : Change) → is_this run req ≡ false → IsRunning s.requests run → IsRunning (after s (record { event = event; actor = actor; row = rows.Applied req change })).requests run
+runs_applied_apart s event actor run req change apart runs =
+    runs_same (ended s.requests req endings.Applied) _ run (reads_then is_run (ended s.requests req endings.Applied) (on_request req (λ q. record q { change = Some change }) (ended s.requests req endings.Applied)) _ (on_read is_run (ended s.requests req endings.Applied) req (λ q. record q { change = Some change }) (λ q. refl)) (on_read is_run (on_request req (λ q. record q { change = Some change }) (ended s.requests req endings.Applied)) req (λ q. record q { took = entries_taken s.history change }) (λ q. refl))) (runs_ended_apart s.requests run req endings.Applied apart runs)
+
+-- ---- the one that runs ends
+
+pub runs_applied_own : (s : Seen) (event : ℕ) (actor : Actor) (req : ReqId) (change : Change) → IsRunning s.requests (Some req) → IsRunning (after s (record { event = event; actor = actor; row = rows.Applied req change })).requests None
+runs_applied_own s event actor req change runs =
+    runs_same (ended s.requests req endings.Applied) _ None (reads_then is_run (ended s.requests req endings.Applied) (on_request req (λ q. record q { change = Some change }) (ended s.requests req endings.Applied)) _ (on_read is_run (ended s.requests req endings.Applied) req (λ q. record q { change = Some change }) (λ q. refl)) (on_read is_run (on_request req (λ q. record q { change = Some change }) (ended s.requests req endings.Applied)) req (λ q. record q { took = entries_taken s.history change }) (λ q. refl))) (record { only = runs_ended s.requests req endings.Applied runs.only; there = λ r is. cc })

@@ -1,0 +1,4 @@
+pub mod Look
+pub mod Ties
+pub mod Orders
+pub mod Working

@@ -1,0 +1,31 @@
+-- A coordinator that works in an event: its tables stand for what the log has come to, and the rows so far pass.
+-- This project's own.
+use Rattle.doors.specs.Look.{Look, look_of}
+use Rattle.doors.specs.Ties.{Holds, IsRunning}
+use Rattle.frame_rows.specs.Lawful.{AreLawful}
+use Rattle.log_model.specs.declared.row_kind.RowKind.{RowKind}
+use Rattle.seen_laws.specs.InEvent.{InEvent, IsClear, now_of}
+use Rattle.seen_laws.specs.Sending.{leads}
+use Rattle.std.specs.Prelude.{List, Option, true, ◌≡◌}
+use Rattle.tab_ids.specs.declared.ReqId.{ReqId}
+use Rattle.doors.specs.declared.tables.Tables.{Tables}
+use Rattle.log_model.specs.declared.row_kind.Actor.{Actor}
+use Rattle.log_model.specs.declared.row_kind.Actor.TheVariants as actors
+
+-- what the log has come to, as the tables tell of it
+abbrev pub look_now : InEvent → List RowKind → Option ReqId → Look
+look_now e out run = look_of (now_of e out) run
+
+-- the user or the coordinator acts
+abbrev pub IsWorker : Actor → Type 0
+IsWorker actors.Ui = Unit {0}
+IsWorker actors.Coord = Unit {0}
+IsWorker _ = ⊥
+
+pub record IsAtWork (e : InEvent) (out : List RowKind) (t : Tables) (run : Option ReqId) : Type 0 where
+  pub own : leads e.own ≡ true
+  pub worker : IsWorker e.actor
+  pub holds : Holds (look_now e out run) t
+  pub runs : IsRunning (now_of e out).requests run
+  pub lawful : AreLawful e out
+  pub clear : IsClear e out

@@ -1,0 +1,23 @@
+//! `Tables`, what the coordinator keeps.
+use address::OutOfMemory;
+use indexmap::IndexMap;
+use nav_tree::NavTree;
+use step_index::StepIndex;
+use tab_ids::{DocId, ProcId, StateId};
+
+/// The session history, the navigables with the documents that are there, those that are being made, how many of each were numbered, and where the tab's documents live.
+#[derive(Drop)]
+pub struct Tables {
+    pub store: StepIndex,
+    pub tree: NavTree,
+    /// The document that is being made for a document state.
+    pub making: IndexMap<StateId, DocId>,
+    /// How many documents, document states and entries of the coordinator were numbered.
+    pub documents: u64,
+    pub states: u32,
+    pub entries: u32,
+    /// An entry for the opening and one for each order: as long as it can grow, the numbers of orders fit.
+    pub sent: Vec<u8>,
+    /// The process of the tab's documents: that of a frame's is its parent's.
+    pub home: ProcId,
+}
