@@ -1,17 +1,17 @@
 -- What is read of the requests stays, where a row changes them in other fields: who was moved, and which traversal runs.
 use Rattle.doors.specs.Look.{moved_by}
 use Rattle.doors.specs.Ties.{IsRunning}
-use Rattle.log_model.specs.After.{after}
-use Rattle.log_model.specs.AfterRequests.{entries_taken, request_begun}
+use Rattle.log_model.specs.After.{after, ended}
+use Rattle.log_model.specs.AfterRequests.{entries_taken, on_request, request_begun}
 use Rattle.log_model.specs.Seen.{Asked, Seen, request_in}
 use Rattle.log_model.specs.declared.change.Change.{Change}
 use Rattle.log_model.specs.declared.outcome.Ending.{Ending}
 use Rattle.log_model.specs.declared.row_kind.Actor.{Actor}
 use Rattle.log_model.specs.declared.row_kind.RowKind.{RowKind}
 use Rattle.plain_tab.proofs.Courses.{is_asked, runs_again, runs_ended, runs_ended_other}
-use Rattle.plain_tab.specs.Calm.{is_this}
-use Rattle.request_facts.proofs.Readers.{SameReads, on_read}
-use Rattle.std.proofs.Common.{List, None, Option, Some, [], false, refl, sym, true, ℕ, ◌≡◌}
+use Rattle.plain_tab.specs.Calm.{is_run, is_this}
+use Rattle.request_facts.proofs.Readers.{SameReads, on_read, reads_then}
+use Rattle.std.proofs.Common.{List, None, Option, Some, [], false, refl, true, ℕ, ◌≡◌}
 use Rattle.std.specs.Option.{option_map_or}
 use Rattle.std.specs.Prelude.{option_map}
 use Rattle.tab_ids.specs.declared.NavId.{NavId}
@@ -31,7 +31,7 @@ same_moved (Some a) None is = cc
 
 pub moved_same : (asked next_ : List Asked) (run : Option ReqId) → SameReads moved_read asked next_ → moved_by next_ run ≡ moved_by asked run
 moved_same asked next_ None same = refl
-moved_same asked next_ (Some req) same = sym (same_moved (request_in asked req) (request_in next_ req) (same req))
+moved_same asked next_ (Some req) same = same_moved (request_in next_ req) (request_in asked req) (same req)
 
 -- the traversal that runs is there still
 pub runs_same : (asked next_ : List Asked) (run : Option ReqId) → SameReads is_run asked next_ → IsRunning asked run → IsRunning next_ run
