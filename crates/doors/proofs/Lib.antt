@@ -9,3 +9,5 @@ pub mod Making
 pub mod Discarding
 pub mod Requests
 pub mod Changing
+pub mod Ending
+pub mod Works

@@ -20,10 +20,14 @@ use Rattle.tab_ids.specs.declared.ReqId.{ReqId}
 use Rattle.log_model.specs.declared.job.Why.TheVariants as whys
 use Rattle.nav_tree.specs.declared.status.NavStatus.TheVariants as kept
 
+-- the order with a number
+abbrev pub numbered_order : ℕ → ProcId → DocId → Why → Task → Job
+numbered_order nr proc doc why task =
+    record { nr = record { 0 = nr }; proc = proc; incarnation = 0; doc = doc; why = why; task = task }
+
 -- the order that is sent next, after so many
 abbrev pub next_order : ℕ → ProcId → DocId → Why → Task → Job
-next_order jobs proc doc why task =
-    record { nr = record { 0 = jobs + 1 }; proc = proc; incarnation = 0; doc = doc; why = why; task = task }
+next_order jobs proc doc why task = numbered_order (jobs + 1) proc doc why task
 
 -- the document is in the process, in which none has died, and is neither discarded nor known to be dead
 pub record IsThere (s : Seen) (proc : ProcId) (doc : DocId) : Type 0 where

@@ -2,14 +2,16 @@
 -- This project's own.
 use Rattle.doors.specs.Look.{Look, look_of}
 use Rattle.doors.specs.Ties.{Holds, IsRunning}
+use Rattle.doors.specs.declared.tables.Tables.{Tables}
 use Rattle.frame_rows.specs.Lawful.{AreLawful}
+use Rattle.log_model.specs.Seen.{Asked, request_in}
+use Rattle.log_model.specs.declared.row_kind.Actor.{Actor}
 use Rattle.log_model.specs.declared.row_kind.RowKind.{RowKind}
 use Rattle.seen_laws.specs.InEvent.{InEvent, IsClear, now_of}
 use Rattle.seen_laws.specs.Sending.{leads}
-use Rattle.std.specs.Prelude.{List, Option, true, ◌≡◌}
+use Rattle.std.specs.Prelude.{List, Option, Some, true, ◌≡◌}
 use Rattle.tab_ids.specs.declared.ReqId.{ReqId}
-use Rattle.doors.specs.declared.tables.Tables.{Tables}
-use Rattle.log_model.specs.declared.row_kind.Actor.{Actor}
+use Rattle.tab_ids.specs.declared.Step.{Step}
 use Rattle.log_model.specs.declared.row_kind.Actor.TheVariants as actors
 
 -- what the log has come to, as the tables tell of it
@@ -22,10 +24,16 @@ IsWorker actors.Ui = Unit {0}
 IsWorker actors.Coord = Unit {0}
 IsWorker _ = ⊥
 
-pub record IsAtWork (e : InEvent) (out : List RowKind) (t : Tables) (run : Option ReqId) : Type 0 where
+-- the traversal that runs leads to this step
+abbrev pub HasGoal : List Asked → Option ReqId → Step → Type 0
+HasGoal asked run goal = (req : ReqId) (q : Asked) → run ≡ Some req → request_in asked req ≡ Some q → q.goal ≡ Some goal
+
+-- the coordinator works in the event, and its tables stand for what the log has come to
+pub record IsAtWork (e : InEvent) (out : List RowKind) (t : Tables) : Type 0 where
   pub own : leads e.own ≡ true
   pub worker : IsWorker e.actor
-  pub holds : Holds (look_now e out run) t
-  pub runs : IsRunning (now_of e out).requests run
+  pub holds : Holds (look_now e out t.running) t
+  pub runs : IsRunning (now_of e out).requests t.running
+  pub goal : HasGoal (now_of e out).requests t.running t.goal
   pub lawful : AreLawful e out
   pub clear : IsClear e out

@@ -3,7 +3,7 @@ use address::OutOfMemory;
 use indexmap::IndexMap;
 use nav_tree::NavTree;
 use step_index::StepIndex;
-use tab_ids::{DocId, ProcId, StateId};
+use tab_ids::{DocId, ProcId, ReqId, StateId, Step};
 
 /// The session history, the navigables with the documents that are there, those that are being made, how many of each were numbered, and where the tab's documents live.
 #[derive(Drop)]
@@ -20,4 +20,7 @@ pub struct Tables {
     pub sent: Vec<u8>,
     /// The process of the tab's documents: that of a frame's is its parent's.
     pub home: ProcId,
+    /// The traversal that runs, and the step that it leads to.
+    pub running: Option<ReqId>,
+    pub goal: Step,
 }

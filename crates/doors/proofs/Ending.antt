@@ -1,0 +1,223 @@
+-- A frame is removed, a traversal ends, and rows of which the tables tell nothing: the tables go on standing for the log.
+use Rattle.doors.proofs.Changing.{Changes, none_taken}
+use Rattle.doors.proofs.Holding.{held_changed, listed_tree}
+use Rattle.doors.proofs.Nodes.{keys_changed, keys_with_nav, node_changed, node_with_nav, places_changed, places_with}
+use Rattle.doors.proofs.Requests.{applied_moved, moved_same}
+use Rattle.doors.proofs.Sights.{sights_same}
+use Rattle.doors.proofs.Works.{numbered}
+use Rattle.doors.specs.Look.{Look, Sight, look_of, moved_by, sight}
+use Rattle.doors.specs.Ties.{AreHeld, AreListed, AreTied, Holds, IsTied}
+use Rattle.doors.specs.declared.tables.Tables.{Tables}
+use Rattle.log_model.specs.After.{after}
+use Rattle.log_model.specs.AfterDocuments.{applied_to, told_after_change}
+use Rattle.log_model.specs.History.{History, applied, has_nav, has_row}
+use Rattle.log_model.specs.Order.{SameHistory}
+use Rattle.log_model.specs.Places.{stands}
+use Rattle.log_model.specs.Seen.{Document, Place, Seen, place_in}
+use Rattle.log_model.specs.declared.row_kind.Actor.{Actor}
+use Rattle.nav_tree.specs.Tree.{Tree, changed, is_nav, node_of, with_nav}
+use Rattle.nav_tree.specs.declared.nav.Nav.{Nav}
+use Rattle.nav_tree.specs.declared.node.Node.{Node}
+use Rattle.std.proofs.Common.{Bool, List, None, Option, Some, [], ap, arith, cond, false, length, map, not, refl, subst, sym, true, ℕ, ◌&&◌, ◌+◌, ◌==◌, ◌||◌, ◌∙◌, ◌∷◌, ◌≡◌}
+use Rattle.std.proofs.lemmas.Bool.Decides.{nat_tests}
+use Rattle.std.proofs.lemmas.List.{map-id}
+use Rattle.std.specs.Map.{lookup}
+use Rattle.std.specs.Prelude.{fold, option_map}
+use Rattle.step_index.specs.Held.{history_held}
+use Rattle.tab_ids.specs.declared.DocId.{DocId}
+use Rattle.tab_ids.specs.declared.NavId.{NavId}
+use Rattle.tab_ids.specs.declared.ReqId.{ReqId}
+use Rattle.tab_ids.specs.declared.StateId.{StateId}
+use Rattle.tab_ids.specs.declared.Step.{Step}
+use Rattle.log_model.specs.declared.change.Change.TheVariants as changes
+use Rattle.log_model.specs.declared.row_kind.RowKind.TheVariants as rows
+
+-- ---- rows of which they tell nothing
+
+pub left_holds : (l m : Look) (t : Tables) → m.documents ≡ l.documents → m.places ≡ l.places → m.history ≡ l.history → m.moved ≡ l.moved → m.jobs ≡ l.jobs → m.states ≡ l.states → m.entries ≡ l.entries → Holds l t → Holds m t
+left_holds l m t documents places history moved jobs states entries holds =
+    record {
+      navs = record {
+        navs = λ nav. subst (λ (x : List Place). AreTied m.documents m.moved nav (node_of nav t.tree) (place_in x nav)) (sym places) (subst (λ (x : List NavId). AreTied m.documents x nav (node_of nav t.tree) (place_in l.places nav)) (sym moved) (subst (λ (x : List Sight). AreTied x l.moved nav (node_of nav t.tree) (place_in l.places nav)) (sym documents) (holds.navs.navs nav)));
+        order = holds.navs.order ∙ ap (λ (x : List Place). map (λ (p : Place). p.nav) x) (sym places);
+      };
+      documents = subst (λ (x : List Sight). AreListed x t.tree t.making.entries) (sym documents) holds.documents;
+      history = subst (λ (h : History). SameHistory (history_held t.store) h) (sym history) holds.history;
+      numbered = holds.numbered ∙ ap (λ (x : List Sight). length x) (sym documents);
+      states = holds.states ∙ sym states;
+      entries = holds.entries ∙ sym entries;
+      sent = holds.sent ∙ ap (λ (n : ℕ). n + 1) (sym jobs);
+    }
+
+-- ---- a traversal ends: nobody is moved any more
+
+abbrev pub unmoved : Node → Node
+unmoved node = record node { nav = record node.nav { moved = false } }
+
+-- so it is of each of these navigables
+abbrev pub unmove_all : List NavId → Tree → Tree
+unmove_all navs tree = fold (λ (t : Tree) (nav : NavId). with_nav (λ (n : Nav). record n { moved = false }) nav t) tree navs
+
+abbrev pub unmoved_if : List NavId → NavId → Node → Node
+unmoved_if navs other node = cond (has_nav navs other) (unmoved node) node
+
+map_same : {A : Type 0} (o : Option A) → o ≡ option_map (λ (x : A). x) o
+map_same None = refl
+map_same (Some x) = refl
+
+pub node_unmoved : (navs : List NavId) (other : NavId) (tree : Tree) → node_of other (unmove_all navs tree) ≡ option_map (unmoved_if navs other) (node_of other tree)
+node_unmoved [] other tree = map_same (node_of other tree)
+node_unmoved (nav ∷ navs) other tree =
+    node_unmoved navs other (with_nav (λ (n : Nav). record n { moved = false }) nav tree)
+    ∙ ap (λ (o : Option Node). option_map (unmoved_if navs other) o) (node_with_nav (λ (n : Nav). record n { moved = false }) nav other tree)
+    ∙ joined (nav.0 == other.0) (has_nav navs other) (node_of other tree)
+  where
+    joined : (b c : Bool) (o : Option Node) → option_map (λ (node : Node). cond c (unmoved node) node) (option_map (λ (node : Node). cond b (unmoved node) node) o) ≡ option_map (λ (node : Node). cond (b || c) (unmoved node) node) o
+    joined b c None = refl
+    joined true true (Some node) = refl
+    joined true false (Some node) = refl
+    joined false c (Some node) = refl
+
+keys_unmoved : (navs : List NavId) (tree : Tree) → map (λ (e : NavId × Node). e.0) (unmove_all navs tree).navs ≡ map (λ (e : NavId × Node). e.0) tree.navs
+keys_unmoved [] tree = refl
+keys_unmoved (nav ∷ navs) tree = keys_unmoved navs (with_nav (λ (n : Nav). record n { moved = false }) nav tree) ∙ keys_with_nav (λ (n : Nav). record n { moved = false }) nav tree
+
+places_unmoved : (navs : List NavId) (tree : Tree) → (unmove_all navs tree).places ≡ tree.places
+places_unmoved [] tree = refl
+places_unmoved (nav ∷ navs) tree = places_unmoved navs (with_nav (λ (n : Nav). record n { moved = false }) nav tree) ∙ places_with (λ (n : Nav). record n { moved = false }) nav tree
+
+-- a navigable of the table is among all of them
+is_among : (es : List (NavId × Node)) (nav : NavId) (n : Node) → lookup (is_nav nav) es ≡ Some n → has_nav (map (λ (e : NavId × Node). e.0) es) nav ≡ true
+is_among [] nav n at = cc
+is_among (e ∷ es) nav n at = by_test (is_nav nav e.0) refl at (is_among es nav n)
+  where
+    turned : (b : Bool) → is_nav nav e.0 ≡ b → (e.0.0 == nav.0) ≡ b
+    turned true is = grind (arith, nat_tests, is)
+    turned false is = grind (arith, nat_tests, is)
+
+    by_test : (b : Bool) → is_nav nav e.0 ≡ b → cond b (Some e.1) (lookup (is_nav nav) es) ≡ Some n → (lookup (is_nav nav) es ≡ Some n → has_nav (map (λ (x : NavId × Node). x.0) es) nav ≡ true) → has_nav (map (λ (x : NavId × Node). x.0) (e ∷ es)) nav ≡ true
+    by_test true is at_ more = rw (turned true is) refl
+    by_test false is at_ more = rw (turned false is) (more at_)
+
+module _ (s : Seen) (event : ℕ) (actor : Actor) (req : ReqId) (goal : Step) (t u : Tables) (holds : Holds (look_of s (Some req)) t) (one : Changes t u) (keeps_rows : (other : NavId) → has_row other s.history.rows ≡ true → has_row other (applied s.history (changes.Traverse goal)).rows ≡ true) where
+  abbrev pub ended_new : Seen
+  ended_new = after s (record { event = event; actor = actor; row = rows.Applied req (changes.Traverse goal) })
+
+  abbrev pub ended_tree : Tree
+  ended_tree = unmove_all (map (λ (e : NavId × Node). e.0) t.tree.navs) t.tree
+
+  ended_places : ended_new.places ≡ map (λ (p : Place). p) s.places
+  ended_places = none_taken s.history (applied s.history (changes.Traverse goal)) req s.places keeps_rows ∙ sym (map-id s.places)
+
+  ended_documents : map sight ended_new.documents ≡ map sight s.documents
+  ended_documents = sights_same (λ (d : Document). applied_to (changes.Traverse goal) (told_after_change d (changes.Traverse goal))) (λ d. refl) s.documents
+
+  tie : (other : NavId) (n : Node) (p : Place) → node_of other t.tree ≡ Some n → place_in s.places other ≡ Some p → p.nav ≡ other → IsTied (map sight s.documents) (moved_by s.requests (Some req)) n p → IsTied (map sight s.documents) [] (unmoved_if (map (λ (e : NavId × Node). e.0) t.tree.navs) other n) p
+  tie other n p at at_ is tied =
+      rw (is_among t.tree.navs other n at) (record {
+        parent = tied.parent;
+        owner = tied.owner;
+        status = tied.status;
+        given = tied.given;
+        epoch = tied.epoch;
+        why = tied.why;
+        moved_is = refl;
+        stands = tied.stands;
+        unmet = tied.unmet;
+        added_by = tied.added_by;
+        destroyed_by = tied.destroyed_by;
+        home = tied.home;
+      })
+
+  pub ended_holds : u.tree ≡ ended_tree → SameHistory (history_held u.store) (applied s.history (changes.Traverse goal)) → u.states ≡ t.states → u.entries ≡ t.entries → Holds (look_of ended_new None) u
+  ended_holds tree history states entries =
+      record {
+        navs = subst (λ (x : Tree). AreHeld (look_of ended_new None) x) (sym tree) (subst (λ (l : List Sight). AreHeld (record (look_of ended_new None) { documents = l }) ended_tree) (sym ended_documents) (held_changed (look_of s (Some req)) (record (look_of ended_new None) { documents = map sight s.documents }) t.tree ended_tree (unmoved_if (map (λ (e : NavId × Node). e.0) t.tree.navs)) (λ p. p) (λ other. node_unmoved (map (λ (e : NavId × Node). e.0) t.tree.navs) other t.tree) (keys_unmoved (map (λ (e : NavId × Node). e.0) t.tree.navs) t.tree) (λ p. refl) ended_places tie holds.navs));
+        documents = subst (λ (es : List (StateId × DocId)). AreListed (map sight ended_new.documents) u.tree es) (sym one.making) (subst (λ (x : Tree). AreListed (map sight ended_new.documents) x t.making.entries) (sym tree) (subst (λ (l : List Sight). AreListed l ended_tree t.making.entries) (sym ended_documents) (listed_tree (map sight s.documents) t.tree ended_tree t.making.entries (places_unmoved (map (λ (e : NavId × Node). e.0) t.tree.navs) t.tree) holds.documents)));
+        history = history;
+        numbered = one.documents ∙ holds.numbered ∙ sym (ap (λ (l : List Sight). length l) ended_documents);
+        states = states ∙ holds.states;
+        entries = entries ∙ holds.entries;
+        sent = one.sent ∙ holds.sent;
+      }
+
+-- ---- a frame is removed: those that lost their last entry are noted
+
+abbrev pub destroyed : ReqId → Node → Node
+destroyed req node = record node { destroyed_by = Some req }
+
+abbrev pub destroy_all : List NavId → ReqId → Tree → Tree
+destroy_all navs req tree = fold (λ (t : Tree) (nav : NavId). changed (destroyed req) nav t) tree navs
+
+abbrev pub destroyed_if : List NavId → ReqId → NavId → Node → Node
+destroyed_if navs req other node = cond (has_nav navs other) (destroyed req node) node
+
+pub node_destroyed : (navs : List NavId) (req : ReqId) (other : NavId) (tree : Tree) → node_of other (destroy_all navs req tree) ≡ option_map (destroyed_if navs req other) (node_of other tree)
+node_destroyed [] req other tree = map_same (node_of other tree)
+node_destroyed (nav ∷ navs) req other tree =
+    node_destroyed navs req other (changed (destroyed req) nav tree)
+    ∙ ap (λ (o : Option Node). option_map (destroyed_if navs req other) o) (node_changed (destroyed req) nav other tree)
+    ∙ joined (nav.0 == other.0) (has_nav navs other) (node_of other tree)
+  where
+    joined : (b c : Bool) (o : Option Node) → option_map (λ (node : Node). cond c (destroyed req node) node) (option_map (λ (node : Node). cond b (destroyed req node) node) o) ≡ option_map (λ (node : Node). cond (b || c) (destroyed req node) node) o
+    joined b c None = refl
+    joined true true (Some node) = refl
+    joined true false (Some node) = refl
+    joined false c (Some node) = refl
+
+keys_destroyed : (navs : List NavId) (req : ReqId) (tree : Tree) → map (λ (e : NavId × Node). e.0) (destroy_all navs req tree).navs ≡ map (λ (e : NavId × Node). e.0) tree.navs
+keys_destroyed [] req tree = refl
+keys_destroyed (nav ∷ navs) req tree = keys_destroyed navs req (changed (destroyed req) nav tree) ∙ keys_changed (destroyed req) nav tree
+
+pub places_destroyed : (navs : List NavId) (req : ReqId) (tree : Tree) → (destroy_all navs req tree).places ≡ tree.places
+places_destroyed [] req tree = refl
+places_destroyed (nav ∷ navs) req tree = places_destroyed navs req (changed (destroyed req) nav tree) ∙ places_changed (destroyed req) nav tree
+
+module _ (s : Seen) (run : Option ReqId) (event : ℕ) (actor : Actor) (req : ReqId) (nav : NavId) (lost_navs : List NavId) (t u : Tables) (holds : Holds (look_of s run) t) (one : Changes t u) (are : (other : NavId) → has_nav lost_navs other ≡ (has_row other s.history.rows && not (has_row other (applied s.history (changes.RemoveFrame nav)).rows))) where
+  abbrev pub removed_new : Seen
+  removed_new = after s (record { event = event; actor = actor; row = rows.Applied req (changes.RemoveFrame nav) })
+
+  abbrev taken_place : Place → Place
+  taken_place p = cond (has_row p.nav s.history.rows && not (has_row p.nav (applied s.history (changes.RemoveFrame nav)).rows)) (record p { taken_by = Some req }) p
+
+  taken_nav : (p : Place) → (taken_place p).nav ≡ p.nav
+  taken_nav p = elim (has_row p.nav s.history.rows && not (has_row p.nav (applied s.history (changes.RemoveFrame nav)).rows)) as (λ b. (let x : Place = cond b (record p { taken_by = Some req }) p in x).nav ≡ p.nav) [ true ↦ refl | false ↦ refl ]
+
+  removed_documents : map sight removed_new.documents ≡ map sight s.documents
+  removed_documents = sights_same (λ (d : Document). applied_to (changes.RemoveFrame nav) (told_after_change d (changes.RemoveFrame nav))) (λ d. refl) s.documents
+
+  removed_tie : (other : NavId) (n : Node) (p : Place) → node_of other t.tree ≡ Some n → place_in s.places other ≡ Some p → p.nav ≡ other → IsTied (map sight s.documents) (moved_by s.requests run) n p → IsTied (map sight s.documents) (moved_by s.requests run) (destroyed_if lost_navs req other n) (taken_place p)
+  removed_tie other n p at at_ is tied = by_test (has_nav lost_navs other) refl
+    where
+      mine : (b : Bool) → has_nav lost_navs other ≡ b → (has_row p.nav s.history.rows && not (has_row p.nav (applied s.history (changes.RemoveFrame nav)).rows)) ≡ b
+      mine b e = ap (λ (m : NavId). has_row m s.history.rows && not (has_row m (applied s.history (changes.RemoveFrame nav)).rows)) is ∙ sym (are other) ∙ e
+
+      by_test : (b : Bool) → has_nav lost_navs other ≡ b → IsTied (map sight s.documents) (moved_by s.requests run) (destroyed_if lost_navs req other n) (taken_place p)
+      by_test true e =
+          rw e (rw (mine true e) (record {
+            parent = tied.parent;
+            owner = tied.owner;
+            status = tied.status;
+            given = tied.given;
+            epoch = tied.epoch;
+            why = tied.why;
+            moved_is = tied.moved_is;
+            stands = tied.stands;
+            unmet = tied.unmet;
+            added_by = tied.added_by;
+            destroyed_by = refl;
+            home = tied.home;
+          }))
+      by_test false e = rw e (rw (mine false e) tied)
+
+  pub removed_holds : u.tree ≡ destroy_all lost_navs req t.tree → SameHistory (history_held u.store) (applied s.history (changes.RemoveFrame nav)) → u.states ≡ t.states → u.entries ≡ t.entries → Holds (look_of removed_new run) u
+  removed_holds tree history states entries =
+      record {
+        navs = subst (λ (x : Tree). AreHeld (look_of removed_new run) x) (sym tree) (subst (λ (l : List Sight). AreHeld (record (look_of removed_new run) { documents = l }) (destroy_all lost_navs req t.tree)) (sym removed_documents) (subst (λ (l : List NavId). AreHeld (record (look_of removed_new run) { documents = map sight s.documents; moved = l }) (destroy_all lost_navs req t.tree)) (sym (moved_same s.requests removed_new.requests run (applied_moved s event actor req (changes.RemoveFrame nav)))) (held_changed (look_of s run) (record (look_of removed_new run) { documents = map sight s.documents; moved = moved_by s.requests run }) t.tree (destroy_all lost_navs req t.tree) (destroyed_if lost_navs req) taken_place (λ other. node_destroyed lost_navs req other t.tree) (keys_destroyed lost_navs req t.tree) taken_nav refl removed_tie holds.navs)));
+        documents = subst (λ (es : List (StateId × DocId)). AreListed (map sight removed_new.documents) u.tree es) (sym one.making) (subst (λ (x : Tree). AreListed (map sight removed_new.documents) x t.making.entries) (sym tree) (subst (λ (l : List Sight). AreListed l (destroy_all lost_navs req t.tree) t.making.entries) (sym removed_documents) (listed_tree (map sight s.documents) t.tree (destroy_all lost_navs req t.tree) t.making.entries (places_destroyed lost_navs req t.tree) holds.documents)));
+        history = history;
+        numbered = one.documents ∙ holds.numbered ∙ sym (ap (λ (l : List Sight). length l) removed_documents);
+        states = states ∙ holds.states;
+        entries = entries ∙ holds.entries;
+        sent = one.sent ∙ holds.sent;
+      }
