@@ -11,3 +11,4 @@ pub mod Requests
 pub mod Changing
 pub mod Ending
 pub mod Works
+pub mod Sleeping

@@ -11,9 +11,10 @@ use Rattle.log_model.specs.declared.row_kind.RowKind.{RowKind}
 use Rattle.plain_tab.proofs.Courses.{is_asked, runs_again, runs_ended, runs_ended_other}
 use Rattle.plain_tab.specs.Calm.{is_run, is_this}
 use Rattle.request_facts.proofs.Readers.{SameReads, on_read, reads_then}
-use Rattle.std.proofs.Common.{List, None, Option, Some, [], false, refl, true, ℕ, ◌≡◌}
+use Rattle.std.proofs.Common.{Bool, List, None, Option, Some, [], arith, false, refl, suc, true, zero, ℕ, ◌-◌, ◌==◌, ◌∷◌, ◌≡◌}
+use Rattle.std.proofs.lemmas.Bool.Decides.{nat_tests}
 use Rattle.std.specs.Option.{option_map_or}
-use Rattle.std.specs.Prelude.{option_map}
+use Rattle.std.specs.Prelude.{option_map, slice_get, slice_set}
 use Rattle.tab_ids.specs.declared.NavId.{NavId}
 use Rattle.tab_ids.specs.declared.ReqId.{ReqId}
 use Rattle.tab_ids.specs.declared.Step.{Step}
@@ -85,3 +86,24 @@ runs_applied_apart s event actor run req change apart runs =
 pub runs_applied_own : (s : Seen) (event : ℕ) (actor : Actor) (req : ReqId) (change : Change) → IsRunning s.requests (Some req) → IsRunning (after s (record { event = event; actor = actor; row = rows.Applied req change })).requests None
 runs_applied_own s event actor req change runs =
     runs_same (ended s.requests req endings.Applied) _ None (reads_then is_run (ended s.requests req endings.Applied) (on_request req (λ q. record q { change = Some change }) (ended s.requests req endings.Applied)) _ (on_read is_run (ended s.requests req endings.Applied) req (λ q. record q { change = Some change }) (λ q. refl)) (on_read is_run (on_request req (λ q. record q { change = Some change }) (ended s.requests req endings.Applied)) req (λ q. record q { took = entries_taken s.history change }) (λ q. refl))) (record { only = runs_ended s.requests req endings.Applied runs.only; there = λ r is. cc })
+
+-- ---- another request than the one that is changed
+
+set_other : {A : Type 0} (xs : List A) (n m : ℕ) (y : A) → (m == n) ≡ false → slice_get (slice_set xs n y) m ≡ slice_get xs m
+set_other [] n m y apart = refl
+set_other (x ∷ xs) zero zero y apart = cc
+set_other (x ∷ xs) zero (suc m) y apart = refl
+set_other (x ∷ xs) (suc n) zero y apart = refl
+set_other (x ∷ xs) (suc n) (suc m) y apart = set_other xs n m y (let less : (m == n) ≡ false = grind (arith, nat_tests, apart) in less)
+
+pub on_another : (asked : List Asked) (req r : ReqId) (f : Asked → Asked) → (r.0 == req.0) ≡ false → request_in (on_request req f asked) r ≡ request_in asked r
+on_another asked req r f apart = by_numbers (req.0 == 0) refl (r.0 == 0) refl
+  where
+    by_found : (o : Option Asked) → (r.0 == 0) ≡ false → (req.0 == 0) ≡ false → slice_get (option_map_or (λ q. slice_set asked (req.0 - 1) (f q)) o asked) (r.0 - 1) ≡ slice_get asked (r.0 - 1)
+    by_found None real there = refl
+    by_found (Some q) real there = set_other asked (req.0 - 1) (r.0 - 1) (f q) (let one : ((r.0 - 1) == (req.0 - 1)) ≡ false = grind (arith, nat_tests, apart, real, there) in one)
+
+    by_numbers : (b : Bool) → (req.0 == 0) ≡ b → (c : Bool) → (r.0 == 0) ≡ c → request_in (on_request req f asked) r ≡ request_in asked r
+    by_numbers true is c its = rw is refl
+    by_numbers false is true its = rw its refl
+    by_numbers false is false its = rw (is, its) (by_found (slice_get asked (req.0 - 1)) its is)

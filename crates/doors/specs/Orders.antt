@@ -1,24 +1,33 @@
 -- The orders that the coordinator sends, and when.
--- HTML Standard, "update document for history step application", "activate history entry", "attempt to populate the history entry's document" and "destroy a document"; numbers, processes and incarnations are this project's own.
-use Rattle.log_model.specs.AfterPlaces.{sleepers_below}
-use Rattle.log_model.specs.Seen.{Asked, Document, Seen, desk_of, document_of, place_of, request_of}
+use Rattle.nav_tree.specs.Tree.{put_to_sleep} -- keep
+use Rattle.nav_tree.specs.declared.place.Place as live_place -- keep
+use Rattle.nav_tree.specs.Tree.{document_of} -- keep
+use Rattle.log_model.specs.Seen.{document_of as document_in_log} -- keep
+use Rattle.doors.specs.Look.{Sight, sight}
+use Rattle.frame_rows.specs.Discarding.{IsDiscardDue}
+use Rattle.hang_facts.specs.Members.{Has}
+use Rattle.log_model.specs.AfterPlaces.{sleepers_below, sleepers_with}
+use Rattle.log_model.specs.History.{has_nav}
+use Rattle.log_model.specs.Seen.{Asked, Document, Seen, desk_of, place_of, request_of}
 use Rattle.log_model.specs.declared.job.Job.{Job}
 use Rattle.log_model.specs.declared.job.Task.{Task}
 use Rattle.log_model.specs.declared.job.Why.{Why}
-use Rattle.nav_tree.specs.Tree.{put_to_sleep, Tree, node_of, with_nav}
+use Rattle.nav_tree.specs.Tree.{Tree, node_of, with_nav}
 use Rattle.nav_tree.specs.declared.node.Node.{Node}
 use Rattle.plain_tab.specs.Calm.{is_run}
 use Rattle.seen_laws.specs.Sending.{IsShowDue, IsTo, is_passed}
 use Rattle.std.specs.Option.{IsSome, option_map_or}
-use Rattle.std.specs.Prelude.{List, None, Option, Some, [], false, fold, true, ℕ, ◌+◌, ◌||◌, ◌∷◌, ◌≡◌}
+use Rattle.std.specs.Prelude.{List, None, Option, Some, [], false, fold, map, option_map, true, ℕ, ◌+◌, ◌==◌, ◌||◌, ◌∷◌, ◌≡◌}
 use Rattle.tab_ids.specs.declared.DocId.{DocId}
 use Rattle.tab_ids.specs.declared.EntryId.{EntryId}
 use Rattle.tab_ids.specs.declared.Epoch.{Epoch}
 use Rattle.tab_ids.specs.declared.NavId.{NavId}
 use Rattle.tab_ids.specs.declared.ProcId.{ProcId}
 use Rattle.tab_ids.specs.declared.ReqId.{ReqId}
+use Rattle.tab_ids.specs.declared.StateId.{StateId}
 use Rattle.log_model.specs.declared.job.Why.TheVariants as whys
 use Rattle.nav_tree.specs.declared.status.NavStatus.TheVariants as kept
+-- HTML Standard, "update document for history step application", "activate history entry", "attempt to populate the history entry's document" and "destroy a document"; numbers, processes and incarnations are this project's own.
 
 -- the order with a number
 abbrev pub numbered_order : ℕ → ProcId → DocId → Why → Task → Job
@@ -32,7 +41,7 @@ next_order jobs proc doc why task = numbered_order (jobs + 1) proc doc why task
 -- the document is in the process, in which none has died, and is neither discarded nor known to be dead
 pub record IsThere (s : Seen) (proc : ProcId) (doc : DocId) : Type 0 where
   pub document : Document
-  pub found : document_of s doc ≡ Some document
+  pub found : document_in_log s doc ≡ Some document
   pub proc_is : document.proc ≡ proc
   pub alive : (document.is_discarded || document.is_known_dead) ≡ false
   pub known : (desk_of s proc).known ≡ 0
@@ -72,3 +81,13 @@ sleep_all navs why tree = fold (λ (t : Tree) (nav : NavId). with_nav (put_to_sl
 abbrev pub AreThere : Tree → List NavId → Type 0
 AreThere tree [] = Unit {0}
 AreThere tree (nav ∷ navs) = IsSome (node_of nav tree) × AreThere tree navs
+
+-- the document may be discarded for a request, it is the one that is there for its state, and these fall asleep with it
+pub record MayDiscard (s : Seen) (tree : Tree) (job : Job) (navs : List NavId) (doc : DocId) (state : StateId) (by : ReqId) : Type 0 where
+  pub document : Document
+  pub asked : Asked
+  pub due : IsDiscardDue s job document by asked
+  pub are : (other : NavId) → has_nav (sleepers_with s doc) other ≡ has_nav navs other
+  pub its_state : (x : Sight) → Has (map sight s.documents) x → (x.nr.0 == doc.0) ≡ true → x.state ≡ state
+  pub ready : document.is_ready ≡ true
+  pub its : option_map (λ (p : live_place.Place). p.doc) (document_of state tree) ≡ Some doc

@@ -9,7 +9,7 @@ use Rattle.log_model.specs.declared.row_kind.Actor.{Actor}
 use Rattle.log_model.specs.declared.row_kind.RowKind.{RowKind}
 use Rattle.seen_laws.specs.InEvent.{InEvent, IsClear, now_of}
 use Rattle.seen_laws.specs.Sending.{leads}
-use Rattle.std.specs.Prelude.{List, Option, Some, true, ◌≡◌}
+use Rattle.std.specs.Prelude.{List, Option, Some, length, true, ◌+◌, ◌≡◌, ◌≤◌}
 use Rattle.tab_ids.specs.declared.ReqId.{ReqId}
 use Rattle.tab_ids.specs.declared.Step.{Step}
 use Rattle.log_model.specs.declared.row_kind.Actor.TheVariants as actors
@@ -35,5 +35,14 @@ pub record IsAtWork (e : InEvent) (out : List RowKind) (t : Tables) : Type 0 whe
   pub holds : Holds (look_now e out t.running) t
   pub runs : IsRunning (now_of e out).requests t.running
   pub goal : HasGoal (now_of e out).requests t.running t.goal
+  -- each document but the first was made by an order
+  pub few : length (now_of e out).documents ≤ (now_of e out).jobs + 1
   pub lawful : AreLawful e out
   pub clear : IsClear e out
+
+-- the store, the process, and the traversal that runs are as they were
+pub record KeepsStore (t u : Tables) : Type 0 where
+  pub store : u.store ≡ t.store
+  pub home : u.home ≡ t.home
+  pub running : u.running ≡ t.running
+  pub goal : u.goal ≡ t.goal

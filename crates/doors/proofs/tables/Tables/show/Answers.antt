@@ -1,0 +1,22 @@
+use Rattle.std.proofs.Common.{refl}
+use Rattle.doors.proofs.Works.{show_work, order_is, next_work, show_known, show_known_more, show_fits, still_more}
+use Rattle.doors.proofs.tables.Tables.show.Goals as goal
+
+pub give-requires-clause-known : goal.give-requires-clause-known
+give-requires-clause-known g c = show_known _ _ _ _ _ _ _ _ _ c.requires.1.0
+
+pub give-requires-clause-epoch : goal.give-requires-clause-epoch
+give-requires-clause-epoch g c = show_fits _ _ _ _ _ _ _ _ _ c.requires.1.0 c.requires.1.1.1
+
+pub set_told-requires : goal.set_told-requires
+set_told-requires g c = show_known_more _ _ _ _ _ _ _ _ _ c.requires.1.0 _ _ c.give.ensures.tree
+
+pub set_moved-requires : goal.set_moved-requires
+set_moved-requires g c = still_more _ _ _ _ c.set_told.ensures (show_known_more _ _ _ _ _ _ _ _ _ c.requires.1.0 _ _ c.give.ensures.tree)
+
+pub returns-clause-work : goal.returns-clause-work
+returns-clause-work g c =
+    rw (c.set_moved.ensures, c.set_told.ensures, c.give.ensures.tree, c.is_some.ensures) (next_work _ _ _ _ (order_is _ _ _ _ _ _ _ _ _ c.requires.0 c.in_ok-push.ensures.ok c.in_ok-job.ensures.job) (show_work _ _ _ _ _ _ _ _ _ _ _ _ _ c.requires.0 c.requires.1.0 c.requires.1.1.0 refl (record { making = refl; history = refl; documents = refl; states = refl; entries = refl; sent = c.in_ok-job.ensures.sent }) refl refl))
+
+pub returns-clause-out : goal.returns-clause-out
+returns-clause-out g c = order_is _ _ _ _ _ _ _ _ _ c.requires.0 c.in_ok-push.ensures.ok c.in_ok-job.ensures.job
