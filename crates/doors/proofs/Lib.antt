@@ -9,6 +9,10 @@ pub mod Making
 pub mod Discarding
 pub mod Requests
 pub mod Changing
-pub mod Ending
+pub mod EndLaws
 pub mod Works
 pub mod Sleeping
+pub mod Unmoving
+pub mod Histories
+pub mod ChangeWorks
+pub mod TurnWorks

@@ -40,15 +40,16 @@ use Rattle.nav_tree.specs.declared.nav.Nav.{Nav}
 use Rattle.plain_tab.specs.Calm.{is_run, is_this}
 use Rattle.request_facts.proofs.LookUps.{on_itself}
 use Rattle.request_facts.proofs.Readers.{SameReads, on_read}
-use Rattle.seen_laws.proofs.InEvents.{clear_more, led_here, now_more, order_quiet}
+use Rattle.seen_laws.proofs.InEvents.{led_here, now_more, order_quiet}
+use Rattle.seen_laws.proofs.Owings.{owes_append}
 use Rattle.seen_laws.proofs.Sendings.{show_may, update_may}
 use Rattle.seen_laws.specs.Blocks.{Here, on_row, on_rows}
-use Rattle.seen_laws.specs.InEvent.{InEvent, here_of, now_of, row_of}
-use Rattle.seen_laws.specs.Owing.{owes_row}
+use Rattle.seen_laws.specs.InEvent.{InEvent, IsClear, here_of, now_of, row_of, start_of}
+use Rattle.seen_laws.specs.Owing.{owes, owes_row}
 use Rattle.seen_laws.specs.Sending.{IsNumbered, IsUpdateDue}
-use Rattle.std.proofs.Common.{Bool, List, None, Option, Some, [], ap, arith, false, length, length-append, map, refl, subst, sym, true, ℕ, ◌++◌, ◌+◌, ◌<◌, ◌==◌, ◌∙◌, ◌∷◌, ◌≡◌, ◌≤◌}
+use Rattle.std.proofs.Common.{Bool, List, None, Option, Some, [], ap, append-nil, append_assoc, arith, false, length, length-append, map, refl, subst, sym, true, ℕ, ◌++◌, ◌+◌, ◌<◌, ◌==◌, ◌∙◌, ◌∷◌, ◌≡◌, ◌≤◌}
 use Rattle.std.proofs.lemmas.Bool.Decides.{nat_tests}
-use Rattle.std.proofs.lemmas.List.{length-map}
+use Rattle.std.proofs.lemmas.List.{length-map, map-append}
 use Rattle.std.specs.Map.{lookup}
 use Rattle.std.specs.Option.{IsSome, option_map_or}
 use Rattle.std.specs.Prelude.{IfSome, is_some, option_map}
@@ -64,11 +65,16 @@ use Rattle.log_model.specs.declared.job.Task.TheVariants as tasks
 use Rattle.log_model.specs.declared.job.Why.TheVariants as whys
 use Rattle.log_model.specs.declared.row_kind.RowKind.TheVariants as rows
 
+-- a row that owes nothing where it stands
+clear_here : (e : InEvent) (out : List RowKind) (kind : RowKind) → ((end : Seen) → owes_row (here_of e out) (row_of e kind) end ≡ true) → IsClear e out → IsClear e (out ++ kind ∷ [])
+clear_here e out kind none clear end =
+    subst (λ (l : List LogRow). owes (start_of e) (row_of e e.own ∷ l) end ≡ true) (sym (map-append (row_of e) out (kind ∷ []))) (owes_append (start_of e) (row_of e e.own ∷ map (row_of e) out) (row_of e kind ∷ []) end ∙ rw (clear end) (rw (none end) refl))
+
 module _ (e : InEvent) (out : List RowKind) (kind : RowKind) (t u : Tables) (work : IsAtWork e out t) where
   abbrev pub then_ : Seen
   then_ = after (now_of e out) (row_of e kind)
 
-  pub work_more : Holds (look_of then_ u.running) u → IsRunning then_.requests u.running → HasGoal then_.requests u.running u.goal → length then_.documents ≤ then_.jobs + 1 → AreLawful e (out ++ kind ∷ []) → ((h : Here) (end : Seen) → owes_row h (row_of e kind) end ≡ true) → IsAtWork e (out ++ kind ∷ []) u
+  pub work_more : Holds (look_of then_ u.running) u → IsRunning then_.requests u.running → HasGoal then_.requests u.running u.goal → length then_.documents ≤ then_.jobs + 1 → AreLawful e (out ++ kind ∷ []) → ((end : Seen) → owes_row (here_of e out) (row_of e kind) end ≡ true) → IsAtWork e (out ++ kind ∷ []) u
   work_more holds runs goal few lawful none =
       record {
         own = work.own;
@@ -78,7 +84,7 @@ module _ (e : InEvent) (out : List RowKind) (kind : RowKind) (t u : Tables) (wor
         goal = subst (λ (s : Seen). HasGoal s.requests u.running u.goal) (sym (now_more e out kind)) goal;
         few = subst (λ (s : Seen). length s.documents ≤ s.jobs + 1) (sym (now_more e out kind)) few;
         lawful = lawful;
-        clear = clear_more e out kind none work.clear;
+        clear = clear_here e out kind none work.clear;
       }
 
 -- the point of the event is that of its rows
@@ -149,7 +155,7 @@ module _ (e : InEvent) (out : List RowKind) (t u : Tables) (nav : NavId) (doc : 
       (subst (λ (r : Option ReqId). HasGoal (now_of e out).requests r u.goal) (sym running) (subst (λ (g : Step). HasGoal (now_of e out).requests t.running g) (sym goal) work.goal))
       (few_sent (now_of e out).documents _ (now_of e out).jobs (length-map (now_of e out).documents _) work.few)
       (update_lawful due)
-      (λ h end. refl)
+      (λ end. refl)
 
 -- ---- what an order says of the request that it is for
 
@@ -221,7 +227,7 @@ module _ (e : InEvent) (out : List RowKind) (t u : Tables) (nav : NavId) (doc : 
         (subst (λ (r : Option ReqId). HasGoal then_shown.requests r u.goal) (sym running) (subst (λ (g : Step). HasGoal then_shown.requests t.running g) (sym goal) (goal_same (now_of e out).requests then_shown.requests t.running t.goal (same_reads goal_read (λ q navs n. refl)) work.goal)))
         (few_sent (now_of e out).documents _ (now_of e out).jobs (length-map (now_of e out).documents _) work.few)
         show_lawful
-        (λ h end. refl)
+        (λ end. refl)
       where
         fused : with_nav (λ (n : Nav). record n { moved = is_some t.running }) nav (with_nav (λ (n : Nav). record n { told = Some (long, at) }) nav (with_nav (activated entry doc why) nav t.tree)) ≡ with_nav (shown_nav entry doc why (long, at) (λ b. is_some t.running)) d.nav t.tree
         fused =
@@ -248,7 +254,7 @@ module _ (e : InEvent) (out : List RowKind) (t u : Tables) (doc : DocId) (why : 
       (subst (λ (r : Option ReqId). HasGoal (now_of e out).requests r u.goal) (sym running) (subst (λ (g : Step). HasGoal (now_of e out).requests t.running g) (sym goal) work.goal))
       (let was : length (now_of e out).documents ≤ (now_of e out).jobs + 1 = work.few in let more : length ((now_of e out).documents ++ new_document (now_of e out) make nav state ∷ []) ≡ length (now_of e out).documents + 1 = length-append (now_of e out).documents (new_document (now_of e out) make nav state ∷ []) in omega (arith, was, more))
       (make_lawful due known)
-      (λ h end. refl)
+      (λ end. refl)
 
 -- ---- a document is discarded
 
@@ -272,7 +278,7 @@ module _ (e : InEvent) (out : List RowKind) (t u : Tables) (doc : DocId) (by : R
       (subst (λ (x : Option ReqId). HasGoal then_gone.requests x u.goal) (sym running) (subst (λ (g : Step). HasGoal then_gone.requests t.running g) (sym goal) (goal_same (now_of e out).requests then_gone.requests t.running t.goal (on_read goal_read (now_of e out).requests by (with_moved (sleepers_with (now_of e out) doc)) (λ q. refl)) work.goal)))
       (few_sent (now_of e out).documents _ (now_of e out).jobs (length-map (now_of e out).documents _) work.few)
       (discard_lawful due known settles)
-      (λ h end. refl)
+      (λ end. refl)
     where
       moved_apart : (run : Option ReqId) → is_this run by ≡ false → moved_by then_gone.requests run ≡ moved_by (now_of e out).requests run
       moved_apart None is = refl
@@ -294,3 +300,22 @@ module _ (s : Seen) (tree : Tree) (nav : NavId) (job : Job) (entry : EntryId) (e
 -- who is in the table is there still
 pub still_more : (f : Nav → Nav) (nav : NavId) (old new : Tree) → new ≡ with_nav f nav old → IsSome (node_of nav old) → IsSome (node_of nav new)
 still_more f nav old new is there = rw is (still_there f nav old there)
+
+pub awake_still : (tree : Tree) (nav : NavId) (doc : DocId) → IsAwakeIn tree nav doc → IsSome (node_of nav tree)
+awake_still tree nav doc is = rw is.there refl
+
+-- ---- where the event began, and its rows so far
+
+on_start : (h : Here) (more : List LogRow) → (on_rows h more).start ≡ h.start
+on_start h [] = refl
+on_start h (row ∷ more) = on_start (on_row h row) more
+
+pub start_here : (e : InEvent) (out : List RowKind) → (here_of e out).start ≡ e.start
+start_here e out = on_start (first_of e) (map (row_of e) out)
+
+on_done : (h : Here) (more : List LogRow) → (on_rows h more).done ≡ h.done ++ more
+on_done h [] = sym (append-nil h.done)
+on_done h (row ∷ more) = on_done (on_row h row) more ∙ append_assoc h.done (row ∷ []) more
+
+pub done_here : (e : InEvent) (out : List RowKind) → (here_of e out).done ≡ row_of e e.own ∷ map (row_of e) out
+done_here e out = on_done (first_of e) (map (row_of e) out)

@@ -46,3 +46,9 @@ pub record KeepsStore (t u : Tables) : Type 0 where
   pub home : u.home ≡ t.home
   pub running : u.running ≡ t.running
   pub goal : u.goal ≡ t.goal
+
+-- the process and the traversal that runs are as they were
+pub record KeepsRun (t u : Tables) : Type 0 where
+  pub home : u.home ≡ t.home
+  pub running : u.running ≡ t.running
+  pub goal : u.goal ≡ t.goal

@@ -1,7 +1,9 @@
 //! The tables of a tab's coordinator, and the doors through which a row goes out and the tables change with it.
 #![tactic(auto)]
 
+mod changes;
 mod orders;
 mod tables;
+mod turns;
 
 pub use tables::Tables;

@@ -5,6 +5,7 @@ use Rattle.doors.proofs.Nodes.{keys_changed, keys_with_nav, node_changed, node_w
 use Rattle.doors.proofs.Requests.{applied_moved, moved_same}
 use Rattle.doors.proofs.Sights.{sights_same}
 use Rattle.doors.proofs.Works.{numbered}
+use Rattle.doors.specs.Ending.{destroy_all, destroyed, unmove_all}
 use Rattle.doors.specs.Look.{Look, Sight, look_of, moved_by, sight}
 use Rattle.doors.specs.Ties.{AreHeld, AreListed, AreTied, Holds, IsTied}
 use Rattle.doors.specs.declared.tables.Tables.{Tables}
@@ -22,7 +23,7 @@ use Rattle.std.proofs.Common.{Bool, List, None, Option, Some, [], ap, arith, con
 use Rattle.std.proofs.lemmas.Bool.Decides.{nat_tests}
 use Rattle.std.proofs.lemmas.List.{map-id}
 use Rattle.std.specs.Map.{lookup}
-use Rattle.std.specs.Prelude.{fold, option_map}
+use Rattle.std.specs.Prelude.{option_map}
 use Rattle.step_index.specs.Held.{history_held}
 use Rattle.tab_ids.specs.declared.DocId.{DocId}
 use Rattle.tab_ids.specs.declared.NavId.{NavId}
@@ -53,10 +54,6 @@ left_holds l m t documents places history moved jobs states entries holds =
 
 abbrev pub unmoved : Node → Node
 unmoved node = record node { nav = record node.nav { moved = false } }
-
--- so it is of each of these navigables
-abbrev pub unmove_all : List NavId → Tree → Tree
-unmove_all navs tree = fold (λ (t : Tree) (nav : NavId). with_nav (λ (n : Nav). record n { moved = false }) nav t) tree navs
 
 abbrev pub unmoved_if : List NavId → NavId → Node → Node
 unmoved_if navs other node = cond (has_nav navs other) (unmoved node) node
@@ -142,12 +139,6 @@ module _ (s : Seen) (event : ℕ) (actor : Actor) (req : ReqId) (goal : Step) (t
       }
 
 -- ---- a frame is removed: those that lost their last entry are noted
-
-abbrev pub destroyed : ReqId → Node → Node
-destroyed req node = record node { destroyed_by = Some req }
-
-abbrev pub destroy_all : List NavId → ReqId → Tree → Tree
-destroy_all navs req tree = fold (λ (t : Tree) (nav : NavId). changed (destroyed req) nav t) tree navs
 
 abbrev pub destroyed_if : List NavId → ReqId → NavId → Node → Node
 destroyed_if navs req other node = cond (has_nav navs other) (destroyed req node) node

@@ -1,0 +1,202 @@
+//! The doors of changes: what a document made is applied, and a traversal ends.
+ghost use Rattle.std.specs.Prelude.{◌≡◌, ◌<◌, ◌+◌, ◌^◌, ◌==◌, ◌&&◌, ◌++◌, ◌∷◌, [], true, false, not, OnOk, IfOk, Some, None, length, map, option_map};
+ghost use Rattle.entry_store.specs.declared.error.StoreError.TheVariants as errors;
+ghost use Rattle.log_model.specs.declared.change.Change.TheVariants as changes;
+ghost use Rattle.log_model.specs.declared.row_kind.RowKind.TheVariants as rows;
+ghost use Rattle.log_model.specs.History.{applied, has_nav, has_row};
+ghost use Rattle.log_model.specs.Order.{SameHistory};
+ghost use Rattle.log_model.specs.Places.{holder_of};
+ghost use Rattle.log_model.specs.Seen.{place_of};
+ghost use Rattle.log_model.specs.History.{History};
+ghost use Rattle.plain_tab.specs.Calm.{is_this};
+ghost use Rattle.nav_tree.specs.Tree.{node_of};
+ghost use Rattle.step_index.specs.Held.{history_held};
+ghost use Rattle.seen_laws.specs.InEvent.{InEvent, now_of};
+ghost use Rattle.doors.specs.Look.{moved_by};
+ghost use Rattle.doors.specs.Orders.{IsAwakeIn, AreThere};
+ghost use Rattle.doors.specs.Dues.{IsTakeDue, KeepsRows, MayChange, IsAdded, IsEndDue};
+ghost use Rattle.doors.specs.Working.{IsAtWork, KeepsRun};
+ghost use Rattle.apply_plan.specs.Order.{made_in};
+ghost use Rattle.doors.specs.Ending.{unmove_all};
+
+use crate::tables::Tables;
+use address::{Address, OutOfMemory, Text};
+use entry_store::{Store, StoreError};
+use log_model::{Change, Navs, Out, RowKind};
+use nav_tree::NavTree;
+use step_index::StepIndex;
+use tab_ids::{EntryId, NavId, ReqId, StateId, Step};
+
+/// Makes a change of the store that fits what the log has come to. Only memory may be wanting.
+fn make_change(store: &mut StepIndex, out: &Out, change: &Change) -> Result<(), OutOfMemory>
+    ghost e: { InEvent }
+    requires same { SameHistory (history_held store.old) (now_of e out.now).history }
+    requires may { MayChange (now_of e out.now) change.now }
+    ensures ok { OnOk result (SameHistory (history_held store.new) (applied (now_of e out.now).history change.now)) }
+{
+    let _rows = out.len();
+    match store.apply(change) {
+        Ok(()) => Ok(()),
+        Err(error) => Err(want_of_memory(error)),
+    }
+}
+
+/// What fits is refused for want of memory alone.
+fn want_of_memory(error: StoreError) -> OutOfMemory
+    requires { error ≡ errors.OutOfMemory }
+{
+    match error {
+        StoreError::OutOfMemory => OutOfMemory,
+        StoreError::NoNavigable => unreachable!(),
+        StoreError::NoEntry => unreachable!(),
+        StoreError::NavTaken => unreachable!(),
+    }
+}
+
+impl Tables {
+    /// A push of a document is applied: its navigable is given the entry, and was told nothing since.
+    pub fn push(
+        &mut self,
+        out: &mut Out,
+        req: ReqId,
+        nav: NavId,
+        entry: EntryId,
+        state: StateId,
+        address: Address,
+        memo: Option<Text>,
+    ) -> Result<(), OutOfMemory>
+        ghost e: { InEvent }
+        requires work { IsAtWork e out.old self.old }
+        requires awake { IsAwakeIn self.old.tree nav (record { 0 = entry.maker }) }
+        requires due { IsTakeDue e out.old req (changes.Push nav entry state address memo) }
+        requires may { MayChange (now_of e out.old) (changes.Push nav entry state address memo) }
+        requires keeps { KeepsRows (now_of e out.old) (changes.Push nav entry state address memo) }
+        requires of_document { (entry.maker == 0) ≡ false }
+        requires apart { is_this self.old.running req ≡ false }
+        ensures work { OnOk result (IsAtWork e out.new self.new) }
+        ensures out { OnOk result (out.new ≡ out.old ++ rows.Applied req (changes.Push nav entry state address memo) ∷ []) }
+        ensures kept { OnOk result (KeepsRun self.old self.new) }
+    {
+        let change = Change::Push {
+            nav,
+            entry,
+            state,
+            address,
+            memo,
+        };
+        make_change(&mut self.store, out, &change)?;
+        out.push(RowKind::Applied { req, change })?;
+        self.tree.given(nav, entry);
+        self.tree.set_told(nav, None);
+        Ok(())
+    }
+
+    /// A replace of a document is applied: its navigable is given the entry.
+    pub fn replace(
+        &mut self,
+        out: &mut Out,
+        req: ReqId,
+        nav: NavId,
+        over: EntryId,
+        entry: EntryId,
+        state: StateId,
+        address: Address,
+        memo: Option<Text>,
+    ) -> Result<(), OutOfMemory>
+        ghost e: { InEvent }
+        requires work { IsAtWork e out.old self.old }
+        requires awake { IsAwakeIn self.old.tree nav (record { 0 = entry.maker }) }
+        requires due { IsTakeDue e out.old req (changes.Replace nav over entry state address memo) }
+        requires may { MayChange (now_of e out.old) (changes.Replace nav over entry state address memo) }
+        requires keeps { KeepsRows (now_of e out.old) (changes.Replace nav over entry state address memo) }
+        requires of_document { (entry.maker == 0) ≡ false }
+        requires apart { is_this self.old.running req ≡ false }
+        ensures work { OnOk result (IsAtWork e out.new self.new) }
+        ensures out { OnOk result (out.new ≡ out.old ++ rows.Applied req (changes.Replace nav over entry state address memo) ∷ []) }
+        ensures kept { OnOk result (KeepsRun self.old self.new) }
+    {
+        let change = Change::Replace {
+            nav,
+            over,
+            entry,
+            state,
+            address,
+            memo,
+        };
+        make_change(&mut self.store, out, &change)?;
+        out.push(RowKind::Applied { req, change })?;
+        self.tree.given(nav, entry);
+        Ok(())
+    }
+
+    /// A frame is added to the document of a navigable, with its first entry; it is asleep.
+    pub fn add_frame(
+        &mut self,
+        out: &mut Out,
+        req: ReqId,
+        owner: StateId,
+        nav: NavId,
+        parent: NavId,
+    ) -> Result<(), OutOfMemory>
+        ghost e: { InEvent }
+        requires work { IsAtWork e out.old self.old }
+        requires due { IsTakeDue e out.old req (changes.AddFrame owner nav (record { maker = 0; nr = self.old.entries + 1 }) (record { 0 = self.old.states + 1 })) }
+        requires may { MayChange (now_of e out.old) (changes.AddFrame owner nav (record { maker = 0; nr = self.old.entries + 1 }) (record { 0 = self.old.states + 1 })) }
+        requires keeps { KeepsRows (now_of e out.old) (changes.AddFrame owner nav (record { maker = 0; nr = self.old.entries + 1 }) (record { 0 = self.old.states + 1 })) }
+        requires added { IsAdded (now_of e out.old) self.old.tree self.old.running owner nav parent }
+        requires room { self.old.states + 1 < 2 ^ 32 }
+        requires more_room { self.old.entries + 1 < 2 ^ 32 }
+        requires apart { is_this self.old.running req ≡ false }
+        ensures work { OnOk result (IsAtWork e out.new self.new) }
+        ensures out { OnOk result (out.new ≡ out.old ++ rows.Applied req (changes.AddFrame owner nav (record { maker = 0; nr = self.old.entries + 1 }) (record { 0 = self.old.states + 1 })) ∷ []) }
+        ensures kept { OnOk result (KeepsRun self.old self.new) }
+    {
+        let entry = EntryId {
+            maker: 0,
+            nr: self.entries + 1,
+        };
+        let state = StateId(self.states + 1);
+        let change = Change::AddFrame {
+            owner,
+            nav,
+            entry,
+            state,
+        };
+        make_change(&mut self.store, out, &change)?;
+        out.push(RowKind::Applied { req, change })?;
+        self.tree.add(nav, parent, owner, req)?;
+        self.entries += 1;
+        self.states += 1;
+        Ok(())
+    }
+
+    /// The traversal that runs ends: the step that it leads to is the current one, and nobody is moved any more.
+    pub fn end(&mut self, out: &mut Out, req: ReqId, goal: Step) -> Result<(), OutOfMemory>
+        ghost e: { InEvent }
+        requires work { IsAtWork e out.old self.old }
+        requires its { self.old.running ≡ Some req }
+        requires due { IsEndDue e out.old req goal }
+        requires may { MayChange (now_of e out.old) (changes.Traverse goal) }
+        ensures work { OnOk result (IsAtWork e out.new self.new) }
+        ensures out { OnOk result (out.new ≡ out.old ++ rows.Applied req (changes.Traverse goal) ∷ []) }
+        ensures ended { OnOk result (self.new.running ≡ None) }
+    {
+        let change = Change::Traverse { goal };
+        make_change(&mut self.store, out, &change)?;
+        out.push(RowKind::Applied { req, change })?;
+        unmove_each(&mut self.tree);
+        self.running = None;
+        Ok(())
+    }
+}
+
+/// Nobody is moved any more.
+#[tactic(auto, using(crate::proofs::Unmoving::there_at, crate::proofs::Unmoving::one_more))]
+fn unmove_each(tree: &mut NavTree)
+    ensures { tree.new ≡ unmove_all (made_in tree.old) tree.old }
+{
+    for i in 0..tree.len() {
+        let nav = tree.at(i);
+        tree.set_moved(nav, false);
+    }
+}
