@@ -2,15 +2,16 @@
 use Rattle.apply_plan.specs.Order.{made_in}
 use Rattle.coord_facts.proofs.Held.{without_same}
 use Rattle.doors.proofs.Changing.{Changes, added_holds, given_holds, pushed_documents, replaced_documents, untold_sight}
-use Rattle.doors.proofs.EndLaws.{ended_holds}
+use Rattle.doors.proofs.Destroying.{lost_are}
+use Rattle.doors.proofs.EndLaws.{ended_holds, removed_holds}
 use Rattle.doors.proofs.Holding.{at_home_other, awake_home, home_same, listed_unseen}
 use Rattle.doors.proofs.LookUps.{nav_same}
 use Rattle.doors.proofs.Nodes.{changed_twice}
 use Rattle.doors.proofs.Requests.{runs_applied_apart, runs_applied_own}
 use Rattle.doors.proofs.Sights.{sights_on, sights_same}
 use Rattle.doors.proofs.Works.{goal_of_none, goal_read, goal_same, work_more}
-use Rattle.doors.specs.Dues.{IsAdded, IsEndDue, IsTakeDue, KeepsRows}
-use Rattle.doors.specs.Ending.{unmove_all}
+use Rattle.doors.specs.Dues.{IsAdded, IsEndDue, IsRemoved, IsTakeDue, KeepsRows, begins}
+use Rattle.doors.specs.Ending.{destroy_all, unmove_all}
 use Rattle.doors.specs.Look.{Sight, look_of, moved_by, sight}
 use Rattle.doors.specs.Orders.{IsAwakeIn}
 use Rattle.doors.specs.Ties.{Holds, IsAwakeAtHome, IsHome, IsRunning, IsTied, status_of}
@@ -24,7 +25,7 @@ use Rattle.log_model.specs.After.{after, ended}
 use Rattle.log_model.specs.AfterDocuments.{applied_to, told_after_change}
 use Rattle.log_model.specs.AfterRequests.{entries_taken, on_request}
 use Rattle.log_model.specs.Equal.{has_req}
-use Rattle.log_model.specs.History.{applied}
+use Rattle.log_model.specs.History.{applied, has_nav, has_row}
 use Rattle.log_model.specs.Order.{SameHistory}
 use Rattle.log_model.specs.Points.{ends_in}
 use Rattle.log_model.specs.Queue.{is_traversed_duly}
@@ -42,7 +43,7 @@ use Rattle.request_facts.proofs.Readers.{SameReads, on_read, reads_then}
 use Rattle.seen_laws.proofs.InEvents.{led_here, now_more}
 use Rattle.seen_laws.specs.Blocks.{Here, point_at}
 use Rattle.seen_laws.specs.InEvent.{InEvent, here_of, now_of, row_of}
-use Rattle.std.proofs.Common.{Bool, List, None, Option, Some, [], ap, arith, cond, false, inl, inr, length, map, refl, subst, sym, true, ℕ, ◌&&◌, ◌++◌, ◌+◌, ◌==◌, ◌∙◌, ◌∷◌, ◌≡◌, ◌≤◌, ◌⊎◌}
+use Rattle.std.proofs.Common.{Bool, List, None, Option, Some, [], ap, arith, cond, false, inl, inr, length, map, not, refl, subst, sym, true, ℕ, ◌&&◌, ◌++◌, ◌+◌, ◌==◌, ◌∙◌, ◌∷◌, ◌≡◌, ◌≤◌, ◌⊎◌}
 use Rattle.std.proofs.lemmas.List.{length-map}
 use Rattle.std.specs.Prelude.{filter, filter_map}
 use Rattle.step_index.specs.Held.{history_held}
@@ -193,3 +194,18 @@ module _ (e : InEvent) (out : List RowKind) (t u : Tables) (req : ReqId) (goal_ 
     where
       few_kept : (documents next_ : List Document) (jobs : ℕ) → length next_ ≡ length documents → length documents ≤ jobs + 1 → length next_ ≤ jobs + 1
       few_kept documents next_ jobs same few = omega (arith, same, few)
+
+-- ---- a frame is removed
+
+module _ (e : InEvent) (out : List RowKind) (t u : Tables) (req : ReqId) (nav : NavId) (work : IsAtWork e out t) (due : IsTakeDue e out req (changes.RemoveFrame nav)) (removed : IsRemoved (now_of e out) nav) (apart : is_this t.running req ≡ false) where
+  pub remove_work : (lost : List NavId) → lost ≡ filter (λ (n : NavId). not (begins (applied (now_of e out).history (changes.RemoveFrame nav)).rows n)) (filter (begins (now_of e out).history.rows) (made_in t.tree)) → u.tree ≡ destroy_all lost req t.tree → SameHistory (history_held u.store) (applied (now_of e out).history (changes.RemoveFrame nav)) → Changes t u → u.states ≡ t.states → u.entries ≡ t.entries → u.running ≡ t.running → u.goal ≡ t.goal → IsAtWork e (out ++ rows.Applied req (changes.RemoveFrame nav) ∷ []) u
+  remove_work lost is tree history one states entries running goal =
+      taken_work e out t u req (changes.RemoveFrame nav) work due apart running goal (λ h later. refl)
+      (removed_holds (now_of e out) t.running e.event e.actor req nav lost t u work.holds one lost_is tree history states entries)
+    where
+      lost_is : (other : NavId) → has_nav lost other ≡ (has_row other (now_of e out).history.rows && not (has_row other (applied (now_of e out).history (changes.RemoveFrame nav)).rows))
+      lost_is other =
+          ap (λ (l : List NavId). has_nav l other) is
+          ∙ lost_are (begins (now_of e out).history.rows) (begins (applied (now_of e out).history (changes.RemoveFrame nav)).rows) (made_in t.tree) other (λ begun. ap (λ (l : List NavId). has_nav l other) work.holds.navs.order ∙ removed.placed other (removed.before other ∙ begun))
+          ∙ ap (λ (b : Bool). b && not (begins (applied (now_of e out).history (changes.RemoveFrame nav)).rows other)) (sym (removed.before other))
+          ∙ ap (λ (b : Bool). has_row other (now_of e out).history.rows && not b) (sym (removed.then_ other))

@@ -1,15 +1,24 @@
 -- The store goes on holding the log's history.
+use Rattle.coord_facts.proofs.Held.{fun_ext}
+use Rattle.doors.specs.Dues.{begins}
 use Rattle.entry_store.proofs.ForCallers.{refused_only_for_memory}
 use Rattle.entry_store.proofs.SameReplay.{applied_same, fits_same, may_same, trans_same}
 use Rattle.entry_store.specs.Store.{IsRefused, MayTake}
 use Rattle.entry_store.specs.declared.error.StoreError.{StoreError}
-use Rattle.log_model.specs.History.{Fits, History, applied}
-use Rattle.log_model.specs.Order.{SameHistory}
+use Rattle.history_laws.proofs.InOrder.{count_by-ordered, target_entry-ordered}
+use Rattle.history_laws.proofs.Sorted.{HaveSteps}
+use Rattle.log_model.specs.History.{Fits, History, applied, target_entry}
+use Rattle.log_model.specs.Order.{SameHistory, ordered}
+use Rattle.log_model.specs.Soundness.{stands_at}
 use Rattle.log_model.specs.declared.change.Change.{Change}
-use Rattle.std.proofs.Common.{subst, sym, ℕ, ◌<◌, ◌∙◌, ◌≡◌}
+use Rattle.log_model.specs.declared.row.Row.{Row}
+use Rattle.std.proofs.Common.{Bool, List, Option, ap, arith, not, subst, sym, ℕ, ◌<◌, ◌∙◌, ◌≡◌, ◌≤◌}
+use Rattle.std.specs.List.{count_by}
+use Rattle.std.specs.Prelude.{filter, is_some}
 use Rattle.step_index.specs.Held.{history_held}
 use Rattle.step_index.specs.contracts.step_index.StepIndexStore.TheImpl.Laws.{added-law, sound-law}
 use Rattle.step_index.specs.declared.step_index.StepIndex.{StepIndex}
+use Rattle.tab_ids.specs.declared.NavId.{NavId}
 use Rattle.entry_store.specs.declared.error.StoreError.TheVariants as errors
 
 -- ---- the store's change
@@ -30,3 +39,33 @@ module _ (store : StepIndex) (history : History) (change : Change) (same : SameH
 
   pub room_here : history.current < 4294967294 → (history_held store).current < 4294967294
   room_here room = subst (λ (n : ℕ). n < 4294967294) (sym same.current) room
+
+-- ---- what the store finds is what the log has
+
+module _ (store : StepIndex) (history : History) (same : SameHistory (history_held store) history) where
+  held_steps : HaveSteps (history_held store).rows
+  held_steps = (sound-law store).steps
+
+  pub log_steps : HaveSteps history.rows
+  log_steps nav step =
+      let one : count_by (stands_at nav step) (ordered (history_held store).rows) ≡ count_by (stands_at nav step) (history_held store).rows = count_by-ordered (stands_at nav step) (history_held store).rows in
+      let two : count_by (stands_at nav step) (ordered history.rows) ≡ count_by (stands_at nav step) history.rows = count_by-ordered (stands_at nav step) history.rows in
+      let alike : count_by (stands_at nav step) (ordered (history_held store).rows) ≡ count_by (stands_at nav step) (ordered history.rows) = ap (λ (l : List Row). count_by (stands_at nav step) l) same.rows in
+      let few : count_by (stands_at nav step) (history_held store).rows ≤ 1 = held_steps nav step in
+      omega (arith, one, two, alike, few)
+
+  pub held_target : (nav : NavId) (step : ℕ) → target_entry (history_held store).rows nav step ≡ target_entry history.rows nav step
+  held_target nav step =
+      sym (target_entry-ordered (history_held store).rows held_steps nav step)
+      ∙ ap (λ (l : List Row). target_entry l nav step) same.rows
+      ∙ target_entry-ordered history.rows log_steps nav step
+
+  pub held_begins : (nav : NavId) → begins (history_held store).rows nav ≡ begins history.rows nav
+  held_begins nav = ap (λ (o : Option Row). is_some o) (held_target nav 0)
+
+-- those that lost their entries, as the store tells
+pub held_lost : (old new : StepIndex) (was now_ : History) → SameHistory (history_held old) was → SameHistory (history_held new) now_ → (navs had lost : List NavId) → had ≡ filter (begins (history_held old).rows) navs → lost ≡ filter (λ (n : NavId). not (begins (history_held new).rows n)) had → lost ≡ filter (λ (n : NavId). not (begins now_.rows n)) (filter (begins was.rows) navs)
+held_lost old new was now_ before after_ navs had lost had_is lost_is =
+    lost_is
+    ∙ ap (λ (f : NavId → Bool). filter f had) (fun_ext (λ n. ap not (held_begins new now_ after_ n)))
+    ∙ ap (λ (l : List NavId). filter (λ (n : NavId). not (begins now_.rows n)) l) (had_is ∙ ap (λ (f : NavId → Bool). filter f navs) (fun_ext (λ n. held_begins old was before n)))

@@ -16,3 +16,5 @@ pub mod Unmoving
 pub mod Histories
 pub mod ChangeWorks
 pub mod TurnWorks
+pub mod Destroying
+pub mod Filtered

@@ -8,7 +8,7 @@ use Rattle.frame_rows.specs.Taking.{IsDueNow, IsFree, IsPoked, IsTakenNow}
 use Rattle.log_model.specs.AfterRequests.{changes_history}
 use Rattle.log_model.specs.Causes.{by_mover, denial_at_acceptance, denial_at_delivery, is_destroyed_by, takes_report}
 use Rattle.log_model.specs.Equal.{has_req}
-use Rattle.log_model.specs.History.{Fits, applied, has_nav, has_row}
+use Rattle.log_model.specs.History.{Fits, applied, has_nav, has_row, target_entry}
 use Rattle.log_model.specs.Once.{delta_of, step_at_delta}
 use Rattle.log_model.specs.Orders.{due_questions}
 use Rattle.log_model.specs.Places.{aim_of, all_stand, has_passed, holder_of, is_traversal}
@@ -17,11 +17,12 @@ use Rattle.log_model.specs.Seen.{Asked, Place, Seen, place_of, request_of}
 use Rattle.log_model.specs.declared.change.Change.{Change}
 use Rattle.log_model.specs.declared.made.Made.{Made}
 use Rattle.log_model.specs.declared.outcome.Denial.{Denial}
+use Rattle.log_model.specs.declared.row.Row.{Row}
 use Rattle.log_model.specs.declared.row_kind.RowKind.{RowKind}
 use Rattle.nav_tree.specs.Tree.{Tree, node_of}
 use Rattle.seen_laws.specs.InEvent.{InEvent, here_of, now_of, row_of}
 use Rattle.std.specs.Option.{IsSome}
-use Rattle.std.specs.Prelude.{List, None, Option, Some, [], false, length, nat_lt, true, ℤ, ◌<◌, ◌≡◌, ◌⊎◌}
+use Rattle.std.specs.Prelude.{Bool, List, None, Option, Some, [], false, is_some, length, map, nat_lt, not, true, ℤ, ◌<◌, ◌≡◌, ◌⊎◌}
 use Rattle.tab_ids.specs.declared.NavId.{NavId}
 use Rattle.tab_ids.specs.declared.ReqId.{ReqId}
 use Rattle.tab_ids.specs.declared.StateId.{StateId}
@@ -133,3 +134,17 @@ pub record IsAdded (s : Seen) (tree : Tree) (run : Option ReqId) (owner : StateI
   pub unmoved : has_nav (moved_by s.requests run) nav ≡ false
   pub no_node : node_of nav tree ≡ None
   pub parent_node : IsSome (node_of parent tree)
+
+-- the navigable has an entry at the first step
+abbrev pub begins : List Row → NavId → Bool
+begins entries nav = is_some (target_entry entries nav 0)
+
+-- it has none
+abbrev pub has_none : List Row → NavId → Bool
+has_none entries nav = not (begins entries nav)
+
+-- each navigable with an entry has one at the first step, before the frame is removed and after it, and has a place
+pub record IsRemoved (s : Seen) (nav : NavId) : Type 0 where
+  pub before : (other : NavId) → has_row other s.history.rows ≡ begins s.history.rows other
+  pub then_ : (other : NavId) → has_row other (applied s.history (changes.RemoveFrame nav)).rows ≡ begins (applied s.history (changes.RemoveFrame nav)).rows other
+  pub placed : (other : NavId) → has_row other s.history.rows ≡ true → has_nav (map (λ (p : Place). p.nav) s.places) other ≡ true

@@ -1,5 +1,5 @@
 //! The doors of changes: what a document made is applied, and a traversal ends.
-ghost use Rattle.std.specs.Prelude.{◌≡◌, ◌<◌, ◌+◌, ◌^◌, ◌==◌, ◌&&◌, ◌++◌, ◌∷◌, [], true, false, not, OnOk, IfOk, Some, None, length, map, option_map};
+ghost use Rattle.std.specs.Prelude.{◌≡◌, ◌<◌, ◌+◌, ◌^◌, ◌==◌, ◌&&◌, ◌++◌, ◌∷◌, [], true, false, not, OnOk, IfOk, Some, None, length, map, filter, option_map};
 ghost use Rattle.entry_store.specs.declared.error.StoreError.TheVariants as errors;
 ghost use Rattle.log_model.specs.declared.change.Change.TheVariants as changes;
 ghost use Rattle.log_model.specs.declared.row_kind.RowKind.TheVariants as rows;
@@ -14,16 +14,17 @@ ghost use Rattle.step_index.specs.Held.{history_held};
 ghost use Rattle.seen_laws.specs.InEvent.{InEvent, now_of};
 ghost use Rattle.doors.specs.Look.{moved_by};
 ghost use Rattle.doors.specs.Orders.{IsAwakeIn, AreThere};
-ghost use Rattle.doors.specs.Dues.{IsTakeDue, KeepsRows, MayChange, IsAdded, IsEndDue};
+ghost use Rattle.doors.specs.Dues.{IsTakeDue, KeepsRows, MayChange, IsAdded, IsRemoved, IsEndDue, begins, has_none};
 ghost use Rattle.doors.specs.Working.{IsAtWork, KeepsRun};
 ghost use Rattle.apply_plan.specs.Order.{made_in};
-ghost use Rattle.doors.specs.Ending.{unmove_all};
+ghost use Rattle.doors.specs.Ending.{unmove_all, destroy_all};
 
 use crate::tables::Tables;
 use address::{Address, OutOfMemory, Text};
 use entry_store::{Store, StoreError};
 use log_model::{Change, Navs, Out, RowKind};
 use nav_tree::NavTree;
+use std::alloc::Global;
 use step_index::StepIndex;
 use tab_ids::{EntryId, NavId, ReqId, StateId, Step};
 
@@ -170,6 +171,33 @@ impl Tables {
         Ok(())
     }
 
+    /// A frame is removed with all below it: each navigable that lost its entries is noted.
+    pub fn remove_frame(
+        &mut self,
+        alloc: Global,
+        out: &mut Out,
+        req: ReqId,
+        nav: NavId,
+    ) -> Result<(), OutOfMemory>
+        ghost e: { InEvent }
+        requires work { IsAtWork e out.old self.old }
+        requires due { IsTakeDue e out.old req (changes.RemoveFrame nav) }
+        requires may { MayChange (now_of e out.old) (changes.RemoveFrame nav) }
+        requires removed { IsRemoved (now_of e out.old) nav }
+        requires apart { is_this self.old.running req ≡ false }
+        ensures work { OnOk result (IsAtWork e out.new self.new) }
+        ensures out { OnOk result (out.new ≡ out.old ++ rows.Applied req (changes.RemoveFrame nav) ∷ []) }
+        ensures kept { OnOk result (KeepsRun self.old self.new) }
+    {
+        let had = with_rows(alloc, &self.store, &self.tree)?;
+        let change = Change::RemoveFrame { nav };
+        make_change(&mut self.store, out, &change)?;
+        out.push(RowKind::Applied { req, change })?;
+        let lost = without_rows(alloc, &self.store, &had)?;
+        destroy_each(&mut self.tree, &lost, req);
+        Ok(())
+    }
+
     /// The traversal that runs ends: the step that it leads to is the current one, and nobody is moved any more.
     pub fn end(&mut self, out: &mut Out, req: ReqId, goal: Step) -> Result<(), OutOfMemory>
         ghost e: { InEvent }
@@ -198,5 +226,61 @@ fn unmove_each(tree: &mut NavTree)
     for i in 0..tree.len() {
         let nav = tree.at(i);
         tree.set_moved(nav, false);
+    }
+}
+
+/// Whether a navigable has an entry at the first step.
+fn has_begun(store: &StepIndex, nav: NavId) -> bool
+    ensures { result ≡ begins (history_held store.now).rows nav }
+{
+    store.target(nav, Step(0)).is_some()
+}
+
+/// Whether it has none.
+fn has_not_begun(store: &StepIndex, nav: NavId) -> bool
+    ensures { result ≡ has_none (history_held store.now).rows nav }
+{
+    store.target(nav, Step(0)).is_none()
+}
+
+/// The navigables that have one.
+#[tactic(auto, using(crate::proofs::Filtered::one_kept, crate::proofs::Filtered::one_left, crate::proofs::Filtered::all_taken))]
+fn with_rows(alloc: Global, store: &StepIndex, tree: &NavTree) -> Result<Navs, OutOfMemory>
+    ensures { IfOk result (λ navs. navs ≡ filter (begins (history_held store.now).rows) (made_in tree.now)) }
+{
+    let mut navs = Navs::new(alloc);
+    for i in 0..tree.len() {
+        let nav = tree.at(i);
+        if has_begun(store, nav) {
+            navs.push(nav)?;
+        }
+    }
+    Ok(navs)
+}
+
+/// Those among these that have none.
+#[tactic(auto, using(crate::proofs::Filtered::one_not_kept, crate::proofs::Filtered::one_not_left))]
+fn without_rows(alloc: Global, store: &StepIndex, navs: &Navs) -> Result<Navs, OutOfMemory>
+    ensures { IfOk result (λ lost. lost ≡ filter (has_none (history_held store.now).rows) navs.now) }
+{
+    let mut lost = Navs::new(alloc);
+    for i in 0..navs.len() {
+        let nav = *navs.at(i);
+        if has_not_begun(store, nav) {
+            lost.push(nav)?;
+        }
+    }
+    Ok(lost)
+}
+
+/// These were destroyed by a request.
+#[tactic(auto, using(crate::proofs::Destroying::there_still, crate::proofs::Destroying::one_more))]
+fn destroy_each(tree: &mut NavTree, navs: &Navs, by: ReqId)
+    requires { AreThere tree.old navs.now }
+    ensures { tree.new ≡ destroy_all navs.now by tree.old }
+{
+    for i in 0..navs.len() {
+        let nav = *navs.at(i);
+        tree.remove(nav, by);
     }
 }
