@@ -1,19 +1,19 @@
 -- A change is put out, and the coordinator goes on working.
 use Rattle.apply_plan.specs.Order.{made_in}
+use Rattle.coord.proofs.LookUps.{nav_same}
+use Rattle.coord.proofs.Nodes.{changed_twice}
+use Rattle.coord.specs.Ties.{IsAwakeIn}
 use Rattle.coord_facts.proofs.Held.{without_same}
 use Rattle.doors.proofs.Changing.{Changes, added_holds, given_holds, pushed_documents, replaced_documents, untold_sight}
 use Rattle.doors.proofs.Destroying.{lost_are}
 use Rattle.doors.proofs.EndLaws.{ended_holds, removed_holds}
 use Rattle.doors.proofs.Holding.{at_home_other, awake_home, home_same, listed_unseen}
-use Rattle.doors.proofs.LookUps.{nav_same}
-use Rattle.doors.proofs.Nodes.{changed_twice}
 use Rattle.doors.proofs.Requests.{runs_applied_apart, runs_applied_own}
 use Rattle.doors.proofs.Sights.{sights_on, sights_same}
 use Rattle.doors.proofs.Works.{goal_of_none, goal_read, goal_same, work_more}
 use Rattle.doors.specs.Dues.{IsAdded, IsEndDue, IsRemoved, IsTakeDue, KeepsRows, begins}
 use Rattle.doors.specs.Ending.{destroy_all, unmove_all}
 use Rattle.doors.specs.Look.{Sight, look_of, moved_by, sight}
-use Rattle.doors.specs.Orders.{IsAwakeIn}
 use Rattle.doors.specs.Ties.{Holds, IsAwakeAtHome, IsHome, IsRunning, IsTied, status_of}
 use Rattle.doors.specs.Working.{HasGoal, IsAtWork, look_now}
 use Rattle.doors.specs.declared.tables.Tables.{Tables}

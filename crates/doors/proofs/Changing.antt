@@ -1,9 +1,13 @@
 -- A change is applied: the tables go on standing for the log, once the navigables are changed as it says.
+use Rattle.coord.proofs.GivenLaws.{home}
+use Rattle.coord.proofs.LookUps.{nav_same}
+use Rattle.coord.proofs.Nodes.{keys_with_nav, node_with_nav, on_nav}
+use Rattle.coord.proofs.ShowDoor.{order}
 use Rattle.doors.proofs.Holding.{held_changed, listed_tree}
-use Rattle.doors.proofs.LookUps.{nav_same}
-use Rattle.doors.proofs.Nodes.{keys_with_nav, node_with_nav, on_nav, places_with}
+use Rattle.doors.proofs.Nodes.{places_with}
 use Rattle.doors.proofs.Requests.{applied_moved, moved_same}
 use Rattle.doors.proofs.Sights.{sights_on, sights_same}
+use Rattle.doors.proofs.Works.{numbered}
 use Rattle.doors.specs.Look.{Sight, look_of, moved_by, sight}
 use Rattle.doors.specs.Ties.{AreHeld, AreListed, AreTied, Holds, IsAwakeAtHome, IsTied}
 use Rattle.doors.specs.declared.tables.Tables.{Tables}

@@ -1,8 +1,8 @@
 -- Navigables that a request destroyed, one by one.
 use Rattle.apply_plan.specs.Order.{made_in}
+use Rattle.coord.specs.Showing.{AreThere}
 use Rattle.doors.proofs.EndLaws.{node_destroyed}
 use Rattle.doors.specs.Ending.{destroy_all, destroyed}
-use Rattle.doors.specs.Orders.{AreThere}
 use Rattle.hang_facts.proofs.Members.{has_filter}
 use Rattle.hang_facts.specs.Members.{Has}
 use Rattle.log_model.proofs.Refl.{nat_eq_refl}

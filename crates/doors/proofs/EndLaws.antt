@@ -1,7 +1,10 @@
 -- A frame is removed, a traversal ends, and rows of which the tables tell nothing: the tables go on standing for the log.
+use Rattle.coord.proofs.GivenLaws.{home}
+use Rattle.coord.proofs.Nodes.{keys_with_nav, node_with_nav}
+use Rattle.coord.proofs.ShowDoor.{order}
 use Rattle.doors.proofs.Changing.{Changes, none_taken}
 use Rattle.doors.proofs.Holding.{held_changed, listed_tree}
-use Rattle.doors.proofs.Nodes.{keys_changed, keys_with_nav, node_changed, node_with_nav, places_changed, places_with}
+use Rattle.doors.proofs.Nodes.{keys_changed, node_changed, places_changed, places_with}
 use Rattle.doors.proofs.Requests.{applied_moved, moved_same}
 use Rattle.doors.proofs.Sights.{sights_same}
 use Rattle.doors.proofs.Works.{numbered}

@@ -1,4 +1,3 @@
-pub mod LookUps
 pub mod Nodes
 pub mod Keyed
 pub mod Sights
@@ -11,7 +10,6 @@ pub mod Requests
 pub mod Changing
 pub mod EndLaws
 pub mod Works
-pub mod Sleeping
 pub mod Unmoving
 pub mod Histories
 pub mod ChangeWorks

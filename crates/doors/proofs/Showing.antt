@@ -1,9 +1,11 @@
 -- A navigable is shown its document, for which nobody falls asleep: the tables go on standing for the log.
+use Rattle.coord.proofs.LookUps.{nav_same}
+use Rattle.coord.proofs.Nodes.{keys_with_nav, node_with_nav, on_nav}
 use Rattle.doors.proofs.Holding.{held_changed, home_other, listed_unseen}
-use Rattle.doors.proofs.LookUps.{nav_same}
-use Rattle.doors.proofs.Nodes.{keys_with_nav, node_with_nav, on_nav, places_with}
+use Rattle.doors.proofs.Nodes.{places_with}
 use Rattle.doors.proofs.Sights.{found_same, sight_of, sights_document, sights_on}
 use Rattle.doors.proofs.Telling.{SendsOne, told_to}
+use Rattle.doors.proofs.Works.{numbered}
 use Rattle.doors.specs.Look.{Sight, look_of, moved_by, sight, sight_in}
 use Rattle.doors.specs.Orders.{next_order}
 use Rattle.doors.specs.Ties.{AreHeld, AreListed, Holds, IsAwakeAtHome, IsHome, IsTied}

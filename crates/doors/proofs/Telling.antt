@@ -1,8 +1,11 @@
 -- An awake navigable's document is told length and index: the tables go on standing for the log.
+use Rattle.coord.proofs.GivenLaws.{home}
+use Rattle.coord.proofs.LookUps.{nav_same}
+use Rattle.coord.proofs.Nodes.{keys_with_nav, node_with_nav, on_nav}
 use Rattle.doors.proofs.Holding.{at_home_other, awake_home, held_changed, home_same, listed_unseen}
-use Rattle.doors.proofs.LookUps.{nav_same}
-use Rattle.doors.proofs.Nodes.{keys_with_nav, node_with_nav, on_nav, places_with}
+use Rattle.doors.proofs.Nodes.{places_with}
 use Rattle.doors.proofs.Sights.{sights_document, sights_on}
+use Rattle.doors.proofs.Works.{numbered}
 use Rattle.doors.specs.Look.{Sight, look_of, moved_by, sight}
 use Rattle.doors.specs.Orders.{next_order}
 use Rattle.doors.specs.Ties.{AreHeld, AreListed, Holds, IsAwakeAtHome, IsHome, IsRunning, IsTied, status_of}

@@ -1,6 +1,6 @@
 -- Navigables that are not moved any more, one by one.
 use Rattle.apply_plan.specs.Order.{made_in}
-use Rattle.doors.proofs.Nodes.{keys_with_nav}
+use Rattle.coord.proofs.Nodes.{keys_with_nav}
 use Rattle.doors.specs.Ending.{unmove_all}
 use Rattle.log_model.proofs.Refl.{nat_eq_refl}
 use Rattle.nav_tree.proofs.Lists.{take-slice_get}

@@ -3,15 +3,17 @@ use Rattle.seen_laws.specs.InEvent.{first_of} -- keep
 use Rattle.nav_tree.specs.declared.place.Place as live_place -- keep
 use Rattle.nav_tree.specs.Tree.{document_of, discarded, activated} -- keep
 use Rattle.plain_tab.proofs.Courses.{was_asked} -- keep
+use Rattle.coord.proofs.Nodes.{changed_twice, still_there}
+use Rattle.coord.specs.Showing.{sleep_all}
+use Rattle.coord.specs.Ties.{IsAwakeIn}
 use Rattle.doors.proofs.Discarding.{discard_holds}
 use Rattle.doors.proofs.Making.{MakesOne, make_holds}
-use Rattle.doors.proofs.Nodes.{changed_twice, still_there}
 use Rattle.doors.proofs.Requests.{on_another, runs_same}
 use Rattle.doors.proofs.Showing.{show_holds, shown_nav}
 use Rattle.doors.proofs.Sights.{sight_of}
 use Rattle.doors.proofs.Telling.{SendsOne, tell_holds}
 use Rattle.doors.specs.Look.{Sight, look_of, moved_by, sight, sight_in}
-use Rattle.doors.specs.Orders.{IsAwakeIn, IsThere, MayShow, next_order, numbered_order, sleep_all}
+use Rattle.doors.specs.Orders.{IsThere, MayShow, next_order, numbered_order}
 use Rattle.doors.specs.Ties.{Holds, IsRunning}
 use Rattle.doors.specs.Working.{HasGoal, IsAtWork}
 use Rattle.doors.specs.declared.tables.Tables.{Tables}

@@ -1,5 +1,4 @@
 -- The orders that the coordinator sends, and when.
-use Rattle.nav_tree.specs.Tree.{put_to_sleep} -- keep
 use Rattle.nav_tree.specs.declared.place.Place as live_place -- keep
 use Rattle.nav_tree.specs.Tree.{document_of} -- keep
 use Rattle.log_model.specs.Seen.{document_of as document_in_log} -- keep
@@ -12,12 +11,12 @@ use Rattle.log_model.specs.Seen.{Asked, Document, Seen, desk_of, place_of, reque
 use Rattle.log_model.specs.declared.job.Job.{Job}
 use Rattle.log_model.specs.declared.job.Task.{Task}
 use Rattle.log_model.specs.declared.job.Why.{Why}
-use Rattle.nav_tree.specs.Tree.{Tree, node_of, with_nav}
+use Rattle.nav_tree.specs.Tree.{Tree, node_of}
 use Rattle.nav_tree.specs.declared.node.Node.{Node}
 use Rattle.plain_tab.specs.Calm.{is_run}
 use Rattle.seen_laws.specs.Sending.{IsShowDue, IsTo, is_passed}
-use Rattle.std.specs.Option.{IsSome, option_map_or}
-use Rattle.std.specs.Prelude.{List, None, Option, Some, [], false, fold, map, option_map, true, ℕ, ◌+◌, ◌==◌, ◌||◌, ◌∷◌, ◌≡◌}
+use Rattle.std.specs.Option.{option_map_or}
+use Rattle.std.specs.Prelude.{List, None, Option, Some, [], false, map, option_map, true, ℕ, ◌+◌, ◌==◌, ◌||◌, ◌≡◌}
 use Rattle.tab_ids.specs.declared.DocId.{DocId}
 use Rattle.tab_ids.specs.declared.EntryId.{EntryId}
 use Rattle.tab_ids.specs.declared.Epoch.{Epoch}
@@ -26,7 +25,6 @@ use Rattle.tab_ids.specs.declared.ProcId.{ProcId}
 use Rattle.tab_ids.specs.declared.ReqId.{ReqId}
 use Rattle.tab_ids.specs.declared.StateId.{StateId}
 use Rattle.log_model.specs.declared.job.Why.TheVariants as whys
-use Rattle.nav_tree.specs.declared.status.NavStatus.TheVariants as kept
 -- HTML Standard, "update document for history step application", "activate history entry", "attempt to populate the history entry's document" and "destroy a document"; numbers, processes and incarnations are this project's own.
 
 -- the order with a number
@@ -46,12 +44,6 @@ pub record IsThere (s : Seen) (proc : ProcId) (doc : DocId) : Type 0 where
   pub alive : (document.is_discarded || document.is_known_dead) ≡ false
   pub known : (desk_of s proc).known ≡ 0
 
--- the navigable is awake on the document
-pub record IsAwakeIn (tree : Tree) (nav : NavId) (doc : DocId) : Type 0 where
-  pub node : Node
-  pub there : node_of nav tree ≡ Some node
-  pub wakes : node.nav.status ≡ kept.Awake doc
-
 -- the navigable is to be shown its document, for which nobody falls asleep, under its next epoch
 pub record MayShow (s : Seen) (tree : Tree) (nav : NavId) (job : Job) (entry : EntryId) (epoch : Epoch) (pair : ℕ × ℕ) (memo : Option (List ℕ)) (address : List ℕ) : Type 0 where
   pub document : Document
@@ -70,17 +62,6 @@ pub record MayShow (s : Seen) (tree : Tree) (nav : NavId) (job : Job) (entry : E
 abbrev pub IsForRunning : Seen → Option ReqId → Why → Type 0
 IsForRunning s None why = (req : ReqId) → why ≡ whys.Req req → (q : Asked) → request_of s req ≡ Some q → is_run q ≡ false
 IsForRunning s (Some run) why = why ≡ whys.Req run
-
--- ---- what the tables become
-
--- these navigables are put to sleep, one after the other
-abbrev pub sleep_all : List NavId → Why → Tree → Tree
-sleep_all navs why tree = fold (λ (t : Tree) (nav : NavId). with_nav (put_to_sleep why) nav t) tree navs
-
--- each of these navigables is in the table
-abbrev pub AreThere : Tree → List NavId → Type 0
-AreThere tree [] = Unit {0}
-AreThere tree (nav ∷ navs) = IsSome (node_of nav tree) × AreThere tree navs
 
 -- the document may be discarded for a request, it is the one that is there for its state, and these fall asleep with it
 pub record MayDiscard (s : Seen) (tree : Tree) (job : Job) (navs : List NavId) (doc : DocId) (state : StateId) (by : ReqId) : Type 0 where

@@ -13,7 +13,9 @@ ghost use Rattle.std.specs.Map.{lookup};
 ghost use Rattle.nav_tree.specs.Tree.{is_state, discarded};
 ghost use Rattle.doors.specs.Look.{sight, sight_in};
 ghost use Rattle.tab_ids.specs.declared.ReqId.{ReqId};
-ghost use Rattle.doors.specs.Orders.{numbered_order, next_order, IsThere, IsAwakeIn, MayShow, MayDiscard, AreThere, sleep_all};
+ghost use Rattle.coord.specs.Ties.{IsAwakeIn};
+ghost use Rattle.coord.specs.Showing.{AreThere, sleep_all};
+ghost use Rattle.doors.specs.Orders.{numbered_order, next_order, IsThere, MayShow, MayDiscard};
 ghost use Rattle.doors.specs.Working.{IsAtWork, KeepsStore};
 
 use crate::tables::Tables;
@@ -175,7 +177,7 @@ impl Tables {
 }
 
 /// Puts these navigables to sleep.
-#[tactic(auto, using(crate::proofs::Sleeping::sleeper_there, crate::proofs::Sleeping::one_more))]
+#[tactic(auto, using(coord::proofs::ShowDoor::sleeper_there, coord::proofs::ShowDoor::one_more))]
 fn sleep_each(tree: &mut NavTree, navs: &Navs, why: Why)
     requires { AreThere tree.old navs.now }
     ensures { tree.new ≡ sleep_all navs.now why tree.old }

@@ -1,5 +1,5 @@
 use Rattle.seen_laws.specs.InEvent.{now_of}
-use Rattle.doors.proofs.Histories.{may_here, changed_same, only_memory, room_here}
+use Rattle.coord.proofs.Histories.{may_here, changed_same, only_memory, room_here}
 use Rattle.doors.proofs.changes.make_change.Goals as goal
 
 pub apply-requires-clause-may : goal.apply-requires-clause-may

@@ -1,5 +1,5 @@
 use Rattle.std.proofs.Common.{◌≡◌, take}
-use Rattle.doors.specs.Orders.{sleep_all}
+use Rattle.coord.specs.Showing.{sleep_all}
 use Rattle.doors.proofs.orders.sleep_each.Given as goal
 
 abbrev pub invariant-loop-i : goal.invariant-loop-i
