@@ -1,0 +1,4 @@
+pub mod Goings
+pub mod Theres
+pub mod Steadies
+pub mod Plainly
