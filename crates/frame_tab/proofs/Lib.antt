@@ -2,3 +2,5 @@ pub mod Goings
 pub mod Theres
 pub mod Steadies
 pub mod Plainly
+pub mod Desking
+pub mod Going
