@@ -4,3 +4,5 @@ pub mod Steadies
 pub mod Plainly
 pub mod Desking
 pub mod Going
+pub mod Running
+pub mod Leaving

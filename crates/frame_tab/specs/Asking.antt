@@ -10,6 +10,7 @@ use Rattle.log_model.specs.Places.{is_traversal}
 use Rattle.log_model.specs.Seen.{Seen, Asked}
 use Rattle.plain_tab.specs.Calm.{EachAsked, OnlyRuns}
 use Rattle.plain_tab.specs.Sole.{NoneDied}
+use Rattle.frame_tab.specs.Steady.{IsAskedBy}
 
 -- the action is no edit
 abbrev pub IsNoEditing : Action → Type 0
@@ -34,10 +35,11 @@ pub record IsPlainlyAsked (req : ReqId) (q : Asked) : Type 0 where
   pub found : q.is_not_found ≡ false
   pub moved : is_traversal q.what ≡ true → q.moved ≡ q.activated
 
--- all are so, one traversal runs at most, no document is kept, and no process died
+-- all are so, one traversal runs at most, which is there, no document is kept, and no process died
 pub record ArePlainlyAsked (run : Option ReqId) (s : Seen) : Type 0 where
   pub each : EachAsked IsPlainlyAsked s.requests
   pub only : OnlyRuns run s
+  pub runs : (req : ReqId) → run ≡ Some req → IsAskedBy s.requests run
   pub kept : s.kept ≡ []
   pub died : NoneDied s
 
