@@ -6,3 +6,6 @@ pub mod Desking
 pub mod Going
 pub mod Running
 pub mod Leaving
+pub mod Skips
+pub mod Lefts
+pub mod Ends
