@@ -33,7 +33,7 @@ use Rattle.plain_tab.proofs.Courses.{runs_ended_other}
 use Rattle.plain_tab.proofs.Eaches.{each_less}
 use Rattle.plain_tab.proofs.Soles.{died_on}
 use Rattle.frame_tab.specs.Asking.{IsPlainlyAsked, ArePlainlyAsked}
-use Rattle.frame_tab.specs.Desks.{IsPokeThere, IsHomeDesk, IsBare, AreDesks, waiting, untaken}
+use Rattle.frame_tab.specs.Desks.{IsPokeThere, IsMadeThere, IsHomeDesk, IsBare, AreDesks, waiting, untaken}
 use Rattle.frame_tab.specs.Steady.{IsAskedBy}
 use Rattle.frame_tab.specs.Whole.{IsFrameTab}
 use Rattle.frame_tab.proofs.Goings.{AllStayAsked, all_read, asked_by_stays, begun_of}
@@ -42,7 +42,7 @@ use Rattle.frame_tab.proofs.Plainly.{plainness, plain_again, ended_reads}
 use Rattle.frame_tab.proofs.Running.{moved_same}
 use Rattle.frame_tab.proofs.Going.{same_tooks}
 use Rattle.frame_tab.proofs.Leaving.{makes_at, untold, Leaves, leaves_tab}
-use Rattle.frame_tab.proofs.Skips.{Skips, skips_same, skips_append, ascends_skip, continues_skip, IsPassed, made_in, held_skips, without_made, hand_skips}
+use Rattle.frame_tab.proofs.Skips.{Skips, skips_same, skips_append, ascends_skip, none_skip, each_skip, continues_skip, IsPassed, made_in, held_skips, without_made, hand_skips}
 
 each_filter : {A : Type 0} (F : A → Type 0) (p : A → Bool) (xs : List A) → Each F xs → Each F (filter p xs)
 each_filter F p [] all = tt
@@ -84,11 +84,15 @@ module _ (home : ProcId) (run : Option ReqId) (hand : List Made) (s : Seen) (tab
     abbrev waits : List Made
     waits = held_back ends (without_req req s.parked) ++ without_made req hand
 
+    waiting_skips : Skips (IsPassed s) (waiting s hand) waits
+    waiting_skips =
+        skips_append (IsPassed s) (held_back s.requests s.parked) (held_back ends (without_req req s.parked)) hand (without_made req hand) (held_skips (IsPassed s) s.requests ends s.parked req (λ r. on_alike made_of s.requests req (λ q. record q { ending = Some ending }) r (λ q. refl)) end.held) (hand_skips (IsPassed s) req hand end.at_hand)
+
     ended_skips : (desk next_ : Desk) → next_.reports ≡ desk.reports → Skips (IsPassed s) (untold (waiting s hand) desk) (untold waits next_)
     ended_skips desk next_ same =
         subst (λ (l : List _). Skips (IsPassed s) (untold (waiting s hand) desk) (waits ++ filter_map made_of_report l)) (sym same)
         (skips_append (IsPassed s) (waiting s hand) waits (filter_map made_of_report desk.reports) (filter_map made_of_report desk.reports)
-        (skips_append (IsPassed s) (held_back s.requests s.parked) (held_back ends (without_req req s.parked)) hand (without_made req hand) (held_skips (IsPassed s) s.requests ends s.parked req (λ r. on_alike made_of s.requests req (λ q. record q { ending = Some ending }) r (λ q. refl)) end.held) (hand_skips (IsPassed s) req hand end.at_hand))
+        waiting_skips
         (skips_same (IsPassed s) (filter_map made_of_report desk.reports)))
 
     pub ended_tab : (t : Seen) → t.documents ≡ s.documents → t.places ≡ s.places → t.history ≡ s.history → t.states ≡ s.states → t.entries ≡ s.entries → t.initial_states ≡ s.initial_states → t.requests ≡ ends → t.parked ≡ without_req req s.parked → t.kept ≡ s.kept → NoneDied t → AreDesks home t → ((doc : DocId) → makes_at doc (desk_of t home) ≡ makes_at doc (desk_of s home)) → (desk_of t home).reports ≡ (desk_of s home).reports → IsFrameTab home run (without_made req hand) t
@@ -106,6 +110,8 @@ module _ (home : ProcId) (run : Option ReqId) (hand : List Made) (s : Seen) (tab
           asked = ended_asked t are kept died;
           desks = desks;
           makes = makes;
+          unmade = λ doc none. subst (λ (l : List Made). untaken l (desk_of t home) doc ≡ []) (sym waits_are) (none_skip (IsPassed s) doc (untold (waiting s hand) (desk_of s home)) (untold waits (desk_of t home)) skips none);
+          waits = subst (λ (l : List Made). Each (IsMadeThere s.documents) l) (sym waits_are) (each_skip (IsPassed s) (IsMadeThere s.documents) (waiting s hand) waits waiting_skips tab.waits);
           ascends = λ doc from to is. subst (λ (l : List Made). Ascend from (filter (λ (made : Made). made.doc.0 == doc.0) (untold l (desk_of t home))) to) (sym waits_are) (ascends_skip (IsPassed s) doc to (untold (waiting s hand) (desk_of s home)) (untold waits (desk_of t home)) skips from is);
           continues = λ nav place doc given there wakes is. subst (λ (l : List Made). Continues given (coming l (desk_of t home) doc place.epoch)) (sym waits_are) (continues_skip (IsPassed s) doc place.epoch (λ made passed under. passed nav place doc there wakes under) (untold (waiting s hand) (desk_of s home)) (untold waits (desk_of t home)) skips given is);
           moved = λ nav none. sym (ended_moved nav) ∙ ap (λ (l : List Asked). is_moved_in l nav) (sym are) ∙ none;

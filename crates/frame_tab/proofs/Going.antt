@@ -22,7 +22,7 @@ use Rattle.rest_facts.proofs.Again.{WasOf, was_of}
 use Rattle.plain_tab.proofs.Courses.{was_asked}
 use Rattle.frame_tab.specs.Alive.{EachThere, AreThere}
 use Rattle.frame_tab.specs.Asking.{ArePlainlyAsked}
-use Rattle.frame_tab.specs.Desks.{AreDesks, EachIsMadeOnce, EachAscends, EachContinues}
+use Rattle.frame_tab.specs.Desks.{AreDesks, EachIsMadeOnce, EachHasMadeNothing, EachWaits, EachAscends, EachContinues}
 use Rattle.frame_tab.specs.Numbers.{IsOfGivenState, IsOfItsRows, AreListed, AreStated, IsNumbered, EachEntry}
 use Rattle.frame_tab.specs.Steady.{AreSteady, AreGiven}
 use Rattle.frame_tab.specs.Whole.{IsFrameTab}
@@ -92,6 +92,8 @@ pub record Goes (home : ProcId) (run run_ : Option ReqId) (hand hand_ : List Mad
   pub steady : AreSteady t
   pub desks : AreDesks home t
   pub made : EachIsMadeOnce home t
+  pub unmade : EachHasMadeNothing home t hand_
+  pub waits : EachWaits t hand_
   pub ascends : EachAscends home t hand_
   pub continues : EachContinues home t hand_
   pub given : AreGiven t
@@ -156,6 +158,8 @@ goes_tab home run run_ hand hand_ s t goes tab =
           tab.entries;
       desks = goes.desks;
       made = goes.made;
+      unmade = goes.unmade;
+      waits = goes.waits;
       ascends = goes.ascends;
       continues = goes.continues;
       given = goes.given;

@@ -1,5 +1,5 @@
 -- What a row leaves of what documents made and of what navigables were given, and that all holds after a row that changes requests and one process alone.
-use Rattle.std.proofs.Common.{◌≡◌, ℕ, ◌+◌, ◌==◌, Bool, true, false, List, ◌++◌, map, Option, Some, None, refl, sym, ap, ◌∙◌, subst}
+use Rattle.std.proofs.Common.{◌≡◌, ℕ, ◌+◌, ◌==◌, Bool, true, false, List, [], ◌++◌, map, Option, Some, None, refl, sym, ap, ◌∙◌, subst}
 use Rattle.std.specs.Prelude.{filter, filter_map, option_map}
 use Rattle.std.proofs.lemmas.List.{map-id}
 use Rattle.tab_ids.specs.declared.DocId.{DocId}
@@ -22,9 +22,10 @@ use Rattle.hang_facts.specs.Members.{Has}
 use Rattle.home_facts.specs.Homes.{document_in}
 use Rattle.rest_facts.proofs.Again.{WasOf, was_of}
 use Rattle.plain_tab.specs.Flow.{Ascend, Continues}
+use Rattle.plain_tab.specs.Sole.{Each}
 use Rattle.frame_tab.specs.Alive.{EachThere, IsAlive}
 use Rattle.frame_tab.specs.Asking.{ArePlainlyAsked}
-use Rattle.frame_tab.specs.Desks.{makes_sent, makes_told, makes_due, IsMadeOnce, AreDesks, EachIsMadeOnce, untaken, Ascends, waiting, EachAscends, EachContinues}
+use Rattle.frame_tab.specs.Desks.{makes_sent, makes_told, makes_due, IsMadeOnce, IsMadeThere, AreDesks, EachIsMadeOnce, HasMadeNothing, EachHasMadeNothing, untaken, Ascends, waiting, EachAscends, EachContinues}
 use Rattle.frame_tab.specs.Steady.{AreSteady, AreGiven}
 use Rattle.frame_tab.specs.Whole.{IsFrameTab}
 use Rattle.frame_tab.proofs.Goings.{AllStayAsked}
@@ -54,6 +55,11 @@ pub ascends_again : (home : ProcId) (s t : Seen) (hand hand_ : List Made) (g : D
 ascends_again home s t hand hand_ g nr one documents each doc d found =
     let w : WasOf s g doc d = was_of s t g nr documents doc d found in
     subst (λ (x : Document). Ascends (waiting t hand_) (desk_of t home) x) w.is (one doc w.before w.there (each doc w.before w.there))
+
+pub unmade_again : (home : ProcId) (s t : Seen) (hand hand_ : List Made) (g : Document → Document) → ((d : Document) → (g d).nr ≡ d.nr) → ((doc : DocId) (d : Document) → document_of s doc ≡ Some d → HasMadeNothing (waiting s hand) (desk_of s home) d → HasMadeNothing (waiting t hand_) (desk_of t home) (g d)) → t.documents ≡ map g s.documents → EachHasMadeNothing home s hand → EachHasMadeNothing home t hand_
+unmade_again home s t hand hand_ g nr one documents each doc d found =
+    let w : WasOf s g doc d = was_of s t g nr documents doc d found in
+    subst (λ (x : Document). HasMadeNothing (waiting t hand_) (desk_of t home) x) w.is (one doc w.before w.there (each doc w.before w.there))
 
 -- a navigable was awake on the document, given the same under the same epoch
 pub record WasShown (s : Seen) (nav : NavId) (place : Place) : Type 0 where
@@ -101,6 +107,8 @@ pub record Leaves (home : ProcId) (run_ : Option ReqId) (hand hand_ : List Made)
   pub asked : ArePlainlyAsked run_ t
   pub desks : AreDesks home t
   pub makes : (doc : DocId) → makes_at doc (desk_of t home) ≡ makes_at doc (desk_of s home)
+  pub unmade : (doc : DocId) → untaken (waiting s hand) (desk_of s home) doc ≡ [] → untaken (waiting t hand_) (desk_of t home) doc ≡ []
+  pub waits : Each (IsMadeThere s.documents) (waiting t hand_)
   pub ascends : (doc : DocId) (from to : ℕ) → Ascend from (untaken (waiting s hand) (desk_of s home) doc) to → Ascend from (untaken (waiting t hand_) (desk_of t home) doc) to
   pub continues : (nav : NavId) (place : Place) (doc : DocId) (given : EntryId) → place_of s nav ≡ Some place → place.status ≡ awake doc → Continues given (coming (waiting s hand) (desk_of s home) doc place.epoch) → Continues given (coming (waiting t hand_) (desk_of t home) doc place.epoch)
   pub moved : (nav : NavId) → is_moved_in t.requests nav ≡ false → is_moved_in s.requests nav ≡ false
@@ -123,6 +131,8 @@ leaves_goes home run run_ hand hand_ s t leaves tab =
       steady = steady_left s t leaves.places (ap (λ (h : History). h.rows) leaves.history) leaves.stay tab.steady;
       desks = leaves.desks;
       made = made_again home s t (λ d. d) (λ d. refl) (λ doc d found is. once_alike (desk_of s home) (desk_of t home) d d refl refl leaves.makes is) documents tab.made;
+      unmade = unmade_again home s t hand hand_ (λ d. d) (λ d. refl) (λ doc d found is unready. (let i : (d.last_applied ≡ 0) × (untaken (waiting s hand) (desk_of s home) d.nr ≡ []) = is unready in (i.0, leaves.unmade d.nr i.1))) documents tab.unmade;
+      waits = subst (λ (l : List Document). Each (IsMadeThere l) (waiting t hand_)) (sym leaves.documents) leaves.waits;
       ascends = ascends_again home s t hand hand_ (λ d. d) (λ d. refl) (λ doc d found is view has. leaves.ascends d.nr d.last_applied view.numbered (is view has)) documents tab.ascends;
       continues = continues_again home s t hand hand_ (same_shown s t leaves.places) leaves.continues tab.continues;
       given = given_again s t (same_shown s t leaves.places) leaves.history leaves.moved tab.given;
@@ -143,3 +153,7 @@ same_ascends held held_ desk next same doc from to is =
 pub same_continues : (held held_ : List Made) (desk next : Desk) → untold held_ next ≡ untold held desk → (doc : DocId) (given : EntryId) (epoch : Epoch) → Continues given (coming held desk doc epoch) → Continues given (coming held_ next doc epoch)
 same_continues held held_ desk next same doc given epoch is =
     subst (λ (l : List Made). Continues given (filter (is_made_under doc epoch) l)) (sym same) is
+
+pub same_unmade : (held held_ : List Made) (desk next : Desk) → untold held_ next ≡ untold held desk → (doc : DocId) → untaken held desk doc ≡ [] → untaken held_ next doc ≡ []
+same_unmade held held_ desk next same doc none =
+    ap (λ (l : List Made). filter (λ (made : Made). made.doc.0 == doc.0) l) same ∙ none

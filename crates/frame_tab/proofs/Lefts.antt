@@ -39,7 +39,7 @@ use Rattle.plain_tab.proofs.Soles.{died_on}
 use Rattle.plain_tab.proofs.TabRows.{old_apart, still_there}
 use Rattle.frame_tab.specs.Asking.{IsFrameRequest, IsNoEditing, IsPlainlyAsked, ArePlainlyAsked}
 use Rattle.frame_tab.specs.Alive.{IsThere}
-use Rattle.frame_tab.specs.Desks.{IsOrderTo, IsReportTo, IsPokeThere, IsHomeDesk, AreDesks, waiting, makes_sent, makes_told}
+use Rattle.frame_tab.specs.Desks.{IsOrderTo, IsReportTo, IsPokeThere, IsMadeThere, IsHomeDesk, AreDesks, waiting, makes_sent, makes_told}
 use Rattle.frame_tab.specs.Steady.{IsAskedBy}
 use Rattle.frame_tab.specs.Whole.{IsFrameTab}
 use Rattle.frame_tab.proofs.Goings.{StaysAsked, AllStayAsked, all_same, all_more, asked_by_stays}
@@ -47,7 +47,7 @@ use Rattle.frame_tab.proofs.Desking.{same_made, same_placed, desks_on, own_desk,
 use Rattle.frame_tab.proofs.Plainly.{plain_more, plain_begun}
 use Rattle.frame_tab.proofs.Running.{none_moved, moved_is, moved_same, run_in}
 use Rattle.frame_tab.proofs.Going.{IsKnownEntry, same_tooks}
-use Rattle.frame_tab.proofs.Leaving.{makes_at, untold, Leaves, leaves_tab, same_ascends, same_continues}
+use Rattle.frame_tab.proofs.Leaving.{makes_at, untold, Leaves, leaves_tab, same_ascends, same_continues, same_unmade}
 
 -- ---- a request is accepted
 
@@ -136,12 +136,17 @@ module _ (home : ProcId) (run : Option ReqId) (hand : List Made) (s : Seen) (eve
             asked = accepted_asked None (requests.Go delta) went tt refl refl tab.asked.died;
             desks = desks_same home s went refl (same_made s.documents went.documents refl) (same_placed s.places went.places refl) tab.desks;
             makes = λ doc. refl;
+            unmade = same_unmade (waiting s hand) (waiting went hand) (desk_of s home) (desk_of went home) same;
+            waits = subst (λ (l : List Made). Each (IsMadeThere s.documents) l) (sym held_same) tab.waits;
             ascends = same_ascends (waiting s hand) (waiting went hand) (desk_of s home) (desk_of went home) same;
             continues = λ nav place doc given there wakes. same_continues (waiting s hand) (waiting went hand) (desk_of s home) (desk_of went home) same doc given place.epoch;
             moved = λ nav none. sym (more_moved None (requests.Go delta) tt nav) ∙ none;
           })
           tab
         where
+          held_same : waiting went hand ≡ waiting s hand
+          held_same = ap (λ (l : List Made). l ++ hand) (accepted_held s event actor req None (requests.Go delta))
+
           same : untold (waiting went hand) (desk_of went home) ≡ untold (waiting s hand) (desk_of s home)
           same = ap (λ (l : List Made). untold (l ++ hand) (desk_of s home)) (accepted_held s event actor req None (requests.Go delta))
 
@@ -165,12 +170,17 @@ module _ (home : ProcId) (run : Option ReqId) (hand : List Made) (s : Seen) (eve
             asked = accepted_asked None (requests.Poke nav action) strayed fine refl refl tab.asked.died;
             desks = desks_same home s strayed refl (same_made s.documents strayed.documents refl) (same_placed s.places strayed.places refl) tab.desks;
             makes = λ doc. refl;
+            unmade = same_unmade (waiting s hand) (waiting strayed hand) (desk_of s home) (desk_of strayed home) same;
+            waits = subst (λ (l : List Made). Each (IsMadeThere s.documents) l) (sym held_same) tab.waits;
             ascends = same_ascends (waiting s hand) (waiting strayed hand) (desk_of s home) (desk_of strayed home) same;
             continues = λ n place doc given there wakes. same_continues (waiting s hand) (waiting strayed hand) (desk_of s home) (desk_of strayed home) same doc given place.epoch;
             moved = λ n none. sym (more_moved None (requests.Poke nav action) fine n) ∙ none;
           })
           tab
         where
+          held_same : waiting strayed hand ≡ waiting s hand
+          held_same = ap (λ (l : List Made). l ++ hand) (accepted_held s event actor req None (requests.Poke nav action))
+
           same : untold (waiting strayed hand) (desk_of strayed home) ≡ untold (waiting s hand) (desk_of s home)
           same = ap (λ (l : List Made). untold (l ++ hand) (desk_of s home)) (accepted_held s event actor req None (requests.Poke nav action))
 
@@ -208,12 +218,17 @@ module _ (home : ProcId) (run : Option ReqId) (hand : List Made) (s : Seen) (eve
               asked = accepted_asked (Some doc) (requests.Poke nav action) reached fine refl refl (died_on s reached home with_poke desks_then (λ desk. refl) refl refl tab.asked.died);
               desks = desks_on home s reached with_poke desks_then (λ desk. refl) (record { orders = tab.desks.own.orders; told = tab.desks.own.told; pokes = each_more (IsPokeThere s.documents) (desk_of s home).input poke tab.desks.own.pokes (record { document = d; found = found }) }) tab.desks;
               makes = λ x. ap (makes_at x) own_then;
+              unmade = same_unmade (waiting s hand) (waiting reached hand) (desk_of s home) (desk_of reached home) same;
+              waits = subst (λ (l : List Made). Each (IsMadeThere s.documents) l) (sym held_same) tab.waits;
               ascends = same_ascends (waiting s hand) (waiting reached hand) (desk_of s home) (desk_of reached home) same;
               continues = λ n place x given there wakes. same_continues (waiting s hand) (waiting reached hand) (desk_of s home) (desk_of reached home) same x given place.epoch;
               moved = λ n none. sym (more_moved (Some doc) (requests.Poke nav action) fine n) ∙ none;
             })
             tab
           where
+            held_same : waiting reached hand ≡ waiting s hand
+            held_same = ap (λ (l : List Made). l ++ hand) (accepted_held s event actor req (Some doc) (requests.Poke nav action))
+
             same : untold (waiting reached hand) (desk_of reached home) ≡ untold (waiting s hand) (desk_of s home)
             same =
                 ap (λ (desk : Desk). untold (waiting reached hand) desk) own_then
@@ -246,12 +261,17 @@ module _ (home : ProcId) (run : Option ReqId) (hand : List Made) (s : Seen) (eve
           asked = record { each = tab.asked.each; only = tab.asked.only; runs = tab.asked.runs; kept = tab.asked.kept; died = died_on s took_up home (desk_taken true dirty) refl (λ desk. refl) refl refl tab.asked.died };
           desks = desks_on home s took_up (desk_taken true dirty) refl (λ desk. refl) (record { orders = subst (λ (l : List Job). Each (IsOrderTo s.documents s.places) l) (sym same_orders) tab.desks.own.orders; told = tab.desks.own.told; pokes = tab.desks.own.pokes }) tab.desks;
           makes = λ doc. ap (makes_at doc) own_taken ∙ ap (λ (l : List Job). makes_sent doc l + makes_told doc (desk_of s home).reports) same_orders;
+          unmade = same_unmade (waiting s hand) (waiting took_up hand) (desk_of s home) (desk_of took_up home) same;
+          waits = subst (λ (l : List Made). Each (IsMadeThere s.documents) l) (sym held_same) tab.waits;
           ascends = same_ascends (waiting s hand) (waiting took_up hand) (desk_of s home) (desk_of took_up home) same;
           continues = λ nav place doc given there wakes. same_continues (waiting s hand) (waiting took_up hand) (desk_of s home) (desk_of took_up home) same doc given place.epoch;
           moved = λ nav none. none;
         })
         tab
       where
+        held_same : waiting took_up hand ≡ waiting s hand
+        held_same = refl
+
         same : untold (waiting took_up hand) (desk_of took_up home) ≡ untold (waiting s hand) (desk_of s home)
         same = ap (λ (desk : Desk). untold (waiting s hand) desk) own_taken
 
@@ -322,11 +342,16 @@ module _ (home : ProcId) (hand : List Made) (s : Seen) (event : ℕ) (actor : Ac
             };
         desks = desks_same home s started_ refl (same_made s.documents started_.documents refl) (same_placed s.places started_.places refl) tab.desks;
         makes = λ doc. refl;
+        unmade = same_unmade (waiting s hand) (waiting started_ hand) (desk_of s home) (desk_of started_ home) same;
+        waits = subst (λ (l : List Made). Each (IsMadeThere s.documents) l) (sym held_same) tab.waits;
         ascends = same_ascends (waiting s hand) (waiting started_ hand) (desk_of s home) (desk_of started_ home) same;
         continues = λ nav place doc given there_ wakes. same_continues (waiting s hand) (waiting started_ hand) (desk_of s home) (desk_of started_ home) same doc given place.epoch;
         moved = λ nav none. none_moved s.requests nav tab.asked.only;
       })
       tab
     where
+      held_same : waiting started_ hand ≡ waiting s hand
+      held_same = ap (λ (l : List Made). l ++ hand) (started_held s event actor req (Some goal))
+
       same : untold (waiting started_ hand) (desk_of started_ home) ≡ untold (waiting s hand) (desk_of s home)
       same = ap (λ (l : List Made). untold (l ++ hand) (desk_of s home)) (started_held s event actor req (Some goal))

@@ -17,6 +17,7 @@ use Rattle.coord_facts.proofs.Held.{held_alike}
 use Rattle.hang_facts.specs.Members.{Has}
 use Rattle.log_model.proofs.Refl.{nat_eq_refl}
 use Rattle.plain_tab.specs.Flow.{Ascend, Continues, IsOver, entry_after, number_after}
+use Rattle.plain_tab.specs.Sole.{Each}
 use Rattle.plain_tab.proofs.Eaches.{ascend_less}
 
 abbrev front : Option Made → List Made → List Made
@@ -63,6 +64,28 @@ module _ (P : Made → Type 0) where
       ascends_skip doc to xs ys more from (ascends_gone doc x xs from to is)
   ascends_skip doc to (x ∷ xs) ys (inr (zs, same, more)) from is =
       subst (λ (l : List Made). Ascend from (its doc l) to) (sym same) (ascends_kept doc x xs zs to (ascends_skip doc to xs zs more) from is)
+
+  none_of : (doc : DocId) (x : Made) (xs : List Made) → its doc (x ∷ xs) ≡ [] → ((x.doc.0 == doc.0) ≡ false) × (its doc xs ≡ [])
+  none_of doc x xs is = by_test (x.doc.0 == doc.0) refl is
+    where
+      by_test : (b : Bool) → (x.doc.0 == doc.0) ≡ b → (let l : List Made = cond b (x ∷ its doc xs) (its doc xs) in l) ≡ [] → ((x.doc.0 == doc.0) ≡ false) × (its doc xs ≡ [])
+      by_test true h e = absurd cc
+      by_test false h e = (h, e)
+
+  -- where there is none of the document, there is none
+  pub none_skip : (doc : DocId) (xs ys : List Made) → Skips P xs ys → its doc xs ≡ [] → its doc ys ≡ []
+  none_skip doc [] ys none is = ap (its doc) none
+  none_skip doc (x ∷ xs) ys (inl (gone, more)) is = none_skip doc xs ys more (none_of doc x xs is).1
+  none_skip doc (x ∷ xs) ys (inr (zs, same, more)) is =
+      let n : ((x.doc.0 == doc.0) ≡ false) × (its doc xs ≡ []) = none_of doc x xs is in
+      ap (its doc) same ∙ (let one : its doc (x ∷ zs) ≡ its doc zs = rw n.0 refl in one) ∙ none_skip doc xs zs more n.1
+
+  -- what holds of each of the first holds of each of the second
+  pub each_skip : (F : Made → Type 0) (xs ys : List Made) → Skips P xs ys → Each F xs → Each F ys
+  each_skip F [] ys none all = subst (λ (l : List Made). Each F l) (sym none) all
+  each_skip F (x ∷ xs) ys (inl (gone, more)) all = each_skip F xs ys more all.1
+  each_skip F (x ∷ xs) ys (inr (zs, same, more)) all =
+      subst (λ (l : List Made). Each F l) (sym same) (all.0, each_skip F xs zs more all.1)
 
 -- no new entry was made
 abbrev pub IsNoEntry : What → Type 0

@@ -131,6 +131,17 @@ waiting s hand = held_back s.requests s.parked ++ hand
 abbrev pub EachAscends : ProcId → Seen → List Made → Type 0
 EachAscends home s hand = EachThere (Ascends (waiting s hand) (desk_of s home)) s.documents
 
+-- a document that isn't made has made nothing
+abbrev pub HasMadeNothing : List Made → Desk → Document → Type 0
+HasMadeNothing held desk d = d.is_ready ≡ false → (d.last_applied ≡ 0) × (untaken held desk d.nr ≡ [])
+
+abbrev pub EachHasMadeNothing : ProcId → Seen → List Made → Type 0
+EachHasMadeNothing home s hand = EachThere (HasMadeNothing (waiting s hand) (desk_of s home)) s.documents
+
+-- what waits is of documents that are there
+abbrev pub EachWaits : Seen → List Made → Type 0
+EachWaits s hand = Each (IsMadeThere s.documents) (waiting s hand)
+
 -- of each awake navigable's document, each replace that is coming is of the entry before it, from the given one on
 abbrev pub EachContinues : ProcId → Seen → List Made → Type 0
 EachContinues home s hand =

@@ -9,7 +9,7 @@ use Rattle.frame_tab.specs.Alive.{AreThere}
 use Rattle.frame_tab.specs.Asking.{ArePlainlyAsked}
 use Rattle.frame_tab.specs.Numbers.{AreStated, IsNumbered, EachEntry}
 use Rattle.frame_tab.specs.Steady.{AreSteady, AreGiven}
-use Rattle.frame_tab.specs.Desks.{AreDesks, EachIsMadeOnce, EachAscends, EachContinues}
+use Rattle.frame_tab.specs.Desks.{AreDesks, EachIsMadeOnce, EachHasMadeNothing, EachWaits, EachAscends, EachContinues}
 
 -- with this traversal running, and this at hand of what documents made
 pub record IsFrameTab (home : ProcId) (run : Option ReqId) (hand : List Made) (s : Seen) : Type 0 where
@@ -20,6 +20,8 @@ pub record IsFrameTab (home : ProcId) (run : Option ReqId) (hand : List Made) (s
   pub entries : EachEntry (IsNumbered s.entries (length s.documents) s.documents) s.history.rows s.places s.requests
   pub desks : AreDesks home s
   pub made : EachIsMadeOnce home s
+  pub unmade : EachHasMadeNothing home s hand
+  pub waits : EachWaits s hand
   pub ascends : EachAscends home s hand
   pub continues : EachContinues home s hand
   pub given : AreGiven s
