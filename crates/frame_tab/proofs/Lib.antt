@@ -9,3 +9,5 @@ pub mod Leaving
 pub mod Skips
 pub mod Lefts
 pub mod Ends
+pub mod Told
+pub mod Arrived

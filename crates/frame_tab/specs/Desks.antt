@@ -85,13 +85,13 @@ pub record AreDesks (home : ProcId) (s : Seen) : Type 0 where
 
 -- ---- each document is made once
 
--- the order makes the document
+-- an order makes the document, where it is to that one
+abbrev pub makes_by : Bool → Task → ℕ
+makes_by true (tasks.Populate nav state address initial) = 1
+makes_by _ _ = 0
+
 abbrev pub makes_it : DocId → Job → ℕ
-makes_it doc job = by_task (job.doc.0 == doc.0) job.task
-  where
-    by_task : Bool → Task → ℕ
-    by_task true (tasks.Populate nav state address initial) = 1
-    by_task _ _ = 0
+makes_it doc job = makes_by (job.doc.0 == doc.0) job.task
 
 -- how many of the orders make the document, and of how many such the reports tell
 abbrev pub makes_sent : DocId → List Job → ℕ
