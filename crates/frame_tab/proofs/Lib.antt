@@ -11,3 +11,4 @@ pub mod Lefts
 pub mod Ends
 pub mod Told
 pub mod Arrived
+pub mod Finishings
