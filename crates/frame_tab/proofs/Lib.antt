@@ -12,3 +12,4 @@ pub mod Ends
 pub mod Told
 pub mod Arrived
 pub mod Finishings
+pub mod Acting

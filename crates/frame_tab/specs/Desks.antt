@@ -14,7 +14,7 @@ use Rattle.log_model.specs.declared.made.What.TheVariants as whats
 use Rattle.log_model.specs.declared.made.Report.{Report}
 use Rattle.log_model.specs.declared.made.Report.TheVariants as reports
 use Rattle.log_model.specs.declared.request.Poke.{Poke}
-use Rattle.log_model.specs.Views.{View}
+use Rattle.log_model.specs.Views.{View, next_entry}
 use Rattle.log_model.specs.AfterRequests.{made_of_report}
 use Rattle.log_model.specs.Seen.{Seen, Document, Desk, Place, awake, desk_of, document_of, place_in, place_of}
 use Rattle.coord_facts.specs.Leading.{orders_of_desk, coming, held_back}
@@ -49,6 +49,13 @@ IsItsOwn doc (whats.Push entry memo address) = entry.maker ≡ doc.0
 IsItsOwn doc (whats.Replace over entry memo address) = entry.maker ≡ doc.0
 IsItsOwn doc whats.Edit = ⊥
 IsItsOwn doc _ = Unit {0}
+
+-- a document whose view is this makes it: no edit, and a new entry with the next number, in the place of the one it shows where it replaces
+abbrev pub IsMadeNew : View → What → Type 0
+IsMadeNew view (whats.Push entry memo address) = entry ≡ next_entry view
+IsMadeNew view (whats.Replace over entry memo address) = (over ≡ view.entry) × (entry ≡ next_entry view)
+IsMadeNew view whats.Edit = ⊥
+IsMadeNew view _ = Unit {0}
 
 -- something was made by a document that is there
 pub record IsMadeThere (documents : List Document) (made : Made) : Type 0 where
