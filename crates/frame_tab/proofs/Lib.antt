@@ -13,3 +13,5 @@ pub mod Told
 pub mod Arrived
 pub mod Finishings
 pub mod Acting
+pub mod Mailing
+pub mod Tellings
