@@ -83,7 +83,7 @@ continues_again home s t hand hand_ were on each nav place doc given there wakes
     subst (λ (n : Epoch). Continues given (coming (waiting t hand_) (desk_of t home) doc n)) w.epoch
     (on nav w.before doc given w.there (w.status ∙ wakes) (each nav w.before doc given w.there (w.status ∙ wakes) (w.given ∙ is)))
 
-target_alike : (rows : List Row) (step : ℕ) (a b : Place) → a.nav ≡ b.nav → a.given ≡ b.given → is_given_target rows step a ≡ is_given_target rows step b
+pub target_alike : (rows : List Row) (step : ℕ) (a b : Place) → a.nav ≡ b.nav → a.given ≡ b.given → is_given_target rows step a ≡ is_given_target rows step b
 target_alike rows step a b nav given = rw (nav, given) refl
 
 pub given_again : (s t : Seen) → AllWereShown s t → t.history ≡ s.history → ((nav : NavId) → is_moved_in t.requests nav ≡ false → is_moved_in s.requests nav ≡ false) → AreGiven s → AreGiven t

@@ -15,3 +15,5 @@ pub mod Finishings
 pub mod Acting
 pub mod Mailing
 pub mod Tellings
+pub mod Showing
+pub mod Populatings
