@@ -17,3 +17,4 @@ pub mod Mailing
 pub mod Tellings
 pub mod Showing
 pub mod Populatings
+pub mod Takings
