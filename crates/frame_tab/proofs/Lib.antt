@@ -18,3 +18,4 @@ pub mod Tellings
 pub mod Showing
 pub mod Populatings
 pub mod Takings
+pub mod Traversing

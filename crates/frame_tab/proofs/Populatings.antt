@@ -167,22 +167,23 @@ module _ (home : ProcId) (run : Option ReqId) (hand : List Made) (s : Seen) (eve
   making_there : (doc : DocId) (d : Document) → document_of making doc ≡ Some d → IsThere home (length making.documents) making.places d
   making_there doc d found = by_case (either doc d found)
     where
-      here : (x : Document) → IsAlive home x → HasPlace s.places x.nav → x.nr.0 ≤ length s.documents + 1 → IsThere home (length making.documents) making.places x
-      here x alive placed number =
+      here : (x : Document) → IsAlive home x → HasPlace s.places x.nav → x.nr.0 ≤ length s.documents + 1 → 1 ≤ x.nr.0 → IsThere home (length making.documents) making.places x
+      here x alive placed number real =
           record {
             alive = alive;
             placed = subst (λ (l : List Place). HasPlace l x.nav) (sym making_places) placed;
             number = subst (λ (l : List Document). x.nr.0 ≤ length l) (sym making_documents) (subst (λ (n : ℕ). x.nr.0 ≤ n) (sym longer) number);
+            real = real;
           }
 
       by_case : (document_of s doc ≡ Some d) ⊎ ((new.nr.0 == doc.0) ≡ true) × (new ≡ d) → IsThere home (length making.documents) making.places d
       by_case (inl old) =
           let is : IsThere home (length s.documents) s.places d = tab.documents doc d old in
           let low : d.nr.0 ≤ length s.documents = is.number in
-          here d is.alive is.placed (omega (arith, low))
+          here d is.alive is.placed (omega (arith, low)) is.real
       by_case (inr one) =
           let next_ : job.doc.0 ≡ length s.documents + 1 = make.next in
-          subst (λ (x : Document). IsThere home (length making.documents) making.places x) one.1 (here new new_alive make.placed (omega (arith, next_)))
+          subst (λ (x : Document). IsThere home (length making.documents) making.places x) one.1 (here new new_alive make.placed (omega (arith, next_)) (omega (arith, next_)))
 
   made_on : AllStayMade s.documents (s.documents ++ new ∷ [])
   made_on doc d found = let x = all_more s.documents new doc d found in record { new = x.new; found = x.found; nav = x.keeps.nav; ready = x.keeps.ready }

@@ -34,6 +34,7 @@ there_again home s t were longer keep are doc d found =
       number =
           (let same : d.nr.0 ≡ w.before.nr.0 = ap (λ (n : DocId). n.0) w.nr in
           let low : w.before.nr.0 ≤ length s.documents = is.number in omega (arith, same, low, longer));
+      real = subst (λ (n : DocId). 1 ≤ n.0) (sym w.nr) is.real;
     }
 
 -- each document is changed, but for its number and navigable, and stays alive

@@ -24,11 +24,12 @@ pub record HasPlace (places : List Place) (nav : NavId) : Type 0 where
   pub place : Place
   pub found : place_in places nav ≡ Some place
 
--- so it is of a document of a navigable that has a place, with a number up to how many there are
+-- so it is of a document of a navigable that has a place, with a number from 1 up to how many there are
 pub record IsThere (home : ProcId) (count : ℕ) (places : List Place) (d : Document) : Type 0 where
   pub alive : IsAlive home d
   pub placed : HasPlace places d.nav
   pub number : d.nr.0 ≤ count
+  pub real : 1 ≤ d.nr.0
 
 -- a fact of each document
 abbrev pub EachThere : (Document → Type 0) → List Document → Type 0
