@@ -19,3 +19,4 @@ pub mod Showing
 pub mod Populatings
 pub mod Takings
 pub mod Traversing
+pub mod Openings
