@@ -20,3 +20,4 @@ pub mod Populatings
 pub mod Takings
 pub mod Traversing
 pub mod Openings
+pub mod Stating
