@@ -21,3 +21,4 @@ pub mod Takings
 pub mod Traversing
 pub mod Openings
 pub mod Stating
+pub mod Changing

@@ -107,6 +107,7 @@ module _ (event : ℕ) (actor : Actor) (entry : EntryId) (state : StateId) (doc 
         unpending = refl;
         met = refl;
         shown = λ n e. omega arith;
+        gave = λ n e. refl;
         unshown = λ never has. absurd cc;
         taken = λ never. absurd cc;
         moved = λ n e never. absurd (omega (arith, never));

@@ -200,6 +200,7 @@ module _ (home : ProcId) (run : Option ReqId) (hand : List Made) (s : Seen) (eve
         unpending = refl;
         met = ap (λ (b : Bool). b && not d.is_fresh) is.met;
         shown = λ doc e. (let more : place.epoch.0 < epoch.0 = show.greater in omega (arith, more));
+        gave = λ doc e. refl;
         unshown = λ never has. absurd cc;
         taken = λ none. asked_by_stays s.requests shown.requests p.taken_by stay (is.taken none);
         moved = λ doc e high.

@@ -1,6 +1,6 @@
 -- The navigables of a tab of frames stay steady: what changes of places leave it.
 use Rattle.std.proofs.Common.{◌≡◌, ◌≢◌, ℕ, ◌≤◌, Bool, true, false, cond, ◌==◌, List, map, Option, Some, None, refl, sym, ap, ◌∙◌, subst}
-use Rattle.std.specs.Prelude.{option_map}
+use Rattle.std.specs.Prelude.{is_some, option_map}
 use Rattle.std.proofs.lemmas.Bool.{eqb-true}
 use Rattle.tab_ids.specs.declared.DocId.{DocId}
 use Rattle.tab_ids.specs.declared.EntryId.{EntryId}
@@ -63,6 +63,7 @@ steady_alike s t before place stay rows same is =
       unpending = ap (λ (x : Stance). x.is_pending) same ∙ is.unpending;
       met = ap (λ (x : Stance). x.is_unmet) same ∙ is.met;
       shown = λ doc e. subst (λ (n : Epoch). 1 ≤ n.0) (sym epoch) (is.shown doc (sym status ∙ e));
+      gave = λ doc e. ap (λ (x : Stance). is_some x.given) same ∙ is.gave doc (sym status ∙ e);
       unshown = λ e has.
           let u : IsUnshownYet before = is.unshown (sym status ∙ e) (sym rows ∙ sym has_same ∙ has) in
           record {

@@ -200,6 +200,7 @@ module _ (home : ProcId) (run : Option ReqId) (hand : List Made) (s : Seen) (eve
               unpending = is.unpending;
               met = is.met;
               shown = λ doc never. absurd cc;
+              gave = λ doc never. absurd cc;
               unshown = λ sleeping has. (let never : true ≡ false = sym has ∙ bare p.nav e in absurd cc);
               taken = λ none. asked_by_stays s.requests after_sent.requests p.taken_by (sent_stay home run hand s event actor tab job to) (is.taken none);
               moved = λ doc never high. absurd cc;

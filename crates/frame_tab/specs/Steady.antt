@@ -1,6 +1,6 @@
 -- Where the navigables of a tab of frames stand: none is lost or reloaded, each with an entry is awake but a new one, and a traversal alone shows one again.
 -- HTML Standard, "Applying the history step"; epochs, and asleep and lost navigables, are this project's own.
-use Rattle.std.specs.Prelude.{◌≡◌, ◌≢◌, ℕ, ◌≤◌, true, false, List, Option, Some, None}
+use Rattle.std.specs.Prelude.{◌≡◌, ◌≢◌, ℕ, ◌≤◌, true, false, List, Option, Some, None, is_some}
 use Rattle.tab_ids.specs.declared.DocId.{DocId}
 use Rattle.tab_ids.specs.declared.NavId.{NavId}
 use Rattle.tab_ids.specs.declared.ReqId.{ReqId}
@@ -28,6 +28,7 @@ pub record IsSteady (s : Seen) (place : Place) : Type 0 where
   pub unpending : place.is_pending ≡ false
   pub met : place.is_unmet ≡ false
   pub shown : (doc : DocId) → place.status ≡ awake doc → 1 ≤ place.epoch.0
+  pub gave : (doc : DocId) → place.status ≡ awake doc → is_some place.given ≡ true
   pub unshown : place.status ≡ asleep → has_row place.nav s.history.rows ≡ true → IsUnshownYet place
   pub taken : has_row place.nav s.history.rows ≡ false → IsAskedBy s.requests place.taken_by
   pub moved : (doc : DocId) → place.status ≡ awake doc → 2 ≤ place.epoch.0 → IsMover s place
