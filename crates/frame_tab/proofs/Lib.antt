@@ -22,3 +22,4 @@ pub mod Traversing
 pub mod Openings
 pub mod Stating
 pub mod Changing
+pub mod Applying
