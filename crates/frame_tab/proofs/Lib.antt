@@ -23,3 +23,4 @@ pub mod Openings
 pub mod Stating
 pub mod Changing
 pub mod Applying
+pub mod Pushings
