@@ -1,6 +1,6 @@
 -- All that holds in a tab of frames holds after a document makes something of its first poke.
-use Rattle.std.proofs.Common.{◌≡◌, inl, inr, ℕ, ◌+◌, ◌≤◌, ◌<◌, Bool, true, false, cond, ◌&&◌, ◌==◌, List, [], ◌∷◌, ◌++◌, drop, map, fold, Option, Some, None, refl, sym, ap, ◌∙◌, subst, arith, append-nil}
-use Rattle.std.specs.Prelude.{filter, filter_map, option_map, slice_get}
+use Rattle.std.proofs.Common.{◌≡◌, ℕ, ◌+◌, Bool, true, false, cond, ◌&&◌, ◌==◌, List, [], ◌∷◌, ◌++◌, map, fold, Option, Some, refl, sym, ap, ◌∙◌, subst, arith, append-nil}
+use Rattle.std.specs.Prelude.{filter, filter_map, option_map}
 use Rattle.std.proofs.lemmas.Bool.{eqb-true}
 use Rattle.std.proofs.lemmas.Bool.Decides.{nat_tests}
 use Rattle.std.proofs.lemmas.List.Elements.{filter-append, filter_map-append}
@@ -21,16 +21,13 @@ use Rattle.log_model.specs.declared.row_kind.RowKind.TheVariants as rows
 use Rattle.log_model.specs.After.{follows_finished, on_desk, desk_made, reports_made}
 use Rattle.log_model.specs.AfterRequests.{made_of_report, on_request}
 use Rattle.log_model.specs.Equal.{has_req}
-use Rattle.log_model.specs.Places.{is_moved_in}
-use Rattle.log_model.specs.Seen.{Seen, Document, Desk, Asked, Place, awake, desk_of, document_of, place_of, request_in}
-use Rattle.log_model.specs.Views.{View, next_entry, made_for, after_made}
+use Rattle.log_model.specs.Seen.{Seen, Document, Desk, Asked, Place, awake, desk_of, document_of, place_of}
+use Rattle.log_model.specs.Views.{View, made_for, after_made}
 use Rattle.seen_laws.specs.Acting.{IsToAct}
-use Rattle.coord_facts.specs.Leading.{orders_of_desk, held_back, is_made_under, coming}
+use Rattle.coord_facts.specs.Leading.{orders_of_desk, is_made_under, coming}
 use Rattle.coord_facts.proofs.Held.{held_apart}
 use Rattle.coord_facts.proofs.Unread.{next}
-use Rattle.home_facts.specs.Homes.{document_in}
 use Rattle.rest_facts.proofs.Again.{its_number}
-use Rattle.request_facts.proofs.Readers.{SameReads}
 use Rattle.plain_tab.specs.Calm.{EachAsked, is_run, is_this}
 use Rattle.plain_tab.specs.Flow.{Ascend, Continues, IsNext, IsOver, number_after, entry_after}
 use Rattle.plain_tab.specs.Sole.{Each}
@@ -38,9 +35,8 @@ use Rattle.plain_tab.proofs.Courses.{runs_again}
 use Rattle.plain_tab.proofs.Eaches.{each_on, each_more, each_less, ascend_more, continues_more}
 use Rattle.plain_tab.proofs.Soles.{died_on}
 use Rattle.frame_tab.specs.Alive.{IsAlive}
-use Rattle.frame_tab.specs.Asking.{IsPlainlyAsked, ArePlainlyAsked}
-use Rattle.frame_tab.specs.Desks.{makes_told, makes_sent, IsItsOwn, IsMadeNew, IsMadeThere, IsReportTo, IsPokeThere, IsHomeDesk, AreDesks, waiting, untaken, Ascends}
-use Rattle.frame_tab.specs.Steady.{IsAskedBy}
+use Rattle.frame_tab.specs.Asking.{ArePlainlyAsked}
+use Rattle.frame_tab.specs.Desks.{makes_told, makes_sent, IsItsOwn, IsMadeNew, IsMadeThere, IsReportTo, IsPokeThere, waiting, untaken, Ascends}
 use Rattle.frame_tab.specs.Whole.{IsFrameTab}
 use Rattle.frame_tab.proofs.Goings.{AllStayAsked, all_read, asked_by_stays, begun_of}
 use Rattle.frame_tab.proofs.Theres.{keeps_on}
@@ -49,7 +45,7 @@ use Rattle.frame_tab.proofs.Desking.{AllStayMade, same_placed, home_again, made_
 use Rattle.frame_tab.proofs.Plainly.{plainness, plain_again, made_reads}
 use Rattle.frame_tab.proofs.Running.{moved_same}
 use Rattle.frame_tab.proofs.Going.{goes_tab, same_givens, same_tooks}
-use Rattle.frame_tab.proofs.Leaving.{makes_at, untold, made_again, unmade_again, once_alike, ascends_again, same_shown, continues_again, given_again}
+use Rattle.frame_tab.proofs.Leaving.{makes_at, untold, made_again, unmade_again, once_alike, ascends_again, same_shown, given_again}
 use Rattle.frame_tab.proofs.Arrived.{mapped_made}
 
 some_same : {A : Type 0} {a b : A} → (let o : Option A = Some a in o) ≡ Some b → a ≡ b

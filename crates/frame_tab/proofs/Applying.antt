@@ -1,7 +1,5 @@
 -- All that holds in a tab of frames holds after a push, a replace, or the removal of a frame that a document made is applied.
-use Rattle.std.proofs.Common.{◌≡◌, ◌≢◌, ◌⊎◌, inl, inr, ℕ, ◌+◌, ◌≤◌, ◌<◌, Bool, true, false, cond, not, ◌&&◌, ◌==◌, List, [], ◌∷◌, ◌++◌, length, map, Option, Some, None, refl, sym, ap, ◌∙◌, subst, arith}
-use Rattle.std.specs.Prelude.{filter, option_and_then, if◌then◌else◌}
-use Rattle.std.specs.Option.{option_map_or}
+use Rattle.std.proofs.Common.{◌≡◌, ◌⊎◌, inl, inr, ℕ, ◌≤◌, Bool, true, false, ◌==◌, List, ◌∷◌, length, map, Option, Some, refl, sym, ap, ◌∙◌, subst, arith}
 use Rattle.std.proofs.lemmas.Bool.{eqb-true}
 use Rattle.std.proofs.lemmas.Bool.Decides.{nat_tests}
 use Rattle.std.proofs.lemmas.List.{length-map}
@@ -10,9 +8,7 @@ use Rattle.tab_ids.specs.declared.EntryId.{EntryId}
 use Rattle.tab_ids.specs.declared.NavId.{NavId}
 use Rattle.tab_ids.specs.declared.ProcId.{ProcId}
 use Rattle.tab_ids.specs.declared.ReqId.{ReqId}
-use Rattle.tab_ids.specs.declared.StateId.{StateId}
 use Rattle.log_model.specs.declared.change.Change.{Change}
-use Rattle.log_model.specs.declared.change.Change.TheVariants as changes
 use Rattle.log_model.specs.declared.made.Made.{Made}
 use Rattle.log_model.specs.declared.made.What.{What}
 use Rattle.log_model.specs.declared.made.What.TheVariants as whats
@@ -31,16 +27,13 @@ use Rattle.hang_facts.specs.Forms.{forms_of}
 use Rattle.hang_facts.specs.Members.{Has}
 use Rattle.hang_facts.proofs.Frames.{IsNoFrame, applied_kept}
 use Rattle.hang_facts.proofs.Members.{Passing, any_has, has_any}
-use Rattle.hang_facts.proofs.Forms.{nav_is}
-use Rattle.home_facts.specs.Homes.{AreHomed, document_in}
-use Rattle.log_model.proofs.Refl.{nat_eq_refl}
+use Rattle.home_facts.specs.Homes.{AreHomed}
 use Rattle.rest_facts.proofs.Again.{WasOf, was_of, its_number}
 use Rattle.plain_tab.specs.Calm.{is_this}
 use Rattle.plain_tab.specs.Flow.{number_after, IsNext}
 use Rattle.plain_tab.specs.Sole.{Each, IsUpTo}
 use Rattle.plain_tab.proofs.Courses.{runs_ended_other, runs_applied}
 use Rattle.plain_tab.proofs.Eaches.{after_next}
-use Rattle.frame_tab.specs.Alive.{HasPlace}
 use Rattle.frame_tab.specs.Desks.{IsItsOwn, IsMadeThere, waiting}
 use Rattle.frame_tab.specs.Numbers.{EachBegins, IsNumbered}
 use Rattle.frame_tab.specs.Whole.{IsFrameTab}
@@ -50,7 +43,7 @@ use Rattle.frame_tab.proofs.Plainly.{applied_reads}
 use Rattle.frame_tab.proofs.Running.{moved_same}
 use Rattle.frame_tab.proofs.Going.{IsKnownEntry, IsOfRow, entries_again}
 use Rattle.frame_tab.proofs.Leaving.{untold}
-use Rattle.frame_tab.proofs.Takings.{IsFirstOf, IsTakenOf, IsTaking, takes, taken_of, taken_is, taken_framed}
+use Rattle.frame_tab.proofs.Takings.{IsFirstOf, IsTakenOf, IsTaking, takes, taken_of, taken_framed}
 use Rattle.frame_tab.proofs.Traversing.{applied_tooks}
 use Rattle.frame_tab.proofs.Stating.{WasRow, stated_rows}
 use Rattle.frame_tab.proofs.Changing.{IsGiving, IsMadeHere, g, g_nav, were_taken, placed_on, steady_then, given_then}

@@ -1,5 +1,5 @@
 -- All that holds in a tab of frames holds after a report is delivered of an order that made or showed a document.
-use Rattle.std.proofs.Common.{◌≡◌, inl, inr, ℕ, ◌+◌, ◌≤◌, Bool, true, false, cond, ◌||◌, ◌==◌, List, [], ◌∷◌, ◌++◌, drop, map, Option, Some, None, refl, sym, ap, ◌∙◌, subst, arith}
+use Rattle.std.proofs.Common.{◌≡◌, inl, inr, ℕ, ◌+◌, ◌≤◌, Bool, true, false, cond, ◌==◌, List, [], drop, map, Option, Some, None, refl, sym, ap, ◌∙◌, subst, arith}
 use Rattle.std.specs.Prelude.{option_map}
 use Rattle.std.specs.Option.{option_map_or}
 use Rattle.std.specs.Prelude.{slice_get}
@@ -17,33 +17,28 @@ use Rattle.log_model.specs.declared.job.Task.TheVariants as tasks
 use Rattle.log_model.specs.declared.made.Made.{Made}
 use Rattle.log_model.specs.declared.made.Report.{Report}
 use Rattle.log_model.specs.declared.made.Report.TheVariants as reports
-use Rattle.log_model.specs.declared.outcome.Outcome.{Outcome}
 use Rattle.log_model.specs.declared.outcome.Outcome.TheVariants as outcomes
 use Rattle.log_model.specs.After.{desk_delivered}
-use Rattle.log_model.specs.AfterDocuments.{on_document, documents_delivered}
+use Rattle.log_model.specs.AfterDocuments.{documents_delivered}
 use Rattle.log_model.specs.AfterPlaces.{on_place, place_arrived, places_delivered}
 use Rattle.log_model.specs.Places.{is_moved_in}
-use Rattle.log_model.specs.Seen.{Seen, Document, Desk, Asked, Place, awake, desk_of, document_of, place_of, request_in}
+use Rattle.log_model.specs.Seen.{Seen, Document, Asked, Place, desk_of, document_of, place_of, request_in}
 use Rattle.hang_facts.specs.Forms.{forms_of}
 use Rattle.hang_facts.specs.Members.{Has}
-use Rattle.hang_facts.proofs.Frames.{on_place_kept, delivered_kept}
-use Rattle.home_facts.specs.Homes.{document_in}
-use Rattle.log_model.proofs.Refl.{nat_eq_refl}
-use Rattle.plain_tab.specs.Flow.{Ascend, Continues}
+use Rattle.hang_facts.proofs.Frames.{delivered_kept}
 use Rattle.plain_tab.specs.Sole.{Each}
 use Rattle.plain_tab.proofs.Eaches.{each_on}
 use Rattle.seen_laws.proofs.Keyed.{find_map}
 use Rattle.coord_facts.specs.Leading.{orders_of_desk}
-use Rattle.rest_facts.proofs.Again.{its_number}
 use Rattle.frame_tab.specs.Alive.{IsAlive}
-use Rattle.frame_tab.specs.Desks.{makes_by, makes_it, Ascends, makes_sent, makes_told, makes_due, IsMadeOnce, IsMadeThere, IsHomeDesk, AreDesks, waiting, untaken}
+use Rattle.frame_tab.specs.Desks.{makes_by, makes_it, Ascends, makes_sent, makes_told, makes_due, IsMadeOnce, IsMadeThere, IsHomeDesk, waiting, untaken}
 use Rattle.frame_tab.specs.Whole.{IsFrameTab}
 use Rattle.frame_tab.proofs.Goings.{all_same}
-use Rattle.frame_tab.proofs.Theres.{KeepsAlive, keeps_on}
+use Rattle.frame_tab.proofs.Theres.{keeps_on}
 use Rattle.frame_tab.proofs.Steadies.{steady_mapped, steady_left, one_steady, steady_alike, WasPlace, was_place}
-use Rattle.frame_tab.proofs.Desking.{StaysMade, AllStayMade, StaysPlaced, AllStayPlaced, same_made, same_placed, home_again, made_there_again, desks_on}
-use Rattle.frame_tab.proofs.Going.{KeepsNumbers, Goes, goes_tab, same_givens, same_tooks, IsKnownEntry}
-use Rattle.frame_tab.proofs.Leaving.{makes_at, untold, made_again, unmade_again, once_alike, ascends_again, WasShown, AllWereShown, same_shown, continues_again, given_again, same_ascends, same_continues, same_unmade}
+use Rattle.frame_tab.proofs.Desking.{AllStayMade, AllStayPlaced, same_made, same_placed, home_again, made_there_again, desks_on}
+use Rattle.frame_tab.proofs.Going.{goes_tab, same_givens, same_tooks, IsKnownEntry}
+use Rattle.frame_tab.proofs.Leaving.{makes_at, untold, made_again, unmade_again, once_alike, ascends_again, AllWereShown, same_shown, continues_again, given_again, same_ascends, same_continues, same_unmade}
 use Rattle.frame_tab.proofs.Told.{makes_less, first_of, nothing_more, own_delivered, delivered_desk, done_of, done_requests, done_asked, done_same, done_waiting}
 
 -- documents that are mapped stay made, and places that are mapped stay

@@ -1,47 +1,32 @@
 -- All that holds in a tab of frames holds after what a document made is applied: a push, a replace, or a frame removed.
-use Rattle.std.proofs.Common.{◌≡◌, ◌≢◌, ◌⊎◌, inl, inr, ℕ, ◌+◌, ◌≤◌, ◌<◌, Bool, true, false, cond, not, ◌&&◌, ◌==◌, List, [], ◌∷◌, ◌++◌, length, map, Option, Some, None, refl, sym, ap, ◌∙◌, subst, arith}
-use Rattle.std.specs.Prelude.{is_some, option_map, if◌then◌else◌}
+use Rattle.std.proofs.Common.{◌≡◌, ℕ, ◌≤◌, Bool, true, false, cond, not, ◌&&◌, ◌==◌, List, map, Option, Some, None, refl, sym, ap, ◌∙◌, subst, arith}
+use Rattle.std.specs.Prelude.{is_some, if◌then◌else◌}
 use Rattle.std.proofs.lemmas.Bool.{eqb-true}
-use Rattle.std.proofs.lemmas.Bool.Decides.{nat_tests}
-use Rattle.std.proofs.lemmas.List.{length-map}
 use Rattle.tab_ids.specs.declared.DocId.{DocId}
 use Rattle.tab_ids.specs.declared.EntryId.{EntryId}
 use Rattle.tab_ids.specs.declared.Epoch.{Epoch}
 use Rattle.tab_ids.specs.declared.NavId.{NavId}
-use Rattle.tab_ids.specs.declared.ProcId.{ProcId}
 use Rattle.tab_ids.specs.declared.ReqId.{ReqId}
 use Rattle.log_model.specs.declared.change.Change.{Change}
 use Rattle.log_model.specs.declared.made.Made.{Made}
 use Rattle.log_model.specs.declared.made.What.{What}
-use Rattle.log_model.specs.declared.made.What.TheVariants as whats
 use Rattle.log_model.specs.declared.row.Row.{Row}
 use Rattle.log_model.specs.declared.row_kind.Actor.{Actor}
 use Rattle.log_model.specs.declared.row_kind.RowKind.TheVariants as rows
 use Rattle.log_model.specs.Equal.{holds}
-use Rattle.log_model.specs.History.{History, same_entry, is_of, has_row, target_entry, applied}
+use Rattle.log_model.specs.History.{History, same_entry, has_row, target_entry, applied}
 use Rattle.log_model.specs.Places.{is_moved_in, is_given_target}
-use Rattle.log_model.specs.Seen.{Seen, Document, Asked, Place, Status, awake, asleep, lost, desk_of, document_of, place_of, request_in}
+use Rattle.log_model.specs.Seen.{Seen, Document, Asked, Place, awake, asleep, document_of, place_of, request_in}
 use Rattle.coord_facts.proofs.Unread.{next}
-use Rattle.hang_facts.specs.Forms.{forms_of}
-use Rattle.hang_facts.specs.Members.{Has}
-use Rattle.hang_facts.proofs.Frames.{IsNoFrame, applied_kept}
-use Rattle.hang_facts.proofs.Members.{Passing, any_has, has_any}
-use Rattle.home_facts.specs.Homes.{IsHomed, AreHomed, document_in}
+use Rattle.home_facts.specs.Homes.{IsHomed, AreHomed}
 use Rattle.home_facts.proofs.Changed.{taker}
 use Rattle.log_model.proofs.Refl.{nat_eq_refl}
-use Rattle.rest_facts.proofs.Again.{WasOf, was_of, its_number}
 use Rattle.seen_laws.proofs.Keyed.{find_has}
-use Rattle.plain_tab.specs.Calm.{EachAsked, is_run, is_this}
-use Rattle.plain_tab.specs.Flow.{number_after, entry_after, IsNext}
-use Rattle.plain_tab.specs.Sole.{IsUpTo}
-use Rattle.frame_tab.specs.Alive.{HasPlace}
-use Rattle.frame_tab.specs.Numbers.{IsOfItsRows, AreListed, AreStated, IsNumbered, EachEntry}
+use Rattle.plain_tab.specs.Flow.{entry_after}
 use Rattle.frame_tab.specs.Steady.{IsAskedBy, IsUnshownYet, IsSteady, AreSteady, AreGiven}
-use Rattle.frame_tab.specs.Whole.{IsFrameTab}
-use Rattle.frame_tab.proofs.Goings.{StaysAsked, asked_by_stays, mover_stays, place_stays, navs_stay}
+use Rattle.frame_tab.proofs.Goings.{StaysAsked, asked_by_stays, mover_stays}
 use Rattle.frame_tab.proofs.Steadies.{steady_mapped, WasPlace, was_place}
 use Rattle.frame_tab.proofs.Desking.{AllStayPlaced}
-use Rattle.frame_tab.proofs.Going.{IsKnownEntry, IsOfRow, entries_again}
 use Rattle.frame_tab.proofs.Arrived.{mapped_placed}
 use Rattle.frame_tab.proofs.Takings.{WasTaken, applied_stay}
 use Rattle.frame_tab.proofs.Leaving.{target_alike}

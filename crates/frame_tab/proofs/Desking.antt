@@ -1,6 +1,6 @@
 -- What the processes of a tab of frames have stays so: orders, reports and pokes, as documents and places change and lists grow and shrink.
-use Rattle.std.proofs.Common.{◌≡◌, ℕ, zero, suc, ◌+◌, ◌≤◌, Bool, true, false, cond, ◌==◌, List, [], ◌∷◌, ◌++◌, drop, map, Option, Some, None, refl, sym, ap, ◌∙◌, subst, arith}
-use Rattle.std.specs.Prelude.{option_map, slice_get}
+use Rattle.std.proofs.Common.{◌≡◌, ◌≤◌, Bool, true, false, ◌==◌, List, [], Some, None, refl, sym, ap, ◌∙◌, subst, arith}
+use Rattle.std.specs.Prelude.{slice_get}
 use Rattle.tab_ids.specs.declared.DocId.{DocId}
 use Rattle.tab_ids.specs.declared.NavId.{NavId}
 use Rattle.tab_ids.specs.declared.ProcId.{ProcId}
@@ -11,7 +11,6 @@ use Rattle.log_model.specs.declared.job.Task.TheVariants as tasks
 use Rattle.log_model.specs.declared.made.Made.{Made}
 use Rattle.log_model.specs.declared.made.Report.{Report}
 use Rattle.log_model.specs.declared.made.Report.TheVariants as reports
-use Rattle.log_model.specs.declared.outcome.Outcome.{Outcome}
 use Rattle.log_model.specs.declared.request.Poke.{Poke}
 use Rattle.log_model.specs.After.{on_desk}
 use Rattle.log_model.specs.Seen.{Seen, Document, Desk, Place, desk_in, desk_of, place_in}
@@ -19,8 +18,6 @@ use Rattle.coord_facts.specs.Leading.{orders_of_desk}
 use Rattle.coord_facts.proofs.Leadings.{proc_same}
 use Rattle.home_facts.specs.Homes.{document_in}
 use Rattle.seen_laws.proofs.Desks.{desk_on_same, desk_on_other}
-use Rattle.plain_tab.specs.Sole.{Each}
-use Rattle.plain_tab.specs.Flow.{HasNothing}
 use Rattle.plain_tab.proofs.Eaches.{each_on}
 use Rattle.frame_tab.specs.Desks.{IsTaskOf, IsOrderTo, IsMadeThere, IsReportTo, IsPokeThere, IsHomeDesk, IsBare, AreDesks}
 

@@ -1,8 +1,7 @@
 -- All that holds in a tab of frames holds after a request is refused or dropped that isn't the running traversal, and is no entry of a document that is shown.
-use Rattle.std.proofs.Common.{◌≡◌, ◌⊎◌, inl, inr, ℕ, ◌+◌, Bool, true, false, cond, not, ◌==◌, List, [], ◌∷◌, ◌++◌, map, Option, Some, None, refl, sym, ap, ◌∙◌, subst}
+use Rattle.std.proofs.Common.{◌≡◌, ℕ, Bool, true, false, cond, not, ◌==◌, List, [], ◌∷◌, ◌++◌, Option, Some, refl, sym, ap, ◌∙◌, subst}
 use Rattle.std.specs.Prelude.{drop, filter, filter_map}
 use Rattle.tab_ids.specs.declared.DocId.{DocId}
-use Rattle.tab_ids.specs.declared.EntryId.{EntryId}
 use Rattle.tab_ids.specs.declared.NavId.{NavId}
 use Rattle.tab_ids.specs.declared.ProcId.{ProcId}
 use Rattle.tab_ids.specs.declared.ReqId.{ReqId}
@@ -14,20 +13,19 @@ use Rattle.log_model.specs.declared.outcome.Ending.TheVariants as endings
 use Rattle.log_model.specs.declared.request.Poke.{Poke}
 use Rattle.log_model.specs.declared.row_kind.Actor.{Actor}
 use Rattle.log_model.specs.declared.row_kind.Actor.TheVariants as actors
-use Rattle.log_model.specs.declared.row_kind.RowKind.{RowKind}
 use Rattle.log_model.specs.declared.row_kind.RowKind.TheVariants as rows
 use Rattle.log_model.specs.Equal.{has_req}
-use Rattle.log_model.specs.After.{ended, on_desk, desk_dropped}
+use Rattle.log_model.specs.After.{ended, desk_dropped}
 use Rattle.log_model.specs.AfterRequests.{made_of_report, without_req}
 use Rattle.log_model.specs.Places.{is_moved_in}
-use Rattle.log_model.specs.Seen.{Seen, Desk, Asked, Place, awake, desk_of, place_of, request_in}
-use Rattle.coord_facts.specs.Leading.{held_back, is_made_under, coming}
+use Rattle.log_model.specs.Seen.{Seen, Desk, Asked, desk_of}
+use Rattle.coord_facts.specs.Leading.{held_back, coming}
 use Rattle.coord_facts.proofs.Held.{on_alike, made_of}
 use Rattle.coord_facts.proofs.Unread.{next, desk_mapped}
 use Rattle.hang_facts.specs.Members.{Has}
 use Rattle.request_facts.proofs.Readers.{SameReads}
 use Rattle.plain_tab.specs.Calm.{EachAsked, is_run, is_this}
-use Rattle.plain_tab.specs.Flow.{Ascend, Continues, HasNothing}
+use Rattle.plain_tab.specs.Flow.{Ascend, Continues}
 use Rattle.plain_tab.specs.Sole.{Each, NoneDied}
 use Rattle.plain_tab.proofs.Courses.{runs_ended_other}
 use Rattle.plain_tab.proofs.Eaches.{each_less}
@@ -41,7 +39,7 @@ use Rattle.frame_tab.proofs.Desking.{same_made, same_placed, desks_on, own_desk,
 use Rattle.frame_tab.proofs.Plainly.{plainness, plain_again, ended_reads}
 use Rattle.frame_tab.proofs.Running.{moved_same}
 use Rattle.frame_tab.proofs.Going.{same_tooks}
-use Rattle.frame_tab.proofs.Leaving.{makes_at, untold, Leaves, leaves_tab}
+use Rattle.frame_tab.proofs.Leaving.{makes_at, untold, leaves_tab}
 use Rattle.frame_tab.proofs.Skips.{Skips, skips_same, skips_append, ascends_skip, none_skip, each_skip, continues_skip, IsPassed, made_in, held_skips, without_made, hand_skips}
 
 each_filter : {A : Type 0} (F : A → Type 0) (p : A → Bool) (xs : List A) → Each F xs → Each F (filter p xs)

@@ -1,11 +1,10 @@
 -- All that holds in a tab of frames holds after a process finishes an order.
-use Rattle.std.proofs.Common.{◌≡◌, inl, inr, ℕ, ◌+◌, ◌≤◌, Bool, true, false, cond, ◌==◌, List, [], ◌∷◌, ◌++◌, map, Option, Some, None, refl, sym, ap, ◌∙◌, subst, arith, append-nil}
+use Rattle.std.proofs.Common.{◌≡◌, ℕ, ◌+◌, ◌≤◌, Bool, true, false, cond, ◌==◌, List, [], ◌∷◌, ◌++◌, map, Option, Some, None, refl, sym, ap, ◌∙◌, subst, arith, append-nil}
 use Rattle.std.specs.Prelude.{filter_map, option_map, option_to_list}
 use Rattle.std.proofs.lemmas.Bool.{eqb-true}
 use Rattle.std.proofs.lemmas.Bool.Decides.{nat_tests}
 use Rattle.std.proofs.lemmas.List.Elements.{filter_map-append}
 use Rattle.tab_ids.specs.declared.DocId.{DocId}
-use Rattle.tab_ids.specs.declared.NavId.{NavId}
 use Rattle.tab_ids.specs.declared.ProcId.{ProcId}
 use Rattle.tab_ids.specs.declared.ReqId.{ReqId}
 use Rattle.log_model.specs.declared.job.Job.{Job}
@@ -20,14 +19,13 @@ use Rattle.log_model.specs.declared.outcome.Outcome.TheVariants as outcomes
 use Rattle.log_model.specs.declared.row_kind.Actor.{Actor}
 use Rattle.log_model.specs.declared.row_kind.RowKind.TheVariants as rows
 use Rattle.log_model.specs.After.{desk_finished}
-use Rattle.log_model.specs.AfterDocuments.{task_in_hand, view_finished, documents_finished, slot_finished}
+use Rattle.log_model.specs.AfterDocuments.{task_in_hand, view_finished}
 use Rattle.log_model.specs.AfterRequests.{made_of_report, requests_finished}
 use Rattle.log_model.specs.Places.{is_moved_in}
 use Rattle.log_model.specs.Seen.{Seen, Document, Desk, Asked, Place, desk_of, document_of, request_in}
-use Rattle.log_model.specs.Views.{View, after_task, fresh_view}
+use Rattle.log_model.specs.Views.{View, after_task}
 use Rattle.coord_facts.specs.Leading.{orders_of_desk, held_back}
 use Rattle.coord_facts.proofs.Unread.{next}
-use Rattle.home_facts.specs.Homes.{document_in}
 use Rattle.rest_facts.proofs.Again.{its_number}
 use Rattle.transit_facts.specs.Orders.{IsOutcomeOf}
 use Rattle.plain_tab.specs.Calm.{EachAsked, is_run, is_this}
@@ -36,15 +34,14 @@ use Rattle.plain_tab.specs.Sole.{Each}
 use Rattle.plain_tab.proofs.Eaches.{each_on, each_more}
 use Rattle.plain_tab.proofs.Soles.{died_on}
 use Rattle.frame_tab.specs.Alive.{IsAlive}
-use Rattle.frame_tab.specs.Asking.{IsPlainlyAsked, ArePlainlyAsked}
-use Rattle.frame_tab.specs.Desks.{makes_by, makes_it, makes_sent, makes_told, makes_due, IsMadeOnce, IsTaskOf, IsOrderTo, IsMadeThere, IsReportTo, IsHomeDesk, AreDesks, waiting, untaken, Ascends}
+use Rattle.frame_tab.specs.Asking.{IsPlainlyAsked}
+use Rattle.frame_tab.specs.Desks.{makes_by, makes_it, makes_sent, makes_told, makes_due, IsTaskOf, IsOrderTo, IsMadeThere, IsReportTo, IsHomeDesk, waiting, untaken, Ascends}
 use Rattle.frame_tab.specs.Steady.{IsAskedBy}
 use Rattle.frame_tab.specs.Whole.{IsFrameTab}
 use Rattle.frame_tab.proofs.Goings.{all_same}
-use Rattle.frame_tab.proofs.Theres.{KeepsAlive}
 use Rattle.frame_tab.proofs.Steadies.{steady_left}
 use Rattle.frame_tab.proofs.Desking.{AllStayMade, same_placed, home_again, made_there_again, desks_on, own_desk}
-use Rattle.frame_tab.proofs.Going.{KeepsNumbers, goes_tab, same_givens, same_tooks}
+use Rattle.frame_tab.proofs.Going.{goes_tab, same_givens, same_tooks}
 use Rattle.frame_tab.proofs.Leaving.{makes_at, untold, made_again, unmade_again, once_alike, ascends_again, same_shown, continues_again, given_again, same_ascends, same_continues, same_unmade}
 use Rattle.frame_tab.proofs.Told.{IsFine, fine_of}
 use Rattle.frame_tab.proofs.Arrived.{mapped_made}

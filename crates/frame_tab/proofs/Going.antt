@@ -10,20 +10,18 @@ use Rattle.log_model.specs.declared.made.Made.{Made}
 use Rattle.log_model.specs.declared.row.Row.{Row}
 use Rattle.log_model.specs.History.{History}
 use Rattle.log_model.specs.Places.{top}
-use Rattle.log_model.specs.Seen.{Seen, Document, Asked, Place, document_of, place_in, place_of, request_in}
+use Rattle.log_model.specs.Seen.{Seen, Document, Asked, Place, place_in, place_of, request_in}
 use Rattle.std.specs.List.{list_any}
 use Rattle.std.proofs.lemmas.List.{length-map}
 use Rattle.hang_facts.specs.Forms.{forms_of}
 use Rattle.hang_facts.specs.Members.{Has}
-use Rattle.home_facts.specs.Homes.{document_in}
 use Rattle.plain_tab.specs.Sole.{IsUpTo}
 use Rattle.request_facts.proofs.Readers.{SameReads}
 use Rattle.rest_facts.proofs.Again.{WasOf, was_of}
 use Rattle.plain_tab.proofs.Courses.{was_asked}
-use Rattle.frame_tab.specs.Alive.{EachThere, AreThere}
 use Rattle.frame_tab.specs.Asking.{ArePlainlyAsked}
 use Rattle.frame_tab.specs.Desks.{AreDesks, EachIsMadeOnce, EachHasMadeNothing, EachWaits, EachAscends, EachContinues}
-use Rattle.frame_tab.specs.Numbers.{IsOfGivenState, IsOfItsRows, AreListed, AreStated, IsNumbered, EachEntry}
+use Rattle.frame_tab.specs.Numbers.{IsOfItsRows, AreStated, IsNumbered, EachEntry}
 use Rattle.frame_tab.specs.Steady.{AreSteady, AreGiven}
 use Rattle.frame_tab.specs.Whole.{IsFrameTab}
 use Rattle.frame_tab.proofs.Goings.{place_stays, navs_stay}

@@ -1,10 +1,9 @@
 -- What goes on from row to row: requests that are there stay, and navigables keep their places.
-use Rattle.std.proofs.Common.{◌≡◌, ℕ, ◌+◌, Bool, true, false, List, [], ◌∷◌, ◌++◌, length, map, Option, Some, None, refl, sym, ap, ◌∙◌, subst}
-use Rattle.std.specs.Prelude.{option_map}
+use Rattle.std.proofs.Common.{◌≡◌, ◌+◌, Bool, true, List, [], ◌∷◌, ◌++◌, length, map, Option, Some, refl, sym, ap, ◌∙◌}
 use Rattle.tab_ids.specs.declared.NavId.{NavId}
 use Rattle.tab_ids.specs.declared.ReqId.{ReqId}
 use Rattle.log_model.specs.declared.request.Request.{Request}
-use Rattle.log_model.specs.Seen.{Seen, Asked, Place, request_in, request_of, place_in}
+use Rattle.log_model.specs.Seen.{Seen, Asked, Place, request_in}
 use Rattle.log_model.specs.Places.{is_traversal}
 use Rattle.hang_facts.specs.Forms.{Form, form_of, forms_of, form_in}
 use Rattle.hang_facts.proofs.Forms.{form_there, place_there}

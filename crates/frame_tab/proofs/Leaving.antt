@@ -1,6 +1,6 @@
 -- What a row leaves of what documents made and of what navigables were given, and that all holds after a row that changes requests and one process alone.
-use Rattle.std.proofs.Common.{◌≡◌, ℕ, ◌+◌, ◌==◌, Bool, true, false, List, [], ◌++◌, map, Option, Some, None, refl, sym, ap, ◌∙◌, subst}
-use Rattle.std.specs.Prelude.{filter, filter_map, option_map}
+use Rattle.std.proofs.Common.{◌≡◌, ℕ, ◌+◌, ◌==◌, false, List, [], ◌++◌, map, Option, Some, refl, sym, ap, ◌∙◌, subst}
+use Rattle.std.specs.Prelude.{filter, filter_map}
 use Rattle.std.proofs.lemmas.List.{map-id}
 use Rattle.tab_ids.specs.declared.DocId.{DocId}
 use Rattle.tab_ids.specs.declared.EntryId.{EntryId}
@@ -8,30 +8,25 @@ use Rattle.tab_ids.specs.declared.Epoch.{Epoch}
 use Rattle.tab_ids.specs.declared.NavId.{NavId}
 use Rattle.tab_ids.specs.declared.ProcId.{ProcId}
 use Rattle.tab_ids.specs.declared.ReqId.{ReqId}
-use Rattle.tab_ids.specs.declared.StateId.{StateId}
 use Rattle.log_model.specs.declared.made.Made.{Made}
 use Rattle.log_model.specs.declared.row.Row.{Row}
-use Rattle.log_model.specs.Views.{View}
 use Rattle.log_model.specs.AfterRequests.{made_of_report}
 use Rattle.log_model.specs.History.{History, has_row}
 use Rattle.log_model.specs.Places.{is_moved_in, is_given_target}
-use Rattle.log_model.specs.Seen.{Seen, Document, Desk, Asked, Place, Status, awake, desk_of, document_of, place_in, place_of, request_in}
+use Rattle.log_model.specs.Seen.{Seen, Document, Desk, Asked, Place, awake, desk_of, document_of, place_in, place_of, request_in}
 use Rattle.coord_facts.specs.Leading.{orders_of_desk, is_made_under, coming}
 use Rattle.hang_facts.specs.Forms.{forms_of}
 use Rattle.hang_facts.specs.Members.{Has}
-use Rattle.home_facts.specs.Homes.{document_in}
 use Rattle.rest_facts.proofs.Again.{WasOf, was_of}
 use Rattle.plain_tab.specs.Flow.{Ascend, Continues}
 use Rattle.plain_tab.specs.Sole.{Each}
-use Rattle.frame_tab.specs.Alive.{EachThere, IsAlive}
 use Rattle.frame_tab.specs.Asking.{ArePlainlyAsked}
 use Rattle.frame_tab.specs.Desks.{makes_sent, makes_told, makes_due, IsMadeOnce, IsMadeThere, AreDesks, EachIsMadeOnce, HasMadeNothing, EachHasMadeNothing, untaken, Ascends, waiting, EachAscends, EachContinues}
-use Rattle.frame_tab.specs.Steady.{AreSteady, AreGiven}
+use Rattle.frame_tab.specs.Steady.{AreGiven}
 use Rattle.frame_tab.specs.Whole.{IsFrameTab}
 use Rattle.frame_tab.proofs.Goings.{AllStayAsked}
 use Rattle.frame_tab.proofs.Steadies.{steady_left}
-use Rattle.frame_tab.proofs.Theres.{KeepsAlive}
-use Rattle.frame_tab.proofs.Going.{IsKnownEntry, KeepsNumbers, Goes, same_givens, goes_tab}
+use Rattle.frame_tab.proofs.Going.{IsKnownEntry, Goes, same_givens, goes_tab}
 
 -- how often the desk has an order that makes the document, or a report of one
 abbrev pub makes_at : DocId → Desk → ℕ

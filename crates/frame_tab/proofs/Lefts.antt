@@ -1,7 +1,7 @@
 -- All that holds in a tab of frames holds after a request is accepted, after a traversal begins, and after an order is taken up.
 use Rattle.std.specs.Prelude.{if◌then◌else◌}
-use Rattle.std.proofs.Common.{◌≡◌, inl, inr, ℤ, ℕ, ◌+◌, Bool, true, false, ◌==◌, List, [], ◌∷◌, ◌++◌, length, Option, Some, None, refl, sym, ap, ◌∙◌, subst, arith}
-use Rattle.std.specs.Prelude.{filter_map, option_map, slice_get}
+use Rattle.std.proofs.Common.{◌≡◌, inr, ℤ, ℕ, ◌+◌, Bool, true, false, ◌==◌, List, [], ◌∷◌, ◌++◌, length, Option, Some, None, refl, sym, ap, ◌∙◌, subst, arith}
+use Rattle.std.specs.Prelude.{option_map, slice_get}
 use Rattle.std.specs.Option.{option_map_or}
 use Rattle.std.proofs.lemmas.Bool.Decides.{nat_tests}
 use Rattle.tab_ids.specs.declared.DocId.{DocId}
@@ -24,13 +24,13 @@ use Rattle.coord_facts.proofs.Held.{on_else}
 use Rattle.log_model.specs.After.{new_request, on_desk, desk_taken}
 use Rattle.log_model.specs.AfterRequests.{on_request, request_begun}
 use Rattle.log_model.specs.Places.{is_load, is_traversal, is_moved_in}
-use Rattle.log_model.specs.Seen.{Seen, Document, Desk, Asked, desk_in, desk_of, document_of, request_in}
+use Rattle.log_model.specs.Seen.{Seen, Document, Desk, Asked, desk_of, document_of, request_in}
 use Rattle.coord_facts.specs.Leading.{orders_of_desk}
 use Rattle.coord_facts.proofs.OneDocument.{orders_taken}
 use Rattle.coord_facts.proofs.Unread.{next, accepted_held, started_held}
 use Rattle.hang_facts.specs.Members.{Has}
 use Rattle.request_facts.proofs.LookUps.{on_itself, others_before, one_more}
-use Rattle.request_facts.proofs.Readers.{SameReads, reads_then, on_read}
+use Rattle.request_facts.proofs.Readers.{reads_then, on_read}
 use Rattle.plain_tab.specs.Calm.{EachAsked, is_run, is_this}
 use Rattle.plain_tab.specs.Sole.{Each, NoneDied}
 use Rattle.plain_tab.proofs.Courses.{runs_more, runs_begun}
@@ -38,16 +38,15 @@ use Rattle.plain_tab.proofs.Eaches.{each_more}
 use Rattle.plain_tab.proofs.Soles.{died_on}
 use Rattle.plain_tab.proofs.TabRows.{old_apart, still_there}
 use Rattle.frame_tab.specs.Asking.{IsFrameRequest, IsNoEditing, IsPlainlyAsked, ArePlainlyAsked}
-use Rattle.frame_tab.specs.Alive.{IsThere}
-use Rattle.frame_tab.specs.Desks.{IsOrderTo, IsReportTo, IsPokeThere, IsMadeThere, IsHomeDesk, AreDesks, waiting, makes_sent, makes_told}
+use Rattle.frame_tab.specs.Desks.{IsOrderTo, IsPokeThere, IsMadeThere, waiting, makes_sent, makes_told}
 use Rattle.frame_tab.specs.Steady.{IsAskedBy}
 use Rattle.frame_tab.specs.Whole.{IsFrameTab}
 use Rattle.frame_tab.proofs.Goings.{StaysAsked, AllStayAsked, all_same, all_more, asked_by_stays}
 use Rattle.frame_tab.proofs.Desking.{same_made, same_placed, desks_on, own_desk, desks_same}
 use Rattle.frame_tab.proofs.Plainly.{plain_more, plain_begun}
-use Rattle.frame_tab.proofs.Running.{none_moved, moved_is, moved_same, run_in}
+use Rattle.frame_tab.proofs.Running.{none_moved, moved_is, run_in}
 use Rattle.frame_tab.proofs.Going.{IsKnownEntry, same_tooks}
-use Rattle.frame_tab.proofs.Leaving.{makes_at, untold, Leaves, leaves_tab, same_ascends, same_continues, same_unmade}
+use Rattle.frame_tab.proofs.Leaving.{makes_at, untold, leaves_tab, same_ascends, same_continues, same_unmade}
 
 -- ---- a request is accepted
 

@@ -24,3 +24,4 @@ pub mod Stating
 pub mod Changing
 pub mod Applying
 pub mod Pushings
+pub mod Adding

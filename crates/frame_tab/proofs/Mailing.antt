@@ -1,6 +1,6 @@
 -- What an order that is sent leaves of requests, and adds to the process of all documents.
-use Rattle.std.proofs.Common.{◌≡◌, ◌⊎◌, inl, inr, ℕ, ◌+◌, Bool, true, false, ◌||◌, ◌==◌, List, [], ◌∷◌, ◌++◌, Option, Some, None, refl, sym, ap, ◌∙◌, subst, arith}
-use Rattle.std.specs.Prelude.{filter_map, option_map, option_and_then, option_to_list}
+use Rattle.std.proofs.Common.{◌≡◌, ◌⊎◌, inl, inr, ℕ, ◌+◌, Bool, true, false, ◌==◌, List, [], ◌∷◌, ◌++◌, Option, Some, None, refl, sym, ap, ◌∙◌, subst, arith}
+use Rattle.std.specs.Prelude.{option_map, option_to_list}
 use Rattle.std.proofs.lemmas.Bool.Decides.{nat_tests}
 use Rattle.tab_ids.specs.declared.DocId.{DocId}
 use Rattle.tab_ids.specs.declared.NavId.{NavId}
@@ -16,21 +16,21 @@ use Rattle.log_model.specs.declared.row_kind.RowKind.TheVariants as rows
 use Rattle.log_model.specs.Equal.{holds}
 use Rattle.log_model.specs.History.{has_nav}
 use Rattle.log_model.specs.After.{on_desk}
-use Rattle.log_model.specs.AfterRequests.{on_request, on_served, requests_sent}
+use Rattle.log_model.specs.AfterRequests.{on_request, on_served}
 use Rattle.log_model.specs.Places.{is_moved_in}
 use Rattle.log_model.specs.Seen.{Seen, Desk, Asked, desk_of, request_in}
-use Rattle.coord_facts.specs.Leading.{orders_of_desk, held_back}
+use Rattle.coord_facts.specs.Leading.{orders_of_desk}
 use Rattle.coord_facts.proofs.Held.{held_alike, made_of, on_else}
 use Rattle.coord_facts.proofs.OneDocument.{mailed}
 use Rattle.coord_facts.proofs.Unread.{next}
 use Rattle.request_facts.proofs.LookUps.{on_itself}
-use Rattle.request_facts.proofs.Readers.{SameReads, IsBlind, sent_reads}
+use Rattle.request_facts.proofs.Readers.{SameReads, sent_reads}
 use Rattle.plain_tab.specs.Calm.{EachAsked, is_run, is_this}
 use Rattle.plain_tab.specs.Sole.{NoneDied}
 use Rattle.plain_tab.proofs.Courses.{runs_again}
 use Rattle.plain_tab.proofs.Soles.{died_on}
 use Rattle.frame_tab.specs.Asking.{IsPlainlyAsked, ArePlainlyAsked}
-use Rattle.frame_tab.specs.Desks.{makes_it, makes_sent, makes_told, waiting}
+use Rattle.frame_tab.specs.Desks.{makes_it, makes_sent, waiting}
 use Rattle.frame_tab.specs.Whole.{IsFrameTab}
 use Rattle.frame_tab.proofs.Goings.{AllStayAsked, all_read, asked_by_stays, begun_of}
 use Rattle.frame_tab.proofs.Desking.{own_desk}

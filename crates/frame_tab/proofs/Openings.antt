@@ -1,5 +1,5 @@
 -- A tab that was just opened, at any address, is a tab of frames.
-use Rattle.std.proofs.Common.{◌≡◌, ◌≢◌, inl, inr, ℕ, ◌+◌, ◌-◌, ◌≤◌, Bool, true, false, cond, ◌==◌, List, [], ◌∷◌, length, map, Option, Some, None, refl, sym, ap, ◌∙◌, subst, arith}
+use Rattle.std.proofs.Common.{◌≡◌, inl, inr, ℕ, ◌-◌, ◌≤◌, Bool, true, false, cond, ◌==◌, List, [], ◌∷◌, Option, Some, None, refl, sym, ap, ◌∙◌, subst, arith}
 use Rattle.std.specs.Prelude.{slice_get}
 use Rattle.tab_ids.specs.declared.DocId.{DocId}
 use Rattle.tab_ids.specs.declared.EntryId.{EntryId}
@@ -7,28 +7,24 @@ use Rattle.tab_ids.specs.declared.NavId.{NavId}
 use Rattle.tab_ids.specs.declared.ProcId.{ProcId}
 use Rattle.tab_ids.specs.declared.ReqId.{ReqId}
 use Rattle.tab_ids.specs.declared.StateId.{StateId}
-use Rattle.log_model.specs.declared.made.Made.{Made}
 use Rattle.log_model.specs.declared.row.Row.{Row}
 use Rattle.log_model.specs.declared.row_kind.Actor.{Actor}
 use Rattle.log_model.specs.declared.row_kind.RowKind.TheVariants as rows
-use Rattle.log_model.specs.History.{same_entry, has_row}
 use Rattle.log_model.specs.AfterDocuments.{opening_document}
 use Rattle.log_model.specs.AfterPlaces.{opening_place}
 use Rattle.log_model.specs.Places.{top, is_given_target}
-use Rattle.log_model.specs.Seen.{Seen, Document, Desk, Asked, Place, awake, asleep, lost, nothing, empty_desk, desk_of, document_of, place_of, request_in}
-use Rattle.log_model.specs.Views.{View, opening_view}
+use Rattle.log_model.specs.Seen.{Seen, Document, Desk, Asked, Place, nothing, empty_desk, desk_of, document_of, place_of, request_in}
+use Rattle.log_model.specs.Views.{View}
 use Rattle.log_model.proofs.Refl.{nat_eq_refl}
 use Rattle.coord_facts.proofs.Unread.{next}
-use Rattle.hang_facts.specs.Hanging.{BeginsBy}
 use Rattle.hang_facts.specs.Members.{Has}
-use Rattle.home_facts.specs.Homes.{document_in}
 use Rattle.coord_facts.specs.Leading.{coming}
 use Rattle.plain_tab.specs.Flow.{Ascend, Continues}
 use Rattle.plain_tab.specs.Sole.{IsUpTo}
 use Rattle.frame_tab.specs.Alive.{IsAlive, IsThere}
-use Rattle.frame_tab.specs.Asking.{ArePlainlyAsked, NoneHeld}
-use Rattle.frame_tab.specs.Desks.{IsMadeOnce, IsHomeDesk, IsBare, AreDesks, HasMadeNothing, untaken, Ascends}
-use Rattle.frame_tab.specs.Numbers.{IsOfGivenState, IsOfItsRows, AreStated, IsNumbered, EachEntry}
+use Rattle.frame_tab.specs.Asking.{NoneHeld}
+use Rattle.frame_tab.specs.Desks.{IsMadeOnce, IsHomeDesk, IsBare, HasMadeNothing, untaken, Ascends}
+use Rattle.frame_tab.specs.Numbers.{IsOfItsRows, IsNumbered}
 use Rattle.frame_tab.specs.Steady.{IsSteady}
 use Rattle.frame_tab.specs.Whole.{IsFrameTab}
 

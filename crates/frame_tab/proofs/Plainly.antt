@@ -1,6 +1,6 @@
 -- The requests of a tab of frames stay plain from row to row.
-use Rattle.std.proofs.Common.{◌≡◌, ℕ, ◌+◌, Bool, true, false, List, [], ◌∷◌, ◌++◌, length, Option, Some, None, refl, sym, ap, ◌∙◌, subst}
-use Rattle.std.specs.Prelude.{is_some, slice_get}
+use Rattle.std.proofs.Common.{◌≡◌, ◌+◌, Bool, true, false, List, [], ◌∷◌, ◌++◌, length, Option, Some, refl, sym, ap, ◌∙◌, subst}
+use Rattle.std.specs.Prelude.{is_some}
 use Rattle.tab_ids.specs.declared.DocId.{DocId}
 use Rattle.tab_ids.specs.declared.EntryId.{EntryId}
 use Rattle.tab_ids.specs.declared.NavId.{NavId}
@@ -18,11 +18,10 @@ use Rattle.log_model.specs.Seen.{Seen, Asked, Asking, request_in}
 use Rattle.log_model.specs.After.{new_request, ended}
 use Rattle.log_model.specs.AfterRequests.{on_request, on_served, request_begun}
 use Rattle.request_facts.proofs.Readers.{SameReads, reads_then, on_read}
-use Rattle.plain_tab.specs.Calm.{EachAsked, is_run, is_this}
+use Rattle.plain_tab.specs.Calm.{EachAsked}
 use Rattle.plain_tab.proofs.Calms.{each_asked_on, each_asked_more}
 use Rattle.plain_tab.proofs.Courses.{was_asked}
 use Rattle.frame_tab.specs.Asking.{IsFrameRequest, IsPlainlyAsked}
-
 
 -- ---- what is read of a request here
 

@@ -1,6 +1,6 @@
 -- All that holds in a tab of frames holds after an order is sent that makes a document.
-use Rattle.std.proofs.Common.{◌≡◌, ◌≢◌, ◌⊎◌, inl, inr, ℕ, ◌+◌, ◌≤◌, ◌<◌, Bool, true, false, cond, ◌==◌, List, [], ◌∷◌, ◌++◌, length, Option, Some, None, refl, sym, ap, ◌∙◌, subst, arith}
-use Rattle.std.specs.Prelude.{filter, filter_map, find, map, slice_get}
+use Rattle.std.proofs.Common.{◌≡◌, ◌⊎◌, inl, inr, ℕ, ◌+◌, ◌≤◌, ◌<◌, Bool, true, false, cond, ◌==◌, List, [], ◌∷◌, ◌++◌, length, Option, Some, None, refl, sym, ap, ◌∙◌, subst, arith}
+use Rattle.std.specs.Prelude.{filter, filter_map, map, slice_get}
 use Rattle.std.proofs.lemmas.Bool.{eqb-true}
 use Rattle.std.proofs.lemmas.Bool.Decides.{nat_tests}
 use Rattle.std.proofs.lemmas.List.{length-append}
@@ -23,28 +23,26 @@ use Rattle.log_model.specs.AfterDocuments.{new_document, documents_sent}
 use Rattle.log_model.specs.AfterPlaces.{places_sent, kept_sent}
 use Rattle.log_model.specs.AfterRequests.{made_of_report, requests_sent}
 use Rattle.log_model.specs.Places.{is_moved_in}
-use Rattle.log_model.specs.Seen.{Seen, Document, Desk, Asked, Place, desk_of, document_of, request_in}
+use Rattle.log_model.specs.Seen.{Seen, Document, Asked, Place, desk_of, document_of}
 use Rattle.coord_facts.specs.Leading.{orders_of_desk}
 use Rattle.coord_facts.proofs.OneDocument.{mailed}
 use Rattle.hang_facts.specs.Members.{Has}
-use Rattle.hang_facts.proofs.Members.{find_has}
 use Rattle.home_facts.specs.Homes.{document_in}
 use Rattle.home_facts.proofs.Again.{all_more}
 use Rattle.rest_facts.proofs.Again.{its_number}
 use Rattle.plain_tab.specs.Calm.{EachAsked}
-use Rattle.plain_tab.specs.Flow.{Ascend}
 use Rattle.plain_tab.specs.Sole.{Each, IsUpTo}
 use Rattle.plain_tab.proofs.Eaches.{each_on}
 use Rattle.frame_tab.specs.Alive.{IsAlive, HasPlace, IsThere}
 use Rattle.frame_tab.specs.Asking.{IsPlainlyAsked}
-use Rattle.frame_tab.specs.Desks.{makes_by, makes_it, makes_sent, makes_told, makes_due, IsMadeOnce, IsTaskOf, IsOrderTo, IsMadeThere, IsReportTo, IsHomeDesk, waiting, untaken, Ascends, HasMadeNothing}
-use Rattle.frame_tab.specs.Numbers.{IsOfItsRows, AreStated, IsNumbered, EachEntry}
+use Rattle.frame_tab.specs.Desks.{makes_by, makes_it, makes_sent, makes_told, IsMadeOnce, IsTaskOf, IsOrderTo, IsMadeThere, IsReportTo, IsHomeDesk, waiting, untaken, Ascends, HasMadeNothing}
+use Rattle.frame_tab.specs.Numbers.{IsOfItsRows, IsNumbered}
 use Rattle.frame_tab.specs.Whole.{IsFrameTab}
 use Rattle.frame_tab.proofs.Steadies.{steady_left}
-use Rattle.frame_tab.proofs.Desking.{AllStayMade, StaysMade, same_placed, home_again, made_there_again, desks_on}
+use Rattle.frame_tab.proofs.Desking.{AllStayMade, same_placed, home_again, made_there_again, desks_on}
 use Rattle.frame_tab.proofs.Going.{entries_again, same_givens, same_tooks}
 use Rattle.frame_tab.proofs.Leaving.{makes_at, untold, same_shown, continues_again, given_again, same_ascends, same_continues, same_unmade}
-use Rattle.frame_tab.proofs.Mailing.{sent, sent_desks, own_sent, sent_stay, sent_took, sent_asked, sent_waiting, sent_same, sent_makes}
+use Rattle.frame_tab.proofs.Mailing.{sent, sent_desks, sent_stay, sent_took, sent_asked, sent_waiting, sent_same, sent_makes}
 use Rattle.frame_tab.proofs.Tellings.{mailed_desk, no_makes}
 
 -- the last of a list, or one before

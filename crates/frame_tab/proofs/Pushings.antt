@@ -1,6 +1,6 @@
 -- A push, a replace and the removal of a frame, of what a document made: each leaves all that holds in a tab of frames, where the targets of other navigables stay.
-use Rattle.std.proofs.Common.{◌≡◌, ◌⊎◌, inl, inr, ℕ, ◌+◌, ◌≤◌, Bool, true, false, cond, not, ◌&&◌, ◌==◌, List, [], ◌∷◌, ◌++◌, map, Option, Some, None, refl, sym, ap, ◌∙◌, subst, arith}
-use Rattle.std.specs.Prelude.{filter, nat_le, option_and_then, if◌then◌else◌}
+use Rattle.std.proofs.Common.{◌≡◌, ◌⊎◌, inl, inr, ℕ, ◌+◌, ◌≤◌, Bool, true, false, cond, not, ◌&&◌, ◌==◌, List, [], ◌∷◌, map, Option, Some, None, refl, sym, ap, ◌∙◌, subst, arith}
+use Rattle.std.specs.Prelude.{filter, option_and_then, if◌then◌else◌}
 use Rattle.std.specs.Option.{option_map_or}
 use Rattle.std.proofs.lemmas.Bool.Decides.{nat_tests}
 use Rattle.tab_ids.specs.declared.EntryId.{EntryId}
@@ -16,10 +16,10 @@ use Rattle.log_model.specs.declared.made.What.TheVariants as whats
 use Rattle.log_model.specs.declared.row.Row.{Row}
 use Rattle.log_model.specs.declared.row_kind.Actor.{Actor}
 use Rattle.log_model.specs.declared.row_kind.RowKind.TheVariants as rows
-use Rattle.log_model.specs.History.{History, same_entry, is_of, has_row, fits, owner_of, cleared, tidied, replaced_row, target_entry, applied}
+use Rattle.log_model.specs.History.{History, same_entry, is_of, has_row, fits, owner_of, cleared, replaced_row, target_entry, applied}
 use Rattle.log_model.specs.AfterPlaces.{on_place, given_entry, places_given, with_taker}
 use Rattle.log_model.specs.Places.{is_given_target}
-use Rattle.log_model.specs.Seen.{Seen, Document, Asked, Place, request_in, request_of}
+use Rattle.log_model.specs.Seen.{Seen, Document, Asked, Place, request_in}
 use Rattle.log_model.specs.Soundness.{IsSound}
 use Rattle.coord_facts.proofs.Unread.{next}
 use Rattle.hang_facts.specs.Forms.{forms_of}
@@ -31,12 +31,11 @@ use Rattle.home_facts.proofs.Changed.{taker}
 use Rattle.rest_facts.proofs.Again.{its_number}
 use Rattle.plain_tab.specs.Flow.{entry_after}
 use Rattle.frame_tab.specs.Desks.{IsItsOwn}
-use Rattle.frame_tab.specs.Numbers.{EachBegins}
 use Rattle.frame_tab.specs.Whole.{IsFrameTab}
 use Rattle.frame_tab.proofs.Going.{IsOfRow}
-use Rattle.frame_tab.proofs.Stating.{WasRow, cleared_begins, removed_begins, more_begins, mapped_begins, puts_nav, puts_step, puts_owner, was_cleared, pushed_were, replaced_were, removed_were}
-use Rattle.frame_tab.proofs.Changing.{IsGiving, g}
-use Rattle.frame_tab.proofs.Applying.{IsTheEntry, IsToTake, IsChangedWell, changed_framed}
+use Rattle.frame_tab.proofs.Stating.{cleared_begins, removed_begins, more_begins, mapped_begins, puts_nav, puts_step, puts_owner, was_cleared, pushed_were, replaced_were, removed_were}
+use Rattle.frame_tab.proofs.Changing.{IsGiving}
+use Rattle.frame_tab.proofs.Applying.{IsTheEntry, IsToTake, changed_framed}
 
 map_both : (f h : Place → Place) (xs : List Place) → map h (map f xs) ≡ map (λ (x : Place). h (f x)) xs
 map_both f h [] = refl

@@ -1,5 +1,5 @@
 -- All that holds in a tab of frames holds after an order is sent that shows a navigable its document.
-use Rattle.std.proofs.Common.{◌≡◌, ◌≢◌, ◌⊎◌, inl, inr, ℕ, ◌+◌, ◌≤◌, ◌<◌, Bool, true, false, cond, ◌||◌, ◌==◌, List, [], ◌∷◌, ◌++◌, map, Option, Some, None, refl, sym, ap, ◌∙◌, subst, arith}
+use Rattle.std.proofs.Common.{◌≡◌, ◌⊎◌, inl, inr, ℕ, ◌≤◌, ◌<◌, Bool, true, false, cond, ◌||◌, ◌==◌, List, [], ◌∷◌, map, Option, Some, None, refl, sym, ap, ◌∙◌, subst, arith}
 use Rattle.std.specs.Prelude.{not, ◌&&◌, filter, option_map, option_and_then}
 use Rattle.std.specs.Option.{option_map_or}
 use Rattle.std.proofs.lemmas.Bool.{eqb-true}
@@ -16,40 +16,37 @@ use Rattle.log_model.specs.declared.job.Task.TheVariants as tasks
 use Rattle.log_model.specs.declared.job.Why.{Why}
 use Rattle.log_model.specs.declared.job.Why.TheVariants as whys
 use Rattle.log_model.specs.declared.made.Made.{Made}
-use Rattle.log_model.specs.declared.row.Row.{Row}
 use Rattle.log_model.specs.declared.row_kind.Actor.{Actor}
 use Rattle.log_model.specs.History.{has_nav, has_row}
 use Rattle.log_model.specs.AfterDocuments.{addressed, documents_sent}
 use Rattle.log_model.specs.AfterPlaces.{on_place, put_to_sleep, given_entry, activated, sleepers_below, places_sent, kept_sent, kept_leaving, without_doc}
 use Rattle.log_model.specs.AfterRequests.{on_served, request_served, requests_sent, with_moved, with_activated}
 use Rattle.log_model.specs.Places.{is_traversal, is_moved_in, is_given_target}
-use Rattle.log_model.specs.Seen.{Seen, Document, Desk, Asked, Place, Status, awake, asleep, lost, desk_of, document_of, place_in, place_of, request_in}
-use Rattle.coord_facts.specs.Leading.{orders_of_desk, coming, is_made_under}
+use Rattle.log_model.specs.Seen.{Seen, Document, Asked, Place, awake, desk_of, document_of, place_in, place_of, request_in}
+use Rattle.coord_facts.specs.Leading.{coming, is_made_under}
 use Rattle.coord_facts.proofs.OneDocument.{mailed}
 use Rattle.hang_facts.specs.Members.{Has}
 use Rattle.hang_facts.proofs.Frames.{sent_kept}
 use Rattle.log_model.proofs.Refl.{nat_eq_refl}
-use Rattle.home_facts.specs.Homes.{document_in}
 use Rattle.seen_laws.proofs.Keyed.{find_has, find_map}
-use Rattle.plain_tab.specs.Between.{IsMover}
 use Rattle.plain_tab.specs.Calm.{EachAsked}
 use Rattle.plain_tab.specs.Flow.{Continues}
 use Rattle.plain_tab.specs.Sole.{Each}
 use Rattle.plain_tab.proofs.Eaches.{each_on}
-use Rattle.frame_tab.specs.Alive.{IsAlive, HasPlace}
+use Rattle.frame_tab.specs.Alive.{IsAlive}
 use Rattle.frame_tab.specs.Asking.{IsPlainlyAsked}
-use Rattle.frame_tab.specs.Desks.{makes_by, makes_it, IsTaskOf, IsOrderTo, IsMadeThere, IsHomeDesk, AreDesks, waiting, untaken, Ascends}
-use Rattle.frame_tab.specs.Steady.{IsAskedBy, IsSteady}
+use Rattle.frame_tab.specs.Desks.{makes_by, makes_it, IsTaskOf, IsOrderTo, IsMadeThere, IsHomeDesk, waiting, untaken, Ascends}
+use Rattle.frame_tab.specs.Steady.{IsSteady}
 use Rattle.frame_tab.specs.Whole.{IsFrameTab}
 use Rattle.frame_tab.proofs.Goings.{StaysAsked, AllStayAsked, asked_by_stays}
 use Rattle.frame_tab.proofs.Theres.{keeps_on}
 use Rattle.frame_tab.proofs.Steadies.{steady_mapped, one_steady, WasPlace, was_place}
-use Rattle.frame_tab.proofs.Desking.{AllStayMade, AllStayPlaced, StaysMade, StaysPlaced, same_placed, home_again, made_there_again, desks_on}
+use Rattle.frame_tab.proofs.Desking.{AllStayMade, AllStayPlaced, StaysMade, same_placed, home_again, made_there_again, desks_on}
 use Rattle.frame_tab.proofs.Plainly.{plainness, plain_moved}
 use Rattle.frame_tab.proofs.Going.{IsKnownEntry, goes_tab, same_tooks}
-use Rattle.frame_tab.proofs.Leaving.{makes_at, untold, made_again, unmade_again, once_alike, ascends_again, WasShown, given_again, same_ascends, same_continues, same_unmade, target_alike}
-use Rattle.frame_tab.proofs.Arrived.{mapped_made, mapped_placed}
-use Rattle.frame_tab.proofs.Mailing.{served_then, moved_less, sent, sent_desks, own_sent, sent_stay, sent_took, sent_only, sent_asked, sent_waiting, sent_same, sent_makes}
+use Rattle.frame_tab.proofs.Leaving.{makes_at, untold, made_again, unmade_again, once_alike, ascends_again, same_ascends, same_continues, same_unmade, target_alike}
+use Rattle.frame_tab.proofs.Arrived.{mapped_made}
+use Rattle.frame_tab.proofs.Mailing.{served_then, moved_less, sent, sent_desks, sent_stay, sent_took, sent_only, sent_asked, sent_waiting, sent_same, sent_makes}
 use Rattle.frame_tab.proofs.Tellings.{mailed_desk, no_makes}
 
 -- a traversal that has begun
@@ -246,10 +243,10 @@ module _ (home : ProcId) (run : Option ReqId) (hand : List Made) (s : Seen) (eve
           let same_doc : job.doc ≡ doc = cc in
           let under : epoch ≡ p.epoch = ap (λ (y : Place). y.epoch) e in
           let nothing_ : coming (waiting shown hand) (desk_of shown home) doc p.epoch ≡ [] =
-              sym (ap (λ (n : DocId). coming (waiting shown hand) (desk_of shown home) n p.epoch) same_doc)
-              ∙ sym (ap (λ (n : Epoch). coming (waiting shown hand) (desk_of shown home) job.doc n) under)
-              ∙ ap (λ (l : List Made). filter (is_made_under job.doc epoch) l) same
-              ∙ show.fresh
+          sym (ap (λ (n : DocId). coming (waiting shown hand) (desk_of shown home) n p.epoch) same_doc)
+          ∙ sym (ap (λ (n : Epoch). coming (waiting shown hand) (desk_of shown home) job.doc n) under)
+          ∙ ap (λ (l : List Made). filter (is_made_under job.doc epoch) l) same
+          ∙ show.fresh
           in
           subst (λ (l : List Made). Continues given l) (sym nothing_) tt
       by_test x at_ false e =

@@ -1,30 +1,24 @@
 -- The document states of a tab of frames stay as they are where each row of a changed history is of a navigable and document state that had a row.
-use Rattle.std.proofs.Common.{◌≡◌, ◌≢◌, ◌⊎◌, inl, inr, ℕ, ◌+◌, ◌≤◌, Bool, true, false, cond, not, ◌&&◌, ◌==◌, List, [], ◌∷◌, ◌++◌, length, map, Option, Some, None, refl, sym, ap, ◌∙◌, subst, arith}
+use Rattle.std.proofs.Common.{◌≡◌, ◌⊎◌, inl, inr, ℕ, ◌≤◌, Bool, true, false, cond, not, ◌&&◌, ◌==◌, List, [], ◌∷◌, ◌++◌, map, Option, refl, sym, ap, ◌∙◌, subst, arith}
 use Rattle.std.specs.Prelude.{filter, nat_le}
 use Rattle.std.specs.List.{list_any}
 use Rattle.std.specs.Option.{option_map_or}
 use Rattle.std.proofs.lemmas.Bool.Decides.{nat_tests}
-use Rattle.std.proofs.lemmas.List.{length-map}
-use Rattle.tab_ids.specs.declared.DocId.{DocId}
 use Rattle.tab_ids.specs.declared.EntryId.{EntryId}
 use Rattle.tab_ids.specs.declared.NavId.{NavId}
-use Rattle.tab_ids.specs.declared.ReqId.{ReqId}
 use Rattle.tab_ids.specs.declared.StateId.{StateId}
 use Rattle.log_model.specs.declared.row.Row.{Row}
-use Rattle.log_model.specs.History.{History, same_entry, is_of, has_row, has_state, owner_of, is_anchored, tidied, cleared, replaced_row}
-use Rattle.log_model.specs.Places.{top}
-use Rattle.log_model.specs.Seen.{Seen, Document, Place, document_of}
+use Rattle.log_model.specs.History.{History, same_entry, is_of, has_row, has_state, is_anchored, tidied, cleared, replaced_row}
+use Rattle.log_model.specs.Seen.{Seen, Document}
 use Rattle.log_model.specs.Soundness.{IsSound, IsRooted}
-use Rattle.hang_facts.specs.Forms.{Form, forms_of}
+use Rattle.hang_facts.specs.Forms.{Form}
 use Rattle.hang_facts.specs.Hanging.{BeginsBy, HangIn}
 use Rattle.hang_facts.specs.Members.{Has}
 use Rattle.hang_facts.proofs.Forms.{nav_is}
-use Rattle.hang_facts.proofs.Members.{IsOf, Passing, has_filter, into_filter, has_map, into_map, has_more, into_more, into_last, any_has, has_tidied, into_tidied}
+use Rattle.hang_facts.proofs.Members.{IsOf, Passing, has_filter, into_filter, has_map, into_map, has_more, into_more, any_has, has_tidied, into_tidied}
 use Rattle.hang_facts.proofs.Parts.{owner_is}
-use Rattle.home_facts.specs.Homes.{document_in}
 use Rattle.rest_facts.proofs.Again.{WasOf, was_of}
-use Rattle.plain_tab.specs.Sole.{IsUpTo}
-use Rattle.frame_tab.specs.Numbers.{EachBegins, IsOfGivenState, IsOfItsRows, AreListed, AreStated, IsNumbered}
+use Rattle.frame_tab.specs.Numbers.{EachBegins, IsOfGivenState, IsOfItsRows, AreListed, AreStated}
 
 -- a row was there, of the navigable and in the document state
 pub record WasRow (rows : List Row) (row : Row) : Type 0 where

@@ -1,5 +1,5 @@
 -- The navigables of a tab of frames stay steady: what changes of places leave it.
-use Rattle.std.proofs.Common.{◌≡◌, ◌≢◌, ℕ, ◌≤◌, Bool, true, false, cond, ◌==◌, List, map, Option, Some, None, refl, sym, ap, ◌∙◌, subst}
+use Rattle.std.proofs.Common.{◌≡◌, ℕ, ◌≤◌, Bool, true, false, cond, ◌==◌, List, map, Option, Some, None, refl, sym, ap, ◌∙◌, subst}
 use Rattle.std.specs.Prelude.{is_some, option_map}
 use Rattle.std.proofs.lemmas.Bool.{eqb-true}
 use Rattle.tab_ids.specs.declared.DocId.{DocId}
@@ -10,8 +10,7 @@ use Rattle.tab_ids.specs.declared.ReqId.{ReqId}
 use Rattle.log_model.specs.declared.job.Why.{Why}
 use Rattle.log_model.specs.declared.row.Row.{Row}
 use Rattle.log_model.specs.History.{has_row}
-use Rattle.log_model.specs.Places.{top}
-use Rattle.log_model.specs.Seen.{Seen, Place, Status, awake, asleep, lost, place_in, place_of}
+use Rattle.log_model.specs.Seen.{Seen, Place, Status, place_in, place_of}
 use Rattle.seen_laws.proofs.Keyed.{find_map, find_has}
 use Rattle.frame_tab.specs.Steady.{IsAskedBy, IsUnshownYet, IsSteady, AreSteady}
 use Rattle.frame_tab.proofs.Goings.{AllStayAsked, asked_by_stays, mover_stays}
@@ -121,8 +120,8 @@ pub record KeepsSteady (s t : Seen) (g : Place → Place) : Type 0 where
 pub steady_mapped : (s t : Seen) (g : Place → Place) → KeepsSteady s t g → t.places ≡ map g s.places → AreSteady s → AreSteady t
 steady_mapped s t g keeps places are =
     steady_again s t (λ nav place found.
-        let w : WasPlace s g nav place = was_place s t g keeps.nav places nav place found in
-        record { nav = nav; before = w.before; there = w.there; steady = λ is. subst (λ (x : Place). IsSteady t x) w.is (keeps.steady nav w.before w.there is) }) are
+    let w : WasPlace s g nav place = was_place s t g keeps.nav places nav place found in
+    record { nav = nav; before = w.before; there = w.there; steady = λ is. subst (λ (x : Place). IsSteady t x) w.is (keeps.steady nav w.before w.there is) }) are
 
 -- the place of one navigable is changed
 pub one_steady : (s t : Seen) (at : NavId) (f : Place → Place) → ((p : Place) → (f p).nav ≡ p.nav) → AllStayAsked s.requests t.requests → ((nav : NavId) → has_row nav t.history.rows ≡ has_row nav s.history.rows) → ((p : Place) → place_of s at ≡ Some p → IsSteady s p → IsSteady t (f p)) → KeepsSteady s t (λ (p : Place). cond (p.nav.0 == at.0) (f p) p)

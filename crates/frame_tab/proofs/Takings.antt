@@ -1,6 +1,6 @@
 -- What a document made is applied: what holds in a tab of frames of documents, requests, processes and what is coming holds again.
-use Rattle.std.proofs.Common.{◌≡◌, ◌⊎◌, inl, inr, ℕ, ◌+◌, ◌≤◌, ◌<◌, Bool, true, false, cond, ◌&&◌, ◌==◌, List, [], ◌∷◌, ◌++◌, length, map, Option, Some, None, refl, sym, ap, ◌∙◌, subst, arith}
-use Rattle.std.specs.Prelude.{filter, filter_map, option_map, if◌then◌else◌}
+use Rattle.std.proofs.Common.{◌≡◌, ℕ, Bool, true, false, cond, ◌==◌, List, [], ◌∷◌, ◌++◌, length, map, Option, Some, None, refl, sym, ap, ◌∙◌, subst, arith}
+use Rattle.std.specs.Prelude.{filter, if◌then◌else◌}
 use Rattle.std.proofs.lemmas.Bool.{eqb-true}
 use Rattle.std.proofs.lemmas.Bool.Decides.{nat_tests}
 use Rattle.std.proofs.lemmas.List.Elements.{filter-append}
@@ -23,29 +23,25 @@ use Rattle.log_model.specs.Equal.{holds}
 use Rattle.log_model.specs.History.{owner_of}
 use Rattle.log_model.specs.After.{ended}
 use Rattle.log_model.specs.AfterDocuments.{told_after_change, applied_to, with_applied}
-use Rattle.log_model.specs.AfterRequests.{made_of_report, on_request, entries_taken}
+use Rattle.log_model.specs.AfterRequests.{entries_taken}
 use Rattle.log_model.specs.Once.{change_of_made}
-use Rattle.log_model.specs.Seen.{Seen, Document, Desk, Asked, Place, awake, desk_of, document_of, place_of, request_in}
-use Rattle.log_model.specs.Views.{View}
-use Rattle.coord_facts.specs.Leading.{is_made_under, coming, held_back}
+use Rattle.log_model.specs.Seen.{Seen, Document, Place, awake, desk_of, document_of, place_of}
+use Rattle.coord_facts.specs.Leading.{is_made_under, coming}
 use Rattle.coord_facts.proofs.Unread.{next}
-use Rattle.home_facts.specs.Homes.{document_in}
-use Rattle.rest_facts.proofs.Again.{its_number}
-use Rattle.request_facts.proofs.Readers.{SameReads}
 use Rattle.plain_tab.specs.Calm.{EachAsked, is_run, is_this}
 use Rattle.plain_tab.specs.Flow.{Ascend, Continues, number_after, entry_after}
 use Rattle.plain_tab.specs.Sole.{Each}
-use Rattle.plain_tab.proofs.Courses.{runs_ended, runs_ended_other, runs_applied}
+use Rattle.plain_tab.proofs.Courses.{runs_ended_other, runs_applied}
 use Rattle.plain_tab.proofs.Eaches.{each_on}
-use Rattle.frame_tab.specs.Alive.{IsAlive, AreThere}
-use Rattle.frame_tab.specs.Asking.{IsPlainlyAsked, ArePlainlyAsked}
-use Rattle.frame_tab.specs.Desks.{IsItsOwn, IsMadeThere, IsMadeOnce, HasMadeNothing, AreDesks, waiting, untaken, Ascends}
+use Rattle.frame_tab.specs.Alive.{IsAlive}
+use Rattle.frame_tab.specs.Asking.{ArePlainlyAsked}
+use Rattle.frame_tab.specs.Desks.{IsItsOwn, IsMadeThere, HasMadeNothing, waiting, untaken, Ascends}
 use Rattle.frame_tab.specs.Numbers.{AreStated, IsNumbered, EachEntry}
 use Rattle.frame_tab.specs.Steady.{IsAskedBy, AreSteady, AreGiven}
 use Rattle.frame_tab.specs.Whole.{IsFrameTab}
-use Rattle.frame_tab.proofs.Goings.{StaysAsked, AllStayAsked, all_read, asked_by_stays, begun_of}
-use Rattle.frame_tab.proofs.Theres.{KeepsAlive, KeepPlaces, there_mapped}
-use Rattle.frame_tab.proofs.Desking.{AllStayMade, AllStayPlaced, StaysPlaced, same_placed, made_there_again, desks_same}
+use Rattle.frame_tab.proofs.Goings.{StaysAsked, AllStayAsked, all_read, begun_of}
+use Rattle.frame_tab.proofs.Theres.{KeepPlaces, there_mapped}
+use Rattle.frame_tab.proofs.Desking.{AllStayMade, AllStayPlaced, same_placed, made_there_again, desks_same}
 use Rattle.frame_tab.proofs.Plainly.{plainness, plain_again, applied_reads}
 use Rattle.frame_tab.proofs.Leaving.{untold, made_again, unmade_again, once_alike, ascends_again}
 use Rattle.frame_tab.proofs.Arrived.{mapped_made}

@@ -1,6 +1,5 @@
 -- All that holds in a tab of frames holds after an order is sent that tells a document length and index, or discards it.
-use Rattle.std.proofs.Common.{◌≡◌, ◌⊎◌, inl, inr, ℕ, ◌+◌, ◌≤◌, Bool, true, false, cond, ◌||◌, ◌==◌, List, [], ◌∷◌, ◌++◌, map, Option, Some, None, refl, sym, ap, ◌∙◌, subst, arith}
-use Rattle.std.specs.Prelude.{option_map}
+use Rattle.std.proofs.Common.{◌≡◌, ◌⊎◌, inl, inr, ℕ, ◌+◌, Bool, true, false, cond, ◌||◌, ◌==◌, List, [], ◌∷◌, ◌++◌, map, Option, Some, refl, sym, ap, ◌∙◌, subst, arith}
 use Rattle.tab_ids.specs.declared.DocId.{DocId}
 use Rattle.tab_ids.specs.declared.NavId.{NavId}
 use Rattle.tab_ids.specs.declared.ProcId.{ProcId}
@@ -12,22 +11,21 @@ use Rattle.log_model.specs.declared.job.Why.TheVariants as whys
 use Rattle.log_model.specs.declared.made.Made.{Made}
 use Rattle.log_model.specs.declared.row_kind.Actor.{Actor}
 use Rattle.log_model.specs.History.{has_nav, has_row}
-use Rattle.log_model.specs.AfterDocuments.{on_document, addressed, documents_sent, frozen_by}
-use Rattle.log_model.specs.AfterPlaces.{put_to_sleep, places_sent, kept_sent, sleepers_with, without_doc}
-use Rattle.log_model.specs.AfterRequests.{on_served, request_served, requests_sent, with_moved}
+use Rattle.log_model.specs.AfterDocuments.{addressed, documents_sent}
+use Rattle.log_model.specs.AfterPlaces.{places_sent, kept_sent, sleepers_with, without_doc}
+use Rattle.log_model.specs.AfterRequests.{on_served, request_served, requests_sent}
 use Rattle.log_model.specs.Places.{is_traversal, is_moved_in}
-use Rattle.log_model.specs.Seen.{Seen, Document, Desk, Asked, Place, Status, awake, asleep, lost, desk_of, document_of, place_of, request_in}
+use Rattle.log_model.specs.Seen.{Seen, Document, Desk, Asked, Place, awake, asleep, desk_of, document_of, place_of, request_in}
 use Rattle.coord_facts.specs.Leading.{orders_of_desk}
 use Rattle.coord_facts.proofs.OneDocument.{mailed}
 use Rattle.hang_facts.proofs.Frames.{sent_kept}
-use Rattle.home_facts.specs.Homes.{document_in}
 use Rattle.plain_tab.specs.Calm.{EachAsked}
 use Rattle.plain_tab.specs.Sole.{Each}
 use Rattle.plain_tab.proofs.Eaches.{each_on, each_more}
 use Rattle.frame_tab.specs.Alive.{IsAlive, HasPlace}
 use Rattle.frame_tab.specs.Asking.{IsPlainlyAsked}
-use Rattle.frame_tab.specs.Desks.{makes_by, makes_it, IsTaskOf, IsOrderTo, IsMadeThere, IsHomeDesk, AreDesks, waiting, untaken, Ascends}
-use Rattle.frame_tab.specs.Steady.{IsAskedBy, IsSteady}
+use Rattle.frame_tab.specs.Desks.{makes_by, makes_it, IsTaskOf, IsOrderTo, IsMadeThere, IsHomeDesk, waiting, untaken, Ascends}
+use Rattle.frame_tab.specs.Steady.{IsSteady}
 use Rattle.frame_tab.specs.Whole.{IsFrameTab}
 use Rattle.frame_tab.proofs.Goings.{asked_by_stays}
 use Rattle.frame_tab.proofs.Theres.{keeps_on}
@@ -36,9 +34,8 @@ use Rattle.frame_tab.proofs.Desking.{AllStayMade, AllStayPlaced, same_placed, ho
 use Rattle.frame_tab.proofs.Plainly.{plain_moved}
 use Rattle.frame_tab.proofs.Going.{goes_tab, same_givens, same_tooks}
 use Rattle.frame_tab.proofs.Leaving.{makes_at, untold, made_again, unmade_again, once_alike, ascends_again, WasShown, AllWereShown, same_shown, continues_again, given_again, same_ascends, same_continues, same_unmade}
-use Rattle.frame_tab.proofs.Told.{nothing_more}
 use Rattle.frame_tab.proofs.Arrived.{mapped_made, mapped_placed, mapped_givens}
-use Rattle.frame_tab.proofs.Mailing.{orders_more, served_then, moved_less, sent, sent_desks, own_sent, sent_stay, sent_took, sent_only, sent_asked, sent_waiting, sent_same, sent_makes}
+use Rattle.frame_tab.proofs.Mailing.{orders_more, served_then, moved_less, sent, sent_desks, sent_stay, sent_took, sent_only, sent_asked, sent_waiting, sent_same, sent_makes}
 
 -- ---- the process of all documents has one order more
 

@@ -1,15 +1,13 @@
 -- The documents of a tab of frames stay alive in their process: what changes of documents leave it.
-use Rattle.std.proofs.Common.{◌≡◌, ℕ, ◌≤◌, Bool, true, false, cond, ◌==◌, List, map, length, Option, Some, refl, sym, ap, ◌∙◌, subst, arith}
+use Rattle.std.proofs.Common.{◌≡◌, ℕ, ◌≤◌, Bool, true, false, cond, ◌==◌, List, map, length, Some, refl, sym, ap, ◌∙◌, subst, arith}
 use Rattle.tab_ids.specs.declared.DocId.{DocId}
 use Rattle.tab_ids.specs.declared.NavId.{NavId}
 use Rattle.tab_ids.specs.declared.ProcId.{ProcId}
-use Rattle.log_model.specs.Seen.{Seen, Document, Place, document_of}
-use Rattle.log_model.specs.Views.{View}
-use Rattle.home_facts.specs.Homes.{document_in}
+use Rattle.log_model.specs.Seen.{Seen, Document, document_of}
 use Rattle.std.proofs.lemmas.Bool.{eqb-true}
 use Rattle.std.proofs.lemmas.List.{length-map}
 use Rattle.rest_facts.proofs.Again.{WasOf, was_of, its_number}
-use Rattle.frame_tab.specs.Alive.{IsAlive, HasPlace, IsThere, EachThere, AreThere}
+use Rattle.frame_tab.specs.Alive.{IsAlive, HasPlace, IsThere, AreThere}
 
 -- a document was there, alive, with its number and of its navigable
 pub record WasThere (home : ProcId) (s : Seen) (d : Document) : Type 0 where

@@ -1,10 +1,9 @@
 -- All that holds in a tab of frames holds after a report is delivered: of what a document made, or of an order that told or discarded it.
-use Rattle.std.proofs.Common.{◌≡◌, inl, ℕ, ◌+◌, Bool, true, false, cond, ◌==◌, List, [], ◌∷◌, ◌++◌, drop, map, Option, Some, None, refl, sym, ap, ◌∙◌, subst, append-nil, arith}
+use Rattle.std.proofs.Common.{◌≡◌, inl, ℕ, ◌+◌, Bool, true, false, ◌==◌, List, [], ◌∷◌, ◌++◌, drop, Option, Some, None, refl, sym, ap, ◌∙◌, subst, append-nil, arith}
 use Rattle.std.specs.Prelude.{filter_map, option_map, slice_get, option_and_then, if◌then◌else◌}
 use Rattle.std.specs.Option.{option_map_or}
 use Rattle.std.proofs.lemmas.List.Elements.{filter_map-append}
 use Rattle.tab_ids.specs.declared.DocId.{DocId}
-use Rattle.tab_ids.specs.declared.NavId.{NavId}
 use Rattle.tab_ids.specs.declared.ProcId.{ProcId}
 use Rattle.tab_ids.specs.declared.ReqId.{ReqId}
 use Rattle.log_model.specs.declared.job.Job.{Job}
@@ -15,10 +14,9 @@ use Rattle.log_model.specs.declared.made.Report.{Report}
 use Rattle.log_model.specs.declared.made.Report.TheVariants as reports
 use Rattle.log_model.specs.declared.outcome.Outcome.{Outcome}
 use Rattle.log_model.specs.declared.outcome.Outcome.TheVariants as outcomes
-use Rattle.log_model.specs.declared.row_kind.Actor.{Actor}
 use Rattle.log_model.specs.declared.row_kind.Actor.TheVariants as actors
 use Rattle.log_model.specs.declared.row_kind.RowKind.TheVariants as rows
-use Rattle.log_model.specs.After.{on_desk, desk_delivered, known_after}
+use Rattle.log_model.specs.After.{desk_delivered, known_after}
 use Rattle.log_model.specs.AfterDocuments.{documents_delivered}
 use Rattle.log_model.specs.AfterPlaces.{places_delivered, kept_delivered}
 use Rattle.log_model.specs.AfterRequests.{made_of_report, requests_delivered, is_held_back}
@@ -38,7 +36,7 @@ use Rattle.frame_tab.specs.Whole.{IsFrameTab}
 use Rattle.frame_tab.proofs.Goings.{all_same}
 use Rattle.frame_tab.proofs.Desking.{desks_on, own_desk}
 use Rattle.frame_tab.proofs.Going.{same_tooks}
-use Rattle.frame_tab.proofs.Leaving.{makes_at, untold, Leaves, leaves_tab, same_ascends, same_continues, same_unmade}
+use Rattle.frame_tab.proofs.Leaving.{makes_at, untold, leaves_tab, same_ascends, same_continues, same_unmade}
 use Rattle.frame_tab.proofs.Skips.{Skips, skips_same, skips_append, ascends_skip, none_skip, continues_skip, IsNoEntry, made_in}
 
 pub nothing_more : (n : ℕ) → 0 + n ≡ n

@@ -1,5 +1,5 @@
 -- All that holds in a tab of frames holds after the running traversal is applied, where each navigable was given its target at the step that it leads to; and which entries an applied change takes.
-use Rattle.std.proofs.Common.{◌≡◌, ◌⊎◌, inl, inr, ℕ, Bool, true, false, cond, not, ◌&&◌, ◌==◌, List, [], ◌∷◌, ◌++◌, length, map, Option, Some, None, refl, sym, ap, ◌∙◌, subst, arith}
+use Rattle.std.proofs.Common.{◌≡◌, inl, inr, ℕ, Bool, true, false, cond, not, ◌&&◌, ◌==◌, List, [], ◌∷◌, ◌++◌, length, map, Option, Some, None, refl, sym, ap, ◌∙◌, subst, arith}
 use Rattle.std.specs.Prelude.{filter, option_map}
 use Rattle.std.specs.List.{list_any}
 use Rattle.std.proofs.lemmas.Bool.Decides.{nat_tests}
@@ -18,11 +18,11 @@ use Rattle.log_model.specs.declared.row.Row.{Row}
 use Rattle.log_model.specs.declared.row_kind.Actor.{Actor}
 use Rattle.log_model.specs.declared.row_kind.RowKind.TheVariants as rows
 use Rattle.log_model.specs.Equal.{has_req}
-use Rattle.log_model.specs.History.{History, same_entry, has_row, used_step_at, applied}
+use Rattle.log_model.specs.History.{same_entry, has_row, used_step_at, applied}
 use Rattle.log_model.specs.After.{ended}
-use Rattle.log_model.specs.AfterRequests.{on_request, entries_taken, without_req}
+use Rattle.log_model.specs.AfterRequests.{on_request, entries_taken}
 use Rattle.log_model.specs.Places.{is_given_target}
-use Rattle.log_model.specs.Seen.{Seen, Document, Asked, Place, awake, desk_of, document_of, place_in, place_of, request_in}
+use Rattle.log_model.specs.Seen.{Seen, Document, Asked, Place, awake, desk_of, place_in, place_of, request_in}
 use Rattle.coord_facts.specs.Leading.{held_back}
 use Rattle.coord_facts.proofs.Held.{held_alike, on_else, without_same, on_alike, made_of}
 use Rattle.coord_facts.proofs.Unread.{next}
@@ -30,7 +30,6 @@ use Rattle.hang_facts.specs.Members.{Has}
 use Rattle.hang_facts.proofs.Members.{IsOf, has_filter, has_map}
 use Rattle.request_facts.proofs.LookUps.{on_itself}
 use Rattle.request_facts.proofs.Readers.{SameReads, reads_then, on_read}
-use Rattle.plain_tab.specs.Calm.{EachAsked, is_run, is_this}
 use Rattle.plain_tab.specs.Sole.{Each}
 use Rattle.plain_tab.proofs.Courses.{was_asked, runs_ended}
 use Rattle.frame_tab.specs.Alive.{HasPlace}
@@ -41,7 +40,7 @@ use Rattle.frame_tab.specs.Whole.{IsFrameTab}
 use Rattle.frame_tab.proofs.Steadies.{steady_left}
 use Rattle.frame_tab.proofs.Theres.{there_mapped}
 use Rattle.frame_tab.proofs.Desking.{same_made, same_placed, desks_same}
-use Rattle.frame_tab.proofs.Going.{IsKnownEntry, KeepsNumbers, entries_again, numbered_again, same_givens, stated_again}
+use Rattle.frame_tab.proofs.Going.{IsKnownEntry, entries_again, numbered_again, same_givens}
 use Rattle.frame_tab.proofs.Leaving.{untold, made_again, unmade_again, once_alike, ascends_again, same_shown, continues_again, same_ascends, same_continues, same_unmade}
 use Rattle.frame_tab.proofs.Takings.{applied_asked, applied_stay}
 

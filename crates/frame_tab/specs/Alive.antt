@@ -1,6 +1,6 @@
 -- The documents of a tab of frames: each lives in one process, and none is left, frozen or kept.
 -- HTML Standard, "Documents" and "create a new child navigable"; processes, incarnations and handler slots are this project's own.
-use Rattle.std.specs.Prelude.{◌≡◌, ℕ, ◌≤◌, false, List, length, Option, Some, None}
+use Rattle.std.specs.Prelude.{◌≡◌, ℕ, ◌≤◌, false, List, length, Some, None}
 use Rattle.tab_ids.specs.declared.DocId.{DocId}
 use Rattle.tab_ids.specs.declared.NavId.{NavId}
 use Rattle.tab_ids.specs.declared.ProcId.{ProcId}

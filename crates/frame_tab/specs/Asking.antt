@@ -1,6 +1,6 @@
 -- The requests of a tab of frames: traversals, and pokes but for edits, for which nobody is asked.
 -- This project's own.
-use Rattle.std.specs.Prelude.{◌≡◌, true, false, List, [], Option, Some, None, is_some}
+use Rattle.std.specs.Prelude.{◌≡◌, true, false, [], Option, Some, None, is_some}
 use Rattle.tab_ids.specs.declared.ReqId.{ReqId}
 use Rattle.log_model.specs.declared.action.Action.{Action}
 use Rattle.log_model.specs.declared.action.Action.TheVariants as actions

@@ -1,6 +1,6 @@
 -- What the processes of a tab of frames have: orders that make, show, tell and discard documents, and what these made.
 -- HTML Standard, "apply the history step" and "URL and history update steps"; processes and their lists are this project's own.
-use Rattle.std.specs.Prelude.{◌≡◌, ℕ, ◌+◌, ◌≤◌, Bool, true, false, ◌==◌, List, [], ◌∷◌, ◌++◌, filter, filter_map, Option, Some, None, if◌then◌else◌}
+use Rattle.std.specs.Prelude.{◌≡◌, ℕ, ◌+◌, ◌≤◌, Bool, true, false, ◌==◌, List, [], ◌∷◌, ◌++◌, filter, filter_map, Some, None}
 use Rattle.tab_ids.specs.declared.DocId.{DocId}
 use Rattle.tab_ids.specs.declared.EntryId.{EntryId}
 use Rattle.tab_ids.specs.declared.NavId.{NavId}
@@ -16,7 +16,7 @@ use Rattle.log_model.specs.declared.made.Report.TheVariants as reports
 use Rattle.log_model.specs.declared.request.Poke.{Poke}
 use Rattle.log_model.specs.Views.{View, next_entry}
 use Rattle.log_model.specs.AfterRequests.{made_of_report}
-use Rattle.log_model.specs.Seen.{Seen, Document, Desk, Place, awake, desk_of, document_of, place_in, place_of}
+use Rattle.log_model.specs.Seen.{Seen, Document, Desk, Place, awake, desk_of, place_in, place_of}
 use Rattle.coord_facts.specs.Leading.{orders_of_desk, coming, held_back}
 use Rattle.home_facts.specs.Homes.{document_in}
 use Rattle.transit_facts.specs.Orders.{IsOutcomeOf}

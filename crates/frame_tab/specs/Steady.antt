@@ -1,6 +1,6 @@
 -- Where the navigables of a tab of frames stand: none is lost or reloaded, each with an entry is awake but a new one, and a traversal alone shows one again.
 -- HTML Standard, "Applying the history step"; epochs, and asleep and lost navigables, are this project's own.
-use Rattle.std.specs.Prelude.{◌≡◌, ◌≢◌, ℕ, ◌≤◌, true, false, List, Option, Some, None, is_some}
+use Rattle.std.specs.Prelude.{◌≡◌, ◌≢◌, ◌≤◌, true, false, List, Option, Some, None, is_some}
 use Rattle.tab_ids.specs.declared.DocId.{DocId}
 use Rattle.tab_ids.specs.declared.NavId.{NavId}
 use Rattle.tab_ids.specs.declared.ReqId.{ReqId}
