@@ -25,3 +25,4 @@ pub mod Changing
 pub mod Applying
 pub mod Pushings
 pub mod Adding
+pub mod Clearing
