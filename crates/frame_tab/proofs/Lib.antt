@@ -26,3 +26,4 @@ pub mod Applying
 pub mod Pushings
 pub mod Adding
 pub mod Clearing
+pub mod Shown
