@@ -27,3 +27,4 @@ pub mod Pushings
 pub mod Adding
 pub mod Clearing
 pub mod Shown
+pub mod Aims

@@ -63,7 +63,7 @@ stated_rows s t g nr nav state documents were begins states initial listed are =
 
 -- ---- each navigable goes on beginning at the first step
 
-anchored_alike : (rows : List Row) (a b : Row) → a.owner ≡ b.owner → is_anchored rows a ≡ is_anchored rows b
+pub anchored_alike : (rows : List Row) (a b : Row) → a.owner ≡ b.owner → is_anchored rows a ≡ is_anchored rows b
 anchored_alike rows a b same = ap (λ (o : Option StateId). option_map_or (λ (owner : StateId). has_state owner rows) o true) same
 
 -- the rows that pass a test, tidied
