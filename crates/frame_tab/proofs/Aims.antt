@@ -27,7 +27,7 @@ use Rattle.frame_tab.proofs.Pushings.{gives, KeepsTargets}
 -- ---- lists
 
 -- those that pass a test are all left by another one
-filter_in : {A : Type 0} (p q : A → Bool) (xs : List A) → ((x : A) → Has xs x → p x ≡ true → q x ≡ true) → filter p (filter q xs) ≡ filter p xs
+pub filter_in : {A : Type 0} (p q : A → Bool) (xs : List A) → ((x : A) → Has xs x → p x ≡ true → q x ≡ true) → filter p (filter q xs) ≡ filter p xs
 filter_in p q [] on = refl
 filter_in {A} p q (x ∷ xs) on = by_tests (p x) (q x) refl refl (filter_in p q xs (λ y there yes. on y (inr there) yes))
   where

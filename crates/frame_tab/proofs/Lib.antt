@@ -28,3 +28,4 @@ pub mod Adding
 pub mod Clearing
 pub mod Shown
 pub mod Aims
+pub mod Leavings
