@@ -1,5 +1,5 @@
 -- Over a push the targets of other navigables stay, and the pushed entry is the target of its own.
-use Rattle.std.proofs.Common.{◌≡◌, ◌⊎◌, inl, inr, ℕ, zero, suc, ◌+◌, ◌≤◌, ◌<◌, Bool, true, false, cond, not, ◌&&◌, ◌||◌, ◌==◌, List, [], ◌∷◌, ◌++◌, length, fold, Option, Some, None, refl, sym, ap, ◌∙◌, subst, arith, append-nil}
+use Rattle.std.proofs.Common.{◌≡◌, inl, inr, ℕ, zero, suc, ◌+◌, ◌<◌, Bool, true, false, cond, ◌&&◌, ◌||◌, ◌==◌, List, [], ◌∷◌, ◌++◌, length, fold, Option, Some, None, refl, sym, ap, ◌∙◌, subst, arith, append-nil}
 use Rattle.std.specs.Prelude.{filter, nat_le, nat_lt}
 use Rattle.std.proofs.lemmas.Bool.Decides.{nat_tests}
 use Rattle.std.proofs.lemmas.List.Elements.{filter-append}
@@ -53,7 +53,7 @@ has_times : (n : ℕ) (rows : List Row) (row : Row) → Has (tidied_times n rows
 has_times zero rows row there = there
 has_times (suc n) rows row there = (has_filter (is_anchored rows) rows row (has_times n (tidied_once rows) row there)).0
 
-times_of : (nav : NavId) (n : ℕ) (rows : List Row) → ((row : Row) → Has rows row → is_of nav row ≡ true → Has (tidied_times n rows) row) → filter (is_of nav) (tidied_times n rows) ≡ filter (is_of nav) rows
+pub times_of : (nav : NavId) (n : ℕ) (rows : List Row) → ((row : Row) → Has rows row → is_of nav row ≡ true → Has (tidied_times n rows) row) → filter (is_of nav) (tidied_times n rows) ≡ filter (is_of nav) rows
 times_of nav zero rows on = refl
 times_of nav (suc n) rows on =
     times_of nav n (tidied_once rows) (λ row there its. on row (has_filter (is_anchored rows) rows row there).0 its)

@@ -1,14 +1,13 @@
 -- Clearing the forward session history leaves each navigable of a tab of frames an entry: its own at the first step.
-use Rattle.std.proofs.Common.{◌≡◌, ◌⊎◌, inl, inr, ℕ, ◌≤◌, Bool, true, false, ◌&&◌, ◌==◌, List, Option, Some, None, refl, sym, ap, ◌∙◌, subst, arith}
+use Rattle.std.proofs.Common.{◌≡◌, ◌≤◌, Bool, true, false, ◌&&◌, ◌==◌, List, Option, Some, None, refl, sym, ap, ◌∙◌, arith}
 use Rattle.std.specs.Prelude.{filter, nat_le}
-use Rattle.std.specs.List.{list_any}
 use Rattle.std.specs.Option.{option_map_or}
 use Rattle.std.proofs.lemmas.Bool.{eqb-true, and_parts, and_from}
 use Rattle.std.proofs.lemmas.Bool.Decides.{nat_tests}
 use Rattle.tab_ids.specs.declared.NavId.{NavId}
 use Rattle.tab_ids.specs.declared.StateId.{StateId}
 use Rattle.log_model.specs.declared.row.Row.{Row}
-use Rattle.log_model.specs.History.{History, is_of, has_row, has_state, is_anchored, tidied, cleared}
+use Rattle.log_model.specs.History.{History, is_of, has_row, has_state, is_anchored, cleared}
 use Rattle.log_model.specs.Soundness.{stands_at, is_in_state, is_owned_by, IsSound}
 use Rattle.log_model.specs.Soundness as sounds
 use Rattle.log_model.proofs.Refl.{nat_eq_refl}

@@ -1,13 +1,12 @@
 -- Over the removal of a frame the targets of the navigables that are left stay: no entry of theirs is between the used step and the current one.
-use Rattle.std.proofs.Common.{◌≡◌, ◌⊎◌, inl, inr, ℕ, ◌≤◌, Bool, true, false, cond, not, ◌&&◌, ◌==◌, List, [], ◌∷◌, fold, map, max, Option, Some, None, refl, sym, ap, ◌∙◌, subst, arith}
+use Rattle.std.proofs.Common.{◌≡◌, ◌⊎◌, inl, inr, ℕ, ◌≤◌, Bool, true, false, cond, not, ◌==◌, List, [], ◌∷◌, fold, map, max, Option, None, refl, sym, ap, ◌∙◌, arith}
 use Rattle.std.specs.Prelude.{filter, nat_le}
 use Rattle.std.proofs.lemmas.Bool.Decides.{nat_tests}
 use Rattle.tab_ids.specs.declared.NavId.{NavId}
 use Rattle.log_model.specs.declared.change.Change.TheVariants as changes
 use Rattle.log_model.specs.declared.row.Row.{Row}
 use Rattle.log_model.specs.Equal.{holds}
-use Rattle.log_model.specs.History.{History, same_entry, is_of, has_row, tidied, used_step_at, later_row, target_entry, applied}
-use Rattle.log_model.specs.Places.{is_given_target}
+use Rattle.log_model.specs.History.{History, same_entry, is_of, has_row, used_step_at, later_row, target_entry, applied}
 use Rattle.log_model.specs.Seen.{Seen, Document, Place}
 use Rattle.log_model.specs.Soundness.{IsSound}
 use Rattle.hang_facts.specs.Forms.{Form}

@@ -29,3 +29,4 @@ pub mod Clearing
 pub mod Shown
 pub mod Aims
 pub mod Leavings
+pub mod Swaps

@@ -1,7 +1,6 @@
 -- In a tab of frames a navigable is shown at a step, whichever it is, just where it has an entry.
-use Rattle.std.proofs.Common.{◌≡◌, ◌⊎◌, inl, inr, ℕ, zero, suc, ◌≤◌, Bool, true, false, cond, ◌||◌, ◌==◌, List, [], ◌∷◌, length, Option, Some, None, refl, sym, ap, ◌∙◌, subst, arith}
-use Rattle.std.specs.Prelude.{is_some, find, option_map, option_and_then, if◌then◌else◌}
-use Rattle.std.proofs.lemmas.Bool.{eqb-true}
+use Rattle.std.proofs.Common.{◌≡◌, ℕ, zero, suc, ◌≤◌, Bool, true, false, cond, ◌||◌, ◌==◌, List, [], ◌∷◌, length, Option, Some, None, refl, sym, ap, ◌∙◌, subst, arith}
+use Rattle.std.specs.Prelude.{find, option_map, option_and_then, if◌then◌else◌}
 use Rattle.std.proofs.lemmas.Bool.Decides.{nat_tests}
 use Rattle.tab_ids.specs.declared.NavId.{NavId}
 use Rattle.tab_ids.specs.declared.StateId.{StateId}
@@ -9,7 +8,7 @@ use Rattle.log_model.specs.declared.row.Row.{Row}
 use Rattle.log_model.specs.Equal.{holds}
 use Rattle.log_model.specs.History.{is_of, has_row, owner_of, target_entry}
 use Rattle.log_model.specs.Places.{holder_of, targets_state, way_up, is_shown, is_shown_within}
-use Rattle.log_model.specs.Seen.{Seen, Place, place_in, place_of}
+use Rattle.log_model.specs.Seen.{Seen, Place, place_of}
 use Rattle.log_model.specs.Soundness.{IsSound}
 use Rattle.log_model.proofs.Refl.{nat_eq_refl}
 use Rattle.hang_facts.specs.AsPlaces.{IsHung, HangsAs, IsLink, IsChain}
@@ -80,9 +79,9 @@ module _ (s : Seen) (sound : IsSound s.history) (hangs : Hangs s) (stated : AreS
       let hung : IsHung s.history.rows place parent = is_hung s sound hangs nav place there a.it a.there (nav_is a.it.nav nav a.passes ∙ sym (found_nav nav place there)) parent above is in
       let link : IsLink s.places parent above = chain.0 in
       let up : way_up s.history.rows step nav ≡ Some parent =
-          ap (λ (o : Option StateId). option_and_then (λ owner. option_and_then (λ (p : NavId). if targets_state s.history.rows step p owner then Some p else None) (holder_of owner s.history.rows)) o) (ap (λ (x : NavId). owner_of x s.history.rows) (sym (found_nav nav place there)) ∙ hung.owner_is)
-          ∙ ap (λ (o : Option NavId). option_and_then (λ (p : NavId). if targets_state s.history.rows step p hung.owner then Some p else None) o) hung.holder_is
-          ∙ ap (λ (b : Bool). let o : Option NavId = cond b (Some parent) None in o) (holder_targets hung.owner parent hung.holder_is)
+      ap (λ (o : Option StateId). option_and_then (λ owner. option_and_then (λ (p : NavId). if targets_state s.history.rows step p owner then Some p else None) (holder_of owner s.history.rows)) o) (ap (λ (x : NavId). owner_of x s.history.rows) (sym (found_nav nav place there)) ∙ hung.owner_is)
+      ∙ ap (λ (o : Option NavId). option_and_then (λ (p : NavId). if targets_state s.history.rows step p hung.owner then Some p else None) o) hung.holder_is
+      ∙ ap (λ (b : Bool). let o : Option NavId = cond b (Some parent) None in o) (holder_targets hung.owner parent hung.holder_is)
       in
       either (nav.0 == 0) (is_shown_within n s.history.rows step (way_up s.history.rows step nav))
       (ap (λ (o : Option NavId). is_shown_within n s.history.rows step o) up
