@@ -30,3 +30,4 @@ pub mod Shown
 pub mod Aims
 pub mod Leavings
 pub mod Swaps
+pub mod Facing
