@@ -1,6 +1,7 @@
 """Tries what the crates of facts take to be true between two events, on random runs of a model, by its checker: where
 each awake navigable's document is, what is on its way, that what isn't shown rests, that each visited navigable is
-served; and how often all of it stands at once with nothing loaded, reloaded or dead, in transit or not.
+served; and how often all of it stands at once with nothing loaded, reloaded or dead, in transit or not. On runs of the
+profile `frames` it tries, after each row, what `frame_tab` says of a tab of frames.
 
     python3 bench/facts.py MODEL [FIRST COUNT [PROFILE ...]]
 
@@ -137,6 +138,147 @@ def hook(s, event, rows):
             count('settled', settled, event)
 
 
+class Beside:
+    """What a log has come to, and the checker doesn't keep: reports held back and at hand, numbers and states."""
+    def __init__(self, log):
+        self.s, self.log = logcheck.St(), log
+        self.parked, self.hand, self.applied, self.frozen = [], [], {}, set()
+        self.states = self.entries = 1
+        self.initial = [1] if log[0].address == 'about:blank' else []
+
+    def is_held_back(self, made):
+        s, nav = self.s, self.s.docs[made.doc].nav
+        p, run = s.place[nav], logcheck.running_traversal(self.s)
+        return (made.what.kind != 'go' and p.status == 'awake' and p.epoch == made.epoch and nav in s.H.by_nav
+                and run is not None and nav in s.acts_for.get(run.nr, ()))
+
+    def feed(self, row):
+        s = self.s
+        if row.kind == 'delivered' and s.proc(row.proc).reports[0][0] == 'made':
+            made = s.proc(row.proc).reports[0][1]
+            if self.is_held_back(made):
+                self.parked.append(made.req)
+            elif made.what.kind != 'go':
+                self.hand = [made]
+        if row.kind in ('applied', 'refused', 'dropped'):
+            self.parked = [req for req in self.parked if req != row.req]
+            self.hand = [made for made in self.hand if made.req != row.req]
+        if row.kind == 'applied' and row.change.kind in ('push', 'replace'):
+            self.applied[row.change.entry[0]] = row.change.entry[1]
+        if row.kind == 'applied' and row.change.kind == 'frame':
+            self.entries, self.states = self.entries + 1, self.states + 1
+            self.initial.append(row.change.state)
+        if row.kind == 'sent' and row.job.task.kind == 'freeze':
+            self.frozen.add(row.job.doc)
+        s.feed(row)
+
+    def mades(self):
+        """What documents made and the history doesn't have yet."""
+        waiting = [report[1] for p in self.s.procs.values() for report in p.reports if report[0] == 'made']
+        return [self.s.reqs[req].made for req in self.parked] + self.hand + waiting
+
+    def jobs(self):
+        """Orders that are unfinished, or whose report waits."""
+        return [self.s.jobs[j] for p in self.s.procs.values()
+                for j in ([p.hand] if p.hand is not None else []) + list(p.mail) + [r[1] for r in p.reports if r[0] == 'done']]
+
+
+def entry_of(made):
+    return made.what.entry if made.what.kind in ('push', 'replace') else None
+
+
+def try_alive(b):
+    s, home = b.s, b.s.docs[1].proc
+    for d in s.docs.values():
+        v, ready = s.views.get(d.nr), d.pop_delivered is not None
+        count('alive', d.proc == home and d.inc == 0 and d.slot is None and d.nr not in b.frozen and d.dead_by is None
+              and not d.known_dead and (v is None or v.doc == d.nr) and (ready or v is None or not v.running), d.nr)
+        count('there', d.nav in s.place and 1 <= d.nr <= len(s.docs), d.nr)
+        makes = [j for j in b.jobs() if j.task.kind == MAKES and j.doc == d.nr]
+        count('made once', len(makes) == (0 if ready else 1), d.nr)
+        mades = [made for made in b.mades() if made.doc == d.nr]
+        count('made nothing', ready or (not mades and not b.applied.get(d.nr, 0)), d.nr)
+        numbers = [b.applied.get(d.nr, 0)] + [entry_of(made)[1] for made in mades if entry_of(made)]
+        count('ascends', v is None or (sorted(set(numbers)) == numbers and numbers[-1] <= v.nr), d.nr)
+        count('discarded without rows', not d.discarded or d.nav not in s.H.by_nav, d.nr)
+
+
+def try_numbers(b):
+    s = b.s
+    state = {row.nav: row.state for row in s.H.rows}
+    for row in s.H.rows:
+        count('one state', row.state == state[row.nav] and 1 <= row.state <= b.states, row.nav)
+        count('begins', any(r.nav == row.nav and r.step == 0 for r in s.H.rows), row.nav)
+        count('initial', row.nav == 0 or row.state in b.initial, row.nav)
+    for d in s.docs.values():
+        count('state of its rows', state.get(d.nav, d.state) == d.state and d.state <= b.states, d.nr)
+    count('listed', list(s.place) == [0] + list(s.H.added))
+    entries = [row.entry for row in s.H.rows] + [e for given in s.given_ever.values() for e in given]
+    for maker, nr in entries + [e for q in s.reqs.values() for e in q.took]:
+        count('numbered', maker <= len(s.docs) and nr <= (b.applied.get(maker, 0) if maker else b.entries), (maker, nr))
+    for step in range(max(row.step for row in s.H.rows) + 2):
+        count('shown', set(logcheck.D11_shown(s.H, step)) == set(s.H.by_nav), step)
+
+
+def is_begun_going(s, why):
+    return why[0] == 'r' and s.reqs[why[1]].trav and s.reqs[why[1]].started is not None
+
+
+def try_steady(b):
+    s, run = b.s, logcheck.running_traversal(b.s)
+    for n, p in s.place.items():
+        has_row, awake = n in s.H.by_nav, p.status == 'awake'
+        count('steady', p.status != 'lost' and (not awake or (p.epoch >= 1 and p.given is not None)), n)
+        count('unshown yet', awake or not has_row or (p.epoch == 0 and p.given is None and n not in s.last_act), n)
+        count('taken', has_row or s.taken_last.get(n) in s.reqs, n)
+        count('mover', not awake or p.epoch < 2 or is_begun_going(s, p.why), n)
+        count('added', n == 0 or s.added_by[n] in s.reqs, n)
+        if awake and has_row and not (run is not None and n in s.moved.get(run.nr, ())):
+            count('given', p.given == logcheck.D3_target(s.H, n, s.H.current).entry, n)
+        if awake:
+            entry, continues = p.given, True
+            for made in b.mades():
+                if made.doc == p.doc and made.epoch == p.epoch:
+                    continues = continues and (made.what.kind != 'replace' or made.what.over == entry)
+                    entry = entry_of(made) or entry
+            count('continues', continues, n)
+
+
+def try_asking(b, ends):
+    s = b.s
+    run = [q for q in s.reqs.values() if q.trav and q.started is not None and q.outcome is None]
+    for q in s.reqs.values():
+        count('plain', q.kind in ('go', 'docgo', 'push', 'replace', 'fragment', 'frame', 'remove') and not q.asks and q.prompted is None
+              and q.frag_job is None and (q.started is None or (q.trav and q.goal is not None)), q.nr)
+        count('moved', not q.trav or s.moved.get(q.nr, set()) == s.acts_for.get(q.nr, set()), q.nr)
+    count('one runs', len(run) <= 1 and not s.kept)
+    count('none held', not ends or bool(run) or not b.parked)
+
+
+def try_desks(b):
+    s, home = b.s, b.s.docs[1].proc
+    for job in b.jobs():
+        d, kind = s.docs[job.doc], job.task.kind
+        count('order', job.proc == home and job.inc == 0 and job.made is None and (kind == MAKES or (d.pop_delivered is not None and (
+            kind in ('update', 'discard') or (kind == SHOWS and 1 <= job.task.epoch <= s.place[d.nav].epoch)))), job.nr)
+    for made in b.mades():
+        count('made there', made.doc in s.docs and made.what.kind != 'edit' and (entry_of(made) is None or entry_of(made)[0] == made.doc), made.req)
+    for proc, p in s.procs.items():
+        count('desk', proc == home or not (p.input or p.mail or p.reports or p.hand), proc)
+        count('pokes', all(s.reqs[req].doc in s.docs for req in p.input), proc)
+
+
+def try_frames(log):
+    b = Beside(log)
+    for i, row in enumerate(log):
+        b.feed(row)
+        try_alive(b)
+        try_numbers(b)
+        try_steady(b)
+        try_asking(b, i + 1 == len(log) or log[i + 1].event != row.event)
+        try_desks(b)
+
+
 for profile in PROFILES:
     seen.clear()
     for seed in range(FIRST, FIRST + COUNT):
@@ -151,6 +293,8 @@ for profile in PROFILES:
             log = logcheck.read_log(''.join(logtext.row_line(row) + '\n' for row in world.log))
             broken, _ = logcheck.check(log, hook=hook)
             count('legal log', broken is None, broken)
+            if profile == 'frames':
+                try_frames(log)
     print(profile + ':', ', '.join(f'{what} {total}' + (f' ({wrong} FALSE)' if wrong else '') for what, (total, wrong) in sorted(seen.items())))
     if any(wrong for _, wrong in seen.values()):
         sys.exit(1)
