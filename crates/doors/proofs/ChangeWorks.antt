@@ -1,8 +1,5 @@
 -- A change is put out, and the coordinator goes on working.
 use Rattle.apply_plan.specs.Order.{made_in}
-use Rattle.coord.proofs.LookUps.{nav_same}
-use Rattle.coord.proofs.Nodes.{changed_twice}
-use Rattle.coord.specs.Ties.{IsAwakeIn}
 use Rattle.coord_facts.proofs.Held.{without_same}
 use Rattle.doors.proofs.Changing.{Changes, added_holds, given_holds, pushed_documents, replaced_documents, untold_sight}
 use Rattle.doors.proofs.Destroying.{lost_are}
@@ -56,6 +53,9 @@ use Rattle.tab_ids.specs.declared.Step.{Step}
 use Rattle.log_model.specs.declared.change.Change.TheVariants as changes
 use Rattle.log_model.specs.declared.outcome.Ending.TheVariants as endings
 use Rattle.log_model.specs.declared.row_kind.RowKind.TheVariants as rows
+use Rattle.coord.proofs.LookUps.{nav_same}
+use Rattle.coord.proofs.Nodes.{changed_twice}
+use Rattle.coord.specs.Ties.{IsAwakeIn}
 
 -- ---- what an applied change leaves of the requests
 

@@ -1,13 +1,8 @@
 -- A change is applied: the tables go on standing for the log, once the navigables are changed as it says.
-use Rattle.coord.proofs.GivenLaws.{home}
-use Rattle.coord.proofs.LookUps.{nav_same}
-use Rattle.coord.proofs.Nodes.{keys_with_nav, node_with_nav, on_nav}
-use Rattle.coord.proofs.ShowDoor.{order}
 use Rattle.doors.proofs.Holding.{held_changed, listed_tree}
 use Rattle.doors.proofs.Nodes.{places_with}
 use Rattle.doors.proofs.Requests.{applied_moved, moved_same}
 use Rattle.doors.proofs.Sights.{sights_on, sights_same}
-use Rattle.doors.proofs.Works.{numbered}
 use Rattle.doors.specs.Look.{Sight, look_of, moved_by, sight}
 use Rattle.doors.specs.Ties.{AreHeld, AreListed, AreTied, Holds, IsAwakeAtHome, IsTied}
 use Rattle.doors.specs.declared.tables.Tables.{Tables}
@@ -17,7 +12,7 @@ use Rattle.log_model.specs.AfterDocuments.{applied_to, told_after_change}
 use Rattle.log_model.specs.AfterPlaces.{given_entry, new_place, places_added, places_given, with_taker}
 use Rattle.log_model.specs.History.{History, applied, has_nav, has_row}
 use Rattle.log_model.specs.Order.{SameHistory}
-use Rattle.log_model.specs.Places.{holder_of, stands}
+use Rattle.log_model.specs.Places.{holder_of}
 use Rattle.log_model.specs.Seen.{Asked, Document, Place, Seen, place_in, place_of, request_of}
 use Rattle.log_model.specs.declared.change.Change.{Change}
 use Rattle.log_model.specs.declared.made.Made.{Made}
@@ -38,6 +33,8 @@ use Rattle.tab_ids.specs.declared.StateId.{StateId}
 use Rattle.walk_facts.proofs.Placed.{found_nav}
 use Rattle.log_model.specs.declared.change.Change.TheVariants as changes
 use Rattle.log_model.specs.declared.row_kind.RowKind.TheVariants as rows
+use Rattle.coord.proofs.LookUps.{nav_same}
+use Rattle.coord.proofs.Nodes.{keys_with_nav, node_with_nav, on_nav}
 
 -- ---- documents
 

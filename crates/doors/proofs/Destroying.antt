@@ -1,6 +1,5 @@
 -- Navigables that a request destroyed, one by one.
 use Rattle.apply_plan.specs.Order.{made_in}
-use Rattle.coord.specs.Showing.{AreThere}
 use Rattle.doors.proofs.EndLaws.{node_destroyed}
 use Rattle.doors.specs.Ending.{destroy_all, destroyed}
 use Rattle.hang_facts.proofs.Members.{has_filter}
@@ -18,6 +17,7 @@ use Rattle.std.specs.Option.{IsSome}
 use Rattle.std.specs.Prelude.{filter, option_map, slice_get}
 use Rattle.tab_ids.specs.declared.NavId.{NavId}
 use Rattle.tab_ids.specs.declared.ReqId.{ReqId}
+use Rattle.coord.specs.Showing.{AreThere}
 
 mapped_there : (f : Node → Node) (o : Option Node) → IsSome o → IsSome (option_map f o)
 mapped_there f None is = cc

@@ -1,16 +1,11 @@
 -- A document is discarded, and its navigable falls asleep with those below it: the tables go on standing for the log.
 use Rattle.nav_tree.specs.declared.place.Place as live_place -- keep
 use Rattle.nav_tree.specs.Tree.{document_of, discarded} -- keep
-use Rattle.coord.proofs.GivenLaws.{home}
-use Rattle.coord.proofs.Nodes.{keys_sleep_all, node_sleep_all, slept_node}
-use Rattle.coord.proofs.ShowDoor.{order}
-use Rattle.coord.specs.Showing.{sleep_all}
 use Rattle.doors.proofs.Holding.{at_home_kept, held_changed}
 use Rattle.doors.proofs.Keyed.{off_once, off_other, off_same, state_same}
 use Rattle.doors.proofs.Nodes.{places_asleep}
 use Rattle.doors.proofs.Sights.{found_has, listed_gone, listed_kept, sights_document, sights_on}
 use Rattle.doors.proofs.Telling.{SendsOne}
-use Rattle.doors.proofs.Works.{numbered}
 use Rattle.doors.specs.Look.{Sight, is_live_for, is_made_for, look_of, moved_by, sight, sight_in}
 use Rattle.doors.specs.Orders.{next_order}
 use Rattle.doors.specs.Ties.{AreHeld, AreListed, AreOnceKeyed, Holds, IsListed, IsOneSuch, IsTied}
@@ -21,15 +16,12 @@ use Rattle.log_model.specs.After.{after}
 use Rattle.log_model.specs.AfterPlaces.{sleepers_with}
 use Rattle.log_model.specs.History.{History, has_nav}
 use Rattle.log_model.specs.Order.{SameHistory}
-use Rattle.log_model.specs.Places.{stands}
 use Rattle.log_model.specs.Seen.{Document, Place, Seen, asleep, place_in}
 use Rattle.log_model.specs.declared.job.Job.{Job}
 use Rattle.log_model.specs.declared.job.Why.{Why}
 use Rattle.log_model.specs.declared.row_kind.Actor.{Actor}
 use Rattle.nav_tree.specs.Tree.{Tree, is_state, node_of}
 use Rattle.nav_tree.specs.declared.node.Node.{Node}
-use Rattle.plain_tab.proofs.Makings.{made}
-use Rattle.request_facts.proofs.Placings.{made_once}
 use Rattle.seen_laws.proofs.Keyed.{find_has}
 use Rattle.std.proofs.Common.{Bool, List, Option, Some, ap, arith, cond, false, length, map, not, refl, subst, sym, true, ℕ, ◌&&◌, ◌+◌, ◌==◌, ◌∙◌, ◌≡◌}
 use Rattle.std.proofs.lemmas.List.{length-map}
@@ -42,6 +34,8 @@ use Rattle.tab_ids.specs.declared.ReqId.{ReqId}
 use Rattle.tab_ids.specs.declared.StateId.{StateId}
 use Rattle.log_model.specs.declared.job.Task.TheVariants as tasks
 use Rattle.log_model.specs.declared.row_kind.RowKind.TheVariants as rows
+use Rattle.coord.proofs.Nodes.{keys_sleep_all, node_sleep_all, slept_node}
+use Rattle.coord.specs.Showing.{sleep_all}
 
 abbrev pub discarded_sight : Sight → Sight
 discarded_sight d = record d { is_discarded = true }

@@ -1,13 +1,9 @@
 -- A frame is removed, a traversal ends, and rows of which the tables tell nothing: the tables go on standing for the log.
-use Rattle.coord.proofs.GivenLaws.{home}
-use Rattle.coord.proofs.Nodes.{keys_with_nav, node_with_nav}
-use Rattle.coord.proofs.ShowDoor.{order}
 use Rattle.doors.proofs.Changing.{Changes, none_taken}
 use Rattle.doors.proofs.Holding.{held_changed, listed_tree}
 use Rattle.doors.proofs.Nodes.{keys_changed, node_changed, places_changed, places_with}
 use Rattle.doors.proofs.Requests.{applied_moved, moved_same}
 use Rattle.doors.proofs.Sights.{sights_same}
-use Rattle.doors.proofs.Works.{numbered}
 use Rattle.doors.specs.Ending.{destroy_all, destroyed, unmove_all}
 use Rattle.doors.specs.Look.{Look, Sight, look_of, moved_by, sight}
 use Rattle.doors.specs.Ties.{AreHeld, AreListed, AreTied, Holds, IsTied}
@@ -16,7 +12,6 @@ use Rattle.log_model.specs.After.{after}
 use Rattle.log_model.specs.AfterDocuments.{applied_to, told_after_change}
 use Rattle.log_model.specs.History.{History, applied, has_nav, has_row}
 use Rattle.log_model.specs.Order.{SameHistory}
-use Rattle.log_model.specs.Places.{stands}
 use Rattle.log_model.specs.Seen.{Document, Place, Seen, place_in}
 use Rattle.log_model.specs.declared.row_kind.Actor.{Actor}
 use Rattle.nav_tree.specs.Tree.{Tree, changed, is_nav, node_of, with_nav}
@@ -35,6 +30,7 @@ use Rattle.tab_ids.specs.declared.StateId.{StateId}
 use Rattle.tab_ids.specs.declared.Step.{Step}
 use Rattle.log_model.specs.declared.change.Change.TheVariants as changes
 use Rattle.log_model.specs.declared.row_kind.RowKind.TheVariants as rows
+use Rattle.coord.proofs.Nodes.{keys_with_nav, node_with_nav}
 
 -- ---- rows of which they tell nothing
 

@@ -3,16 +3,13 @@
 
 use Rattle.nav_tree.specs.declared.place.Place as live_place -- keep
 use Rattle.nav_tree.specs.Tree.{document_of} -- keep
-use Rattle.coord.proofs.ShowDoor.{order}
 use Rattle.doors.proofs.Sights.{KeepsNumber, found_more, found_other, found_same, listed_kept, sights_on}
 use Rattle.doors.specs.Look.{Look, Sight, is_live_for, is_made_for, sight_in}
 use Rattle.doors.specs.Ties.{AreHeld, AreListed, AreOnceKeyed, AreTied, IsAwakeAtHome, IsHome, IsListed, IsTied, status_of}
 use Rattle.hang_facts.specs.Members.{Has}
-use Rattle.history_laws.proofs.Members.{found}
 use Rattle.log_model.specs.Seen.{Place, Status, asleep, awake, lost, place_in}
 use Rattle.nav_tree.specs.Tree.{Tree, is_state, node_of}
 use Rattle.nav_tree.specs.declared.node.Node.{Node}
-use Rattle.request_facts.proofs.Placings.{made_once}
 use Rattle.seen_laws.proofs.Keyed.{find_map}
 use Rattle.std.proofs.Common.{Bool, List, None, Option, Some, [], ap, arith, false, map, refl, subst, sym, true, ℕ, ◌++◌, ◌==◌, ◌∙◌, ◌∷◌, ◌≡◌}
 use Rattle.std.proofs.lemmas.Bool.Decides.{nat_tests}

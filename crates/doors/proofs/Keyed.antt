@@ -4,7 +4,7 @@ use Rattle.log_model.proofs.Refl.{nat_eq_refl}
 use Rattle.nav_tree.specs.Tree.{is_state}
 use Rattle.std.proofs.Common.{Bool, List, None, Option, Some, [], ap, arith, cond, false, refl, subst, sym, true, ℕ, ◌==◌, ◌∙◌, ◌∷◌, ◌≡◌}
 use Rattle.std.proofs.lemmas.Bool.Decides.{nat_tests}
-use Rattle.std.specs.BTreeMap.{insert_entry}
+use Rattle.indexmap.specs.IndexMap.{insert_entry}
 use Rattle.std.specs.Map.{lookup, remove_entry}
 use Rattle.tab_ids.specs.declared.StateId.{StateId}
 

@@ -3,12 +3,9 @@
 use Rattle.nav_tree.specs.declared.place.Place as live_place -- keep
 use Rattle.nav_tree.specs.Tree.{document_of, placed} -- keep
 use Rattle.indexmap.specs.IndexMap.{insert_entry} -- keep
-use Rattle.coord.proofs.GivenLaws.{home}
-use Rattle.coord.proofs.ShowDoor.{order}
 use Rattle.doors.proofs.Holding.{at_home_kept, at_home_more}
 use Rattle.doors.proofs.Keyed.{off_once, off_other, off_same, put_once, put_other, put_same, state_same}
 use Rattle.doors.proofs.Sights.{KeepsNumber, found_has, found_same, listed_gone, listed_kept, listed_more, listed_new, sights_on}
-use Rattle.doors.proofs.Works.{numbered}
 use Rattle.doors.specs.Look.{Look, Sight, is_live_for, is_made_for, look_of, moved_by, sight, sight_in}
 use Rattle.doors.specs.Orders.{next_order}
 use Rattle.doors.specs.Ties.{AreHeld, AreListed, AreTied, Holds, IsListed, IsOneSuch}
@@ -20,16 +17,12 @@ use Rattle.log_model.specs.After.{after}
 use Rattle.log_model.specs.AfterDocuments.{new_document}
 use Rattle.log_model.specs.History.{History}
 use Rattle.log_model.specs.Order.{SameHistory}
-use Rattle.log_model.specs.Places.{stands}
 use Rattle.log_model.specs.Seen.{Place, Seen, place_in}
 use Rattle.log_model.specs.declared.job.Job.{Job}
 use Rattle.log_model.specs.declared.job.Why.{Why}
 use Rattle.log_model.specs.declared.row_kind.Actor.{Actor}
 use Rattle.nav_tree.specs.Tree.{Tree, is_state, node_of}
 use Rattle.nav_tree.specs.declared.node.Node.{Node}
-use Rattle.plain_tab.proofs.Calms.{passes}
-use Rattle.plain_tab.proofs.Makings.{made}
-use Rattle.request_facts.proofs.Placings.{made_once}
 use Rattle.seen_laws.proofs.Keyed.{find_has}
 use Rattle.std.proofs.Common.{Bool, List, None, Option, Some, [], ap, arith, cond, false, length, length-append, map, refl, subst, sym, true, ℕ, ◌&&◌, ◌++◌, ◌+◌, ◌==◌, ◌∙◌, ◌∷◌, ◌≡◌}
 use Rattle.std.proofs.lemmas.List.{length-map, map-append}

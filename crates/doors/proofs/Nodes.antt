@@ -1,15 +1,16 @@
 -- What a change of a navigable beside its fields makes of each node, and what leaves the documents alone.
-use Rattle.coord.proofs.LookUps.{nav_same, read_back, read_past}
-use Rattle.coord.specs.Showing.{sleep_all}
-use Rattle.log_model.specs.AfterPlaces.{put_to_sleep}
+use Rattle.std.proofs.Common.{◌≡◌, Bool, true, false, cond, ◌==◌, List, [], ◌∷◌, map, Option, Some, None, refl, sym, ◌∙◌, subst}
+use Rattle.std.specs.Prelude.{option_map}
+use Rattle.std.proofs.lemmas.Map.{keys-set_value}
+use Rattle.tab_ids.specs.declared.NavId.{NavId}
 use Rattle.log_model.specs.declared.job.Why.{Why}
-use Rattle.nav_tree.specs.Tree.{Tree, changed, is_nav, node_of, with_nav, with_node}
 use Rattle.nav_tree.specs.declared.nav.Nav.{Nav}
 use Rattle.nav_tree.specs.declared.node.Node.{Node}
-use Rattle.std.proofs.Common.{Bool, List, None, Option, Some, [], cond, false, map, refl, subst, sym, true, ◌==◌, ◌∙◌, ◌∷◌, ◌≡◌}
-use Rattle.std.proofs.lemmas.Map.{keys-set_value}
-use Rattle.std.specs.Prelude.{option_map}
-use Rattle.tab_ids.specs.declared.NavId.{NavId}
+use Rattle.nav_tree.specs.Tree.{Tree, is_nav, node_of, with_node, with_nav, put_to_sleep}
+use Rattle.nav_tree.specs.Tree.{changed}
+use Rattle.coord.proofs.LookUps.{nav_same, read_back, read_past}
+use Rattle.coord.specs.Showing.{sleep_all}
+use Rattle.coord.proofs.LookUps.{nav_same, read_back, read_past}
 
 map_same : {A : Type 0} (o : Option A) → o ≡ option_map (λ (x : A). x) o
 map_same None = refl

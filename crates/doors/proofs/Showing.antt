@@ -1,23 +1,18 @@
 -- A navigable is shown its document, for which nobody falls asleep: the tables go on standing for the log.
-use Rattle.coord.proofs.LookUps.{nav_same}
-use Rattle.coord.proofs.Nodes.{keys_with_nav, node_with_nav, on_nav}
 use Rattle.doors.proofs.Holding.{held_changed, home_other, listed_unseen}
 use Rattle.doors.proofs.Nodes.{places_with}
 use Rattle.doors.proofs.Sights.{found_same, sight_of, sights_document, sights_on}
 use Rattle.doors.proofs.Telling.{SendsOne, told_to}
-use Rattle.doors.proofs.Works.{numbered}
 use Rattle.doors.specs.Look.{Sight, look_of, moved_by, sight, sight_in}
 use Rattle.doors.specs.Orders.{next_order}
 use Rattle.doors.specs.Ties.{AreHeld, AreListed, Holds, IsAwakeAtHome, IsHome, IsTied}
 use Rattle.doors.specs.declared.tables.Tables.{Tables}
-use Rattle.hang_facts.proofs.Forms.{nav_is}
 use Rattle.log_model.proofs.Refl.{nat_eq_refl}
 use Rattle.log_model.specs.After.{after}
 use Rattle.log_model.specs.AfterDocuments.{addressed}
 use Rattle.log_model.specs.AfterPlaces.{activated, on_place, put_to_sleep, sleepers_below}
 use Rattle.log_model.specs.History.{History, has_nav}
 use Rattle.log_model.specs.Order.{SameHistory}
-use Rattle.log_model.specs.Places.{stands}
 use Rattle.log_model.specs.Seen.{Document, Place, Seen, Status, asleep, awake, document_of, lost, place_in, place_of}
 use Rattle.log_model.specs.declared.job.Job.{Job}
 use Rattle.log_model.specs.declared.job.Why.{Why}
@@ -40,6 +35,8 @@ use Rattle.tab_ids.specs.declared.StateId.{StateId}
 use Rattle.log_model.specs.declared.job.Task.TheVariants as tasks
 use Rattle.log_model.specs.declared.row_kind.RowKind.TheVariants as rows
 use Rattle.nav_tree.specs.declared.status.NavStatus.TheVariants as kept
+use Rattle.coord.proofs.LookUps.{nav_same}
+use Rattle.coord.proofs.Nodes.{keys_with_nav, node_with_nav, on_nav}
 
 -- the navigable in the table: awake on the document, given the entry, under the next epoch, told the pair, and moved as this says
 abbrev pub shown_nav : EntryId → DocId → Why → ℕ × ℕ → (Bool → Bool) → Nav → Nav

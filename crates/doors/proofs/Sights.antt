@@ -6,7 +6,6 @@ use Rattle.hang_facts.specs.Members.{Has}
 use Rattle.log_model.proofs.Refl.{nat_eq_refl}
 use Rattle.log_model.specs.After.{on_document}
 use Rattle.log_model.specs.Seen.{Document, Seen, document_of}
-use Rattle.plain_tab.proofs.Calms.{passes}
 use Rattle.seen_laws.proofs.Keyed.{find_has, find_on_other, find_on_same}
 use Rattle.std.proofs.Common.{Bool, List, None, Option, Some, [], ap, arith, cond, false, inl, inr, map, refl, subst, sym, true, ℕ, ◌++◌, ◌==◌, ◌||◌, ◌∙◌, ◌∷◌, ◌≡◌, ◌⊎◌}
 use Rattle.std.proofs.lemmas.Bool.Decides.{nat_tests}

@@ -1,11 +1,7 @@
 -- An awake navigable's document is told length and index: the tables go on standing for the log.
-use Rattle.coord.proofs.GivenLaws.{home}
-use Rattle.coord.proofs.LookUps.{nav_same}
-use Rattle.coord.proofs.Nodes.{keys_with_nav, node_with_nav, on_nav}
 use Rattle.doors.proofs.Holding.{at_home_other, awake_home, held_changed, home_same, listed_unseen}
 use Rattle.doors.proofs.Nodes.{places_with}
 use Rattle.doors.proofs.Sights.{sights_document, sights_on}
-use Rattle.doors.proofs.Works.{numbered}
 use Rattle.doors.specs.Look.{Sight, look_of, moved_by, sight}
 use Rattle.doors.specs.Orders.{next_order}
 use Rattle.doors.specs.Ties.{AreHeld, AreListed, Holds, IsAwakeAtHome, IsHome, IsRunning, IsTied, status_of}
@@ -14,7 +10,6 @@ use Rattle.log_model.specs.After.{after}
 use Rattle.log_model.specs.AfterDocuments.{addressed}
 use Rattle.log_model.specs.History.{History}
 use Rattle.log_model.specs.Order.{SameHistory}
-use Rattle.log_model.specs.Places.{stands}
 use Rattle.log_model.specs.Seen.{Asked, Place, Seen, Status, awake, place_in}
 use Rattle.log_model.specs.declared.job.Job.{Job}
 use Rattle.log_model.specs.declared.job.Why.{Why}
@@ -33,6 +28,8 @@ use Rattle.tab_ids.specs.declared.StateId.{StateId}
 use Rattle.log_model.specs.declared.job.Task.TheVariants as tasks
 use Rattle.log_model.specs.declared.row_kind.RowKind.TheVariants as rows
 use Rattle.nav_tree.specs.declared.status.NavStatus.TheVariants as kept
+use Rattle.coord.proofs.LookUps.{nav_same}
+use Rattle.coord.proofs.Nodes.{keys_with_nav, node_with_nav, on_nav}
 
 -- an order more was sent; all but the navigables is as it was
 pub record SendsOne (t u : Tables) : Type 0 where

@@ -3,7 +3,7 @@ use Rattle.doors.specs.Working as working -- keep
 use Rattle.seen_laws.proofs.Startings.{IsWorker} -- keep
 use Rattle.doors.proofs.EndLaws.{left_holds}
 use Rattle.doors.proofs.Requests.{ended_moved, moved_same, runs_ended_apart}
-use Rattle.doors.proofs.Works.{done_here, goal_read, goal_same, numbered, start_here, started_held, work_more}
+use Rattle.doors.proofs.Works.{done_here, goal_read, goal_same, start_here, started_held, work_more}
 use Rattle.doors.specs.Dues.{IsBeginDue, IsDenyDue, IsDestroyDue, IsDropDue, IsNowhere}
 use Rattle.doors.specs.Look.{look_of, moved_by, sight}
 use Rattle.doors.specs.Ties.{Holds, IsRunning}
@@ -27,7 +27,6 @@ use Rattle.log_model.specs.declared.row_kind.Actor.{Actor}
 use Rattle.log_model.specs.declared.row_kind.LogRow.{LogRow}
 use Rattle.log_model.specs.declared.row_kind.RowKind.{RowKind}
 use Rattle.plain_tab.proofs.Courses.{runs_begun}
-use Rattle.plain_tab.proofs.TabTaken.{now}
 use Rattle.plain_tab.specs.Calm.{EachAsked, is_run, is_this}
 use Rattle.request_facts.proofs.LookUps.{on_itself}
 use Rattle.request_facts.proofs.Readers.{on_read}

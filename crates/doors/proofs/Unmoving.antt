@@ -1,6 +1,5 @@
 -- Navigables that are not moved any more, one by one.
 use Rattle.apply_plan.specs.Order.{made_in}
-use Rattle.coord.proofs.Nodes.{keys_with_nav}
 use Rattle.doors.specs.Ending.{unmove_all}
 use Rattle.log_model.proofs.Refl.{nat_eq_refl}
 use Rattle.nav_tree.proofs.Lists.{take-slice_get}
@@ -14,6 +13,7 @@ use Rattle.std.specs.Map.{lookup}
 use Rattle.std.specs.Option.{IsSome}
 use Rattle.std.specs.Prelude.{option_map, slice_get}
 use Rattle.tab_ids.specs.declared.NavId.{NavId}
+use Rattle.coord.proofs.Nodes.{keys_with_nav}
 
 mapped_there : (f : Node → Node) (o : Option Node) → IsSome o → IsSome (option_map f o)
 mapped_there f None is = cc

@@ -3,9 +3,6 @@ use Rattle.seen_laws.specs.InEvent.{first_of} -- keep
 use Rattle.nav_tree.specs.declared.place.Place as live_place -- keep
 use Rattle.nav_tree.specs.Tree.{document_of, discarded, activated} -- keep
 use Rattle.plain_tab.proofs.Courses.{was_asked} -- keep
-use Rattle.coord.proofs.Nodes.{changed_twice, still_there}
-use Rattle.coord.specs.Showing.{sleep_all}
-use Rattle.coord.specs.Ties.{IsAwakeIn}
 use Rattle.doors.proofs.Discarding.{discard_holds}
 use Rattle.doors.proofs.Making.{MakesOne, make_holds}
 use Rattle.doors.proofs.Requests.{on_another, runs_same}
@@ -66,6 +63,9 @@ use Rattle.tab_ids.specs.declared.Step.{Step}
 use Rattle.log_model.specs.declared.job.Task.TheVariants as tasks
 use Rattle.log_model.specs.declared.job.Why.TheVariants as whys
 use Rattle.log_model.specs.declared.row_kind.RowKind.TheVariants as rows
+use Rattle.coord.proofs.Nodes.{changed_twice, still_there}
+use Rattle.coord.specs.Ties.{IsAwakeIn}
+use Rattle.coord.specs.Showing.{sleep_all}
 
 -- a row that owes nothing where it stands
 clear_here : (e : InEvent) (out : List RowKind) (kind : RowKind) → ((end : Seen) → owes_row (here_of e out) (row_of e kind) end ≡ true) → IsClear e out → IsClear e (out ++ kind ∷ [])
