@@ -1,6 +1,6 @@
 -- A document is discarded, and its navigable falls asleep with those below it: the tables go on standing for the log.
-use Rattle.nav_tree.specs.declared.place.Place as live_place -- keep
-use Rattle.nav_tree.specs.Tree.{document_of, discarded} -- keep
+use Rattle.nav_tree.specs.declared.place.Place as live_place  -- keep
+use Rattle.nav_tree.specs.Tree.{document_of, discarded}  -- keep
 use Rattle.doors.proofs.Holding.{at_home_kept, held_changed}
 use Rattle.doors.proofs.Keyed.{off_once, off_other, off_same, state_same}
 use Rattle.doors.proofs.Nodes.{places_asleep}
@@ -39,7 +39,6 @@ use Rattle.coord.specs.Showing.{sleep_all}
 
 abbrev pub discarded_sight : Sight → Sight
 discarded_sight d = record d { is_discarded = true }
-
 
 module _ (s : Seen) (run : Option ReqId) (event : ℕ) (actor : Actor) (proc : ProcId) (doc : DocId) (why : Why) (state : StateId) (d : Sight) (navs : List NavId) (t : Tables) (holds : Holds (look_of s run) t) (are : (other : NavId) → has_nav (sleepers_with s doc) other ≡ has_nav navs other) (found : sight_in (map sight s.documents) doc ≡ Some d) (its_state : (x : Sight) → Has (map sight s.documents) x → (x.nr.0 == doc.0) ≡ true → x.state ≡ state) (ready : d.is_ready ≡ true) (its : option_map (λ (p : live_place.Place). p.doc) (document_of state t.tree) ≡ Some doc) where
   abbrev pub discard_job : Job

@@ -1,8 +1,7 @@
 -- How what the tables keep of navigables is kept, as nodes, places and documents change.
 
-
-use Rattle.nav_tree.specs.declared.place.Place as live_place -- keep
-use Rattle.nav_tree.specs.Tree.{document_of} -- keep
+use Rattle.nav_tree.specs.declared.place.Place as live_place  -- keep
+use Rattle.nav_tree.specs.Tree.{document_of}  -- keep
 use Rattle.doors.proofs.Sights.{KeepsNumber, found_more, found_other, found_same, listed_kept, sights_on}
 use Rattle.doors.specs.Look.{Look, Sight, is_live_for, is_made_for, sight_in}
 use Rattle.doors.specs.Ties.{AreHeld, AreListed, AreOnceKeyed, AreTied, IsAwakeAtHome, IsHome, IsListed, IsTied, status_of}

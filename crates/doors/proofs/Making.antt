@@ -1,8 +1,8 @@
 -- A document is to be made, and then is: the tables go on standing for the log.
 
-use Rattle.nav_tree.specs.declared.place.Place as live_place -- keep
-use Rattle.nav_tree.specs.Tree.{document_of, placed} -- keep
-use Rattle.indexmap.specs.IndexMap.{insert_entry} -- keep
+use Rattle.nav_tree.specs.declared.place.Place as live_place  -- keep
+use Rattle.nav_tree.specs.Tree.{document_of, placed}  -- keep
+use Rattle.indexmap.specs.IndexMap.{insert_entry}  -- keep
 use Rattle.doors.proofs.Holding.{at_home_kept, at_home_more}
 use Rattle.doors.proofs.Keyed.{off_once, off_other, off_same, put_once, put_other, put_same, state_same}
 use Rattle.doors.proofs.Sights.{KeepsNumber, found_has, found_same, listed_gone, listed_kept, listed_more, listed_new, sights_on}
@@ -37,6 +37,7 @@ use Rattle.tab_ids.specs.declared.ReqId.{ReqId}
 use Rattle.tab_ids.specs.declared.StateId.{StateId}
 use Rattle.log_model.specs.declared.job.Task.TheVariants as tasks
 use Rattle.log_model.specs.declared.row_kind.RowKind.TheVariants as rows
+
 never_both : (a : Bool) → (a && false) ≡ false
 never_both true = refl
 never_both false = refl
@@ -97,21 +98,23 @@ module _ (s : Seen) (run : Option ReqId) (event : ℕ) (actor : Actor) (proc : P
         }
 
     tied_more : (other : NavId) (n : Option Node) (p : Option Place) → AreTied (map sight s.documents) (moved_by s.requests run) other n p → AreTied grown (moved_by s.requests run) other n p
-    tied_more other (Some n) (Some p) tied =
-        (tied.0, record {
-          parent = tied.1.parent;
-          owner = tied.1.owner;
-          status = tied.1.status;
-          given = tied.1.given;
-          epoch = tied.1.epoch;
-          why = tied.1.why;
-          moved_is = tied.1.moved_is;
-          stands = tied.1.stands;
-          unmet = tied.1.unmet;
-          added_by = tied.1.added_by;
-          destroyed_by = tied.1.destroyed_by;
-          home = at_home_more (map sight s.documents) new_sight p.nav n.nav.told p.status tied.1.home;
-        })
+    tied_more other (Some n) (Some p) tied = (
+      tied.0,
+      record {
+        parent = tied.1.parent;
+        owner = tied.1.owner;
+        status = tied.1.status;
+        given = tied.1.given;
+        epoch = tied.1.epoch;
+        why = tied.1.why;
+        moved_is = tied.1.moved_is;
+        stands = tied.1.stands;
+        unmet = tied.1.unmet;
+        added_by = tied.1.added_by;
+        destroyed_by = tied.1.destroyed_by;
+        home = at_home_more (map sight s.documents) new_sight p.nav n.nav.told p.status tied.1.home;
+      },
+    )
     tied_more other None None tied = tt
     tied_more other (Some n) None tied = elim tied [ ]
     tied_more other None (Some p) tied = elim tied [ ]
@@ -216,21 +219,23 @@ module _ (look new : Look) (t : Tables) (doc : DocId) (state : StateId) (place :
       }
 
   tied_ready : (other : NavId) (n : Option Node) (p : Option Place) → AreTied look.documents look.moved other n p → AreTied ready look.moved other n p
-  tied_ready other (Some n) (Some p) tied =
-      (tied.0, record {
-        parent = tied.1.parent;
-        owner = tied.1.owner;
-        status = tied.1.status;
-        given = tied.1.given;
-        epoch = tied.1.epoch;
-        why = tied.1.why;
-        moved_is = tied.1.moved_is;
-        stands = tied.1.stands;
-        unmet = tied.1.unmet;
-        added_by = tied.1.added_by;
-        destroyed_by = tied.1.destroyed_by;
-        home = at_home_kept look.documents doc made_ready p.nav n.nav.told p.status (λ x. refl) (λ x. refl) (λ x. refl) tied.1.home;
-      })
+  tied_ready other (Some n) (Some p) tied = (
+    tied.0,
+    record {
+      parent = tied.1.parent;
+      owner = tied.1.owner;
+      status = tied.1.status;
+      given = tied.1.given;
+      epoch = tied.1.epoch;
+      why = tied.1.why;
+      moved_is = tied.1.moved_is;
+      stands = tied.1.stands;
+      unmet = tied.1.unmet;
+      added_by = tied.1.added_by;
+      destroyed_by = tied.1.destroyed_by;
+      home = at_home_kept look.documents doc made_ready p.nav n.nav.told p.status (λ x. refl) (λ x. refl) (λ x. refl) tied.1.home;
+    },
+  )
   tied_ready other None None tied = tt
   tied_ready other (Some n) None tied = elim tied [ ]
   tied_ready other None (Some p) tied = elim tied [ ]

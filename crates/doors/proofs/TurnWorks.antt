@@ -1,6 +1,6 @@
 -- A traversal begins, or a request is refused or dropped, and the coordinator goes on working.
-use Rattle.doors.specs.Working as working -- keep
-use Rattle.seen_laws.proofs.Startings.{IsWorker} -- keep
+use Rattle.doors.specs.Working as working  -- keep
+use Rattle.seen_laws.proofs.Startings.{IsWorker}  -- keep
 use Rattle.doors.proofs.EndLaws.{left_holds}
 use Rattle.doors.proofs.Requests.{ended_moved, moved_same, runs_ended_apart}
 use Rattle.doors.proofs.Works.{done_here, goal_read, goal_same, start_here, started_held, work_more}

@@ -1,8 +1,8 @@
 -- One row more that the coordinator puts out: it goes on working.
-use Rattle.seen_laws.specs.InEvent.{first_of} -- keep
-use Rattle.nav_tree.specs.declared.place.Place as live_place -- keep
-use Rattle.nav_tree.specs.Tree.{document_of, discarded, activated} -- keep
-use Rattle.plain_tab.proofs.Courses.{was_asked} -- keep
+use Rattle.seen_laws.specs.InEvent.{first_of}  -- keep
+use Rattle.nav_tree.specs.declared.place.Place as live_place  -- keep
+use Rattle.nav_tree.specs.Tree.{document_of, discarded, activated}  -- keep
+use Rattle.plain_tab.proofs.Courses.{was_asked}  -- keep
 use Rattle.doors.proofs.Discarding.{discard_holds}
 use Rattle.doors.proofs.Making.{MakesOne, make_holds}
 use Rattle.doors.proofs.Requests.{on_another, runs_same}
@@ -285,7 +285,6 @@ module _ (e : InEvent) (out : List RowKind) (t u : Tables) (doc : DocId) (by : R
       moved_apart : (run : Option ReqId) → is_this run by ≡ false → moved_by then_gone.requests run ≡ moved_by (now_of e out).requests run
       moved_apart None is = refl
       moved_apart (Some x) is = ap (λ (o : Option Asked). option_map_or (λ (q : Asked). q.moved) o []) (on_another (now_of e out).requests by x (with_moved (sleepers_with (now_of e out) doc)) is)
-
 
 -- ---- the calls of the door that shows
 

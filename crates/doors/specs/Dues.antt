@@ -1,6 +1,6 @@
 -- When what a document made is taken up, refused or dropped, and when a traversal begins, is refused or ends.
 -- HTML Standard, "URL and history update steps", "create a new child navigable", "destroy a child navigable", "traverse the history by a delta"; what is held back is this project's own.
-use Rattle.log_model.specs.declared.change.Change.TheVariants as changes -- keep
+use Rattle.log_model.specs.declared.change.Change.TheVariants as changes  -- keep
 use Rattle.doors.specs.Look.{moved_by}
 use Rattle.entry_store.specs.Store.{MayTake}
 use Rattle.frame_rows.specs.Lawful.{KeepsHeld, held_at_first}

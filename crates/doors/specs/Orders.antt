@@ -1,7 +1,7 @@
 -- The orders that the coordinator sends, and when.
-use Rattle.nav_tree.specs.declared.place.Place as live_place -- keep
-use Rattle.nav_tree.specs.Tree.{document_of} -- keep
-use Rattle.log_model.specs.Seen.{document_of as document_in_log} -- keep
+use Rattle.nav_tree.specs.declared.place.Place as live_place  -- keep
+use Rattle.nav_tree.specs.Tree.{document_of}  -- keep
+use Rattle.log_model.specs.Seen.{document_of as document_in_log}  -- keep
 use Rattle.doors.specs.Look.{Sight, sight}
 use Rattle.frame_rows.specs.Discarding.{IsDiscardDue}
 use Rattle.hang_facts.specs.Members.{Has}
@@ -25,6 +25,7 @@ use Rattle.tab_ids.specs.declared.ProcId.{ProcId}
 use Rattle.tab_ids.specs.declared.ReqId.{ReqId}
 use Rattle.tab_ids.specs.declared.StateId.{StateId}
 use Rattle.log_model.specs.declared.job.Why.TheVariants as whys
+
 -- HTML Standard, "update document for history step application", "activate history entry", "attempt to populate the history entry's document" and "destroy a document"; numbers, processes and incarnations are this project's own.
 
 -- the order with a number
