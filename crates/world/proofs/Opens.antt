@@ -1,5 +1,5 @@
 -- The opening of a world.
-use Rattle.std.proofs.Common.{◌≡◌, ℕ, Bool, true, false, cond, ◌&&◌, ◌==◌, List, [], ◌∷◌, Option, None, Some, refl, sym, ap, ◌∙◌, subst, arith}
+use Rattle.std.proofs.Common.{◌≡◌, ℕ, Bool, true, false, cond, ◌==◌, List, [], ◌∷◌, Option, None, Some, refl, sym, ap, ◌∙◌, subst, arith}
 use Rattle.std.specs.Prelude.{bytes_eq, option_and_then, IfSome, if◌then◌else◌}
 use Rattle.std.proofs.lemmas.Bool.Decides.{nat_tests}
 use Rattle.log_model.proofs.Refl.{bytes_eq_refl, nat_eq_refl}
@@ -9,7 +9,6 @@ use Rattle.tab_ids.specs.declared.ProcId.{ProcId}
 use Rattle.log_model.specs.declared.header.Header.{Header}
 use Rattle.log_model.specs.declared.row_kind.LogRow.{LogRow}
 use Rattle.log_model.specs.ActsAtOnce.{ActsAtOnce}
-use Rattle.log_model.specs.Equal.{holds}
 use Rattle.log_model.specs.Events.{events_of, AtEachEvent, after_opening, each_event}
 use Rattle.log_model.specs.Legal.{IsLegal, opens}
 use Rattle.log_model.specs.Limits.{BeginsBelow, starts_from}

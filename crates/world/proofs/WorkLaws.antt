@@ -1,5 +1,5 @@
 -- The process acts, takes up an order, or finishes one.
-use Rattle.std.proofs.Common.{◌≡◌, ℕ, ◌+◌, ◌*◌, ◌<◌, ◌≤◌, Bool, true, false, ◌==◌, List, [], ◌∷◌, ◌++◌, length, drop, Option, Some, None, refl, sym, ap, ◌∙◌, subst, arith}
+use Rattle.std.proofs.Common.{◌≡◌, ℕ, ◌+◌, ◌<◌, ◌≤◌, Bool, true, false, ◌==◌, List, [], ◌∷◌, ◌++◌, length, drop, Option, Some, None, refl, sym, ap, ◌∙◌, subst, arith}
 use Rattle.std.specs.Prelude.{option_map, slice_get, IfSome, IsSomeAnd}
 use Rattle.std.proofs.lemmas.Bool.Decides.{nat_tests}
 use Rattle.tab_ids.specs.declared.DocId.{DocId}
@@ -30,8 +30,9 @@ use Rattle.log_model.specs.AfterRequests.{requests_finished}
 use Rattle.log_model.specs.Equal.{holds}
 use Rattle.log_model.specs.Logs.{seen_of}
 use Rattle.log_model.specs.Seen.{Seen, Document, Desk, desk_of}
-use Rattle.log_model.specs.Views.{View, made_by, made_for, after_made, after_task}
+use Rattle.log_model.specs.Views.{View, made_by, after_made, after_task}
 use Rattle.log_counts.specs.Counts.{told_index}
+use Rattle.doc_view.specs.Jobs.{IsForView}
 use Rattle.history_log.proofs.DeskLaws.{desk_of-after}
 use Rattle.seen_laws.specs.InEvent.{InEvent}
 use Rattle.seen_laws.specs.Sending.{IsToldTask}
@@ -75,6 +76,12 @@ pub is_told : (epoch : Epoch) (task : Task) → IsOrder epoch task → IsToldTas
 is_told epoch (tasks.Activate entry ep long at memo address) is = tt
 is_told epoch (tasks.Update long at) is = tt
 is_told epoch _ is = elim is [ ]
+
+-- it is one for a view that is there
+for_view : (task : Task) → IsToldTask task → IsForView task
+for_view (tasks.Activate entry ep long at memo address) is = tt
+for_view (tasks.Update long at) is = tt
+for_view _ is = elim is [ ]
 
 -- what comes of it, by two definitions
 same_outcome : (task : Task) (dirty : Bool) → IsToldTask task → outcome_of_task task dirty None ≡ told_outcome task
@@ -221,6 +228,9 @@ module _ (header : Header) (log : List LogRow) (t : State) (is : IsOpen header l
 
       pub its_told : IsToldTask order.job.task
       its_told = is_told is.keeps.stands.place.epoch order.job.task its_order.task
+
+      pub its_task : IsForView order.job.task
+      its_task = for_view order.job.task its_told
 
       pub its_doc : IsSomeAnd (view_at t.views order.job.doc) (λ (v : View). order.job.doc ≡ v.doc)
       its_doc = rw (kept_view header log t is order.job.doc its_order.of_doc) (its_order.of_doc ∙ sym is.keeps.stands.tab.flowing.own.running.doc)

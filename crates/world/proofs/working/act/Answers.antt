@@ -1,16 +1,16 @@
-use Rattle.std.proofs.Common.{refl, sym, ap, ◌∙◌, absurd, arith}
+use Rattle.std.proofs.Common.{refl, sym, ◌∙◌, arith}
 use Rattle.log_model.specs.declared.made.Report.TheVariants as told
 use Rattle.proc_tables.specs.declared.item.Item.TheVariants as items
 use Rattle.proc_tables.specs.Desks.{desk_with, without_poke}
 use Rattle.world.proofs.Facts.{events_small}
 use Rattle.world.proofs.TableLaws.{changes_then}
-use Rattle.world.proofs.WorkLaws.{made_gone, poke_here, poke_room, poke_runs, refused_gone}
+use Rattle.world.proofs.WorkLaws.{made_gone, poke_here, poke_room, refused_gone}
 use Rattle.world.proofs.working.act.Goals as goal
 
 pub act-requires : goal.act-requires
 act-requires c =
     let first = sym c.next_poke.ensures.first ∙ c.in-Some.is in
-    poke_room _ _ _ c.requires.«open» c.requires.short _ (poke_here _ _ _ c.requires.«open» c.requires.short _ _ first) _ first
+    record { room = poke_room _ _ _ c.requires.«open» c.requires.short _ (poke_here _ _ _ c.requires.«open» c.requires.short _ _ first) _ first }
 
 pub overflow_add-state : goal.overflow_add-state
 overflow_add-state c = grind (arith, events_small _ _ _ c.requires.«open»)
@@ -22,7 +22,7 @@ pub returns-in-Ok-clause-gone : goal.returns-in-Ok-clause-gone
 returns-in-Ok-clause-gone c =
     let first = sym c.next_poke.ensures.first ∙ c.in-Some.is in
     let made = items.Report (told.Made c.in-Ok.made) in
-    let reported = rw c.in_ok-told-in-Ok.ensures at c.in_ok-add-in-Ok.ensures in
+    let reported = rw c.in_ok-told-in-Ok.ensures at c.in_ok-add-in-Ok.ensures.ok in
     made_gone _ _ _ c.requires.«open» c.requires.short _ (poke_here _ _ _ c.requires.«open» c.requires.short _ _ first) _ first _ _ _ c.in-Ok.ensures.acts refl refl (changes_then c.args.proc without_poke (desk_with made) _ _ _ c.next_poke.ensures.rest reported) refl c.in_ok-log_row-in-Ok.ensures.ok
 
 pub returns-in-Err-NotRewritable-clause-gone : goal.returns-in-Err-NotRewritable-clause-gone

@@ -1,9 +1,7 @@
-use Rattle.std.proofs.Common.{◌≡◌, Some, None, refl, sym, ap, ◌∙◌, arith}
-use Rattle.std.specs.Prelude.{slice_get}
-use Rattle.log_model.specs.Seen.{Desk}
+use Rattle.std.proofs.Common.{refl, sym, ◌∙◌, arith}
 use Rattle.proc_tables.specs.declared.item.Item.TheVariants as items
 use Rattle.proc_tables.specs.Desks.{desk_with, without_job}
-use Rattle.world.proofs.Facts.{busy_here, events_small}
+use Rattle.world.proofs.Facts.{events_small}
 use Rattle.world.proofs.TableLaws.{changes_then}
 use Rattle.world.proofs.WorkLaws.{begin_gone, first_job_here}
 use Rattle.world.proofs.working.begin.Goals as goal
@@ -15,4 +13,4 @@ pub returns-clause-gone : goal.returns-clause-gone
 returns-clause-gone c =
     let first = sym c.next_job.ensures.first ∙ c.in-Some.is in
     let order = items.Order (record { job = c.in-Some.job; dirty = c.is_dirty-dirty.result }) in
-    rw c.in_ok-taken.ensures (begin_gone _ _ _ c.requires.«open» c.requires.short _ (first_job_here _ _ _ c.requires.«open» c.requires.short _ _ first) _ first c.requires.free _ _ _ c.is_dirty-dirty.ensures refl refl refl (changes_then c.args.proc without_job (desk_with order) _ _ _ c.next_job.ensures.rest c.in_ok-add.ensures) refl c.in_ok-log_row.ensures.ok)
+    rw c.in_ok-taken.ensures (begin_gone _ _ _ c.requires.«open» c.requires.short _ (first_job_here _ _ _ c.requires.«open» c.requires.short _ _ first) _ first c.requires.free _ _ _ c.is_dirty-dirty.ensures refl refl refl (changes_then c.args.proc without_job (desk_with order) _ _ _ c.next_job.ensures.rest c.in_ok-add.ensures.ok) refl c.in_ok-log_row.ensures.ok)
