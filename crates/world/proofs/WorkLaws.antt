@@ -78,7 +78,7 @@ is_told epoch (tasks.Update long at) is = tt
 is_told epoch _ is = elim is [ ]
 
 -- it is one for a view that is there
-for_view : (task : Task) → IsToldTask task → IsForView task
+pub for_view : (task : Task) → IsToldTask task → IsForView task
 for_view (tasks.Activate entry ep long at memo address) is = tt
 for_view (tasks.Update long at) is = tt
 for_view _ is = elim is [ ]
@@ -228,9 +228,6 @@ module _ (header : Header) (log : List LogRow) (t : State) (is : IsOpen header l
 
       pub its_told : IsToldTask order.job.task
       its_told = is_told is.keeps.stands.place.epoch order.job.task its_order.task
-
-      pub its_task : IsForView order.job.task
-      its_task = for_view order.job.task its_told
 
       pub its_doc : IsSomeAnd (view_at t.views order.job.doc) (λ (v : View). order.job.doc ≡ v.doc)
       its_doc = rw (kept_view header log t is order.job.doc its_order.of_doc) (its_order.of_doc ∙ sym is.keeps.stands.tab.flowing.own.running.doc)

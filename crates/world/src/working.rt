@@ -1,8 +1,9 @@
 //! The events in which a process acts, takes up an order, and finishes it.
-ghost use Rattle.std.specs.Prelude.{◌≡◌, Bool, ◌<◌, length, take, IsSome, None, IfOk, IfErr, OnErr};
+ghost use Rattle.std.specs.Prelude.{◌≡◌, Bool, ◌<◌, length, take, IsSome, None, IfOk, IfSome, IfErr, IsSomeAnd, OnErr, OnOk};
 ghost use Rattle.log_model.specs.Equal.{holds};
 ghost use Rattle.proc_tables.specs.Desks.{desk_at};
-ghost use Rattle.proc_tables.specs.Views.{view_at};
+ghost use Rattle.log_model.specs.Views.{after_task};
+ghost use Rattle.proc_tables.specs.Views.{Becomes, HasRoom, view_at};
 ghost use Rattle.proc_work.specs.Work.{outcome_of_task};
 ghost use Rattle.seen_laws.specs.Sending.{IsToldTask};
 ghost use Rattle.world.specs.declared.event.Event.TheVariants as events;
@@ -15,9 +16,10 @@ use crate::error::StepError;
 use crate::event::Reply;
 use crate::logging::log_row;
 use crate::state::State;
+use address::OutOfMemory;
 use doc_view::ActError;
 use history_log::Log;
-use log_model::{Actor, Denial, Ending, Header, Order, Outcome, Report, RowKind, Task};
+use log_model::{Actor, Denial, Ending, Header, Job, Order, Outcome, Report, RowKind, Task};
 use proc_tables::{Item, Views};
 use tab_ids::{DocId, ProcId};
 
@@ -129,8 +131,7 @@ pub(crate) fn finish(
     };
     let Order { job, dirty: _ } = order;
     let nr = job.nr;
-    let outcome = outcome_of(&job.task);
-    state.views.do_job(&job)?;
+    let outcome = work(&mut state.views, &job)?;
     state
         .desks
         .add(proc, Item::Report(Report::Done(job, outcome, None)))?;
@@ -142,6 +143,19 @@ pub(crate) fn finish(
     log_row(log, state.events, Actor::Proc(proc), own)?;
     state.events += 1;
     Ok(Reply::Finished)
+}
+
+/// Lets the document of an order do it, and answers how it went.
+fn work(views: &mut Views, job: &Job) -> Result<Outcome, OutOfMemory>
+    requires room { IsSomeAnd (view_at views.old job.now.doc) HasRoom }
+    requires doc { IsSomeAnd (view_at views.old job.now.doc) (λ view. job.now.doc ≡ view.doc) }
+    requires told { IsToldTask job.now.task }
+    ensures outcome { IfOk result (λ outcome. (dirty : Bool) → outcome ≡ outcome_of_task job.now.task dirty None) }
+    ensures view { OnOk result (IfSome (view_at views.old job.now.doc) (λ view. Becomes job.now.doc (after_task view job.now.task) views.old views.new)) }
+{
+    let outcome = outcome_of(&job.task);
+    views.do_job(job)?;
+    Ok(outcome)
 }
 
 /// What comes of an order that shows an entry, or tells length and index.

@@ -4,28 +4,23 @@ use Rattle.proc_tables.specs.declared.item.Item.TheVariants as items
 use Rattle.proc_tables.specs.Desks.{desk_with, without_order}
 use Rattle.world.proofs.Facts.{events_small}
 use Rattle.world.proofs.TableLaws.{changes_then}
-use Rattle.world.proofs.WorkLaws.{finish_gone, hand_here, its_told, its_doc, its_room, its_task}
+use Rattle.world.proofs.WorkLaws.{finish_gone, hand_here, its_told, its_doc, its_room}
 use Rattle.world.proofs.working.finish.Goals as goal
 
-pub outcome_of-outcome-requires : goal.outcome_of-outcome-requires
-outcome_of-outcome-requires c =
+pub work-requires-clause-told : goal.work-requires-clause-told
+work-requires-clause-told c =
     let hand = sym c.let_go.ensures.held ∙ c.in-Some.is in
-    record { told = its_told _ _ _ c.requires.«open» c.requires.short _ (hand_here _ _ _ c.requires.«open» c.requires.short _ _ hand) _ hand }
+    its_told _ _ _ c.requires.«open» c.requires.short _ (hand_here _ _ _ c.requires.«open» c.requires.short _ _ hand) _ hand
 
-pub do_job-requires-clause-room : goal.do_job-requires-clause-room
-do_job-requires-clause-room c =
+pub work-requires-clause-room : goal.work-requires-clause-room
+work-requires-clause-room c =
     let hand = sym c.let_go.ensures.held ∙ c.in-Some.is in
     its_room _ _ _ c.requires.«open» c.requires.short _ (hand_here _ _ _ c.requires.«open» c.requires.short _ _ hand) _ hand
 
-pub do_job-requires-clause-doc : goal.do_job-requires-clause-doc
-do_job-requires-clause-doc c =
+pub work-requires-clause-doc : goal.work-requires-clause-doc
+work-requires-clause-doc c =
     let hand = sym c.let_go.ensures.held ∙ c.in-Some.is in
     its_doc _ _ _ c.requires.«open» c.requires.short _ (hand_here _ _ _ c.requires.«open» c.requires.short _ _ hand) _ hand
-
-pub do_job-requires-clause-task : goal.do_job-requires-clause-task
-do_job-requires-clause-task c =
-    let hand = sym c.let_go.ensures.held ∙ c.in-Some.is in
-    its_task _ _ _ c.requires.«open» c.requires.short _ (hand_here _ _ _ c.requires.«open» c.requires.short _ _ hand) _ hand
 
 pub overflow_add-state : goal.overflow_add-state
 overflow_add-state c = grind (arith, events_small _ _ _ c.requires.«open»)
@@ -33,5 +28,5 @@ overflow_add-state c = grind (arith, events_small _ _ _ c.requires.«open»)
 pub returns-clause-gone : goal.returns-clause-gone
 returns-clause-gone c =
     let hand = sym c.let_go.ensures.held ∙ c.in-Some.is in
-    let done = items.Report (told.Done c.in-Some.order.job c.outcome_of-outcome.result None) in
-    finish_gone _ _ _ c.requires.«open» c.requires.short _ (hand_here _ _ _ c.requires.«open» c.requires.short _ _ hand) _ hand _ _ _ c.outcome_of-outcome.ensures refl refl c.in_ok-do_job.ensures.view (changes_then c.args.proc without_order (desk_with done) _ _ _ c.let_go.ensures.rest c.in_ok-add.ensures.ok) refl c.in_ok-log_row.ensures.ok
+    let done = items.Report (told.Done c.in-Some.order.job c.in_ok-outcome.outcome None) in
+    finish_gone _ _ _ c.requires.«open» c.requires.short _ (hand_here _ _ _ c.requires.«open» c.requires.short _ _ hand) _ hand _ _ _ c.in_ok-outcome.ensures.outcome refl refl c.in_ok-outcome.ensures.view (changes_then c.args.proc without_order (desk_with done) _ _ _ c.let_go.ensures.rest c.in_ok-add.ensures.ok) refl c.in_ok-log_row.ensures.ok
