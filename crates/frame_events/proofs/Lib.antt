@@ -1,0 +1,10 @@
+pub mod Composed
+pub mod Leading
+pub mod Opened
+pub mod Delivering
+pub mod Unmoved
+pub mod Begins
+pub mod Processes
+pub mod Denials
+pub mod Passing
+pub mod Queueing

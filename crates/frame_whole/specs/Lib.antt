@@ -1,0 +1,3 @@
+pub mod Untold
+pub mod Tab
+pub mod Beside

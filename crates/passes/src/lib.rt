@@ -1,0 +1,7 @@
+//! The settling pass of a coordinator: what is due as an event goes on, until nothing is.
+#![tactic(auto)]
+
+mod reading;
+mod telling;
+
+pub use telling::tell_all;
