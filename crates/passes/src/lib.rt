@@ -1,0 +1,4 @@
+//! The settling pass of a coordinator: what is due as an event goes on, until nothing is.
+#![tactic(auto)]
+
+mod reading;
