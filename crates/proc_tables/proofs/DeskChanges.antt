@@ -12,7 +12,7 @@ use Rattle.tab_ids.specs.declared.ProcId.{ProcId}
 use Rattle.log_model.specs.Logs.{is_idle}
 use Rattle.log_model.specs.Seen.{Desk, empty_desk}
 use Rattle.log_model.proofs.Refl.{nat_eq_refl}
-use Rattle.proc_tables.specs.Desks.{is_proc, desk_at, on_proc, Changes}
+use Rattle.proc_tables.specs.Desks.{is_proc, desk_at, on_proc, Changes, Stays}
 
 same_proc : (a b : ProcId) → (a.0 == b.0) ≡ true → a ≡ b
 same_proc a b same =
@@ -31,6 +31,15 @@ changed old new of desk now f found is updates proc = by_test (of.0 == proc.0) r
         let left : lookup (is_proc proc) new ≡ lookup (is_proc proc) old = updates proc ∙ ap (λ (b : Bool). cond b (Some now) (lookup (is_proc proc) old)) e in
         rw (left, e) refl
 
+-- a desk is made where there was none, and the desk that is found is written again
+pub stays : (old mid new : List (ProcId × Desk)) (of : ProcId) (desk now : Desk) → Stays old mid → lookup (is_proc of) mid ≡ Some desk → ((proc : ProcId) → lookup (is_proc proc) new ≡ cond (of.0 == proc.0) (Some now) (lookup (is_proc proc) mid)) → now ≡ desk → Stays old new
+stays old mid new of desk now before found updates is proc =
+    changed mid new of desk now (λ d. d) found is updates proc ∙ (by_test (of.0 == proc.0) ∙ before proc)
+  where
+    by_test : (b : Bool) → cond b (desk_at mid proc) (desk_at mid proc) ≡ desk_at mid proc
+    by_test true = refl
+    by_test false = refl
+
 -- none is found, and an empty desk stays so
 pub unchanged : (desks : List (ProcId × Desk)) (of : ProcId) (f : Desk → Desk) → lookup (is_proc of) desks ≡ None → f (empty_desk of) ≡ empty_desk of → Changes of f desks desks
 unchanged desks of f none stays proc = by_test (of.0 == proc.0) refl
@@ -45,7 +54,7 @@ none_there None e = refl
 none_there (Some x) e = cc
 
 -- an empty desk comes where none was
-pub made : (old new : List (ProcId × Desk)) (of : ProcId) (now : Desk) → is_some (lookup (is_proc of) old) ≡ false → now ≡ empty_desk of → ((proc : ProcId) → lookup (is_proc proc) new ≡ cond (of.0 == proc.0) (Some now) (lookup (is_proc proc) old)) → (proc : ProcId) → desk_at new proc ≡ desk_at old proc
+pub made : (old new : List (ProcId × Desk)) (of : ProcId) (now : Desk) → is_some (lookup (is_proc of) old) ≡ false → now ≡ empty_desk of → ((proc : ProcId) → lookup (is_proc proc) new ≡ cond (of.0 == proc.0) (Some now) (lookup (is_proc proc) old)) → Stays old new
 made old new of now none is updates proc = by_test (of.0 == proc.0) refl
   where
     by_test : (b : Bool) → (of.0 == proc.0) ≡ b → desk_at new proc ≡ desk_at old proc

@@ -27,6 +27,10 @@ on_proc of f proc desk = if of.0 == proc.0 then f desk else desk
 abbrev pub Changes : ProcId → (Desk → Desk) → List (ProcId × Desk) → List (ProcId × Desk) → Type 0
 Changes of f old new = (proc : ProcId) → desk_at new proc ≡ on_proc of f proc (desk_at old proc)
 
+-- no desk changes
+abbrev pub Stays : List (ProcId × Desk) → List (ProcId × Desk) → Type 0
+Stays old new = (proc : ProcId) → desk_at new proc ≡ desk_at old proc
+
 -- something joins a desk
 abbrev pub desk_with : Item → Desk → Desk
 desk_with (items.Poke poke) desk = record desk { input = desk.input ++ poke ∷ [] }

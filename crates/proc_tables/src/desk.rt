@@ -1,5 +1,5 @@
 //! `Desk`, the lists of one process: the pokes, orders and reports that wait, and the order in hand.
-ghost use Rattle.std.specs.Prelude.{◌≡◌, drop, length, slice_get, None, OnOk};
+ghost use Rattle.std.specs.Prelude.{◌≡◌, drop, length, slice_get, None, OnErr, OnOk};
 ghost use Rattle.std.specs.Option.{option_copied};
 ghost use Rattle.log_model.specs.After.{desk_dropped};
 ghost use Rattle.log_model.specs.Logs.{is_idle};
@@ -95,7 +95,8 @@ impl Desk {
 
     /// Something joins its list; an order that is taken up is in hand.
     pub(crate) fn add(&mut self, item: Item) -> Result<(), OutOfMemory>
-        ensures { OnOk result (self.new ≡ desk_with item self.old) }
+        ensures ok { OnOk result (self.new ≡ desk_with item self.old) }
+        ensures err { OnErr result (self.new ≡ self.old) }
     {
         match item {
             Item::Poke(poke) => {

@@ -1,5 +1,5 @@
 //! `Desks`, the lists of all processes, which a contract sees as pairs of a process and its desk.
-ghost use Rattle.std.specs.Prelude.{◌≡◌, [], true, false, slice_get, None, Some, OnOk, IsSome};
+ghost use Rattle.std.specs.Prelude.{◌≡◌, [], true, false, slice_get, None, Some, OnErr, OnOk, IsSome};
 ghost use Rattle.std.specs.List.{list_all};
 ghost use Rattle.std.specs.Map.{lookup, values_of};
 ghost use Rattle.indexmap.specs.IndexMap.{set_value_at};
@@ -8,7 +8,7 @@ ghost use Rattle.tab_ids.specs.declared.ProcId.{ProcId};
 ghost use Rattle.std.specs.Option.{option_copied};
 ghost use Rattle.log_model.specs.After.{desk_dropped};
 ghost use Rattle.log_model.specs.Logs.{is_idle};
-ghost use Rattle.proc_tables.specs.Desks.{Changes, desk_at, desk_noted, desk_with, is_proc, without_job, without_order, without_poke, without_report};
+ghost use Rattle.proc_tables.specs.Desks.{Changes, Stays, desk_at, desk_noted, desk_with, is_proc, without_job, without_order, without_poke, without_report};
 
 use crate::desk::Desk;
 use crate::item::Item;
@@ -64,7 +64,8 @@ impl Desks {
 
     /// Something joins the lists of a process.
     pub fn add(&mut self, proc: ProcId, item: Item) -> Result<(), OutOfMemory>
-        ensures { OnOk result (Changes proc (desk_with item) self.old self.new) }
+        ensures ok { OnOk result (Changes proc (desk_with item) self.old self.new) }
+        ensures err { OnErr result (Stays self.old self.new) }
     {
         add_in(&mut self.desks, self.alloc, proc, item)
     }
@@ -103,7 +104,8 @@ impl Desks {
 
     /// Notes a row that the coordinator put out.
     pub fn note(&mut self, row: &RowKind) -> Result<(), OutOfMemory>
-        ensures { OnOk result ((proc : ProcId) → desk_at self.new proc ≡ desk_noted proc (desk_at self.old proc) row.now) }
+        ensures ok { OnOk result ((proc : ProcId) → desk_at self.new proc ≡ desk_noted proc (desk_at self.old proc) row.now) }
+        ensures err { OnErr result (Stays self.old self.new) }
     {
         match row {
             RowKind::Sent { job } => {
@@ -148,14 +150,14 @@ fn each_is_idle(desks: &IndexMap<ProcId, Desk>) -> bool
     desks.values().all(|desk| desk.is_idle())
 }
 
-/// A process has a desk from now on.
+/// A process has a desk from now on, an empty one where it had none.
 fn make_in(
     desks: &mut IndexMap<ProcId, Desk>,
     alloc: Global,
     proc: ProcId,
 ) -> Result<(), OutOfMemory>
     ensures there { OnOk result (IsSome (lookup (is_proc proc) desks.new.entries)) }
-    ensures same { OnOk result ((other : ProcId) → desk_at desks.new.entries other ≡ desk_at desks.old.entries other) }
+    ensures same { Stays desks.old.entries desks.new.entries }
 {
     if desks.contains_key(&proc) {
         return Ok(());
@@ -170,7 +172,8 @@ fn add_in(
     proc: ProcId,
     item: Item,
 ) -> Result<(), OutOfMemory>
-    ensures { OnOk result (Changes proc (desk_with item) desks.old.entries desks.new.entries) }
+    ensures ok { OnOk result (Changes proc (desk_with item) desks.old.entries desks.new.entries) }
+    ensures err { OnErr result (Stays desks.old.entries desks.new.entries) }
 {
     make_in(desks, alloc, proc)?;
     match desks.get_mut(&proc) {

@@ -48,7 +48,8 @@ impl Views {
 
     /// A document is there from now on, with this view.
     pub fn add(&mut self, doc: DocId, view: View) -> Result<(), OutOfMemory>
-        ensures { OnOk result (Becomes doc view self.old self.new) }
+        ensures ok { OnOk result (Becomes doc view self.old self.new) }
+        ensures err { OnErr result (Stays self.old self.new) }
     {
         add_in(&mut self.views, doc, view)
     }
@@ -78,7 +79,8 @@ impl Views {
 }
 
 fn add_in(views: &mut IndexMap<DocId, View>, doc: DocId, view: View) -> Result<(), OutOfMemory>
-    ensures { OnOk result (Becomes doc view views.old.entries views.new.entries) }
+    ensures ok { OnOk result (Becomes doc view views.old.entries views.new.entries) }
+    ensures err { OnErr result (Stays views.old.entries views.new.entries) }
 {
     views.insert(doc, view)?;
     Ok(())

@@ -1,7 +1,8 @@
 -- A world is open after one more event, whose rows pass, and of which it keeps what the log has come to.
-use Rattle.std.proofs.Common.{◌≡◌, ℕ, ◌+◌, ◌*◌, ◌<◌, ◌≤◌, true, List, [], ◌∷◌, ◌++◌, length, map, take, fold, Option, Some, refl, sym, ap, ◌∙◌, subst, arith}
+use Rattle.std.proofs.Common.{◌≡◌, ℕ, ◌+◌, ◌<◌, Bool, true, false, cond, ◌==◌, List, [], ◌∷◌, ◌++◌, length, map, take, fold, Option, None, Some, refl, sym, ap, ◌∙◌, subst, arith}
 use Rattle.std.proofs.lemmas.List.{length-append, take-take, take_at}
-use Rattle.std.specs.Prelude.{Result, Ok, Err, OnErr}
+use Rattle.std.specs.Prelude.{Result, Ok, Err, IfSome, OnErr}
+use Rattle.tab_ids.specs.declared.DocId.{DocId}
 use Rattle.tab_ids.specs.declared.ProcId.{ProcId}
 use Rattle.log_model.specs.declared.header.Header.{Header}
 use Rattle.log_model.specs.declared.outcome.Ending.{Ending}
@@ -12,6 +13,7 @@ use Rattle.log_model.specs.After.{after}
 use Rattle.log_model.specs.Events.{have_number}
 use Rattle.log_model.specs.Logs.{seen_of}
 use Rattle.log_model.specs.Seen.{Seen, Desk}
+use Rattle.log_model.specs.Views.{View}
 use Rattle.log_model.proofs.FurtherLaws.{begins_below_more}
 use Rattle.log_model.proofs.Laws.{seen_of_append}
 use Rattle.log_model.proofs.Refl.{nat_eq_refl}
@@ -23,8 +25,10 @@ use Rattle.coord.specs.Standing.{HasActed}
 use Rattle.coord.proofs.EventLaws.{event_keeps, now_fold}
 use Rattle.world.specs.declared.state.State.{State}
 use Rattle.world.specs.Asking.{event_of}
-use Rattle.world.specs.Notes.{desk_noted, endings_noted, row_with}
-use Rattle.world.specs.Open.{IsOpen, Holds, opening_process, row_limit}
+use Rattle.proc_tables.specs.Desks.{desk_at, desk_noted}
+use Rattle.proc_tables.specs.Views.{Becomes, Stays, view_at}
+use Rattle.world.specs.Notes.{endings_noted, row_with}
+use Rattle.world.specs.Open.{IsOpen, Holds, IsSmall, first_document, opening_process, process_in, row_limit}
 use Rattle.world.proofs.NoteLaws.{Keeping, works_keep}
 
 -- what holds anyway holds where there is an error
@@ -45,9 +49,29 @@ have_its event actor [] = refl
 have_its event actor (kind ∷ kinds) = both (nat_eq_refl event) (have_its event actor kinds)
 
 -- what is kept is what the log has come to
-pub holds_all : (home : ProcId) (s : Seen) (t : State) (event : ℕ) → Keeping home s event t.desk t.endings.items (Some t.view, home) → t.events ≡ event + 1 → t.view.numbered ≤ t.events → t.view.index ≤ 2 * t.events → Holds home s t
-holds_all home s t event keeps events numbered index =
-    record { events = keeps.events ∙ sym events; desk = keeps.desk; face = keeps.face; endings = keeps.endings; numbered = numbered; index = index }
+pub holds_all : (home : ProcId) (s : Seen) (t : State) (event : ℕ) → Keeping home s event (desk_at t.desks) (view_at t.views) t.endings.items → t.events ≡ event + 1 → ((doc : DocId) → IfSome (view_at t.views doc) (IsSmall t.events)) → Holds s t
+holds_all home s t event keeps events small =
+    record { events = keeps.events ∙ sym events; desks = keeps.desks; views = keeps.views; endings = keeps.endings; small = small }
+
+-- a view is small after one event more
+small_more : (events more : ℕ) (view : Option View) → more ≡ events + 1 → IfSome view (IsSmall events) → IfSome view (IsSmall more)
+small_more events more None next small = tt
+small_more events more (Some view) next small =
+    record { numbered = omega (arith, small.numbered, next); index = omega (arith, small.index, next) }
+
+-- so are all, where none changes
+pub stays_small : (old new : List (DocId × View)) (events more : ℕ) → more ≡ events + 1 → Stays old new → ((doc : DocId) → IfSome (view_at old doc) (IsSmall events)) → (doc : DocId) → IfSome (view_at new doc) (IsSmall more)
+stays_small old new events more next stays small doc =
+    subst (λ (o : Option View). IfSome o (IsSmall more)) (sym (stays doc)) (small_more events more (view_at old doc) next (small doc))
+
+-- or one becomes a small one
+pub becomes_small : (of : DocId) (view : View) (old new : List (DocId × View)) (events more : ℕ) → more ≡ events + 1 → Becomes of view old new → IsSmall more view → ((doc : DocId) → IfSome (view_at old doc) (IsSmall events)) → (doc : DocId) → IfSome (view_at new doc) (IsSmall more)
+becomes_small of view old new events more next becomes is small doc =
+    subst (λ (o : Option View). IfSome o (IsSmall more)) (sym (becomes doc)) (by_test (of.0 == doc.0))
+  where
+    by_test : (b : Bool) → IfSome (cond b (Some view) (view_at old doc)) (IsSmall more)
+    by_test true = is
+    by_test false = small_more events more (view_at old doc) next (small doc)
 
 module _ (header : Header) (log : List LogRow) (t : State) (is : IsOpen header log t) (short : length log < row_limit) (actor : Actor) (own : RowKind) where
   abbrev pub e : InEvent
@@ -57,25 +81,32 @@ module _ (header : Header) (log : List LogRow) (t : State) (is : IsOpen header l
   at = (seen_of log).events
 
   -- the event's rows pass, and the rest is kept
-  pub opens_on : (out : List RowKind) (new : State) → HasActed e out new.coordinator → Holds (opening_process header) (now_of e out) new → IsOpen header (log ++ row_with at actor own ∷ map (row_with at actor) out) new
-  opens_on out new acted holds =
+  pub opens_on : (out : List RowKind) (new : State) → HasActed e out new.coordinator → Holds (now_of e out) new → process_in (now_of e out) first_document ≡ Some (opening_process header) → IsOpen header (log ++ row_with at actor own ∷ map (row_with at actor) out) new
+  opens_on out new acted holds lives =
       let led : seen_of (log ++ row_with at actor own ∷ map (row_with at actor) out) ≡ now_of e out = seen_of_append log (row_with at actor own ∷ map (row_with at actor) out) ∙ sym (now_fold e out) in
       record {
         keeps = event_keeps e log t.coordinator is.keeps (record { start = refl; event = refl }) out new.coordinator acted;
         limited = begins_below_more row_limit log (row_with at actor own) (map (row_with at actor) out) is.keeps.some (have_its at actor (own ∷ out)) is.limited short;
-        holds = subst (λ (s : Seen). Holds (opening_process header) s new) (sym led) holds;
+        holds = subst (λ (s : Seen). Holds s new) (sym led) holds;
+        home = subst (λ (s : Seen). process_in s first_document ≡ Some (opening_process header)) (sym led) lives;
       }
 
-  -- what the coordinator puts out is noted
-  pub works_on : (out : List RowKind) (new : State) (desk : Desk) (ends : List (Option Ending)) → IsWorker actor → leads own ≡ true → HasActed e out new.coordinator → Keeping (opening_process header) (after (seen_of log) (row_with at actor own)) at desk ends (Some t.view, (opening_process header)) → new.events ≡ t.events + 1 → new.view ≡ t.view → new.desk ≡ fold desk_noted desk out → new.endings.items ≡ fold endings_noted ends out → IsOpen header (log ++ row_with at actor own ∷ map (row_with at actor) out) new
+  -- what the coordinator puts out is noted, and no view changes
+  pub works_on : (out : List RowKind) (new : State) (waits : ProcId → Desk) (ends : List (Option Ending)) → IsWorker actor → leads own ≡ true → HasActed e out new.coordinator → Keeping (opening_process header) (after (seen_of log) (row_with at actor own)) at waits (view_at t.views) ends → new.events ≡ t.events + 1 → new.views ≡ t.views → ((proc : ProcId) → desk_at new.desks proc ≡ fold (desk_noted proc) (waits proc) out) → new.endings.items ≡ fold endings_noted ends out → IsOpen header (log ++ row_with at actor own ∷ map (row_with at actor) out) new
   unfolding now_of
-  works_on out new desk ends worker led acted keeps events view desks endings =
-      let all : Keeping (opening_process header) (now_of e out) at (fold desk_noted desk out) (fold endings_noted ends out) (Some t.view, (opening_process header)) = works_keep (opening_process header) (first_of e) (row_with at actor own) [] at actor out desk ends (Some t.view, (opening_process header)) refl led worker acted.passes.1 keeps in
-      let n : t.view.numbered ≤ t.events = is.holds.numbered in
-      let i : t.view.index ≤ 2 * t.events = is.holds.index in
-      opens_on out new acted (holds_all (opening_process header) (now_of e out) new at (rw (desks, endings, view) all) (events ∙ ap (λ (k : ℕ). k + 1) (sym is.holds.events)) (rw view (omega (arith, n, events))) (rw view (omega (arith, i, events))))
+  works_on out new waits ends worker led acted keeps events views desks endings =
+      let all = works_keep (opening_process header) (first_of e) (row_with at actor own) [] at actor out waits (view_at t.views) ends refl led worker acted.passes.1 keeps in
+      let stays : Stays t.views new.views = λ doc. ap (λ (v : List (DocId × View)). view_at v doc) views in
+      opens_on out new acted (record {
+        events = all.events ∙ sym (events ∙ ap (λ (k : ℕ). k + 1) (sym is.holds.events));
+        desks = λ proc. all.desks proc ∙ sym (desks proc);
+        views = λ doc. all.views doc ∙ sym (stays doc);
+        endings = all.endings ∙ sym endings;
+        small = stays_small t.views new.views t.events new.events events stays is.holds.small;
+      }) all.lives
 
   -- an event of its own row alone
-  pub alone_on : (new : State) → HasActed e [] new.coordinator → Holds (opening_process header) (after (seen_of log) (row_with at actor own)) new → IsOpen header (log ++ row_with at actor own ∷ []) new
+  pub alone_on : (new : State) → HasActed e [] new.coordinator → Keeping (opening_process header) (after (seen_of log) (row_with at actor own)) at (desk_at new.desks) (view_at new.views) new.endings.items → new.events ≡ t.events + 1 → ((doc : DocId) → IfSome (view_at new.views doc) (IsSmall new.events)) → IsOpen header (log ++ row_with at actor own ∷ []) new
   unfolding now_of
-  alone_on new acted holds = opens_on [] new acted holds
+  alone_on new acted keeps events small =
+      opens_on [] new acted (holds_all (opening_process header) (after (seen_of log) (row_with at actor own)) new at keeps (events ∙ ap (λ (k : ℕ). k + 1) (sym is.holds.events)) small) keeps.lives

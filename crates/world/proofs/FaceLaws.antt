@@ -1,6 +1,6 @@
 -- The view and the process of a document, which the coordinator's work leaves.
-use Rattle.std.proofs.Common.{◌≡◌, Bool, true, false, ◌==◌, List, [], ◌∷◌, ◌++◌, map, find, Option, Some, None, refl, ap, ◌∙◌}
-use Rattle.std.specs.Prelude.{option_map, if◌then◌else◌}
+use Rattle.std.proofs.Common.{◌≡◌, Bool, true, false, cond, ◌==◌, List, [], ◌∷◌, ◌++◌, map, find, Option, Some, None, refl, sym, ap, ◌∙◌}
+use Rattle.std.specs.Prelude.{option_and_then, option_map, if◌then◌else◌}
 use Rattle.tab_ids.specs.declared.DocId.{DocId}
 use Rattle.tab_ids.specs.declared.EntryId.{EntryId}
 use Rattle.tab_ids.specs.declared.ProcId.{ProcId}
@@ -21,13 +21,22 @@ use Rattle.log_model.specs.Formed.{is_work}
 use Rattle.log_model.specs.Seen.{Seen, Document}
 use Rattle.log_model.specs.Views.{View}
 use Rattle.seen_laws.proofs.Keyed.{find_map}
-use Rattle.world.specs.Open.{face}
 
 abbrev pub document_in : List Document → DocId → Option Document
 document_in documents doc = find (λ (d : Document). d.nr.0 == doc.0) documents
 
+-- its view, and its process
+abbrev pub face : Document → Option View × ProcId
+face d = (d.view, d.proc)
+
 abbrev pub face_in : List Document → DocId → Option (Option View × ProcId)
 face_in documents doc = option_map face (document_in documents doc)
+
+abbrev pub view_found : List Document → DocId → Option View
+view_found documents doc = option_and_then (λ (d : Document). d.view) (document_in documents doc)
+
+abbrev pub process_found : List Document → DocId → Option ProcId
+process_found documents doc = option_map (λ (d : Document). d.proc) (document_in documents doc)
 
 -- a change of documents that leaves number, view and process
 pub record LeavesFaces (f : Document → Document) : Type 0 where
@@ -63,14 +72,47 @@ leaves_then : (f g : Document → Document) → LeavesFaces f → LeavesFaces g 
 leaves_then f g first second =
     record { nr = λ d. second.nr (f d) ∙ first.nr d; face = λ d. second.face (f d) ∙ first.face d }
 
--- one document more
-more_face : (documents : List Document) (doc : DocId) (new : Document) (at : Option View × ProcId) → face_in documents doc ≡ Some at → face_in (documents ++ new ∷ []) doc ≡ Some at
-more_face [] doc new at there = cc
-more_face (d ∷ documents) doc new at there = by_test (d.nr.0 == doc.0) refl (more_face documents doc new at)
+-- documents of which each has the view that it had, or none where it wasn't there, and each that was there has its process
+pub record KeepsFaces (old new : List Document) : Type 0 where
+  pub views : (doc : DocId) → view_found new doc ≡ view_found old doc
+  pub home : (doc : DocId) (proc : ProcId) → process_found old doc ≡ Some proc → process_found new doc ≡ Some proc
+
+pub faces_kept : (old new : List Document) → ((doc : DocId) → face_in new doc ≡ face_in old doc) → KeepsFaces old new
+faces_kept old new same =
+    record {
+      views = λ doc. sym (viewed (document_in new doc)) ∙ (ap (λ (o : Option (Option View × ProcId)). option_and_then (λ (f : Option View × ProcId). f.0) o) (same doc) ∙ viewed (document_in old doc));
+      home = λ doc proc there. sym (placed (document_in new doc)) ∙ (ap (λ (o : Option (Option View × ProcId)). option_map (λ (f : Option View × ProcId). f.1) o) (same doc) ∙ (placed (document_in old doc) ∙ there));
+    }
   where
-    by_test : (b : Bool) → (d.nr.0 == doc.0) ≡ b → (face_in documents doc ≡ Some at → face_in (documents ++ new ∷ []) doc ≡ Some at) → face_in (d ∷ (documents ++ new ∷ [])) doc ≡ Some at
-    by_test true e rest = rw e (rw e at there)
-    by_test false e rest = rw e (rest (rw e at there))
+    viewed : (o : Option Document) → option_and_then (λ (f : Option View × ProcId). f.0) (option_map face o) ≡ option_and_then (λ (d : Document). d.view) o
+    viewed None = refl
+    viewed (Some d) = refl
+
+    placed : (o : Option Document) → option_map (λ (f : Option View × ProcId). f.1) (option_map face o) ≡ option_map (λ (d : Document). d.proc) o
+    placed None = refl
+    placed (Some d) = refl
+
+-- one document more, without a view
+more_faces : (documents : List Document) (new : Document) → new.view ≡ None → KeepsFaces documents (documents ++ new ∷ [])
+more_faces documents new none =
+    record { views = λ doc. more_views documents doc; home = λ doc proc there. more_home documents doc proc there }
+  where
+    more_views : (ds : List Document) (doc : DocId) → view_found (ds ++ new ∷ []) doc ≡ view_found ds doc
+    more_views [] doc =
+        elim (new.nr.0 == doc.0) as (λ b. option_and_then (λ (d : Document). d.view) (cond b (Some new) None) ≡ None) [ true ↦ none | false ↦ refl ]
+    more_views (d ∷ ds) doc =
+        elim (d.nr.0 == doc.0) as (λ b. option_and_then (λ (x : Document). x.view) (cond b (Some d) (document_in (ds ++ new ∷ []) doc)) ≡ option_and_then (λ (x : Document). x.view) (cond b (Some d) (document_in ds doc))) [
+          | true ↦ refl
+          | false ↦ more_views ds doc
+        ]
+
+    more_home : (ds : List Document) (doc : DocId) (proc : ProcId) → process_found ds doc ≡ Some proc → process_found (ds ++ new ∷ []) doc ≡ Some proc
+    more_home [] doc proc there = cc
+    more_home (d ∷ ds) doc proc there =
+        (elim (d.nr.0 == doc.0) as (λ b. option_map (λ (x : Document). x.proc) (cond b (Some d) (document_in ds doc)) ≡ Some proc → option_map (λ (x : Document). x.proc) (cond b (Some d) (document_in (ds ++ new ∷ []) doc)) ≡ Some proc) [
+          | true ↦ λ here. here
+          | false ↦ λ behind. more_home ds doc proc behind
+        ]) there
 
 -- ---- each row
 
@@ -102,18 +144,17 @@ addressed_face : (s : Seen) (job : Job) (task : Task) (doc : DocId) → face_in 
 addressed_face s job task doc =
     faces_left s.documents doc _ (leaves_if (λ d. d.nr.0 == job.doc.0) (addressed task) (record { nr = λ d. refl; face = λ d. refl }))
 
-sent_face : (s : Seen) (job : Job) (task : Task) (doc : DocId) (at : Option View × ProcId) → face_in s.documents doc ≡ Some at → face_in (documents_sent s job task) doc ≡ Some at
-sent_face s job (tasks.Populate nav state address initial) doc at there =
-    more_face s.documents doc (new_document s job nav state) at there
-sent_face s job tasks.Discard doc at there =
-    faces_left s.documents doc _ (leaves_if (λ d. d.nr.0 == job.doc.0) (λ d. record d { is_discarded = true }) (record { nr = λ d. refl; face = λ d. refl })) ∙ there
-sent_face s job (tasks.Activate entry epoch length index memo address) doc at there =
-    addressed_face s job (tasks.Activate entry epoch length index memo address) doc ∙ there
-sent_face s job (tasks.Update length index) doc at there = addressed_face s job (tasks.Update length index) doc ∙ there
-sent_face s job tasks.Freeze doc at there = addressed_face s job tasks.Freeze doc ∙ there
-sent_face s job (tasks.Ask slot cause) doc at there = addressed_face s job (tasks.Ask slot cause) doc ∙ there
-sent_face s job (tasks.DoFragment req mode address) doc at there =
-    addressed_face s job (tasks.DoFragment req mode address) doc ∙ there
+sent_face : (s : Seen) (job : Job) (task : Task) → KeepsFaces s.documents (documents_sent s job task)
+sent_face s job (tasks.Populate nav state address initial) = more_faces s.documents (new_document s job nav state) refl
+sent_face s job tasks.Discard =
+    faces_kept s.documents _ (λ doc. faces_left s.documents doc _ (leaves_if (λ d. d.nr.0 == job.doc.0) (λ d. record d { is_discarded = true }) (record { nr = λ d. refl; face = λ d. refl })))
+sent_face s job (tasks.Activate entry epoch length index memo address) =
+    faces_kept s.documents _ (addressed_face s job (tasks.Activate entry epoch length index memo address))
+sent_face s job (tasks.Update length index) = faces_kept s.documents _ (addressed_face s job (tasks.Update length index))
+sent_face s job tasks.Freeze = faces_kept s.documents _ (addressed_face s job tasks.Freeze)
+sent_face s job (tasks.Ask slot cause) = faces_kept s.documents _ (addressed_face s job (tasks.Ask slot cause))
+sent_face s job (tasks.DoFragment req mode address) =
+    faces_kept s.documents _ (addressed_face s job (tasks.DoFragment req mode address))
 
 pub delivered_face : (documents : List Document) (report : Option Report) (doc : DocId) → face_in (documents_delivered documents report) doc ≡ face_in documents doc
 delivered_face documents None doc = refl
@@ -133,20 +174,20 @@ delivered_face documents (Some (told.Done job outcome made)) doc = by_outcome ou
     by_outcome outcomes.Fragmented = refl
 
 -- the coordinator's work
-pub work_face : (s : Seen) (kind : RowKind) (doc : DocId) (at : Option View × ProcId) → is_work kind ≡ true → face_in s.documents doc ≡ Some at → face_in (documents_after s kind) doc ≡ Some at
-work_face s (rows.Started req goal) doc at work there = there
-work_face s (rows.Applied req change) doc at work there =
-    faces_left s.documents doc _ (leaves_then (λ d. told_after_change d change) (applied_to change) (told_leaves change) (applied_leaves change)) ∙ there
-work_face s (rows.Refused req reason) doc at work there = there
-work_face s (rows.Dropped req cause) doc at work there = there
-work_face s (rows.Prompted req d) doc at work there = there
-work_face s (rows.Sent job) doc at work there = sent_face s job job.task doc at there
-work_face s (rows.Opened entry state d proc slot address) doc at work there = cc
-work_face s (rows.Accepted req d what) doc at work there = cc
-work_face s (rows.Answered req stay) doc at work there = cc
-work_face s (rows.Taken proc job live dirty) doc at work there = cc
-work_face s (rows.Finished proc job outcome) doc at work there = cc
-work_face s (rows.Made proc made) doc at work there = cc
-work_face s (rows.Delivered proc) doc at work there = cc
-work_face s (rows.Killed proc death) doc at work there = cc
-work_face s (rows.Evicted state) doc at work there = cc
+pub work_face : (s : Seen) (kind : RowKind) → is_work kind ≡ true → KeepsFaces s.documents (documents_after s kind)
+work_face s (rows.Started req goal) work = faces_kept _ _ (λ doc. refl)
+work_face s (rows.Applied req change) work =
+    faces_kept s.documents _ (λ doc. faces_left s.documents doc _ (leaves_then (λ d. told_after_change d change) (applied_to change) (told_leaves change) (applied_leaves change)))
+work_face s (rows.Refused req reason) work = faces_kept _ _ (λ doc. refl)
+work_face s (rows.Dropped req cause) work = faces_kept _ _ (λ doc. refl)
+work_face s (rows.Prompted req d) work = faces_kept _ _ (λ doc. refl)
+work_face s (rows.Sent job) work = sent_face s job job.task
+work_face s (rows.Opened entry state d proc slot address) work = cc
+work_face s (rows.Accepted req d what) work = cc
+work_face s (rows.Answered req stay) work = cc
+work_face s (rows.Taken proc job live dirty) work = cc
+work_face s (rows.Finished proc job outcome) work = cc
+work_face s (rows.Made proc made) work = cc
+work_face s (rows.Delivered proc) work = cc
+work_face s (rows.Killed proc death) work = cc
+work_face s (rows.Evicted state) work = cc

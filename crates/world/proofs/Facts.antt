@@ -1,6 +1,6 @@
--- What is known of an open world: its one document, its process, and that its numbers are small.
-use Rattle.std.proofs.Common.{◌≡◌, ℕ, ◌+◌, ◌*◌, ◌<◌, ◌≤◌, Bool, true, false, cond, ◌&&◌, ◌==◌, List, [], ◌∷◌, length, map, find, Option, Some, None, refl, sym, ap, ◌∙◌, arith}
-use Rattle.std.specs.Prelude.{fold, filter, option_map}
+-- What is known of an open world: its one document, the processes, and that its numbers are small.
+use Rattle.std.proofs.Common.{◌≡◌, ℕ, ◌+◌, ◌<◌, ◌≤◌, Bool, true, false, cond, ◌&&◌, ◌==◌, List, [], ◌∷◌, length, map, find, Option, Some, None, refl, sym, ap, ◌∙◌, subst, arith}
+use Rattle.std.specs.Prelude.{fold, filter, option_and_then, option_map, IfSome, IsSomeAnd}
 use Rattle.std.proofs.lemmas.Bool.Decides.{nat_tests}
 use Rattle.tab_ids.specs.declared.Death.{Death}
 use Rattle.tab_ids.specs.declared.DocId.{DocId}
@@ -20,7 +20,7 @@ use Rattle.log_model.specs.Equal.{holds}
 use Rattle.log_model.specs.Formed.{newer, running_documents, poked_document}
 use Rattle.log_model.specs.Logs.{seen_of}
 use Rattle.log_model.specs.Places.{top}
-use Rattle.log_model.specs.Seen.{Seen, Document, Desk, Asked, desk_of, empty_desk}
+use Rattle.log_model.specs.Seen.{Seen, Document, Desk, Asked, desk_of, document_of, empty_desk}
 use Rattle.log_model.specs.Views.{View}
 use Rattle.log_counts.specs.Counts.{AreFew, told_index}
 use Rattle.log_counts.proofs.Fews.{legal_few}
@@ -29,12 +29,15 @@ use Rattle.log_counts.proofs.Jobs.{jobs_few}
 use Rattle.seen_laws.proofs.Desks.{desk_has}
 use Rattle.plain_tab.specs.Flow.{IsPokeTo}
 use Rattle.plain_tab.specs.Sole.{Each}
+use Rattle.plain_tab.proofs.Soles.{doc_found}
 use Rattle.coord.specs.Queueing.{HasRoom}
 use Rattle.coord.specs.Standing.{StandsFor}
 use Rattle.coord.proofs.ActLaws.{runs_alone}
 use Rattle.world.specs.declared.state.State.{State}
 use Rattle.world.specs.Asking.{event_of}
-use Rattle.world.specs.Open.{IsOpen, face, desk_at, first_document, opening_process, row_limit}
+use Rattle.proc_tables.specs.Desks.{desk_at}
+use Rattle.proc_tables.specs.Views.{HasRoom as HasViewRoom, view_at}
+use Rattle.world.specs.Open.{IsOpen, IsSmall, opening_process, row_limit, view_in}
 use Rattle.world.specs.Steps.{next_request}
 
 as_long : {A B : Type 0} (f : A → B) (xs : List A) → length (map f xs) ≡ length xs
@@ -50,51 +53,56 @@ module _ (header : Header) (log : List LogRow) (t : State) (is : IsOpen header l
 
   -- ---- the one document
 
-  pub record IsOne : Type 0 where
-    pub nr : stands.d.nr ≡ first_document
-    pub proc : stands.d.proc ≡ (opening_process header)
-    pub view : stands.d.view ≡ Some t.view
-
-  pub one : IsOne
-  one = by_nr (stands.d.nr.0 == 1) refl
-    where
-      alone : option_map face (find (λ (d : Document). d.nr.0 == 1) (stands.d ∷ [])) ≡ Some (Some t.view, (opening_process header))
-      alone =
-          ap (λ (l : List Document). option_map face (find (λ (d : Document). d.nr.0 == 1) l)) (sym stands.tab.sole.documents) ∙ is.holds.face
-
-      by_nr : (b : Bool) → (stands.d.nr.0 == 1) ≡ b → IsOne
-      by_nr false e =
-          let never : (let o : Option (Option View × ProcId) = None in o) ≡ Some (Some t.view, (opening_process header)) = sym (ap (λ (b : Bool). option_map face (cond b (Some stands.d) None)) e) ∙ alone in cc
-      by_nr true e =
-          let at : Some (face stands.d) ≡ Some (Some t.view, (opening_process header)) = sym (ap (λ (b : Bool). option_map face (cond b (Some stands.d) None)) e) ∙ alone in
-          let same : face stands.d ≡ (Some t.view, (opening_process header)) = cc in
-          let number : stands.d.nr.0 ≡ 1 = grind (arith, nat_tests, e) in
-          record {
-            nr = ap (λ (n : ℕ). let x : DocId = record { 0 = n } in x) number;
-            proc = ap (λ (f : Option View × ProcId). f.1) same;
-            view = ap (λ (f : Option View × ProcId). f.0) same;
-          }
+  abbrev pub d : Document
+  d = stands.d
 
   -- the view that its flow speaks of
-  pub same_view : stands.tab.flowing.own.running.view ≡ t.view
-  same_view =
-      let both : Some stands.tab.flowing.own.running.view ≡ Some t.view = sym stands.tab.flowing.own.running.seen ∙ one.view in cc
+  abbrev pub shown : View
+  shown = stands.tab.flowing.own.running.view
 
-  pub viewed_doc : t.view.doc ≡ first_document
-  viewed_doc = ap (λ (v : View). v.doc) (sym same_view) ∙ (stands.tab.flowing.own.running.doc ∙ one.nr)
+  pub found : document_of s d.nr ≡ Some d
+  found = doc_found s d stands.place stands.tab.sole
 
-  pub home_proc : t.coordinator.home.proc ≡ (opening_process header)
-  home_proc =
-      let same : stands.lives.d ≡ stands.d = (let both : stands.lives.d ∷ [] ≡ stands.d ∷ [] = sym stands.lives.only ∙ stands.tab.sole.documents in cc) in
-      stands.lives.proc ∙ (ap (λ (d : Document). d.proc) same ∙ one.proc)
+  pub viewed : (doc : DocId) → doc ≡ d.nr → view_in s doc ≡ Some shown
+  viewed doc of_it =
+      ap (λ (n : DocId). view_in s n) of_it
+      ∙ (ap (λ (o : Option Document). option_and_then (λ (x : Document). x.view) o) found ∙ stands.tab.flowing.own.running.seen)
+
+  pub kept_view : (doc : DocId) → doc ≡ d.nr → view_at t.views doc ≡ Some shown
+  kept_view doc of_it = sym (is.holds.views doc) ∙ viewed doc of_it
+
+  -- where the coordinator finds it
+  same_home : stands.lives.d ≡ d
+  same_home =
+      let both : stands.lives.d ∷ [] ≡ d ∷ [] = sym stands.lives.only ∙ stands.tab.sole.documents in cc
+
+  pub home_doc : t.coordinator.home.doc ≡ d.nr
+  home_doc = stands.lives.doc ∙ ap (λ (x : Document). x.nr) same_home
+
+  pub home_proc : t.coordinator.home.proc ≡ d.proc
+  home_proc = stands.lives.proc ∙ ap (λ (x : Document). x.proc) same_home
+
+  -- it is the one with which the tab opened
+  pub opened_home : d.proc ≡ opening_process header
+  opened_home = by_nr (d.nr.0 == 1) refl
+    where
+      alone : option_map (λ (x : Document). x.proc) (find (λ (x : Document). x.nr.0 == 1) (d ∷ [])) ≡ Some (opening_process header)
+      alone =
+          ap (λ (l : List Document). option_map (λ (x : Document). x.proc) (find (λ (x : Document). x.nr.0 == 1) l)) (sym stands.tab.sole.documents) ∙ is.home
+
+      by_nr : (b : Bool) → (d.nr.0 == 1) ≡ b → d.proc ≡ opening_process header
+      by_nr false e =
+          let never : (let o : Option ProcId = None in o) ≡ Some (opening_process header) = sym (ap (λ (b : Bool). option_map (λ (x : Document). x.proc) (cond b (Some d) None)) e) ∙ alone in cc
+      by_nr true e =
+          let at : Some d.proc ≡ Some (opening_process header) = sym (ap (λ (b : Bool). option_map (λ (x : Document). x.proc) (cond b (Some d) None)) e) ∙ alone in cc
 
   -- ---- whom a poke reaches
 
-  pub one_runs : (nav : NavId) → nav ≡ top → running_documents s nav ≡ stands.d ∷ []
+  pub one_runs : (nav : NavId) → nav ≡ top → running_documents s nav ≡ d ∷ []
   one_runs nav of_top =
-      runs_alone (event_of header log actors.Ui (rows.Delivered (opening_process header))) t.coordinator stands nav of_top
+      runs_alone (event_of header log actors.Ui (rows.Delivered d.proc)) t.coordinator stands nav of_top
 
-  pub poked_is : (nav : NavId) → nav ≡ top → poked_document s nav ≡ Some stands.d
+  pub poked_is : (nav : NavId) → nav ≡ top → poked_document s nav ≡ Some d
   poked_is nav of_top =
       ap (λ (l : List Document). fold newer None l) (one_runs nav of_top)
 
@@ -103,8 +111,8 @@ module _ (header : Header) (log : List LogRow) (t : State) (is : IsOpen header l
       ap (λ (l : List Document). filter (λ (d : Document). d.nav.0 == nav.0 && holds (λ (v : View). v.running) d.view) l) stands.tab.sole.documents
       ∙ rw away refl
     where
-      away : (stands.d.nav.0 == nav.0) ≡ false
-      away = let at : stands.d.nav.0 ≡ 0 = ap (λ (n : NavId). n.0) stands.tab.sole.there.nav in grind (arith, nat_tests, at, some)
+      away : (d.nav.0 == nav.0) ≡ false
+      away = let at : d.nav.0 ≡ 0 = ap (λ (n : NavId). n.0) stands.tab.sole.there.nav in grind (arith, nat_tests, at, some)
 
   pub unpoked : (nav : NavId) → 0 < nav.0 → poked_document s nav ≡ None
   unpoked nav some = ap (λ (l : List Document). fold newer None l) (none_runs nav some)
@@ -112,16 +120,16 @@ module _ (header : Header) (log : List LogRow) (t : State) (is : IsOpen header l
   -- ---- the processes
 
   -- nothing waits in another process
-  no_pokes : (proc : ProcId) (pokes : List Poke) → (proc.0 == (opening_process header).0) ≡ false → Each (IsPokeTo stands.d proc) pokes → pokes ≡ []
+  no_pokes : (proc : ProcId) (pokes : List Poke) → (proc.0 == d.proc.0) ≡ false → Each (IsPokeTo d proc) pokes → pokes ≡ []
   no_pokes proc [] other are = refl
   no_pokes proc (poke ∷ pokes) other are =
-      let its : proc.0 ≡ (opening_process header).0 = ap (λ (p : ProcId). p.0) (are.0.1 ∙ one.proc) in
-      let here : (proc.0 == (opening_process header).0) ≡ true = grind (arith, nat_tests, its) in
+      let its : proc.0 ≡ d.proc.0 = ap (λ (p : ProcId). p.0) are.0.1 in
+      let here : (proc.0 == d.proc.0) ≡ true = grind (arith, nat_tests, its) in
       let wrong : true ≡ false = sym here ∙ other in absurd cc
 
-  pub other_desk : (proc : ProcId) → (proc.0 == (opening_process header).0) ≡ false → desk_of s proc ≡ empty_desk proc
+  pub other_desk : (proc : ProcId) → (proc.0 == d.proc.0) ≡ false → desk_of s proc ≡ empty_desk proc
   other_desk proc other =
-      let apart : (stands.d.proc.0 == proc.0) ≡ false = (let at : stands.d.proc.0 ≡ (opening_process header).0 = ap (λ (p : ProcId). p.0) one.proc in grind (arith, nat_tests, at, other)) in
+      let apart : (d.proc.0 == proc.0) ≡ false = grind (arith, nat_tests, other) in
       let none = stands.tab.flowing.others proc apart in
       let died = stands.tab.sole.died proc in
       let pokes : (desk_of s proc).input ≡ [] = no_pokes proc (desk_of s proc).input other (stands.tab.pokes proc) in
@@ -138,28 +146,14 @@ module _ (header : Header) (log : List LogRow) (t : State) (is : IsOpen header l
           ∙ (ap (λ (l : List Death). let d : Desk = record desk { proc = proc; input = []; mail = []; in_hand = None; reports = []; killed = l } in d) killed
           ∙ ap (λ (n : ℕ). let d : Desk = record desk { proc = proc; input = []; mail = []; in_hand = None; reports = []; killed = []; known = n } in d) known)))))
 
-  pub desk_proc : t.desk.proc ≡ (opening_process header)
-  desk_proc =
-      ap (λ (d : Desk). d.proc) (sym is.holds.desk) ∙ ap (λ (n : ℕ). let x : ProcId = record { 0 = n } in x) (desk_has s.desks (opening_process header))
-
-  pub home_desk : (proc : ProcId) → (proc.0 == (opening_process header).0) ≡ true → desk_of s proc ≡ t.desk
-  home_desk proc here =
-      let same : proc ≡ (opening_process header) = (let n : proc.0 ≡ (opening_process header).0 = grind (arith, nat_tests, here) in ap (λ (i : ℕ). let x : ProcId = record { 0 = i } in x) n) in
-      ap (λ (p : ProcId). desk_of s p) same ∙ is.holds.desk
-
-  pub desks_are : (proc : ProcId) → desk_of s proc ≡ desk_at t.desk proc
-  desks_are proc = by_test (proc.0 == (opening_process header).0) refl
+  -- so a process in which something waits is the document's
+  pub busy_here : (proc : ProcId) → (desk_at t.desks proc ≡ empty_desk proc → ⊥) → proc ≡ d.proc
+  busy_here proc busy = by_test (proc.0 == d.proc.0) refl
     where
-      its_number : t.desk.proc.0 ≡ (opening_process header).0
-      its_number = ap (λ (d : Desk). d.proc.0) (sym is.holds.desk) ∙ desk_has s.desks (opening_process header)
-
-      by_test : (b : Bool) → (proc.0 == (opening_process header).0) ≡ b → desk_of s proc ≡ desk_at t.desk proc
+      by_test : (b : Bool) → (proc.0 == d.proc.0) ≡ b → proc ≡ d.proc
       by_test true e =
-          let here : (proc.0 == t.desk.proc.0) ≡ true = ap (λ (n : ℕ). proc.0 == n) its_number ∙ e in
-          rw here (home_desk proc e)
-      by_test false e =
-          let away : (proc.0 == t.desk.proc.0) ≡ false = ap (λ (n : ℕ). proc.0 == n) its_number ∙ e in
-          rw away (other_desk proc e)
+          let n : proc.0 ≡ d.proc.0 = grind (arith, nat_tests, e) in ap (λ (i : ℕ). let x : ProcId = record { 0 = i } in x) n
+      by_test false e = absurd (busy (sym (is.holds.desks proc) ∙ other_desk proc e))
 
   -- ---- numbers
 
@@ -195,14 +189,19 @@ module _ (header : Header) (log : List LogRow) (t : State) (is : IsOpen header l
       let entries : length s.history.rows ≤ s.events = few.rows in
       record { jobs = omega (arith, short, jobs); rows = omega (arith, few_events_, entries) }
 
-  pub index_small : t.view.index ≤ 2000000
-  index_small = let i : t.view.index ≤ 2 * t.events = is.holds.index in omega (arith, i, events_small)
+  pub shown_small : (doc : DocId) → doc ≡ d.nr → IsSmall t.events shown
+  shown_small doc of_it = subst (λ (o : Option View). IfSome o (IsSmall t.events)) (kept_view doc of_it) (is.holds.small doc)
 
-  pub numbered_small : t.view.numbered ≤ 1000000
-  numbered_small = let n : t.view.numbered ≤ t.events = is.holds.numbered in omega (arith, n, events_small)
+  -- there is room for one entry more
+  pub has_room : (doc : DocId) → doc ≡ d.nr → IsSomeAnd (view_at t.views doc) HasViewRoom
+  has_room doc of_it =
+      let small = shown_small doc of_it in
+      let numbered : shown.numbered ≤ 1000000 = omega (arith, small.numbered, events_small) in
+      let index : shown.index ≤ 2000000 = omega (arith, small.index, events_small) in
+      rw (kept_view doc of_it) (record { index = omega (arith, index); numbered = omega (arith, numbered) })
 
-  pub hand_small : (order : Order) → t.desk.in_hand ≡ Some order → told_index order.job.task ≤ t.events
+  pub hand_small : (order : Order) → (desk_at t.desks d.proc).in_hand ≡ Some order → told_index order.job.task ≤ t.events
   hand_small order hand =
-      let told : told_index order.job.task ≤ s.events = few.hand (opening_process header) order (ap (λ (d : Desk). d.in_hand) is.holds.desk ∙ hand) in
+      let told : told_index order.job.task ≤ s.events = few.hand d.proc order (ap (λ (x : Desk). x.in_hand) (is.holds.desks d.proc) ∙ hand) in
       let same : s.events ≡ t.events = is.holds.events in
       omega (arith, told, same)

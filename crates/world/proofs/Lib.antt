@@ -1,6 +1,7 @@
 mod EndingLaws
 mod FaceLaws
 mod NoteLaws
+mod TableLaws
 mod Facts
 mod EventLaws
 mod AcceptLaws

@@ -1,7 +1,8 @@
 -- What the rows that a coordinator puts out make of what a world keeps.
-use Rattle.std.proofs.Common.{◌≡◌, ℕ, ◌+◌, true, cond, ◌==◌, List, [], ◌∷◌, ◌++◌, map, Option, Some, refl, sym, ap, ◌∙◌}
-use Rattle.std.specs.Prelude.{fold, option_map}
+use Rattle.std.proofs.Common.{◌≡◌, ℕ, ◌+◌, true, List, [], ◌∷◌, ◌++◌, map, Option, Some, refl, ap, ◌∙◌}
+use Rattle.std.specs.Prelude.{fold}
 use Rattle.std.proofs.lemmas.Bool.{and_parts}
+use Rattle.tab_ids.specs.declared.DocId.{DocId}
 use Rattle.tab_ids.specs.declared.ProcId.{ProcId}
 use Rattle.log_model.specs.declared.outcome.Ending.{Ending}
 use Rattle.log_model.specs.declared.row_kind.Actor.{Actor}
@@ -12,61 +13,57 @@ use Rattle.log_model.specs.declared.row_kind.RowKind.TheVariants as rows
 use Rattle.log_model.specs.After.{after}
 use Rattle.log_model.specs.Formed.{is_work, may_follow, is_in_its_place}
 use Rattle.log_model.specs.Events.{Point}
-use Rattle.log_model.specs.Seen.{Seen, Desk, desk_of, document_of}
+use Rattle.log_model.specs.Seen.{Seen, Desk, desk_of}
 use Rattle.log_model.specs.Views.{View}
-use Rattle.log_model.proofs.Refl.{nat_eq_refl}
-use Rattle.history_log.proofs.DeskLaws.{desk_of-after, mine}
+use Rattle.history_log.proofs.DeskLaws.{desk_of-after}
 use Rattle.seen_laws.specs.Blocks.{Here, EachPass, point_at, on_row, on_rows}
 use Rattle.seen_laws.specs.Sending.{leads}
-use Rattle.seen_laws.proofs.Desks.{desk_has}
 use Rattle.coord.specs.Ending.{IsWorker}
-use Rattle.world.specs.Notes.{desk_noted, endings_noted, row_with}
-use Rattle.world.specs.Open.{face, first_document, endings_of}
+use Rattle.proc_tables.specs.Desks.{desk_noted}
+use Rattle.world.specs.Notes.{endings_noted, row_with}
+use Rattle.world.specs.Open.{first_document, endings_of, process_in, view_in}
 use Rattle.world.proofs.EndingLaws.{work_endings}
 use Rattle.world.proofs.FaceLaws.{work_face}
 
 -- what a log has come to, as far as a world keeps it
-pub record Keeping (home : ProcId) (s : Seen) (event : ℕ) (waits : Desk) (ends : List (Option Ending)) (at : Option View × ProcId) : Type 0 where
+pub record Keeping (home : ProcId) (s : Seen) (event : ℕ) (waits : ProcId → Desk) (shown : DocId → Option View) (ends : List (Option Ending)) : Type 0 where
   pub events : s.events ≡ event + 1
-  pub desk : desk_of s home ≡ waits
+  pub desks : (proc : ProcId) → desk_of s proc ≡ waits proc
+  pub views : (doc : DocId) → view_in s doc ≡ shown doc
   pub endings : endings_of s ≡ ends
-  pub face : option_map face (document_of s first_document) ≡ Some at
-
--- a change of a process, at its own desk
-pub own_desk : (home : ProcId) (f : Desk → Desk) (desk : Desk) → mine home home f desk ≡ f desk
-own_desk home f desk = rw (nat_eq_refl home.0) refl
+  pub lives : process_in s first_document ≡ Some home
 
 -- ---- one row
 
-work_desk : (home : ProcId) (s : Seen) (event : ℕ) (actor : Actor) (kind : RowKind) → IsWorker actor → is_work kind ≡ true → desk_of (after s (row_with event actor kind)) home ≡ desk_noted (desk_of s home) kind
-work_desk home s event actor (rows.Sent job) worker work =
-    desk_of-after s home event actor (rows.Sent job)
-    ∙ ap (λ (n : ℕ). cond (job.proc.0 == n) (let d : Desk = record (desk_of s home) { mail = (desk_of s home).mail ++ job ∷ [] } in d) (desk_of s home)) (sym (desk_has s.desks home))
-work_desk home s event actor (rows.Dropped req cause) worker work = desk_of-after s home event actor (rows.Dropped req cause)
-work_desk home s event actors.Ui (rows.Refused req reason) worker work = refl
-work_desk home s event actors.Coord (rows.Refused req reason) worker work = refl
-work_desk home s event actors.Start (rows.Refused req reason) worker work = refl
-work_desk home s event (actors.Proc p) (rows.Refused req reason) worker work = elim worker [ ]
-work_desk home s event actor (rows.Started req goal) worker work = refl
-work_desk home s event actor (rows.Applied req change) worker work = refl
-work_desk home s event actor (rows.Prompted req doc) worker work = refl
-work_desk home s event actor (rows.Opened entry state doc proc slot address) worker work = cc
-work_desk home s event actor (rows.Accepted req doc what) worker work = cc
-work_desk home s event actor (rows.Answered req stay) worker work = cc
-work_desk home s event actor (rows.Taken proc job live dirty) worker work = cc
-work_desk home s event actor (rows.Finished proc job outcome) worker work = cc
-work_desk home s event actor (rows.Made proc made) worker work = cc
-work_desk home s event actor (rows.Delivered proc) worker work = cc
-work_desk home s event actor (rows.Killed proc death) worker work = cc
-work_desk home s event actor (rows.Evicted state) worker work = cc
+work_desk : (s : Seen) (event : ℕ) (actor : Actor) (kind : RowKind) → IsWorker actor → is_work kind ≡ true → (proc : ProcId) → desk_of (after s (row_with event actor kind)) proc ≡ desk_noted proc (desk_of s proc) kind
+work_desk s event actor (rows.Sent job) worker work proc = desk_of-after s proc event actor (rows.Sent job)
+work_desk s event actor (rows.Dropped req cause) worker work proc_ = desk_of-after s proc_ event actor (rows.Dropped req cause)
+work_desk s event actors.Ui (rows.Refused req reason) worker work proc_ = refl
+work_desk s event actors.Coord (rows.Refused req reason) worker work proc_ = refl
+work_desk s event actors.Start (rows.Refused req reason) worker work proc_ = refl
+work_desk s event (actors.Proc p) (rows.Refused req reason) worker work proc_ = elim worker [ ]
+work_desk s event actor (rows.Started req goal) worker work proc_ = refl
+work_desk s event actor (rows.Applied req change) worker work proc_ = refl
+work_desk s event actor (rows.Prompted req doc) worker work proc_ = refl
+work_desk s event actor (rows.Opened entry state doc proc slot address) worker work proc_ = cc
+work_desk s event actor (rows.Accepted req doc what) worker work proc_ = cc
+work_desk s event actor (rows.Answered req stay) worker work proc_ = cc
+work_desk s event actor (rows.Taken proc job live dirty) worker work proc_ = cc
+work_desk s event actor (rows.Finished proc job outcome) worker work proc_ = cc
+work_desk s event actor (rows.Made proc made) worker work proc_ = cc
+work_desk s event actor (rows.Delivered proc) worker work proc_ = cc
+work_desk s event actor (rows.Killed proc death) worker work proc_ = cc
+work_desk s event actor (rows.Evicted state) worker work proc_ = cc
 
-pub work_keeps : (home : ProcId) (s : Seen) (event : ℕ) (actor : Actor) (kind : RowKind) (desk : Desk) (ends : List (Option Ending)) (at : Option View × ProcId) → IsWorker actor → is_work kind ≡ true → Keeping home s event desk ends at → Keeping home (after s (row_with event actor kind)) event (desk_noted desk kind) (endings_noted ends kind) at
-work_keeps home s event actor kind desk ends at worker work keeps =
+pub work_keeps : (home : ProcId) (s : Seen) (event : ℕ) (actor : Actor) (kind : RowKind) (desks : ProcId → Desk) (views : DocId → Option View) (ends : List (Option Ending)) → IsWorker actor → is_work kind ≡ true → Keeping home s event desks views ends → Keeping home (after s (row_with event actor kind)) event (λ proc. desk_noted proc (desks proc) kind) views (endings_noted ends kind)
+work_keeps home s event actor kind desks views ends worker work keeps =
+    let faces = work_face s kind work in
     record {
       events = refl;
-      desk = work_desk home s event actor kind worker work ∙ ap (λ (d : Desk). desk_noted d kind) keeps.desk;
+      desks = λ proc. work_desk s event actor kind worker work proc ∙ ap (λ (d : Desk). desk_noted proc d kind) (keeps.desks proc);
+      views = λ doc. faces.views doc ∙ keeps.views doc;
       endings = work_endings s kind work ∙ ap (λ (l : List (Option Ending)). endings_noted l kind) keeps.endings;
-      face = work_face s kind first_document at work keeps.face;
+      lives = faces.home first_document home keeps.lives;
     }
 
 -- ---- the rows of an event
@@ -92,9 +89,9 @@ led_works (rows.Killed proc death) kind led follows = cc
 works_after : (p : Point) (row : LogRow) (own : LogRow) (done : List LogRow) → p.done ≡ own ∷ done → leads own.row ≡ true → is_in_its_place p row ≡ true → is_work row.row ≡ true
 works_after p row own done is led place = led_works own.row row.row led (rw is at place)
 
-pub works_keep : (home : ProcId) (h : Here) (own : LogRow) (done : List LogRow) (event : ℕ) (actor : Actor) (out : List RowKind) (desk : Desk) (ends : List (Option Ending)) (at : Option View × ProcId) → h.done ≡ own ∷ done → leads own.row ≡ true → IsWorker actor → EachPass h (map (row_with event actor) out) [] → Keeping home h.now event desk ends at → Keeping home (on_rows h (map (row_with event actor) out)).now event (fold desk_noted desk out) (fold endings_noted ends out) at
-works_keep home h own done event actor [] desk ends at is led worker pass keeps = keeps
-works_keep home h own done event actor (kind ∷ out) desk ends at is led worker (first, pass) keeps =
+pub works_keep : (home : ProcId) (h : Here) (own : LogRow) (done : List LogRow) (event : ℕ) (actor : Actor) (out : List RowKind) (desks : ProcId → Desk) (views : DocId → Option View) (ends : List (Option Ending)) → h.done ≡ own ∷ done → leads own.row ≡ true → IsWorker actor → EachPass h (map (row_with event actor) out) [] → Keeping home h.now event desks views ends → Keeping home (on_rows h (map (row_with event actor) out)).now event (λ proc. fold (desk_noted proc) (desks proc) out) views (fold endings_noted ends out)
+works_keep home h own done event actor [] desks views ends is led worker pass keeps = keeps
+works_keep home h own done event actor (kind ∷ out) desks views ends is led worker (first, pass) keeps =
     let place : is_in_its_place (point_at h (map (row_with event actor) out ++ [])) (row_with event actor kind) ≡ true = (and_parts (is_in_its_place (point_at h (map (row_with event actor) out ++ [])) (row_with event actor kind)) _ first.formed).0 in
     let work : is_work kind ≡ true = works_after (point_at h (map (row_with event actor) out ++ [])) (row_with event actor kind) own done is led place in
-    works_keep home (on_row h (row_with event actor kind)) own (done ++ row_with event actor kind ∷ []) event actor out (desk_noted desk kind) (endings_noted ends kind) at (ap (λ (l : List LogRow). l ++ row_with event actor kind ∷ []) is) led worker pass (work_keeps home h.now event actor kind desk ends at worker work keeps)
+    works_keep home (on_row h (row_with event actor kind)) own (done ++ row_with event actor kind ∷ []) event actor out (λ proc. desk_noted proc (desks proc) kind) views (endings_noted ends kind) (ap (λ (l : List LogRow). l ++ row_with event actor kind ∷ []) is) led worker pass (work_keeps home h.now event actor kind desks views ends worker work keeps)

@@ -1,27 +1,30 @@
 -- The opening of a world.
-use Rattle.std.proofs.Common.{◌≡◌, ℕ, Bool, true, false, ◌&&◌, ◌==◌, List, [], ◌∷◌, Option, Some, refl, sym, ap, ◌∙◌, subst, arith}
-use Rattle.std.specs.Prelude.{bytes_eq, if◌then◌else◌}
+use Rattle.std.proofs.Common.{◌≡◌, ℕ, Bool, true, false, cond, ◌==◌, List, [], ◌∷◌, Option, None, Some, refl, sym, ap, ◌∙◌, subst, arith}
+use Rattle.std.specs.Prelude.{bytes_eq, option_and_then, IfSome, if◌then◌else◌}
+use Rattle.std.proofs.lemmas.Bool.Decides.{nat_tests}
 use Rattle.log_model.proofs.Refl.{bytes_eq_refl, nat_eq_refl}
 use Rattle.address.specs.Addresses.{base_of, blank_text, origin_of}
+use Rattle.tab_ids.specs.declared.DocId.{DocId}
 use Rattle.tab_ids.specs.declared.ProcId.{ProcId}
 use Rattle.log_model.specs.declared.header.Header.{Header}
 use Rattle.log_model.specs.declared.row_kind.LogRow.{LogRow}
 use Rattle.log_model.specs.ActsAtOnce.{ActsAtOnce}
-use Rattle.log_model.specs.Equal.{holds}
 use Rattle.log_model.specs.Events.{events_of, AtEachEvent, after_opening, each_event}
 use Rattle.log_model.specs.Legal.{IsLegal, opens}
 use Rattle.log_model.specs.Limits.{BeginsBelow, starts_from}
 use Rattle.log_model.specs.Logs.{seen_of}
-use Rattle.log_model.specs.Seen.{nothing, desk_of, empty_desk}
+use Rattle.log_model.specs.Seen.{Desk, Document, nothing, desk_of, empty_desk}
 use Rattle.log_model.specs.Suits.{Suits, first_process, home_of, opens_suitably, process_of_origin}
-use Rattle.log_model.specs.Views.{View}
+use Rattle.log_model.specs.AfterDocuments.{opening_document}
+use Rattle.log_model.specs.Views.{View, opening_view}
 use Rattle.coord.specs.Keeping.{Keeps}
 use Rattle.coord.specs.Standing.{StandsFor, opened_at}
 use Rattle.coord.specs.declared.coordinator.Coordinator.{Coordinator}
 use Rattle.coord.proofs.StandLaws.{stands_settled}
 use Rattle.world.specs.declared.state.State.{State}
 use Rattle.world.specs.Kept.{IsKept, OpensAs, OpensUnhandled}
-use Rattle.world.specs.Open.{IsOpen, Holds, opening_process, row_limit}
+use Rattle.proc_tables.specs.Desks.{desk_at}
+use Rattle.world.specs.Open.{IsOpen, IsSmall, first_document, opening_process, row_limit, view_in}
 use Rattle.world.specs.Opening.{opening_row, IsJustOpened}
 
 opened_below : (address : List ℕ) (proc : ProcId) → BeginsBelow row_limit (opening_row address proc ∷ [])
@@ -68,18 +71,40 @@ opened_open header proc t home just =
     record {
       keeps = opened_keeps header proc t.coordinator just.stands;
       limited = opened_below header.first proc;
-      holds = subst (λ (p : ProcId). Holds p (seen_of (opening_row header.first proc ∷ [])) t) home (record {
+      holds = record {
         events = sym just.events;
-        desk = its_desk ∙ sym just.desk;
-        face = ap (λ (v : View). let o : Option (Option View × ProcId) = Some (Some v, proc) in o) (sym just.view);
+        desks = λ p. its_desk p ∙ sym (ap (λ (l : List (ProcId × Desk)). desk_at l p) just.desks);
+        views = λ doc. its_view doc ∙ sym (just.views doc);
         endings = sym just.endings;
-        numbered = rw just.view (omega arith);
-        index = rw just.view (omega arith);
-      });
+        small = λ doc. subst (λ (o : Option View). IfSome o (IsSmall t.events)) (sym (just.views doc)) (its_small doc);
+      };
+      home = ap (λ (p : ProcId). let o : Option ProcId = Some p in o) home;
     }
   where
-    its_desk : desk_of (seen_of (opening_row header.first proc ∷ [])) proc ≡ empty_desk proc
-    its_desk = rw (nat_eq_refl proc.0) refl
+    first_view : View
+    first_view = opening_view first_document (record { maker = 0; nr = 1 }) header.first
+
+    its_desk : (p : ProcId) → desk_of (seen_of (opening_row header.first proc ∷ [])) p ≡ empty_desk p
+    its_desk p = by_test (proc.0 == p.0) refl
+      where
+        by_test : (b : Bool) → (proc.0 == p.0) ≡ b → cond b (empty_desk proc) (empty_desk p) ≡ empty_desk p
+        by_test true same =
+            let n : proc.0 ≡ p.0 = grind (arith, nat_tests, same) in ap (λ (i : ℕ). empty_desk (record { 0 = i })) n
+        by_test false other = refl
+
+    its_view : (doc : DocId) → view_in (seen_of (opening_row header.first proc ∷ [])) doc ≡ cond (1 == doc.0) (Some first_view) None
+    its_view doc =
+        elim (1 == doc.0) as (λ b. option_and_then (λ (d : Document). d.view) (cond b (Some (opening_document (record { maker = 0; nr = 1 }) (record { 0 = 1 }) first_document proc None header.first)) None) ≡ cond b (Some first_view) None) [
+          | true ↦ refl
+          | false ↦ refl
+        ]
+
+    its_small : (doc : DocId) → IfSome (cond (1 == doc.0) (Some first_view) None) (IsSmall t.events)
+    its_small doc =
+        elim (1 == doc.0) as (λ b. IfSome (cond b (Some first_view) None) (IsSmall t.events)) [
+          | true ↦ record { numbered = rw just.events (omega arith); index = rw just.events (omega arith) }
+          | false ↦ tt
+        ]
 
 -- an open world keeps what each world does
 pub open_kept : (header : Header) (log : List LogRow) (t : State) → IsOpen header log t → IsKept header log t false

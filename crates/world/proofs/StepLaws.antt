@@ -1,4 +1,4 @@
--- When an event is due, and in which process.
+-- When an event is due.
 use Rattle.std.proofs.Common.{◌≡◌, ℕ, ◌<◌, ◌≤◌, Bool, true, false, ◌==◌, List, length, Option, Some, None, Ok, Err, refl, ap, ◌∙◌, subst, arith}
 use Rattle.std.specs.Prelude.{IsSome, if◌then◌else◌}
 use Rattle.std.proofs.lemmas.Bool.Decides.{nat_tests}
@@ -8,7 +8,7 @@ use Rattle.log_model.specs.declared.job.Order.{Order}
 use Rattle.log_model.specs.declared.row_kind.LogRow.{LogRow}
 use Rattle.log_model.specs.Equal.{holds}
 use Rattle.log_model.specs.Logs.{seen_of}
-use Rattle.log_model.specs.Seen.{Seen, Desk, desk_of, empty_desk}
+use Rattle.log_model.specs.Seen.{Seen, Desk, desk_of}
 use Rattle.proc_work.specs.Work as worked
 use Rattle.world.specs.declared.event.Event.{Event}
 use Rattle.world.specs.declared.event.Event.TheVariants as events
@@ -18,10 +18,10 @@ use Rattle.world.specs.declared.state.State.{State}
 use Rattle.world.specs.declared.error.StepError.{StepError}
 use Rattle.world.specs.declared.error.StepError.TheVariants as errors
 use Rattle.world.specs.Kept.{WorldState}
-use Rattle.world.specs.Open.{IsOpen, desk_at, opening_process, row_limit}
+use Rattle.proc_tables.specs.Desks.{desk_at}
+use Rattle.world.specs.Open.{IsOpen, row_limit}
 use Rattle.world.specs.Steps.{Steps, begin_idles, idle_at, idle_reply}
 use Rattle.world.specs.Turns.{HasGone, Shuts}
-use Rattle.world.proofs.Facts.{desks_are, home_desk, other_desk}
 
 same_at : (desk other : ProcId → Desk) (event : Event) → ((proc : ProcId) → desk proc ≡ other proc) → idle_at desk event ≡ idle_at other event
 same_at desk other (events.Go delta) same = refl
@@ -38,26 +38,11 @@ module _ (header : Header) (log : List LogRow) (t : State) (is : IsOpen header l
   abbrev s : Seen
   s = seen_of log
 
-  -- whether an event logs is read of the one desk
-  pub idle_is : (event : Event) → idle_reply s event ≡ idle_at (desk_at t.desk) event
-  idle_is event = same_at (desk_of s) (desk_at t.desk) event (desks_are header log t is)
+  -- whether an event logs is read of the desks
+  pub idle_is : (event : Event) → idle_reply s event ≡ idle_at (desk_at t.desks) event
+  idle_is event = same_at (desk_of s) (desk_at t.desks) event is.holds.desks
 
-  -- ---- an event that logs is one of the first process
-
-  pub record IsDue (proc : ProcId) (Waits : Desk → Type 0) : Type 0 where
-    pub here : proc ≡ (opening_process header)
-    pub waits : Waits t.desk
-
-  due_here : (proc : ProcId) (Waits : Desk → Type 0) → Waits (desk_of s proc) → (Waits (empty_desk proc) → ⊥) → IsDue proc Waits
-  due_here proc Waits waits never = by_test (proc.0 == (opening_process header).0) refl
-    where
-      by_test : (b : Bool) → (proc.0 == (opening_process header).0) ≡ b → IsDue proc Waits
-      by_test true e =
-          record {
-            here = (let n : proc.0 ≡ (opening_process header).0 = grind (arith, nat_tests, e) in ap (λ (i : ℕ). let x : ProcId = record { 0 = i } in x) n);
-            waits = subst Waits (home_desk header log t is proc e) waits;
-          }
-      by_test false e = elim (never (subst Waits (other_desk header log t is proc e) waits)) [ ]
+  -- ---- what an event that logs finds in its process
 
   -- where there is no such answer, something waits
   some_wait : (n : ℕ) (reply : Reply) → (let o : Option Reply = if n == 0 then Some reply else None in o) ≡ None → 0 < n
@@ -67,21 +52,21 @@ module _ (header : Header) (log : List LogRow) (t : State) (is : IsOpen header l
       by_test true e none_ = cc
       by_test false e none_ = grind (arith, nat_tests, e)
 
-  pub act_due : (proc : ProcId) → idle_reply s (events.Act proc) ≡ None → IsDue proc (λ (d : Desk). 0 < length d.input)
-  act_due proc due = due_here proc _ (some_wait _ replies.Empty due) (λ never. let wrong : ⊥ = omega (arith, never) in wrong)
+  pub act_due : (proc : ProcId) → idle_reply s (events.Act proc) ≡ None → 0 < length (desk_at t.desks proc).input
+  act_due proc due = subst (λ (d : Desk). 0 < length d.input) (is.holds.desks proc) (some_wait _ replies.Empty due)
 
-  pub deliver_due : (proc : ProcId) → idle_reply s (events.Deliver proc) ≡ None → IsDue proc (λ (d : Desk). 0 < length d.reports)
-  deliver_due proc due = due_here proc _ (some_wait _ replies.Empty due) (λ never. let wrong : ⊥ = omega (arith, never) in wrong)
+  pub deliver_due : (proc : ProcId) → idle_reply s (events.Deliver proc) ≡ None → 0 < length (desk_at t.desks proc).reports
+  deliver_due proc due = subst (λ (d : Desk). 0 < length d.reports) (is.holds.desks proc) (some_wait _ replies.Empty due)
 
-  pub begin_due : (proc : ProcId) → idle_reply s (events.Begin proc) ≡ None → IsDue proc (λ (d : Desk). (d.in_hand ≡ None) × (0 < length d.mail))
-  begin_due proc due = due_here proc _ (by_hand (desk_of s proc).in_hand refl due) (λ never. let none : 0 < 0 = never.1 in let wrong : ⊥ = omega (arith, none) in wrong)
+  pub begin_due : (proc : ProcId) → idle_reply s (events.Begin proc) ≡ None → ((desk_at t.desks proc).in_hand ≡ None) × (0 < length (desk_at t.desks proc).mail)
+  begin_due proc due = subst (λ (d : Desk). (d.in_hand ≡ None) × (0 < length d.mail)) (is.holds.desks proc) (by_hand (desk_of s proc).in_hand refl due)
     where
       by_hand : (hand : Option Order) → (desk_of s proc).in_hand ≡ hand → begin_idles hand (length (desk_of s proc).mail) ≡ None → ((desk_of s proc).in_hand ≡ None) × (0 < length (desk_of s proc).mail)
       by_hand (Some order) e due_ = cc
       by_hand None e due_ = (e, some_wait _ replies.Empty due_)
 
-  pub finish_due : (proc : ProcId) (done : worked.Done) → idle_reply s (events.Finish proc done) ≡ None → IsDue proc (λ (d : Desk). IsSome d.in_hand)
-  finish_due proc done due = due_here proc _ (by_hand (desk_of s proc).in_hand refl due) (λ never. cc)
+  pub finish_due : (proc : ProcId) (done : worked.Done) → idle_reply s (events.Finish proc done) ≡ None → IsSome (desk_at t.desks proc).in_hand
+  finish_due proc done due = subst (λ (d : Desk). IsSome d.in_hand) (is.holds.desks proc) (by_hand (desk_of s proc).in_hand refl due)
     where
       by_hand : (hand : Option Order) → (desk_of s proc).in_hand ≡ hand → (let o : Option Reply = if holds (λ (order : Order). order.job.nr.0 == done.order.job.nr.0) hand then None else Some replies.Stale in o) ≡ None → IsSome (desk_of s proc).in_hand
       by_hand (Some order) e due_ = rw e refl
@@ -90,10 +75,10 @@ module _ (header : Header) (log : List LogRow) (t : State) (is : IsOpen header l
 -- ---- a step
 
 module _ (w : WorldState) (t : State) (is : IsOpen w.header w.log t) (event : Event) where
-  pub idle_steps : (reply : Reply) → idle_at (desk_at t.desk) event ≡ Some reply → Steps w event (Ok reply) w
+  pub idle_steps : (reply : Reply) → idle_at (desk_at t.desks) event ≡ Some reply → Steps w event (Ok reply) w
   idle_steps reply idles = rw (idle_is w.header w.log t is event ∙ idles) (refl, refl)
 
-  module _ (due : idle_at (desk_at t.desk) event ≡ None) where
+  module _ (due : idle_at (desk_at t.desks) event ≡ None) where
     pub is_due : idle_reply (seen_of w.log) event ≡ None
     is_due = idle_is w.header w.log t is event ∙ due
 

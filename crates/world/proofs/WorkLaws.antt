@@ -1,6 +1,6 @@
 -- The process acts, takes up an order, or finishes one.
-use Rattle.std.proofs.Common.{◌≡◌, ℕ, ◌+◌, ◌*◌, ◌<◌, ◌≤◌, Bool, true, false, ◌==◌, List, [], ◌∷◌, ◌++◌, length, drop, find, Option, Some, None, refl, sym, ap, ◌∙◌, subst, arith}
-use Rattle.std.specs.Prelude.{option_map, slice_get, IsSomeAnd}
+use Rattle.std.proofs.Common.{◌≡◌, ℕ, ◌+◌, ◌<◌, ◌≤◌, Bool, true, false, ◌==◌, List, [], ◌∷◌, ◌++◌, length, drop, Option, Some, None, refl, sym, ap, ◌∙◌, subst, arith}
+use Rattle.std.specs.Prelude.{option_map, slice_get, IfSome, IsSomeAnd}
 use Rattle.std.proofs.lemmas.Bool.Decides.{nat_tests}
 use Rattle.tab_ids.specs.declared.DocId.{DocId}
 use Rattle.tab_ids.specs.declared.Epoch.{Epoch}
@@ -29,10 +29,11 @@ use Rattle.log_model.specs.After.{after, follows_finished, desk_finished, desk_m
 use Rattle.log_model.specs.AfterRequests.{requests_finished}
 use Rattle.log_model.specs.Equal.{holds}
 use Rattle.log_model.specs.Logs.{seen_of}
-use Rattle.log_model.specs.Seen.{Seen, Document, Desk, desk_of, document_of}
-use Rattle.log_model.specs.Views.{View, made_by, made_for, after_made, after_task}
+use Rattle.log_model.specs.Seen.{Seen, Document, Desk, desk_of}
+use Rattle.log_model.specs.Views.{View, made_by, after_made, after_task}
 use Rattle.log_counts.specs.Counts.{told_index}
-use Rattle.history_log.proofs.DeskLaws.{desk_of-after, desk_served}
+use Rattle.doc_view.specs.Jobs.{IsForView}
+use Rattle.history_log.proofs.DeskLaws.{desk_of-after}
 use Rattle.seen_laws.specs.InEvent.{InEvent}
 use Rattle.seen_laws.specs.Sending.{IsToldTask}
 use Rattle.seen_laws.proofs.Processes.{told_outcome}
@@ -42,23 +43,29 @@ use Rattle.plain_tab.specs.Flow.{IsOrder, IsOrderOf, IsPokeTo}
 use Rattle.plain_tab.specs.Making.{IsNewOf}
 use Rattle.plain_tab.proofs.Eaches.{each_first}
 use Rattle.plain_tab.proofs.Flows.{in_hand_of}
-use Rattle.plain_tab.proofs.Soles.{doc_found, on_sole}
+use Rattle.plain_tab.proofs.Soles.{on_sole}
 use Rattle.coord_facts.specs.Leading.{orders_of_desk}
 use Rattle.coord.specs.Standing.{HasActed}
 use Rattle.coord.specs.declared.coordinator.Coordinator.{Coordinator}
 use Rattle.coord.proofs.ActLaws.{taken_acted, finished_acted, made_acted, refused_acted, new_of_made, enters, to_act}
+use Rattle.world.specs.declared.event.Event.{Event}
 use Rattle.world.specs.declared.event.Event.TheVariants as events
+use Rattle.world.specs.declared.event.Reply.{Reply}
 use Rattle.world.specs.declared.event.Reply.TheVariants as replies
 use Rattle.world.specs.declared.state.State.{State}
 use Rattle.world.specs.Asking.{event_of}
 use Rattle.world.specs.Notes.{ended_in, row_with}
-use Rattle.world.specs.Open.{IsOpen, face, first_document, opening_process, row_limit, view_in}
-use Rattle.world.specs.Steps.{act_row, order_for}
+use Rattle.proc_tables.specs.declared.item.Item.TheVariants as items
+use Rattle.proc_tables.specs.Desks.{Changes, desk_at, desk_with, on_proc, without_job, without_order, without_poke}
+use Rattle.proc_tables.specs.Views.{Acts, Becomes, HasRoom, Stays, view_at}
+use Rattle.world.specs.Open.{IsOpen, IsSmall, opening_process, row_limit, view_in}
+use Rattle.world.specs.Steps.{Begins, act_row, actor_of, order_for}
 use Rattle.world.specs.Turns.{HasGone}
 use Rattle.world.proofs.EndingLaws.{left_on, ended_on}
-use Rattle.world.proofs.EventLaws.{alone_on, holds_all}
-use Rattle.world.proofs.Facts.{one, same_view, viewed_doc, hand_small}
-use Rattle.world.proofs.NoteLaws.{Keeping, own_desk}
+use Rattle.world.proofs.EventLaws.{alone_on, becomes_small, stays_small}
+use Rattle.world.proofs.Facts.{busy_here, hand_small, has_room, kept_view, shown_small, viewed}
+use Rattle.world.proofs.NoteLaws.{Keeping}
+use Rattle.world.proofs.TableLaws.{desks_go, lives_on, views_on}
 
 -- the row of one number, at the log's own
 row_same : (log : List LogRow) (n m : ℕ) (actor : Actor) (own : RowKind) → n ≡ m → log ++ row_with n actor own ∷ [] ≡ log ++ row_with m actor own ∷ []
@@ -69,6 +76,12 @@ pub is_told : (epoch : Epoch) (task : Task) → IsOrder epoch task → IsToldTas
 is_told epoch (tasks.Activate entry ep long at memo address) is = tt
 is_told epoch (tasks.Update long at) is = tt
 is_told epoch _ is = elim is [ ]
+
+-- it is one for a view that is there
+pub for_view : (task : Task) → IsToldTask task → IsForView task
+for_view (tasks.Activate entry ep long at memo address) is = tt
+for_view (tasks.Update long at) is = tt
+for_view _ is = elim is [ ]
 
 -- what comes of it, by two definitions
 same_outcome : (task : Task) (dirty : Bool) → IsToldTask task → outcome_of_task task dirty None ≡ told_outcome task
@@ -117,245 +130,260 @@ making view made (whats.Replace over_ entry memo address) is =
     record { reported = λ waiting. refl; index = omega arith; numbered = refl }
 making view made _ is = elim is [ ]
 
-module _ (header : Header) (log : List LogRow) (t : State) (is : IsOpen header log t) (short : length log < row_limit) where
+module _ (header : Header) (log : List LogRow) (t : State) (is : IsOpen header log t) (short : length log < row_limit) (proc : ProcId) where
   abbrev s : Seen
   s = seen_of log
 
   abbrev by : Actor
-  by = actors.Proc (opening_process header)
+  by = actors.Proc proc
 
-  d_is : is.keeps.stands.d.proc ≡ (opening_process header)
-  d_is = (one header log t is).proc
+  abbrev d : Document
+  d = is.keeps.stands.d
 
-  -- the desk of the document's own process
-  its_desk : desk_of s is.keeps.stands.d.proc ≡ t.desk
-  its_desk = ap (λ (p : ProcId). desk_of s p) d_is ∙ is.holds.desk
+  abbrev desk : Desk
+  desk = desk_at t.desks proc
 
-  found : document_of s first_document ≡ Some is.keeps.stands.d
-  found =
-      subst (λ (n : DocId). document_of s n ≡ Some is.keeps.stands.d) (one header log t is).nr (doc_found s is.keeps.stands.d is.keeps.stands.place is.keeps.stands.tab.sole)
+  -- the view of the one document
+  abbrev pub view : View
+  view = is.keeps.stands.tab.flowing.own.running.view
 
-  seen_view : (doc : DocId) → doc ≡ is.keeps.stands.d.nr → view_in s doc ≡ Some t.view
-  seen_view doc of_it =
-      ap (λ (n : DocId). view_in s n) (of_it ∙ (one header log t is).nr)
-      ∙ (ap (λ (o : Option Document). view_of_found o) found ∙ (one header log t is).view)
-    where
-      view_of_found : Option Document → Option View
-      view_of_found None = None
-      view_of_found (Some d) = d.view
+  -- a process in which something waits is the document's
+  pub poke_here : (poke : Poke) → slice_get desk.input 0 ≡ Some poke → proc ≡ d.proc
+  poke_here poke first =
+      busy_here header log t is proc (λ none. (let never : None ≡ Some poke = sym (ap (λ (x : Desk). slice_get x.input 0) none) ∙ first in absurd cc))
 
-  -- the document after a row that changes its view alone
-  face_on : (next : List Document) (f : Document → Document) (view : View) → next ≡ f is.keeps.stands.d ∷ [] → (f is.keeps.stands.d).nr ≡ is.keeps.stands.d.nr → (f is.keeps.stands.d).proc ≡ is.keeps.stands.d.proc → (f is.keeps.stands.d).view ≡ Some view → option_map face (find (λ (d : Document). d.nr.0 == 1) next) ≡ Some (Some view, (opening_process header))
-  face_on next f view are nr proc viewed =
-      let number : ((f is.keeps.stands.d).nr.0 == 1) ≡ true = ap (λ (n : DocId). n.0 == 1) (nr ∙ (one header log t is).nr) in
-      rw are (rw number (rw viewed (ap (λ (p : ProcId). let o : Option (Option View × ProcId) = Some (Some view, p) in o) (proc ∙ d_is))))
+  pub first_job_here : (job : Job) → slice_get desk.mail 0 ≡ Some job → proc ≡ d.proc
+  first_job_here job first =
+      busy_here header log t is proc (λ none. (let never : None ≡ Some job = sym (ap (λ (x : Desk). slice_get x.mail 0) none) ∙ first in absurd cc))
 
-  -- ---- an order is taken up
+  pub hand_here : (order : Order) → desk.in_hand ≡ Some order → proc ≡ d.proc
+  hand_here order hand =
+      busy_here header log t is proc (λ none. (let never : None ≡ Some order = sym (ap (λ (x : Desk). x.in_hand) none) ∙ hand in absurd cc))
 
-  dirty_is : (job : Job) → slice_get t.desk.mail 0 ≡ Some job → t.desk.in_hand ≡ None → job.doc ≡ is.keeps.stands.d.nr
-  dirty_is job first free =
-      (each_first (IsOrderOf is.keeps.stands.d.nr is.keeps.stands.place.epoch is.keeps.stands.place.last_job) (orders_of_desk (desk_of s is.keeps.stands.d.proc)) job (rw (its_desk, free) first) is.keeps.stands.tab.flowing.own.orders).of_doc
+  module _ (here : proc ≡ is.keeps.stands.d.proc) where
+    its_desk : desk_of s d.proc ≡ desk
+    its_desk = ap (λ (p : ProcId). desk_of s p) (sym here) ∙ is.holds.desks proc
 
-  pub begin_gone : (job : Job) (dirty : Bool) (new : State) (longer : List LogRow) → slice_get t.desk.mail 0 ≡ Some job → t.desk.in_hand ≡ None → dirty ≡ t.view.dirty → new.coordinator ≡ t.coordinator → new.events ≡ t.events + 1 → new.view ≡ t.view → new.desk ≡ record t.desk { mail = drop 1 t.desk.mail; in_hand = Some (record { job = job; dirty = dirty }) } → new.endings.items ≡ t.endings.items → longer ≡ log ++ row_with t.events by (rows.Taken (opening_process header) job.nr true dirty) ∷ [] → HasGone header (events.Begin (opening_process header)) (replies.Took (record { job = job; dirty = dirty })) log longer new
-  begin_gone job dirty new longer first free dirt coordinator events_ view desk ends_ more =
-      let whole : longer ≡ log ++ row_with s.events by own ∷ [] = more ∙ row_same log t.events s.events by own (sym is.holds.events) in
-      record {
-        happened = record {
-          own = own;
-          out = [];
-          begins = (refl, rw (is.holds.desk, first) (ap (λ (b : Bool). replies.Took (record { job = job; dirty = b })) its_dirt, ap (λ (b : Bool). rows.Taken (opening_process header) job.nr true b) its_dirt));
-          log = whole;
-        };
-        stands = subst (λ (l : List LogRow). IsOpen header l new) (sym whole) (alone_on header log t is short by own new acted (holds_all (opening_process header) (after s (row_with s.events by own)) new s.events kept (events_ ∙ ap (λ (k : ℕ). k + 1) (sym is.holds.events)) (rw view (let n : t.view.numbered ≤ t.events = is.holds.numbered in omega (arith, n, events_))) (rw view (let i : t.view.index ≤ 2 * t.events = is.holds.index in omega (arith, i, events_)))));
-      }
-    where
-      own : RowKind
-      own = rows.Taken (opening_process header) job.nr true dirty
+    by_it : by ≡ actors.Proc d.proc
+    by_it = ap (λ (p : ProcId). actors.Proc p) here
 
-      its_dirt : dirty ≡ (order_for s job).dirty
-      its_dirt =
-          dirt ∙ sym (ap (λ (o : Option View). holds (λ (v : View). v.dirty) o) (seen_view job.doc (dirty_is job first free)))
-
-      acted : HasActed (event_of header log by own) [] new.coordinator
-      acted =
-          subst (λ (c : Coordinator). HasActed (event_of header log by own) [] c) (sym coordinator) (taken_acted (event_of header log by own) t.coordinator is.keeps.stands job (ap (λ (d : Desk). d.in_hand) its_desk ∙ free) (ap (λ (d : Desk). slice_get d.mail 0) its_desk ∙ first) (ap (λ (p : ProcId). actors.Proc p) (sym d_is)) (ap (λ (p : ProcId). rows.Taken p job.nr true dirty) (sym d_is) ∙ ap (λ (b : Bool). rows.Taken is.keeps.stands.d.proc job.nr true b) (dirt ∙ ap (λ (v : View). v.dirty) (sym (same_view header log t is)))))
-
-      kept : Keeping (opening_process header) (after s (row_with s.events by own)) s.events new.desk new.endings.items (Some new.view, (opening_process header))
-      kept =
-          record {
-            events = refl;
-            desk = desk_of-after s (opening_process header) s.events by own ∙ (own_desk (opening_process header) (desk_taken true dirty) (desk_of s (opening_process header)) ∙ rw (is.holds.desk, first, desk) refl);
-            endings = is.holds.endings ∙ sym ends_;
-            face = is.holds.face ∙ ap (λ (v : View). let o : Option (Option View × ProcId) = Some (Some v, (opening_process header)) in o) (sym view);
-          }
-
-  -- ---- an order is finished
-
-  module _ (order : Order) (hand : t.desk.in_hand ≡ Some order) where
-    its_order : IsOrderOf is.keeps.stands.d.nr is.keeps.stands.place.epoch is.keeps.stands.place.last_job order.job
-    its_order =
-        in_hand_of (desk_of s is.keeps.stands.d.proc) is.keeps.stands.d is.keeps.stands.place order (ap (λ (d : Desk). d.in_hand) its_desk ∙ hand) is.keeps.stands.tab.flowing.own
-
-    pub its_told : IsToldTask order.job.task
-    its_told = is_told is.keeps.stands.place.epoch order.job.task its_order.task
-
-    pub its_doc : order.job.doc ≡ t.view.doc
-    its_doc = its_order.of_doc ∙ ((one header log t is).nr ∙ sym (viewed_doc header log t is))
-
-    pub finish_gone : (outcome : Outcome) (new : State) (longer : List LogRow) → ((dirty : Bool) → outcome ≡ outcome_of_task order.job.task dirty None) → new.coordinator ≡ t.coordinator → new.events ≡ t.events + 1 → new.view ≡ after_task t.view order.job.task → new.desk ≡ record t.desk { in_hand = None; reports = t.desk.reports ++ told.Done order.job outcome None ∷ [] } → new.endings.items ≡ t.endings.items → longer ≡ log ++ row_with t.events by (rows.Finished (opening_process header) order.job.nr outcome) ∷ [] → (done : worked.Done) → HasGone header (events.Finish (opening_process header) done) replies.Finished log longer new
-    finish_gone outcome new longer out_is coordinator events_ view desk ends_ more done =
+    -- an event of its own row alone, which leaves the coordinator
+    gone_alone : (event : Event) (reply : Reply) (own : RowKind) (new : State) (longer : List LogRow) → Begins s event reply own [] → actor_of event ≡ by → HasActed (event_of header log by own) [] t.coordinator → Keeping (opening_process header) (after s (row_with s.events by own)) s.events (desk_at new.desks) (view_at new.views) new.endings.items → new.coordinator ≡ t.coordinator → new.events ≡ t.events + 1 → ((doc : DocId) → IfSome (view_at new.views doc) (IsSmall new.events)) → longer ≡ log ++ row_with t.events by own ∷ [] → HasGone header event reply log longer new
+    gone_alone event reply own new longer begins by_is acted kept coordinator events_ small more =
         let whole : longer ≡ log ++ row_with s.events by own ∷ [] = more ∙ row_same log t.events s.events by own (sym is.holds.events) in
         record {
           happened = record {
             own = own;
             out = [];
-            begins = (refl, refl, rw (is.holds.desk, hand) (ap (λ (o : Outcome). rows.Finished (opening_process header) order.job.nr o) (out_is order.dirty)));
-            log = whole;
+            begins = begins;
+            log = whole ∙ ap (λ (a : Actor). log ++ row_with s.events a own ∷ []) (sym by_is);
           };
-          stands = subst (λ (l : List LogRow). IsOpen header l new) (sym whole) (alone_on header log t is short by own new acted (holds_all (opening_process header) (after s (row_with s.events by own)) new s.events kept (events_ ∙ ap (λ (k : ℕ). k + 1) (sym is.holds.events)) numbered index));
+          stands = subst (λ (l : List LogRow). IsOpen header l new) (sym whole) (alone_on header log t is short by own new (subst (λ (c : Coordinator). HasActed (event_of header log by own) [] c) (sym coordinator) acted) kept events_ small);
         }
-      where
-        own : RowKind
-        own = rows.Finished (opening_process header) order.job.nr outcome
 
-        is_its : outcome ≡ told_outcome order.job.task
-        is_its = out_is true ∙ same_outcome order.job.task true its_told
+    -- ---- an order is taken up
 
-        acted : HasActed (event_of header log by own) [] new.coordinator
-        acted =
-            subst (λ (c : Coordinator). HasActed (event_of header log by own) [] c) (sym coordinator) (finished_acted (event_of header log by own) t.coordinator is.keeps.stands order (ap (λ (d : Desk). d.in_hand) its_desk ∙ hand) (ap (λ (p : ProcId). actors.Proc p) (sym d_is)) (ap (λ (p : ProcId). rows.Finished p order.job.nr outcome) (sym d_is) ∙ ap (λ (o : Outcome). rows.Finished is.keeps.stands.d.proc order.job.nr o) is_its))
+    module _ (job : Job) (first : slice_get desk.mail 0 ≡ Some job) (free : desk.in_hand ≡ None) where
+      its_job : job.doc ≡ d.nr
+      its_job =
+          (each_first (IsOrderOf d.nr is.keeps.stands.place.epoch is.keeps.stands.place.last_job) (orders_of_desk (desk_of s d.proc)) job (rw (its_desk, free) first) is.keeps.stands.tab.flowing.own.orders).of_doc
 
-        ends : IsFinishing s is.keeps.stands.d order outcome t.view
-        ends =
-            subst (λ (o : Outcome). IsFinishing s is.keeps.stands.d order o t.view) (sym is_its) (finishing s is.keeps.stands.d order order.job.task t.view is.keeps.stands.tab.sole.documents its_order.of_doc (one header log t is).view refl its_told)
+      pub begin_gone : (dirty : Bool) (new : State) (longer : List LogRow) → dirty ≡ holds (λ (v : View). v.dirty) (view_at t.views job.doc) → new.coordinator ≡ t.coordinator → new.events ≡ t.events + 1 → new.views ≡ t.views → Changes proc (λ (x : Desk). desk_with (items.Order (record { job = job; dirty = dirty })) (without_job x)) t.desks new.desks → new.endings.items ≡ t.endings.items → longer ≡ log ++ row_with t.events by (rows.Taken proc job.nr true dirty) ∷ [] → HasGone header (events.Begin proc) (replies.Took (record { job = job; dirty = dirty })) log longer new
+      begin_gone dirty new longer dirt coordinator events_ views desks ends_ more =
+          gone_alone (events.Begin proc) (replies.Took (record { job = job; dirty = dirty })) own new longer begins refl acted kept coordinator events_ (stays_small t.views new.views t.events new.events events_ stays is.holds.small) more
+        where
+          own : RowKind
+          own = rows.Taken proc job.nr true dirty
 
-        held : (desk_of s (opening_process header)).in_hand ≡ Some order
-        held = ap (λ (d : Desk). d.in_hand) is.holds.desk ∙ hand
+          stays : Stays t.views new.views
+          stays doc = ap (λ (v : List (DocId × View)). view_at v doc) views
 
-        kept : Keeping (opening_process header) (after s (row_with s.events by own)) s.events new.desk new.endings.items (Some new.view, (opening_process header))
-        kept =
-            record {
-              events = refl;
-              desk = desk_of-after s (opening_process header) s.events by own ∙ (own_desk (opening_process header) (desk_finished outcome) (desk_of s (opening_process header)) ∙ rw (is.holds.desk, hand, desk) refl);
-              endings = rw (held, ends.requests) (is.holds.endings ∙ sym ends_);
-              face = rw (held, view) (face_on _ (λ (d : Document). record d { view = Some (after_task t.view order.job.task) }) (after_task t.view order.job.task) ends.documents refl refl refl);
-            }
+          its_dirt : dirty ≡ (order_for s job).dirty
+          its_dirt = dirt ∙ sym (ap (λ (o : Option View). holds (λ (v : View). v.dirty) o) (is.holds.views job.doc))
 
-        numbered : new.view.numbered ≤ new.events
-        numbered =
-            let n : t.view.numbered ≤ t.events = is.holds.numbered in
-            let same : new.view.numbered ≡ t.view.numbered = ap (λ (v : View). v.numbered) view ∙ (indexed order.job.task t.view its_told).numbered in
-            omega (arith, n, same, events_)
+          begins : Begins s (events.Begin proc) (replies.Took (record { job = job; dirty = dirty })) own []
+          begins =
+              (refl, rw (is.holds.desks proc, first) (ap (λ (b : Bool). replies.Took (record { job = job; dirty = b })) its_dirt, ap (λ (b : Bool). rows.Taken proc job.nr true b) its_dirt))
 
-        index : new.view.index ≤ 2 * new.events
-        index =
-            let same : new.view.index ≡ told_index order.job.task = ap (λ (v : View). v.index) view ∙ (indexed order.job.task t.view its_told).index in
-            let small : told_index order.job.task ≤ t.events = hand_small header log t is order hand in
-            omega (arith, small, same, events_)
+          acted : HasActed (event_of header log by own) [] t.coordinator
+          acted =
+              taken_acted (event_of header log by own) t.coordinator is.keeps.stands job (ap (λ (x : Desk). x.in_hand) its_desk ∙ free) (ap (λ (x : Desk). slice_get x.mail 0) its_desk ∙ first) by_it (ap (λ (p : ProcId). rows.Taken p job.nr true dirty) here ∙ ap (λ (b : Bool). rows.Taken d.proc job.nr true b) (dirt ∙ ap (λ (o : Option View). holds (λ (v : View). v.dirty) o) (kept_view header log t is job.doc its_job)))
 
-  -- ---- the document acts on a poke
+          kept : Keeping (opening_process header) (after s (row_with s.events by own)) s.events (desk_at new.desks) (view_at new.views) new.endings.items
+          kept =
+              record {
+                events = refl;
+                desks = λ p. desk_of-after s p s.events by own ∙ desks_go s t.desks new.desks proc (desk_taken true dirty) (λ (x : Desk). desk_with (items.Order (record { job = job; dirty = dirty })) (without_job x)) is.holds.desks (rw first refl) desks p;
+                views = λ doc. is.holds.views doc ∙ sym (stays doc);
+                endings = is.holds.endings ∙ sym ends_;
+                lives = is.home;
+              }
 
-  module _ (poke : Poke) (first : slice_get t.desk.input 0 ≡ Some poke) where
-    its_poke : poke.doc ≡ is.keeps.stands.d.nr
-    its_poke =
-        (each_first (IsPokeTo is.keeps.stands.d is.keeps.stands.d.proc) (desk_of s is.keeps.stands.d.proc).input poke (ap (λ (d : Desk). slice_get d.input 0) its_desk ∙ first) (is.keeps.stands.tab.pokes is.keeps.stands.d.proc)).0
+    -- ---- an order is finished
 
-    there : slice_get (desk_of s is.keeps.stands.d.proc).input 0 ≡ Some poke
-    there = ap (λ (d : Desk). slice_get d.input 0) its_desk ∙ first
+    module _ (order : Order) (hand : desk.in_hand ≡ Some order) where
+      its_order : IsOrderOf d.nr is.keeps.stands.place.epoch is.keeps.stands.place.last_job order.job
+      its_order =
+          in_hand_of (desk_of s d.proc) d is.keeps.stands.place order (ap (λ (x : Desk). x.in_hand) its_desk ∙ hand) is.keeps.stands.tab.flowing.own
 
-    begins_with : (own : RowKind) → (own ≡ act_row (opening_process header) t.view poke.req (made_by t.view poke.action)) → IsSomeAnd (slice_get (desk_of s (opening_process header)).input 0) (λ (p : Poke). IsSomeAnd (view_in s p.doc) (λ (view : View). own ≡ act_row (opening_process header) view p.req (made_by view p.action)))
-    begins_with own own_is = rw (is.holds.desk, first, seen_view poke.doc its_poke) own_is
+      pub its_told : IsToldTask order.job.task
+      its_told = is_told is.keeps.stands.place.epoch order.job.task its_order.task
 
-    pub made_gone : (what : What) (new : State) (longer : List LogRow) → made_by t.view poke.action ≡ Some what → new.coordinator ≡ t.coordinator → new.events ≡ t.events + 1 → new.view ≡ after_made t.view what → new.desk ≡ record t.desk { input = drop 1 t.desk.input; reports = t.desk.reports ++ told.Made (made_for t.view poke.req what) ∷ [] } → new.endings.items ≡ t.endings.items → longer ≡ log ++ row_with t.events by (rows.Made (opening_process header) (made_for t.view poke.req what)) ∷ [] → HasGone header (events.Act (opening_process header)) replies.Acted log longer new
-    made_gone what new longer made coordinator events_ view desk ends_ more =
-        let whole : longer ≡ log ++ row_with s.events by own ∷ [] = more ∙ row_same log t.events s.events by own (sym is.holds.events) in
-        record {
-          happened = record {
-            own = own;
-            out = [];
-            begins = (refl, refl, begins_with own (ap (λ (o : Option What). act_row (opening_process header) t.view poke.req o) (sym made)));
-            log = whole;
-          };
-          stands = subst (λ (l : List LogRow). IsOpen header l new) (sym whole) (alone_on header log t is short by own new acted (holds_all (opening_process header) (after s (row_with s.events by own)) new s.events kept (events_ ∙ ap (λ (k : ℕ). k + 1) (sym is.holds.events)) numbered index));
-        }
-      where
-        own : RowKind
-        own = rows.Made (opening_process header) (made_for t.view poke.req what)
+      pub its_doc : IsSomeAnd (view_at t.views order.job.doc) (λ (v : View). order.job.doc ≡ v.doc)
+      its_doc = rw (kept_view header log t is order.job.doc its_order.of_doc) (its_order.of_doc ∙ sym is.keeps.stands.tab.flowing.own.running.doc)
 
-        e : InEvent
-        e = event_of header log by own
+      pub its_room : IsSomeAnd (view_at t.views order.job.doc) HasRoom
+      its_room = has_room header log t is order.job.doc its_order.of_doc
 
-        viewed : View
-        viewed = is.keeps.stands.tab.flowing.own.running.view
+      pub finish_gone : (outcome : Outcome) (new : State) (longer : List LogRow) → ((dirty : Bool) → outcome ≡ outcome_of_task order.job.task dirty None) → new.coordinator ≡ t.coordinator → new.events ≡ t.events + 1 → IfSome (view_at t.views order.job.doc) (λ (v : View). Becomes order.job.doc (after_task v order.job.task) t.views new.views) → Changes proc (λ (x : Desk). desk_with (items.Report (told.Done order.job outcome None)) (without_order x)) t.desks new.desks → new.endings.items ≡ t.endings.items → longer ≡ log ++ row_with t.events by (rows.Finished proc order.job.nr outcome) ∷ [] → (done : worked.Done) → HasGone header (events.Finish proc done) replies.Finished log longer new
+      finish_gone outcome new longer out_is coordinator events_ viewed desks ends_ more done =
+          gone_alone (events.Finish proc done) replies.Finished own new longer begins refl acted kept coordinator events_ (becomes_small order.job.doc (after_task view order.job.task) t.views new.views t.events new.events events_ becomes small is.holds.small) more
+        where
+          own : RowKind
+          own = rows.Finished proc order.job.nr outcome
 
-        made_there : made_by viewed poke.action ≡ Some what
-        made_there = ap (λ (v : View). made_by v poke.action) (same_view header log t is) ∙ made
+          becomes : Becomes order.job.doc (after_task view order.job.task) t.views new.views
+          becomes =
+              subst (λ (o : Option View). IfSome o (λ (v : View). Becomes order.job.doc (after_task v order.job.task) t.views new.views)) (kept_view header log t is order.job.doc its_order.of_doc) viewed
 
-        acted : HasActed e [] new.coordinator
-        acted =
-            subst (λ (c : Coordinator). HasActed e [] c) (sym coordinator) (made_acted e t.coordinator is.keeps.stands poke there (ap (λ (p : ProcId). actors.Proc p) (sym d_is)) refl what made_there (ap (λ (p : ProcId). rows.Made p (made_for t.view poke.req what)) (sym d_is) ∙ ap (λ (v : View). rows.Made is.keeps.stands.d.proc (made_for v poke.req what)) (sym (same_view header log t is))))
+          is_its : outcome ≡ told_outcome order.job.task
+          is_its = out_is true ∙ same_outcome order.job.task true its_told
 
-        makes : IsMaking t.view (made_for t.view poke.req what) what
-        makes =
-            making t.view (made_for t.view poke.req what) what (new_of_made t.view (to_act e t.coordinator is.keeps.stands poke there (ap (λ (p : ProcId). actors.Proc p) (sym d_is)) refl).1 poke.action what (enters e t.coordinator is.keeps.stands poke there (ap (λ (p : ProcId). actors.Proc p) (sym d_is)) refl) made).0
+          begins : Begins s (events.Finish proc done) replies.Finished own []
+          begins =
+              (refl, refl, rw (is.holds.desks proc, hand) (ap (λ (o : Outcome). rows.Finished proc order.job.nr o) (out_is order.dirty)))
 
-        apart : follows_finished s (row_with s.events by own) ≡ false
-        apart = let never : (s.events == (s.events + 1)) ≡ false = grind (arith, nat_tests) in rw never refl
+          acted : HasActed (event_of header log by own) [] t.coordinator
+          acted =
+              finished_acted (event_of header log by own) t.coordinator is.keeps.stands order (ap (λ (x : Desk). x.in_hand) its_desk ∙ hand) by_it (ap (λ (p : ProcId). rows.Finished p order.job.nr outcome) here ∙ ap (λ (o : Outcome). rows.Finished d.proc order.job.nr o) is_its)
 
-        kept : Keeping (opening_process header) (after s (row_with s.events by own)) s.events new.desk new.endings.items (Some new.view, (opening_process header))
-        kept =
-            record {
-              events = refl;
-              desk = desk_of-after s (opening_process header) s.events by own
-                  ∙ (own_desk (opening_process header) (desks_made (follows_finished s (row_with s.events by own)) (made_for t.view poke.req what)) (desk_of s (opening_process header))
-                  ∙ (ap (λ (b : Bool). desks_made b (made_for t.view poke.req what) (desk_of s (opening_process header))) apart
-                  ∙ (ap (desk_made (made_for t.view poke.req what)) is.holds.desk
-                  ∙ (ap (λ (l : List Report). let d : Desk = record t.desk { input = drop 1 t.desk.input; reports = l } in d) (makes.reported t.desk.reports) ∙ sym desk))));
-              endings = left_on s.requests poke.req _ (λ q. refl) ∙ (is.holds.endings ∙ sym ends_);
-              face = rw view (face_on _ (λ (d : Document). record d { view = option_map (λ (v : View). after_made v what) d.view }) (after_made t.view what) (on_sole s.documents is.keeps.stands.d t.view.doc _ is.keeps.stands.tab.sole.documents (viewed_doc header log t is ∙ sym (one header log t is).nr)) refl refl (ap (λ (o : Option View). option_map (λ (v : View). after_made v what) o) (one header log t is).view));
-            }
+          ends : IsFinishing s d order outcome view
+          ends =
+              subst (λ (o : Outcome). IsFinishing s d order o view) (sym is_its) (finishing s d order order.job.task view is.keeps.stands.tab.sole.documents its_order.of_doc is.keeps.stands.tab.flowing.own.running.seen refl its_told)
 
-        numbered : new.view.numbered ≤ new.events
-        numbered =
-            let n : t.view.numbered ≤ t.events = is.holds.numbered in
-            let same : new.view.numbered ≡ t.view.numbered + 1 = ap (λ (v : View). v.numbered) view ∙ makes.numbered in
-            omega (arith, n, same, events_)
+          held : (desk_of s proc).in_hand ≡ Some order
+          held = ap (λ (x : Desk). x.in_hand) (is.holds.desks proc) ∙ hand
 
-        index : new.view.index ≤ 2 * new.events
-        index =
-            let i : t.view.index ≤ 2 * t.events = is.holds.index in
-            let same : new.view.index ≡ (after_made t.view what).index = ap (λ (v : View). v.index) view in
-            let up : (after_made t.view what).index ≤ t.view.index + 1 = makes.index in
-            omega (arith, i, same, up, events_)
+          kept : Keeping (opening_process header) (after s (row_with s.events by own)) s.events (desk_at new.desks) (view_at new.views) new.endings.items
+          kept =
+              record {
+                events = refl;
+                desks = λ p. desk_of-after s p s.events by own ∙ desks_go s t.desks new.desks proc (desk_finished outcome) (λ (x : Desk). desk_with (items.Report (told.Done order.job outcome None)) (without_order x)) is.holds.desks (rw hand refl) desks p;
+                views = λ doc. rw held (views_on d (Some (after_task view order.job.task)) _ ends.documents s.documents t.views new.views (after_task view order.job.task) order.job.doc is.keeps.stands.tab.sole.documents is.holds.views refl its_order.of_doc becomes doc);
+                endings = rw (held, ends.requests) (is.holds.endings ∙ sym ends_);
+                lives = rw held (lives_on d (Some (after_task view order.job.task)) _ ends.documents s.documents (opening_process header) is.keeps.stands.tab.sole.documents is.home);
+              }
 
-    pub refused_gone : (new : State) (longer : List LogRow) → made_by t.view poke.action ≡ None → new.coordinator ≡ t.coordinator → new.events ≡ t.events + 1 → new.view ≡ t.view → new.desk ≡ record t.desk { input = drop 1 t.desk.input } → new.endings.items ≡ ended_in t.endings.items poke.req (ends.Refused denials.BadAddress) → longer ≡ log ++ row_with t.events by (rows.Refused poke.req denials.BadAddress) ∷ [] → HasGone header (events.Act (opening_process header)) replies.Acted log longer new
-    refused_gone new longer none coordinator events_ view desk ends_ more =
-        let whole : longer ≡ log ++ row_with s.events by own ∷ [] = more ∙ row_same log t.events s.events by own (sym is.holds.events) in
-        record {
-          happened = record {
-            own = own;
-            out = [];
-            begins = (refl, refl, begins_with own (ap (λ (o : Option What). act_row (opening_process header) t.view poke.req o) (sym none)));
-            log = whole;
-          };
-          stands = subst (λ (l : List LogRow). IsOpen header l new) (sym whole) (alone_on header log t is short by own new acted (holds_all (opening_process header) (after s (row_with s.events by own)) new s.events kept (events_ ∙ ap (λ (k : ℕ). k + 1) (sym is.holds.events)) (rw view (let n : t.view.numbered ≤ t.events = is.holds.numbered in omega (arith, n, events_))) (rw view (let i : t.view.index ≤ 2 * t.events = is.holds.index in omega (arith, i, events_)))));
-        }
-      where
-        own : RowKind
-        own = rows.Refused poke.req denials.BadAddress
+          small : IsSmall new.events (after_task view order.job.task)
+          small =
+              let before = shown_small header log t is order.job.doc its_order.of_doc in
+              let same : (after_task view order.job.task).numbered ≡ view.numbered = (indexed order.job.task view its_told).numbered in
+              let at : (after_task view order.job.task).index ≡ told_index order.job.task = (indexed order.job.task view its_told).index in
+              let told_small : told_index order.job.task ≤ t.events = hand_small header log t is order (subst (λ (p : ProcId). (desk_at t.desks p).in_hand ≡ Some order) here hand) in
+              record { numbered = omega (arith, before.numbered, same, events_); index = omega (arith, told_small, at, events_) }
 
-        e : InEvent
-        e = event_of header log by own
+    -- ---- the document acts on a poke
 
-        acted : HasActed e [] new.coordinator
-        acted =
-            subst (λ (c : Coordinator). HasActed e [] c) (sym coordinator) (refused_acted e t.coordinator is.keeps.stands poke there (ap (λ (p : ProcId). actors.Proc p) (sym d_is)) refl (ap (λ (v : View). made_by v poke.action) (same_view header log t is) ∙ none) refl)
+    module _ (poke : Poke) (first : slice_get desk.input 0 ≡ Some poke) where
+      there : slice_get (desk_of s d.proc).input 0 ≡ Some poke
+      there = ap (λ (x : Desk). slice_get x.input 0) its_desk ∙ first
 
-        kept : Keeping (opening_process header) (after s (row_with s.events by own)) s.events new.desk new.endings.items (Some new.view, (opening_process header))
-        kept =
-            record {
-              events = refl;
-              desk = desk_of-after s (opening_process header) s.events by own ∙ (own_desk (opening_process header) desk_served (desk_of s (opening_process header)) ∙ rw (is.holds.desk, desk) refl);
-              endings = ended_on s.requests poke.req _ (ends.Refused denials.BadAddress) (λ q. refl) ∙ (ap (λ (l : List (Option Ending)). ended_in l poke.req (ends.Refused denials.BadAddress)) is.holds.endings ∙ sym ends_);
-              face = is.holds.face ∙ ap (λ (v : View). let o : Option (Option View × ProcId) = Some (Some v, (opening_process header)) in o) (sym view);
-            }
+      its_poke : poke.doc ≡ d.nr
+      its_poke =
+          (each_first (IsPokeTo d d.proc) (desk_of s d.proc).input poke there (is.keeps.stands.tab.pokes d.proc)).0
+
+      pub poke_room : IsSomeAnd (view_at t.views poke.doc) HasRoom
+      poke_room = has_room header log t is poke.doc its_poke
+
+      pub poke_runs : IfSome (view_at t.views poke.doc) (λ (v : View). v.running ≡ false) → ⊥
+      poke_runs stopped =
+          let not_ : view.running ≡ false = subst (λ (o : Option View). IfSome o (λ (v : View). v.running ≡ false)) (kept_view header log t is poke.doc its_poke) stopped in
+          let wrong : true ≡ false = sym is.keeps.stands.tab.flowing.own.running.runs ∙ not_ in absurd cc
+
+      begins_with : (own : RowKind) → (own ≡ act_row proc view poke.req (made_by view poke.action)) → IsSomeAnd (slice_get (desk_of s proc).input 0) (λ (p : Poke). IsSomeAnd (view_in s p.doc) (λ (v : View). own ≡ act_row proc v p.req (made_by v p.action)))
+      begins_with own own_is = rw (is.holds.desks proc, first, viewed header log t is poke.doc its_poke) own_is
+
+      pub made_gone : (made : Made) (new : State) (longer : List LogRow) → IfSome (view_at t.views poke.doc) (λ (v : View). Acts v poke made t.views new.views) → new.coordinator ≡ t.coordinator → new.events ≡ t.events + 1 → Changes proc (λ (x : Desk). desk_with (items.Report (told.Made made)) (without_poke x)) t.desks new.desks → new.endings.items ≡ t.endings.items → longer ≡ log ++ row_with t.events by (rows.Made proc made) ∷ [] → HasGone header (events.Act proc) replies.Acted log longer new
+      made_gone made new longer acting coordinator events_ desks ends_ more =
+          gone_alone (events.Act proc) replies.Acted own new longer begins refl acted_ kept coordinator events_ (becomes_small poke.doc (after_made view made.what) t.views new.views t.events new.events events_ acts.becomes small is.holds.small) more
+        where
+          own : RowKind
+          own = rows.Made proc made
+
+          acts : Acts view poke made t.views new.views
+          acts =
+              subst (λ (o : Option View). IfSome o (λ (v : View). Acts v poke made t.views new.views)) (kept_view header log t is poke.doc its_poke) acting
+
+          e : InEvent
+          e = event_of header log by own
+
+          begins : Begins s (events.Act proc) replies.Acted own []
+          begins =
+              (refl, refl, begins_with own (ap (λ (m : Made). rows.Made proc m) acts.is ∙ ap (λ (o : Option What). act_row proc view poke.req o) (sym acts.what)))
+
+          acted_ : HasActed e [] t.coordinator
+          acted_ =
+              made_acted e t.coordinator is.keeps.stands poke there by_it refl made.what acts.what (ap (λ (p : ProcId). rows.Made p made) here ∙ ap (λ (m : Made). rows.Made d.proc m) acts.is)
+
+          makes : IsMaking view made made.what
+          makes =
+              making view made made.what (new_of_made view (to_act e t.coordinator is.keeps.stands poke there by_it refl).1 poke.action made.what (enters e t.coordinator is.keeps.stands poke there by_it refl) acts.what).0
+
+          apart : follows_finished s (row_with s.events by own) ≡ false
+          apart = let never : (s.events == (s.events + 1)) ≡ false = grind (arith, nat_tests) in rw never refl
+
+          of_it : made.doc ≡ poke.doc
+          of_it = ap (λ (m : Made). m.doc) acts.is ∙ (is.keeps.stands.tab.flowing.own.running.doc ∙ sym its_poke)
+
+          kept : Keeping (opening_process header) (after s (row_with s.events by own)) s.events (desk_at new.desks) (view_at new.views) new.endings.items
+          kept =
+              record {
+                events = refl;
+                desks = λ p. desk_of-after s p s.events by own
+                    ∙ (ap (λ (b : Bool). on_proc proc (desks_made b made) p (desk_of s p)) apart
+                    ∙ desks_go s t.desks new.desks proc (desk_made made) (λ (x : Desk). desk_with (items.Report (told.Made made)) (without_poke x)) is.holds.desks (ap (λ (l : List Report). let x : Desk = record desk { input = drop 1 desk.input; reports = l } in x) (makes.reported desk.reports)) desks p);
+                views = views_on d (option_map (λ (v : View). after_made v made.what) d.view) _ are s.documents t.views new.views (after_made view made.what) poke.doc is.keeps.stands.tab.sole.documents is.holds.views (ap (λ (o : Option View). option_map (λ (v : View). after_made v made.what) o) is.keeps.stands.tab.flowing.own.running.seen) its_poke acts.becomes;
+                endings = left_on s.requests made.req _ (λ q. refl) ∙ (is.holds.endings ∙ sym ends_);
+                lives = lives_on d (option_map (λ (v : View). after_made v made.what) d.view) _ are s.documents (opening_process header) is.keeps.stands.tab.sole.documents is.home;
+              }
+            where
+              are : on_document made.doc (λ (x : Document). record x { view = option_map (λ (v : View). after_made v made.what) x.view }) s.documents ≡ record d { view = option_map (λ (v : View). after_made v made.what) d.view } ∷ []
+              are = on_sole s.documents d made.doc _ is.keeps.stands.tab.sole.documents (of_it ∙ its_poke)
+
+          small : IsSmall new.events (after_made view made.what)
+          small =
+              let before = shown_small header log t is poke.doc its_poke in
+              record {
+                numbered = omega (arith, before.numbered, makes.numbered, events_);
+                index = omega (arith, before.index, makes.index, events_);
+              }
+
+      pub refused_gone : (new : State) (longer : List LogRow) → IfSome (view_at t.views poke.doc) (λ (v : View). made_by v poke.action ≡ None) → new.coordinator ≡ t.coordinator → new.events ≡ t.events + 1 → Stays t.views new.views → Changes proc without_poke t.desks new.desks → new.endings.items ≡ ended_in t.endings.items poke.req (ends.Refused denials.BadAddress) → longer ≡ log ++ row_with t.events by (rows.Refused poke.req denials.BadAddress) ∷ [] → HasGone header (events.Act proc) replies.Acted log longer new
+      refused_gone new longer unmade coordinator events_ stays desks ends_ more =
+          gone_alone (events.Act proc) replies.Acted own new longer begins refl acted_ kept coordinator events_ (stays_small t.views new.views t.events new.events events_ stays is.holds.small) more
+        where
+          own : RowKind
+          own = rows.Refused poke.req denials.BadAddress
+
+          none : made_by view poke.action ≡ None
+          none =
+              subst (λ (o : Option View). IfSome o (λ (v : View). made_by v poke.action ≡ None)) (kept_view header log t is poke.doc its_poke) unmade
+
+          e : InEvent
+          e = event_of header log by own
+
+          begins : Begins s (events.Act proc) replies.Acted own []
+          begins = (refl, refl, begins_with own (ap (λ (o : Option What). act_row proc view poke.req o) (sym none)))
+
+          acted_ : HasActed e [] t.coordinator
+          acted_ = refused_acted e t.coordinator is.keeps.stands poke there by_it refl none refl
+
+          kept : Keeping (opening_process header) (after s (row_with s.events by own)) s.events (desk_at new.desks) (view_at new.views) new.endings.items
+          kept =
+              record {
+                events = refl;
+                desks = λ p. desk_of-after s p s.events by own ∙ desks_go s t.desks new.desks proc without_poke without_poke is.holds.desks refl desks p;
+                views = λ doc. is.holds.views doc ∙ sym (stays doc);
+                endings = ended_on s.requests poke.req _ (ends.Refused denials.BadAddress) (λ q. refl) ∙ (ap (λ (l : List (Option Ending)). ended_in l poke.req (ends.Refused denials.BadAddress)) is.holds.endings ∙ sym ends_);
+                lives = is.home;
+              }

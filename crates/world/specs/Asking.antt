@@ -1,6 +1,7 @@
 -- The events in which a world asks its coordinator.
 -- This project's own.
 use Rattle.std.specs.Prelude.{ℤ, List, None}
+use Rattle.tab_ids.specs.declared.ProcId.{ProcId}
 use Rattle.tab_ids.specs.declared.ReqId.{ReqId}
 use Rattle.log_model.specs.declared.header.Header.{Header}
 use Rattle.log_model.specs.declared.request.Request.TheVariants as requests
@@ -11,7 +12,6 @@ use Rattle.log_model.specs.declared.row_kind.RowKind.{RowKind}
 use Rattle.log_model.specs.declared.row_kind.RowKind.TheVariants as rows
 use Rattle.log_model.specs.Logs.{seen_of}
 use Rattle.seen_laws.specs.InEvent.{InEvent}
-use Rattle.world.specs.Open.{opening_process}
 
 -- the next event of a log, with its own row
 abbrev pub event_of : Header → List LogRow → Actor → RowKind → InEvent
@@ -22,6 +22,6 @@ event_of header log actor own =
 abbrev pub asking : Header → List LogRow → ReqId → ℤ → InEvent
 asking header log req delta = event_of header log actors.Ui (rows.Accepted req None (requests.Go delta))
 
--- a report is delivered
-abbrev pub delivering : Header → List LogRow → InEvent
-delivering header log = event_of header log actors.Coord (rows.Delivered (opening_process header))
+-- a report of a process is delivered
+abbrev pub delivering : Header → List LogRow → ProcId → InEvent
+delivering header log proc = event_of header log actors.Coord (rows.Delivered proc)

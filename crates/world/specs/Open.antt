@@ -1,6 +1,6 @@
 -- What an open world keeps beside its log, which is what the log has come to.
 -- This project's own.
-use Rattle.std.specs.Prelude.{◌≡◌, ℕ, ◌≤◌, ◌*◌, ◌==◌, List, map, Option, Some, bytes_eq, if◌then◌else◌, option_map, option_and_then}
+use Rattle.std.specs.Prelude.{◌≡◌, ℕ, ◌≤◌, ◌*◌, List, map, Option, Some, IfSome, bytes_eq, if◌then◌else◌, option_map, option_and_then}
 use Rattle.tab_ids.specs.declared.DocId.{DocId}
 use Rattle.tab_ids.specs.declared.ProcId.{ProcId}
 use Rattle.address.specs.Addresses.{base_of, origin_of, blank_text}
@@ -9,9 +9,11 @@ use Rattle.log_model.specs.declared.outcome.Ending.{Ending}
 use Rattle.log_model.specs.declared.row_kind.LogRow.{LogRow}
 use Rattle.log_model.specs.Limits.{BeginsBelow}
 use Rattle.log_model.specs.Logs.{seen_of}
-use Rattle.log_model.specs.Seen.{Seen, Document, Desk, Asked, document_of, desk_of, empty_desk}
+use Rattle.log_model.specs.Seen.{Seen, Document, Asked, document_of, desk_of}
 use Rattle.log_model.specs.Suits.{first_process, process_of_origin}
 use Rattle.log_model.specs.Views.{View}
+use Rattle.proc_tables.specs.Desks.{desk_at}
+use Rattle.proc_tables.specs.Views.{view_at}
 use Rattle.coord.specs.Keeping.{Keeps}
 use Rattle.world.specs.declared.state.State.{State}
 
@@ -29,34 +31,35 @@ opening_process header =
     if bytes_eq (base_of header.first) blank_text then first_process
     else process_of_origin header (origin_of header.first)
 
--- the desk of each process, where something waits in one alone
-abbrev pub desk_at : Desk → ProcId → Desk
-desk_at desk proc = if proc.0 == desk.proc.0 then desk else empty_desk proc
-
 -- the view of a document
 abbrev pub view_in : Seen → DocId → Option View
 view_in s doc = option_and_then (λ (d : Document). d.view) (document_of s doc)
 
--- its view, and its process
-abbrev pub face : Document → Option View × ProcId
-face d = (d.view, d.proc)
+-- the process of a document
+abbrev pub process_in : Seen → DocId → Option ProcId
+process_in s doc = option_map (λ (d : Document). d.proc) (document_of s doc)
 
 -- how each request ended, in the order of acceptance
 abbrev pub endings_of : Seen → List (Option Ending)
 endings_of s = map (λ (q : Asked). q.ending) s.requests
 
--- the number of the next event, the lists of the one process, the view of the one document, and how each request ended
-pub record Holds (home : ProcId) (s : Seen) (t : State) : Type 0 where
+-- after so many events: a document numbers an entry in an event of its own, and its index is that of an order, or one more with each entry
+pub record IsSmall (events : ℕ) (view : View) : Type 0 where
+  pub numbered : view.numbered ≤ events
+  pub index : view.index ≤ 2 * events
+
+-- the number of the next event, the lists of each process, the view of each document, and how each request ended
+pub record Holds (s : Seen) (t : State) : Type 0 where
   pub events : s.events ≡ t.events
-  pub desk : desk_of s home ≡ t.desk
-  pub face : option_map face (document_of s first_document) ≡ Some (Some t.view, home)
+  pub desks : (proc : ProcId) → desk_of s proc ≡ desk_at t.desks proc
+  pub views : (doc : DocId) → view_in s doc ≡ view_at t.views doc
   pub endings : endings_of s ≡ t.endings.items
-  -- a document numbers an entry in an event of its own, and its index is that of an order, or one more with each entry
-  pub numbered : t.view.numbered ≤ t.events
-  pub index : t.view.index ≤ 2 * t.events
+  pub small : (doc : DocId) → IfSome (view_at t.views doc) (IsSmall t.events)
 
 -- the log keeps all rules, the coordinator stands for it, and the rest is what it has come to
 pub record IsOpen (header : Header) (log : List LogRow) (t : State) : Type 0 where
   pub keeps : Keeps header log t.coordinator
   pub limited : BeginsBelow row_limit log
-  pub holds : Holds (opening_process header) (seen_of log) t
+  pub holds : Holds (seen_of log) t
+  -- the document with which the tab opened is in its process
+  pub home : process_in (seen_of log) first_document ≡ Some (opening_process header)

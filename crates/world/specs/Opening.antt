@@ -5,8 +5,8 @@ use Rattle.tab_ids.specs.declared.ProcId.{ProcId}
 use Rattle.log_model.specs.declared.row_kind.Actor.TheVariants as actors
 use Rattle.log_model.specs.declared.row_kind.LogRow.{LogRow}
 use Rattle.log_model.specs.declared.row_kind.RowKind.TheVariants as rows
-use Rattle.log_model.specs.Seen.{empty_desk}
 use Rattle.log_model.specs.Views.{opening_view}
+use Rattle.proc_tables.specs.Views.{Becomes}
 use Rattle.coord.specs.Standing.{StandsFor, opened_at}
 use Rattle.world.specs.declared.state.State.{State}
 use Rattle.world.specs.Open.{first_document}
@@ -20,10 +20,10 @@ opening_row address proc =
       row = rows.Opened (record { maker = 0; nr = 1 }) (record { 0 = 1 }) first_document proc None address;
     }
 
--- a coordinator that stands for that log, the view of the document, and empty lists
+-- a coordinator that stands for that log, the view of the document, and no lists
 pub record IsJustOpened (address : List ℕ) (proc : ProcId) (t : State) : Type 0 where
   pub events : t.events ≡ 1
   pub stands : StandsFor (opened_at address proc) t.coordinator
-  pub view : t.view ≡ opening_view first_document (record { maker = 0; nr = 1 }) address
-  pub desk : t.desk ≡ empty_desk proc
+  pub views : Becomes first_document (opening_view first_document (record { maker = 0; nr = 1 }) address) [] t.views
+  pub desks : t.desks ≡ []
   pub endings : t.endings.items ≡ []

@@ -20,6 +20,7 @@ use address::OutOfMemory;
 use coord::Coordinator;
 use history_log::Log;
 use log_model::{Action, Actor, Denial, Ending, Header, Out, Poke, Request, RowKind};
+use proc_tables::Item;
 use std::alloc::Global;
 use tab_ids::{NavId, ReqId};
 
@@ -58,7 +59,7 @@ pub(crate) fn accept_go(
     log_row(log, event, Actor::Ui, own)?;
     log_work(
         log,
-        &mut state.desk,
+        &mut state.desks,
         &mut state.endings,
         event,
         Actor::Ui,
@@ -127,14 +128,16 @@ fn accept_here(
     ensures front { OnErr result (take (length log.old) log.new ≡ log.old) }
 {
     let req = next_request(&state.endings);
-    let doc = state.view.doc();
+    let doc = state.coordinator.home.doc;
+    let proc = state.coordinator.home.proc;
     let kept = action.copy()?;
     add(&mut state.endings, None)?;
-    state.desk.poke(Poke {
+    let poke = Poke {
         req,
         doc,
         action: kept,
-    })?;
+    };
+    state.desks.add(proc, Item::Poke(poke))?;
     let own = RowKind::Accepted {
         req,
         doc: Some(doc),

@@ -6,9 +6,10 @@ ghost use Rattle.coord.specs.Standing.{HasActed};
 ghost use Rattle.log_model.specs.Logs.{seen_of};
 ghost use Rattle.log_model.specs.Seen.{desk_of};
 ghost use Rattle.seen_laws.specs.InEvent.{InEvent};
+ghost use Rattle.proc_tables.specs.Desks.{desk_at};
 ghost use Rattle.world.specs.declared.event.Event.TheVariants as events;
 ghost use Rattle.world.specs.Asking.{delivering};
-ghost use Rattle.world.specs.Open.{IsOpen, opening_process, row_limit};
+ghost use Rattle.world.specs.Open.{IsOpen, row_limit};
 ghost use Rattle.world.specs.Turns.{HasGone, Shuts};
 
 use crate::error::StepError;
@@ -20,19 +21,24 @@ use coord::Coordinator;
 use history_log::Log;
 use log_model::{Actor, Header, Out, Report, RowKind};
 use std::alloc::Global;
+use tab_ids::ProcId;
 
-/// The coordinator takes the first report of the process.
-pub(crate) fn deliver(log: &mut Log, header: &Header, state: &mut State) -> Result<Reply, StepError>
+/// The coordinator takes the first report of a process.
+pub(crate) fn deliver(
+    log: &mut Log,
+    header: &Header,
+    state: &mut State,
+    proc: ProcId,
+) -> Result<Reply, StepError>
     requires open { IsOpen header.now log.old state.old }
     requires short { length log.old < row_limit }
-    requires due { 0 < length state.old.desk.reports }
-    ensures gone { IfOk result (λ reply. HasGone header.now (events.Deliver (opening_process header.now)) reply log.old log.new state.new) }
+    requires due { 0 < length (desk_at state.old.desks proc).reports }
+    ensures gone { IfOk result (λ reply. HasGone header.now (events.Deliver proc) reply log.old log.new state.new) }
     ensures shuts { IfErr result Shuts }
     ensures front { OnErr result (take (length log.old) log.new ≡ log.old) }
 {
     let alloc = *state.endings.allocator();
-    let proc = state.desk.home();
-    let Some(report) = state.desk.next_report() else {
+    let Some(report) = state.desks.next_report(proc) else {
         unreachable!()
     };
     let mut out = Out::new(alloc);
@@ -42,13 +48,14 @@ pub(crate) fn deliver(log: &mut Log, header: &Header, state: &mut State) -> Resu
         &mut state.coordinator,
         alloc,
         &mut out,
+        proc,
         &report,
     )?;
     let event = state.events;
     log_row(log, event, Actor::Coord, RowKind::Delivered { proc })?;
     log_work(
         log,
-        &mut state.desk,
+        &mut state.desks,
         &mut state.endings,
         event,
         Actor::Coord,
@@ -58,23 +65,24 @@ pub(crate) fn deliver(log: &mut Log, header: &Header, state: &mut State) -> Resu
     Ok(Reply::Delivered)
 }
 
-/// Hands a report of the one document's process to the coordinator.
+/// Hands the report of a process to the coordinator.
 fn take(
     log: &Log,
     header: &Header,
     coordinator: &mut Coordinator,
     alloc: Global,
     out: &mut Out,
+    proc: ProcId,
     report: &Report,
 ) -> Result<(), OutOfMemory>
     ghost e: { InEvent }
-    requires is { e ≡ delivering header.now log.now }
+    requires is { e ≡ delivering header.now log.now proc }
     requires keeps { Keeps header.now log.now coordinator.old }
-    requires home { coordinator.old.home.proc ≡ opening_process header.now }
-    requires waits { slice_get (desk_of (seen_of log.now) (opening_process header.now)).reports 0 ≡ Some report.now }
+    requires home { coordinator.old.home.proc ≡ proc }
+    requires waits { slice_get (desk_of (seen_of log.now) proc).reports 0 ≡ Some report.now }
     requires room { HasRoom (seen_of log.now) }
     requires first { out.old ≡ [] }
-    ensures acted { OnOk result (HasActed (delivering header.now log.now) out.new coordinator.new) }
+    ensures acted { OnOk result (HasActed (delivering header.now log.now proc) out.new coordinator.new) }
 {
     coordinator.deliver(alloc, out, report)
 }

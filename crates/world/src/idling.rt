@@ -1,52 +1,66 @@
 //! The events that log nothing.
-ghost use Rattle.std.specs.Prelude.{◌≡◌, ◌==◌, None, Some, if◌then◌else◌};
+ghost use Rattle.std.specs.Prelude.{◌≡◌, ◌==◌, None, Some, is_some, length, not, if◌then◌else◌};
 ghost use Rattle.log_model.specs.Equal.{holds};
-ghost use Rattle.world.specs.Open.{desk_at};
+ghost use Rattle.proc_tables.specs.Desks.{desk_at};
 ghost use Rattle.world.specs.Steps.{idle_at};
 
-use crate::desk::Desk;
 use crate::event::{Event, Reply};
+use crate::reading::{in_hand, waiting};
+use proc_tables::Desks;
 use proc_work::Done;
 use tab_ids::ProcId;
 
-/// The answer to an event that logs nothing, where something waits in one process alone.
-pub(crate) fn idle(desk: &Desk, event: &Event) -> Option<Reply>
-    ensures { result ≡ idle_at (desk_at desk.now) event.now }
+/// The answer to an event that logs nothing.
+pub(crate) fn idle(desks: &Desks, event: &Event) -> Option<Reply>
+    ensures { result ≡ idle_at (desk_at desks.now) event.now }
 {
     match event {
         Event::Go { .. } | Event::Poke { .. } => None,
-        Event::Act { proc } => unless(is_here(desk, *proc) && !desk.input.is_empty(), Reply::Empty),
+        Event::Act { proc } => unless(has_poke(desks, *proc), Reply::Empty),
         Event::Begin { proc } => {
-            if is_here(desk, *proc) && desk.in_hand.is_some() {
+            if is_busy(desks, *proc) {
                 return Some(Reply::Busy);
             }
-            unless(is_here(desk, *proc) && !desk.mail.is_empty(), Reply::Empty)
+            unless(has_mail(desks, *proc), Reply::Empty)
         }
-        Event::Finish { proc, done } => unless(
-            is_here(desk, *proc) && has_in_hand(desk, done),
-            Reply::Stale,
-        ),
-        Event::Deliver { proc } => {
-            unless(
-                is_here(desk, *proc) && !desk.reports.is_empty(),
-                Reply::Empty,
-            )
-        }
+        Event::Finish { proc, done } => unless(has_in_hand(desks, *proc, done), Reply::Stale),
+        Event::Deliver { proc } => unless(has_report(desks, *proc), Reply::Empty),
     }
 }
 
-/// Whether the desk is that of the process.
-fn is_here(desk: &Desk, proc: ProcId) -> bool
-    ensures { result ≡ (proc.0 == desk.now.proc.0) }
+/// Whether a poke waits in a process.
+fn has_poke(desks: &Desks, proc: ProcId) -> bool
+    ensures { result ≡ not (length (desk_at desks.now proc).input == 0) }
 {
-    proc.0 == desk.proc.0
+    waiting(desks, proc).input != 0
+}
+
+/// Whether an order waits in it.
+fn has_mail(desks: &Desks, proc: ProcId) -> bool
+    ensures { result ≡ not (length (desk_at desks.now proc).mail == 0) }
+{
+    waiting(desks, proc).mail != 0
+}
+
+/// Whether a report waits in it.
+fn has_report(desks: &Desks, proc: ProcId) -> bool
+    ensures { result ≡ not (length (desk_at desks.now proc).reports == 0) }
+{
+    waiting(desks, proc).reports != 0
+}
+
+/// Whether it has an order in hand.
+fn is_busy(desks: &Desks, proc: ProcId) -> bool
+    ensures { result ≡ is_some (desk_at desks.now proc).in_hand }
+{
+    in_hand(desks, proc).is_some()
 }
 
 /// Whether a finished order is the one in hand.
-fn has_in_hand(desk: &Desk, done: &Done) -> bool
-    ensures { result ≡ holds (λ order. order.job.nr.0 == done.now.order.job.nr.0) desk.now.in_hand }
+fn has_in_hand(desks: &Desks, proc: ProcId, done: &Done) -> bool
+    ensures { result ≡ holds (λ order. order.job.nr.0 == done.now.order.job.nr.0) (desk_at desks.now proc).in_hand }
 {
-    match &desk.in_hand {
+    match in_hand(desks, proc) {
         Some(order) => order.job.nr.0 == done.order().job.nr.0,
         None => false,
     }

@@ -3,7 +3,6 @@
 
 mod accepting;
 mod delivering;
-mod desk;
 mod endings;
 mod error;
 mod event;

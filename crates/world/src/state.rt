@@ -2,21 +2,21 @@
 ghost use Rattle.std.specs.Prelude.{IfOk};
 ghost use Rattle.world.specs.Opening.{IsJustOpened};
 
-use crate::desk::Desk;
 use address::{Address, OutOfMemory};
 use coord::Coordinator;
 use doc_view::View;
 use log_model::Ending;
+use proc_tables::{Desks, Views};
 use std::alloc::Global;
 use tab_ids::{DocId, EntryId, ProcId};
 
-/// The number of the next event, the coordinator, the view of the one document, the lists of its process, and how each request ended.
+/// The number of the next event, the coordinator, the views of the documents, the lists of the processes, and how each request ended.
 #[derive(Drop)]
 pub(crate) struct State {
     pub(crate) events: u32,
     pub(crate) coordinator: Coordinator,
-    pub(crate) view: View,
-    pub(crate) desk: Desk,
+    pub(crate) views: Views,
+    pub(crate) desks: Desks,
     pub(crate) endings: Vec<Option<Ending>>,
 }
 
@@ -30,11 +30,14 @@ pub(crate) fn opened_at(
 {
     let shown = address.copy()?;
     let coordinator = Coordinator::fresh(alloc, address, proc)?;
+    let doc = DocId(1);
+    let mut views = Views::new(alloc);
+    views.add(doc, View::opening(doc, EntryId { maker: 0, nr: 1 }, shown))?;
     Ok(State {
         events: 1,
         coordinator,
-        view: View::opening(DocId(1), EntryId { maker: 0, nr: 1 }, shown),
-        desk: Desk::new(alloc, proc),
+        views,
+        desks: Desks::new(alloc),
         endings: Vec::new(alloc),
     })
 }

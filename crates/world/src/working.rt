@@ -1,11 +1,14 @@
-//! The events in which the process acts, takes up an order, and finishes it.
-ghost use Rattle.std.specs.Prelude.{◌≡◌, Bool, ◌<◌, ◌+◌, ◌^◌, length, take, IsSome, None, IfOk, IfErr, OnOk, OnErr};
+//! The events in which a process acts, takes up an order, and finishes it.
+ghost use Rattle.std.specs.Prelude.{◌≡◌, Bool, ◌<◌, length, take, IsSome, None, IfOk, IfSome, IfErr, IsSomeAnd, OnErr, OnOk};
+ghost use Rattle.log_model.specs.Equal.{holds};
+ghost use Rattle.proc_tables.specs.Desks.{desk_at};
 ghost use Rattle.log_model.specs.Views.{after_task};
+ghost use Rattle.proc_tables.specs.Views.{Becomes, HasRoom, view_at};
 ghost use Rattle.proc_work.specs.Work.{outcome_of_task};
 ghost use Rattle.seen_laws.specs.Sending.{IsToldTask};
 ghost use Rattle.world.specs.declared.event.Event.TheVariants as events;
 ghost use Rattle.proc_work.specs.Work as worked;
-ghost use Rattle.world.specs.Open.{IsOpen, opening_process, row_limit};
+ghost use Rattle.world.specs.Open.{IsOpen, row_limit};
 ghost use Rattle.world.specs.Turns.{HasGone, Shuts};
 
 use crate::endings::end;
@@ -14,28 +17,34 @@ use crate::event::Reply;
 use crate::logging::log_row;
 use crate::state::State;
 use address::OutOfMemory;
-use doc_view::{ActError, View};
+use doc_view::ActError;
 use history_log::Log;
 use log_model::{Actor, Denial, Ending, Header, Job, Order, Outcome, Report, RowKind, Task};
+use proc_tables::{Item, Views};
+use tab_ids::{DocId, ProcId};
 
-/// The document acts on its first poke.
-pub(crate) fn act(log: &mut Log, header: &Header, state: &mut State) -> Result<Reply, StepError>
+/// A document of the process acts on the first poke.
+pub(crate) fn act(
+    log: &mut Log,
+    header: &Header,
+    state: &mut State,
+    proc: ProcId,
+) -> Result<Reply, StepError>
     requires open { IsOpen header.now log.old state.old }
     requires short { length log.old < row_limit }
-    requires due { 0 < length state.old.desk.input }
-    ensures gone { IfOk result (λ reply. HasGone header.now (events.Act (opening_process header.now)) reply log.old log.new state.new) }
+    requires due { 0 < length (desk_at state.old.desks proc).input }
+    ensures gone { IfOk result (λ reply. HasGone header.now (events.Act proc) reply log.old log.new state.new) }
     ensures shuts { IfErr result Shuts }
     ensures front { OnErr result (take (length log.old) log.new ≡ log.old) }
 {
-    let proc = state.desk.home();
     let event = state.events;
-    let Some(poke) = state.desk.next_poke() else {
+    let Some(poke) = state.desks.next_poke(proc) else {
         unreachable!()
     };
-    match state.view.act(poke.req, &poke.action) {
+    match state.views.act(&poke) {
         Ok(made) => {
             let told = made.copy()?;
-            state.desk.report(Report::Made(told))?;
+            state.desks.add(proc, Item::Report(Report::Made(told)))?;
             log_row(log, event, Actor::Proc(proc), RowKind::Made { proc, made })?;
             state.events += 1;
             Ok(Reply::Acted)
@@ -59,24 +68,29 @@ pub(crate) fn act(log: &mut Log, header: &Header, state: &mut State) -> Result<R
     }
 }
 
-/// The process takes up the first order of its mail.
-pub(crate) fn begin(log: &mut Log, header: &Header, state: &mut State) -> Result<Reply, StepError>
+/// A process takes up the first order of its mail.
+pub(crate) fn begin(
+    log: &mut Log,
+    header: &Header,
+    state: &mut State,
+    proc: ProcId,
+) -> Result<Reply, StepError>
     requires open { IsOpen header.now log.old state.old }
     requires short { length log.old < row_limit }
-    requires free { state.old.desk.in_hand ≡ None }
-    requires due { 0 < length state.old.desk.mail }
-    ensures gone { IfOk result (λ reply. HasGone header.now (events.Begin (opening_process header.now)) reply log.old log.new state.new) }
+    requires free { (desk_at state.old.desks proc).in_hand ≡ None }
+    requires due { 0 < length (desk_at state.old.desks proc).mail }
+    ensures gone { IfOk result (λ reply. HasGone header.now (events.Begin proc) reply log.old log.new state.new) }
     ensures shuts { IfErr result Shuts }
     ensures front { OnErr result (take (length log.old) log.new ≡ log.old) }
 {
-    let proc = state.desk.home();
-    let dirty = state.view.dirty();
-    let Some(job) = state.desk.next_job() else {
+    let Some(job) = state.desks.next_job(proc) else {
         unreachable!()
     };
+    let dirty = is_dirty(&state.views, job.doc);
     let nr = job.nr;
     let order = Order { job, dirty };
     let taken = order.copy()?;
+    state.desks.add(proc, Item::Order(order))?;
     let own = RowKind::Taken {
         proc,
         job: nr,
@@ -84,28 +98,43 @@ pub(crate) fn begin(log: &mut Log, header: &Header, state: &mut State) -> Result
         dirty,
     };
     log_row(log, state.events, Actor::Proc(proc), own)?;
-    state.desk.hold(order);
     state.events += 1;
     Ok(Reply::Took(taken))
 }
 
-/// The process finishes the order in hand.
-pub(crate) fn finish(log: &mut Log, header: &Header, state: &mut State) -> Result<Reply, StepError>
+/// Whether a document that is there has unsaved edits.
+fn is_dirty(views: &Views, doc: DocId) -> bool
+    ensures { result ≡ holds (λ view. view.dirty) (view_at views.now doc) }
+{
+    match views.of(doc) {
+        Some(view) => view.dirty(),
+        None => false,
+    }
+}
+
+/// A process finishes the order in hand.
+pub(crate) fn finish(
+    log: &mut Log,
+    header: &Header,
+    state: &mut State,
+    proc: ProcId,
+) -> Result<Reply, StepError>
     requires open { IsOpen header.now log.old state.old }
     requires short { length log.old < row_limit }
-    requires due { IsSome state.old.desk.in_hand }
-    ensures gone { (done : worked.Done) → IfOk result (λ reply. HasGone header.now (events.Finish (opening_process header.now) done) reply log.old log.new state.new) }
+    requires due { IsSome (desk_at state.old.desks proc).in_hand }
+    ensures gone { (done : worked.Done) → IfOk result (λ reply. HasGone header.now (events.Finish proc done) reply log.old log.new state.new) }
     ensures shuts { IfErr result Shuts }
     ensures front { OnErr result (take (length log.old) log.new ≡ log.old) }
 {
-    let proc = state.desk.home();
-    let Some(order) = state.desk.let_go() else {
+    let Some(order) = state.desks.let_go(proc) else {
         unreachable!()
     };
     let Order { job, dirty: _ } = order;
     let nr = job.nr;
-    let outcome = work(&mut state.view, &job)?;
-    state.desk.report(Report::Done(job, outcome, None))?;
+    let outcome = work(&mut state.views, &job)?;
+    state
+        .desks
+        .add(proc, Item::Report(Report::Done(job, outcome, None)))?;
     let own = RowKind::Finished {
         proc,
         job: nr,
@@ -116,17 +145,16 @@ pub(crate) fn finish(log: &mut Log, header: &Header, state: &mut State) -> Resul
     Ok(Reply::Finished)
 }
 
-/// Does an order to the view, and answers how it went.
-fn work(view: &mut View, job: &Job) -> Result<Outcome, OutOfMemory>
-    requires index { view.old.index + 2 < 2 ^ 32 }
-    requires numbered { view.old.numbered + 1 < 2 ^ 32 }
-    requires doc { job.now.doc ≡ view.old.doc }
+/// Lets the document of an order do it, and answers how it went.
+fn work(views: &mut Views, job: &Job) -> Result<Outcome, OutOfMemory>
+    requires room { IsSomeAnd (view_at views.old job.now.doc) HasRoom }
+    requires doc { IsSomeAnd (view_at views.old job.now.doc) (λ view. job.now.doc ≡ view.doc) }
     requires told { IsToldTask job.now.task }
     ensures outcome { IfOk result (λ outcome. (dirty : Bool) → outcome ≡ outcome_of_task job.now.task dirty None) }
-    ensures view { OnOk result (view.new ≡ after_task view.old job.now.task) }
+    ensures view { OnOk result (IfSome (view_at views.old job.now.doc) (λ view. Becomes job.now.doc (after_task view job.now.task) views.old views.new)) }
 {
     let outcome = outcome_of(&job.task);
-    view.do_job(job)?;
+    views.do_job(job)?;
     Ok(outcome)
 }
 

@@ -125,7 +125,7 @@ impl World {
         if self.closed {
             return Err(StepError::Closed);
         }
-        if let Some(reply) = idle(&self.state.desk, &event) {
+        if let Some(reply) = idle(&self.state.desks, &event) {
             return Ok(reply);
         }
         let before = self.log.len();
@@ -186,7 +186,7 @@ impl World {
         ensures sole { self.now.closed ≡ false → length (running_documents (seen_of self.now.log) nav) ≤ 1 }
     {
         if nav.0 == 0 {
-            Some(&self.state.view)
+            self.state.views.of(self.state.coordinator.home.doc)
         } else {
             None
         }
@@ -196,7 +196,7 @@ impl World {
     pub fn in_hand(&self, proc: ProcId) -> Option<&Order>
         ensures order { self.now.closed ≡ false → option_copied result ≡ in_hand_of self.now.log proc }
     {
-        in_hand(&self.state.desk, proc)
+        in_hand(&self.state.desks, proc)
     }
 
     /// How many pokes, orders and reports wait in a process.
@@ -205,7 +205,7 @@ impl World {
         ensures mail { self.now.closed ≡ false → result.mail ≡ length (mail_of self.now.log proc) }
         ensures reports { self.now.closed ≡ false → result.reports ≡ length (reports_of self.now.log proc) }
     {
-        waiting(&self.state.desk, proc)
+        waiting(&self.state.desks, proc)
     }
 
     /// Whether nothing is in transit.
@@ -214,14 +214,14 @@ impl World {
         // What is in transit waits in the process of the one document.
         ensures home { self.now.closed ≡ false → result ≡ is_idle (desk_of (seen_of self.now.log) (opening_process self.now.header)) }
     {
-        self.state.desk.is_idle()
+        self.state.desks.is_idle()
     }
 
     /// Whether nothing is in transit and no prompt is up.
     pub fn is_quiet(&self) -> bool
         ensures quiet { self.now.closed ≡ false → result ≡ is_quiet (seen_of self.now.log) }
     {
-        self.state.desk.is_idle()
+        self.state.desks.is_idle()
     }
 
     /// The store that keeps the history. Nothing is said of the store of a closed world.
@@ -256,9 +256,9 @@ fn go(log: &mut Log, header: &Header, state: &mut State, event: Event) -> Result
     match event {
         Event::Go { delta } => accept_go(log, header, state, delta),
         Event::Poke { nav, action } => accept_poke(log, header, state, nav, action),
-        Event::Act { .. } => act(log, header, state),
-        Event::Begin { .. } => begin(log, header, state),
-        Event::Finish { .. } => finish(log, header, state),
-        Event::Deliver { .. } => deliver(log, header, state),
+        Event::Act { proc } => act(log, header, state, proc),
+        Event::Begin { proc } => begin(log, header, state, proc),
+        Event::Finish { proc, .. } => finish(log, header, state, proc),
+        Event::Deliver { proc } => deliver(log, header, state, proc),
     }
 }

@@ -36,4 +36,4 @@ returns-clause-gone c =
     let same = to_z-of_z w32 c.args.delta fits in
     let acted = subst (λ (z : ℤ). HasActed (asking c.args.header.now c.args.log.now c.next_request-req.result z) c.ask.new.out c.ask.new.coordinator) same c.in_ok-ask.ensures.acted in
     let logged = subst (λ (z : ℤ). c.log_row.new.log ≡ c.args.log.now ++ row_with c.args.state.now.events actors.Ui (rows.Accepted c.next_request-req.result None (requests.Go z)) ∷ []) same c.in_ok-log_row.ensures.ok in
-    go_gone _ _ _ c.requires.«open» c.requires.short _ _ _ _ _ (next_is _ _ _ c.requires.«open» _ c.next_request-req.ensures) acted refl refl c.in_ok-log_work.ensures.desk (c.in_ok-log_work.ensures.endings ∙ ap (λ (l : List (Option Ending)). fold endings_noted l c.ask.new.out) c.in_ok-add.ensures) (c.in_ok-log_work.ensures.log ∙ ap (λ (l : List LogRow). l ++ map (row_with c.args.state.now.events actors.Ui) c.ask.new.out) logged)
+    go_gone _ _ _ c.requires.«open» c.requires.short _ _ _ _ _ (next_is _ _ _ c.requires.«open» _ c.next_request-req.ensures) acted refl refl c.in_ok-log_work.ensures.desks (c.in_ok-log_work.ensures.endings ∙ ap (λ (l : List (Option Ending)). fold endings_noted l c.ask.new.out) c.in_ok-add.ensures) (c.in_ok-log_work.ensures.log ∙ ap (λ (l : List LogRow). l ++ map (row_with c.args.state.now.events actors.Ui) c.ask.new.out) logged)

@@ -1,15 +1,16 @@
-use Rattle.std.proofs.Common.{List, ◌++◌, map, fold, refl, sym, ap, ◌∙◌, arith}
+use Rattle.std.proofs.Common.{List, ◌++◌, map, refl, sym, ap, ◌∙◌, arith}
 use Rattle.log_model.specs.declared.row_kind.Actor.TheVariants as actors
 use Rattle.log_model.specs.declared.row_kind.LogRow.{LogRow}
-use Rattle.log_model.specs.Seen.{Desk}
-use Rattle.world.specs.Notes.{desk_noted, row_with}
-use Rattle.world.proofs.DeliverLaws.{waits, deliver_gone}
+use Rattle.world.specs.Notes.{row_with}
+use Rattle.world.proofs.DeliverLaws.{here, waits, deliver_gone}
 use Rattle.world.proofs.EventLaws.{front_of, on_any_error}
-use Rattle.world.proofs.Facts.{events_small, room, home_proc, desk_proc}
+use Rattle.world.proofs.Facts.{events_small, room, home_proc}
 use Rattle.world.proofs.delivering.deliver.Goals as goal
 
 pub take-requires : goal.take-requires
-take-requires c = (refl, (c.requires.«open».keeps, (home_proc _ _ _ c.requires.«open», (waits _ _ _ c.requires.«open» c.requires.short _ (sym c.next_report.ensures.first ∙ c.in-Some.is), (room _ _ _ c.requires.«open» c.requires.short, c.new-out.ensures)))))
+take-requires c =
+    let first = sym c.next_report.ensures.first ∙ c.in-Some.is in
+    (refl, (c.requires.«open».keeps, (home_proc _ _ _ c.requires.«open» ∙ sym (here _ _ _ c.requires.«open» c.requires.short _ _ first), (waits _ _ _ c.requires.«open» c.requires.short _ _ first, (room _ _ _ c.requires.«open» c.requires.short, c.new-out.ensures)))))
 
 pub returns-in_err-log_work-clause-front : goal.returns-in_err-log_work-clause-front
 returns-in_err-log_work-clause-front c =
@@ -21,6 +22,4 @@ overflow_add-state c = grind (arith, events_small _ _ _ c.requires.«open»)
 pub returns-clause-gone : goal.returns-clause-gone
 returns-clause-gone c =
     let first = sym c.next_report.ensures.first ∙ c.in-Some.is in
-    let home = c.home-proc.ensures ∙ desk_proc _ _ _ c.requires.«open» in
-    let logged = rw home at c.in_ok-log_row.ensures.ok in
-    deliver_gone _ _ _ c.requires.«open» c.requires.short _ first _ _ _ c.in_ok-take.ensures.acted refl refl (c.in_ok-log_work.ensures.desk ∙ ap (λ (d : Desk). fold desk_noted d c.take.new.out) c.next_report.ensures.rest) c.in_ok-log_work.ensures.endings (c.in_ok-log_work.ensures.log ∙ ap (λ (l : List LogRow). l ++ map (row_with c.args.state.now.events actors.Coord) c.take.new.out) logged)
+    deliver_gone _ _ _ c.requires.«open» c.requires.short _ _ first _ c.next_report.ensures.rest _ _ _ c.in_ok-take.ensures.acted refl refl c.in_ok-log_work.ensures.desks c.in_ok-log_work.ensures.endings (c.in_ok-log_work.ensures.log ∙ ap (λ (l : List LogRow). l ++ map (row_with c.args.state.now.events actors.Coord) c.take.new.out) c.in_ok-log_row.ensures.ok)

@@ -1,22 +1,26 @@
-use Rattle.std.proofs.Common.{refl, sym, ap, ◌∙◌, arith}
-use Rattle.world.proofs.WorkLaws.{finish_gone, its_told, its_doc}
-use Rattle.world.proofs.Facts.{events_small, index_small, numbered_small, desk_proc}
-use Rattle.std.proofs.Common.{None, [], ◌∷◌, ◌++◌}
-use Rattle.log_model.specs.Seen.{Desk}
+use Rattle.std.proofs.Common.{None, refl, sym, ◌∙◌, arith}
 use Rattle.log_model.specs.declared.made.Report.TheVariants as told
+use Rattle.proc_tables.specs.declared.item.Item.TheVariants as items
+use Rattle.proc_tables.specs.Desks.{desk_with, without_order}
+use Rattle.world.proofs.Facts.{events_small}
+use Rattle.world.proofs.TableLaws.{changes_then}
+use Rattle.world.proofs.WorkLaws.{finish_gone, hand_here, its_told, its_doc, its_room}
 use Rattle.world.proofs.working.finish.Goals as goal
 
-pub work-requires-clause-index : goal.work-requires-clause-index
-work-requires-clause-index c = omega (arith, index_small _ _ _ c.requires.«open»)
+pub work-requires-clause-told : goal.work-requires-clause-told
+work-requires-clause-told c =
+    let hand = sym c.let_go.ensures.held ∙ c.in-Some.is in
+    its_told _ _ _ c.requires.«open» c.requires.short _ (hand_here _ _ _ c.requires.«open» c.requires.short _ _ hand) _ hand
 
-pub work-requires-clause-numbered : goal.work-requires-clause-numbered
-work-requires-clause-numbered c = omega (arith, numbered_small _ _ _ c.requires.«open»)
+pub work-requires-clause-room : goal.work-requires-clause-room
+work-requires-clause-room c =
+    let hand = sym c.let_go.ensures.held ∙ c.in-Some.is in
+    its_room _ _ _ c.requires.«open» c.requires.short _ (hand_here _ _ _ c.requires.«open» c.requires.short _ _ hand) _ hand
 
 pub work-requires-clause-doc : goal.work-requires-clause-doc
-work-requires-clause-doc c = its_doc _ _ _ c.requires.«open» c.requires.short _ (sym c.let_go.ensures.held ∙ c.in-Some.is)
-
-pub work-requires-clause-told : goal.work-requires-clause-told
-work-requires-clause-told c = its_told _ _ _ c.requires.«open» c.requires.short _ (sym c.let_go.ensures.held ∙ c.in-Some.is)
+work-requires-clause-doc c =
+    let hand = sym c.let_go.ensures.held ∙ c.in-Some.is in
+    its_doc _ _ _ c.requires.«open» c.requires.short _ (hand_here _ _ _ c.requires.«open» c.requires.short _ _ hand) _ hand
 
 pub overflow_add-state : goal.overflow_add-state
 overflow_add-state c = grind (arith, events_small _ _ _ c.requires.«open»)
@@ -24,6 +28,5 @@ overflow_add-state c = grind (arith, events_small _ _ _ c.requires.«open»)
 pub returns-clause-gone : goal.returns-clause-gone
 returns-clause-gone c =
     let hand = sym c.let_go.ensures.held ∙ c.in-Some.is in
-    let home = c.home-proc.ensures ∙ desk_proc _ _ _ c.requires.«open» in
-    let logged = rw home at c.in_ok-log_row.ensures.ok in
-    finish_gone _ _ _ c.requires.«open» c.requires.short _ hand _ _ _ c.in_ok-outcome.ensures.outcome refl refl c.in_ok-outcome.ensures.view (c.in_ok-report.ensures ∙ ap (λ (d : Desk). let x : Desk = record d { reports = d.reports ++ told.Done c.in-Some.order.job c.in_ok-outcome.outcome None ∷ [] } in x) c.let_go.ensures.rest) refl logged
+    let done = items.Report (told.Done c.in-Some.order.job c.in_ok-outcome.outcome None) in
+    finish_gone _ _ _ c.requires.«open» c.requires.short _ (hand_here _ _ _ c.requires.«open» c.requires.short _ _ hand) _ hand _ _ _ c.in_ok-outcome.ensures.outcome refl refl c.in_ok-outcome.ensures.view (changes_then c.args.proc without_order (desk_with done) _ _ _ c.let_go.ensures.rest c.in_ok-add.ensures.ok) refl c.in_ok-log_row.ensures.ok
