@@ -2,6 +2,10 @@
 use Rattle.coord_facts.proofs.Held.{fun_ext}
 use Rattle.coord_facts.specs.Leading.{EachIsOfItsNavigable}
 use Rattle.doors.specs.Orders.{next_order}
+use Rattle.frame_tab.proofs.Acting.{made}
+use Rattle.frame_tab.proofs.Populatings.{making}
+use Rattle.hang_facts.proofs.Members.{into_map}
+use Rattle.hang_facts.proofs.Parts.{state_is}
 use Rattle.hang_facts.specs.AsPlaces.{AreDistinct}
 use Rattle.hang_facts.specs.Members.{Has}
 use Rattle.log_model.proofs.Refl.{same_pair_refl}
@@ -10,22 +14,25 @@ use Rattle.log_model.specs.After.{after}
 use Rattle.log_model.specs.AfterDocuments.{addressed}
 use Rattle.log_model.specs.Equal.{holds, implies, same_pair}
 use Rattle.log_model.specs.History.{has_nav}
-use Rattle.log_model.specs.Places.{due_pair, due_pair_with, is_awake, is_gone, told_pair}
+use Rattle.log_model.specs.Orders.{is_being_made}
+use Rattle.log_model.specs.Places.{aim_of, due_pair, due_pair_with, is_awake, is_gone, told_pair}
 use Rattle.log_model.specs.Seen.{Document, Place, Seen, Status, asleep, awake, document_of, lost, place_of}
 use Rattle.log_model.specs.declared.job.Why.{Why}
 use Rattle.log_model.specs.declared.row_kind.Actor.{Actor}
-use Rattle.passes.specs.Telling.{IsToldAt, IsToldTurn}
+use Rattle.passes.specs.Telling.{AreToldUpTo, IsToldAt, IsToldMore, IsToldTurn}
 use Rattle.rest_facts.proofs.Stands.{get_of}
 use Rattle.seen_laws.proofs.Keyed.{find_on_other, find_on_same}
-use Rattle.std.proofs.Common.{Bool, List, None, Option, Some, [], ap, arith, false, inl, inr, refl, subst, sym, true, ℕ, ◌==◌, ◌∙◌, ◌∷◌, ◌≡◌}
+use Rattle.std.proofs.Common.{Bool, List, None, Option, Some, [], ap, arith, cond, false, inl, inr, map, refl, subst, sym, true, ℕ, ◌+◌, ◌<◌, ◌==◌, ◌∙◌, ◌∷◌, ◌≡◌}
 use Rattle.std.proofs.lemmas.Bool.Decides.{nat_tests}
 use Rattle.std.specs.List.{list_all}
-use Rattle.std.specs.Prelude.{option_and_then, option_map}
+use Rattle.std.specs.Prelude.{option_and_then, option_map, slice_get}
 use Rattle.tab_ids.specs.declared.DocId.{DocId}
 use Rattle.tab_ids.specs.declared.NavId.{NavId}
 use Rattle.tab_ids.specs.declared.ProcId.{ProcId}
-use Rattle.walk_facts.proofs.Aims.{gone_on}
+use Rattle.tab_ids.specs.declared.StateId.{StateId}
+use Rattle.walk_facts.proofs.Aims.{aim_again, blur, gone_on}
 use Rattle.walk_facts.proofs.Placed.{each_found, found_nav}
+use Rattle.walk_facts.specs.Serving.{IsMaking}
 use Rattle.log_model.specs.declared.job.Task.TheVariants as tasks
 use Rattle.log_model.specs.declared.row_kind.RowKind.TheVariants as rows
 
@@ -82,8 +89,37 @@ module _ (s : Seen) (event : ℕ) (actor : Actor) (proc : ProcId) (doc : DocId) 
       by_status lost is = rw is refl
       by_status asleep is = rw is refl
 
+  requests_same : map blur told_.requests ≡ map blur s.requests
+  requests_same = refl
+
+  telling_aim : aim_of told_ ≡ aim_of s
+  telling_aim = aim_again s told_ gone_same requests_same refl
+
+  abbrev told_one : Document → Document
+  told_one x = cond (x.nr.0 == doc.0) (telling x) x
+
+  told_alike : (x : Document) → ((told_one x).state ≡ x.state) × (is_being_made (told_one x) ≡ is_being_made x)
+  told_alike x = by_test (x.nr.0 == doc.0)
+    where
+      by_test : (b : Bool) → ((cond b (telling x) x).state ≡ x.state) × (is_being_made (cond b (telling x) x) ≡ is_being_made x)
+      by_test true = (refl, refl)
+      by_test false = (refl, refl)
+
+  making_more : (state : StateId) → IsMaking s.documents state → IsMaking told_.documents state
+  making_more state is =
+      record {
+        document = told_one is.document;
+        there = into_map told_one s.documents is.document is.there;
+        state_is = (told_alike is.document).0 ∙ is.state_is;
+        made = (told_alike is.document).1 ∙ is.made;
+      }
+
   pub told_turn : IsToldTurn s told_ nav
-  told_turn = record { own = own; others = others; places = refl }
+  told_turn =
+      record {
+        own = own;
+        more = record { places = refl; history = refl; requests = refl; parked = refl; aim = telling_aim; making = making_more; still = others };
+      }
 
 -- nobody need be told who isn't awake, or was told what is due
 pub told_asleep : (s : Seen) (nav : NavId) → ((p : Place) → place_of s nav ≡ Some p → is_awake p ≡ false) → IsToldAt s nav
@@ -92,8 +128,37 @@ told_asleep s nav sleeps p at = rw (sleeps p at) refl
 pub told_none : (s : Seen) (nav : NavId) → place_of s nav ≡ None → IsToldAt s nav
 told_none s nav none p at = let never : None ≡ Some p = sym none ∙ at in cc
 
+pub more_none : (s : Seen) → IsToldMore s s
+more_none s = record { places = refl; history = refl; requests = refl; parked = refl; aim = refl; making = λ state m. m; still = λ other was. was }
+
+pub more_then : (s t u : Seen) → IsToldMore s t → IsToldMore t u → IsToldMore s u
+more_then s t u first then_ =
+    record {
+      places = then_.places ∙ first.places;
+      history = then_.history ∙ first.history;
+      requests = then_.requests ∙ first.requests;
+      parked = then_.parked ∙ first.parked;
+      aim = then_.aim ∙ first.aim;
+      making = λ state m. then_.making state (first.making state m);
+      still = λ nav was. then_.still nav (first.still nav was);
+    }
+
 pub turn_still : (s : Seen) (nav : NavId) → IsToldAt s nav → IsToldTurn s s nav
-turn_still s nav own = record { own = own; others = λ other was. was; places = refl }
+turn_still s nav its = record { own = its; more = more_none s }
+
+-- one turn more
+pub one_more : (s t : Seen) (walk : List NavId) (n : ℕ) (nav : NavId) → slice_get walk n ≡ Some nav → AreToldUpTo s walk n → IsToldTurn s t nav → AreToldUpTo t walk (n + 1)
+one_more s t walk n nav here done turn k other low there = by_test (k == n) refl
+  where
+    by_test : (b : Bool) → (k == n) ≡ b → IsToldAt t other
+    by_test true e =
+        let same : k ≡ n = grind (arith, nat_tests, e) in
+        let one : Some other ≡ Some nav = sym there ∙ ap (λ (i : ℕ). slice_get walk i) same ∙ here in
+        let navs : other ≡ nav = cc in
+        subst (λ (m : NavId). IsToldAt t m) (sym navs) turn.own
+    by_test false e =
+        let less : k < n = grind (arith, nat_tests, e, low) in
+        turn.more.still other (done k other less there)
 
 -- where all of a walk were told, each was
 pub all_told : (s : Seen) (walk : List NavId) → ((nav : NavId) (place : Place) → place_of s nav ≡ Some place → has_nav walk nav ≡ true) → AreDistinct s.places → ((nav : NavId) → has_nav walk nav ≡ true → IsToldAt s nav) → ends_told s ≡ true

@@ -4,6 +4,7 @@ use Rattle.doors.specs.declared.tables.Tables.{Tables} -- keep
 use Rattle.frame_whole.specs.Tab.{IsTab} -- keep
 use Rattle.doors.specs.Working.{IsAtWork}
 use Rattle.log_model.specs.History.{History, used_step_at}
+use Rattle.log_model.specs.Places.{top}
 use Rattle.log_model.specs.Seen.{Asked, Place, Seen, place_of}
 use Rattle.log_model.specs.declared.made.Made.{Made}
 use Rattle.log_model.specs.declared.row_kind.RowKind.{RowKind}
@@ -28,11 +29,21 @@ pub record HasRoom (s : Seen) : Type 0 where
   pub requests : length s.requests + 2 < 4294967296
   pub current : s.history.current < 4294967294
 
+-- an event in which the coordinator works, and what documents made that is at hand in it
+pub record InPass : Type 0 where
+  pub event : InEvent
+  pub hand : List Made
+
+-- the top was shown at the opening
+abbrev pub IsTopShown : Seen → Type 0
+IsTopShown s = (place : Place) → place_of s top ≡ Some place → 1 ≤ place.epoch.0
+
 pub record IsPassing (e : InEvent) (out : List RowKind) (t : Tables) (hand : List Made) : Type 0 where
   pub work : IsAtWork e out t
   pub tab : IsTab t.home t.running hand (now_of e out)
   pub counted : AreCounted (now_of e out)
   pub room : HasRoom (now_of e out)
+  pub top_shown : IsTopShown (now_of e out)
 
 -- the step that the history is brought to, as the tables tell: that of the goal of the traversal that runs, else the current one
 abbrev pub aim_in : History → Option ReqId → Step → ℕ
