@@ -54,7 +54,7 @@ abbrev pub IsCarried : List Made → Seen → ReqId → Type 0
 IsCarried hand s req =
     (has_req s.joined req ≡ true) ⊎ ((has_req s.parked req ≡ true) ⊎ (has_req (reqs_of hand) req ≡ true))
 
-some_times : (req : ReqId) (reqs : List ReqId) → has_req reqs req ≡ true → 0 < times req reqs
+pub some_times : (req : ReqId) (reqs : List ReqId) → has_req reqs req ≡ true → 0 < times req reqs
 some_times req [] has = absurd cc
 some_times req (r ∷ reqs) has = by_test (r.0 == req.0) has (some_times req reqs)
   where

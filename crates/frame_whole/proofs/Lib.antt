@@ -5,3 +5,11 @@ pub mod Telling
 pub mod Beginning
 pub mod Ending
 pub mod Refusing
+pub mod Aiming
+pub mod Traversals
+pub mod FlowsShown
+pub mod Shows
+pub mod FlowsMaking
+pub mod Makes
+pub mod FlowsGone
+pub mod Discards

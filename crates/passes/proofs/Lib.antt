@@ -1,4 +1,10 @@
 pub mod Aims
+pub mod Awakes
+pub mod Goings
+pub mod Needing
+pub mod Showable
+pub mod Makeable
+pub mod Servings
 pub mod Passings
 pub mod Stand
 pub mod Tellings

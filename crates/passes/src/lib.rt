@@ -2,4 +2,5 @@
 #![tactic(auto)]
 
 mod reading;
+mod serving;
 mod telling;

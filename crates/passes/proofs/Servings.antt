@@ -1,0 +1,290 @@
+-- What a row that shows a document, or makes one, leaves of what holds between two turns of the walk.
+use Rattle.log_model.specs.Seen.{Asked, Desk, Document, Place, Seen, Status, asleep, awake, lost, document_of, place_in, place_of, desk_of, request_of, request_in} -- keep
+use Rattle.walk_facts.proofs.Aims.{blur, on_served_blur} -- keep
+use Rattle.walk_facts.proofs.Sleepers.{after_show, becomes, place_becomes, sleepers_of, slept, slept_same, shown_same} -- keep
+use Rattle.walk_facts.proofs.Turns.{show_leaves, show_serves, make_leaves, make_serves} -- keep
+use Rattle.walk_facts.proofs.Placed.{found_nav} -- keep
+use Rattle.seen_laws.proofs.Keyed.{find_map, find_has as seen_number} -- keep
+use Rattle.seen_laws.proofs.Desks.{desk_on_same, desk_on_other} -- keep
+use Rattle.coord_facts.proofs.Unread.{next} -- keep
+use Rattle.coord_facts.proofs.OneDocument.{mailed, mailed_other, orders_mailed, pending_mailed, views_alike} -- keep
+use Rattle.coord_facts.proofs.Kept.{IsSentHome, is_mine} -- keep
+use Rattle.coord_facts.specs.Leading.{once_finished, orders_for, pending_view} -- keep
+use Rattle.frame_whole.specs.Tab.{AreAwakeWithRows, IsTab} -- keep
+use Rattle.frame_whole.proofs.Shows.{IsShowOf} -- keep
+use Rattle.frame_whole.proofs.FlowsTold.{sent_home} -- keep
+use Rattle.request_facts.proofs.Readers.{IsBlind, SameReads, read_of, sent_reads} -- keep
+use Rattle.passes.specs.Passing.{AreCounted, HasRoom, IsTopShown, ended_count} -- keep
+use Rattle.passes.specs.Serving.{AreBlankYet, AreViewed, IsServable, IsServedTurn, IsSwept, LeavesSwept, MayCause} -- keep
+use Rattle.passes.proofs.Goings.{goes_on} -- keep
+use Rattle.hang_facts.proofs.Hung.{places_distinct} -- keep
+use Rattle.log_model.specs.Places.{top} -- keep
+use Rattle.log_model.specs.Views.{View, after_task} -- keep
+use Rattle.log_model.specs.AfterDocuments.{addressed, documents_sent, new_document, on_document, view_finished} -- keep
+use Rattle.log_model.specs.AfterPlaces.{activated, sleepers_below} -- keep
+use Rattle.log_model.specs.declared.job.Task.TheVariants as tasks -- keep
+use Rattle.log_model.specs.declared.row_kind.RowKind.TheVariants as rows -- keep
+use Rattle.coord.proofs.Untouched.{viewed}
+use Rattle.coord_facts.specs.Leading.{is_live_order}
+use Rattle.frame_tab.proofs.Steadies.{WasPlace}
+use Rattle.frame_tab.specs.Asking.{ArePlainlyAsked}
+use Rattle.hang_facts.proofs.Forms.{nav_is}
+use Rattle.hang_facts.proofs.Members.{has_any}
+use Rattle.hang_facts.proofs.Targets.{target_has}
+use Rattle.home_facts.specs.Homes.{document_in}
+use Rattle.log_model.proofs.Refl.{nat_eq_refl}
+use Rattle.log_model.specs.After.{on_desk}
+use Rattle.log_model.specs.AfterRequests.{request_served, requests_sent}
+use Rattle.log_model.specs.Checks.{may_go_on}
+use Rattle.log_model.specs.Equal.{holds, implies}
+use Rattle.log_model.specs.History.{has_row, has_state, is_of}
+use Rattle.log_model.specs.Legal.{is_checked}
+use Rattle.log_model.specs.Places.{aim_of, has_passed}
+use Rattle.log_model.specs.Seen.{desk_in}
+use Rattle.log_model.specs.declared.job.Job.{Job}
+use Rattle.log_model.specs.declared.job.Task.{Task}
+use Rattle.log_model.specs.declared.job.Why.{Why}
+use Rattle.log_model.specs.declared.made.Made.{Made}
+use Rattle.log_model.specs.declared.outcome.Ending.{Ending}
+use Rattle.log_model.specs.declared.row.Row.{Row}
+use Rattle.log_model.specs.declared.row_kind.Actor.{Actor}
+use Rattle.plain_tab.proofs.Histories.{left}
+use Rattle.std.proofs.Common.{Bool, List, None, Option, Some, [], ap, arith, cond, false, fold, length, map, refl, subst, suc, sym, true, ℕ, ◌+◌, ◌<◌, ◌==◌, ◌∙◌, ◌∷◌, ◌≡◌, ◌≤◌}
+use Rattle.std.proofs.lemmas.Bool.Decides.{nat_tests}
+use Rattle.std.proofs.lemmas.List.{length-map}
+use Rattle.std.specs.Option.{option_map_or}
+use Rattle.std.specs.Prelude.{filter, is_some, option_map}
+use Rattle.tab_ids.specs.declared.DocId.{DocId}
+use Rattle.tab_ids.specs.declared.Epoch.{Epoch}
+use Rattle.tab_ids.specs.declared.NavId.{NavId}
+use Rattle.tab_ids.specs.declared.ProcId.{ProcId}
+use Rattle.tab_ids.specs.declared.ReqId.{ReqId}
+use Rattle.tab_ids.specs.declared.StateId.{StateId}
+
+-- ---- the requests
+
+ended_blur : (asked : List Asked) → ended_count (map blur asked) ≡ ended_count asked
+ended_blur [] = refl
+ended_blur (q ∷ asked) = by_test (is_some q.ending) (ended_blur asked)
+  where
+    by_test : (b : Bool) → ended_count (map blur asked) ≡ ended_count asked → (let l : List Asked = cond b (blur q ∷ filter (λ (x : Asked). is_some x.ending) (map blur asked)) (filter (λ (x : Asked). is_some x.ending) (map blur asked)) in length l) ≡ (let l : List Asked = cond b (q ∷ filter (λ (x : Asked). is_some x.ending) asked) (filter (λ (x : Asked). is_some x.ending) asked) in length l)
+    by_test true more = ap (λ (n : ℕ). suc n) more
+    by_test false more = more
+
+pub ended_same : (asked then_ : List Asked) → map blur then_ ≡ map blur asked → ended_count then_ ≡ ended_count asked
+ended_same asked then_ same = sym (ended_blur then_) ∙ ap ended_count same ∙ ended_blur asked
+
+pub length_same : (asked then_ : List Asked) → map blur then_ ≡ map blur asked → length then_ ≡ length asked
+length_same asked then_ same = sym (length-map then_ blur) ∙ ap (λ (l : List Asked). length l) same ∙ length-map asked blur
+
+-- requests that are there go on
+asked_still : (s t : Seen) (run : Option ReqId) → ArePlainlyAsked run t → SameReads (λ (q : Asked). q.ending) s.requests t.requests → (why : Why) → MayCause s why → MayCause t why
+asked_still s t run plain same why may req is = by_there (request_of s req) refl (by_old (request_of s req) (may req is))
+  where
+    by_old : (o : Option Asked) → holds (λ (q : Asked). implies (is_checked q) (has_passed s q)) o ≡ true → is_some o ≡ true
+    by_old None h = absurd cc
+    by_old (Some q) h = refl
+
+    by_new : (o : Option Asked) → request_of t req ≡ o → is_some (option_map (λ (q : Asked). q.ending) o) ≡ true → may_go_on t req ≡ true
+    by_new None at h = absurd cc
+    by_new (Some q) at h = goes_on t run plain req q at
+
+    by_there : (o : Option Asked) → request_of s req ≡ o → is_some o ≡ true → may_go_on t req ≡ true
+    by_there None at h = absurd cc
+    by_there (Some q) at h = by_new (request_of t req) refl (ap (λ (o : Option (Option Ending)). is_some o) (same req) ∙ ap (λ (o : Option Asked). is_some (option_map (λ (x : Asked). x.ending) o)) at)
+
+blind : IsBlind (λ (q : Asked). q.ending)
+blind = record { moves = λ q activated moved. refl; asks = λ q asks. refl; fragments = λ q doc. refl; misses = λ q is. refl }
+
+-- ---- one is shown its document
+
+module _ (home : ProcId) (run : Option ReqId) (hand : List Made) (s : Seen) (event : ℕ) (actor : Actor) (tab : IsTab home run hand s) (job : Job) (to : job.proc ≡ home) (first : job.incarnation ≡ 0) (d : Document) (place : Place) (target : Row) (epoch : Epoch) (long at : ℕ) (task : job.task ≡ tasks.Activate target.entry epoch long at target.memo target.address) (show : IsShowOf run s job d place target epoch) where
+  abbrev pub shown : Seen
+  shown = next s event actor (rows.Sent job)
+
+  abbrev act : Task
+  act = tasks.Activate target.entry epoch long at target.memo target.address
+
+  requests_are : map blur shown.requests ≡ map blur s.requests
+  requests_are = subst (λ (t : Task). map blur (requests_sent s job t s.requests) ≡ map blur s.requests) (sym task) (on_served_blur job.why (request_served s job act) s.requests served)
+    where
+      served : (q : Asked) → blur (request_served s job act q) ≡ blur q
+      served q = rw show.found refl
+
+  documents_are : shown.documents ≡ on_document job.doc (addressed job.task) s.documents
+  documents_are = ap (λ (t : Task). documents_sent s job t) task ∙ ap (λ (t : Task). on_document job.doc (addressed t) s.documents) (sym task)
+
+  told : Document → Document
+  told x = cond (x.nr.0 == job.doc.0) (addressed job.task x) x
+
+  told_same : (x : Document) → ((told x).nr ≡ x.nr) × ((told x).state ≡ x.state) × ((told x).is_ready ≡ x.is_ready) × ((told x).is_discarded ≡ x.is_discarded) × ((told x).proc ≡ x.proc)
+  told_same x = by_test (x.nr.0 == job.doc.0)
+    where
+      by_test : (b : Bool) → (let y : Document = cond b (addressed job.task x) x in (y.nr ≡ x.nr) × (y.state ≡ x.state) × (y.is_ready ≡ x.is_ready) × (y.is_discarded ≡ x.is_discarded) × (y.proc ≡ x.proc))
+      by_test true = (refl, refl, refl, refl, refl)
+      by_test false = (refl, refl, refl, refl, refl)
+
+  document_now : (doc : DocId) → document_of shown doc ≡ option_map told (document_of s doc)
+  document_now doc =
+      ap (λ (l : List Document). document_in l doc) documents_are
+      ∙ find_map (λ (x : Document). x.nr.0) told doc.0 s.documents (λ x. ap (λ (n : DocId). n.0) (told_same x).0)
+
+  -- the document that it was
+  record Was (doc : DocId) (x : Document) : Type 0 where
+    old : Document
+    found : document_of s doc ≡ Some old
+    is : told old ≡ x
+
+  was : (doc : DocId) (x : Document) → document_of shown doc ≡ Some x → Was doc x
+  was doc x found = by_old (document_of s doc) refl (sym (document_now doc) ∙ found)
+    where
+      by_old : (o : Option Document) → document_of s doc ≡ o → option_map told o ≡ Some x → Was doc x
+      by_old None at is = absurd cc
+      by_old (Some old) at is = record { old = old; found = at; is = (let r : told old ≡ x = cc in r) }
+
+  swept_then : IsSwept s → IsSwept shown
+  swept_then swept doc x found ready kept =
+      let w = was doc x found in
+      let same = told_same w.old in
+      ap (λ (y : Document). has_state y.state s.history.rows) (sym w.is)
+      ∙ ap (λ (st : StateId). has_state st s.history.rows) same.1
+      ∙ swept doc w.old w.found (sym same.2 ∙ ap (λ (y : Document). y.is_ready) w.is ∙ ready) (sym same.3 ∙ ap (λ (y : Document). y.is_discarded) w.is ∙ kept)
+
+  -- nobody falls asleep, so that a place is as it was, but the navigable's own
+  stays : (p : Place) → becomes s event actor job d target.entry epoch long at target.memo target.address task show.found p ≡ cond (p.nav.0 == d.nav.0) (activated job target.entry epoch d p) p
+  stays p = ap (λ (q : Place). cond (q.nav.0 == d.nav.0) (activated job target.entry epoch d q) q) (let r : slept (sleepers_of s job.doc d.nav) job.why p ≡ p = ap (λ (l : List NavId). slept l job.why p) none in r)
+    where
+      none : sleepers_of s job.doc d.nav ≡ []
+      none = ap (λ (o : Option Place). option_map_or (sleepers_below s job.doc) o []) show.placed ∙ show.nobody
+
+  place_now : (nav : NavId) → place_of shown nav ≡ option_map (λ (p : Place). let q : Place = cond (p.nav.0 == d.nav.0) (activated job target.entry epoch d p) p in q) (place_of s nav)
+  place_now nav = place_becomes s event actor job d target.entry epoch long at target.memo target.address task show.found nav ∙ by_old (place_of s nav)
+    where
+      by_old : (o : Option Place) → option_map (becomes s event actor job d target.entry epoch long at target.memo target.address task show.found) o ≡ option_map (λ (p : Place). let q : Place = cond (p.nav.0 == d.nav.0) (activated job target.entry epoch d p) p in q) o
+      by_old None = refl
+      by_old (Some p) = ap (λ (q : Place). Some q) (stays p)
+
+  -- the place that it was
+  record WasPlace (nav : NavId) (p : Place) : Type 0 where
+    old : Place
+    found : place_of s nav ≡ Some old
+    is : (let q : Place = cond (old.nav.0 == d.nav.0) (activated job target.entry epoch d old) old in q) ≡ p
+
+  was_place : (nav : NavId) (p : Place) → place_of shown nav ≡ Some p → WasPlace nav p
+  was_place nav p found = by_old (place_of s nav) refl (sym (place_now nav) ∙ found)
+    where
+      by_old : (o : Option Place) → place_of s nav ≡ o → option_map (λ (x : Place). let q : Place = cond (x.nav.0 == d.nav.0) (activated job target.entry epoch d x) x in q) o ≡ Some p → WasPlace nav p
+      by_old None at_ is = absurd cc
+      by_old (Some old) at_ is = record { old = old; found = at_; is = (let r : (let q : Place = cond (old.nav.0 == d.nav.0) (activated job target.entry epoch d old) old in q) ≡ p = cc in r) }
+
+  has_one : has_row d.nav s.history.rows ≡ true
+  has_one =
+      let its = target_has s.history.rows d.nav (aim_of s) target show.at in
+      has_any (is_of d.nav) s.history.rows target its.there (subst (λ (n : NavId). (target.nav.0 == n.0) ≡ true) its.nav_is (nat_eq_refl target.nav.0))
+
+  rows_then : AreAwakeWithRows s → AreAwakeWithRows shown
+  rows_then rows_ nav p doc found wakes = by_test (was_place nav p found)
+    where
+      by_same : (old : Place) → place_of s nav ≡ Some old → (b : Bool) → (old.nav.0 == d.nav.0) ≡ b → (let q : Place = cond b (activated job target.entry epoch d old) old in q) ≡ p → has_row p.nav s.history.rows ≡ true
+      by_same old at_ true same is = ap (λ (q : Place). has_row q.nav s.history.rows) (sym is) ∙ ap (λ (n : NavId). has_row n s.history.rows) (nav_is old.nav d.nav same) ∙ has_one
+      by_same old at_ false same is =
+          ap (λ (q : Place). has_row q.nav s.history.rows) (sym is) ∙ rows_ nav old doc at_ (ap (λ (q : Place). q.status) is ∙ wakes)
+
+      by_test : WasPlace nav p → has_row p.nav s.history.rows ≡ true
+      by_test w = by_same w.old w.found (w.old.nav.0 == d.nav.0) refl w.is
+
+  pub show_left : IsTab home run hand shown → LeavesSwept s shown
+  show_left then_ =
+      record {
+        history = refl;
+        parked = refl;
+        joined = refl;
+        swept = swept_then;
+        rows_ = rows_then;
+        causes = asked_still s shown run then_.framed.asked (λ r. sent_reads (λ (q : Asked). q.ending) blind s job job.task s.requests r);
+      }
+
+  -- ---- the numbers
+
+  pub show_counted : AreCounted s → AreCounted shown
+  show_counted counted =
+      let ended = ended_same s.requests shown.requests requests_are in
+      record {
+        states = subst (λ (n : ℕ). s.states ≤ 1 + n) (sym ended) counted.states;
+        entries = subst (λ (n : ℕ). s.entries ≤ 1 + n) (sym ended) counted.entries;
+        epochs = λ nav p found. let w = was_place nav p found in by_same nav p w.old w.found (w.old.nav.0 == d.nav.0) refl w.is;
+      }
+    where
+      by_same : (nav : NavId) (p old : Place) → place_of s nav ≡ Some old → (b : Bool) → (old.nav.0 == d.nav.0) ≡ b → (let q : Place = cond b (activated job target.entry epoch d old) old in q) ≡ p → p.epoch.0 ≤ (s.jobs + 1) + 1
+      by_same nav p old at_ true same is =
+          let low : place.epoch.0 ≤ s.jobs + 1 = counted.epochs d.nav place show.placed in
+          let now_ : epoch.0 ≡ p.epoch.0 = ap (λ (q : Place). q.epoch.0) is in
+          omega (arith, low, now_, show.next_)
+      by_same nav p old at_ false same is =
+          let low : old.epoch.0 ≤ s.jobs + 1 = counted.epochs nav old at_ in
+          let now_ : old.epoch.0 ≡ p.epoch.0 = ap (λ (q : Place). q.epoch.0) is in
+          omega (arith, low, now_)
+
+  pub show_room : HasRoom s → HasRoom shown
+  show_room room = record { requests = subst (λ (n : ℕ). n + 2 < 4294967296) (sym (length_same s.requests shown.requests requests_are)) room.requests; current = room.current }
+
+  pub show_top : IsTopShown s → IsTopShown shown
+  show_top top_ p found = let w = was_place top p found in by_same w.old w.found (w.old.nav.0 == d.nav.0) refl w.is
+    where
+      by_same : (old : Place) → place_of s top ≡ Some old → (b : Bool) → (old.nav.0 == d.nav.0) ≡ b → (let q : Place = cond b (activated job target.entry epoch d old) old in q) ≡ p → 1 ≤ p.epoch.0
+      by_same old at_ true same is =
+          let now_ : epoch.0 ≡ p.epoch.0 = ap (λ (q : Place). q.epoch.0) is in
+          omega (arith, now_, show.next_)
+      by_same old at_ false same is =
+          let low : 1 ≤ old.epoch.0 = top_ old at_ in
+          let now_ : old.epoch.0 ≡ p.epoch.0 = ap (λ (q : Place). q.epoch.0) is in
+          omega (arith, low, now_)
+
+  -- ---- what the walk's orders read
+
+  desks_are : shown.desks ≡ on_desk job.proc (mailed job) s.desks
+  desks_are = refl
+
+  desk_home : desk_of shown job.proc ≡ mailed job (desk_of s job.proc)
+  desk_home = ap (λ (l : List Desk). desk_in l job.proc) desks_are ∙ desk_on_same (mailed job) s.desks job.proc (λ desk. refl)
+
+  pub show_servable : IsServable s → IsServable shown
+  show_servable was_ =
+      record {
+        blank = λ row there frame gone. was_.blank row there frame (λ doc x found is. let now_ : document_of shown doc ≡ Some (told x) = document_now doc ∙ ap (λ (o : Option Document). option_map told o) found in sym (told_same x).3 ∙ gone doc (told x) now_ ((told_same x).1 ∙ is));
+        viewed = viewed_then;
+      }
+    where
+      mine : IsSentHome s job
+      mine = sent_home home run hand s job tab.framed to first
+
+      by_own : (x : Document) (desk : Desk) → desk ≡ desk_of s job.proc → is_some (pending_view x desk) ≡ true → (b : Bool) → (x.nr.0 == job.doc.0) ≡ b → is_some (pending_view (let y : Document = cond b (addressed job.task x) x in y) (mailed job desk)) ≡ true
+      by_own x desk is seen true own =
+          let live : is_live_order x.nr (length desk.killed) job ≡ true = is_mine x.nr (length desk.killed) job (let n : job.doc.0 ≡ x.nr.0 = grind (arith, nat_tests, own) in n) (mine.lives ∙ sym (ap (λ (k : Desk). length k.killed) is)) in
+          ap (λ (o : Option View). is_some o) (pending_mailed x desk job live ∙ ap (λ (t : Task). view_finished (fold once_finished x (orders_for desk x.nr)) t) task)
+          ∙ by_view (pending_view x desk) seen
+        where
+          by_view : (o : Option View) → is_some o ≡ true → is_some (option_map (λ (v : View). after_task v act) o) ≡ true
+          by_view None h = h
+          by_view (Some v) h = refl
+      by_own x desk is seen false apart =
+          ap (λ (o : Option View). is_some o) (mailed_other [] desk job x epoch (let n : (job.doc.0 == x.nr.0) ≡ false = grind (arith, nat_tests, apart) in n)).pending ∙ seen
+
+      viewed_then : AreViewed shown
+      viewed_then doc x found kept =
+          let w = was doc x found in
+          let same = told_same w.old in
+          let proc : w.old.proc ≡ job.proc = (tab.framed.documents doc w.old w.found).alive.proc ∙ sym to in
+          let seen : is_some (pending_view w.old (desk_of s job.proc)) ≡ true = subst (λ (p : ProcId). is_some (pending_view w.old (desk_of s p)) ≡ true) proc (was_.viewed doc w.old w.found (sym same.3 ∙ ap (λ (y : Document). y.is_discarded) w.is ∙ kept)) in
+          let then_ : is_some (pending_view (told w.old) (mailed job (desk_of s job.proc))) ≡ true = by_own w.old (desk_of s job.proc) refl seen (w.old.nr.0 == job.doc.0) refl in
+          subst (λ (y : Document). is_some (pending_view y (desk_of shown y.proc)) ≡ true) w.is
+          (subst (λ (p : ProcId). is_some (pending_view (told w.old) (desk_of shown p)) ≡ true) (sym (same.4 ∙ proc))
+          (subst (λ (k : Desk). is_some (pending_view (told w.old) k) ≡ true) (sym desk_home) then_))
+
+  pub show_turn : IsTab home run hand shown → IsServedTurn s shown d.nav
+  show_turn then_ =
+      record {
+        own = show_serves s event actor job d target.entry epoch long at target.memo target.address task show.found (places_distinct s tab.sound tab.hangs) place show.placed target show.at refl (rw (tab.framed.steady d.nav place show.placed).met refl);
+        others = show_leaves s event actor job d target.entry epoch long at target.memo target.address task show.found (places_distinct s tab.sound tab.hangs) place show.placed;
+        left = show_left then_;
+      }
