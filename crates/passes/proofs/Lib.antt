@@ -5,6 +5,7 @@ pub mod Needing
 pub mod Showable
 pub mod Makeable
 pub mod Servings
+pub mod Serves
 pub mod Passings
 pub mod Stand
 pub mod Tellings
