@@ -1,5 +1,5 @@
 -- The aim, and the length and index that are due, as the tables tell of them.
-use Rattle.plain_tab.proofs.Calms.{none_passes, only_passes} -- keep
+use Rattle.plain_tab.proofs.Calms.{none_passes, only_passes}  -- keep
 use Rattle.doors.proofs.Histories.{log_steps}
 use Rattle.doors.specs.Look.{moved_by}
 use Rattle.doors.specs.Working.{HasGoal}

@@ -1,12 +1,12 @@
 -- All goes on passing after a row.
-use Rattle.doors.specs.declared.tables.Tables.{Tables} -- keep
-use Rattle.log_model.specs.declared.job.Task.TheVariants as tasks -- keep
-use Rattle.log_model.specs.declared.row_kind.RowKind.TheVariants as rows -- keep
-use Rattle.frame_whole.proofs.Telling.{tell_tab} -- keep
-use Rattle.frame_whole.specs.Tab.{IsTab} -- keep
-use Rattle.seen_laws.proofs.InEvents.{now_more} -- keep
-use Rattle.doors.specs.Working.{KeepsStore} -- keep
-use Rattle.passes.proofs.Untold.{IsTellDue, untold_some, untold_none} -- keep
+use Rattle.doors.specs.declared.tables.Tables.{Tables}  -- keep
+use Rattle.log_model.specs.declared.job.Task.TheVariants as tasks  -- keep
+use Rattle.log_model.specs.declared.row_kind.RowKind.TheVariants as rows  -- keep
+use Rattle.frame_whole.proofs.Telling.{tell_tab}  -- keep
+use Rattle.frame_whole.specs.Tab.{IsTab}  -- keep
+use Rattle.seen_laws.proofs.InEvents.{now_more}  -- keep
+use Rattle.doors.specs.Working.{KeepsStore}  -- keep
+use Rattle.passes.proofs.Untold.{IsTellDue}  -- keep
 use Rattle.doors.specs.Orders.{next_order}
 use Rattle.doors.specs.Working.{IsAtWork}
 use Rattle.log_model.specs.Seen.{Seen}
@@ -17,10 +17,8 @@ use Rattle.log_model.specs.declared.row_kind.RowKind.{RowKind}
 use Rattle.passes.proofs.Tellings.{told_turn}
 use Rattle.passes.specs.Passing.{AreCounted, HasRoom, IsPassing, IsTopShown}
 use Rattle.passes.specs.Telling.{IsToldTurn}
-use Rattle.plain_tab.proofs.Shows.{top_shown}
 use Rattle.seen_laws.specs.InEvent.{InEvent, now_of}
 use Rattle.std.proofs.Common.{List, Option, [], arith, refl, subst, sym, ℕ, ◌++◌, ◌∷◌}
-use Rattle.step_index.proofs.Counting.{counted}
 use Rattle.tab_ids.specs.declared.DocId.{DocId}
 use Rattle.tab_ids.specs.declared.NavId.{NavId}
 use Rattle.tab_ids.specs.declared.ProcId.{ProcId}

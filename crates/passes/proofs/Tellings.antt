@@ -2,10 +2,7 @@
 use Rattle.coord_facts.proofs.Held.{fun_ext}
 use Rattle.coord_facts.specs.Leading.{EachIsOfItsNavigable}
 use Rattle.doors.specs.Orders.{next_order}
-use Rattle.frame_tab.proofs.Acting.{made}
-use Rattle.frame_tab.proofs.Populatings.{making}
 use Rattle.hang_facts.proofs.Members.{into_map}
-use Rattle.hang_facts.proofs.Parts.{state_is}
 use Rattle.hang_facts.specs.AsPlaces.{AreDistinct}
 use Rattle.hang_facts.specs.Members.{Has}
 use Rattle.log_model.proofs.Refl.{same_pair_refl}

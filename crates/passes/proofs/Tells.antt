@@ -1,11 +1,15 @@
 -- One turn after the other, all of the walk are told.
-use Rattle.doors.specs.declared.tables.Tables.{Tables} -- keep
-use Rattle.doors.specs.Working.{KeepsStore} -- keep
-use Rattle.passes.specs.Telling.{IsTelling} -- keep
-use Rattle.apply_plan.specs.Order.{walk_of} -- keep
-use Rattle.hang_facts.proofs.Hung.{places_distinct} -- keep
-use Rattle.passes.proofs.Tellings.{one_more} -- keep
-use Rattle.coord.proofs.GivenLaws.{home}
+use Rattle.doors.specs.declared.tables.Tables.{Tables}  -- keep
+use Rattle.doors.specs.Working.{KeepsStore}  -- keep
+use Rattle.passes.specs.Telling.{IsTelling}  -- keep
+use Rattle.apply_plan.specs.Order.{walk_of}  -- keep
+use Rattle.hang_facts.proofs.Hung.{places_distinct}  -- keep
+use Rattle.passes.proofs.Tellings.{one_more}  -- keep
+use Rattle.log_model.specs.Walk as log  -- keep
+use Rattle.plan_laws.proofs.WalkLaws.{walk_is}  -- keep
+use Rattle.walk_facts.proofs.Order.{walk_is as is_walk}  -- keep
+use Rattle.passes.proofs.Stand.{stand_for}  -- keep
+use Rattle.hang_facts.proofs.Forms.{nav_is}
 use Rattle.log_model.specs.ActsAtOnce.{ends_told}
 use Rattle.log_model.specs.History.{has_nav}
 use Rattle.log_model.specs.Seen.{Place, place_in}
@@ -13,15 +17,17 @@ use Rattle.log_model.specs.declared.made.Made.{Made}
 use Rattle.log_model.specs.declared.row_kind.RowKind.{RowKind}
 use Rattle.passes.proofs.Tellings.{all_told, more_none, more_then}
 use Rattle.passes.specs.Passing.{InPass, IsPassing}
-use Rattle.passes.specs.Telling.{IsToldTurn, NamesAll}
+use Rattle.passes.specs.Telling.{IsToldAt, IsToldTurn, NamesAll}
 use Rattle.seen_laws.specs.InEvent.{InEvent, now_of}
-use Rattle.std.proofs.Common.{List, Some, ap, arith, length, refl, sym, true, ℕ, ◌+◌, ◌<◌, ◌∙◌, ◌≡◌}
+use Rattle.std.proofs.Common.{Bool, List, Some, [], ap, arith, false, length, map, refl, subst, suc, sym, true, ℕ, ◌+◌, ◌<◌, ◌==◌, ◌||◌, ◌∙◌, ◌∷◌, ◌≡◌, ◌≤◌}
 use Rattle.std.specs.Prelude.{slice_get}
 use Rattle.tab_ids.specs.declared.NavId.{NavId}
 
 -- the tree's navigables are the log's, so each with a place is in the walk
 pub walk_names : (e : InEvent) (out : List RowKind) (t : Tables) (hand : List Made) → IsPassing e out t hand → (walk : List NavId) → walk ≡ walk_of t.tree → NamesAll (now_of e out) walk
-walk_names e out t hand pass walk is nav place at = ?
+walk_names e out t hand pass walk is nav place at =
+    let the_walk : walk ≡ map (λ (p : Place). p.nav) (log.walk_of (now_of e out).places) = is ∙ walk_is (now_of e out).places t.tree (stand_for e out t hand pass).held in
+    subst (λ (l : List NavId). has_nav l nav ≡ true) (sym the_walk) ((is_walk (now_of e out) pass.tab.sound pass.tab.hangs).all nav place at)
 
 kept_none : (t : Tables) → KeepsStore t t
 kept_none t = record { store = refl; home = refl; running = refl; goal = refl }
@@ -34,7 +40,7 @@ tell_begins p t out walk pass is =
     record {
       passing = pass;
       all = walk_names p.event out t p.hand pass walk is;
-      done = λ k nav low at. omega (arith, low);
+      done = λ k nav low at. absurd (omega (arith, low));
       more = more_none (now_of p.event out);
       kept = kept_none t;
     }
@@ -49,9 +55,18 @@ tell_goes_on p t was u out v then_out walk n nav so at pass turn keeps =
       kept = kept_then t u v so.kept keeps;
     }
 
-pub tell_ends : (p : InPass) (t : Tables) (was : List RowKind) (u : Tables) (out : List RowKind) (walk : List NavId) → IsTelling p t was u out walk (length walk) → ends_told (now_of p.event out) ≡ true
-tell_ends p t was u out walk so =
-    all_told (now_of p.event out) walk (λ nav place at. so.all nav place (ap (λ (l : List Place). place_in l nav) (sym so.more.places) ∙ at)) (places_distinct (now_of p.event out) so.passing.tab.sound so.passing.tab.hangs) (λ nav has. let found = member nav walk has in so.done found.0 nav found.1 found.2)
+-- where a navigable stands in a list
+place_in_list : (nav : NavId) (navs : List NavId) → has_nav navs nav ≡ true → (k : ℕ) × ((k < length navs) × (slice_get navs k ≡ Some nav))
+place_in_list nav [] has = let never : false ≡ true = has in cc
+place_in_list nav (n ∷ navs) has = by_nav (n.0 == nav.0) refl has (place_in_list nav navs)
   where
-    member : (nav : NavId) (navs : List NavId) → has_nav navs nav ≡ true → (k : ℕ) × ((k < length navs) × (slice_get navs k ≡ Some nav))
-    member nav navs has = ?
+    by_nav : (b : Bool) → (n.0 == nav.0) ≡ b → (b || has_nav navs nav) ≡ true → (has_nav navs nav ≡ true → (k : ℕ) × ((k < length navs) × (slice_get navs k ≡ Some nav))) → (k : ℕ) × ((k < length (n ∷ navs)) × (slice_get (n ∷ navs) k ≡ Some nav))
+    by_nav true same is more = (0, (omega arith, ap (λ (m : NavId). Some m) (nav_is n nav same)))
+    by_nav false apart is more = let it = more is in let low = it.1.0 in (suc it.0, (omega (arith, low), it.1.1))
+
+pub tell_ends : (p : InPass) (t : Tables) (was : List RowKind) (u : Tables) (out : List RowKind) (walk : List NavId) (n : ℕ) → IsTelling p t was u out walk n → length walk ≤ n → ends_told (now_of p.event out) ≡ true
+tell_ends p t was u out walk n so all =
+    all_told (now_of p.event out) walk (λ nav place at. so.all nav place (ap (λ (l : List Place). place_in l nav) (sym so.more.places) ∙ at)) (places_distinct (now_of p.event out) so.passing.tab.sound so.passing.tab.hangs) (λ nav has. told nav (place_in_list nav walk has))
+  where
+    told : (nav : NavId) → (k : ℕ) × ((k < length walk) × (slice_get walk k ≡ Some nav)) → IsToldAt (now_of p.event out) nav
+    told nav found = let low = found.1.0 in so.done found.0 nav (omega (arith, low, all)) found.1.1

@@ -1,18 +1,16 @@
 -- What the tables tell of who is to be told length and index is so in the log.
-use Rattle.nav_tree.specs.declared.status.NavStatus.TheVariants as kept -- keep
-use Rattle.log_model.specs.declared.job.Task.TheVariants as tasks -- keep
-use Rattle.doors.proofs.Sights.{seen_of, IsSeen} -- keep
-use Rattle.doors.specs.Ties.{AreTied, IsHome} -- keep
-use Rattle.doors.specs.Orders.{IsThere} -- keep
-use Rattle.hang_facts.proofs.Hung.{places_distinct} -- keep
-use Rattle.doors.specs.declared.tables.Tables.{Tables} -- keep
-use Rattle.coord.proofs.ShowDoor.{known}
+use Rattle.nav_tree.specs.declared.status.NavStatus.TheVariants as kept  -- keep
+use Rattle.log_model.specs.declared.job.Task.TheVariants as tasks  -- keep
+use Rattle.doors.proofs.Sights.{seen_of, IsSeen}  -- keep
+use Rattle.doors.specs.Ties.{AreTied, IsHome}  -- keep
+use Rattle.doors.specs.Orders.{IsThere}  -- keep
+use Rattle.hang_facts.proofs.Hung.{places_distinct}  -- keep
+use Rattle.doors.specs.declared.tables.Tables.{Tables}  -- keep
 use Rattle.coord.specs.Ties.{IsAwakeIn, status_of}
 use Rattle.coord_facts.specs.Leading.{EachIsOfItsNavigable}
 use Rattle.doors.proofs.Holding.{IsThat, awake_home, its_place}
 use Rattle.doors.specs.Look.{Sight, look_of, moved_by, sight}
 use Rattle.doors.specs.Orders.{next_order}
-use Rattle.frame_tab.proofs.Leaving.{untold}
 use Rattle.frame_tab.specs.Alive.{IsAlive}
 use Rattle.hang_facts.specs.AsPlaces.{AreDistinct}
 use Rattle.hang_facts.specs.Members.{Has}
@@ -23,7 +21,6 @@ use Rattle.log_model.specs.Equal.{holds, same_pair}
 use Rattle.log_model.specs.History.{History, has_nav}
 use Rattle.log_model.specs.Places.{aim_of, due_pair, is_awake, is_awake_on, is_moved_in, pair_in, shower_of}
 use Rattle.log_model.specs.Seen.{Document, Place, Seen, Status, asleep, awake, document_of, lost, place_in, place_of}
-use Rattle.log_model.specs.Settled.{shows}
 use Rattle.log_model.specs.declared.job.Why.{Why}
 use Rattle.log_model.specs.declared.made.Made.{Made}
 use Rattle.log_model.specs.declared.row_kind.RowKind.{RowKind}
@@ -211,19 +208,19 @@ module _ (e : InEvent) (out : List RowKind) (t : Tables) (hand : List Made) (pas
       sleeps : (node : Node) (there : node_of nav t.tree ≡ Some node) (st : Status) → status_of node.nav.status ≡ st → ((p : Place) → p.status ≡ st → is_awake p ≡ false) → IsToldAt s nav
       sleeps node there st is none =
           told_asleep s nav (λ p at.
-            let it : IsThat (look_of s t.running) nav node = its_place (look_of s t.running) t.tree nav node pass.work.holds.navs there in
-            let both_ : Some it.place ≡ Some p = sym it.at ∙ at in
-            let same : it.place ≡ p = cc in
-            none p (ap (λ (q : Place). q.status) (sym same) ∙ sym it.tied.status ∙ is))
+          let it : IsThat (look_of s t.running) nav node = its_place (look_of s t.running) t.tree nav node pass.work.holds.navs there in
+          let both_ : Some it.place ≡ Some p = sym it.at ∙ at in
+          let same : it.place ≡ p = cc in
+          none p (ap (λ (q : Place). q.status) (sym same) ∙ sym it.tied.status ∙ is))
 
       by_status : (node : Node) → node_of nav t.tree ≡ Some node → (st : NavStatus) → node.nav.status ≡ st → option_and_then {U = DocId × (ℕ × ℕ)} (λ (x : DocId). option_map {U = DocId × (ℕ × ℕ)} (λ (p : ℕ × ℕ). (x, p)) (if_new node.nav.told (pair_in held.rows (step_in held t.running t.goal node.nav.moved)))) (awake_on st) ≡ None → IsToldAt s nav
       by_status node at (kept.Awake x) wakes is =
           let its : IsAwakeHere nav node x = awake_here nav node x at wakes in
           let was : holds (same_pair (pair_in held.rows (step_in held t.running t.goal node.nav.moved))) node.nav.told ≡ true = by_test _ (pair_in held.rows (step_in held t.running t.goal node.nav.moved)) x is in
           λ p found.
-            let both_ : Some its.place ≡ Some p = sym its.placed ∙ found in
-            let same : its.place ≡ p = cc in
-            ap (is_told s) (sym same) ∙ told_here nav node x its ∙ subst (λ (q : ℕ × ℕ). holds (same_pair q) node.nav.told ≡ true) (due_is nav node at) was
+          let both_ : Some its.place ≡ Some p = sym its.placed ∙ found in
+          let same : its.place ≡ p = cc in
+          ap (is_told s) (sym same) ∙ told_here nav node x its ∙ subst (λ (q : ℕ × ℕ). holds (same_pair q) node.nav.told ≡ true) (due_is nav node at) was
       by_status node at kept.Lost wakes is = sleeps node at lost (ap status_of wakes) (λ p on. rw on refl)
       by_status node at kept.Asleep wakes is = sleeps node at asleep (ap status_of wakes) (λ p on. rw on refl)
 

@@ -1,7 +1,7 @@
 -- A coordinator in an event of a tab of frames: its tables stand for what the log has come to, all that holds between two rows of such a tab does, and the numbers have room.
 -- This project's own.
-use Rattle.doors.specs.declared.tables.Tables.{Tables} -- keep
-use Rattle.frame_whole.specs.Tab.{IsTab} -- keep
+use Rattle.doors.specs.declared.tables.Tables.{Tables}  -- keep
+use Rattle.frame_whole.specs.Tab.{IsTab}  -- keep
 use Rattle.doors.specs.Working.{IsAtWork}
 use Rattle.log_model.specs.History.{History, used_step_at}
 use Rattle.log_model.specs.Places.{top}

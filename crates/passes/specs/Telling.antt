@@ -1,8 +1,8 @@
 -- Who is to be told length and index, and who was.
 -- HTML Standard, "update document for history step application".
-use Rattle.nav_tree.specs.declared.status.NavStatus.TheVariants as kept -- keep
-use Rattle.doors.specs.declared.tables.Tables.{Tables} -- keep
-use Rattle.passes.specs.Passing.{InPass, IsPassing} -- keep
+use Rattle.nav_tree.specs.declared.status.NavStatus.TheVariants as kept  -- keep
+use Rattle.doors.specs.declared.tables.Tables.{Tables}  -- keep
+use Rattle.passes.specs.Passing.{InPass, IsPassing}  -- keep
 use Rattle.doors.specs.Working.{KeepsStore}
 use Rattle.log_model.specs.ActsAtOnce.{is_told}
 use Rattle.log_model.specs.Equal.{holds, same_pair}
