@@ -6,6 +6,7 @@ pub mod Showable
 pub mod Makeable
 pub mod Servings
 pub mod Serves
+pub mod Rounds
 pub mod Passings
 pub mod Stand
 pub mod Tellings

@@ -110,7 +110,7 @@ module _ (e : InEvent) (out : List RowKind) (t : Tables) (hand : List Made) (pas
   held = history_held t.store
 
   -- the aim of the tables is the log's
-  aims : aim_in held t.running t.goal ≡ aim_of s
+  pub aims : aim_in held t.running t.goal ≡ aim_of s
   aims = held_aim t.store s.history t.running t.goal pass.work.holds.history ∙ sym (aim_is s t.running pass.tab.framed.asked t.goal pass.work.goal)
 
   -- the navigable needs something, and this is its target
@@ -129,7 +129,7 @@ module _ (e : InEvent) (out : List RowKind) (t : Tables) (hand : List Made) (pas
     pub needs : is_needing s.history.rows (aim_of s) place ≡ true
     pub steady : IsSteady s place
 
-  need_here : (nav : NavId) → need_in t nav ≡ need_of s.history.rows (aim_of s) t.tree nav
+  pub need_here : (nav : NavId) → need_in t nav ≡ need_of s.history.rows (aim_of s) t.tree nav
   need_here nav =
       ap (λ (step : ℕ). need_of held.rows step t.tree nav) aims
       ∙ need_same held.rows s.history.rows (aim_of s) t.tree (λ n. held_target t.store s.history pass.work.holds.history n (aim_of s)) nav

@@ -2,12 +2,22 @@
 use Rattle.doors.specs.declared.tables.Tables.{Tables} -- keep
 use Rattle.apply_plan.specs.declared.need.Need.{Need} -- keep
 use Rattle.apply_plan.specs.declared.need.Need.TheVariants as needs -- keep
-use Rattle.nav_tree.specs.Tree.{document_of as document_in_tree, is_state, node_of} -- keep
+use Rattle.nav_tree.specs.Tree.{document_of as document_in_tree, is_state, nav_of, node_of} -- keep
+use Rattle.nav_tree.specs.declared.nav.Nav.{Nav} -- keep
+use Rattle.nav_tree.specs.declared.node.Node.{Node} -- keep
+use Rattle.log_model.specs.declared.job.Why.TheVariants as whys -- keep
+use Rattle.log_model.specs.History.{row_of, target_entry} -- keep
+use Rattle.hang_facts.proofs.Parts.{state_is} -- keep
+use Rattle.seen_laws.proofs.Keyed.{find_has as seen_number} -- keep
+use Rattle.passes.specs.Passing.{aim_in} -- keep
+use Rattle.doors.specs.Look.{sight_in} -- keep
+use Rattle.doors.specs.Orders.{MayShow, next_order} -- keep
+use Rattle.std.specs.Prelude.{if◌then◌else◌} -- keep
 use Rattle.nav_tree.specs.declared.place.Place as live_place -- keep
 use Rattle.log_model.specs.Seen.{Asked, Document, Place, Seen, document_of, place_of, desk_of} -- keep
 use Rattle.log_model.specs.declared.job.Task.TheVariants as tasks -- keep
 use Rattle.log_model.specs.declared.row_kind.RowKind.TheVariants as rows -- keep
-use Rattle.frame_whole.proofs.Shows.{show_tab} -- keep
+use Rattle.frame_whole.proofs.Shows.{IsShowOf, show_tab} -- keep
 use Rattle.frame_whole.proofs.Makes.{make_tab} -- keep
 use Rattle.frame_whole.specs.Tab.{IsTab} -- keep
 use Rattle.seen_laws.proofs.InEvents.{now_more} -- keep
@@ -15,7 +25,7 @@ use Rattle.doors.specs.Working.{IsAtWork, KeepsStore} -- keep
 use Rattle.doors.specs.Look.{is_made_for, sight} -- keep
 use Rattle.doors.specs.Ties.{IsListed, IsOneSuch} -- keep
 use Rattle.doors.proofs.Sights.{IsSeen, seen_of} -- keep
-use Rattle.passes.proofs.Needing.{IsNeeding, NeedsIt, need_here, needs_it} -- keep
+use Rattle.passes.proofs.Needing.{IsNeeding, NeedsIt, aims, need_here, needs_it} -- keep
 use Rattle.passes.proofs.Showable.{IsLiveHere, live_here, may_show, show_job, show_of} -- keep
 use Rattle.passes.proofs.Makeable.{make_due, make_job, unknown, known} -- keep
 use Rattle.passes.proofs.Servings.{left_none, make_counted, make_room, make_servable, make_top, make_turn, show_counted, show_room, show_servable, show_top, show_turn, turn_none} -- keep
@@ -55,7 +65,12 @@ use Rattle.tab_ids.specs.declared.Epoch.{Epoch}
 use Rattle.tab_ids.specs.declared.NavId.{NavId}
 use Rattle.tab_ids.specs.declared.ProcId.{ProcId}
 use Rattle.tab_ids.specs.declared.ReqId.{ReqId}
-use Rattle.transit_facts.specs.Orders.{IsShowOf}
+use Rattle.log_model.specs.Places.{pair_in}
+use Rattle.passes.proofs.Aims.{held_pair}
+use Rattle.std.specs.Prelude.{IfSome, option_map}
+use Rattle.step_index.specs.Held.{history_held}
+use Rattle.tab_ids.specs.declared.EntryId.{EntryId}
+use Rattle.tab_ids.specs.declared.StateId.{StateId}
 
 -- all that a turn leaves
 pub record IsServedNow (e : InEvent) (was out : List RowKind) (u : Tables) (hand : List Made) (nav : NavId) : Type 0 where
@@ -193,3 +208,134 @@ module _ (e : InEvent) (out : List RowKind) (t : Tables) (hand : List Made) (pas
           let both_ : (is_needing s.history.rows (aim_of s) p && (is_shown s.history.rows (aim_of s) p.nav && not (list_any (is_stopping s.history.rows (aim_of s) s.places) p.above))) ≡ true = rw needs_ (rw shown (rw reached refl)) in
           let no_ : true ≡ false = sym both_ ∙ sym law ∙ nothing in
           cc
+
+  -- ---- what the doors ask, in the words of the calls
+
+  -- it is to be shown its target
+  pub record IsMoveDue (entry : EntryId) : Type 0 where
+    pub needing : IsNeeding e out t hand pass nav
+    pub entry_is : needing.target.entry ≡ entry
+    pub live : is_some (document_in_tree needing.target.state t.tree) ≡ true
+
+  -- a document is to be made for its target
+  pub record IsMakingDue (entry : EntryId) : Type 0 where
+    pub needing : IsNeeding e out t hand pass nav
+    pub entry_is : needing.target.entry ≡ entry
+    pub bare : document_in_tree needing.target.state t.tree ≡ None
+
+  pub move_due : (n : NavId) (entry : EntryId) → need_in t nav ≡ Some (needs.Move n entry) → (n ≡ nav) × IsMoveDue entry
+  move_due n entry is = by_test (is_some (document_in_tree its.needing.target.state t.tree)) refl its.is
+    where
+      its : NeedsIt e out t hand pass nav (needs.Move n entry)
+      its = needs_it e out t hand pass nav (needs.Move n entry) is
+
+      by_test : (b : Bool) → is_some (document_in_tree its.needing.target.state t.tree) ≡ b → needs.Move n entry ≡ (if b then needs.Move nav its.needing.target.entry else needs.Populate nav its.needing.target.entry) → (n ≡ nav) × IsMoveDue entry
+      by_test true live h = (cc, record { needing = its.needing; entry_is = (let r : entry ≡ its.needing.target.entry = cc in sym r); live = live })
+      by_test false live h = absurd cc
+
+  pub make_due_now : (n : NavId) (entry : EntryId) → need_in t nav ≡ Some (needs.Populate n entry) → (n ≡ nav) × IsMakingDue entry
+  make_due_now n entry is = by_place (document_in_tree its.needing.target.state t.tree) refl its.is
+    where
+      its : NeedsIt e out t hand pass nav (needs.Populate n entry)
+      its = needs_it e out t hand pass nav (needs.Populate n entry) is
+
+      by_place : (o : Option live_place.Place) → document_in_tree its.needing.target.state t.tree ≡ o → needs.Populate n entry ≡ (if is_some o then needs.Move nav its.needing.target.entry else needs.Populate nav its.needing.target.entry) → (n ≡ nav) × IsMakingDue entry
+      by_place None bare h = (cc, record { needing = its.needing; entry_is = (let r : entry ≡ its.needing.target.entry = cc in sym r); bare = bare })
+      by_place (Some p) bare h = absurd cc
+
+  -- it may be shown this, and then is
+  pub record IsReadyToShow (entry : EntryId) (doc : DocId) (why : Why) (epoch : Epoch) (long at : ℕ) (memo : Option (List ℕ)) (address : List ℕ) : Type 0 where
+    pub may : MayShow s t.tree nav (next_order s.jobs t.home doc why (tasks.Activate entry epoch long at memo address)) entry epoch (long, at) memo address
+    pub for_run : (r : ReqId) → t.running ≡ Some r → why ≡ whys.Req r
+    pub fits : epoch.0 < 18446744073709551616
+    pub done : (u : Tables) (new : List RowKind) → KeepsStore t u → new ≡ out ++ rows.Sent (next_order s.jobs t.home doc why (tasks.Activate entry epoch long at memo address)) ∷ [] → IsAtWork e new u → IsServedNow e out new u hand nav
+
+  target_row_is : (needing : IsNeeding e out t hand pass nav) (entry : EntryId) → needing.target.entry ≡ entry → row_of entry (history_held t.store).rows ≡ Some needing.target
+  target_row_is needing entry is = ap (λ (x : EntryId). row_of x (history_held t.store).rows) (sym is) ∙ needing.row_is
+
+  pub row_some : (entry : EntryId) → (due : IsMoveDue entry) → is_some (row_of entry (history_held t.store).rows) ≡ true
+  row_some entry due = ap (λ (o : Option Row). is_some o) (target_row_is due.needing entry due.entry_is)
+
+  pub row_some_made : (entry : EntryId) → (due : IsMakingDue entry) → is_some (row_of entry (history_held t.store).rows) ≡ true
+  row_some_made entry due = ap (λ (o : Option Row). is_some o) (target_row_is due.needing entry due.entry_is)
+
+  pub row_same : (needing : IsNeeding e out t hand pass nav) (entry : EntryId) (row : Row) → needing.target.entry ≡ entry → row_of entry (history_held t.store).rows ≡ Some row → row ≡ needing.target
+  row_same needing entry row is there =
+      let both_ : Some row ≡ Some needing.target = sym there ∙ target_row_is needing entry is in cc
+
+  pub doc_some : (entry : EntryId) (due : IsMoveDue entry) (row : Row) → row_of entry (history_held t.store).rows ≡ Some row → is_some (document_in_tree row.state t.tree) ≡ true
+  doc_some entry due row there = ap (λ (r : Row). is_some (document_in_tree r.state t.tree)) (row_same due.needing entry row due.entry_is there) ∙ due.live
+
+  pub ready_to_show : (entry : EntryId) (due : IsMoveDue entry) (servable : IsServable s) (cause : Why) → MayCause s cause → (row : Row) → row_of entry (history_held t.store).rows ≡ Some row → (doc : DocId) → option_map (λ (p : live_place.Place). p.doc) (document_in_tree row.state t.tree) ≡ Some doc → (epoch : Epoch) → option_map (λ (n : Nav). n.epoch.0 + 1) (nav_of nav t.tree) ≡ Some epoch.0 → (long at : ℕ) → (long, at) ≡ pair_in (history_held t.store).rows (aim_in (history_held t.store) t.running t.goal) → (memo : Option (List ℕ)) → memo ≡ row.memo → (address : List ℕ) → address ≡ row.address → (why : Why) → why ≡ show_why t.running cause → IsReadyToShow entry doc why epoch long at memo address
+  ready_to_show entry due servable cause may row there doc its_doc epoch next_ long at pair_is memo memo_is address address_is why why_is =
+      subst (λ (x : EntryId). IsReadyToShow x doc why epoch long at memo address) due.entry_is
+      (subst (λ (x : Why). IsReadyToShow needing.target.entry doc x epoch long at memo address) (sym why_is)
+      (subst (λ (x : Option (List ℕ)). IsReadyToShow needing.target.entry doc (show_why t.running cause) epoch long at x address) (sym (memo_is ∙ ap (λ (r : Row). r.memo) same))
+      (subst (λ (x : List ℕ). IsReadyToShow needing.target.entry doc (show_why t.running cause) epoch long at needing.target.memo x) (sym (address_is ∙ ap (λ (r : Row). r.address) same))
+      (record {
+        may = may_show e out t hand pass nav needing doc here cause may epoch next_here (long, at) pair_here;
+        for_run = λ r is. ap (λ (o : Option ReqId). show_why o cause) is;
+        fits = epoch_fits needing doc here cause may epoch next_here (long, at) pair_here servable;
+        done = λ u new keeps is work. subst (λ (l : List RowKind). IsServedNow e out l u hand nav) (sym is) (show_done needing doc here cause may epoch next_here (long, at) pair_here servable u keeps (subst (λ (l : List RowKind). IsAtWork e l u) is work));
+      }))))
+    where
+      needing : IsNeeding e out t hand pass nav
+      needing = due.needing
+
+      same : row ≡ due.needing.target
+      same = row_same due.needing entry row due.entry_is there
+
+      here : IsLiveHere e out t hand pass nav due.needing doc
+      here = live_here e out t hand pass nav due.needing doc (ap (λ (r : Row). option_map (λ (p : live_place.Place). p.doc) (document_in_tree r.state t.tree)) (sym same) ∙ its_doc)
+
+      next_here : epoch.0 ≡ due.needing.node.nav.epoch.0 + 1
+      next_here =
+          let both_ : Some epoch.0 ≡ Some (due.needing.node.nav.epoch.0 + 1) = sym next_ ∙ ap (λ (o : Option Node). option_map (λ (n : Nav). n.epoch.0 + 1) (option_map (λ (n : Node). n.nav) o)) due.needing.there in cc
+
+      pair_here : (long, at) ≡ pair_at s (aim_of s)
+      pair_here =
+          let both_ = held_pair t.store s.history pass.work.holds.history (aim_of s) in
+          pair_is ∙ ap (λ (step : ℕ). pair_in (history_held t.store).rows step) (aims e out t hand pass) ∙ (let r : pair_in (history_held t.store).rows (aim_of s) ≡ pair_in s.history.rows (aim_of s) = rw (both_.0, both_.1) refl in r)
+
+  -- the epoch that follows fits
+  pub next_fits : (entry : EntryId) → IsMoveDue entry → IfSome (nav_of nav t.tree) (λ (n : Nav). n.epoch.0 + 1 < 18446744073709551616)
+  next_fits entry due =
+      let low = pass.counted.epochs nav due.needing.place due.needing.placed in
+      let same : due.needing.node.nav.epoch.0 ≡ due.needing.place.epoch.0 = ap (λ (x : Epoch). x.0) due.needing.tied.epoch in
+      let sent = pass.work.holds.sent in
+      let room_ = t.sent.ok in
+      let small_ = t.sent.small in
+      rw due.needing.there (omega (arith, low, same, sent, room_.0, room_.1, small_))
+
+  -- one may be made, and then is
+  pub record IsReadyToMake (state : StateId) (address : List ℕ) (why : Why) : Type 0 where
+    pub due : IsMakeDue e.header s (next_order s.jobs t.home (record { 0 = t.documents + 1 }) why (tasks.Populate nav state address true)) nav state address true
+    pub known : (desk_of s t.home).known ≡ 0
+    pub unknown : sight_in (map sight s.documents) (record { 0 = t.documents + 1 }) ≡ None
+    pub done : (u : Tables) (new : List RowKind) → KeepsStore t u → new ≡ out ++ rows.Sent (next_order s.jobs t.home (record { 0 = t.documents + 1 }) why (tasks.Populate nav state address true)) ∷ [] → IsAtWork e new u → IsServedNow e out new u hand nav
+
+  pub ready_to_make : (entry : EntryId) (due : IsMakingDue entry) (servable : IsServable s) (cause : Why) → MayCause s cause → (row : Row) → row_of entry (history_held t.store).rows ≡ Some row → (state : StateId) → state ≡ row.state → lookup (is_state state) t.making.entries ≡ None → (address : List ℕ) → address ≡ row.address → (new : Bool) (why : Why) → why ≡ make_why new t.running cause → IsReadyToMake state address why
+  ready_to_make entry due servable cause may row there state state_is_ unmade address address_is new why why_is =
+      subst (λ (x : StateId). IsReadyToMake x address why) (sym state_same)
+      (subst (λ (x : Why). IsReadyToMake due.needing.target.state address x) (sym why_is)
+      (subst (λ (x : List ℕ). IsReadyToMake due.needing.target.state x (make_why new t.running cause)) (sym (address_is ∙ ap (λ (r : Row). r.address) same))
+      (record {
+        due = make_due e out t hand pass nav due.needing due.bare unmade_here servable cause may new;
+        known = known e out t hand pass nav due.needing due.bare unmade_here;
+        unknown = unknown e out t hand pass nav due.needing due.bare unmade_here;
+        done = λ u out_ keeps is work. subst (λ (l : List RowKind). IsServedNow e out l u hand nav) (sym is) (make_done due.needing due.bare unmade_here servable cause may new u keeps (subst (λ (l : List RowKind). IsAtWork e l u) is work));
+      })))
+    where
+      same : row ≡ due.needing.target
+      same = row_same due.needing entry row due.entry_is there
+
+      state_same : state ≡ due.needing.target.state
+      state_same = state_is_ ∙ ap (λ (r : Row). r.state) same
+
+      unmade_here : lookup (is_state due.needing.target.state) t.making.entries ≡ None
+      unmade_here = subst (λ (x : StateId). lookup (is_state x) t.making.entries ≡ None) state_same unmade
+
+  pub made_turn : (entry : EntryId) (due : IsMakingDue entry) (row : Row) → row_of entry (history_held t.store).rows ≡ Some row → (state : StateId) → state ≡ row.state → (doc : DocId) → lookup (is_state state) t.making.entries ≡ Some doc → IsServedTurn s s nav
+  made_turn entry due row there state state_is_ doc is =
+      let same : row ≡ due.needing.target = row_same due.needing entry row due.entry_is there in
+      making_turn due.needing doc (subst (λ (x : StateId). lookup (is_state x) t.making.entries ≡ Some doc) (state_is_ ∙ ap (λ (r : Row). r.state) same) is)
