@@ -5,10 +5,10 @@ use Rattle.passes.proofs.Rounds.{serve_begins, serve_goes_on, serve_ends}
 use Rattle.passes.proofs.serving.serve_all.Goals as goal
 
 pub loop-i-init : goal.loop-i-init
-loop-i-init g c = serve_begins g.p _ _ _ c.requires.0 c.requires.1 (c.navs.view_is ∙ c.in_ok-navs.ensures)
+loop-i-init g c = serve_begins g.p _ _ _ c.requires.0 c.requires.1.0 (c.navs.view_is ∙ c.in_ok-navs.ensures)
 
 pub serve_one-requires : goal.serve_one-requires
-serve_one-requires g c = (c.loop-i.invariant.passing, (c.loop-i.invariant.servable, c.loop-i.invariant.left.causes _ c.requires.2))
+serve_one-requires g c = (c.loop-i.invariant.passing, (c.loop-i.invariant.servable, c.loop-i.invariant.left.causes _ c.requires.1.1))
 
 pub loop-i-preserved : goal.loop-i-preserved
 loop-i-preserved g c =
