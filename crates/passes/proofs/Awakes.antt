@@ -1,11 +1,10 @@
 -- Nobody below a sleeping navigable is awake.
-use Rattle.hang_facts.proofs.Hung.{place_chain, places_distinct} -- keep
-use Rattle.hang_facts.proofs.Members.{find_has} -- keep
-use Rattle.hang_facts.specs.AsPlaces.{IsChain, IsLink} -- keep
-use Rattle.walk_facts.proofs.Placed.{each_found, found_nav} -- keep
-use Rattle.log_model.specs.Seen.{Place, Seen, Status, asleep, awake, lost, place_of} -- keep
-use Rattle.log_model.specs.AfterPlaces.{navs_where, woken_below} -- keep
-use Rattle.frame_whole.specs.Tab.{IsTab} -- keep
+use Rattle.hang_facts.proofs.Hung.{place_chain, places_distinct}  -- keep
+use Rattle.hang_facts.specs.AsPlaces.{IsChain, IsLink}  -- keep
+use Rattle.walk_facts.proofs.Placed.{each_found, found_nav}  -- keep
+use Rattle.log_model.specs.Seen.{Place, Seen, Status, asleep, awake, lost, place_of}  -- keep
+use Rattle.log_model.specs.AfterPlaces.{woken_below}  -- keep
+use Rattle.frame_whole.specs.Tab.{IsTab}  -- keep
 use Rattle.hang_facts.proofs.Forms.{nav_is}
 use Rattle.hang_facts.specs.Members.{Has}
 use Rattle.home_facts.specs.Homes.{IsOnAwake}

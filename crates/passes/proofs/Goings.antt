@@ -1,12 +1,12 @@
 -- What a request is for may go on in a tab of frames, since nobody is asked.
-use Rattle.log_model.specs.Places.{has_passed_with, is_gone, is_traversal, passed_traversal, running_traversal} -- keep
-use Rattle.passes.proofs.Aims.{passed_is, running_is} -- keep
-use Rattle.passes.specs.Serving.{MayCause, show_why} -- keep
-use Rattle.log_model.specs.Checks.{is_checked} -- keep
-use Rattle.log_model.specs.ActsAtOnce.{is_for_passed} -- keep
-use Rattle.seen_laws.specs.Sending.{is_passed} -- keep
-use Rattle.log_model.specs.declared.job.Task.TheVariants as tasks -- keep
-use Rattle.log_model.specs.declared.job.Why.TheVariants as whys -- keep
+use Rattle.log_model.specs.Places.{has_passed_with, is_gone}  -- keep
+use Rattle.passes.proofs.Aims.{passed_is, running_is}  -- keep
+use Rattle.passes.specs.Serving.{MayCause, show_why}  -- keep
+use Rattle.log_model.specs.Checks.{is_checked}  -- keep
+use Rattle.log_model.specs.ActsAtOnce.{is_for_passed}  -- keep
+use Rattle.seen_laws.specs.Sending.{is_passed}  -- keep
+use Rattle.log_model.specs.declared.job.Task.TheVariants as tasks  -- keep
+use Rattle.log_model.specs.declared.job.Why.TheVariants as whys  -- keep
 use Rattle.frame_tab.specs.Asking.{ArePlainlyAsked}
 use Rattle.log_model.proofs.Refl.{nat_eq_refl}
 use Rattle.log_model.specs.Checks.{may_go_on}

@@ -1,34 +1,30 @@
 -- For a navigable whose target has no document, and for which none is being made, one may be made.
-use Rattle.doors.specs.declared.tables.Tables.{Tables} -- keep
-use Rattle.nav_tree.specs.Tree.{document_of as document_in_tree, is_state, node_of} -- keep
-use Rattle.nav_tree.specs.declared.place.Place as live_place -- keep
-use Rattle.log_model.specs.Seen.{Document, Place, Seen, Status, asleep, awake, lost, document_of, place_in, place_of, desk_of} -- keep
-use Rattle.doors.specs.Look.{Sight, is_live_for, is_made_for, look_of, sight, sight_in} -- keep
-use Rattle.doors.specs.Ties.{IsListed, IsOneSuch} -- keep
-use Rattle.doors.proofs.Sights.{IsSeen, seen_of, sight_found} -- keep
-use Rattle.doors.specs.Orders.{next_order} -- keep
-use Rattle.passes.proofs.Needing.{IsNeeding} -- keep
-use Rattle.passes.proofs.Showable.{up} -- keep
-use Rattle.passes.proofs.Stand.{stand_for} -- keep
-use Rattle.passes.proofs.Goings.{is_passed_for, show_causes} -- keep
-use Rattle.passes.specs.Serving.{IsServable, MayCause, make_why, show_why} -- keep
-use Rattle.frame_whole.proofs.Shows.{IsUpNow} -- keep
-use Rattle.hang_facts.proofs.Targets.{IsTarget, target_has} -- keep
-use Rattle.hang_facts.proofs.Members.{find_has, has_any, into_map} -- keep
-use Rattle.home_facts.specs.Homes.{IsAtHome, document_in} -- keep
-use Rattle.log_model.specs.Places.{aim_of, is_shown, top} -- keep
-use Rattle.log_model.specs.Suits.{is_home, home_of} -- keep
-use Rattle.frame_rows.specs.Making.{IsMakeDue} -- keep
-use Rattle.std.specs.Map.{lookup} -- keep
-use Rattle.seen_laws.proofs.Keyed.{find_has as seen_number} -- keep
-use Rattle.log_model.specs.Suits.{process_of_parent} -- keep
-use Rattle.std.specs.List.{list_all, list_any} -- keep
-use Rattle.std.specs.Str.{bytes_eq} -- keep
-use Rattle.address.specs.Addresses.{base_of, blank_text} -- keep
-use Rattle.log_model.specs.declared.job.Task.TheVariants as tasks -- keep
-use Rattle.coord_facts.proofs.Unread.{next}
-use Rattle.frame_tab.proofs.Showing.{shown}
-use Rattle.hang_facts.proofs.Parts.{state_is}
+use Rattle.doors.specs.declared.tables.Tables.{Tables}  -- keep
+use Rattle.nav_tree.specs.Tree.{document_of as document_in_tree, is_state}  -- keep
+use Rattle.nav_tree.specs.declared.place.Place as live_place  -- keep
+use Rattle.log_model.specs.Seen.{Document, Seen, Status, asleep, awake, lost, document_of, place_of, desk_of}  -- keep
+use Rattle.doors.specs.Look.{is_live_for, is_made_for, sight, sight_in}  -- keep
+use Rattle.doors.specs.Ties.{IsListed}  -- keep
+use Rattle.doors.proofs.Sights.{sight_found}  -- keep
+use Rattle.doors.specs.Orders.{next_order}  -- keep
+use Rattle.passes.proofs.Needing.{IsNeeding}  -- keep
+use Rattle.passes.proofs.Showable.{up}  -- keep
+use Rattle.passes.proofs.Stand.{stand_for}  -- keep
+use Rattle.passes.proofs.Goings.{is_passed_for, show_causes}  -- keep
+use Rattle.passes.specs.Serving.{IsServable, MayCause, make_why}  -- keep
+use Rattle.hang_facts.proofs.Targets.{IsTarget, target_has}  -- keep
+use Rattle.hang_facts.proofs.Members.{find_has, has_any, into_map}  -- keep
+use Rattle.home_facts.specs.Homes.{IsAtHome}  -- keep
+use Rattle.log_model.specs.Places.{aim_of, top}  -- keep
+use Rattle.log_model.specs.Suits.{is_home}  -- keep
+use Rattle.frame_rows.specs.Making.{IsMakeDue}  -- keep
+use Rattle.std.specs.Map.{lookup}  -- keep
+use Rattle.seen_laws.proofs.Keyed.{find_has as seen_number}  -- keep
+use Rattle.log_model.specs.Suits.{process_of_parent}  -- keep
+use Rattle.std.specs.List.{list_all, list_any}  -- keep
+use Rattle.std.specs.Str.{bytes_eq}  -- keep
+use Rattle.address.specs.Addresses.{base_of, blank_text}  -- keep
+use Rattle.log_model.specs.declared.job.Task.TheVariants as tasks  -- keep
 use Rattle.hang_facts.specs.Members.{Has}
 use Rattle.log_model.proofs.Refl.{nat_eq_refl}
 use Rattle.log_model.specs.Equal.{holds}
@@ -40,7 +36,6 @@ use Rattle.log_model.specs.declared.made.Made.{Made}
 use Rattle.log_model.specs.declared.row.Row.{Row}
 use Rattle.log_model.specs.declared.row_kind.RowKind.{RowKind}
 use Rattle.passes.specs.Passing.{IsPassing}
-use Rattle.plain_tab.proofs.TabWays.{passed}
 use Rattle.seen_laws.specs.InEvent.{InEvent, now_of}
 use Rattle.std.proofs.Common.{Bool, List, None, Option, Some, [], ap, arith, cond, false, inl, inr, length, map, not, refl, subst, sym, true, ℕ, ◌&&◌, ◌+◌, ◌==◌, ◌||◌, ◌∙◌, ◌∷◌, ◌≡◌, ◌≤◌}
 use Rattle.std.proofs.lemmas.Bool.Decides.{nat_tests}

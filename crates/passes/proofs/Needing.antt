@@ -1,26 +1,26 @@
 -- What a navigable needs in the tables, it needs in the log.
-use Rattle.doors.specs.declared.tables.Tables.{Tables} -- keep
-use Rattle.apply_plan.specs.declared.need.Need.{Need} -- keep
-use Rattle.apply_plan.specs.declared.need.Need.TheVariants as needs -- keep
-use Rattle.apply_plan.specs.declared.reach.Reach.TheVariants.{Visited} -- keep
-use Rattle.apply_plan.specs.Reaches.{is_awake, is_reached, is_reached_within, way_up} -- keep
-use Rattle.apply_plan.specs.Needs.{has_document, is_asleep, is_pending, is_to_move, need_for, need_of} -- keep
-use Rattle.nav_tree.specs.Tree.{Tree, document_of, nav_of, node_of} -- keep
-use Rattle.nav_tree.specs.declared.nav.Nav.{Nav} -- keep
-use Rattle.nav_tree.specs.declared.node.Node.{Node} -- keep
-use Rattle.nav_tree.specs.declared.reload.ReloadPhase.{ReloadPhase} -- keep
-use Rattle.nav_tree.specs.declared.reload.ReloadPhase.TheVariants as reloads -- keep
-use Rattle.plan_laws.proofs.NeedLaws.{needs_is} -- keep
-use Rattle.walk_facts.specs.Serving.{is_needing, is_stopping} -- keep
-use Rattle.doors.proofs.Histories.{held_target, log_steps} -- keep
-use Rattle.doors.proofs.Holding.{IsThat, its_place} -- keep
-use Rattle.doors.specs.Look.{look_of} -- keep
-use Rattle.hang_facts.proofs.Members.{find_has, has_found} -- keep
-use Rattle.log_model.specs.Places.{aim_of, is_shown} -- keep
-use Rattle.log_model.specs.Seen.{Place, Seen, place_of} -- keep
-use Rattle.passes.specs.Serving.{need_in} -- keep
-use Rattle.log_model.specs.History.{row_of} -- keep
-use Rattle.std.specs.Prelude.{if◌then◌else◌} -- keep
+use Rattle.doors.specs.declared.tables.Tables.{Tables}  -- keep
+use Rattle.apply_plan.specs.declared.need.Need.{Need}  -- keep
+use Rattle.apply_plan.specs.declared.need.Need.TheVariants as needs  -- keep
+use Rattle.apply_plan.specs.declared.reach.Reach.TheVariants.{Visited}  -- keep
+use Rattle.apply_plan.specs.Reaches.{is_awake, is_reached, is_reached_within, way_up}  -- keep
+use Rattle.apply_plan.specs.Needs.{has_document, is_asleep, is_pending, is_to_move, need_for, need_of}  -- keep
+use Rattle.nav_tree.specs.Tree.{Tree, document_of, nav_of, node_of}  -- keep
+use Rattle.nav_tree.specs.declared.nav.Nav.{Nav}  -- keep
+use Rattle.nav_tree.specs.declared.node.Node.{Node}  -- keep
+use Rattle.nav_tree.specs.declared.reload.ReloadPhase.{ReloadPhase}  -- keep
+use Rattle.nav_tree.specs.declared.reload.ReloadPhase.TheVariants as reloads  -- keep
+use Rattle.plan_laws.proofs.NeedLaws.{needs_is}  -- keep
+use Rattle.walk_facts.specs.Serving.{is_needing, is_stopping}  -- keep
+use Rattle.doors.proofs.Histories.{held_target}  -- keep
+use Rattle.doors.proofs.Holding.{IsThat, its_place}  -- keep
+use Rattle.doors.specs.Look.{look_of}  -- keep
+use Rattle.hang_facts.proofs.Members.{find_has, has_found}  -- keep
+use Rattle.log_model.specs.Places.{aim_of, is_shown}  -- keep
+use Rattle.log_model.specs.Seen.{Place, Seen, place_of}  -- keep
+use Rattle.passes.specs.Serving.{need_in}  -- keep
+use Rattle.log_model.specs.History.{row_of}  -- keep
+use Rattle.std.specs.Prelude.{if◌then◌else◌}  -- keep
 use Rattle.coord_facts.proofs.Held.{fun_ext}
 use Rattle.doors.specs.Look.{moved_by, sight}
 use Rattle.doors.specs.Ties.{IsTied}

@@ -1,23 +1,20 @@
 -- One turn after the other, all of the walk are served.
-use Rattle.doors.specs.declared.tables.Tables.{Tables} -- keep
-use Rattle.doors.specs.Working.{KeepsStore} -- keep
-use Rattle.passes.specs.Serving.{IsServable, IsServedTurn, IsServing} -- keep
-use Rattle.apply_plan.specs.Order.{walk_of} -- keep
-use Rattle.log_model.specs.Walk as log -- keep
-use Rattle.plan_laws.proofs.WalkLaws.{walk_is} -- keep
-use Rattle.walk_facts.proofs.Order.{walk_is as is_walk} -- keep
-use Rattle.walk_facts.proofs.Leaving.{all_served, one_more, walk_stays} -- keep
-use Rattle.walk_facts.specs.Serving.{AreServed} -- keep
-use Rattle.walk_facts.specs.Walking.{AreServedUpTo, IsWalk} -- keep
-use Rattle.passes.proofs.Servings.{left_none, left_then} -- keep
-use Rattle.passes.proofs.Stand.{stand_for} -- keep
-use Rattle.passes.specs.Passing.{InPass, IsPassing} -- keep
-use Rattle.log_model.specs.Seen.{Place} -- keep
-use Rattle.coord.proofs.GivenLaws.{home}
-use Rattle.coord.proofs.ShowDoor.{order}
+use Rattle.doors.specs.declared.tables.Tables.{Tables}  -- keep
+use Rattle.doors.specs.Working.{KeepsStore}  -- keep
+use Rattle.passes.specs.Serving.{IsServable, IsServedTurn, IsServing}  -- keep
+use Rattle.apply_plan.specs.Order.{walk_of}  -- keep
+use Rattle.log_model.specs.Walk as log  -- keep
+use Rattle.plan_laws.proofs.WalkLaws.{walk_is}  -- keep
+use Rattle.walk_facts.proofs.Order.{walk_is as is_walk}  -- keep
+use Rattle.walk_facts.proofs.Leaving.{all_served, one_more, walk_stays}  -- keep
+use Rattle.walk_facts.specs.Serving.{AreServed}  -- keep
+use Rattle.walk_facts.specs.Walking.{IsWalk}  -- keep
+use Rattle.passes.proofs.Servings.{left_none, left_then}  -- keep
+use Rattle.passes.proofs.Stand.{stand_for}  -- keep
+use Rattle.passes.specs.Passing.{InPass, IsPassing}  -- keep
+use Rattle.log_model.specs.Seen.{Place}  -- keep
 use Rattle.log_model.specs.declared.made.Made.{Made}
 use Rattle.log_model.specs.declared.row_kind.RowKind.{RowKind}
-use Rattle.plain_tab.proofs.Histories.{left}
 use Rattle.seen_laws.specs.InEvent.{InEvent, now_of}
 use Rattle.std.proofs.Common.{List, Some, arith, length, map, refl, subst, sym, ℕ, ◌+◌, ◌∙◌, ◌≡◌, ◌≤◌}
 use Rattle.std.specs.Prelude.{slice_get}

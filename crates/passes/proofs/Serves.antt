@@ -1,42 +1,42 @@
 -- A turn of the walk: all goes on passing, and the navigable is served.
-use Rattle.doors.specs.declared.tables.Tables.{Tables} -- keep
-use Rattle.apply_plan.specs.declared.need.Need.{Need} -- keep
-use Rattle.apply_plan.specs.declared.need.Need.TheVariants as needs -- keep
-use Rattle.nav_tree.specs.Tree.{document_of as document_in_tree, is_state, nav_of, node_of} -- keep
-use Rattle.nav_tree.specs.declared.nav.Nav.{Nav} -- keep
-use Rattle.nav_tree.specs.declared.node.Node.{Node} -- keep
-use Rattle.log_model.specs.declared.job.Why.TheVariants as whys -- keep
-use Rattle.log_model.specs.History.{row_of, target_entry} -- keep
-use Rattle.hang_facts.proofs.Parts.{state_is} -- keep
-use Rattle.seen_laws.proofs.Keyed.{find_has as seen_number} -- keep
-use Rattle.passes.specs.Passing.{aim_in} -- keep
-use Rattle.doors.specs.Look.{sight_in} -- keep
-use Rattle.doors.specs.Orders.{MayShow, next_order} -- keep
-use Rattle.std.specs.Prelude.{if◌then◌else◌} -- keep
-use Rattle.nav_tree.specs.declared.place.Place as live_place -- keep
-use Rattle.log_model.specs.Seen.{Asked, Document, Place, Seen, document_of, place_of, desk_of} -- keep
-use Rattle.log_model.specs.declared.job.Task.TheVariants as tasks -- keep
-use Rattle.log_model.specs.declared.row_kind.RowKind.TheVariants as rows -- keep
-use Rattle.frame_whole.proofs.Shows.{IsShowOf, show_tab} -- keep
-use Rattle.frame_whole.proofs.Makes.{make_tab} -- keep
-use Rattle.frame_whole.specs.Tab.{IsTab} -- keep
-use Rattle.seen_laws.proofs.InEvents.{now_more} -- keep
-use Rattle.doors.specs.Working.{IsAtWork, KeepsStore} -- keep
-use Rattle.doors.specs.Look.{is_made_for, sight} -- keep
-use Rattle.doors.specs.Ties.{IsListed, IsOneSuch} -- keep
-use Rattle.doors.proofs.Sights.{IsSeen, seen_of} -- keep
-use Rattle.passes.proofs.Needing.{IsNeeding, NeedsIt, aims, need_here, needs_it} -- keep
-use Rattle.passes.proofs.Showable.{IsLiveHere, live_here, may_show, show_job, show_of} -- keep
-use Rattle.passes.proofs.Makeable.{make_due, make_job, unknown, known} -- keep
-use Rattle.passes.proofs.Servings.{left_none, make_counted, make_room, make_servable, make_top, make_turn, show_counted, show_room, show_servable, show_top, show_turn, turn_none} -- keep
-use Rattle.passes.proofs.Stand.{stand_for} -- keep
-use Rattle.passes.specs.Passing.{AreCounted, HasRoom, IsPassing, IsTopShown} -- keep
-use Rattle.passes.specs.Serving.{IsServable, IsServedTurn, MayCause, make_why, need_in, show_why} -- keep
-use Rattle.plan_laws.proofs.NeedLaws.{needs_is} -- keep
-use Rattle.walk_facts.proofs.Placed.{found_nav} -- keep
-use Rattle.walk_facts.specs.Serving.{IsMaking, IsServedAt, is_needing, is_stopping} -- keep
-use Rattle.hang_facts.proofs.Members.{find_has} -- keep
-use Rattle.std.specs.Map.{lookup} -- keep
+use Rattle.doors.specs.declared.tables.Tables.{Tables}  -- keep
+use Rattle.apply_plan.specs.declared.need.Need.{Need}  -- keep
+use Rattle.apply_plan.specs.declared.need.Need.TheVariants as needs  -- keep
+use Rattle.nav_tree.specs.Tree.{document_of as document_in_tree, is_state, nav_of}  -- keep
+use Rattle.nav_tree.specs.declared.nav.Nav.{Nav}  -- keep
+use Rattle.nav_tree.specs.declared.node.Node.{Node}  -- keep
+use Rattle.log_model.specs.declared.job.Why.TheVariants as whys  -- keep
+use Rattle.log_model.specs.History.{row_of, target_entry}  -- keep
+use Rattle.hang_facts.proofs.Parts.{state_is}  -- keep
+use Rattle.seen_laws.proofs.Keyed.{find_has as seen_number}  -- keep
+use Rattle.passes.specs.Passing.{aim_in}  -- keep
+use Rattle.doors.specs.Look.{sight_in}  -- keep
+use Rattle.doors.specs.Orders.{MayShow, next_order}  -- keep
+use Rattle.std.specs.Prelude.{if◌then◌else◌}  -- keep
+use Rattle.nav_tree.specs.declared.place.Place as live_place  -- keep
+use Rattle.log_model.specs.Seen.{Document, Place, Seen, document_of, place_of, desk_of}  -- keep
+use Rattle.log_model.specs.declared.job.Task.TheVariants as tasks  -- keep
+use Rattle.log_model.specs.declared.row_kind.RowKind.TheVariants as rows  -- keep
+use Rattle.frame_whole.proofs.Shows.{IsShowOf, show_tab}  -- keep
+use Rattle.frame_whole.proofs.Makes.{make_tab}  -- keep
+use Rattle.frame_whole.specs.Tab.{IsTab}  -- keep
+use Rattle.seen_laws.proofs.InEvents.{now_more}  -- keep
+use Rattle.doors.specs.Working.{IsAtWork, KeepsStore}  -- keep
+use Rattle.doors.specs.Look.{is_made_for, sight}  -- keep
+use Rattle.doors.specs.Ties.{IsListed, IsOneSuch}  -- keep
+use Rattle.doors.proofs.Sights.{IsSeen, seen_of}  -- keep
+use Rattle.passes.proofs.Needing.{IsNeeding, NeedsIt, aims, need_here, needs_it}  -- keep
+use Rattle.passes.proofs.Showable.{IsLiveHere, live_here, may_show, show_job, show_of}  -- keep
+use Rattle.passes.proofs.Makeable.{make_due, make_job, unknown, known}  -- keep
+use Rattle.passes.proofs.Servings.{make_counted, make_room, make_servable, make_top, make_turn, show_counted, show_room, show_servable, show_top, show_turn, turn_none}  -- keep
+use Rattle.passes.proofs.Stand.{stand_for}  -- keep
+use Rattle.passes.specs.Passing.{AreCounted, HasRoom, IsPassing, IsTopShown}  -- keep
+use Rattle.passes.specs.Serving.{IsServable, IsServedTurn, MayCause, make_why, need_in, show_why}  -- keep
+use Rattle.plan_laws.proofs.NeedLaws.{needs_is}  -- keep
+use Rattle.walk_facts.proofs.Placed.{found_nav}  -- keep
+use Rattle.walk_facts.specs.Serving.{IsMaking, is_needing, is_stopping}  -- keep
+use Rattle.hang_facts.proofs.Members.{find_has}  -- keep
+use Rattle.std.specs.Map.{lookup}  -- keep
 use Rattle.apply_plan.specs.Needs.{need_of}
 use Rattle.coord_facts.proofs.Unread.{next}
 use Rattle.coord_facts.specs.Leading.{pending_view}
@@ -52,14 +52,11 @@ use Rattle.log_model.specs.declared.job.Why.{Why}
 use Rattle.log_model.specs.declared.made.Made.{Made}
 use Rattle.log_model.specs.declared.row.Row.{Row}
 use Rattle.log_model.specs.declared.row_kind.RowKind.{RowKind}
-use Rattle.plain_tab.proofs.Shows.{top_shown}
-use Rattle.plain_tab.proofs.TabTurns.{serve}
 use Rattle.rest_facts.proofs.Stands.{get_of}
 use Rattle.seen_laws.specs.InEvent.{InEvent, now_of}
 use Rattle.std.proofs.Common.{Bool, List, None, Option, Some, [], ap, arith, false, length, map, not, refl, subst, sym, true, ℕ, ◌&&◌, ◌++◌, ◌+◌, ◌<◌, ◌==◌, ◌∙◌, ◌∷◌, ◌≡◌, ◌≤◌}
 use Rattle.std.specs.List.{list_any}
 use Rattle.std.specs.Prelude.{is_some}
-use Rattle.step_index.proofs.Counting.{counted}
 use Rattle.tab_ids.specs.declared.DocId.{DocId}
 use Rattle.tab_ids.specs.declared.Epoch.{Epoch}
 use Rattle.tab_ids.specs.declared.NavId.{NavId}

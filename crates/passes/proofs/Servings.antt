@@ -1,30 +1,28 @@
 -- What a row that shows a document, or makes one, leaves of what holds between two turns of the walk.
-use Rattle.log_model.specs.Seen.{Asked, Desk, Document, Place, Seen, Status, asleep, awake, lost, document_of, place_in, place_of, desk_of, request_of, request_in} -- keep
-use Rattle.walk_facts.proofs.Aims.{blur, on_served_blur} -- keep
-use Rattle.walk_facts.proofs.Sleepers.{after_show, becomes, place_becomes, sleepers_of, slept, slept_same, shown_same} -- keep
-use Rattle.walk_facts.proofs.Turns.{show_leaves, show_serves, make_leaves, make_serves} -- keep
-use Rattle.walk_facts.proofs.Placed.{found_nav} -- keep
-use Rattle.seen_laws.proofs.Keyed.{find_map, find_has as seen_number} -- keep
-use Rattle.seen_laws.proofs.Desks.{desk_on_same, desk_on_other} -- keep
-use Rattle.coord_facts.proofs.Unread.{next} -- keep
-use Rattle.coord_facts.proofs.OneDocument.{mailed, mailed_other, orders_mailed, pending_mailed, views_alike} -- keep
-use Rattle.coord_facts.proofs.Kept.{IsSentHome, is_mine} -- keep
-use Rattle.coord_facts.specs.Leading.{once_finished, orders_for, pending_view} -- keep
-use Rattle.frame_whole.specs.Tab.{AreAwakeWithRows, IsTab} -- keep
-use Rattle.frame_whole.proofs.Shows.{IsShowOf} -- keep
-use Rattle.frame_whole.proofs.FlowsTold.{sent_home} -- keep
-use Rattle.request_facts.proofs.Readers.{IsBlind, SameReads, read_of, sent_reads} -- keep
-use Rattle.passes.specs.Passing.{AreCounted, HasRoom, IsTopShown, ended_count} -- keep
-use Rattle.passes.specs.Serving.{AreBlankYet, AreViewed, IsServable, IsServedTurn, IsSwept, LeavesSwept, MayCause} -- keep
-use Rattle.passes.proofs.Goings.{goes_on} -- keep
-use Rattle.hang_facts.proofs.Hung.{places_distinct} -- keep
-use Rattle.log_model.specs.Places.{top} -- keep
-use Rattle.log_model.specs.Views.{View, after_task} -- keep
-use Rattle.log_model.specs.AfterDocuments.{addressed, documents_sent, new_document, on_document, view_finished} -- keep
-use Rattle.log_model.specs.AfterPlaces.{activated, sleepers_below} -- keep
-use Rattle.log_model.specs.declared.job.Task.TheVariants as tasks -- keep
-use Rattle.log_model.specs.declared.row_kind.RowKind.TheVariants as rows -- keep
-use Rattle.coord.proofs.Untouched.{viewed}
+use Rattle.log_model.specs.Seen.{Asked, Desk, Document, Place, Seen, document_of, place_in, place_of, desk_of, request_of, request_in}  -- keep
+use Rattle.walk_facts.proofs.Aims.{blur, on_served_blur}  -- keep
+use Rattle.walk_facts.proofs.Sleepers.{becomes, place_becomes, sleepers_of, slept}  -- keep
+use Rattle.walk_facts.proofs.Turns.{show_leaves, show_serves, make_leaves, make_serves}  -- keep
+use Rattle.seen_laws.proofs.Keyed.{find_map, find_has as seen_number}  -- keep
+use Rattle.seen_laws.proofs.Desks.{desk_on_same}  -- keep
+use Rattle.coord_facts.proofs.Unread.{next}  -- keep
+use Rattle.coord_facts.proofs.OneDocument.{mailed, mailed_other, pending_mailed, views_alike}  -- keep
+use Rattle.coord_facts.proofs.Kept.{IsSentHome, is_mine}  -- keep
+use Rattle.coord_facts.specs.Leading.{once_finished, orders_for, pending_view}  -- keep
+use Rattle.frame_whole.specs.Tab.{AreAwakeWithRows, IsTab}  -- keep
+use Rattle.frame_whole.proofs.Shows.{IsShowOf}  -- keep
+use Rattle.frame_whole.proofs.FlowsTold.{sent_home}  -- keep
+use Rattle.request_facts.proofs.Readers.{IsBlind, SameReads, sent_reads}  -- keep
+use Rattle.passes.specs.Passing.{AreCounted, HasRoom, IsTopShown, ended_count}  -- keep
+use Rattle.passes.specs.Serving.{AreViewed, IsServable, IsServedTurn, IsSwept, LeavesSwept, MayCause}  -- keep
+use Rattle.passes.proofs.Goings.{goes_on}  -- keep
+use Rattle.hang_facts.proofs.Hung.{places_distinct}  -- keep
+use Rattle.log_model.specs.Places.{top}  -- keep
+use Rattle.log_model.specs.Views.{View, after_task}  -- keep
+use Rattle.log_model.specs.AfterDocuments.{addressed, documents_sent, new_document, on_document, view_finished}  -- keep
+use Rattle.log_model.specs.AfterPlaces.{activated, sleepers_below}  -- keep
+use Rattle.log_model.specs.declared.job.Task.TheVariants as tasks  -- keep
+use Rattle.log_model.specs.declared.row_kind.RowKind.TheVariants as rows  -- keep
 use Rattle.coord_facts.specs.Leading.{is_live_order}
 use Rattle.frame_tab.specs.Asking.{ArePlainlyAsked}
 use Rattle.hang_facts.proofs.Forms.{nav_is}
@@ -37,7 +35,7 @@ use Rattle.log_model.specs.AfterRequests.{request_served, requests_sent}
 use Rattle.log_model.specs.Checks.{may_go_on}
 use Rattle.log_model.specs.Equal.{holds, implies}
 use Rattle.log_model.specs.History.{has_row, has_state, is_of}
-use Rattle.log_model.specs.Checks.{is_checked} -- keep
+use Rattle.log_model.specs.Checks.{is_checked}  -- keep
 use Rattle.log_model.specs.Places.{aim_of, has_passed}
 use Rattle.log_model.specs.Seen.{desk_in}
 use Rattle.log_model.specs.declared.job.Job.{Job}
@@ -47,7 +45,6 @@ use Rattle.log_model.specs.declared.made.Made.{Made}
 use Rattle.log_model.specs.declared.outcome.Ending.{Ending}
 use Rattle.log_model.specs.declared.row.Row.{Row}
 use Rattle.log_model.specs.declared.row_kind.Actor.{Actor}
-use Rattle.plain_tab.proofs.Histories.{left}
 use Rattle.std.proofs.Common.{Bool, List, None, Option, Some, [], ap, arith, cond, false, fold, length, map, refl, subst, suc, sym, true, ℕ, ◌+◌, ◌<◌, ◌==◌, ◌∙◌, ◌∷◌, ◌≡◌, ◌≤◌}
 use Rattle.std.proofs.lemmas.Bool.Decides.{nat_tests}
 use Rattle.std.proofs.lemmas.List.{length-map}

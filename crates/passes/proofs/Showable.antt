@@ -1,28 +1,23 @@
 -- A navigable whose target's document is there may be shown it.
-use Rattle.doors.specs.declared.tables.Tables.{Tables} -- keep
-use Rattle.nav_tree.specs.Tree.{document_of as document_in_tree, node_of} -- keep
-use Rattle.nav_tree.specs.declared.place.Place as live_place -- keep
-use Rattle.log_model.specs.Seen.{Document, Place, Seen, Status, asleep, awake, lost, document_of, place_in, place_of, desk_of} -- keep
-use Rattle.doors.specs.Look.{Sight, is_live_for, look_of, sight, sight_in} -- keep
-use Rattle.doors.specs.Ties.{IsListed, IsOneSuch} -- keep
-use Rattle.doors.proofs.Sights.{IsSeen, seen_of, sight_found} -- keep
-use Rattle.doors.specs.Orders.{MayShow, next_order} -- keep
-use Rattle.passes.proofs.Needing.{IsNeeding} -- keep
-use Rattle.passes.proofs.Awakes.{none_woken} -- keep
-use Rattle.passes.proofs.Goings.{for_passed, is_passed_for, show_causes} -- keep
-use Rattle.passes.specs.Serving.{IsServable, MayCause, show_why} -- keep
-use Rattle.frame_whole.proofs.Shows.{IsShowOf, IsUpNow} -- keep
-use Rattle.hang_facts.proofs.Parts.{state_is} -- keep
-use Rattle.hang_facts.proofs.Targets.{IsTarget, target_has} -- keep
-use Rattle.hang_facts.proofs.Members.{find_has} -- keep
-use Rattle.walk_facts.proofs.Placed.{found_nav} -- keep
-use Rattle.walk_facts.specs.Serving.{is_in_place, is_needing, is_stopping} -- keep
-use Rattle.home_facts.specs.Homes.{IsAtHome, document_in} -- keep
-use Rattle.log_model.specs.declared.job.Task.TheVariants as tasks -- keep
-use Rattle.log_model.specs.declared.job.Why.TheVariants as whys -- keep
-use Rattle.coord.proofs.ShowDoor.{known}
-use Rattle.coord_facts.proofs.Unread.{next}
-use Rattle.frame_tab.proofs.Showing.{shown}
+use Rattle.doors.specs.declared.tables.Tables.{Tables}  -- keep
+use Rattle.nav_tree.specs.Tree.{document_of as document_in_tree}  -- keep
+use Rattle.nav_tree.specs.declared.place.Place as live_place  -- keep
+use Rattle.log_model.specs.Seen.{Document, Place, Seen, Status, asleep, awake, lost, document_of, place_in, place_of}  -- keep
+use Rattle.doors.specs.Look.{Sight, is_live_for, sight}  -- keep
+use Rattle.doors.specs.Ties.{IsListed, IsOneSuch}  -- keep
+use Rattle.doors.proofs.Sights.{IsSeen, seen_of}  -- keep
+use Rattle.doors.specs.Orders.{MayShow, next_order}  -- keep
+use Rattle.passes.proofs.Needing.{IsNeeding}  -- keep
+use Rattle.passes.proofs.Awakes.{none_woken}  -- keep
+use Rattle.passes.proofs.Goings.{for_passed, is_passed_for, show_causes}  -- keep
+use Rattle.passes.specs.Serving.{MayCause, show_why}  -- keep
+use Rattle.frame_whole.proofs.Shows.{IsShowOf, IsUpNow}  -- keep
+use Rattle.hang_facts.proofs.Parts.{state_is}  -- keep
+use Rattle.hang_facts.proofs.Targets.{IsTarget, target_has}  -- keep
+use Rattle.hang_facts.proofs.Members.{find_has}  -- keep
+use Rattle.walk_facts.specs.Serving.{is_in_place, is_stopping}  -- keep
+use Rattle.home_facts.specs.Homes.{IsAtHome}  -- keep
+use Rattle.log_model.specs.declared.job.Task.TheVariants as tasks  -- keep
 use Rattle.hang_facts.proofs.Members.{has_any, into_map}
 use Rattle.hang_facts.specs.Members.{Has}
 use Rattle.log_model.proofs.Refl.{nat_eq_refl}
@@ -30,15 +25,13 @@ use Rattle.log_model.specs.AfterPlaces.{sleepers_below}
 use Rattle.log_model.specs.Equal.{holds}
 use Rattle.log_model.specs.History.{has_row, is_of, same_entry, target_entry}
 use Rattle.log_model.specs.Orders.{is_usable, needs_activation}
-use Rattle.log_model.specs.Places.{aim_of, goes, is_asleep, is_given_target, is_shown, pair_at}
+use Rattle.log_model.specs.Places.{aim_of, is_asleep, is_given_target, is_shown, pair_at}
 use Rattle.log_model.specs.declared.job.Job.{Job}
 use Rattle.log_model.specs.declared.job.Why.{Why}
 use Rattle.log_model.specs.declared.made.Made.{Made}
 use Rattle.log_model.specs.declared.row.Row.{Row}
 use Rattle.log_model.specs.declared.row_kind.RowKind.{RowKind}
 use Rattle.passes.specs.Passing.{IsPassing}
-use Rattle.plain_tab.proofs.TabWays.{passed}
-use Rattle.plain_tab.proofs.Turns.{due}
 use Rattle.seen_laws.specs.InEvent.{InEvent, now_of}
 use Rattle.std.proofs.Common.{Bool, List, None, Option, Some, [], ap, arith, false, map, not, refl, subst, sym, true, ℕ, ◌&&◌, ◌+◌, ◌==◌, ◌||◌, ◌∙◌, ◌∷◌, ◌≡◌}
 use Rattle.std.proofs.lemmas.Bool.Decides.{nat_tests}

@@ -1,18 +1,18 @@
 -- What the walk does, and what it leaves.
 -- HTML Standard, "Apply the history step".
-use Rattle.doors.specs.declared.tables.Tables.{Tables} -- keep
-use Rattle.apply_plan.specs.Needs.{need_of} -- keep
-use Rattle.apply_plan.specs.declared.need.Need.{Need} -- keep
-use Rattle.nav_tree.specs.declared.nav.Nav.{Nav} -- keep
-use Rattle.nav_tree.specs.Tree.{Tree, nav_of} -- keep
-use Rattle.doors.specs.Working.{KeepsStore} -- keep
-use Rattle.log_model.specs.Places.{top} -- keep
-use Rattle.passes.specs.Passing.{InPass, IsPassing, aim_in} -- keep
-use Rattle.coord_facts.specs.Leading.{pending_view} -- keep
-use Rattle.log_model.specs.Equal.{holds, same_why} -- keep
-use Rattle.std.specs.Str.{bytes_eq} -- keep
-use Rattle.walk_facts.specs.Serving.{IsServedAt} -- keep
-use Rattle.walk_facts.specs.Walking.{AreServedUpTo, IsWalk, LeavesOthers} -- keep
+use Rattle.doors.specs.declared.tables.Tables.{Tables}  -- keep
+use Rattle.apply_plan.specs.Needs.{need_of}  -- keep
+use Rattle.apply_plan.specs.declared.need.Need.{Need}  -- keep
+use Rattle.nav_tree.specs.declared.nav.Nav.{Nav}  -- keep
+use Rattle.nav_tree.specs.Tree.{Tree, nav_of}  -- keep
+use Rattle.doors.specs.Working.{KeepsStore}  -- keep
+use Rattle.log_model.specs.Places.{top}  -- keep
+use Rattle.passes.specs.Passing.{InPass, IsPassing, aim_in}  -- keep
+use Rattle.coord_facts.specs.Leading.{pending_view}  -- keep
+use Rattle.log_model.specs.Equal.{holds, same_why}  -- keep
+use Rattle.std.specs.Str.{bytes_eq}  -- keep
+use Rattle.walk_facts.specs.Serving.{IsServedAt}  -- keep
+use Rattle.walk_facts.specs.Walking.{AreServedUpTo, IsWalk, LeavesOthers}  -- keep
 use Rattle.frame_whole.specs.Tab.{AreAwakeWithRows}
 use Rattle.log_model.specs.Checks.{may_go_on}
 use Rattle.log_model.specs.History.{has_state}

@@ -18,8 +18,8 @@ use doors::Tables;
 use entry_store::Store;
 use log_model::{Out, Row, Why, copy_memo};
 use nav_tree::NavTree;
-use step_index::StepIndex;
 use std::alloc::Global;
+use step_index::StepIndex;
 use tab_ids::{DocId, EntryId, Epoch, NavId, ReqId, StateId};
 
 /// What the order that shows a navigable its document is for: the traversal that runs, where one does.
@@ -167,12 +167,7 @@ fn need_at(tables: &Tables, nav: NavId) -> Option<Need>
 }
 
 /// The navigable is served what it needs.
-fn serve_one(
-    tables: &mut Tables,
-    out: &mut Out,
-    nav: NavId,
-    cause: Why,
-) -> Result<(), OutOfMemory>
+fn serve_one(tables: &mut Tables, out: &mut Out, nav: NavId, cause: Why) -> Result<(), OutOfMemory>
     ghost p: { InPass }
     requires passing { IsPassing p.event out.old tables.old p.hand }
     requires servable { IsServable (now_of p.event out.old) }
