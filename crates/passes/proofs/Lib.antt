@@ -4,6 +4,7 @@ pub mod Goings
 pub mod Needing
 pub mod Showable
 pub mod Makeable
+pub mod Ordered
 pub mod Servings
 pub mod Serves
 pub mod Rounds

@@ -1,9 +1,10 @@
 -- What a row that shows a document, or makes one, leaves of what holds between two turns of the walk.
+use Rattle.passes.proofs.Ordered.{order_servable, order_swept, some_mapped, telling_leaves}  -- keep
 use Rattle.log_model.specs.Seen.{Asked, Desk, Document, Place, Seen, document_of, place_in, place_of, desk_of, request_of, request_in}  -- keep
 use Rattle.walk_facts.proofs.Aims.{blur, on_served_blur}  -- keep
 use Rattle.walk_facts.proofs.Sleepers.{becomes, place_becomes, sleepers_of, slept}  -- keep
 use Rattle.walk_facts.proofs.Turns.{show_leaves, show_serves, make_leaves, make_serves}  -- keep
-use Rattle.seen_laws.proofs.Keyed.{find_map, find_has as seen_number}  -- keep
+use Rattle.seen_laws.proofs.Keyed.{find_has as seen_number}  -- keep
 use Rattle.seen_laws.proofs.Desks.{desk_on_same}  -- keep
 use Rattle.coord_facts.proofs.Unread.{next}  -- keep
 use Rattle.coord_facts.proofs.OneDocument.{mailed, mailed_other, pending_mailed, views_alike}  -- keep
@@ -14,7 +15,7 @@ use Rattle.frame_whole.proofs.Shows.{IsShowOf}  -- keep
 use Rattle.frame_whole.proofs.FlowsTold.{sent_home}  -- keep
 use Rattle.request_facts.proofs.Readers.{IsBlind, SameReads, sent_reads}  -- keep
 use Rattle.passes.specs.Passing.{AreCounted, HasRoom, IsTopShown, ended_count}  -- keep
-use Rattle.passes.specs.Serving.{AreViewed, IsServable, IsServedTurn, IsSwept, LeavesSwept, MayCause}  -- keep
+use Rattle.passes.specs.Serving.{IsServable, IsServedTurn, IsSwept, LeavesSwept, MayCause}  -- keep
 use Rattle.passes.proofs.Goings.{goes_on}  -- keep
 use Rattle.hang_facts.proofs.Hung.{places_distinct}  -- keep
 use Rattle.log_model.specs.Places.{top}  -- keep
@@ -30,14 +31,12 @@ use Rattle.hang_facts.proofs.Members.{has_any}
 use Rattle.hang_facts.proofs.Targets.{target_has}
 use Rattle.home_facts.specs.Homes.{document_in}
 use Rattle.log_model.proofs.Refl.{nat_eq_refl}
-use Rattle.log_model.specs.After.{on_desk}
 use Rattle.log_model.specs.AfterRequests.{request_served, requests_sent}
 use Rattle.log_model.specs.Checks.{may_go_on}
 use Rattle.log_model.specs.Equal.{holds, implies}
 use Rattle.log_model.specs.History.{has_row, has_state, is_of}
 use Rattle.log_model.specs.Checks.{is_checked}  -- keep
 use Rattle.log_model.specs.Places.{aim_of, has_passed}
-use Rattle.log_model.specs.Seen.{desk_in}
 use Rattle.log_model.specs.declared.job.Job.{Job}
 use Rattle.log_model.specs.declared.job.Task.{Task}
 use Rattle.log_model.specs.declared.job.Why.{Why}
@@ -115,41 +114,8 @@ module _ (home : ProcId) (run : Option ReqId) (hand : List Made) (s : Seen) (eve
   documents_are : shown.documents ≡ on_document job.doc (addressed job.task) s.documents
   documents_are = ap (λ (t : Task). documents_sent s job t) task ∙ ap (λ (t : Task). on_document job.doc (addressed t) s.documents) (sym task)
 
-  abbrev told : Document → Document
-  told x = cond (x.nr.0 == job.doc.0) (addressed job.task x) x
-
-  told_same : (x : Document) → ((told x).nr ≡ x.nr) × ((told x).state ≡ x.state) × ((told x).is_ready ≡ x.is_ready) × ((told x).is_discarded ≡ x.is_discarded) × ((told x).proc ≡ x.proc)
-  told_same x = by_test (x.nr.0 == job.doc.0)
-    where
-      by_test : (b : Bool) → (let y : Document = cond b (addressed job.task x) x in (y.nr ≡ x.nr) × (y.state ≡ x.state) × (y.is_ready ≡ x.is_ready) × (y.is_discarded ≡ x.is_discarded) × (y.proc ≡ x.proc))
-      by_test true = (refl, refl, refl, refl, refl)
-      by_test false = (refl, refl, refl, refl, refl)
-
-  document_now : (doc : DocId) → document_of shown doc ≡ option_map told (document_of s doc)
-  document_now doc =
-      ap (λ (l : List Document). document_in l doc) documents_are
-      ∙ find_map (λ (x : Document). x.nr.0) told doc.0 s.documents (λ x. ap (λ (n : DocId). n.0) (told_same x).0)
-
-  -- the document that it was
-  record Was (doc : DocId) (x : Document) : Type 0 where
-    old : Document
-    found : document_of s doc ≡ Some old
-    is : told old ≡ x
-
-  was : (doc : DocId) (x : Document) → document_of shown doc ≡ Some x → Was doc x
-  was doc x found = by_old (document_of s doc) refl (sym (document_now doc) ∙ found)
-    where
-      by_old : (o : Option Document) → document_of s doc ≡ o → option_map told o ≡ Some x → Was doc x
-      by_old None at is = absurd cc
-      by_old (Some old) at is = record { old = old; found = at; is = (let r : told old ≡ x = cc in r) }
-
-  swept_then : IsSwept s → IsSwept shown
-  swept_then swept doc x found ready kept =
-      let w = was doc x found in
-      let same = told_same w.old in
-      ap (λ (y : Document). has_state y.state s.history.rows) (sym w.is)
-      ∙ ap (λ (st : StateId). has_state st s.history.rows) same.1
-      ∙ swept doc w.old w.found (sym same.2 ∙ ap (λ (y : Document). y.is_ready) w.is ∙ ready) (sym same.3 ∙ ap (λ (y : Document). y.is_discarded) w.is ∙ kept)
+  act_view : (x : Document) → is_some x.view ≡ true → is_some (view_finished x job.task) ≡ true
+  act_view x seen = ap (λ (t : Task). is_some (view_finished x t)) task ∙ some_mapped (λ (v : View). after_task v act) x.view seen
 
   -- nobody falls asleep, so that a place is as it was, but the navigable's own
   stays : (p : Place) → becomes s event actor job d target.entry epoch long at target.memo target.address task show.found p ≡ cond (p.nav.0 == d.nav.0) (activated job target.entry epoch d p) p
@@ -200,7 +166,7 @@ module _ (home : ProcId) (run : Option ReqId) (hand : List Made) (s : Seen) (eve
         history = refl;
         parked = refl;
         joined = refl;
-        swept = swept_then;
+        swept = order_swept home run hand s event actor tab job to first (addressed job.task) documents_are (telling_leaves s job act_view);
         rows_ = rows_then;
         causes = asked_still s shown run then_.framed.asked (λ r. sent_reads (λ (q : Asked). q.ending) blind s job job.task s.requests r);
       }
@@ -241,46 +207,8 @@ module _ (home : ProcId) (run : Option ReqId) (hand : List Made) (s : Seen) (eve
           let now_ : old.epoch.0 ≡ p.epoch.0 = ap (λ (q : Place). q.epoch.0) is in
           omega (arith, low, now_)
 
-  -- ---- what the walk's orders read
-
-  desks_are : shown.desks ≡ on_desk job.proc (mailed job) s.desks
-  desks_are = refl
-
-  desk_home : desk_of shown job.proc ≡ mailed job (desk_of s job.proc)
-  desk_home = ap (λ (l : List Desk). desk_in l job.proc) desks_are ∙ desk_on_same (mailed job) s.desks job.proc (λ desk. refl)
-
   pub show_servable : IsServable s → IsServable shown
-  show_servable was_ =
-      record {
-        blank = λ row there frame gone. was_.blank row there frame (λ doc x found is. let now_ : document_of shown doc ≡ Some (told x) = document_now doc ∙ ap (λ (o : Option Document). option_map told o) found in sym (told_same x).3 ∙ gone doc (told x) now_ ((told_same x).1 ∙ is));
-        viewed = viewed_then;
-      }
-    where
-      mine : IsSentHome s job
-      mine = sent_home home run hand s job tab.framed to first
-
-      by_own : (x : Document) (desk : Desk) → desk ≡ desk_of s job.proc → is_some (pending_view x desk) ≡ true → (b : Bool) → (x.nr.0 == job.doc.0) ≡ b → is_some (pending_view (let y : Document = cond b (addressed job.task x) x in y) (mailed job desk)) ≡ true
-      by_own x desk is seen true own =
-          let live : is_live_order x.nr (length desk.killed) job ≡ true = is_mine x.nr (length desk.killed) job (let n : job.doc.0 ≡ x.nr.0 = grind (arith, nat_tests, own) in n) (mine.lives ∙ sym (ap (λ (k : Desk). length k.killed) is)) in
-          ap (λ (o : Option View). is_some o) (pending_mailed x desk job live ∙ ap (λ (t : Task). view_finished (fold once_finished x (orders_for desk x.nr)) t) task)
-          ∙ by_view (pending_view x desk) seen
-        where
-          by_view : (o : Option View) → is_some o ≡ true → is_some (option_map (λ (v : View). after_task v act) o) ≡ true
-          by_view None h = h
-          by_view (Some v) h = refl
-      by_own x desk is seen false apart =
-          ap (λ (o : Option View). is_some o) (mailed_other [] desk job x epoch (let n : (job.doc.0 == x.nr.0) ≡ false = grind (arith, nat_tests, apart) in n)).pending ∙ seen
-
-      viewed_then : AreViewed shown
-      viewed_then doc x found kept =
-          let w = was doc x found in
-          let same = told_same w.old in
-          let proc : w.old.proc ≡ job.proc = (tab.framed.documents doc w.old w.found).alive.proc ∙ sym to in
-          let seen : is_some (pending_view w.old (desk_of s job.proc)) ≡ true = subst (λ (p : ProcId). is_some (pending_view w.old (desk_of s p)) ≡ true) proc (was_.viewed doc w.old w.found (sym same.3 ∙ ap (λ (y : Document). y.is_discarded) w.is ∙ kept)) in
-          let then_ : is_some (pending_view (told w.old) (mailed job (desk_of s job.proc))) ≡ true = by_own w.old (desk_of s job.proc) refl seen (w.old.nr.0 == job.doc.0) refl in
-          subst (λ (y : Document). is_some (pending_view y (desk_of shown y.proc)) ≡ true) w.is
-          (subst (λ (p : ProcId). is_some (pending_view (told w.old) (desk_of shown p)) ≡ true) (sym (same.4 ∙ proc))
-          (subst (λ (k : Desk). is_some (pending_view (told w.old) k) ≡ true) (sym desk_home) then_))
+  show_servable = order_servable home run hand s event actor tab job to first (addressed job.task) documents_are (telling_leaves s job act_view)
 
   pub show_turn : IsTab home run hand shown → IsServedTurn s shown d.nav
   show_turn then_ =
