@@ -1,36 +1,34 @@
 -- What the walk does, and what it leaves.
--- HTML Standard, "Apply the history step".
-use Rattle.doors.specs.declared.tables.Tables.{Tables}  -- keep
-use Rattle.apply_plan.specs.Needs.{need_of}  -- keep
-use Rattle.apply_plan.specs.declared.need.Need.{Need}  -- keep
-use Rattle.nav_tree.specs.declared.nav.Nav.{Nav}  -- keep
-use Rattle.nav_tree.specs.Tree.{Tree, nav_of}  -- keep
-use Rattle.doors.specs.Working.{KeepsStore}  -- keep
-use Rattle.log_model.specs.Places.{top}  -- keep
-use Rattle.passes.specs.Passing.{InPass, IsPassing, aim_in}  -- keep
-use Rattle.coord_facts.specs.Leading.{pending_view}  -- keep
-use Rattle.log_model.specs.Equal.{holds, same_why}  -- keep
-use Rattle.std.specs.Str.{bytes_eq}  -- keep
-use Rattle.walk_facts.specs.Serving.{IsServedAt}  -- keep
-use Rattle.walk_facts.specs.Walking.{AreServedUpTo, IsWalk, LeavesOthers}  -- keep
-use Rattle.frame_whole.specs.Tab.{AreAwakeWithRows}
-use Rattle.log_model.specs.Checks.{may_go_on}
-use Rattle.log_model.specs.History.{has_state}
-use Rattle.log_model.specs.Seen.{Document, Seen, document_of}
-use Rattle.log_model.specs.declared.job.Why.{Why}
-use Rattle.std.specs.Prelude.{Some, false, true, ◌≡◌}
-use Rattle.tab_ids.specs.declared.DocId.{DocId}
-use Rattle.tab_ids.specs.declared.ReqId.{ReqId}
-use Rattle.log_model.specs.declared.job.Why.TheVariants as whys
+-- HTML Standard, "Apply the history step"; that documents, orders and views have numbers, and that a document is made in the process of the one above it, is this project's own.
 use Rattle.address.specs.Addresses.{base_of, blank_text}
+use Rattle.apply_plan.specs.Needs.{need_of}
+use Rattle.apply_plan.specs.declared.need.Need.{Need}
+use Rattle.coord_facts.specs.Leading.{pending_view}
+use Rattle.doors.specs.Working.{KeepsStore}
+use Rattle.doors.specs.declared.tables.Tables.{Tables}
+use Rattle.frame_whole.specs.Tab.{AreAwakeWithRows}
 use Rattle.hang_facts.specs.Members.{Has}
-use Rattle.log_model.specs.Seen.{desk_of}
+use Rattle.log_model.specs.Checks.{may_go_on}
+use Rattle.log_model.specs.Equal.{holds, same_why}
+use Rattle.log_model.specs.History.{has_state}
+use Rattle.log_model.specs.Places.{top}
+use Rattle.log_model.specs.Seen.{Document, Seen, desk_of, document_of}
+use Rattle.log_model.specs.declared.job.Why.{Why}
 use Rattle.log_model.specs.declared.row.Row.{Row}
 use Rattle.log_model.specs.declared.row_kind.RowKind.{RowKind}
+use Rattle.nav_tree.specs.Tree.{Tree, nav_of}
+use Rattle.nav_tree.specs.declared.nav.Nav.{Nav}
+use Rattle.passes.specs.Passing.{InPass, IsPassing, aim_in}
 use Rattle.seen_laws.specs.InEvent.{now_of}
-use Rattle.std.specs.Prelude.{Bool, List, None, Option, if◌then◌else◌, is_some, ℕ, ◌&&◌, ◌==◌, ◌≢◌}
+use Rattle.std.specs.Prelude.{Bool, List, None, Option, Some, false, if◌then◌else◌, is_some, true, ℕ, ◌&&◌, ◌==◌, ◌≡◌, ◌≢◌}
+use Rattle.std.specs.Str.{bytes_eq}
 use Rattle.step_index.specs.Held.{history_held}
+use Rattle.tab_ids.specs.declared.DocId.{DocId}
 use Rattle.tab_ids.specs.declared.NavId.{NavId}
+use Rattle.tab_ids.specs.declared.ReqId.{ReqId}
+use Rattle.walk_facts.specs.Serving.{IsServedAt}
+use Rattle.walk_facts.specs.Walking.{AreServedUpTo, IsWalk, LeavesOthers}
+use Rattle.log_model.specs.declared.job.Why.TheVariants as whys
 
 -- an order for this may be sent
 abbrev pub MayCause : Seen → Why → Type 0
