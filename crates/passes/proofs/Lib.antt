@@ -1,4 +1,13 @@
 pub mod Aims
+pub mod Awakes
+pub mod Goings
+pub mod Needing
+pub mod Showable
+pub mod Makeable
+pub mod Ordered
+pub mod Servings
+pub mod Serves
+pub mod Rounds
 pub mod Passings
 pub mod Stand
 pub mod Tellings

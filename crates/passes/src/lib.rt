@@ -2,6 +2,8 @@
 #![tactic(auto)]
 
 mod reading;
+mod serving;
 mod telling;
 
+pub use serving::serve_all;
 pub use telling::tell_all;

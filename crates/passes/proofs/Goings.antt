@@ -1,0 +1,78 @@
+-- What a request is for may go on in a tab of frames, since nobody is asked.
+use Rattle.log_model.specs.Places.{has_passed_with, is_gone}  -- keep
+use Rattle.passes.proofs.Aims.{passed_is, running_is}  -- keep
+use Rattle.passes.specs.Serving.{MayCause, show_why}  -- keep
+use Rattle.log_model.specs.Checks.{is_checked}  -- keep
+use Rattle.log_model.specs.ActsAtOnce.{is_for_passed}  -- keep
+use Rattle.seen_laws.specs.Sending.{is_passed}  -- keep
+use Rattle.log_model.specs.declared.job.Task.TheVariants as tasks  -- keep
+use Rattle.log_model.specs.declared.job.Why.TheVariants as whys  -- keep
+use Rattle.frame_tab.specs.Asking.{ArePlainlyAsked}
+use Rattle.log_model.proofs.Refl.{nat_eq_refl}
+use Rattle.log_model.specs.Checks.{may_go_on}
+use Rattle.log_model.specs.Equal.{implies}
+use Rattle.log_model.specs.Orders.{is_for}
+use Rattle.log_model.specs.Seen.{Asked, Seen, request_in, request_of}
+use Rattle.log_model.specs.declared.job.Job.{Job}
+use Rattle.log_model.specs.declared.job.Task.{Task}
+use Rattle.log_model.specs.declared.job.Why.{Why}
+use Rattle.std.proofs.Common.{Bool, None, Option, Some, [], ap, false, length, refl, subst, sym, true, ◌∙◌, ◌≡◌}
+use Rattle.std.specs.Option.{option_map_or}
+use Rattle.std.specs.Prelude.{option_and_then}
+use Rattle.tab_ids.specs.declared.DocId.{DocId}
+use Rattle.tab_ids.specs.declared.ReqId.{ReqId}
+
+module _ (s : Seen) (run : Option ReqId) (asked : ArePlainlyAsked run s) where
+  passes : (gone : DocId → Bool) (q : Asked) → q.asks ≡ [] → q.prompted ≡ None → has_passed_with gone q ≡ true
+  passes gone q none unprompted = rw (none, unprompted) refl
+
+  -- any request that is there may go on
+  pub goes_on : (req : ReqId) (q : Asked) → request_of s req ≡ Some q → may_go_on s req ≡ true
+  goes_on req q there =
+      let its = asked.each req q there in
+      let passed : has_passed_with (is_gone s) q ≡ true = passes (is_gone s) q its.unasked its.unprompted in
+      rw there (rw passed (by_test (is_checked q)))
+    where
+      by_test : (b : Bool) → implies b true ≡ true
+      by_test true = refl
+      by_test false = refl
+
+  -- the traversal that runs is there
+  pub runs_there : (req : ReqId) → run ≡ Some req → (q : Asked) × (request_of s req ≡ Some q)
+  runs_there req is =
+      let it = asked.runs req is in
+      let same : it.req ≡ req = (let both_ : Some it.req ≡ Some req = sym it.is ∙ is in cc) in
+      (it.q, ap (λ (r : ReqId). request_in s.requests r) (sym same) ∙ it.there)
+
+  pub show_causes : (cause : Why) → MayCause s cause → MayCause s (show_why run cause)
+  show_causes cause may = by_run run refl
+    where
+      by_run : (o : Option ReqId) → run ≡ o → MayCause s (show_why o cause)
+      by_run None is = may
+      by_run (Some req) is = λ r same.
+          let there = runs_there req is in
+          let one : req ≡ r = cc in
+          subst (λ (x : ReqId). may_go_on s x ≡ true) one (goes_on req there.0 there.1)
+
+  -- an order for it may be sent
+  pub is_passed_for : (task : Task) (why : Why) → MayCause s why → is_passed s task why ≡ true
+  is_passed_for (tasks.Update length index) why may = refl
+  is_passed_for task (whys.Req req) may = by_task task
+    where
+      by_task : (x : Task) → is_passed s x (whys.Req req) ≡ true
+      by_task (tasks.Update length index) = refl
+      by_task x = may req refl
+  is_passed_for task why may = refl
+
+  pub for_passed : (job : Job) (cause : Why) → job.why ≡ show_why run cause → is_for_passed s job ≡ true
+  for_passed job cause is = ap (λ (o : Option Asked). option_map_or (λ (q : Asked). is_for q.nr job) o true) (passed_is s run asked ∙ running_is s run asked) ∙ by_run run refl
+    where
+      by_run : (o : Option ReqId) → run ≡ o → option_map_or (λ (q : Asked). is_for q.nr job) (option_and_then (λ (req : ReqId). request_in s.requests req) o) true ≡ true
+      by_run None at = refl
+      by_run (Some req) at =
+          let there = runs_there req at in
+          let its = asked.each req there.0 there.1 in
+          let why : job.why ≡ whys.Req req = is ∙ ap (λ (o : Option ReqId). show_why o cause) at in
+          ap (λ (o : Option Asked). option_map_or (λ (q : Asked). is_for q.nr job) o true) there.1
+          ∙ ap (λ (r : ReqId). is_for r job) its.nr
+          ∙ rw why (nat_eq_refl req.0)
