@@ -9,7 +9,8 @@ use Rattle.coord_facts.proofs.Kept.{IsSentHome, is_mine}  -- keep
 use Rattle.coord_facts.specs.Leading.{is_live_order, once_finished, orders_for, pending_view}  -- keep
 use Rattle.frame_whole.specs.Tab.{IsTab}  -- keep
 use Rattle.frame_whole.proofs.FlowsTold.{sent_home}  -- keep
-use Rattle.passes.specs.Serving.{AreBlankYet, AreViewed, IsServable, IsSwept}  -- keep
+use Rattle.frame_whole.specs.Beside.{EachIsViewed}  -- keep
+use Rattle.passes.specs.Serving.{AreBlankYet, IsServable, IsSwept}  -- keep
 use Rattle.log_model.specs.Views.{View, after_task}  -- keep
 use Rattle.log_model.specs.AfterDocuments.{addressed, documents_sent, on_document, view_finished}  -- keep
 use Rattle.log_model.specs.declared.job.Task.TheVariants as tasks  -- keep
@@ -118,7 +119,7 @@ module _ (home : ProcId) (run : Option ReqId) (hand : List Made) (s : Seen) (eve
       by_own x seen false apart kept =
           ap (λ (o : Option View). is_some o) (mailed_other [] (desk_of s job.proc) job x (record { 0 = 0 }) (let n : (job.doc.0 == x.nr.0) ≡ false = grind (arith, nat_tests, apart) in n)).pending ∙ seen
 
-      viewed_then : AreViewed ordered
+      viewed_then : EachIsViewed ordered
       viewed_then doc x found kept =
           let w = was doc x found in
           let same = told_same w.old in

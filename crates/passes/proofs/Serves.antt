@@ -88,14 +88,11 @@ module _ (e : InEvent) (out : List RowKind) (t : Tables) (hand : List Made) (pas
     abbrev then_out : List RowKind
     then_out = out ++ rows.Sent job ∷ []
 
-    view : (v : View) × (pending_view here.document (desk_of s t.home) ≡ Some v)
-    view = some_is (pending_view here.document (desk_of s t.home)) (subst (λ (p : ProcId). is_some (pending_view here.document (desk_of s p)) ≡ true) (pass.tab.framed.documents doc here.document here.found).alive.proc (servable.viewed doc here.document here.found here.undiscarded))
-
     abbrev shown_of : IsShowOf t.running s job here.document needing.place needing.target epoch
     shown_of = show_of e out t hand pass nav needing doc here cause may epoch next_ pair pair_is
 
     tab_then : IsTab t.home t.running hand (next s e.event e.actor (rows.Sent job))
-    tab_then = show_tab t.home t.running hand s e.event e.actor pass.tab job refl refl here.document needing.place needing.target epoch pair.0 pair.1 refl shown_of view.0 view.1
+    tab_then = show_tab t.home t.running hand s e.event e.actor pass.tab job refl refl here.document needing.place needing.target epoch pair.0 pair.1 refl shown_of servable.viewed
 
     pub show_done : (u : Tables) → KeepsStore t u → IsAtWork e then_out u → IsServedNow e out then_out u hand nav
     show_done u keeps work =

@@ -1,4 +1,5 @@
 -- What a row that shows a document, or makes one, leaves of what holds between two turns of the walk.
+use Rattle.frame_whole.proofs.Nobody.{nobody_sleeps}  -- keep
 use Rattle.passes.proofs.Ordered.{order_servable, order_swept, some_mapped, telling_leaves}  -- keep
 use Rattle.log_model.specs.Seen.{Asked, Desk, Document, Place, Seen, document_of, place_in, place_of, desk_of, request_of, request_in}  -- keep
 use Rattle.walk_facts.proofs.Aims.{blur, on_served_blur}  -- keep
@@ -122,7 +123,7 @@ module _ (home : ProcId) (run : Option ReqId) (hand : List Made) (s : Seen) (eve
   stays p = ap (λ (q : Place). cond (q.nav.0 == d.nav.0) (activated job target.entry epoch d q) q) (let r : slept (sleepers_of s job.doc d.nav) job.why p ≡ p = ap (λ (l : List NavId). slept l job.why p) none in r)
     where
       none : sleepers_of s job.doc d.nav ≡ []
-      none = ap (λ (o : Option Place). option_map_or (sleepers_below s job.doc) o []) show.placed ∙ show.nobody
+      none = ap (λ (o : Option Place). option_map_or (sleepers_below s job.doc) o []) show.placed ∙ nobody_sleeps home run hand s tab job.doc d.nav place show.placed show.same
 
   place_now : (nav : NavId) → place_of shown nav ≡ option_map (λ (p : Place). let q : Place = cond (p.nav.0 == d.nav.0) (activated job target.entry epoch d p) p in q) (place_of s nav)
   place_now nav = place_becomes s event actor job d target.entry epoch long at target.memo target.address task show.found nav ∙ by_old (place_of s nav)

@@ -11,7 +11,8 @@ use Rattle.passes.proofs.Needing.{IsNeeding}  -- keep
 use Rattle.passes.proofs.Awakes.{none_woken}  -- keep
 use Rattle.passes.proofs.Goings.{for_passed, is_passed_for, show_causes}  -- keep
 use Rattle.passes.specs.Serving.{MayCause, show_why}  -- keep
-use Rattle.frame_whole.proofs.Shows.{IsShowOf, IsUpNow}  -- keep
+use Rattle.frame_whole.proofs.Nobody.{IsUpNow}  -- keep
+use Rattle.frame_whole.proofs.Shows.{IsShowOf}  -- keep
 use Rattle.hang_facts.proofs.Parts.{state_is}  -- keep
 use Rattle.hang_facts.proofs.Targets.{IsTarget, target_has}  -- keep
 use Rattle.hang_facts.proofs.Members.{find_has}  -- keep
@@ -205,7 +206,6 @@ module _ (e : InEvent) (out : List RowKind) (t : Tables) (hand : List Made) (pas
             usable = here.usable;
             needs = activates;
             next_ = epoch_place;
-            nobody = nobody;
             same = same;
             up = up;
             for_run = λ req is. ap (λ (o : Option ReqId). show_why o cause) is;

@@ -1,5 +1,6 @@
 -- What the walk does, and what it leaves.
 -- HTML Standard, "Apply the history step"; that documents, orders and views have numbers, and that a document is made in the process of the one above it, is this project's own.
+use Rattle.frame_whole.specs.Beside.{EachIsViewed}
 use Rattle.address.specs.Addresses.{base_of, blank_text}
 use Rattle.apply_plan.specs.Needs.{need_of}
 use Rattle.apply_plan.specs.declared.need.Need.{Need}
@@ -74,14 +75,9 @@ abbrev pub AreBlankYet : Seen → Type 0
 AreBlankYet s =
     (row : Row) → Has s.history.rows row → row.nav ≢ top → ((doc : DocId) (d : Document) → document_of s doc ≡ Some d → d.state ≡ row.state → d.is_discarded ≡ true) → bytes_eq (base_of row.address) blank_text ≡ true
 
--- the orders of each document that isn't discarded lead to a view
-abbrev pub AreViewed : Seen → Type 0
-AreViewed s =
-    (doc : DocId) (d : Document) → document_of s doc ≡ Some d → d.is_discarded ≡ false → is_some (pending_view d (desk_of s d.proc)) ≡ true
-
 pub record IsServable (s : Seen) : Type 0 where
   pub blank : AreBlankYet s
-  pub viewed : AreViewed s
+  pub viewed : EachIsViewed s
 
 -- ---- a turn of the walk, and so many of them
 
