@@ -35,7 +35,7 @@ pub struct StepIndex {
 }
 
 impl StepIndex {
-    ghost use Rattle.std.specs.Prelude.{◌≡◌, ◌≤◌, ◌-◌, ◌*◌, ◌+◌, ◌^◌, length, filter, IfOk};
+    ghost use Rattle.std.specs.Prelude.{◌≡◌, ◌≤◌, ◌-◌, ◌*◌, ◌+◌, ◌^◌, length, filter, slice_get, IfOk};
     ghost use Rattle.std.specs.Option.{option_map};
     ghost use Rattle.log_model.specs.History.{is_of, used_steps, used_step_at, target_entry};
     ghost use Rattle.log_model.specs.Opening.{opening_history};
@@ -56,6 +56,16 @@ impl StepIndex {
         ensures cost { 2 ^ (steps.new - steps.old) ≤ 2 * length (used_steps (history_held self.now).rows) + 1 }
     {
         used_step_in(&self.parts, s, steps)
+    }
+
+    /// The used step before which so many others stand.
+    pub fn step_of(&self, index: usize) -> Option<Step>
+        ensures { option_map (λ step. step.0) result ≡ slice_get (used_steps (history_held self.now).rows) index }
+    {
+        match self.parts.used.get(index) {
+            Some(step) => Some(Step(*step)),
+            None => None,
+        }
     }
 
     /// The navigable's target entry at a step. Each comparison of the step of one of its entries with `s` is a tick.
