@@ -160,7 +160,7 @@ module _ (home : ProcId) (s : Seen) (event : ℕ) (made : Made) (first : slice_g
   pub at_hand_flows : held_back told.requests told.parked ≡ held → FlowsIf (made ∷ []) told
   at_hand_flows same =
       record {
-        leads = λ nav place doc d placed wakes found. leads_if s.history.rows (held_back told.requests told.parked ++ made ∷ []) (desk_of told d.proc) d place.given place.epoch (subst (λ (l : List Made). Leads s.history.rows (l ++ made ∷ []) (desk_of told d.proc) d place.given place.epoch) (sym same) (told_leads (held ++ made ∷ []) alike nav place doc d placed wakes found));
+        leads = λ nav place doc d placed wakes found has. leads_if s.history.rows (held_back told.requests told.parked ++ made ∷ []) (desk_of told d.proc) d place.given place.epoch (subst (λ (l : List Made). Leads s.history.rows (l ++ made ∷ []) (desk_of told d.proc) d place.given place.epoch) (sym same) (told_leads (held ++ made ∷ []) alike nav place doc d placed wakes found));
         whose = whose_then;
         reaches = delivery_reaches s event home made first flows.reaches;
         within = subst (λ (l : List Made). EachDocument (IsWithin (l ++ made ∷ [])) told) (sym same) (told_within (held ++ made ∷ []) alike (λ bound doc is under. within_append bound doc held (made ∷ []) is (under, tt)));

@@ -29,7 +29,7 @@ leads_if rows_ held desk d given epoch is =
 pub flows_if : (s : Seen) → Flows s → FlowsIf [] s
 flows_if s flows =
     record {
-      leads = λ nav place doc d placed wakes found. leads_if s.history.rows (held_back s.requests s.parked ++ []) (desk_of s d.proc) d place.given place.epoch (subst (λ (l : List Made). Leads s.history.rows l (desk_of s d.proc) d place.given place.epoch) (sym none) (flows.leads nav place doc d placed wakes found));
+      leads = λ nav place doc d placed wakes found has. leads_if s.history.rows (held_back s.requests s.parked ++ []) (desk_of s d.proc) d place.given place.epoch (subst (λ (l : List Made). Leads s.history.rows l (desk_of s d.proc) d place.given place.epoch) (sym none) (flows.leads nav place doc d placed wakes found));
       whose = flows.whose;
       reaches = flows.reaches;
       within = λ doc d place found placed. subst (λ (l : List Made). IsWithin l (desk_of s d.proc) d place.epoch.0) (sym none) (flows.within doc d place found placed);

@@ -317,7 +317,7 @@ module _ (home : ProcId) (run : Option ReqId) (hand : List Made) (s : Seen) (tab
             each_on (IsMadeThere s.documents) (IsMadeThere (map acts_on s.documents)) (waiting acted hand) (made_there_again s.documents (map acts_on s.documents) s.places s.places made_on (same_placed s.places s.places refl))
             (subst (λ (l : List Made). Each (IsMadeThere s.documents) l) (sym waiting_same) tab.waits);
         ascends = ascends_again home s acted hand hand acts_on (by_nr (λ x. x.nr) (λ x. refl)) ascends_acted refl tab.ascends;
-        continues = λ nav place doc given there wakes is. continues_acted nav place doc given there wakes is (tab.continues nav place doc given there wakes is);
+        continues = λ nav place doc given there wakes has is. continues_acted nav place doc given there wakes is (tab.continues nav place doc given there wakes has is);
         given = given_again s acted (same_shown s acted refl) refl (λ nav none. sym (moved_same run s.requests acted.requests nav tab.asked.only only_then (made_reads (λ (x : Asked). x.moved) s.requests made (λ x. refl))) ∙ none) tab.given;
       })
       tab

@@ -91,7 +91,7 @@ any_left test (y ∷ l) x e = by_test (test y) (any_left test l x) e
     by_test true rest h = refl
     by_test false rest h = rest h
 
-any_other : {A : Type 0} (test : A → Bool) (l : List A) (x : A) → test x ≡ false → list_any test (l ++ x ∷ []) ≡ list_any test l
+pub any_other : {A : Type 0} (test : A → Bool) (l : List A) (x : A) → test x ≡ false → list_any test (l ++ x ∷ []) ≡ list_any test l
 any_other test [] x e = rw e refl
 any_other test (y ∷ l) x e = ap (λ (b : Bool). test y || b) (any_other test l x e)
 
@@ -193,11 +193,17 @@ module _ (home : ProcId) (run : Option ReqId) (hand hand_ : List Made) (s : Seen
         keep = λ n has. record { place = has.place; found = ap (λ (l : List Place). place_in l n) places_are ∙ place_more s.places frame_place n has.place has.found };
         placed = λ n p found. record { new = p; found = ap (λ (l : List Place). place_in l n) places_are ∙ place_more s.places frame_place n p found; epoch = omega arith };
         were = were;
+        had_row = λ n p doc there wakes has. by_place n p doc wakes has (either n p there);
       }
     where
       same_after : (old : EntryId) (b : Bool) → old ≡ (if b then entry_after old made.what else old)
       same_after old true = sym (ap (λ (w : What). entry_after old w) what)
       same_after old false = refl
+
+      -- the new one is asleep
+      by_place : (n : NavId) (p : Place) (doc : DocId) → p.status ≡ awake doc → has_row p.nav added.history.rows ≡ true → (place_of s n ≡ Some p) ⊎ (frame_place ≡ p) → has_row p.nav s.history.rows ≡ true
+      by_place n p doc wakes has (inl old) = sym (others_rows p.nav (another n p old)) ∙ has
+      by_place n p doc wakes has (inr new) = (let never : asleep ≡ awake doc = ap (λ (x : Place). x.status) new ∙ wakes in absurd cc)
 
       were : (n : NavId) (p : Place) (doc : DocId) → place_of added n ≡ Some p → p.status ≡ awake doc → WasTaken s made n p doc
       were n p doc there wakes = by_case (either n p there)

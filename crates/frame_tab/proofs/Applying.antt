@@ -26,7 +26,6 @@ use Rattle.coord_facts.proofs.Unread.{next}
 use Rattle.hang_facts.specs.Forms.{forms_of}
 use Rattle.hang_facts.specs.Members.{Has}
 use Rattle.hang_facts.proofs.Frames.{IsNoFrame, applied_kept}
-use Rattle.hang_facts.proofs.Members.{Passing, any_has, has_any}
 use Rattle.home_facts.specs.Homes.{AreHomed}
 use Rattle.rest_facts.proofs.Again.{WasOf, was_of, its_number}
 use Rattle.plain_tab.specs.Calm.{is_this}
@@ -45,7 +44,7 @@ use Rattle.frame_tab.proofs.Going.{IsKnownEntry, IsOfRow, entries_again}
 use Rattle.frame_tab.proofs.Leaving.{untold}
 use Rattle.frame_tab.proofs.Takings.{IsFirstOf, IsTakenOf, IsTaking, takes, taken_of, taken_framed}
 use Rattle.frame_tab.proofs.Traversing.{applied_tooks}
-use Rattle.frame_tab.proofs.Stating.{WasRow, stated_rows}
+use Rattle.frame_tab.proofs.Stating.{WasRow, rows_were, stated_rows}
 use Rattle.frame_tab.proofs.Changing.{IsGiving, IsMadeHere, g, g_nav, were_taken, placed_on, steady_then, given_then}
 
 -- the new entry of what was made
@@ -101,10 +100,7 @@ module _ (home : ProcId) (run : Option ReqId) (hand hand_ : List Made) (s : Seen
 
   module _ (no_frame : IsNoFrame change) (places : changed.places ≡ map (g s event actor req change made d take.here homes tab.steady f giving) s.places) (ever : (x : Place) (entry : EntryId) → Has (g s event actor req change made d take.here homes tab.steady f giving x).ever_given entry → Has x.ever_given entry ⊎ IsTheEntry made.what entry) (states : changed.states ≡ s.states) (numbers : changed.entries ≡ s.entries) (initial : changed.initial_states ≡ s.initial_states) (well : IsChangedWell s (applied s.history change) made d f take.here.place) where
     old_navs : (nav : NavId) → has_row nav (applied s.history change).rows ≡ true → has_row nav s.history.rows ≡ true
-    old_navs nav has =
-        let a : Passing (λ (row : Row). row.nav.0 == nav.0) (applied s.history change).rows = any_has (λ (row : Row). row.nav.0 == nav.0) (applied s.history change).rows has in
-        let w : WasRow s.history.rows a.it = well.were a.it a.there in
-        has_any (λ (row : Row). row.nav.0 == nav.0) s.history.rows w.old w.there (ap (λ (n : NavId). n.0 == nav.0) (sym w.nav) ∙ a.passes)
+    old_navs = rows_were s.history.rows (applied s.history change).rows well.were
 
     forms : forms_of changed.places ≡ forms_of s.places
     forms = applied_kept s req change no_frame
@@ -121,6 +117,7 @@ module _ (home : ProcId) (run : Option ReqId) (hand hand_ : List Made) (s : Seen
           keep = λ nav has. place_stays s.places changed.places nav forms has;
           placed = placed_on s event actor req change made d take.here homes tab.steady f giving places;
           were = were_taken s event actor req change made d take.here homes tab.steady f giving places;
+          had_row = λ nav place doc there wakes has. old_navs place.nav has;
         }
 
     is_taken : IsTakenOf made.doc made.what (takes change)

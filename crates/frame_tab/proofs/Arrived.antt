@@ -130,7 +130,7 @@ module _ (home : ProcId) (run : Option ReqId) (s : Seen) (event : ℕ) (tab : Is
           unmade = unmade_again home s arrived [] [] (λ x. x) (λ x. refl) (λ doc x there is unready. (let i : (x.last_applied ≡ 0) × (untaken (waiting s []) (desk_of s home) x.nr ≡ []) = is unready in (i.0, same_unmade (waiting s []) (waiting arrived []) (desk_of s home) (desk_of arrived home) same x.nr i.1))) (arrived_documents ∙ sym (map-id s.documents)) tab.unmade;
           waits = subst (λ (l : List Document). Each (IsMadeThere l) (waiting arrived [])) (sym arrived_documents) (subst (λ (l : List Made). Each (IsMadeThere s.documents) l) (sym (done_waiting home run s event tab job outcomes.Activated first)) tab.waits);
           ascends = ascends_again home s arrived [] [] (λ x. x) (λ x. refl) (λ doc x there is view has. same_ascends (waiting s []) (waiting arrived []) (desk_of s home) (desk_of arrived home) same x.nr x.last_applied view.numbered (is view has)) (arrived_documents ∙ sym (map-id s.documents)) tab.ascends;
-          continues = continues_again home s arrived [] [] were (λ nav place doc given there wakes. same_continues (waiting s []) (waiting arrived []) (desk_of s home) (desk_of arrived home) same doc given place.epoch) tab.continues;
+          continues = continues_again home s arrived [] [] were refl (λ nav place doc given there wakes has. same_continues (waiting s []) (waiting arrived []) (desk_of s home) (desk_of arrived home) same doc given place.epoch) tab.continues;
           given = given_again s arrived were refl (λ nav none. ap (λ (l : List Asked). is_moved_in l nav) (sym requests_same) ∙ none) tab.given;
         })
         tab
@@ -260,7 +260,7 @@ module _ (home : ProcId) (run : Option ReqId) (s : Seen) (event : ℕ) (tab : Is
               (each_on (IsMadeThere s.documents) (IsMadeThere (map ready_at s.documents)) (waiting made_ready []) (made_there_again s.documents (map ready_at s.documents) s.places s.places (mapped_made s.documents ready_at (by_nr (λ d. d.nr) (λ d. refl)) (by_nr (λ d. d.nav) (λ d. refl)) ready_more) (same_placed s.places s.places refl))
               (subst (λ (l : List Made). Each (IsMadeThere s.documents) l) (sym (done_waiting home run s event tab job (outcomes.Populated slot) first)) tab.waits));
           ascends = ascends_again home s made_ready [] [] ready_at (by_nr (λ d. d.nr) (λ d. refl)) (λ doc d there is view has. once_ascends d (λ v h. same_ascends (waiting s []) (waiting made_ready []) (desk_of s home) (desk_of made_ready home) same d.nr d.last_applied v.numbered (is v h)) view has) ready_documents tab.ascends;
-          continues = continues_again home s made_ready [] [] (same_shown s made_ready ready_places) (λ nav place doc given there wakes. same_continues (waiting s []) (waiting made_ready []) (desk_of s home) (desk_of made_ready home) same doc given place.epoch) tab.continues;
+          continues = continues_again home s made_ready [] [] (same_shown s made_ready ready_places) refl (λ nav place doc given there wakes has. same_continues (waiting s []) (waiting made_ready []) (desk_of s home) (desk_of made_ready home) same doc given place.epoch) tab.continues;
           given = given_again s made_ready (same_shown s made_ready ready_places) refl (λ nav none. ap (λ (l : List Asked). is_moved_in l nav) (sym requests_same) ∙ none) tab.given;
         })
         tab

@@ -111,7 +111,7 @@ module _ (home : ProcId) (run : Option ReqId) (hand : List Made) (s : Seen) (tab
           unmade = λ doc none. subst (λ (l : List Made). untaken l (desk_of t home) doc ≡ []) (sym waits_are) (none_skip (IsPassed s) doc (untold (waiting s hand) (desk_of s home)) (untold waits (desk_of t home)) skips none);
           waits = subst (λ (l : List Made). Each (IsMadeThere s.documents) l) (sym waits_are) (each_skip (IsPassed s) (IsMadeThere s.documents) (waiting s hand) waits waiting_skips tab.waits);
           ascends = λ doc from to is. subst (λ (l : List Made). Ascend from (filter (λ (made : Made). made.doc.0 == doc.0) (untold l (desk_of t home))) to) (sym waits_are) (ascends_skip (IsPassed s) doc to (untold (waiting s hand) (desk_of s home)) (untold waits (desk_of t home)) skips from is);
-          continues = λ nav place doc given there wakes is. subst (λ (l : List Made). Continues given (coming l (desk_of t home) doc place.epoch)) (sym waits_are) (continues_skip (IsPassed s) doc place.epoch (λ made passed under. passed nav place doc there wakes under) (untold (waiting s hand) (desk_of s home)) (untold waits (desk_of t home)) skips given is);
+          continues = λ nav place doc given there wakes has is. subst (λ (l : List Made). Continues given (coming l (desk_of t home) doc place.epoch)) (sym waits_are) (continues_skip (IsPassed s) doc place.epoch (λ made passed under. passed nav place doc there wakes has under) (untold (waiting s hand) (desk_of s home)) (untold waits (desk_of t home)) skips given is);
           moved = λ nav none. sym (ended_moved nav) ∙ ap (λ (l : List Asked). is_moved_in l nav) (sym are) ∙ none;
         })
         tab

@@ -288,7 +288,7 @@ module _ (home : ProcId) (run : Option ReqId) (hand : List Made) (s : Seen) (eve
               (each_on (IsMadeThere s.documents) (IsMadeThere (map g s.documents)) (waiting finished hand) (made_there_again s.documents (map g s.documents) s.places s.places made_on (same_placed s.places s.places refl))
               (subst (λ (l : List Made). Each (IsMadeThere s.documents) l) (sym waiting_same) tab.waits));
           ascends = ascends_again home s finished hand hand g once.nr ascends_once documents tab.ascends;
-          continues = continues_again home s finished hand hand (same_shown s finished refl) (λ nav place doc given there wakes. same_continues (waiting s hand) (waiting finished hand) (desk_of s home) (desk_of finished home) same doc given place.epoch) tab.continues;
+          continues = continues_again home s finished hand hand (same_shown s finished refl) refl (λ nav place doc given there wakes has. same_continues (waiting s hand) (waiting finished hand) (desk_of s home) (desk_of finished home) same doc given place.epoch) tab.continues;
           given = given_again s finished (same_shown s finished refl) refl (λ nav none. ap (λ (l : List Asked). is_moved_in l nav) (sym finished_requests) ∙ none) tab.given;
         })
         tab

@@ -1,5 +1,5 @@
 -- What a row leaves of what documents made and of what navigables were given, and that all holds after a row that changes requests and one process alone.
-use Rattle.std.proofs.Common.{◌≡◌, ℕ, ◌+◌, ◌==◌, false, List, [], ◌++◌, map, Option, Some, refl, sym, ap, ◌∙◌, subst}
+use Rattle.std.proofs.Common.{◌≡◌, ℕ, ◌+◌, ◌==◌, false, true, List, [], ◌++◌, map, Option, Some, refl, sym, ap, ◌∙◌, subst}
 use Rattle.std.specs.Prelude.{filter, filter_map}
 use Rattle.std.proofs.lemmas.List.{map-id}
 use Rattle.tab_ids.specs.declared.DocId.{DocId}
@@ -72,11 +72,15 @@ pub same_shown : (s t : Seen) → t.places ≡ s.places → AllWereShown s t
 same_shown s t same nav place doc there wakes =
     record { before = place; there = ap (λ (l : List Place). place_in l nav) (sym same) ∙ there; nav_is = refl; status = refl; given = refl; epoch = refl }
 
-pub continues_again : (home : ProcId) (s t : Seen) (hand hand_ : List Made) → AllWereShown s t → ((nav : NavId) (place : Place) (doc : DocId) (given : EntryId) → place_of s nav ≡ Some place → place.status ≡ awake doc → Continues given (coming (waiting s hand) (desk_of s home) doc place.epoch) → Continues given (coming (waiting t hand_) (desk_of t home) doc place.epoch)) → EachContinues home s hand → EachContinues home t hand_
-continues_again home s t hand hand_ were on each nav place doc given there wakes is =
+pub continues_again : (home : ProcId) (s t : Seen) (hand hand_ : List Made) → AllWereShown s t → t.history.rows ≡ s.history.rows → ((nav : NavId) (place : Place) (doc : DocId) (given : EntryId) → place_of s nav ≡ Some place → place.status ≡ awake doc → has_row place.nav s.history.rows ≡ true → Continues given (coming (waiting s hand) (desk_of s home) doc place.epoch) → Continues given (coming (waiting t hand_) (desk_of t home) doc place.epoch)) → EachContinues home s hand → EachContinues home t hand_
+continues_again home s t hand hand_ were same on each nav place doc given there wakes has is =
     let w : WasShown s nav place = were nav place doc there wakes in
     subst (λ (n : Epoch). Continues given (coming (waiting t hand_) (desk_of t home) doc n)) w.epoch
-    (on nav w.before doc given w.there (w.status ∙ wakes) (each nav w.before doc given w.there (w.status ∙ wakes) (w.given ∙ is)))
+    (on nav w.before doc given w.there (w.status ∙ wakes) (before w) (each nav w.before doc given w.there (w.status ∙ wakes) (before w) (w.given ∙ is)))
+  where
+    before : (w : WasShown s nav place) → has_row w.before.nav s.history.rows ≡ true
+    before w =
+        ap (λ (n : NavId). has_row n s.history.rows) (sym w.nav_is) ∙ ap (λ (l : List Row). has_row place.nav l) (sym same) ∙ has
 
 pub target_alike : (rows : List Row) (step : ℕ) (a b : Place) → a.nav ≡ b.nav → a.given ≡ b.given → is_given_target rows step a ≡ is_given_target rows step b
 target_alike rows step a b nav given = rw (nav, given) refl
@@ -105,7 +109,7 @@ pub record Leaves (home : ProcId) (run_ : Option ReqId) (hand hand_ : List Made)
   pub unmade : (doc : DocId) → untaken (waiting s hand) (desk_of s home) doc ≡ [] → untaken (waiting t hand_) (desk_of t home) doc ≡ []
   pub waits : Each (IsMadeThere s.documents) (waiting t hand_)
   pub ascends : (doc : DocId) (from to : ℕ) → Ascend from (untaken (waiting s hand) (desk_of s home) doc) to → Ascend from (untaken (waiting t hand_) (desk_of t home) doc) to
-  pub continues : (nav : NavId) (place : Place) (doc : DocId) (given : EntryId) → place_of s nav ≡ Some place → place.status ≡ awake doc → Continues given (coming (waiting s hand) (desk_of s home) doc place.epoch) → Continues given (coming (waiting t hand_) (desk_of t home) doc place.epoch)
+  pub continues : (nav : NavId) (place : Place) (doc : DocId) (given : EntryId) → place_of s nav ≡ Some place → place.status ≡ awake doc → has_row place.nav s.history.rows ≡ true → Continues given (coming (waiting s hand) (desk_of s home) doc place.epoch) → Continues given (coming (waiting t hand_) (desk_of t home) doc place.epoch)
   pub moved : (nav : NavId) → is_moved_in t.requests nav ≡ false → is_moved_in s.requests nav ≡ false
 
 leaves_goes : (home : ProcId) (run run_ : Option ReqId) (hand hand_ : List Made) (s t : Seen) → Leaves home run_ hand hand_ s t → IsFrameTab home run hand s → Goes home run run_ hand hand_ s t
@@ -129,7 +133,7 @@ leaves_goes home run run_ hand hand_ s t leaves tab =
       unmade = unmade_again home s t hand hand_ (λ d. d) (λ d. refl) (λ doc d found is unready. (let i : (d.last_applied ≡ 0) × (untaken (waiting s hand) (desk_of s home) d.nr ≡ []) = is unready in (i.0, leaves.unmade d.nr i.1))) documents tab.unmade;
       waits = subst (λ (l : List Document). Each (IsMadeThere l) (waiting t hand_)) (sym leaves.documents) leaves.waits;
       ascends = ascends_again home s t hand hand_ (λ d. d) (λ d. refl) (λ doc d found is view has. leaves.ascends d.nr d.last_applied view.numbered (is view has)) documents tab.ascends;
-      continues = continues_again home s t hand hand_ (same_shown s t leaves.places) leaves.continues tab.continues;
+      continues = continues_again home s t hand hand_ (same_shown s t leaves.places) (ap (λ (h : History). h.rows) leaves.history) leaves.continues tab.continues;
       given = given_again s t (same_shown s t leaves.places) leaves.history leaves.moved tab.given;
     }
   where

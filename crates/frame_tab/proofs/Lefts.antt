@@ -138,7 +138,7 @@ module _ (home : ProcId) (run : Option ReqId) (hand : List Made) (s : Seen) (eve
             unmade = same_unmade (waiting s hand) (waiting went hand) (desk_of s home) (desk_of went home) same;
             waits = subst (λ (l : List Made). Each (IsMadeThere s.documents) l) (sym held_same) tab.waits;
             ascends = same_ascends (waiting s hand) (waiting went hand) (desk_of s home) (desk_of went home) same;
-            continues = λ nav place doc given there wakes. same_continues (waiting s hand) (waiting went hand) (desk_of s home) (desk_of went home) same doc given place.epoch;
+            continues = λ nav place doc given there wakes has. same_continues (waiting s hand) (waiting went hand) (desk_of s home) (desk_of went home) same doc given place.epoch;
             moved = λ nav none. sym (more_moved None (requests.Go delta) tt nav) ∙ none;
           })
           tab
@@ -172,7 +172,7 @@ module _ (home : ProcId) (run : Option ReqId) (hand : List Made) (s : Seen) (eve
             unmade = same_unmade (waiting s hand) (waiting strayed hand) (desk_of s home) (desk_of strayed home) same;
             waits = subst (λ (l : List Made). Each (IsMadeThere s.documents) l) (sym held_same) tab.waits;
             ascends = same_ascends (waiting s hand) (waiting strayed hand) (desk_of s home) (desk_of strayed home) same;
-            continues = λ n place doc given there wakes. same_continues (waiting s hand) (waiting strayed hand) (desk_of s home) (desk_of strayed home) same doc given place.epoch;
+            continues = λ n place doc given there wakes has. same_continues (waiting s hand) (waiting strayed hand) (desk_of s home) (desk_of strayed home) same doc given place.epoch;
             moved = λ n none. sym (more_moved None (requests.Poke nav action) fine n) ∙ none;
           })
           tab
@@ -220,7 +220,7 @@ module _ (home : ProcId) (run : Option ReqId) (hand : List Made) (s : Seen) (eve
               unmade = same_unmade (waiting s hand) (waiting reached hand) (desk_of s home) (desk_of reached home) same;
               waits = subst (λ (l : List Made). Each (IsMadeThere s.documents) l) (sym held_same) tab.waits;
               ascends = same_ascends (waiting s hand) (waiting reached hand) (desk_of s home) (desk_of reached home) same;
-              continues = λ n place x given there wakes. same_continues (waiting s hand) (waiting reached hand) (desk_of s home) (desk_of reached home) same x given place.epoch;
+              continues = λ n place x given there wakes has. same_continues (waiting s hand) (waiting reached hand) (desk_of s home) (desk_of reached home) same x given place.epoch;
               moved = λ n none. sym (more_moved (Some doc) (requests.Poke nav action) fine n) ∙ none;
             })
             tab
@@ -263,7 +263,7 @@ module _ (home : ProcId) (run : Option ReqId) (hand : List Made) (s : Seen) (eve
           unmade = same_unmade (waiting s hand) (waiting took_up hand) (desk_of s home) (desk_of took_up home) same;
           waits = subst (λ (l : List Made). Each (IsMadeThere s.documents) l) (sym held_same) tab.waits;
           ascends = same_ascends (waiting s hand) (waiting took_up hand) (desk_of s home) (desk_of took_up home) same;
-          continues = λ nav place doc given there wakes. same_continues (waiting s hand) (waiting took_up hand) (desk_of s home) (desk_of took_up home) same doc given place.epoch;
+          continues = λ nav place doc given there wakes has. same_continues (waiting s hand) (waiting took_up hand) (desk_of s home) (desk_of took_up home) same doc given place.epoch;
           moved = λ nav none. none;
         })
         tab
@@ -344,7 +344,7 @@ module _ (home : ProcId) (hand : List Made) (s : Seen) (event : ℕ) (actor : Ac
         unmade = same_unmade (waiting s hand) (waiting started_ hand) (desk_of s home) (desk_of started_ home) same;
         waits = subst (λ (l : List Made). Each (IsMadeThere s.documents) l) (sym held_same) tab.waits;
         ascends = same_ascends (waiting s hand) (waiting started_ hand) (desk_of s home) (desk_of started_ home) same;
-        continues = λ nav place doc given there_ wakes. same_continues (waiting s hand) (waiting started_ hand) (desk_of s home) (desk_of started_ home) same doc given place.epoch;
+        continues = λ nav place doc given there_ wakes has. same_continues (waiting s hand) (waiting started_ hand) (desk_of s home) (desk_of started_ home) same doc given place.epoch;
         moved = λ nav none. none_moved s.requests nav tab.asked.only;
       })
       tab

@@ -148,7 +148,7 @@ module _ (event : ℕ) (actor : Actor) (entry : EntryId) (state : StateId) (doc 
         unmade = λ n d found. subst (λ (x : Document). HasMadeNothing [] (desk_of opened proc) x) (only_document n d found) (λ never. absurd cc);
         waits = tt;
         ascends = λ n d found. subst (λ (x : Document). Ascends [] (desk_of opened proc) x) (only_document n d found) (λ view has. subst (λ (desk : Desk). Ascend 0 (untaken [] desk doc) view.numbered) (sym own_desk) (omega arith));
-        continues = λ n p x given found wakes is. subst (λ (desk : Desk). Continues given (coming [] desk x p.epoch)) (sym own_desk) tt;
+        continues = λ n p x given found wakes has is. subst (λ (desk : Desk). Continues given (coming [] desk x p.epoch)) (sym own_desk) tt;
         given = λ n p x found wakes has unmoved. subst (λ (y : Place). is_given_target opened.history.rows 0 y ≡ true) (only_place n p found) (rw (nat_eq_refl entry.maker, nat_eq_refl entry.nr) refl);
       }
     where

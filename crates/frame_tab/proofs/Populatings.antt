@@ -308,6 +308,6 @@ module _ (home : ProcId) (run : Option ReqId) (hand : List Made) (s : Seen) (eve
             (each_on (IsMadeThere s.documents) (IsMadeThere (s.documents ++ new ∷ [])) (waiting making hand) (made_there_again s.documents (s.documents ++ new ∷ []) s.places s.places made_on (same_placed s.places s.places refl))
             (subst (λ (l : List Made). Each (IsMadeThere s.documents) l) (sym (sent_waiting home run hand s event actor tab job to)) tab.waits));
         ascends = making_ascends;
-        continues = continues_again home s making hand hand (same_shown s making making_places) (λ nav place doc given there wakes. same_continues (waiting s hand) (waiting making hand) (desk_of s home) (desk_of making home) same doc given place.epoch) tab.continues;
+        continues = continues_again home s making hand hand (same_shown s making making_places) refl (λ nav place doc given there wakes has. same_continues (waiting s hand) (waiting making hand) (desk_of s home) (desk_of making home) same doc given place.epoch) tab.continues;
         given = given_again s making (same_shown s making making_places) refl (λ nav none. ap (λ (l : List Asked). is_moved_in l nav) (sym making_requests) ∙ none) tab.given;
       }

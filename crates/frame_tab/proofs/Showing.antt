@@ -232,8 +232,8 @@ module _ (home : ProcId) (run : Option ReqId) (hand : List Made) (s : Seen) (eve
 
   -- ---- what is coming, and what is given
 
-  continues_shown : (nav : NavId) (p : Place) (doc : DocId) (given : EntryId) → place_of shown nav ≡ Some p → p.status ≡ awake doc → p.given ≡ Some given → Continues given (coming (waiting shown hand) (desk_of shown home) doc p.epoch)
-  continues_shown nav p doc given there wakes_ is =
+  continues_shown : (nav : NavId) (p : Place) (doc : DocId) (given : EntryId) → place_of shown nav ≡ Some p → p.status ≡ awake doc → has_row p.nav s.history.rows ≡ true → p.given ≡ Some given → Continues given (coming (waiting shown hand) (desk_of shown home) doc p.epoch)
+  continues_shown nav p doc given there wakes_ has is =
       let w : WasPlace s wakes_at nav p = was_place s shown wakes_at nav_at shown_places nav p there in
       by_test w.before w.there (w.before.nav.0 == d.nav.0) (w.is)
     where
@@ -252,7 +252,7 @@ module _ (home : ProcId) (run : Option ReqId) (hand : List Made) (s : Seen) (eve
       by_test x at_ false e =
           subst (λ (n : Epoch). Continues given (coming (waiting shown hand) (desk_of shown home) doc n)) (ap (λ (y : Place). y.epoch) e)
           (same_continues (waiting s hand) (waiting shown hand) (desk_of s home) (desk_of shown home) same doc given x.epoch
-          (tab.continues nav x doc given at_ (ap (λ (y : Place). y.status) e ∙ wakes_) (ap (λ (y : Place). y.given) e ∙ is)))
+          (tab.continues nav x doc given at_ (ap (λ (y : Place). y.status) e ∙ wakes_) (ap (λ (y : Place). has_row y.nav s.history.rows) e ∙ has) (ap (λ (y : Place). y.given) e ∙ is)))
 
   moved_then : (nav : NavId) → is_moved_in shown.requests nav ≡ false → is_moved_in s.requests nav ≡ false
   moved_then nav = moved_less run s.requests shown.requests nav tab.asked.only (sent_only home run hand s event actor tab job to) on

@@ -10,6 +10,7 @@ use Rattle.log_model.specs.declared.made.Made.{Made}
 use Rattle.log_model.specs.declared.made.What.{What}
 use Rattle.log_model.specs.declared.made.What.TheVariants as whats
 use Rattle.log_model.specs.Equal.{has_req}
+use Rattle.log_model.specs.History.{has_row}
 use Rattle.log_model.specs.AfterRequests.{without_req}
 use Rattle.log_model.specs.Seen.{Seen, Asked, Place, awake, place_of, request_in}
 use Rattle.coord_facts.specs.Leading.{is_made_under, held_back}
@@ -128,10 +129,10 @@ module _ (P : Made → Type 0) (doc : DocId) (epoch : Epoch) (passes : (made : M
 
 -- ---- what goes as a request ends
 
--- it is no entry of a document that is shown under the epoch in which it was made
+-- it is no entry of a document that is shown, in a navigable with a row, under the epoch in which it was made
 abbrev pub IsPassed : Seen → Made → Type 0
 IsPassed s made =
-    (nav : NavId) (place : Place) (doc : DocId) → place_of s nav ≡ Some place → place.status ≡ awake doc → is_made_under doc place.epoch made ≡ true → IsNoEntry made.what
+    (nav : NavId) (place : Place) (doc : DocId) → place_of s nav ≡ Some place → place.status ≡ awake doc → has_row place.nav s.history.rows ≡ true → is_made_under doc place.epoch made ≡ true → IsNoEntry made.what
 
 -- what was made of a request
 abbrev pub made_in : List Asked → ReqId → Option Made

@@ -15,7 +15,7 @@ use Rattle.hang_facts.specs.Forms.{Form}
 use Rattle.hang_facts.specs.Hanging.{BeginsBy, HangIn}
 use Rattle.hang_facts.specs.Members.{Has}
 use Rattle.hang_facts.proofs.Forms.{nav_is}
-use Rattle.hang_facts.proofs.Members.{IsOf, Passing, has_filter, into_filter, has_map, into_map, has_more, into_more, any_has, has_tidied, into_tidied}
+use Rattle.hang_facts.proofs.Members.{IsOf, Passing, has_filter, into_filter, has_map, into_map, has_more, into_more, any_has, has_any, has_tidied, into_tidied}
 use Rattle.hang_facts.proofs.Parts.{owner_is}
 use Rattle.rest_facts.proofs.Again.{WasOf, was_of}
 use Rattle.frame_tab.specs.Numbers.{EachBegins, IsOfGivenState, IsOfItsRows, AreListed, AreStated}
@@ -26,6 +26,13 @@ pub record WasRow (rows : List Row) (row : Row) : Type 0 where
   pub there : Has rows old
   pub nav : row.nav ≡ old.nav
   pub state : row.state ≡ old.state
+
+-- a navigable with a row had one, where each row was there
+pub rows_were : (rows new : List Row) → ((row : Row) → Has new row → WasRow rows row) → (nav : NavId) → has_row nav new ≡ true → has_row nav rows ≡ true
+rows_were rows new were nav has =
+    let a : Passing (is_of nav) new = any_has (is_of nav) new has in
+    let w : WasRow rows a.it = were a.it a.there in
+    has_any (is_of nav) rows w.old w.there (ap (λ (n : NavId). n.0 == nav.0) (sym w.nav) ∙ a.passes)
 
 pub itself_was : (rows : List Row) (row : Row) → Has rows row → WasRow rows row
 itself_was rows row there = record { old = row; there = there; nav = refl; state = refl }

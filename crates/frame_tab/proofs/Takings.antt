@@ -20,7 +20,7 @@ use Rattle.log_model.specs.declared.outcome.Ending.TheVariants as endings
 use Rattle.log_model.specs.declared.row_kind.Actor.{Actor}
 use Rattle.log_model.specs.declared.row_kind.RowKind.TheVariants as rows
 use Rattle.log_model.specs.Equal.{holds}
-use Rattle.log_model.specs.History.{owner_of}
+use Rattle.log_model.specs.History.{has_row, owner_of}
 use Rattle.log_model.specs.After.{ended}
 use Rattle.log_model.specs.AfterDocuments.{told_after_change, applied_to, with_applied}
 use Rattle.log_model.specs.AfterRequests.{entries_taken}
@@ -28,6 +28,7 @@ use Rattle.log_model.specs.Once.{change_of_made}
 use Rattle.log_model.specs.Seen.{Seen, Document, Place, awake, desk_of, document_of, place_of}
 use Rattle.coord_facts.specs.Leading.{is_made_under, coming}
 use Rattle.coord_facts.proofs.Unread.{next}
+use Rattle.seen_laws.proofs.Keyed.{find_has}
 use Rattle.plain_tab.specs.Calm.{EachAsked, is_run, is_this}
 use Rattle.plain_tab.specs.Flow.{Ascend, Continues, number_after, entry_after}
 use Rattle.plain_tab.specs.Sole.{Each}
@@ -48,6 +49,11 @@ use Rattle.frame_tab.proofs.Arrived.{mapped_made}
 
 some_same : {A : Type 0} {a b : A} → (let o : Option A = Some a in o) ≡ Some b → a ≡ b
 some_same e = cc
+
+-- a navigable's place is its own
+pub place_nav : (s : Seen) (nav : NavId) (place : Place) → place_of s nav ≡ Some place → place.nav ≡ nav
+place_nav s nav place there =
+    ap (λ (n : ℕ). let x : NavId = record { 0 = n } in x) (find_has (λ (x : Place). x.nav.0) nav.0 s.places place there)
 
 -- ---- the requests
 
@@ -241,6 +247,7 @@ pub record IsTaking (home : ProcId) (run : Option ReqId) (hand hand_ : List Made
   pub keep : KeepPlaces s t
   pub placed : AllStayPlaced s.places t.places
   pub were : (nav : NavId) (place : Place) (doc : DocId) → place_of t nav ≡ Some place → place.status ≡ awake doc → WasTaken s made nav place doc
+  pub had_row : (nav : NavId) (place : Place) (doc : DocId) → place_of t nav ≡ Some place → place.status ≡ awake doc → has_row place.nav t.history.rows ≡ true → has_row place.nav s.history.rows ≡ true
 
 module _ (home : ProcId) (run : Option ReqId) (hand hand_ : List Made) (s : Seen) (event : ℕ) (actor : Actor) (tab : IsFrameTab home run hand s) (req : ReqId) (change : Change) (made : Made) (d : Document) (taking : IsTaking home run hand hand_ s (next s event actor (rows.Applied req change)) req change made d) where
   abbrev pub taken : Seen
@@ -303,8 +310,8 @@ module _ (home : ProcId) (run : Option ReqId) (hand hand_ : List Made) (s : Seen
           subst (λ (n : ℕ). Ascend n (untaken (waiting taken hand_) (desk_of taken home) x.nr) view.numbered) (sym (taken_is.other x e))
           (subst (λ (l : List Made). Ascend x.last_applied l view.numbered) (sym (others_same (untold (waiting s hand) (desk_of s home)) made (untold (waiting taken hand_) (desk_of s home)) taking.list x.nr (turned x false e))) old)
 
-  continues_taken : (nav : NavId) (place : Place) (doc : DocId) (given : EntryId) → place_of taken nav ≡ Some place → place.status ≡ awake doc → place.given ≡ Some given → Continues given (coming (waiting taken hand_) (desk_of taken home) doc place.epoch)
-  continues_taken nav place doc given there wakes is =
+  continues_taken : (nav : NavId) (place : Place) (doc : DocId) (given : EntryId) → place_of taken nav ≡ Some place → place.status ≡ awake doc → has_row place.nav taken.history.rows ≡ true → place.given ≡ Some given → Continues given (coming (waiting taken hand_) (desk_of taken home) doc place.epoch)
+  continues_taken nav place doc given there wakes has is =
       by_test (made.doc.0 == doc.0) refl
     where
       w : WasTaken s made nav place doc
@@ -313,8 +320,16 @@ module _ (home : ProcId) (run : Option ReqId) (hand hand_ : List Made) (s : Seen
       o : (old : EntryId) × (w.before.given ≡ Some old) × (given ≡ (if made.doc.0 == doc.0 then entry_after old made.what else old))
       o = w.given given is
 
+      navs : (taking.were nav place doc there wakes).before.nav ≡ place.nav
+      navs =
+          place_nav s nav (taking.were nav place doc there wakes).before (taking.were nav place doc there wakes).there ∙ sym (place_nav taken nav place there)
+
+      before : has_row (taking.were nav place doc there wakes).before.nav s.history.rows ≡ true
+      before =
+          ap (λ (n : NavId). has_row n s.history.rows) navs ∙ taking.had_row nav place doc there wakes has
+
       old : Continues o.0 (coming (waiting s hand) (desk_of s home) doc place.epoch)
-      old = subst (λ (n : Epoch). Continues o.0 (coming (waiting s hand) (desk_of s home) doc n)) w.epoch (tab.continues nav w.before doc o.0 w.there w.status o.1)
+      old = subst (λ (n : Epoch). Continues o.0 (coming (waiting s hand) (desk_of s home) doc n)) w.epoch (tab.continues nav w.before doc o.0 w.there w.status before o.1)
 
       by_test : (b : Bool) → (made.doc.0 == doc.0) ≡ b → Continues given (coming (waiting taken hand_) (desk_of taken home) doc place.epoch)
       by_test true e =

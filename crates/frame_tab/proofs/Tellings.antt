@@ -129,7 +129,7 @@ module _ (home : ProcId) (run : Option ReqId) (hand : List Made) (s : Seen) (eve
               (each_on (IsMadeThere s.documents) (IsMadeThere (map told_at s.documents)) (waiting after_sent hand) (made_there_again s.documents (map told_at s.documents) s.places s.places made_on (same_placed s.places s.places refl))
               (subst (λ (l : List Made). Each (IsMadeThere s.documents) l) (sym (sent_waiting home run hand s event actor tab job to)) tab.waits));
           ascends = ascends_again home s after_sent hand hand told_at (by_nr (λ x. x.nr) (λ x. refl)) (λ doc x there is. once_ascends x (λ view has. same_ascends (waiting s hand) (waiting after_sent hand) (desk_of s home) (desk_of after_sent home) same x.nr x.last_applied view.numbered (is view has))) told_documents tab.ascends;
-          continues = continues_again home s after_sent hand hand (same_shown s after_sent told_places) (λ nav place doc given there wakes. same_continues (waiting s hand) (waiting after_sent hand) (desk_of s home) (desk_of after_sent home) same doc given place.epoch) tab.continues;
+          continues = continues_again home s after_sent hand hand (same_shown s after_sent told_places) refl (λ nav place doc given there wakes has. same_continues (waiting s hand) (waiting after_sent hand) (desk_of s home) (desk_of after_sent home) same doc given place.epoch) tab.continues;
           given = given_again s after_sent (same_shown s after_sent told_places) refl (λ nav none_. ap (λ (l : List Asked). is_moved_in l nav) (sym told_requests) ∙ none_) tab.given;
         })
         tab
@@ -137,9 +137,9 @@ module _ (home : ProcId) (run : Option ReqId) (hand : List Made) (s : Seen) (eve
         once_ascends : (x : Document) → Ascends (waiting after_sent hand) (desk_of after_sent home) x → Ascends (waiting after_sent hand) (desk_of after_sent home) (told_at x)
         once_ascends x is = elim (x.nr.0 == job.doc.0) as (λ b. Ascends (waiting after_sent hand) (desk_of after_sent home) (cond b (told x) x)) [ true ↦ is | false ↦ is ]
 
-  -- ---- a discard: of a document of a navigable without entries
+  -- ---- a discard: of a document of a navigable without entries, for no traversal or where nobody falls asleep
 
-  module _ (task : job.task ≡ tasks.Discard) (bare : (nav : NavId) → has_nav (sleepers_with s job.doc) nav ≡ true → has_row nav s.history.rows ≡ false) (apart : (req : ReqId) (q : Asked) → job.why ≡ whys.Req req → request_in s.requests req ≡ Some q → is_traversal q.what ≡ false) where
+  module _ (task : job.task ≡ tasks.Discard) (bare : (nav : NavId) → has_nav (sleepers_with s job.doc) nav ≡ true → has_row nav s.history.rows ≡ false) (apart : (req : ReqId) (q : Asked) → job.why ≡ whys.Req req → request_in s.requests req ≡ Some q → (is_traversal q.what ≡ false) ⊎ (sleepers_with s job.doc ≡ [])) where
     abbrev gone : Document → Document
     gone x = record x { is_discarded = true }
 
@@ -239,6 +239,11 @@ module _ (home : ProcId) (run : Option ReqId) (hand : List Made) (s : Seen) (eve
             either x (inl e) h = ap (λ (y : Asked). has_nav y.moved nav) (sym e) ∙ h
             either x (inr e) h = in_front (sleepers_with s job.doc) q.moved nav (ap (λ (y : Asked). has_nav y.moved nav) (sym e) ∙ h)
 
+    -- a traversal for which nobody falls asleep moves nobody
+    moves_none : (q : Asked) → is_traversal q.what ≡ true → q.moved ≡ q.activated → (is_traversal q.what ≡ false) ⊎ (sleepers_with s job.doc ≡ []) → (request_served s job tasks.Discard q).moved ≡ (request_served s job tasks.Discard q).activated
+    moves_none q goes is (inl no_) = (let never : true ≡ false = sym goes ∙ no_ in absurd cc)
+    moves_none q goes is (inr none) = ap (λ (l : List NavId). l ++ q.moved) none ∙ is
+
     pub discarded_framed : IsFrameTab home run hand after_sent
     discarded_framed =
         goes_tab home run run hand hand s after_sent
@@ -255,7 +260,7 @@ module _ (home : ProcId) (run : Option ReqId) (hand : List Made) (s : Seen) (eve
           entries = refl;
           initial = refl;
           asked = sent_asked home run hand s event actor tab job to
-              (subst (λ (l : List Asked). EachAsked IsPlainlyAsked l) (sym gone_requests) (plain_moved s.requests job.why (request_served s job tasks.Discard) (λ q. refl) (λ req q why there goes is. (let never : true ≡ false = sym goes ∙ apart req q why there in absurd cc)) tab.asked.each))
+              (subst (λ (l : List Asked). EachAsked IsPlainlyAsked l) (sym gone_requests) (plain_moved s.requests job.why (request_served s job tasks.Discard) (λ q. refl) (λ req q why there goes is. moves_none q goes is (apart req q why there)) tab.asked.each))
               (ap (λ (t : Task). kept_sent s job.doc t) task ∙ ap (λ (l : List DocId). without_doc job.doc l) tab.asked.kept);
           steady = steady_mapped s after_sent sleeps (record { nav = by_nav (λ p. p.nav) (λ p. refl); steady = steady_sleeps }) gone_places tab.steady;
           desks =
@@ -273,7 +278,7 @@ module _ (home : ProcId) (run : Option ReqId) (hand : List Made) (s : Seen) (eve
               (each_on (IsMadeThere s.documents) (IsMadeThere (map gone_at s.documents)) (waiting after_sent hand) (made_there_again s.documents (map gone_at s.documents) s.places s.places made_on_ (same_placed s.places s.places refl))
               (subst (λ (l : List Made). Each (IsMadeThere s.documents) l) (sym (sent_waiting home run hand s event actor tab job to)) tab.waits));
           ascends = ascends_again home s after_sent hand hand gone_at (by_nr_ (λ x. x.nr) (λ x. refl)) (λ doc x there is. once_ascends x (λ view has. same_ascends (waiting s hand) (waiting after_sent hand) (desk_of s home) (desk_of after_sent home) same_ x.nr x.last_applied view.numbered (is view has))) gone_documents tab.ascends;
-          continues = continues_again home s after_sent hand hand were (λ nav place doc given there wakes. same_continues (waiting s hand) (waiting after_sent hand) (desk_of s home) (desk_of after_sent home) same_ doc given place.epoch) tab.continues;
+          continues = continues_again home s after_sent hand hand were refl (λ nav place doc given there wakes has. same_continues (waiting s hand) (waiting after_sent hand) (desk_of s home) (desk_of after_sent home) same_ doc given place.epoch) tab.continues;
           given = given_again s after_sent were refl moved_then tab.given;
         })
         tab

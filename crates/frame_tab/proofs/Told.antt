@@ -148,7 +148,7 @@ module _ (home : ProcId) (run : Option ReqId) (s : Seen) (event : ℕ) (tab : Is
         unmade = same_unmade (waiting s []) (waiting told_of hand_) (desk_of s home) (desk_of told_of home) same;
         waits = waits;
         ascends = same_ascends (waiting s []) (waiting told_of hand_) (desk_of s home) (desk_of told_of home) same;
-        continues = λ nav place doc given there wakes. same_continues (waiting s []) (waiting told_of hand_) (desk_of s home) (desk_of told_of home) same doc given place.epoch;
+        continues = λ nav place doc given there wakes has. same_continues (waiting s []) (waiting told_of hand_) (desk_of s home) (desk_of told_of home) same doc given place.epoch;
         moved = λ nav none. ap (λ (l : List Asked). is_moved_in l nav) (sym told_requests) ∙ none;
       })
       tab
@@ -229,7 +229,7 @@ module _ (home : ProcId) (run : Option ReqId) (s : Seen) (event : ℕ) (tab : Is
         unmade = λ doc is. none_skip IsThis doc (untold (waiting s []) (desk_of s home)) (untold (waiting told_of []) (desk_of told_of home)) skips is;
         waits = subst (λ (l : List Made). Each (IsMadeThere s.documents) l) (sym held_same) tab.waits;
         ascends = λ doc from to is. ascends_skip IsThis doc to (untold (waiting s []) (desk_of s home)) (untold (waiting told_of []) (desk_of told_of home)) skips from is;
-        continues = λ nav place doc given there wakes is. continues_skip IsThis doc place.epoch (λ x it under. it) (untold (waiting s []) (desk_of s home)) (untold (waiting told_of []) (desk_of told_of home)) skips given is;
+        continues = λ nav place doc given there wakes has is. continues_skip IsThis doc place.epoch (λ x it under. it) (untold (waiting s []) (desk_of s home)) (untold (waiting told_of []) (desk_of told_of home)) skips given is;
         moved = λ nav none_. ap (λ (l : List Asked). is_moved_in l nav) (sym told_requests) ∙ none_;
       })
       tab
@@ -398,7 +398,7 @@ module _ (home : ProcId) (run : Option ReqId) (s : Seen) (event : ℕ) (tab : Is
           unmade = same_unmade (waiting s []) (waiting done_of []) (desk_of s home) (desk_of done_of home) done_same;
           waits = subst (λ (l : List Made). Each (IsMadeThere s.documents) l) (sym done_waiting) tab.waits;
           ascends = same_ascends (waiting s []) (waiting done_of []) (desk_of s home) (desk_of done_of home) done_same;
-          continues = λ nav place doc given there wakes. same_continues (waiting s []) (waiting done_of []) (desk_of s home) (desk_of done_of home) done_same doc given place.epoch;
+          continues = λ nav place doc given there wakes has. same_continues (waiting s []) (waiting done_of []) (desk_of s home) (desk_of done_of home) done_same doc given place.epoch;
           moved = λ nav none. ap (λ (l : List Asked). is_moved_in l nav) (sym done_requests) ∙ none;
         })
         tab

@@ -139,7 +139,7 @@ module _ (home : ProcId) (hand : List Made) (s : Seen) (event : ℕ) (actor : Ac
         unmade = unmade_again home s traversed hand hand (λ d. d) (λ d. refl) (λ doc d found is unready. (let i : (d.last_applied ≡ 0) × (untaken (waiting s hand) (desk_of s home) d.nr ≡ []) = is unready in (i.0, same_unmade (waiting s hand) (waiting traversed hand) (desk_of s home) (desk_of traversed home) same d.nr i.1))) documents_same tab.unmade;
         waits = subst (λ (l : List Document). Each (IsMadeThere l) (waiting traversed hand)) (sym documents_id) (subst (λ (l : List Made). Each (IsMadeThere s.documents) l) (sym waiting_same) tab.waits);
         ascends = ascends_again home s traversed hand hand (λ d. d) (λ d. refl) (λ doc d found is view has. same_ascends (waiting s hand) (waiting traversed hand) (desk_of s home) (desk_of traversed home) same d.nr d.last_applied view.numbered (is view has)) documents_same tab.ascends;
-        continues = continues_again home s traversed hand hand (same_shown s traversed places_same) (λ nav place doc given there wakes. same_continues (waiting s hand) (waiting traversed hand) (desk_of s home) (desk_of traversed home) same doc given place.epoch) tab.continues;
+        continues = continues_again home s traversed hand hand (same_shown s traversed places_same) refl (λ nav place doc given there wakes has. same_continues (waiting s hand) (waiting traversed hand) (desk_of s home) (desk_of traversed home) same doc given place.epoch) tab.continues;
         given = λ nav place doc there wakes has unmoved. stand nav place doc (ap (λ (l : List Place). place_in l nav) (sym places_same) ∙ there) wakes has;
       }
     where

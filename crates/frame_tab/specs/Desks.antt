@@ -15,6 +15,7 @@ use Rattle.log_model.specs.declared.made.Report.{Report}
 use Rattle.log_model.specs.declared.made.Report.TheVariants as reports
 use Rattle.log_model.specs.declared.request.Poke.{Poke}
 use Rattle.log_model.specs.Views.{View, next_entry}
+use Rattle.log_model.specs.History.{has_row}
 use Rattle.log_model.specs.AfterRequests.{made_of_report}
 use Rattle.log_model.specs.Seen.{Seen, Document, Desk, Place, awake, desk_of, place_in, place_of}
 use Rattle.coord_facts.specs.Leading.{orders_of_desk, coming, held_back}
@@ -149,7 +150,7 @@ EachHasMadeNothing home s hand = EachThere (HasMadeNothing (waiting s hand) (des
 abbrev pub EachWaits : Seen → List Made → Type 0
 EachWaits s hand = Each (IsMadeThere s.documents) (waiting s hand)
 
--- of each awake navigable's document, each replace that is coming is of the entry before it, from the given one on
+-- of the document of each awake navigable that has a row, each replace that is coming is of the entry before it, from the given one on
 abbrev pub EachContinues : ProcId → Seen → List Made → Type 0
 EachContinues home s hand =
-    (nav : NavId) (place : Place) (doc : DocId) (given : EntryId) → place_of s nav ≡ Some place → place.status ≡ awake doc → place.given ≡ Some given → Continues given (coming (waiting s hand) (desk_of s home) doc place.epoch)
+    (nav : NavId) (place : Place) (doc : DocId) (given : EntryId) → place_of s nav ≡ Some place → place.status ≡ awake doc → has_row place.nav s.history.rows ≡ true → place.given ≡ Some given → Continues given (coming (waiting s hand) (desk_of s home) doc place.epoch)

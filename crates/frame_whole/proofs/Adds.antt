@@ -5,12 +5,12 @@ use Rattle.coord_facts.proofs.Applied.{WereThere}
 use Rattle.coord_facts.proofs.Leadings.{doc_same}
 use Rattle.coord_facts.proofs.Unread.{next}
 use Rattle.coord_facts.specs.Leading.{Face}
-use Rattle.frame_tab.proofs.Adding.{added_framed}
+use Rattle.frame_tab.proofs.Adding.{added_framed, any_other}
 use Rattle.frame_tab.proofs.Applying.{IsToTake}
 use Rattle.frame_tab.proofs.Changing.{IsMadeHere}
 use Rattle.frame_tab.proofs.Desking.{AllStayPlaced}
 use Rattle.frame_tab.proofs.Skips.{IsNoEntry, without_made}
-use Rattle.frame_tab.proofs.Takings.{WasTaken}
+use Rattle.frame_tab.proofs.Takings.{WasTaken, place_nav}
 use Rattle.frame_tab.specs.Numbers.{IsNumbered}
 use Rattle.frame_tab.specs.Whole.{IsFrameTab}
 use Rattle.frame_whole.proofs.FlowsEnds.{face_stays, no_push}
@@ -275,6 +275,20 @@ module _ (home : ProcId) (run : Option ReqId) (hand : List Made) (s : Seen) (eve
       let was = there_before of place placed i row at (sym given ∙ ap (λ (x : EntryId). Some x) (sym same)) in
       shows was.0 row was.1 same
 
+  -- one that has a place is another one
+  another : (of : NavId) (p : Place) → place_of s of ≡ Some p → (nav.0 == p.nav.0) ≡ false
+  another of p placed = by_test (nav.0 == p.nav.0) refl
+    where
+      by_test : (b : Bool) → (nav.0 == p.nav.0) ≡ b → (nav.0 == p.nav.0) ≡ false
+      by_test false e = e
+      by_test true e =
+          let same : nav ≡ of = nav_is nav p.nav e ∙ place_nav s of p placed in
+          let never : None ≡ Some p = sym unused ∙ (ap (λ (n : NavId). place_of s n) same ∙ placed) in absurd cc
+
+  -- which has a row where it had one
+  others_rows : (of : NavId) → (nav.0 == of.0) ≡ false → has_row of added.history.rows ≡ has_row of s.history.rows
+  others_rows of apart = any_other (is_of of) s.history.rows frame_row apart
+
   taken_up : IsTakenUp home hand rest s added made (λ x. x)
   taken_up =
       record {
@@ -289,6 +303,7 @@ module _ (home : ProcId) (run : Option ReqId) (hand : List Made) (s : Seen) (eve
         push_told = λ push. absurd (let never : true ≡ false = sym push ∙ no_push made none in cc);
         list = take_list home run hand s event actor tab req q made change there makes first;
         were = were;
+        had_row = λ of place doc placed wakes has. sym (others_rows place.nav (another of place (old_awake of place doc placed wakes))) ∙ has;
         gave = λ of place doc placed wakes. (framed.steady of place placed).gave doc wakes;
         had = had_by home s added tab.framed.documents stay;
         homes = λ doc x found. (tab.framed.documents doc x found).alive.proc;

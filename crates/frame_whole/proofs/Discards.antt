@@ -1,4 +1,4 @@
--- All that holds between two rows holds after a document is discarded whose document state has no entry.
+-- All that holds between two rows holds after a document is discarded whose document state has no entry: for no traversal, or where nobody falls asleep.
 use Rattle.coord_facts.proofs.Kept.{IsSentHome}
 use Rattle.hang_facts.proofs.Members.{find_has as found_has}  -- keep
 use Rattle.coord_facts.proofs.Leadings.{doc_same}
@@ -34,7 +34,7 @@ use Rattle.rest_facts.proofs.Orders.{discarded_rests}
 use Rattle.rest_facts.proofs.Stands.{get_of}
 use Rattle.rest_facts.specs.Resting.{is_swept}
 use Rattle.seen_laws.proofs.Keyed.{find_has, find_on_same}
-use Rattle.std.proofs.Common.{Bool, List, None, Option, Some, [], ap, false, inl, inr, map, not, refl, subst, sym, true, ℕ, ◌&&◌, ◌==◌, ◌||◌, ◌∙◌, ◌∷◌, ◌≡◌}
+use Rattle.std.proofs.Common.{Bool, List, None, Option, Some, [], ap, false, inl, inr, map, not, refl, subst, sym, true, ℕ, ◌&&◌, ◌==◌, ◌||◌, ◌∙◌, ◌∷◌, ◌≡◌, ◌⊎◌}
 use Rattle.std.specs.Option.{option_map_or}
 use Rattle.std.specs.Prelude.{filter, find, option_map}
 use Rattle.tab_ids.specs.declared.DocId.{DocId}
@@ -113,7 +113,7 @@ module _ (home : ProcId) (run : Option ReqId) (hand : List Made) (s : Seen) (tab
 
 -- ---- the row
 
-module _ (home : ProcId) (run : Option ReqId) (hand : List Made) (s : Seen) (event : ℕ) (actor : Actor) (tab : IsTab home run hand s) (job : Job) (to : job.proc ≡ home) (first : job.incarnation ≡ 0) (d : Document) (by : ReqId) (r : Asked) (task : job.task ≡ tasks.Discard) (found : document_of s job.doc ≡ Some d) (ready : d.is_ready ≡ true) (gone : has_state d.state s.history.rows ≡ false) (why : job.why ≡ whys.Req by) (there : request_of s by ≡ Some r) (stays : is_traversal r.what ≡ false) where
+module _ (home : ProcId) (run : Option ReqId) (hand : List Made) (s : Seen) (event : ℕ) (actor : Actor) (tab : IsTab home run hand s) (job : Job) (to : job.proc ≡ home) (first : job.incarnation ≡ 0) (d : Document) (task : job.task ≡ tasks.Discard) (found : document_of s job.doc ≡ Some d) (ready : d.is_ready ≡ true) (gone : has_state d.state s.history.rows ≡ false) where
   abbrev pub discarded : Seen
   discarded = next s event actor (rows.Sent job)
 
@@ -180,15 +180,6 @@ module _ (home : ProcId) (run : Option ReqId) (hand : List Made) (s : Seen) (eve
           by_own true same k = ap (λ (n : NavId). has_row n s.history.rows) (sym (nav_is place.nav nav same) ∙ shower_nav place e) ∙ bare_nav
           by_own false apart k = below place (shower_nav place e) k
 
-  apart : (req : ReqId) (q : Asked) → job.why ≡ whys.Req req → request_in s.requests req ≡ Some q → is_traversal q.what ≡ false
-  apart req q is at =
-      let same : by ≡ req = whys_same by req (sym why ∙ is) in
-      let one : r ≡ q = some_same (sym there ∙ (ap (λ (x : ReqId). request_in s.requests x) same ∙ at)) in
-      ap (λ (x : Asked). is_traversal x.what) (sym one) ∙ stays
-    where
-      whys_same : (a b : ReqId) → whys.Req a ≡ whys.Req b → a ≡ b
-      whys_same a b e = cc
-
   -- another document that falls asleep is of a state without entries, too
   unswept : (nav : NavId) (place : Place) (doc : DocId) (x : Document) → place_of s nav ≡ Some place → place.status ≡ awake doc → has_nav (sleepers_with s job.doc) place.nav ≡ true → document_of s doc ≡ Some x → (doc.0 == job.doc.0) ≡ false → is_swept s x ≡ false
   unswept nav place doc x placed wakes sleeps at other =
@@ -209,10 +200,11 @@ module _ (home : ProcId) (run : Option ReqId) (hand : List Made) (s : Seen) (eve
   sent_ : IsSentHome s job
   sent_ = sent_home home run hand s job tab.framed to first
 
-  pub discard_tab : IsTab home run hand discarded
-  discard_tab =
+  -- for no traversal, or where nobody falls asleep
+  pub away_tab : ((req : ReqId) (q : Asked) → job.why ≡ whys.Req req → request_in s.requests req ≡ Some q → (is_traversal q.what ≡ false) ⊎ (sleepers_with s job.doc ≡ [])) → IsTab home run hand discarded
+  away_tab moves =
       record {
-        framed = discarded_framed home run hand s event actor tab.framed job to first d found ready task bare apart;
+        framed = discarded_framed home run hand s event actor tab.framed job to first d found ready task bare moves;
         sound = tab.sound;
         hangs = left_hangs s event actor tab.hangs (rows.Sent job) tt;
         homes = discarded_homed s event actor job tab.sound tab.hangs tab.homes task;
@@ -223,3 +215,39 @@ module _ (home : ProcId) (run : Option ReqId) (hand : List Made) (s : Seen) (eve
         once = sent_once s (map (λ (made : Made). made.req) hand) event actor job tab.once;
         known = sent_known s event actor job tab.known;
       }
+
+  -- nobody falls asleep
+  pub unslept_tab : sleepers_with s job.doc ≡ [] → IsTab home run hand discarded
+  unslept_tab none = away_tab (λ req q why there. inr none)
+
+  -- the request that the order is for is no traversal
+  module _ (by : ReqId) (r : Asked) (why : job.why ≡ whys.Req by) (there : request_of s by ≡ Some r) (stays : is_traversal r.what ≡ false) where
+    apart : (req : ReqId) (q : Asked) → job.why ≡ whys.Req req → request_in s.requests req ≡ Some q → is_traversal q.what ≡ false
+    apart req q is at =
+        let same : by ≡ req = whys_same by req (sym why ∙ is) in
+        let one : r ≡ q = some_same (sym there ∙ (ap (λ (x : ReqId). request_in s.requests x) same ∙ at)) in
+        ap (λ (x : Asked). is_traversal x.what) (sym one) ∙ stays
+      where
+        whys_same : (a b : ReqId) → whys.Req a ≡ whys.Req b → a ≡ b
+        whys_same a b e = cc
+
+    pub apart_tab : IsTab home run hand discarded
+    apart_tab = away_tab (λ req q is at. inl (apart req q is at))
+
+-- for no traversal
+pub discard_tab : (home : ProcId) (run : Option ReqId) (hand : List Made) (s : Seen) (event : ℕ) (actor : Actor) → (tab : IsTab home run hand s) → (job : Job) → job.proc ≡ home → job.incarnation ≡ 0 → (d : Document) (by : ReqId) (r : Asked) → job.task ≡ tasks.Discard → document_of s job.doc ≡ Some d → d.is_ready ≡ true → has_state d.state s.history.rows ≡ false → job.why ≡ whys.Req by → request_of s by ≡ Some r → is_traversal r.what ≡ false → IsTab home run hand (next s event actor (rows.Sent job))
+discard_tab home run hand s event actor tab job to first d by r task found ready gone why there stays =
+    apart_tab home run hand s event actor tab job to first d task found ready gone by r why there stays
+
+-- nobody falls asleep with a document that no navigable is awake on
+pub none_sleeps : (s : Seen) (doc : DocId) → ((place : Place) → Has s.places place → place.status ≡ awake doc → ⊥) → sleepers_with s doc ≡ []
+none_sleeps s doc unused = by_shower (shower_of s doc) refl
+  where
+    awake_is : (st : Status) (place : Place) → is_awake_on doc (record place { status = st }) ≡ true → st ≡ awake doc
+    awake_is (awake x) place e = ap (λ (y : DocId). awake y) (doc_same x doc e)
+    awake_is asleep place e = absurd cc
+    awake_is lost place e = absurd cc
+
+    by_shower : (o : Option Place) → shower_of s doc ≡ o → sleepers_with s doc ≡ []
+    by_shower None e = rw e refl
+    by_shower (Some place) e = (let f = found_has (is_awake_on doc) s.places place e in absurd (unused place f.0 (awake_is place.status place f.1)))

@@ -15,6 +15,7 @@ use Rattle.log_model.proofs.Refl.{nat_eq_refl}
 use Rattle.log_model.specs.AfterRequests.{without_req}
 use Rattle.log_model.specs.Causes.{denial_at_delivery}
 use Rattle.log_model.specs.Equal.{has_req, holds}
+use Rattle.log_model.specs.History.{has_row}
 use Rattle.log_model.specs.Places.{is_awake, is_load, is_present}
 use Rattle.log_model.specs.Seen.{Asked, Document, Place, Seen, document_of, place_of, request_in, request_of}
 use Rattle.log_model.specs.declared.made.Made.{Made}
@@ -99,7 +100,7 @@ reqs_without req (made ∷ hand) = by_test (made.req.0 == req.0) (reqs_without r
 
 -- what was made and isn't present is no entry of a document that is shown
 pub absent_passed : (s : Seen) (made : Made) → AreHomed s → is_present s made ≡ false → IsPassed s made
-absent_passed s made homes absent nav place doc placed wakes under = absurd (let no_ : true ≡ false = sym present ∙ absent in cc)
+absent_passed s made homes absent nav place doc placed wakes has under = absurd (let no_ : true ≡ false = sym present ∙ absent in cc)
   where
     split : (a b : Bool) → (a && b) ≡ true → (a ≡ true) × (b ≡ true)
     split true b e = (refl, e)
@@ -125,6 +126,27 @@ absent_passed s made homes absent nav place doc placed wakes under = absurd (let
         ∙ ap (λ (b : Bool). b && place.epoch.0 == made.epoch.0) (let is : is_awake place ≡ true = rw wakes refl in is)
         ∙ ap (λ (n : ℕ). place.epoch.0 == n) epochs
         ∙ nat_eq_refl place.epoch.0
+
+-- nor is what was made by a document whose navigable has no row
+pub bare_passed : (s : Seen) (made : Made) (d : Document) → AreHomed s → document_of s made.doc ≡ Some d → has_row d.nav s.history.rows ≡ false → IsPassed s made
+bare_passed s made d homes found bare nav place doc placed wakes has under =
+    absurd (let no_ : true ≡ false = sym has ∙ (ap (λ (n : NavId). has_row n s.history.rows) (sym same) ∙ bare) in cc)
+  where
+    docs : made.doc ≡ doc
+    docs = doc_same made.doc doc (first (made.doc.0 == doc.0) (made.epoch.0 == place.epoch.0) under)
+      where
+        first : (a b : Bool) → (a && b) ≡ true → a ≡ true
+        first true b e = refl
+        first false b e = absurd cc
+
+    at : IsAtHome s.documents place.nav doc
+    at = (homes.homed nav place doc placed wakes).home
+
+    same : d.nav ≡ place.nav
+    same =
+        let both : Some at.document ≡ Some d = sym at.found ∙ (ap (λ (x : DocId). document_of s x) (sym docs) ∙ found) in
+        let one : at.document ≡ d = cc in
+        ap (λ (x : Document). x.nav) (sym one) ∙ at.nav_is
 
 -- a reason to refuse what was made is a new frame's, or that of one to be removed
 pub denied_none : (s : Seen) (made : Made) (reason : Denial) → denial_at_delivery s made ≡ Some reason → IsNoEntry made.what

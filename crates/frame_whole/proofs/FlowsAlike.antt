@@ -2,9 +2,12 @@
 use Rattle.coord_facts.proofs.OneDocument.{LooksAlike}
 use Rattle.coord_facts.specs.Epochs.{EachDocument, IsWithin, MadeWithin}
 use Rattle.coord_facts.specs.Flowing.{Flows}
-use Rattle.coord_facts.specs.Leading.{EachAwake, Face, Leads, LeadsUntold, coming, face_after, held_back, is_push, pending_view}
+use Rattle.coord_facts.specs.Leading.{EachAwake, EachIsOfItsNavigable, Face, Leads, LeadsUntold, coming, face_after, held_back, is_push, pending_view}
 use Rattle.frame_tab.specs.Desks.{waiting}
-use Rattle.frame_whole.specs.Untold.{EachLeadsIf, FlowsIf, LeadsIf}
+use Rattle.frame_tab.proofs.Takings.{place_nav}
+use Rattle.frame_whole.specs.Tab.{AreAwakeWithRows}
+use Rattle.frame_whole.specs.Untold.{EachLeadsIf, FlowsIf, LeadsIf, LeadsWhere}
+use Rattle.log_model.specs.History.{has_row}
 use Rattle.log_model.specs.Seen.{Desk, Document, Place, Seen, awake, desk_of, document_of, place_of}
 use Rattle.log_model.specs.declared.made.Made.{Made}
 use Rattle.log_model.specs.declared.row.Row.{Row}
@@ -98,9 +101,9 @@ told_if rows held desk d given epoch told is =
 
 -- ---- of all
 
--- what a document leads by, of all that a log has come to, with these at hand
+-- what a document leads by, of all that a log has come to, with these at hand, where its navigable has a row
 abbrev pub IfIn : List Made → Seen → Desk → Document → Option EntryId → Epoch → Type 0
-IfIn hand s = LeadsIf s.history.rows (held_back s.requests s.parked ++ hand)
+IfIn hand s = LeadsWhere s.history.rows (held_back s.requests s.parked ++ hand)
 
 abbrev pub WithinHand : List Made → Seen → Desk → Document → ℕ → Type 0
 WithinHand hand s = IsWithin (held_back s.requests s.parked ++ hand)
@@ -108,8 +111,8 @@ WithinHand hand s = IsWithin (held_back s.requests s.parked ++ hand)
 -- rows and what waits that are as they were leave what leads
 pub if_again : (s next : Seen) (hand next_hand : List Made) → next.history.rows ≡ s.history.rows → waiting next next_hand ≡ waiting s hand → EachAwake (IfIn hand s) next → EachLeadsIf next_hand next
 if_again s next hand next_hand rows_ held each nav place at d placed wakes found =
-    subst (λ (rows : List Row). LeadsIf rows (waiting next next_hand) (desk_of next d.proc) d place.given place.epoch) (sym rows_)
-    (subst (λ (held : List Made). LeadsIf s.history.rows held (desk_of next d.proc) d place.given place.epoch) (sym held)
+    subst (λ (rows : List Row). LeadsWhere rows (waiting next next_hand) (desk_of next d.proc) d place.given place.epoch) (sym rows_)
+    (subst (λ (held : List Made). LeadsWhere s.history.rows held (desk_of next d.proc) d place.given place.epoch) (sym held)
     (each nav place at d placed wakes found))
 
 pub within_if : (s next : Seen) (hand next_hand : List Made) → waiting next next_hand ≡ waiting s hand → EachDocument (WithinHand hand s) next → EachDocument (WithinHand next_hand next) next
@@ -122,7 +125,7 @@ within_if s next hand next_hand held each doc d place found placed =
 pub flows_if : (s : Seen) → Flows s → FlowsIf [] s
 flows_if s flows =
     record {
-      leads = λ nav place doc d placed wakes found.
+      leads = λ nav place doc d placed wakes found has.
           subst (λ (l : List Made). LeadsIf s.history.rows l (desk_of s d.proc) d place.given place.epoch) (sym (append-nil (held_back s.requests s.parked)))
           (if_leads s.history.rows (held_back s.requests s.parked) (desk_of s d.proc) d place.given place.epoch (flows.leads nav place doc d placed wakes found));
       whose = flows.whose;
@@ -135,12 +138,18 @@ abbrev pub EachIsTold : Seen → Type 0
 EachIsTold s =
     (nav : NavId) (place : Place) (doc : DocId) (d : Document) → place_of s nav ≡ Some place → place.status ≡ awake doc → document_of s doc ≡ Some d → is_some d.told ≡ true
 
-pub flows_told : (s : Seen) → FlowsIf [] s → EachIsTold s → Flows s
-flows_told s flows told =
+-- a document that a navigable is awake on is of that navigable's place
+pub awake_nav : (s : Seen) → EachIsOfItsNavigable s → (nav : NavId) (place : Place) (doc : DocId) (d : Document) → place_of s nav ≡ Some place → place.status ≡ awake doc → document_of s doc ≡ Some d → d.nav ≡ place.nav
+awake_nav s whose nav place doc d placed wakes found =
+    ap (λ (n : ℕ). let x : NavId = record { 0 = n } in x) (whose nav place doc d placed wakes found) ∙ sym (place_nav s nav place placed)
+
+-- where no navigable without a row is awake
+pub flows_told : (s : Seen) → FlowsIf [] s → EachIsTold s → AreAwakeWithRows s → Flows s
+flows_told s flows told rows_ =
     record {
       leads = λ nav place doc d placed wakes found.
           told_if s.history.rows (held_back s.requests s.parked) (desk_of s d.proc) d place.given place.epoch (told nav place doc d placed wakes found)
-          (subst (λ (l : List Made). LeadsIf s.history.rows l (desk_of s d.proc) d place.given place.epoch) (append-nil (held_back s.requests s.parked)) (flows.leads nav place doc d placed wakes found));
+          (subst (λ (l : List Made). LeadsIf s.history.rows l (desk_of s d.proc) d place.given place.epoch) (append-nil (held_back s.requests s.parked)) (flows.leads nav place doc d placed wakes found (ap (λ (n : NavId). has_row n s.history.rows) (awake_nav s flows.whose nav place doc d placed wakes found) ∙ rows_ nav place doc placed wakes)));
       whose = flows.whose;
       reaches = flows.reaches;
       within = λ doc d place found placed. subst (λ (l : List Made). IsWithin l (desk_of s d.proc) d place.epoch.0) (append-nil (held_back s.requests s.parked)) (flows.within doc d place found placed);

@@ -8,10 +8,11 @@ use Rattle.coord_facts.specs.Leading.{Face, face_after, held_back, is_made_under
 use Rattle.frame_tab.proofs.Ends.{IsToEnd}
 use Rattle.frame_tab.proofs.Skips.{IsNoEntry, IsPassed, Skips, hand_skips, held_skips, made_in, skips_append, skips_same, without_made}
 use Rattle.frame_tab.specs.Desks.{waiting}
-use Rattle.frame_whole.proofs.FlowsAlike.{LooksOn, WithinHand, if_looks}
+use Rattle.frame_whole.proofs.FlowsAlike.{LooksOn, WithinHand, awake_nav, if_looks}
 use Rattle.frame_whole.specs.Untold.{FlowsIf, LeadsIf}
 use Rattle.log_model.specs.After.{ended}
 use Rattle.log_model.specs.AfterRequests.{made_of_report, without_req}
+use Rattle.log_model.specs.History.{has_row}
 use Rattle.log_model.specs.Seen.{Desk, Document, Place, Seen, awake, desk_of, document_of, place_in, place_of}
 use Rattle.log_model.specs.declared.made.Made.{Made}
 use Rattle.log_model.specs.declared.made.What.{What}
@@ -117,8 +118,8 @@ module _ (s t : Seen) (hand next_hand : List Made) (left : DesksLeft s t) (docum
   was_placed : (nav : NavId) (place : Place) → place_of t nav ≡ Some place → place_of s nav ≡ Some place
   was_placed nav place placed = ap (λ (l : List Place). place_in l nav) (sym places) ∙ placed
 
-  looks : (nav : NavId) (place : Place) (doc : DocId) (d : Document) → place_of s nav ≡ Some place → place.status ≡ awake doc → document_of s doc ≡ Some d → LooksOn (waiting s hand) (waiting t next_hand) (desk_of s d.proc) (desk_of t d.proc) d d place.epoch
-  looks nav place doc d placed wakes found =
+  looks : (nav : NavId) (place : Place) (doc : DocId) (d : Document) → place_of s nav ≡ Some place → place.status ≡ awake doc → document_of s doc ≡ Some d → has_row place.nav s.history.rows ≡ true → LooksOn (waiting s hand) (waiting t next_hand) (desk_of s d.proc) (desk_of t d.proc) d d place.epoch
+  looks nav place doc d placed wakes found has =
       subst (λ (desk : Desk). LooksOn (waiting s hand) (waiting t next_hand) (desk_of s d.proc) desk d d place.epoch) (sym (left d.proc).1)
       (record {
         pending = refl;
@@ -141,16 +142,18 @@ module _ (s t : Seen) (hand next_hand : List Made) (left : DesksLeft s t) (docum
 
       passes : (made : Made) → IsPassed s made → is_made_under d.nr place.epoch made ≡ true → IsNoEntry made.what
       passes made passed under_ =
-          passed nav place doc placed wakes (ap (λ (n : DocId). is_made_under n place.epoch made) (sym number) ∙ under_)
+          passed nav place doc placed wakes has (ap (λ (n : DocId). is_made_under n place.epoch made) (sym number) ∙ under_)
 
   pub ends_if : FlowsIf hand s → FlowsIf next_hand t
   ends_if is =
       record {
-        leads = λ nav place doc d placed wakes found.
+        leads = λ nav place doc d placed wakes found has.
             let before : place_of s nav ≡ Some place = was_placed nav place placed in
             let there : document_of s doc ≡ Some d = was_there doc d found in
+            let had : has_row d.nav s.history.rows ≡ true = ap (λ (l : List Row). has_row d.nav l) (sym rows_) ∙ has in
+            let its : has_row place.nav s.history.rows ≡ true = ap (λ (n : NavId). has_row n s.history.rows) (sym (awake_nav s is.whose nav place doc d before wakes there)) ∙ had in
             subst (λ (l : List Row). LeadsIf l (waiting t next_hand) (desk_of t d.proc) d place.given place.epoch) (sym rows_)
-            (if_looks s.history.rows (waiting s hand) (waiting t next_hand) (desk_of s d.proc) (desk_of t d.proc) d d place.given place.epoch (looks nav place doc d before wakes there) (is.leads nav place doc d before wakes there));
+            (if_looks s.history.rows (waiting s hand) (waiting t next_hand) (desk_of s d.proc) (desk_of t d.proc) d d place.given place.epoch (looks nav place doc d before wakes there its) (is.leads nav place doc d before wakes there had));
         whose = whose_same s t documents (had_status s t (same_places s t places)) is.whose;
         reaches = left_reaches s t left documents places is.reaches;
         within = λ doc d place found placed. within_then doc d place (was_there doc d found) (was_placed d.nav place placed) (is.within doc d place (was_there doc d found) (was_placed d.nav place placed));

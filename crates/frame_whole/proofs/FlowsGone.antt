@@ -91,7 +91,7 @@ module _ (s : Seen) (event : ℕ) (actor : Actor) (hand : List Made) (job : Job)
     pub discard_if : FlowsIf hand s → FlowsIf hand discarded
     discard_if is =
         record {
-          leads = if_again s discarded hand hand refl (sent_waits s event actor hand job) (away_stays (IfIn hand s) (λ x given epoch apart leads. if_alike s.history.rows (waiting s hand) (desk_of s job.proc) (mailed job (desk_of s job.proc)) x x given epoch (mailed_other (waiting s hand) (desk_of s job.proc) job x epoch apart) leads) is.leads);
+          leads = if_again s discarded hand hand refl (sent_waits s event actor hand job) (away_stays (IfIn hand s) (λ x given epoch apart leads has. if_alike s.history.rows (waiting s hand) (desk_of s job.proc) (mailed job (desk_of s job.proc)) x x given epoch (mailed_other (waiting s hand) (desk_of s job.proc) job x epoch apart) (leads has)) is.leads);
           whose = whose_one s discarded job.doc gone documents_are (λ d. refl) (λ d. refl) (λ nav place doc placed wakes. record { before = place; there = was_awake nav place doc placed wakes; status = refl }) is.whose;
           reaches = away_stays (λ desk x given epoch. Reaches desk x epoch) (λ x given epoch apart reaches. mailed_elsewhere (desk_of s job.proc) x job epoch apart reaches) is.reaches;
           within = within_if s discarded hand hand (sent_waits s event actor hand job) (each_stays (WithinHand hand s) s discarded job.proc (mailed job) job.doc gone within_change is.within);

@@ -167,7 +167,7 @@ module _ (s : Seen) (event : ℕ) (actor : Actor) (hand : List Made) (job : Job)
   pub make_if : FlowsIf hand s → FlowsIf hand making
   make_if flows =
       record {
-        leads = if_again s making hand hand refl waits (order_stays (IfIn hand s) (λ x given epoch apart leads. if_alike s.history.rows (waiting s hand) (desk_of s job.proc) (mailed job (desk_of s job.proc)) x x given epoch (mailed_other (waiting s hand) (desk_of s job.proc) job x epoch apart) leads) flows.leads);
+        leads = if_again s making hand hand refl waits (order_stays (IfIn hand s) (λ x given epoch apart leads has. if_alike s.history.rows (waiting s hand) (desk_of s job.proc) (mailed job (desk_of s job.proc)) x x given epoch (mailed_other (waiting s hand) (desk_of s job.proc) job x epoch apart) (leads has)) flows.leads);
         whose = whose_then flows.whose;
         reaches = order_stays (λ desk x given epoch. Reaches desk x epoch) (λ x given epoch apart reaches. mailed_elsewhere (desk_of s job.proc) x job epoch apart reaches) flows.reaches;
         within = within_if s making hand hand waits (each_stays (WithinHand hand s) joined making job.proc (mailed job) job.doc (λ d. d) within_change (within_joined flows.within));

@@ -175,7 +175,7 @@ module _ (s : Seen) (event : ℕ) (actor : Actor) (hand : List Made) (job : Job)
         by_nav true e =
             subst (λ (x : Place). IfIn hand s (mailed job (desk_of s job.proc)) (addressed job.task old) x.given x.epoch) (shown_here nav p there e)
             (subst (λ (x : Document). IfIn hand s (mailed job (desk_of s job.proc)) (addressed job.task x) (Some entry) epoch) same_d
-            (if_leads s.history.rows (waiting s hand) (mailed job (desk_of s job.proc)) (addressed job.task d) (Some entry) epoch
+            (λ has. if_leads s.history.rows (waiting s hand) (mailed job (desk_of s job.proc)) (addressed job.task d) (Some entry) epoch
             (activated_leads s.history.rows (waiting s hand) (desk_of s job.proc) d job view entry epoch long at memo address task mine pending none_under fields)))
         by_nav false e =
             let yes : (d.nav.0 == nav.0) ≡ true = rw (flows.whose nav p job.doc d (shown_else nav p there e) wakes found) (nat_eq_refl nav.0) in
@@ -192,7 +192,7 @@ module _ (s : Seen) (event : ℕ) (actor : Actor) (hand : List Made) (job : Job)
           home = sent.home;
           own = own;
           others = others_stood;
-          other = λ x given under apart leads. if_alike s.history.rows (waiting s hand) (desk_of s job.proc) (mailed job (desk_of s job.proc)) x x given under (mailed_other (waiting s hand) (desk_of s job.proc) job x under apart) leads;
+          other = λ x given under apart leads has. if_alike s.history.rows (waiting s hand) (desk_of s job.proc) (mailed job (desk_of s job.proc)) x x given under (mailed_other (waiting s hand) (desk_of s job.proc) job x under apart) (leads has);
         }
 
     shows : (old : Document) (p : Place) → document_of s job.doc ≡ Some old → place_of shown old.nav ≡ Some p → ShowsWithin p.epoch.0 job.task

@@ -10,12 +10,13 @@ use Rattle.coord_facts.specs.Epochs.{EachDocument, MadeWithin}
 use Rattle.coord_facts.specs.Leading.{Face, coming, face_after, is_push, once_finished, orders_for, pending_view}
 use Rattle.coord_facts.specs.Reaching.{EachReaches, Reaches}
 use Rattle.frame_tab.proofs.Leaving.{untold}
-use Rattle.frame_tab.proofs.Takings.{IsFirstOf, WasTaken, coming_first, coming_same}
+use Rattle.frame_tab.proofs.Takings.{IsFirstOf, WasTaken, coming_first, coming_same, place_nav}
 use Rattle.frame_tab.specs.Desks.{waiting}
-use Rattle.frame_whole.proofs.FlowsAlike.{WithinHand, both_within, held_within}
+use Rattle.frame_whole.proofs.FlowsAlike.{WithinHand, awake_nav, both_within, held_within}
 use Rattle.frame_whole.specs.Untold.{EachLeadsIf, FlowsIf, LeadsIf}
 use Rattle.log_model.proofs.Refl.{nat_eq_refl}
 use Rattle.log_model.specs.AfterRequests.{made_of_report}
+use Rattle.log_model.specs.History.{has_row}
 use Rattle.log_model.specs.Seen.{Desk, Document, Place, Seen, awake, desk_in, desk_of, document_of, place_of}
 use Rattle.log_model.specs.declared.made.Made.{Made}
 use Rattle.log_model.specs.declared.made.What.{What}
@@ -52,7 +53,7 @@ some_same e = cc
 abbrev pub ShowsFace : List Row → Face → Type 0
 ShowsFace rows face = (i : ℕ) (row : Row) → slice_get rows i ≡ Some row → row.entry ≡ face.entry → (row.address ≡ face.address) × (row.memo ≡ face.memo)
 
--- what the row leaves: the processes; each document but for what it was told and what was applied of it, where a push leaves its own untold; what waits, less what was made; each awake navigable, given the entry after it where it made it; and each row that shows the given entry
+-- what the row leaves: the processes; each document but for what it was told and what was applied of it, where a push leaves its own untold; what waits, less what was made; each awake navigable, given the entry after it where it made it, which had a row if it has one; and each row that shows the given entry
 pub record IsTakenUp (home : ProcId) (hand next_hand : List Made) (s t : Seen) (made : Made) (g : Document → Document) : Type 0 where
   pub desks : t.desks ≡ s.desks
   pub documents : t.documents ≡ map g s.documents
@@ -65,6 +66,7 @@ pub record IsTakenUp (home : ProcId) (hand next_hand : List Made) (s t : Seen) (
   pub push_told : is_push made ≡ true → (x : Document) → (made.doc.0 == x.nr.0) ≡ true → (g x).told ≡ None
   pub list : IsFirstOf (untold (waiting s hand) (desk_of s home)) made (untold (waiting t next_hand) (desk_of s home))
   pub were : (nav : NavId) (place : Place) (doc : DocId) → place_of t nav ≡ Some place → place.status ≡ awake doc → WasTaken s made nav place doc
+  pub had_row : (nav : NavId) (place : Place) (doc : DocId) → place_of t nav ≡ Some place → place.status ≡ awake doc → has_row place.nav t.history.rows ≡ true → has_row place.nav s.history.rows ≡ true
   pub gave : (nav : NavId) (place : Place) (doc : DocId) → place_of t nav ≡ Some place → place.status ≡ awake doc → is_some place.given ≡ true
   pub had : (doc : DocId) (d : Document) (place : Place) → document_of s doc ≡ Some d → place_of t d.nav ≡ Some place → HadEpoch s d.nav place
   pub homes : (doc : DocId) (d : Document) → document_of s doc ≡ Some d → d.proc ≡ home
@@ -209,14 +211,21 @@ module _ (home : ProcId) (hand next_hand : List Made) (s t : Seen) (made : Made)
   -- ---- the whole
 
   leads_then : FlowsIf hand s → EachLeadsIf next_hand t
-  leads_then flows nav place doc x placed wakes found =
+  leads_then flows nav place doc x placed wakes found has =
       let b : IsBefore doc x = before doc x found in
       let w : WasTaken s made nav place doc = is.were nav place doc placed wakes in
-      let led : LeadsIf s.history.rows (waiting s hand) (desk_of s home) b.old w.before.given w.before.epoch = subst (λ (p : ProcId). LeadsIf s.history.rows (waiting s hand) (desk_of s p) b.old w.before.given w.before.epoch) (is.homes doc b.old b.there) (flows.leads nav w.before doc b.old w.there w.status b.there) in
+      let led : LeadsIf s.history.rows (waiting s hand) (desk_of s home) b.old w.before.given w.before.epoch = subst (λ (p : ProcId). LeadsIf s.history.rows (waiting s hand) (desk_of s p) b.old w.before.given w.before.epoch) (is.homes doc b.old b.there) (flows.leads nav w.before doc b.old w.there w.status b.there (before_row b w)) in
       subst (λ (y : Document). LeadsIf t.history.rows (waiting t next_hand) (desk_of t y.proc) y place.given place.epoch) b.new
       (subst (λ (desk : Desk). LeadsIf t.history.rows (waiting t next_hand) desk (g b.old) place.given place.epoch) (sym (desk_same doc b.old b.there))
       (by_document nav place doc b.old w (is.gave nav place doc placed wakes) b.there led (made.doc.0 == doc.0) refl))
     where
+      before_row : (b : IsBefore doc x) → (w : WasTaken s made nav place doc) → has_row b.old.nav s.history.rows ≡ true
+      before_row b w =
+          let navs : b.old.nav ≡ place.nav = awake_nav s flows.whose nav w.before doc b.old w.there w.status b.there ∙ (place_nav s nav w.before w.there ∙ sym (place_nav t nav place placed)) in
+          let now : x.nav ≡ place.nav = ap (λ (y : Document). y.nav) (sym b.new) ∙ (is.nav b.old ∙ navs) in
+          ap (λ (n : NavId). has_row n s.history.rows) navs
+          ∙ is.had_row nav place doc placed wakes (ap (λ (n : NavId). has_row n t.history.rows) (sym now) ∙ has)
+
       by_document : (nav : NavId) (place : Place) (doc : DocId) (old : Document) (w : WasTaken s made nav place doc) → is_some place.given ≡ true → document_of s doc ≡ Some old → LeadsIf s.history.rows (waiting s hand) (desk_of s home) old w.before.given w.before.epoch → (c : Bool) → (made.doc.0 == doc.0) ≡ c → LeadsIf t.history.rows (waiting t next_hand) (desk_of s home) (g old) place.given place.epoch
       by_document nav place doc old w gave there led true e = own_leads nav place doc old w gave there e led
       by_document nav place doc old w gave there led false e = other_leads nav place doc old w gave there e led

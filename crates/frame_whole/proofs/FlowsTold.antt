@@ -11,7 +11,7 @@ use Rattle.coord_facts.specs.Leading.{held_back, is_live_order}
 use Rattle.frame_tab.specs.Desks.{waiting}
 use Rattle.frame_tab.specs.Whole.{IsFrameTab}
 use Rattle.frame_whole.proofs.FlowsAlike.{IfIn, WithinHand, if_again, if_alike, if_leads, untold_if, within_if}
-use Rattle.frame_whole.specs.Untold.{EachLeadsIf, FlowsIf}
+use Rattle.frame_whole.specs.Untold.{EachLeadsIf, FlowsIf, LeadsIf}
 use Rattle.log_model.specs.After.{after, on_document}
 use Rattle.log_model.specs.AfterDocuments.{addressed, documents_sent}
 use Rattle.log_model.specs.AfterPlaces.{places_sent}
@@ -58,9 +58,9 @@ module _ (s : Seen) (event : ℕ) (actor : Actor) (hand : List Made) (job : Job)
       is_mine d.nr (length (desk_of s job.proc).killed) job (sym (find_has (λ (x : Document). x.nr.0) job.doc.0 s.documents d there)) sent.lives
 
   own : EachLeadsIf hand s → (nav : NavId) (place : Place) (d : Document) → place_of after_update nav ≡ Some place → place.status ≡ awake job.doc → document_of s job.doc ≡ Some d → IfIn hand s (mailed job (desk_of s job.proc)) (addressed job.task d) place.given place.epoch
-  own each nav place d placed wakes there =
-      let was : IfIn hand s (desk_of s d.proc) d place.given place.epoch = each nav place job.doc d (was_placed nav place placed) wakes there in
-      let here : IfIn hand s (desk_of s job.proc) d place.given place.epoch = subst (λ (p : ProcId). IfIn hand s (desk_of s p) d place.given place.epoch) (sent.home d there) was in
+  own each nav place d placed wakes there has =
+      let was : LeadsIf s.history.rows (waiting s hand) (desk_of s d.proc) d place.given place.epoch = each nav place job.doc d (was_placed nav place placed) wakes there has in
+      let here : LeadsIf s.history.rows (waiting s hand) (desk_of s job.proc) d place.given place.epoch = subst (λ (p : ProcId). LeadsIf s.history.rows (waiting s hand) (desk_of s p) d place.given place.epoch) (sent.home d there) was in
       if_leads s.history.rows (waiting s hand) (mailed job (desk_of s job.proc)) (addressed job.task d) place.given place.epoch
       (told_again s.history.rows (waiting s hand) (desk_of s job.proc) d job long at place.given place.epoch task (mine d there) (untold_if s.history.rows (waiting s hand) (desk_of s job.proc) d place.given place.epoch here))
 
@@ -75,7 +75,7 @@ module _ (s : Seen) (event : ℕ) (actor : Actor) (hand : List Made) (job : Job)
         home = sent.home;
         own = own each;
         others = λ nav place at_ placed wakes apart. as_placed s nav place (was_placed nav place placed);
-        other = λ d given epoch apart leads. if_alike s.history.rows (waiting s hand) (desk_of s job.proc) (mailed job (desk_of s job.proc)) d d given epoch (mailed_other (waiting s hand) (desk_of s job.proc) job d epoch apart) leads;
+        other = λ d given epoch apart leads has. if_alike s.history.rows (waiting s hand) (desk_of s job.proc) (mailed job (desk_of s job.proc)) d d given epoch (mailed_other (waiting s hand) (desk_of s job.proc) job d epoch apart) (leads has);
       }
 
   within_change : IsOneOfEach (WithinHand hand s) s after_update job.proc (mailed job) job.doc (addressed job.task)

@@ -8,6 +8,7 @@ use Rattle.frame_whole.specs.Tab.{IsTab}
 use Rattle.frame_whole.specs.Untold.{LeadsIf}
 use Rattle.home_facts.specs.Homes.{IsAtHome}
 use Rattle.log_model.specs.AfterDocuments.{view_finished}
+use Rattle.log_model.specs.History.{has_row}
 use Rattle.log_model.specs.Seen.{Document, Place, Seen, awake, desk_of, document_of, place_of}
 use Rattle.log_model.specs.Views.{View}
 use Rattle.log_model.specs.declared.job.Job.{Job}
@@ -30,7 +31,7 @@ use Rattle.std.specs.List.{list_all}
 use Rattle.std.specs.Prelude.{find, nat_lt}
 use Rattle.tab_ids.specs.declared.EntryId.{EntryId}
 
--- ---- an awake navigable's document has a view
+-- ---- the document of an awake navigable that has a row has a view
 
 none_done : (d : Document) (task : Task) → d.view ≡ None → makes_by true task ≡ 0 → view_finished d task ≡ None
 none_done d (tasks.Populate nav state address initial) none once = absurd (let never : 1 ≡ 0 = once in omega (arith, never))
@@ -59,8 +60,8 @@ pub record HasView (d : Document) : Type 0 where
   pub has : d.view ≡ Some view
 
 module _ (home : ProcId) (run : Option ReqId) (hand : List Made) (s : Seen) (tab : IsTab home run hand s) where
-  pub has_view : (nav : NavId) (place : Place) (doc : DocId) (d : Document) → place_of s nav ≡ Some place → place.status ≡ awake doc → document_of s doc ≡ Some d → HasView d
-  has_view nav place doc d placed wakes found = by_view d.view refl
+  pub has_view : (nav : NavId) (place : Place) (doc : DocId) (d : Document) → place_of s nav ≡ Some place → place.status ≡ awake doc → document_of s doc ≡ Some d → has_row d.nav s.history.rows ≡ true → HasView d
+  has_view nav place doc d placed wakes found has = by_view d.view refl
     where
       at : IsAtHome s.documents place.nav doc
       at = (tab.homes.homed nav place doc placed wakes).home
@@ -75,7 +76,7 @@ module _ (home : ProcId) (run : Option ReqId) (hand : List Made) (s : Seen) (tab
       once = tab.framed.made doc d found ∙ ap makes_due ready
 
       led : LeadsIf s.history.rows (waiting s hand) (desk_of s home) d place.given place.epoch
-      led = subst (λ (p : ProcId). LeadsIf s.history.rows (waiting s hand) (desk_of s p) d place.given place.epoch) (tab.framed.documents doc d found).alive.proc (tab.flows.leads nav place doc d placed wakes found)
+      led = subst (λ (p : ProcId). LeadsIf s.history.rows (waiting s hand) (desk_of s p) d place.given place.epoch) (tab.framed.documents doc d found).alive.proc (tab.flows.leads nav place doc d placed wakes found has)
 
       by_view : (o : Option View) → d.view ≡ o → HasView d
       by_view (Some view) e = record { view = view; has = e }
@@ -85,9 +86,9 @@ module _ (home : ProcId) (run : Option ReqId) (hand : List Made) (s : Seen) (tab
 
   -- ---- what comes first of a document
 
-  pub its_next : (made : Made) (d : Document) (left : List Made) → IsMadeHere s made d → IsFirstOf (untold (waiting s hand) (desk_of s home)) made left → IsNext d.last_applied made.what
-  its_next made d left here list =
-      let v : HasView d = has_view d.nav here.place made.doc d here.placed here.wakes here.found in
+  pub its_next : (made : Made) (d : Document) (left : List Made) → IsMadeHere s made d → IsFirstOf (untold (waiting s hand) (desk_of s home)) made left → has_row d.nav s.history.rows ≡ true → IsNext d.last_applied made.what
+  its_next made d left here list has =
+      let v : HasView d = has_view d.nav here.place made.doc d here.placed here.wakes here.found has in
       let all : Ascend d.last_applied (filter (λ (m : Made). m.doc.0 == d.nr.0) (untold (waiting s hand) (desk_of s home))) v.view.numbered = tab.framed.ascends made.doc d here.found v.view v.has in
       let own : Ascend d.last_applied (filter (λ (m : Made). m.doc.0 == made.doc.0) (untold (waiting s hand) (desk_of s home))) v.view.numbered = subst (λ (n : DocId). Ascend d.last_applied (filter (λ (m : Made). m.doc.0 == n.0) (untold (waiting s hand) (desk_of s home))) v.view.numbered) number all in
       let front : Ascend d.last_applied (made ∷ filter (λ (m : Made). m.doc.0 == made.doc.0) left) v.view.numbered = subst (λ (l : List Made). Ascend d.last_applied l v.view.numbered) (own_first (untold (waiting s hand) (desk_of s home)) made left list) own in

@@ -6,6 +6,7 @@ use Rattle.frame_tab.proofs.Aims.{push_keeps}
 use Rattle.frame_tab.proofs.Applying.{IsToTake}
 use Rattle.frame_tab.proofs.Changing.{IsGiving, IsMadeHere, placed_on, were_taken}
 use Rattle.frame_tab.proofs.Pushings.{gives, pushed_framed}
+use Rattle.frame_tab.proofs.Stating.{pushed_were, rows_were}
 use Rattle.frame_tab.proofs.Skips.{without_made}
 use Rattle.frame_tab.specs.Desks.{IsItsOwn}
 use Rattle.frame_tab.specs.Whole.{IsFrameTab}
@@ -63,8 +64,18 @@ module _ (home : ProcId) (run : Option ReqId) (hand : List Made) (s : Seen) (eve
   maker : entry.maker ≡ made.doc.0
   maker = subst (λ (w : What). IsItsOwn made.doc w) what (take_made home run hand s event actor tab req q made change there makes first).own
 
+  old_row : (row : Row) → Has (cleared s.history) row → Has s.history.rows row
+  old_row row has =
+      (has_filter (λ (r : Row). nat_le r.step.0 s.history.current) s.history.rows row (has_tidied (filter (λ (r : Row). nat_le r.step.0 s.history.current) s.history.rows) row has).0).0
+
+  -- the document's navigable has a row
+  has : has_row d.nav s.history.rows ≡ true
+  has =
+      let a : Passing (is_of d.nav) (cleared s.history) = any_has (is_of d.nav) (cleared s.history) fit in
+      has_any (is_of d.nav) s.history.rows a.it (old_row a.it a.there) a.passes
+
   later : d.last_applied < entry.nr
-  later = subst (λ (w : What). IsNext d.last_applied w) what (its_next home run hand s tab made d (untold (waiting pushed_ rest) (desk_of s home)) here (take_list home run hand s event actor tab req q made change there makes first))
+  later = subst (λ (w : What). IsNext d.last_applied w) what (its_next home run hand s tab made d (untold (waiting pushed_ rest) (desk_of s home)) here (take_list home run hand s event actor tab req q made change there makes first) has)
 
   abbrev take : IsToTake home run hand rest s pushed_ req change made d
   take =
@@ -84,10 +95,6 @@ module _ (home : ProcId) (run : Option ReqId) (hand : List Made) (s : Seen) (eve
   abbrev new_row : Row
   new_row = record { owner = owner_of d.nav (cleared s.history); nav = d.nav; entry = entry; step = record { 0 = s.history.current + 1 }; state = d.state; address = address; memo = memo }
 
-  old_row : (row : Row) → Has (cleared s.history) row → Has s.history.rows row
-  old_row row has =
-      (has_filter (λ (r : Row). nat_le r.step.0 s.history.current) s.history.rows row (has_tidied (filter (λ (r : Row). nat_le r.step.0 s.history.current) s.history.rows) row has).0).0
-
   rows_are : (row : Row) → Has pushed_.history.rows row → Has s.history.rows row ⊎ IsNewRow d entry address memo row
   rows_are row has = by_case (has_more (cleared s.history) new_row row has)
     where
@@ -95,11 +102,6 @@ module _ (home : ProcId) (run : Option ReqId) (hand : List Made) (s : Seen) (eve
       by_case (inl old) = inl (old_row row old)
       by_case (inr new) =
           inr (record { entry_is = ap (λ (r : Row). r.entry) (sym new); address_is = ap (λ (r : Row). r.address) (sym new); memo_is = ap (λ (r : Row). r.memo) (sym new); state_is_its = ap (λ (r : Row). r.state) (sym new) })
-
-  has : has_row d.nav s.history.rows ≡ true
-  has =
-      let a : Passing (is_of d.nav) (cleared s.history) = any_has (is_of d.nav) (cleared s.history) fit in
-      has_any (is_of d.nav) s.history.rows a.it (old_row a.it a.there) a.passes
 
   framed : IsFrameTab home run rest pushed_
   framed =
@@ -124,6 +126,10 @@ module _ (home : ProcId) (run : Option ReqId) (hand : List Made) (s : Seen) (eve
   push_made : is_push made ≡ true
   push_made = ap (λ (w : What). is_push (record made { what = w })) what
 
+  -- the rows of the document's navigable are of its state
+  its_state : (row : Row) → Has s.history.rows row → row.nav ≡ d.nav → row.state ≡ d.state
+  its_state = (tab.framed.stated.documents made.doc d here.found).rows_
+
   taken_up : IsTakenUp home hand rest s pushed_ made g
   taken_up =
       record {
@@ -138,6 +144,7 @@ module _ (home : ProcId) (run : Option ReqId) (hand : List Made) (s : Seen) (eve
         push_told = λ push x own. ap (λ (b : Bool). (let y : Document = cond b (once_pushed entry x) x in y).told) (turned made.doc.0 x.nr.0 true own);
         list = take_list home run hand s event actor tab req q made change there makes first;
         were = were_taken s event actor req change made d here tab.homes tab.framed.steady (gives d.nav entry) giving places_are;
+        had_row = λ of place doc placed wakes. rows_were s.history.rows pushed_.history.rows (pushed_were s.history new_row its_state fit) place.nav;
         gave = λ of place doc placed wakes. (framed.steady of place placed).gave doc wakes;
         had = had_by home s pushed_ tab.framed.documents (placed_on s event actor req change made d here tab.homes tab.framed.steady (gives d.nav entry) giving places_are);
         homes = λ doc x found. (tab.framed.documents doc x found).alive.proc;

@@ -1,9 +1,9 @@
--- All that holds between two rows holds after each refusal and drop of the coordinator: of a traversal that leads nowhere, of a frame that can't be added or removed, and of what was made that isn't present.
+-- All that holds between two rows holds after each refusal and drop of the coordinator: of a traversal that leads nowhere, of a frame that can't be added or removed, and of what was made that isn't present, or whose document's navigable has no row.
 use Rattle.coord_facts.proofs.Unread.{next}
 use Rattle.frame_tab.proofs.Skips.{without_made}
 use Rattle.frame_tab.specs.Whole.{IsFrameTab}
-use Rattle.frame_whole.proofs.Ending.{IsCarried, IsItsHand, absent_passed, denied_none, dropped_tab, joined_ends, made_ends, refused_tab, reqs_of}
-use Rattle.frame_whole.specs.Tab.{AreAwakeWithRows, IsTab}
+use Rattle.frame_whole.proofs.Ending.{IsCarried, IsItsHand, absent_passed, bare_passed, denied_none, dropped_tab, joined_ends, made_ends, refused_tab, reqs_of}
+use Rattle.frame_whole.specs.Tab.{IsTab}
 use Rattle.log_model.specs.Causes.{by_mover, denial_at_delivery, has_moved_away, is_outdated}
 use Rattle.log_model.specs.Equal.{has_req, holds}
 use Rattle.log_model.specs.History.{has_row}
@@ -62,24 +62,6 @@ moved_absent home run hand s req q mover made tab there makes moved =
         either false true h = absurd cc
         either false false h = refl
 
--- nor is that of a document whose navigable has no entry, once no such one is awake
-pub destroyed_absent : (s : Seen) (made : Made) (d : Document) → AreAwakeWithRows s → document_of s made.doc ≡ Some d → has_row d.nav s.history.rows ≡ false → is_present s made ≡ false
-destroyed_absent s made d rows_ found bare =
-    ap (λ (o : Option Document). holds (λ (x : Document). holds (λ (p : Place). is_awake p && p.epoch.0 == made.epoch.0) (place_of s x.nav)) o) found
-    ∙ by_place (place_of s d.nav) refl
-  where
-    by_status : (p : Place) → place_of s d.nav ≡ Some p → (st : Status) → p.status ≡ st → (is_awake p && p.epoch.0 == made.epoch.0) ≡ false
-    by_status p e (awake doc) is =
-        let number : p.nav.0 ≡ d.nav.0 = find_has (λ (x : Place). x.nav.0) d.nav.0 s.places p e in
-        let same : p.nav ≡ d.nav = ap (λ (n : ℕ). let x : NavId = record { 0 = n } in x) number in
-        let never : true ≡ false = sym (rows_ d.nav p doc e is) ∙ (ap (λ (n : NavId). has_row n s.history.rows) same ∙ bare) in absurd cc
-    by_status p e asleep is = (let none : is_awake p ≡ false = rw is refl in rw none refl)
-    by_status p e lost is = (let none : is_awake p ≡ false = rw is refl in rw none refl)
-
-    by_place : (o : Option Place) → place_of s d.nav ≡ o → holds (λ (p : Place). is_awake p && p.epoch.0 == made.epoch.0) o ≡ false
-    by_place None e = refl
-    by_place (Some p) e = by_status p e p.status refl
-
 -- what is at hand stays where nothing of it is of the request
 pub none_without : (req : ReqId) (mades : List Made) → has_req (reqs_of mades) req ≡ false → without_made req mades ≡ mades
 none_without req [] none = refl
@@ -102,7 +84,7 @@ module _ (home : ProcId) (run : Option ReqId) (hand : List Made) (s : Seen) (eve
     -- it can't be done
     pub denied_tab : (reason : Denial) → denial_at_delivery s made ≡ Some reason → IsTab home run (without_made req hand) (next s event actors.Coord (rows.Refused req reason))
     denied_tab reason is =
-        refused_tab home run hand s event tab req (made_ends run hand s req q made other there makes its (λ nav place doc placed wakes under. denied_none s made reason is)) carried reason
+        refused_tab home run hand s event tab req (made_ends run hand s req q made other there makes its (λ nav place doc placed wakes has under. denied_none s made reason is)) carried reason
 
     -- it isn't present
     pub absent_tab : (actor : Actor) (cause : Cause) → is_present s made ≡ false → IsTab home run (without_made req hand) (next s event actor (rows.Dropped req cause))
@@ -114,7 +96,7 @@ module _ (home : ProcId) (run : Option ReqId) (hand : List Made) (s : Seen) (eve
     moved_tab actor by mover moved =
         absent_tab actor (drops.By by) (moved_absent home run hand s req q mover made tab.framed there makes moved)
 
-    -- its navigable lost its entries, and is awake no more
-    pub destroyed_tab : (actor : Actor) (by : ReqId) (d : Document) → AreAwakeWithRows s → document_of s made.doc ≡ Some d → has_row d.nav s.history.rows ≡ false → IsTab home run (without_made req hand) (next s event actor (rows.Dropped req (drops.Destroyed by)))
-    destroyed_tab actor by d rows_ found bare =
-        absent_tab actor (drops.Destroyed by) (destroyed_absent s made d rows_ found bare)
+    -- its document's navigable has no row, though it may still be awake
+    pub destroyed_tab : (actor : Actor) (by : ReqId) (d : Document) → document_of s made.doc ≡ Some d → has_row d.nav s.history.rows ≡ false → IsTab home run (without_made req hand) (next s event actor (rows.Dropped req (drops.Destroyed by)))
+    destroyed_tab actor by d found bare =
+        dropped_tab home run hand s event tab req (made_ends run hand s req q made other there makes its (bare_passed s made d tab.homes found bare)) carried actor (drops.Destroyed by)

@@ -5,6 +5,7 @@ use Rattle.frame_tab.proofs.Applying.{IsToTake}
 use Rattle.frame_tab.proofs.Changing.{IsGiving, IsMadeHere, placed_on, were_taken}
 use Rattle.frame_tab.proofs.Leavings.{remove_keeps}
 use Rattle.frame_tab.proofs.Pushings.{removed_framed}
+use Rattle.frame_tab.proofs.Stating.{removed_were, rows_were}
 use Rattle.frame_tab.proofs.Skips.{IsNoEntry, without_made}
 use Rattle.frame_tab.specs.Whole.{IsFrameTab}
 use Rattle.frame_whole.proofs.FlowsEnds.{face_stays, no_push}
@@ -100,6 +101,7 @@ module _ (home : ProcId) (run : Option ReqId) (hand : List Made) (s : Seen) (eve
         push_told = λ push. absurd (let never : true ≡ false = sym push ∙ no_push made none in cc);
         list = take_list home run hand s event actor tab req q made change there makes first;
         were = were_taken s event actor req change made d here tab.homes tab.framed.steady (λ x. x) giving refl;
+        had_row = λ of place doc placed wakes. rows_were s.history.rows removed.history.rows (removed_were s.history.rows nav) place.nav;
         gave = λ of place doc placed wakes. (framed.steady of place placed).gave doc wakes;
         had = had_by home s removed tab.framed.documents (placed_on s event actor req change made d here tab.homes tab.framed.steady (λ x. x) giving refl);
         homes = λ doc x found. (tab.framed.documents doc x found).alive.proc;

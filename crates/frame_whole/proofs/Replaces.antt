@@ -6,9 +6,10 @@ use Rattle.frame_tab.proofs.Applying.{IsToTake}
 use Rattle.frame_tab.proofs.Changing.{IsGiving, IsMadeHere, placed_on, were_taken}
 use Rattle.frame_tab.proofs.Leaving.{untold}
 use Rattle.frame_tab.proofs.Pushings.{gives, replaced_framed}
+use Rattle.frame_tab.proofs.Stating.{replaced_were, rows_were}
 use Rattle.frame_tab.proofs.Skips.{without_made}
 use Rattle.frame_tab.proofs.Swaps.{replace_keeps}
-use Rattle.frame_tab.proofs.Takings.{coming_first}
+use Rattle.frame_tab.proofs.Takings.{coming_first, place_nav}
 use Rattle.frame_tab.specs.Desks.{IsItsOwn, waiting}
 use Rattle.frame_tab.specs.Whole.{IsFrameTab}
 use Rattle.frame_whole.proofs.Entries.{IsNewRow, by_own, given_places, map_both, new_entry, new_shows, other_there, own_nav, own_state, owned_docs, owned_rows, swept_row, turned}
@@ -64,8 +65,18 @@ module _ (home : ProcId) (run : Option ReqId) (hand : List Made) (s : Seen) (eve
   maker : entry.maker ≡ made.doc.0
   maker = subst (λ (w : What). IsItsOwn made.doc w) what (take_made home run hand s event actor tab req q made change there makes first).own
 
+  -- the row of the entry that is replaced
+  its : Passing (λ (row : Row). same_entry row.entry over && is_of d.nav row) s.history.rows
+  its = any_has (λ (row : Row). same_entry row.entry over && is_of d.nav row) s.history.rows fit
+
+  its_parts : (same_entry its.it.entry over ≡ true) × (is_of d.nav its.it ≡ true)
+  its_parts = and_parts (same_entry its.it.entry over) (is_of d.nav its.it) its.passes
+
+  has : has_row d.nav s.history.rows ≡ true
+  has = has_any (is_of d.nav) s.history.rows its.it its.there its_parts.1
+
   later : d.last_applied < entry.nr
-  later = subst (λ (w : What). IsNext d.last_applied w) what (its_next home run hand s tab made d (untold (waiting replaced_ rest) (desk_of s home)) here (take_list home run hand s event actor tab req q made change there makes first))
+  later = subst (λ (w : What). IsNext d.last_applied w) what (its_next home run hand s tab made d (untold (waiting replaced_ rest) (desk_of s home)) here (take_list home run hand s event actor tab req q made change there makes first) has)
 
   abbrev take : IsToTake home run hand rest s replaced_ req change made d
   take =
@@ -98,22 +109,16 @@ module _ (home : ProcId) (run : Option ReqId) (hand : List Made) (s : Seen) (eve
       by_tests x at is_ true false e f = (let same : x ≡ row = (let v : replaced_row over put_row x ≡ x = rw (e, f) refl in sym v ∙ is_) in inl (subst (λ (r : Row). Has s.history.rows r) same at))
       by_tests x at is_ false c e f = (let same : x ≡ row = (let v : replaced_row over put_row x ≡ x = rw e refl in sym v ∙ is_) in inl (subst (λ (r : Row). Has s.history.rows r) same at))
 
-  -- the row of the entry that is replaced
-  its : Passing (λ (row : Row). same_entry row.entry over && is_of d.nav row) s.history.rows
-  its = any_has (λ (row : Row). same_entry row.entry over && is_of d.nav row) s.history.rows fit
-
-  its_parts : (same_entry its.it.entry over ≡ true) × (is_of d.nav its.it ≡ true)
-  its_parts = and_parts (same_entry its.it.entry over) (is_of d.nav its.it) its.passes
-
-  has : has_row d.nav s.history.rows ≡ true
-  has = has_any (is_of d.nav) s.history.rows its.it its.there its_parts.1
-
   -- each row with that entry is of the document's state
   of_state : (row : Row) → Has s.history.rows row → same_entry row.entry over ≡ true → row.state ≡ d.state
   of_state row has_ same =
       let entries : row.entry ≡ its.it.entry = entry_same row.entry over same ∙ sym (entry_same its.it.entry over its_parts.0) in
       let one : row ≡ its.it = one_row s.history.rows its.it row (tab.sound.entries its.it.entry) its.there has_ entries in
       ap (λ (r : Row). r.state) one ∙ (tab.framed.stated.documents made.doc d here.found).rows_ its.it its.there (nav_is its.it.nav d.nav its_parts.1)
+
+  place_row : has_row here.place.nav s.history.rows ≡ true
+  place_row =
+      ap (λ (n : NavId). has_row n s.history.rows) (place_nav s d.nav here.place here.placed) ∙ has
 
   -- it is the one that the navigable was given
   given : here.place.given ≡ Some over
@@ -122,7 +127,7 @@ module _ (home : ProcId) (run : Option ReqId) (hand : List Made) (s : Seen) (eve
       by_given : (o : Option EntryId) → here.place.given ≡ o → is_some o ≡ true → here.place.given ≡ Some over
       by_given None e some = absurd cc
       by_given (Some x) e some =
-          let all : Continues x (coming (waiting s hand) (desk_of s home) made.doc here.place.epoch) = tab.framed.continues d.nav here.place made.doc x here.placed here.wakes e in
+          let all : Continues x (coming (waiting s hand) (desk_of s home) made.doc here.place.epoch) = tab.framed.continues d.nav here.place made.doc x here.placed here.wakes place_row e in
           let front : coming (waiting s hand) (desk_of s home) made.doc here.place.epoch ≡ made ∷ filter (is_made_under made.doc here.place.epoch) (untold (waiting replaced_ rest) (desk_of s home)) = coming_first (untold (waiting s hand) (desk_of s home)) made (untold (waiting replaced_ rest) (desk_of s home)) (take_list home run hand s event actor tab req q made change there makes first) here.place.epoch here.under in
           let its_over : IsOver x made.what = (subst (λ (l : List Made). Continues x l) front all).0 in
           let same : over ≡ x = subst (λ (w : What). IsOver x w) what its_over in
@@ -151,6 +156,10 @@ module _ (home : ProcId) (run : Option ReqId) (hand : List Made) (s : Seen) (eve
   made_none : is_push made ≡ false
   made_none = ap (λ (w : What). is_push (record made { what = w })) what
 
+  -- the rows of the document's navigable are of its state
+  its_state : (row : Row) → Has s.history.rows row → row.nav ≡ d.nav → row.state ≡ d.state
+  its_state = (tab.framed.stated.documents made.doc d here.found).rows_
+
   taken_up : IsTakenUp home hand rest s replaced_ made g
   taken_up =
       record {
@@ -165,6 +174,7 @@ module _ (home : ProcId) (run : Option ReqId) (hand : List Made) (s : Seen) (eve
         push_told = λ push. absurd (let never : true ≡ false = sym push ∙ made_none in cc);
         list = take_list home run hand s event actor tab req q made change there makes first;
         were = were_taken s event actor req change made d here tab.homes tab.framed.steady (gives d.nav entry) giving places_are;
+        had_row = λ of place doc placed wakes. rows_were s.history.rows replaced_.history.rows (replaced_were s.history.rows over put_row its_state) place.nav;
         gave = λ of place doc placed wakes. (framed.steady of place placed).gave doc wakes;
         had = had_by home s replaced_ tab.framed.documents (placed_on s event actor req change made d here tab.homes tab.framed.steady (gives d.nav entry) giving places_are);
         homes = λ doc x found. (tab.framed.documents doc x found).alive.proc;

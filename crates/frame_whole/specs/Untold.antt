@@ -3,6 +3,7 @@
 use Rattle.coord_facts.specs.Epochs.{EachDocument, IsWithin}
 use Rattle.coord_facts.specs.Leading.{EachAwake, EachIsOfItsNavigable, Face, coming, face_after, face_of_view, held_back, is_push, pending_view}
 use Rattle.coord_facts.specs.Reaching.{EachReaches}
+use Rattle.log_model.specs.History.{has_row}
 use Rattle.log_model.specs.Seen.{Desk, Document, Seen}
 use Rattle.log_model.specs.Views.{View}
 use Rattle.log_model.specs.declared.made.Made.{Made}
@@ -24,9 +25,13 @@ pub record LeadsIf (rows : List Row) (held : List Made) (desk : Desk) (d : Docum
   pub in_epoch : view.epoch ≡ epoch
   pub pair : list_any is_push (coming held desk d.nr epoch) ≡ false → is_some d.told ≡ true → d.told ≡ Some (view.length, view.index)
 
--- so it does for the document of each awake navigable, with these at hand in the event after those that are held back
+-- so it does where the document's navigable has a row
+abbrev pub LeadsWhere : List Row → List Made → Desk → Document → Option EntryId → Epoch → Type 0
+LeadsWhere rows held desk d given epoch = has_row d.nav rows ≡ true → LeadsIf rows held desk d given epoch
+
+-- so it does for the document of each awake navigable that has a row, with these at hand in the event after those that are held back
 abbrev pub EachLeadsIf : List Made → Seen → Type 0
-EachLeadsIf hand s = EachAwake (LeadsIf s.history.rows (held_back s.requests s.parked ++ hand)) s
+EachLeadsIf hand s = EachAwake (LeadsWhere s.history.rows (held_back s.requests s.parked ++ hand)) s
 
 -- what is true between two rows of the documents of all awake navigables
 pub record FlowsIf (hand : List Made) (s : Seen) : Type 0 where
