@@ -111,6 +111,16 @@ module _ (home : ProcId) (run : Option ReqId) (hand : List Made) (s : Seen) (tab
           let there : has_row d.nav s.history.rows ≡ true = has_any (is_of d.nav) s.history.rows a.it a.there (subst (λ (n : NavId). (a.it.nav.0 == n.0) ≡ true) nav (nat_eq_refl a.it.nav.0)) in
           let never : true ≡ false = sym there ∙ bare in absurd cc
 
+-- the request that an order is for is no traversal
+for_none : (s : Seen) (job : Job) (by : ReqId) (r : Asked) → job.why ≡ whys.Req by → request_of s by ≡ Some r → is_traversal r.what ≡ false → (req : ReqId) (q : Asked) → job.why ≡ whys.Req req → request_in s.requests req ≡ Some q → is_traversal q.what ≡ false
+for_none s job by r why there stays req q is at =
+    let same : by ≡ req = whys_same by req (sym why ∙ is) in
+    let one : r ≡ q = some_same (sym there ∙ (ap (λ (x : ReqId). request_in s.requests x) same ∙ at)) in
+    ap (λ (x : Asked). is_traversal x.what) (sym one) ∙ stays
+  where
+    whys_same : (a b : ReqId) → whys.Req a ≡ whys.Req b → a ≡ b
+    whys_same a b e = cc
+
 -- ---- the row
 
 module _ (home : ProcId) (run : Option ReqId) (hand : List Made) (s : Seen) (event : ℕ) (actor : Actor) (tab : IsTab home run hand s) (job : Job) (to : job.proc ≡ home) (first : job.incarnation ≡ 0) (d : Document) (task : job.task ≡ tasks.Discard) (found : document_of s job.doc ≡ Some d) (ready : d.is_ready ≡ true) (gone : has_state d.state s.history.rows ≡ false) where
@@ -220,24 +230,10 @@ module _ (home : ProcId) (run : Option ReqId) (hand : List Made) (s : Seen) (eve
   pub unslept_tab : sleepers_with s job.doc ≡ [] → IsTab home run hand discarded
   unslept_tab none = away_tab (λ req q why there. inr none)
 
-  -- the request that the order is for is no traversal
-  module _ (by : ReqId) (r : Asked) (why : job.why ≡ whys.Req by) (there : request_of s by ≡ Some r) (stays : is_traversal r.what ≡ false) where
-    apart : (req : ReqId) (q : Asked) → job.why ≡ whys.Req req → request_in s.requests req ≡ Some q → is_traversal q.what ≡ false
-    apart req q is at =
-        let same : by ≡ req = whys_same by req (sym why ∙ is) in
-        let one : r ≡ q = some_same (sym there ∙ (ap (λ (x : ReqId). request_in s.requests x) same ∙ at)) in
-        ap (λ (x : Asked). is_traversal x.what) (sym one) ∙ stays
-      where
-        whys_same : (a b : ReqId) → whys.Req a ≡ whys.Req b → a ≡ b
-        whys_same a b e = cc
-
-    pub apart_tab : IsTab home run hand discarded
-    apart_tab = away_tab (λ req q is at. inl (apart req q is at))
-
 -- for no traversal
 pub discard_tab : (home : ProcId) (run : Option ReqId) (hand : List Made) (s : Seen) (event : ℕ) (actor : Actor) → (tab : IsTab home run hand s) → (job : Job) → job.proc ≡ home → job.incarnation ≡ 0 → (d : Document) (by : ReqId) (r : Asked) → job.task ≡ tasks.Discard → document_of s job.doc ≡ Some d → d.is_ready ≡ true → has_state d.state s.history.rows ≡ false → job.why ≡ whys.Req by → request_of s by ≡ Some r → is_traversal r.what ≡ false → IsTab home run hand (next s event actor (rows.Sent job))
 discard_tab home run hand s event actor tab job to first d by r task found ready gone why there stays =
-    apart_tab home run hand s event actor tab job to first d task found ready gone by r why there stays
+    away_tab home run hand s event actor tab job to first d task found ready gone (λ req q is at. inl (for_none s job by r why there stays req q is at))
 
 -- nobody falls asleep with a document that no navigable is awake on
 pub none_sleeps : (s : Seen) (doc : DocId) → ((place : Place) → Has s.places place → place.status ≡ awake doc → ⊥) → sleepers_with s doc ≡ []

@@ -7,19 +7,17 @@ use Rattle.frame_whole.specs.Tab.{IsTab}
 use Rattle.log_model.specs.Causes.{by_mover, denial_at_delivery, has_moved_away, is_outdated}
 use Rattle.log_model.specs.Equal.{has_req, holds}
 use Rattle.log_model.specs.History.{has_row}
-use Rattle.log_model.specs.Places.{is_awake, is_present, is_traversal}
+use Rattle.log_model.specs.Places.{is_present, is_traversal}
 use Rattle.log_model.specs.Points.{nav_of_request}
 use Rattle.log_model.specs.Queue.{begins_in_turn, is_first_joined, is_queue_free}
-use Rattle.log_model.specs.Seen.{Asked, Document, Place, Seen, Status, asleep, awake, document_of, lost, place_of, request_of}
+use Rattle.log_model.specs.Seen.{Asked, Document, Seen, document_of, request_of}
 use Rattle.log_model.specs.declared.made.Made.{Made}
 use Rattle.log_model.specs.declared.outcome.Cause.{Cause}
 use Rattle.log_model.specs.declared.outcome.Denial.{Denial}
 use Rattle.log_model.specs.declared.row_kind.Actor.{Actor}
 use Rattle.plain_tab.specs.Calm.{is_this}
-use Rattle.seen_laws.proofs.Keyed.{find_has}
-use Rattle.std.proofs.Common.{Bool, List, None, Option, Some, [], ap, cond, false, inl, not, refl, sym, true, ℕ, ◌&&◌, ◌==◌, ◌||◌, ◌∙◌, ◌∷◌, ◌≡◌}
+use Rattle.std.proofs.Common.{Bool, List, Option, Some, [], ap, cond, false, inl, not, refl, sym, true, ℕ, ◌&&◌, ◌==◌, ◌||◌, ◌∙◌, ◌∷◌, ◌≡◌}
 use Rattle.std.specs.Prelude.{slice_get}
-use Rattle.tab_ids.specs.declared.NavId.{NavId}
 use Rattle.tab_ids.specs.declared.ProcId.{ProcId}
 use Rattle.tab_ids.specs.declared.ReqId.{ReqId}
 use Rattle.log_model.specs.declared.outcome.Cause.TheVariants as drops

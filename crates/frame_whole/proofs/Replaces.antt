@@ -44,6 +44,7 @@ use Rattle.std.proofs.Common.{Bool, List, None, Option, Some, ap, cond, false, i
 use Rattle.std.proofs.lemmas.Bool.{and_parts}
 use Rattle.std.specs.Prelude.{filter, is_some}
 use Rattle.tab_ids.specs.declared.EntryId.{EntryId}
+use Rattle.tab_ids.specs.declared.NavId.{NavId}
 use Rattle.tab_ids.specs.declared.ProcId.{ProcId}
 use Rattle.tab_ids.specs.declared.ReqId.{ReqId}
 use Rattle.transit_facts.proofs.Applied.{applied_ways}
