@@ -235,7 +235,7 @@ def try_steady(b):
         count('added', n == 0 or s.added_by[n] in s.reqs, n)
         if awake and has_row and not (run is not None and n in s.moved.get(run.nr, ())):
             count('given', p.given == logcheck.D3_target(s.H, n, s.H.current).entry, n)
-        if awake:
+        if awake and has_row:
             entry, continues = p.given, True
             for made in b.mades():
                 if made.doc == p.doc and made.epoch == p.epoch:
