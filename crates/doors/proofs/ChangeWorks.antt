@@ -7,6 +7,7 @@ use Rattle.doors.proofs.EndLaws.{ended_holds, removed_holds}
 use Rattle.doors.proofs.Holding.{at_home_other, awake_home, home_same, listed_unseen}
 use Rattle.doors.proofs.Requests.{runs_applied_apart, runs_applied_own}
 use Rattle.doors.proofs.Sights.{sights_on, sights_same}
+use Rattle.doors.proofs.Whose.{whose_on}
 use Rattle.doors.proofs.Works.{goal_of_none, goal_read, goal_same, work_more}
 use Rattle.doors.specs.Dues.{IsAdded, IsEndDue, IsRemoved, IsTakeDue, KeepsRows, begins}
 use Rattle.doors.specs.Ending.{destroy_all, unmove_all}
@@ -122,7 +123,7 @@ module _ (e : InEvent) (out : List RowKind) (t u : Tables) (req : ReqId) (nav : 
   pub push_work : u.tree ≡ with_nav (λ (n : Nav). record n { told = None }) nav (with_nav (λ (n : Nav). record n { given = Some entry }) nav t.tree) → SameHistory (history_held u.store) (applied (now_of e out).history (changes.Push nav entry state address memo)) → Changes t u → u.states ≡ t.states → u.entries ≡ t.entries → u.running ≡ t.running → u.goal ≡ t.goal → IsAtWork e (out ++ rows.Applied req (changes.Push nav entry state address memo) ∷ []) u
   push_work tree history one states entries running goal =
       taken_work e out t u req (changes.Push nav entry state address memo) work due apart running goal (λ h later. refl)
-      (given_holds (now_of e out) t.running e.event e.actor req nav entry t u work.holds one due.made due.asked due.due.at due.poked.makes (changes.Push nav entry state address memo) untold (pushed_documents nav entry state address memo (now_of e out).documents) refl keeps true homes (listed_unseen (map sight (now_of e out).documents) t.tree t.tree t.making.entries maker untold_sight (λ d. refl) (λ st d there_ is. refl) (λ st d there_ is. refl) refl work.holds.documents) (length-map (map sight (now_of e out).documents) _) (tree ∙ changed_twice (λ (n : Nav). record n { given = Some entry }) (λ (n : Nav). record n { told = None }) nav t.tree) history refl (states ∙ work.holds.states) (entries ∙ work.holds.entries ∙ (rw of_document refl)))
+      (given_holds (now_of e out) t.running e.event e.actor req nav entry t u work.holds one due.made due.asked due.due.at due.poked.makes (changes.Push nav entry state address memo) untold (pushed_documents nav entry state address memo (now_of e out).documents) refl keeps true homes (listed_unseen (map sight (now_of e out).documents) t.tree t.tree t.making.entries maker untold_sight (λ d. refl) (λ st d there_ is. refl) (λ st d there_ is. refl) refl work.holds.documents) (whose_on (map sight (now_of e out).documents) t.whose.entries work.holds.whose untold t.whose.entries maker untold_sight refl refl (λ d. refl) (λ d. refl)) (length-map (map sight (now_of e out).documents) _) (tree ∙ changed_twice (λ (n : Nav). record n { given = Some entry }) (λ (n : Nav). record n { told = None }) nav t.tree) history refl (states ∙ work.holds.states) (entries ∙ work.holds.entries ∙ (rw of_document refl)))
 
 -- ---- a replace
 
@@ -137,7 +138,7 @@ module _ (e : InEvent) (out : List RowKind) (t u : Tables) (req : ReqId) (nav : 
   pub replace_work : u.tree ≡ with_nav (λ (n : Nav). record n { given = Some entry }) nav t.tree → SameHistory (history_held u.store) (applied (now_of e out).history (changes.Replace nav over entry state address memo)) → Changes t u → u.states ≡ t.states → u.entries ≡ t.entries → u.running ≡ t.running → u.goal ≡ t.goal → IsAtWork e (out ++ rows.Applied req (changes.Replace nav over entry state address memo) ∷ []) u
   replace_work tree history one states entries running goal =
       taken_work e out t u req (changes.Replace nav over entry state address memo) work due apart running goal (λ h later. refl)
-      (given_holds (now_of e out) t.running e.event e.actor req nav entry t u work.holds one due.made due.asked due.due.at due.poked.makes (changes.Replace nav over entry state address memo) (map sight (now_of e out).documents) (sights_same (λ (d : Document). applied_to (changes.Replace nav over entry state address memo) (told_after_change d (changes.Replace nav over entry state address memo))) (replaced_documents nav over entry state address memo) (now_of e out).documents) refl keeps false homes_then work.holds.documents refl tree history refl (states ∙ work.holds.states) (entries ∙ work.holds.entries ∙ (rw of_document refl)))
+      (given_holds (now_of e out) t.running e.event e.actor req nav entry t u work.holds one due.made due.asked due.due.at due.poked.makes (changes.Replace nav over entry state address memo) (map sight (now_of e out).documents) (sights_same (λ (d : Document). applied_to (changes.Replace nav over entry state address memo) (told_after_change d (changes.Replace nav over entry state address memo))) (replaced_documents nav over entry state address memo) (now_of e out).documents) refl keeps false homes_then work.holds.documents work.holds.whose refl tree history refl (states ∙ work.holds.states) (entries ∙ work.holds.entries ∙ (rw of_document refl)))
 
 -- ---- a frame is added
 

@@ -4,7 +4,8 @@ use Rattle.doors.proofs.Nodes.{places_with}
 use Rattle.doors.proofs.Requests.{applied_moved, moved_same}
 use Rattle.doors.proofs.Sights.{sights_on, sights_same}
 use Rattle.doors.specs.Look.{Sight, look_of, moved_by, sight}
-use Rattle.doors.specs.Ties.{AreHeld, AreListed, AreTied, Holds, IsAwakeAtHome, IsTied}
+use Rattle.doors.proofs.Whose.{whose_same}
+use Rattle.doors.specs.Ties.{AreHeld, AreListed, AreTied, AreWhose, Holds, IsAwakeAtHome, IsTied}
 use Rattle.doors.specs.declared.tables.Tables.{Tables}
 use Rattle.log_model.proofs.Refl.{nat_eq_refl}
 use Rattle.log_model.specs.After.{after}
@@ -72,6 +73,7 @@ none_taken old new req (p ∷ places) keeps = by_test (has_row p.nav old.rows) r
 -- the navigables are changed; nothing was sent or made
 pub record Changes (t u : Tables) : Type 0 where
   pub making : u.making.entries ≡ t.making.entries
+  pub whose : u.whose.entries ≡ t.whose.entries
   pub documents : u.documents ≡ t.documents
   pub sent : length u.sent.items ≡ length t.sent.items
 
@@ -141,11 +143,12 @@ module _ (s : Seen) (run : Option ReqId) (event : ℕ) (actor : Actor) (req : Re
                 home = home_ false (turned false t_);
               }))
 
-      pub given_holds : AreListed documents t.tree t.making.entries → length documents ≡ length (map sight s.documents) → u.tree ≡ with_nav (given_nav entry pushed) nav t.tree → SameHistory (history_held u.store) (applied s.history change) → new.history ≡ applied s.history change → u.states ≡ new.states → u.entries ≡ new.entries → Holds (look_of new run) u
-      given_holds listed long tree history its states entries =
+      pub given_holds : AreListed documents t.tree t.making.entries → AreWhose documents t.whose.entries → length documents ≡ length (map sight s.documents) → u.tree ≡ with_nav (given_nav entry pushed) nav t.tree → SameHistory (history_held u.store) (applied s.history change) → new.history ≡ applied s.history change → u.states ≡ new.states → u.entries ≡ new.entries → Holds (look_of new run) u
+      given_holds listed whose long tree history its states entries =
           record {
             navs = subst (λ (x : Tree). AreHeld (look_of new run) x) (sym tree) (subst (λ (l : List Sight). AreHeld (record (look_of new run) { documents = l }) (with_nav (given_nav entry pushed) nav t.tree)) (sym documents_are) (subst (λ (l : List NavId). AreHeld (record (look_of new run) { documents = documents; moved = l }) (with_nav (given_nav entry pushed) nav t.tree)) (sym (moved_same s.requests new.requests run (applied_moved s event actor req change))) (held_changed (look_of s run) (record (look_of new run) { documents = documents; moved = moved_by s.requests run }) t.tree (with_nav (given_nav entry pushed) nav t.tree) (on_nav (given_nav entry pushed) nav) given_place (λ other. node_with_nav (given_nav entry pushed) nav other t.tree) (keys_with_nav (given_nav entry pushed) nav t.tree) given_place_nav places_are tie holds.navs)));
             documents = subst (λ (es : List (StateId × DocId)). AreListed (map sight new.documents) u.tree es) (sym one.making) (subst (λ (x : Tree). AreListed (map sight new.documents) x t.making.entries) (sym tree) (subst (λ (l : List Sight). AreListed l (with_nav (given_nav entry pushed) nav t.tree) t.making.entries) (sym documents_are) (listed_tree documents t.tree (with_nav (given_nav entry pushed) nav t.tree) t.making.entries (places_with (given_nav entry pushed) nav t.tree) listed)));
+            whose = whose_same documents t.whose.entries whose (map sight new.documents) u.whose.entries one.whose documents_are;
             history = subst (λ (h : History). SameHistory (history_held u.store) h) (sym its) history;
             numbered = one.documents ∙ holds.numbered ∙ sym (ap (λ (l : List Sight). length l) documents_are ∙ long);
             states = states;
@@ -247,6 +250,7 @@ module _ (s : Seen) (run : Option ReqId) (event : ℕ) (actor : Actor) (req : Re
           order = held.order ∙ ap (λ (l : List Place). map (λ (p : Place). p.nav) l) (sym added_places);
         })));
         documents = subst (λ (es : List (StateId × DocId)). AreListed (map sight added_new.documents) u.tree es) (sym one.making) (subst (λ (x : Tree). AreListed (map sight added_new.documents) x t.making.entries) (sym tree) (subst (λ (l : List Sight). AreListed l added_tree t.making.entries) (sym same_documents) (listed_tree (map sight s.documents) t.tree added_tree t.making.entries refl holds.documents)));
+        whose = whose_same (map sight s.documents) t.whose.entries holds.whose (map sight added_new.documents) u.whose.entries one.whose same_documents;
         history = history;
         numbered = one.documents ∙ holds.numbered ∙ sym (ap (λ (l : List Sight). length l) same_documents);
         states = states;

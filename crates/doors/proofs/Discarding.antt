@@ -6,6 +6,7 @@ use Rattle.doors.proofs.Keyed.{off_once, off_other, off_same, state_same}
 use Rattle.doors.proofs.Nodes.{places_asleep}
 use Rattle.doors.proofs.Sights.{found_has, listed_gone, listed_kept, sights_document, sights_on}
 use Rattle.doors.proofs.Telling.{SendsOne}
+use Rattle.doors.proofs.Whose.{whose_on}
 use Rattle.doors.specs.Look.{Sight, is_live_for, is_made_for, look_of, moved_by, sight, sight_in}
 use Rattle.doors.specs.Orders.{next_order}
 use Rattle.doors.specs.Ties.{AreHeld, AreListed, AreOnceKeyed, Holds, IsListed, IsOneSuch, IsTied}
@@ -143,6 +144,7 @@ module _ (s : Seen) (run : Option ReqId) (event : ℕ) (actor : Actor) (proc : P
       record {
         navs = subst (λ (x : Tree). AreHeld (look_of discard_new run) x) (sym tree) (subst (λ (l : List Sight). AreHeld (record (look_of discard_new run) { documents = l }) slept_tree) (sym documents_are) (subst (λ (l : List NavId). AreHeld (record (look_of discard_new run) { documents = gone; moved = l }) slept_tree) (sym moved) (held_changed (look_of s run) (record (look_of discard_new run) { documents = gone; moved = moved_by s.requests run }) (discarded state t.tree) slept_tree (slept_node navs why) slept (λ other. node_sleep_all navs why other (discarded state t.tree)) (keys_sleep_all navs why (discarded state t.tree)) slept_nav refl tie (record { navs = holds.navs.navs; order = holds.navs.order }))));
         documents = subst (λ (es : List (StateId × DocId)). AreListed (map sight discard_new.documents) u.tree es) (sym one.making) (subst (λ (x : Tree). AreListed (map sight discard_new.documents) x t.making.entries) (sym tree) (subst (λ (l : List Sight). AreListed l slept_tree t.making.entries) (sym documents_are) listed));
+        whose = whose_on (map sight s.documents) t.whose.entries holds.whose (map sight discard_new.documents) u.whose.entries doc discarded_sight one.whose documents_are (λ x. refl) (λ x. refl);
         history = subst (λ (h : History). SameHistory h s.history) (sym one.history) holds.history;
         numbered = one.documents ∙ holds.numbered ∙ sym (ap (λ (l : List Sight). length l) documents_are ∙ length-map (map sight s.documents) _);
         states = one.states ∙ holds.states;

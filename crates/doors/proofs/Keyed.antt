@@ -1,4 +1,4 @@
--- Look-ups in a table by document state, after something was put in or taken out.
+-- Look-ups in a table by a number, as a document state's, after something was put in or taken out.
 use Rattle.doors.specs.Ties.{AreOnceKeyed}
 use Rattle.log_model.proofs.Refl.{nat_eq_refl}
 use Rattle.nav_tree.specs.Tree.{is_state}
@@ -14,24 +14,36 @@ state_same a b is = ap (λ (n : ℕ). let state : StateId = record { 0 = n } in 
 pub itself : (state : StateId) → is_state state state ≡ true
 itself state = nat_eq_refl state.0
 
-module _ {V : Type 0} where
-  -- what was put in is found
-  pub put_same : (es : List (StateId × V)) (state : StateId) (v : V) → lookup (is_state state) (insert_entry is_state es state v) ≡ Some v
-  put_same [] state v = rw (itself state) refl
-  put_same (e ∷ es) state v = by_test (is_state state e.0) refl (put_same es state v)
-    where
-      by_test : (b : Bool) → is_state state e.0 ≡ b → lookup (is_state state) (insert_entry is_state es state v) ≡ Some v → lookup (is_state state) (insert_entry is_state (e ∷ es) state v) ≡ Some v
-      by_test true is more = rw is (rw is refl)
-      by_test false is more = rw is (rw is more)
+-- keys that have numbers
+module _ {K : Type 0} (number : K → ℕ) where
+  abbrev same_number : K → K → Bool
+  same_number one other = number one == number other
 
-  -- another is found as before
+  module _ {V : Type 0} where
+    -- what was put in is found
+    pub put_itself : (es : List (K × V)) (key : K) (v : V) → lookup (same_number key) (insert_entry same_number es key v) ≡ Some v
+    put_itself [] key v = rw (nat_eq_refl (number key)) refl
+    put_itself (e ∷ es) key v = by_test (same_number key e.0) refl (put_itself es key v)
+      where
+        by_test : (b : Bool) → same_number key e.0 ≡ b → lookup (same_number key) (insert_entry same_number es key v) ≡ Some v → lookup (same_number key) (insert_entry same_number (e ∷ es) key v) ≡ Some v
+        by_test true is more = rw is (rw is refl)
+        by_test false is more = rw is (rw is more)
+
+    -- another is found as before
+    pub put_apart : (es : List (K × V)) (key other : K) (v : V) → same_number key other ≡ false → lookup (same_number other) (insert_entry same_number es key v) ≡ lookup (same_number other) es
+    put_apart [] key other v apart = let no : same_number other key ≡ false = grind (arith, nat_tests, apart) in rw no refl
+    put_apart (e ∷ es) key other v apart = by_test (same_number key e.0) refl (put_apart es key other v apart)
+      where
+        by_test : (b : Bool) → same_number key e.0 ≡ b → lookup (same_number other) (insert_entry same_number es key v) ≡ lookup (same_number other) es → lookup (same_number other) (insert_entry same_number (e ∷ es) key v) ≡ lookup (same_number other) (e ∷ es)
+        by_test true is more = let no : same_number other e.0 ≡ false = grind (arith, nat_tests, is, apart) in rw is (rw no refl)
+        by_test false is more = rw is (ap (λ (o : Option V). cond (same_number other e.0) (Some e.1) o) more)
+
+module _ {V : Type 0} where
+  pub put_same : (es : List (StateId × V)) (state : StateId) (v : V) → lookup (is_state state) (insert_entry is_state es state v) ≡ Some v
+  put_same es state v = put_itself (λ (x : StateId). x.0) es state v
+
   pub put_other : (es : List (StateId × V)) (state other : StateId) (v : V) → (state.0 == other.0) ≡ false → lookup (is_state other) (insert_entry is_state es state v) ≡ lookup (is_state other) es
-  put_other [] state other v apart = let no : is_state other state ≡ false = grind (arith, nat_tests, apart) in rw no refl
-  put_other (e ∷ es) state other v apart = by_test (is_state state e.0) refl (put_other es state other v apart)
-    where
-      by_test : (b : Bool) → is_state state e.0 ≡ b → lookup (is_state other) (insert_entry is_state es state v) ≡ lookup (is_state other) es → lookup (is_state other) (insert_entry is_state (e ∷ es) state v) ≡ lookup (is_state other) (e ∷ es)
-      by_test true is more = let no : is_state other e.0 ≡ false = grind (arith, nat_tests, is, apart) in rw is (rw no refl)
-      by_test false is more = rw is (ap (λ (o : Option V). cond (is_state other e.0) (Some e.1) o) more)
+  put_other es state other v apart = put_apart (λ (x : StateId). x.0) es state other v apart
 
   pub put_once : (es : List (StateId × V)) (state : StateId) (v : V) → AreOnceKeyed es → AreOnceKeyed (insert_entry is_state es state v)
   put_once [] state v once = (refl, tt)

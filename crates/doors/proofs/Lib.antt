@@ -1,6 +1,7 @@
 pub mod Nodes
 pub mod Keyed
 pub mod Sights
+pub mod Whose
 pub mod Holding
 pub mod Telling
 pub mod Showing

@@ -8,7 +8,8 @@ use Rattle.doors.proofs.Keyed.{off_once, off_other, off_same, put_once, put_othe
 use Rattle.doors.proofs.Sights.{KeepsNumber, found_has, found_same, listed_gone, listed_kept, listed_more, listed_new, sights_on}
 use Rattle.doors.specs.Look.{Look, Sight, is_live_for, is_made_for, look_of, moved_by, sight, sight_in}
 use Rattle.doors.specs.Orders.{next_order}
-use Rattle.doors.specs.Ties.{AreHeld, AreListed, AreTied, Holds, IsListed, IsOneSuch}
+use Rattle.doors.proofs.Whose.{whose_more, whose_on}
+use Rattle.doors.specs.Ties.{AreHeld, AreListed, AreTied, Holds, IsListed, IsOneSuch, is_doc}
 use Rattle.doors.specs.declared.tables.Tables.{Tables}
 use Rattle.hang_facts.proofs.Members.{has_any, has_map}
 use Rattle.hang_facts.specs.Members.{Has}
@@ -49,9 +50,10 @@ not_live state d unready = rw unready (rw (never_both (d.state.0 == state.0)) re
 -- ---- it is to be made
 
 -- an order more was sent, to make a document of the state; the navigables are as they were
-pub record MakesOne (state : StateId) (doc : DocId) (t u : Tables) : Type 0 where
+pub record MakesOne (nav : NavId) (state : StateId) (doc : DocId) (t u : Tables) : Type 0 where
   pub tree : u.tree ≡ t.tree
   pub making : u.making.entries ≡ insert_entry is_state t.making.entries state doc
+  pub whose : u.whose.entries ≡ insert_entry is_doc t.whose.entries doc nav
   pub history : history_held u.store ≡ history_held t.store
   pub documents : u.documents ≡ t.documents + 1
   pub states : u.states ≡ t.states
@@ -122,11 +124,12 @@ module _ (s : Seen) (run : Option ReqId) (event : ℕ) (actor : Actor) (proc : P
     held : AreHeld (record (look_of make_new run) { documents = grown }) t.tree
     held = record { navs = λ other. tied_more other (node_of other t.tree) (place_in s.places other) (holds.navs.navs other); order = holds.navs.order }
 
-    pub make_holds : (u : Tables) → MakesOne state doc t u → Holds (look_of make_new run) u
+    pub make_holds : (u : Tables) → MakesOne nav state doc t u → Holds (look_of make_new run) u
     make_holds u one =
         record {
           navs = subst (λ (x : Tree). AreHeld (look_of make_new run) x) (sym one.tree) (subst (λ (l : List Sight). AreHeld (record (look_of make_new run) { documents = l }) t.tree) (sym documents_are) held);
           documents = subst (λ (es : List (StateId × DocId)). AreListed (map sight make_new.documents) u.tree es) (sym one.making) (subst (λ (x : Tree). AreListed (map sight make_new.documents) x (insert_entry is_state t.making.entries state doc)) (sym one.tree) (subst (λ (l : List Sight). AreListed l t.tree (insert_entry is_state t.making.entries state doc)) (sym documents_are) listed));
+          whose = whose_more (map sight s.documents) t.whose.entries holds.whose (map sight make_new.documents) u.whose.entries new_sight one.whose documents_are unknown;
           history = subst (λ (h : History). SameHistory h s.history) (sym one.history) holds.history;
           numbered = one.documents ∙ ap (λ (n : ℕ). n + 1) holds.numbered ∙ sym (ap (λ (l : List Sight). length l) documents_are ∙ length-append (map sight s.documents) (new_sight ∷ []));
           states = one.states ∙ holds.states;
@@ -161,6 +164,7 @@ listed_comes test doc g documents d keeps found is none =
 -- the document is made, and placed for its state
 pub record PlacesOne (state : StateId) (place : live_place.Place) (t u : Tables) : Type 0 where
   pub tree : u.tree ≡ placed state place t.tree
+  pub whose : u.whose.entries ≡ t.whose.entries
   pub making : u.making.entries ≡ remove_entry (is_state state) t.making.entries
   pub history : history_held u.store ≡ history_held t.store
   pub documents : u.documents ≡ t.documents
@@ -248,6 +252,7 @@ module _ (look new : Look) (t : Tables) (doc : DocId) (state : StateId) (place :
           order = ap (λ (x : Tree). map (λ (e : NavId × Node). e.0) x.navs) one.tree ∙ holds.navs.order ∙ ap (λ (l : List Place). map (λ (p : Place). p.nav) l) (sym places);
         };
         documents = subst (λ (es : List (StateId × DocId)). AreListed new.documents u.tree es) (sym one.making) (subst (λ (x : Tree). AreListed new.documents x (remove_entry (is_state state) t.making.entries)) (sym one.tree) (subst (λ (l : List Sight). AreListed l (placed state place t.tree) (remove_entry (is_state state) t.making.entries)) (sym documents) listed_now));
+        whose = whose_on look.documents t.whose.entries holds.whose new.documents u.whose.entries doc made_ready one.whose documents (λ x. refl) (λ x. refl);
         history = subst (λ (h : History). SameHistory h new.history) (sym one.history) (subst (λ (h : History). SameHistory (history_held t.store) h) (sym history) holds.history);
         numbered = one.documents ∙ holds.numbered ∙ sym (ap (λ (l : List Sight). length l) documents ∙ length-map look.documents _);
         states = one.states ∙ holds.states ∙ sym states;

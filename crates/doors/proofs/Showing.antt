@@ -3,6 +3,7 @@ use Rattle.doors.proofs.Holding.{held_changed, home_other, listed_unseen}
 use Rattle.doors.proofs.Nodes.{places_with}
 use Rattle.doors.proofs.Sights.{found_same, sight_of, sights_document, sights_on}
 use Rattle.doors.proofs.Telling.{SendsOne, told_to}
+use Rattle.doors.proofs.Whose.{whose_on}
 use Rattle.doors.specs.Look.{Sight, look_of, moved_by, sight, sight_in}
 use Rattle.doors.specs.Orders.{next_order}
 use Rattle.doors.specs.Ties.{AreHeld, AreListed, Holds, IsAwakeAtHome, IsHome, IsTied}
@@ -158,6 +159,7 @@ module _ (s : Seen) (run : Option ReqId) (event : ℕ) (actor : Actor) (proc : P
         record {
           navs = subst (λ (x : Tree). AreHeld (look_of show_new run) x) (sym tree) (subst (λ (l : List Sight). AreHeld (record (look_of show_new run) { documents = l }) (with_nav its_nav d.nav t.tree)) (sym show_documents) (subst (λ (l : List NavId). AreHeld (record (look_of show_new run) { documents = documents_then; moved = l }) (with_nav its_nav d.nav t.tree)) (sym moved_is) (held_changed (look_of s run) (record (look_of show_new run) { documents = documents_then; moved = moved }) t.tree (with_nav its_nav d.nav t.tree) (on_nav its_nav d.nav) show_place (λ other. node_with_nav its_nav d.nav other t.tree) (keys_with_nav its_nav d.nav t.tree) show_place_nav places_are tie holds.navs)));
           documents = subst (λ (es : List (StateId × DocId)). AreListed (map sight show_new.documents) u.tree es) (sym one.making) (subst (λ (x : Tree). AreListed (map sight show_new.documents) x t.making.entries) (sym tree) (subst (λ (l : List Sight). AreListed l (with_nav its_nav d.nav t.tree) t.making.entries) (sym show_documents) (listed_unseen (map sight s.documents) t.tree (with_nav its_nav d.nav t.tree) t.making.entries doc (told_to pair) (λ x. refl) (λ state x there_ is. refl) (λ state x there_ is. refl) (places_with its_nav d.nav t.tree) holds.documents)));
+          whose = whose_on (map sight s.documents) t.whose.entries holds.whose (map sight show_new.documents) u.whose.entries doc (told_to pair) one.whose show_documents (λ x. refl) (λ x. refl);
           history = subst (λ (h : History). SameHistory h s.history) (sym one.history) holds.history;
           numbered = one.documents ∙ holds.numbered ∙ sym (ap (λ (l : List Sight). length l) show_documents ∙ length-map (map sight s.documents) _);
           states = one.states ∙ holds.states;

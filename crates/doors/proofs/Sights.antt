@@ -86,6 +86,11 @@ found_last (x ∷ documents) new none = by_test (x.nr.0 == new.nr.0) none (found
     by_test true is more = cc
     by_test false is more = more is
 
+-- another is found as before
+pub found_before : (documents : List Sight) (new : Sight) (doc : DocId) → (new.nr.0 == doc.0) ≡ false → sight_in (documents ++ new ∷ []) doc ≡ sight_in documents doc
+found_before [] new doc apart = rw apart refl
+found_before (x ∷ documents) new doc apart = ap (λ (o : Option Sight). cond (x.nr.0 == doc.0) (Some x) o) (found_before documents new doc apart)
+
 -- what is found is there
 pub found_has : (documents : List Sight) (doc : DocId) (d : Sight) → sight_in documents doc ≡ Some d → Has documents d
 found_has [] doc d at = cc

@@ -197,6 +197,7 @@ module _ (e : InEvent) (out : List RowKind) (t : Tables) (req : ReqId) (goal : S
           record {
             navs = holds.navs;
             documents = holds.documents;
+            whose = holds.whose;
             history = holds.history;
             numbered = holds.numbered;
             states = holds.states;

@@ -248,7 +248,7 @@ module _ (e : InEvent) (out : List RowKind) (t u : Tables) (doc : DocId) (why : 
   make_lawful due known =
       lawful_plain e out (rows.Sent make) (make_quiet e make nav state address initial refl) (sent_held e out make) work.lawful (make_may (here_of e out) e.event e.actor make nav state address initial (led_here e out work.own) (record { number = refl; incarnation = sym known }) (subst (λ (hd : Header). IsMakeDue hd (now_of e out) make nav state address initial) (sym (header_here e out)) due))
 
-  pub make_work : IsMakeDue e.header (now_of e out) make nav state address initial → (desk_of (now_of e out) t.home).known ≡ 0 → sight_in (map sight (now_of e out).documents) doc ≡ None → lookup (is_state state) t.making.entries ≡ None → MakesOne state doc t u → u.running ≡ t.running → u.goal ≡ t.goal → IsAtWork e (out ++ rows.Sent make ∷ []) u
+  pub make_work : IsMakeDue e.header (now_of e out) make nav state address initial → (desk_of (now_of e out) t.home).known ≡ 0 → sight_in (map sight (now_of e out).documents) doc ≡ None → lookup (is_state state) t.making.entries ≡ None → MakesOne nav state doc t u → u.running ≡ t.running → u.goal ≡ t.goal → IsAtWork e (out ++ rows.Sent make ∷ []) u
   make_work due known unknown unmade one running goal =
       work_more e out (rows.Sent make) t u work
       (subst (λ (r : Option ReqId). Holds (look_of (after (now_of e out) (row_of e (rows.Sent make))) r) u) (sym running) (make_holds (now_of e out) t.running e.event e.actor t.home doc why nav state address initial t work.holds unknown unmade u one))

@@ -1,4 +1,4 @@
--- What the coordinator's tables keep of what a log has come to: each navigable by its number, the documents that are there or being made by their document states, the history, and how many of each were numbered.
+-- What the coordinator's tables keep of what a log has come to: each navigable by its number, the documents that are there or being made by their document states, the navigable of each document, the history, and how many of each were numbered.
 -- This project's own. Navigables and active documents are the HTML Standard's ("Navigables").
 use Rattle.apply_plan.specs.Needs.{is_pending}
 use Rattle.doors.specs.Look.{Look, Sight, is_live_for, is_made_for, sight_in}
@@ -94,6 +94,16 @@ pub record AreListed (documents : List Sight) (tree : Tree) (making : List (Stat
   pub live_once : AreOnceKeyed tree.places
   pub made_once : AreOnceKeyed making
 
+-- ---- whose documents are
+
+-- the numbers of two documents are the same
+abbrev pub is_doc : DocId → DocId → Bool
+is_doc doc other = doc.0 == other.0
+
+-- the table has the navigable of each document that was ever made
+abbrev pub AreWhose : List Sight → List (DocId × NavId) → Type 0
+AreWhose documents whose = (doc : DocId) → lookup (is_doc doc) whose ≡ option_map (λ (d : Sight). d.nav) (sight_in documents doc)
+
 -- the history of the store is that of the log, up to the order of its rows
 abbrev pub HoldsHistory : History → History → Type 0
 HoldsHistory held history = SameHistory held history
@@ -110,6 +120,7 @@ pub record IsRunning (asked : List Asked) (run : Option ReqId) : Type 0 where
 pub record Holds (look : Look) (t : Tables) : Type 0 where
   pub navs : AreHeld look t.tree
   pub documents : AreListed look.documents t.tree t.making.entries
+  pub whose : AreWhose look.documents t.whose.entries
   pub history : HoldsHistory (history_held t.store) look.history
   pub numbered : t.documents ≡ length look.documents
   pub states : t.states ≡ look.states

@@ -143,6 +143,7 @@ impl Tables {
         let job = count_order(&mut self.sent, self.home, doc, why, task)?;
         out.push(RowKind::Sent { job })?;
         self.making.insert(state, doc)?;
+        self.whose.insert(doc, nav)?;
         self.documents += 1;
         Ok(())
     }

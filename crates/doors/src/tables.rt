@@ -1,9 +1,13 @@
 //! `Tables`, what the coordinator keeps.
+ghost use Rattle.std.specs.Prelude.{◌≡◌};
+ghost use Rattle.std.specs.Map.{lookup};
+ghost use Rattle.doors.specs.Ties.{is_doc};
+
 use address::OutOfMemory;
 use indexmap::IndexMap;
 use nav_tree::NavTree;
 use step_index::StepIndex;
-use tab_ids::{DocId, ProcId, ReqId, StateId, Step};
+use tab_ids::{DocId, NavId, ProcId, ReqId, StateId, Step};
 
 /// The session history, the navigables with the documents that are there, those that are being made, how many of each were numbered, and where the tab's documents live.
 #[derive(Drop)]
@@ -12,6 +16,8 @@ pub struct Tables {
     pub tree: NavTree,
     /// The document that is being made for a document state.
     pub making: IndexMap<StateId, DocId>,
+    /// The navigable of each document that was ever made.
+    pub whose: IndexMap<DocId, NavId>,
     /// How many documents, document states and entries of the coordinator were numbered.
     pub documents: u64,
     pub states: u32,
@@ -23,4 +29,13 @@ pub struct Tables {
     /// The traversal that runs, and the step that it leads to.
     pub running: Option<ReqId>,
     pub goal: Step,
+}
+
+impl Tables {
+    /// The navigable for which a document was made; None where no document has the number.
+    pub fn nav_of(&self, doc: DocId) -> Option<NavId>
+        ensures { result ≡ lookup (is_doc doc) self.now.whose.entries }
+    {
+        self.whose.get(&doc).copied()
+    }
 }

@@ -16,7 +16,7 @@ set_moved-requires g c = still_more _ _ _ _ c.set_told.ensures (show_known_more 
 
 pub returns-clause-work : goal.returns-clause-work
 returns-clause-work g c =
-    rw (c.set_moved.ensures, c.set_told.ensures, c.give.ensures.tree, c.is_some.ensures) (next_work _ _ _ _ (order_is _ _ _ _ _ _ _ _ _ c.requires.0 c.in_ok-push.ensures.ok c.in_ok-job.ensures.job) (show_work _ _ _ _ _ _ _ _ _ _ _ _ _ c.requires.0 c.requires.1.0 c.requires.1.1.0 refl (record { making = refl; history = refl; documents = refl; states = refl; entries = refl; sent = c.in_ok-job.ensures.sent }) refl refl))
+    rw (c.set_moved.ensures, c.set_told.ensures, c.give.ensures.tree, c.is_some.ensures) (next_work _ _ _ _ (order_is _ _ _ _ _ _ _ _ _ c.requires.0 c.in_ok-push.ensures.ok c.in_ok-job.ensures.job) (show_work _ _ _ _ _ _ _ _ _ _ _ _ _ c.requires.0 c.requires.1.0 c.requires.1.1.0 refl (record { making = refl; whose = refl; history = refl; documents = refl; states = refl; entries = refl; sent = c.in_ok-job.ensures.sent }) refl refl))
 
 pub returns-clause-out : goal.returns-clause-out
 returns-clause-out g c = order_is _ _ _ _ _ _ _ _ _ c.requires.0 c.in_ok-push.ensures.ok c.in_ok-job.ensures.job
