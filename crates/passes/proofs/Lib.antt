@@ -13,3 +13,10 @@ pub mod Stand
 pub mod Tellings
 pub mod Tells
 pub mod Untold
+pub mod Sweeps
+pub mod Sleepers
+pub mod Discarded
+pub mod Onlies
+pub mod Takers
+pub mod Gone
+pub mod Sweepings

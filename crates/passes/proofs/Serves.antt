@@ -39,14 +39,11 @@ use Rattle.hang_facts.proofs.Members.{find_has}  -- keep
 use Rattle.std.specs.Map.{lookup}  -- keep
 use Rattle.apply_plan.specs.Needs.{need_of}
 use Rattle.coord_facts.proofs.Unread.{next}
-use Rattle.coord_facts.specs.Leading.{pending_view}
 use Rattle.doors.specs.Look.{Sight}
 use Rattle.frame_rows.specs.Making.{IsMakeDue}
 use Rattle.hang_facts.proofs.Parts.{state_is}
-use Rattle.hang_facts.proofs.Targets.{some_is}
 use Rattle.log_model.specs.History.{target_entry}
 use Rattle.log_model.specs.Places.{aim_of, is_shown, pair_at}
-use Rattle.log_model.specs.Views.{View}
 use Rattle.log_model.specs.declared.job.Job.{Job}
 use Rattle.log_model.specs.declared.job.Why.{Why}
 use Rattle.log_model.specs.declared.made.Made.{Made}
@@ -54,7 +51,7 @@ use Rattle.log_model.specs.declared.row.Row.{Row}
 use Rattle.log_model.specs.declared.row_kind.RowKind.{RowKind}
 use Rattle.rest_facts.proofs.Stands.{get_of}
 use Rattle.seen_laws.specs.InEvent.{InEvent, now_of}
-use Rattle.std.proofs.Common.{Bool, List, None, Option, Some, [], ap, arith, false, length, map, not, refl, subst, sym, true, ℕ, ◌&&◌, ◌++◌, ◌+◌, ◌<◌, ◌==◌, ◌∙◌, ◌∷◌, ◌≡◌, ◌≤◌}
+use Rattle.std.proofs.Common.{Bool, List, None, Option, Some, [], ap, arith, false, inl, inr, length, map, not, refl, subst, sym, true, ℕ, ◌&&◌, ◌++◌, ◌+◌, ◌<◌, ◌==◌, ◌∙◌, ◌∷◌, ◌≡◌, ◌≤◌, ◌⊎◌}
 use Rattle.std.specs.List.{list_any}
 use Rattle.std.specs.Prelude.{is_some}
 use Rattle.tab_ids.specs.declared.DocId.{DocId}
@@ -68,6 +65,11 @@ use Rattle.std.specs.Prelude.{IfSome, option_map}
 use Rattle.step_index.specs.Held.{history_held}
 use Rattle.tab_ids.specs.declared.EntryId.{EntryId}
 use Rattle.tab_ids.specs.declared.StateId.{StateId}
+
+-- an order that makes a document is for what one is for that shows it, or for the cause
+pub made_whys : (new : Bool) (run : Option ReqId) (cause why : Why) → why ≡ make_why new run cause → (why ≡ show_why run cause) ⊎ (why ≡ cause)
+made_whys true run cause why is = inr is
+made_whys false run cause why is = inl is
 
 -- all that a turn leaves
 pub record IsServedNow (e : InEvent) (was out : List RowKind) (u : Tables) (hand : List Made) (nav : NavId) : Type 0 where

@@ -79,7 +79,7 @@ pub length_same : (asked then_ : List Asked) → map blur then_ ≡ map blur ask
 length_same asked then_ same = sym (length-map then_ blur) ∙ ap (λ (l : List Asked). length l) same ∙ length-map asked blur
 
 -- requests that are there go on
-asked_still : (s t : Seen) (run : Option ReqId) → ArePlainlyAsked run t → SameReads (λ (q : Asked). q.ending) s.requests t.requests → (why : Why) → MayCause s why → MayCause t why
+pub asked_still : (s t : Seen) (run : Option ReqId) → ArePlainlyAsked run t → SameReads (λ (q : Asked). q.ending) s.requests t.requests → (why : Why) → MayCause s why → MayCause t why
 asked_still s t run plain same why may req is = by_there (request_of s req) refl (by_old (request_of s req) (may req is))
   where
     by_old : (o : Option Asked) → holds (λ (q : Asked). implies (is_checked q) (has_passed s q)) o ≡ true → is_some o ≡ true
@@ -94,7 +94,7 @@ asked_still s t run plain same why may req is = by_there (request_of s req) refl
     by_there None at h = absurd cc
     by_there (Some q) at h = by_new (request_of t req) refl (ap (λ (o : Option (Option Ending)). is_some o) (same req) ∙ ap (λ (o : Option Asked). is_some (option_map (λ (x : Asked). x.ending) o)) at)
 
-blind : IsBlind (λ (q : Asked). q.ending)
+pub blind : IsBlind (λ (q : Asked). q.ending)
 blind = record { moves = λ q activated moved. refl; asks = λ q asks. refl; fragments = λ q doc. refl; misses = λ q is. refl }
 
 -- ---- one is shown its document

@@ -10,22 +10,20 @@ use Rattle.plan_laws.proofs.WalkLaws.{walk_is}  -- keep
 use Rattle.walk_facts.proofs.Order.{walk_is as is_walk}  -- keep
 use Rattle.passes.proofs.Stand.{stand_for}  -- keep
 use Rattle.hang_facts.proofs.Forms.{nav_is}
-use Rattle.hang_facts.specs.Members.{Has}
 use Rattle.log_model.specs.ActsAtOnce.{ends_told}
 use Rattle.log_model.specs.History.{has_nav}
 use Rattle.log_model.specs.Seen.{Place, place_in}
-use Rattle.log_model.specs.declared.job.Job.{Job}
 use Rattle.log_model.specs.declared.job.Why.{Why}
 use Rattle.log_model.specs.declared.made.Made.{Made}
 use Rattle.log_model.specs.declared.row_kind.RowKind.{RowKind}
+use Rattle.passes.proofs.Onlies.{only_none, only_then}
 use Rattle.passes.proofs.Tellings.{all_told, more_none, more_then}
 use Rattle.passes.specs.Passing.{InPass, IsPassing}
-use Rattle.passes.specs.Telling.{HasOnlyTold, IsToldAt, IsToldTurn, IsUpdateFor, NamesAll, length_index}
+use Rattle.passes.specs.Telling.{HasOnlyTold, IsToldAt, IsToldTurn, IsUpdateFor, NamesAll}
 use Rattle.seen_laws.specs.InEvent.{InEvent, now_of}
-use Rattle.std.proofs.Common.{Bool, List, Some, [], ap, append-nil, append_assoc, arith, false, inl, inr, length, map, refl, subst, suc, sym, true, ℕ, ◌++◌, ◌+◌, ◌<◌, ◌==◌, ◌||◌, ◌∙◌, ◌∷◌, ◌≡◌, ◌≤◌, ◌⊎◌}
+use Rattle.std.proofs.Common.{Bool, List, Some, [], ap, arith, false, length, map, refl, subst, suc, sym, true, ℕ, ◌+◌, ◌<◌, ◌==◌, ◌||◌, ◌∙◌, ◌∷◌, ◌≡◌, ◌≤◌}
 use Rattle.std.specs.Prelude.{slice_get}
 use Rattle.tab_ids.specs.declared.NavId.{NavId}
-use Rattle.log_model.specs.declared.row_kind.RowKind.TheVariants as rows
 
 -- the tree's navigables are the log's, so each with a place is in the walk
 pub walk_names : (e : InEvent) (out : List RowKind) (t : Tables) (hand : List Made) → IsPassing e out t hand → (walk : List NavId) → walk ≡ walk_of t.tree → NamesAll (now_of e out) walk
@@ -39,34 +37,6 @@ kept_none t = record { store = refl; home = refl; running = refl; goal = refl }
 kept_then : (t u v : Tables) → KeepsStore t u → KeepsStore u v → KeepsStore t v
 kept_then t u v first then_ = record { store = then_.store ∙ first.store; home = then_.home ∙ first.home; running = then_.running ∙ first.running; goal = then_.goal ∙ first.goal }
 
-in_either : {A : Type 0} (xs ys : List A) (x : A) → Has (xs ++ ys) x → Has xs x ⊎ Has ys x
-in_either [] ys x there = inr there
-in_either (first ∷ xs) ys x (inl same) = inl (inl same)
-in_either {A} (first ∷ xs) ys x (inr there) = over (in_either xs ys x there)
-  where
-    over : Has xs x ⊎ Has ys x → ((first ≡ x) ⊎ Has xs x) ⊎ Has ys x
-    over (inl early) = inl (inr early)
-    over (inr late) = inr late
-
-pub only_none : (why : Why) (out : List RowKind) → HasOnlyTold why out out
-only_none why out = record { more = []; is = sym (append-nil out); each = λ row there. absurd there }
-
-pub only_one : (why : Why) (out new : List RowKind) (job : Job) → job.why ≡ why → length_index job.task ≡ true → new ≡ out ++ rows.Sent job ∷ [] → HasOnlyTold why out new
-only_one why out new job for tells is =
-    record { more = rows.Sent job ∷ []; is = is; each = λ row there. elim there as (λ x. IsUpdateFor why row) [ inl same ↦ subst (IsUpdateFor why) same (for, tells) | inr never ↦ absurd never ] }
-
-only_then : (why : Why) (was out new : List RowKind) → HasOnlyTold why was out → HasOnlyTold why out new → HasOnlyTold why was new
-only_then why was out new first then_ =
-    record {
-      more = first.more ++ then_.more;
-      is = then_.is ∙ ap (λ (l : List RowKind). l ++ then_.more) first.is ∙ append_assoc was first.more then_.more;
-      each = λ row there. by_part row (in_either first.more then_.more row there);
-    }
-  where
-    by_part : (row : RowKind) → Has first.more row ⊎ Has then_.more row → IsUpdateFor why row
-    by_part row (inl early) = first.each row early
-    by_part row (inr late) = then_.each row late
-
 pub tell_begins : (p : InPass) (why : Why) (t : Tables) (out : List RowKind) (walk : List NavId) → IsPassing p.event out t p.hand → walk ≡ walk_of t.tree → IsTelling p why t out t out walk 0
 tell_begins p why t out walk pass is =
     record {
@@ -75,7 +45,7 @@ tell_begins p why t out walk pass is =
       done = λ k nav low at. absurd (omega (arith, low));
       more = more_none (now_of p.event out);
       kept = kept_none t;
-      only = only_none why out;
+      only = only_none (IsUpdateFor why) out;
     }
 
 pub tell_goes_on : (p : InPass) (why : Why) (t : Tables) (was : List RowKind) (u : Tables) (out : List RowKind) (v : Tables) (then_out : List RowKind) (walk : List NavId) (n : ℕ) (nav : NavId) → IsTelling p why t was u out walk n → slice_get walk n ≡ Some nav → IsPassing p.event then_out v p.hand → IsToldTurn (now_of p.event out) (now_of p.event then_out) nav → KeepsStore u v → HasOnlyTold why out then_out → IsTelling p why t was v then_out walk (n + 1)
@@ -86,7 +56,7 @@ tell_goes_on p why t was u out v then_out walk n nav so at pass turn keeps only 
       done = one_more (now_of p.event out) (now_of p.event then_out) walk n nav at so.done turn;
       more = more_then (now_of p.event was) (now_of p.event out) (now_of p.event then_out) so.more turn.more;
       kept = kept_then t u v so.kept keeps;
-      only = only_then why was out then_out so.only only;
+      only = only_then (IsUpdateFor why) was out then_out so.only only;
     }
 
 -- where a navigable stands in a list

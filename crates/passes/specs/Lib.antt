@@ -1,3 +1,4 @@
 pub mod Passing
 pub mod Serving
+pub mod Sweeping
 pub mod Telling

@@ -3,13 +3,14 @@
 use Rattle.doors.specs.declared.tables.Tables.{Tables}  -- keep
 use Rattle.frame_whole.specs.Tab.{IsTab}  -- keep
 use Rattle.doors.specs.Working.{IsAtWork}
+use Rattle.hang_facts.specs.Members.{Has}
 use Rattle.log_model.specs.History.{History, used_step_at}
 use Rattle.log_model.specs.Places.{top}
 use Rattle.log_model.specs.Seen.{Asked, Place, Seen, place_of}
 use Rattle.log_model.specs.declared.made.Made.{Made}
 use Rattle.log_model.specs.declared.row_kind.RowKind.{RowKind}
 use Rattle.seen_laws.specs.InEvent.{InEvent, now_of}
-use Rattle.std.specs.Prelude.{List, None, Option, Some, filter, is_some, length, ℕ, ◌+◌, ◌<◌, ◌≡◌, ◌≤◌}
+use Rattle.std.specs.Prelude.{List, None, Option, Some, filter, is_some, length, ℕ, ◌++◌, ◌+◌, ◌<◌, ◌≡◌, ◌≤◌}
 use Rattle.tab_ids.specs.declared.NavId.{NavId}
 use Rattle.tab_ids.specs.declared.ReqId.{ReqId}
 use Rattle.tab_ids.specs.declared.Step.{Step}
@@ -49,3 +50,9 @@ pub record IsPassing (e : InEvent) (out : List RowKind) (t : Tables) (hand : Lis
 abbrev pub aim_in : History → Option ReqId → Step → ℕ
 aim_in history None goal = history.current
 aim_in history (Some req) goal = used_step_at history.rows goal.0
+
+-- nothing but such rows was put out
+pub record HasOnly (Is : RowKind → Type 0) (was out : List RowKind) : Type 0 where
+  pub more : List RowKind
+  pub is : out ≡ was ++ more
+  pub each : (row : RowKind) → Has more row → Is row

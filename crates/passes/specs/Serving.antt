@@ -4,7 +4,6 @@ use Rattle.frame_whole.specs.Beside.{EachIsViewed}
 use Rattle.address.specs.Addresses.{base_of, blank_text}
 use Rattle.apply_plan.specs.Needs.{need_of}
 use Rattle.apply_plan.specs.declared.need.Need.{Need}
-use Rattle.coord_facts.specs.Leading.{pending_view}
 use Rattle.doors.specs.Working.{KeepsStore}
 use Rattle.doors.specs.declared.tables.Tables.{Tables}
 use Rattle.frame_whole.specs.Tab.{AreAwakeWithRows}
@@ -13,15 +12,16 @@ use Rattle.log_model.specs.Checks.{may_go_on}
 use Rattle.log_model.specs.Equal.{holds, same_why}
 use Rattle.log_model.specs.History.{has_state}
 use Rattle.log_model.specs.Places.{top}
-use Rattle.log_model.specs.Seen.{Document, Seen, desk_of, document_of}
+use Rattle.log_model.specs.Seen.{Document, Seen, document_of}
+use Rattle.log_model.specs.declared.job.Task.{Task}
 use Rattle.log_model.specs.declared.job.Why.{Why}
 use Rattle.log_model.specs.declared.row.Row.{Row}
 use Rattle.log_model.specs.declared.row_kind.RowKind.{RowKind}
 use Rattle.nav_tree.specs.Tree.{Tree, nav_of}
 use Rattle.nav_tree.specs.declared.nav.Nav.{Nav}
-use Rattle.passes.specs.Passing.{InPass, IsPassing, aim_in}
+use Rattle.passes.specs.Passing.{HasOnly, InPass, IsPassing, aim_in}
 use Rattle.seen_laws.specs.InEvent.{now_of}
-use Rattle.std.specs.Prelude.{Bool, List, None, Option, Some, false, if◌then◌else◌, is_some, true, ℕ, ◌&&◌, ◌==◌, ◌≡◌, ◌≢◌}
+use Rattle.std.specs.Prelude.{Bool, List, None, Option, Some, false, if◌then◌else◌, true, ℕ, ◌&&◌, ◌==◌, ◌≡◌, ◌≢◌, ◌⊎◌}
 use Rattle.std.specs.Str.{bytes_eq}
 use Rattle.step_index.specs.Held.{history_held}
 use Rattle.tab_ids.specs.declared.DocId.{DocId}
@@ -29,7 +29,9 @@ use Rattle.tab_ids.specs.declared.NavId.{NavId}
 use Rattle.tab_ids.specs.declared.ReqId.{ReqId}
 use Rattle.walk_facts.specs.Serving.{IsServedAt}
 use Rattle.walk_facts.specs.Walking.{AreServedUpTo, IsWalk, LeavesOthers}
+use Rattle.log_model.specs.declared.job.Task.TheVariants as tasks
 use Rattle.log_model.specs.declared.job.Why.TheVariants as whys
+use Rattle.log_model.specs.declared.row_kind.RowKind.TheVariants as rows
 
 -- an order for this may be sent
 abbrev pub MayCause : Seen → Why → Type 0
@@ -68,6 +70,21 @@ is_new_by tree nav cause = holds (λ (n : Nav). holds (λ (req : ReqId). n.epoch
 abbrev pub make_why : Bool → Option ReqId → Why → Why
 make_why new run cause = if new then cause else show_why run cause
 
+-- the order shows a document, or has one made
+abbrev pub shows_or_makes : Task → Bool
+shows_or_makes (tasks.Activate entry epoch length index memo address) = true
+shows_or_makes (tasks.Populate nav state address initial) = true
+shows_or_makes _ = false
+
+-- the row is such an order: for the traversal that runs, where one does, or for the cause
+abbrev pub IsServeFor : Option ReqId → Why → RowKind → Type 0
+IsServeFor run cause (rows.Sent job) = (shows_or_makes job.task ≡ true) × ((job.why ≡ show_why run cause) ⊎ (job.why ≡ cause))
+IsServeFor run cause _ = ⊥
+
+-- nothing but such orders was put out
+abbrev pub HasOnlyServed : Option ReqId → Why → List RowKind → List RowKind → Type 0
+HasOnlyServed run cause was out = HasOnly (IsServeFor run cause) was out
+
 -- ---- what the walk's orders read besides what holds between two rows
 
 -- an entry of a frame for whose document state no document is there has the address of an initial about:blank document
@@ -88,10 +105,11 @@ pub record IsServedTurn (s t : Seen) (nav : NavId) : Type 0 where
   pub left : LeavesSwept s t
 
 -- so many of the walk were served
-pub record IsServing (p : InPass) (t : Tables) (was : List RowKind) (u : Tables) (out : List RowKind) (walk : List NavId) (n : ℕ) : Type 0 where
+pub record IsServing (p : InPass) (cause : Why) (t : Tables) (was : List RowKind) (u : Tables) (out : List RowKind) (walk : List NavId) (n : ℕ) : Type 0 where
   pub passing : IsPassing p.event out u p.hand
   pub servable : IsServable (now_of p.event out)
   pub order : IsWalk (now_of p.event out) walk
   pub done : AreServedUpTo (now_of p.event out) walk n
   pub left : LeavesSwept (now_of p.event was) (now_of p.event out)
   pub kept : KeepsStore t u
+  pub only : HasOnlyServed t.running cause was out

@@ -6,7 +6,6 @@ use Rattle.log_model.specs.declared.job.Task.TheVariants as tasks  -- keep
 use Rattle.log_model.specs.declared.row_kind.RowKind.TheVariants as rows  -- keep
 use Rattle.passes.specs.Passing.{InPass, IsPassing}  -- keep
 use Rattle.doors.specs.Working.{KeepsStore}
-use Rattle.hang_facts.specs.Members.{Has}
 use Rattle.log_model.specs.ActsAtOnce.{is_told}
 use Rattle.log_model.specs.Equal.{holds, same_pair}
 use Rattle.log_model.specs.History.{History, has_nav}
@@ -17,9 +16,9 @@ use Rattle.log_model.specs.declared.job.Why.{Why}
 use Rattle.log_model.specs.declared.row_kind.RowKind.{RowKind}
 use Rattle.nav_tree.specs.declared.nav.Nav.{Nav}
 use Rattle.nav_tree.specs.declared.status.NavStatus.{NavStatus}
-use Rattle.passes.specs.Passing.{aim_in}
+use Rattle.passes.specs.Passing.{HasOnly, aim_in}
 use Rattle.seen_laws.specs.InEvent.{now_of}
-use Rattle.std.specs.Prelude.{Bool, List, None, Option, Some, false, if◌then◌else◌, length, option_and_then, option_map, slice_get, true, ℕ, ◌++◌, ◌<◌, ◌≡◌}
+use Rattle.std.specs.Prelude.{Bool, List, None, Option, Some, false, if◌then◌else◌, length, option_and_then, option_map, slice_get, true, ℕ, ◌<◌, ◌≡◌}
 use Rattle.tab_ids.specs.declared.DocId.{DocId}
 use Rattle.tab_ids.specs.declared.NavId.{NavId}
 use Rattle.tab_ids.specs.declared.ReqId.{ReqId}
@@ -80,10 +79,8 @@ IsUpdateFor why (rows.Sent job) = (job.why ≡ why) × (length_index job.task �
 IsUpdateFor why _ = ⊥
 
 -- nothing but such orders was put out
-pub record HasOnlyTold (why : Why) (was out : List RowKind) : Type 0 where
-  pub more : List RowKind
-  pub is : out ≡ was ++ more
-  pub each : (row : RowKind) → Has more row → IsUpdateFor why row
+abbrev pub HasOnlyTold : Why → List RowKind → List RowKind → Type 0
+HasOnlyTold why was out = HasOnly (IsUpdateFor why) was out
 
 -- the walk names each navigable that has a place
 abbrev pub NamesAll : Seen → List NavId → Type 0

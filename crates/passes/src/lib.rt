@@ -3,7 +3,9 @@
 
 mod reading;
 mod serving;
+mod sweeping;
 mod telling;
 
 pub use serving::serve_all;
+pub use sweeping::sweep;
 pub use telling::tell_all;

@@ -9,7 +9,7 @@ ghost use Rattle.step_index.specs.Held.{history_held};
 ghost use Rattle.walk_facts.specs.Serving.{AreServed};
 ghost use Rattle.doors.specs.Working.{KeepsStore};
 ghost use Rattle.passes.specs.Passing.{InPass, IsPassing};
-ghost use Rattle.passes.specs.Serving.{MayCause, LeavesSwept, IsServable, IsServedTurn, need_in, is_new_by, make_why, show_why};
+ghost use Rattle.passes.specs.Serving.{MayCause, HasOnlyServed, LeavesSwept, IsServable, IsServedTurn, need_in, is_new_by, make_why, show_why};
 
 use crate::reading::{aim, pair_at};
 use address::OutOfMemory;
@@ -113,6 +113,7 @@ fn show_target(
     ensures passing { OnOk result (IsPassing p.event out.new tables.new p.hand) }
     ensures servable { OnOk result (IsServable (now_of p.event out.new)) }
     ensures turn { OnOk result (IsServedTurn (now_of p.event out.old) (now_of p.event out.new) nav) }
+    ensures only { OnOk result (HasOnlyServed tables.old.running cause out.old out.new) }
     ensures kept { OnOk result (KeepsStore tables.old tables.new) }
 {
     let (length, index) = pair_at(tables, aim(tables));
@@ -144,6 +145,7 @@ fn make_target(
     ensures passing { OnOk result (IsPassing p.event out.new tables.new p.hand) }
     ensures servable { OnOk result (IsServable (now_of p.event out.new)) }
     ensures turn { OnOk result (IsServedTurn (now_of p.event out.old) (now_of p.event out.new) nav) }
+    ensures only { OnOk result (HasOnlyServed tables.old.running cause out.old out.new) }
     ensures kept { OnOk result (KeepsStore tables.old tables.new) }
 {
     let row = row_there(&tables.store, entry);
@@ -175,6 +177,7 @@ fn serve_one(tables: &mut Tables, out: &mut Out, nav: NavId, cause: Why) -> Resu
     ensures passing { OnOk result (IsPassing p.event out.new tables.new p.hand) }
     ensures servable { OnOk result (IsServable (now_of p.event out.new)) }
     ensures turn { OnOk result (IsServedTurn (now_of p.event out.old) (now_of p.event out.new) nav) }
+    ensures only { OnOk result (HasOnlyServed tables.old.running cause out.old out.new) }
     ensures kept { OnOk result (KeepsStore tables.old tables.new) }
 {
     match need_at(tables, nav) {
@@ -202,6 +205,7 @@ pub fn serve_all(
     ensures servable { OnOk result (IsServable (now_of p.event out.new)) }
     ensures served { OnOk result (AreServed (now_of p.event out.new)) }
     ensures left { OnOk result (LeavesSwept (now_of p.event out.old) (now_of p.event out.new)) }
+    ensures only { OnOk result (HasOnlyServed tables.old.running cause out.old out.new) }
     ensures kept { OnOk result (KeepsStore tables.old tables.new) }
 {
     let navs = walk(alloc, &tables.tree)?;

@@ -6,4 +6,4 @@ ghost-serve_one g a = g.p
 
 -- what holds after so many turns
 abbrev pub invariant-loop-i : goal.invariant-loop-i
-invariant-loop-i g l = IsServing g.p l.fn.tables l.fn.out l.tables l.out l.navs-inside.items.items l.i
+invariant-loop-i g l = IsServing g.p l.cause l.fn.tables l.fn.out l.tables l.out l.navs-inside.items.items l.i

@@ -1,4 +1,5 @@
-use Rattle.std.proofs.Common.{ap, ℕ, ◌∙◌}
+use Rattle.std.proofs.Common.{ap, inl, refl, ℕ, ◌∙◌}
+use Rattle.passes.proofs.Onlies.{only_one}
 use Rattle.log_model.specs.Places.{pair_in}
 use Rattle.step_index.specs.Held.{history_held}
 use Rattle.passes.proofs.Serves.{move_due, next_fits, row_some, doc_some, ready_to_show}
@@ -32,3 +33,6 @@ pub returns-clause-turn : goal.returns-clause-turn
 returns-clause-turn g c =
     let ready = ready_to_show _ _ _ _ c.requires.0 _ _ ((move_due _ _ _ _ c.requires.0 _ _ _ c.requires.1.1.1).1) c.requires.1.0 _ c.requires.1.1.0 _ c.row_there-row.ensures _ c.doc_there-doc.ensures _ c.next_epoch-epoch.ensures _ _ (c.pair_at-length.ensures ∙ ap (λ (n : ℕ). pair_in (history_held c.args.tables.now.store).rows n) c.aim.ensures) _ c.in_ok-memo.ensures _ c.in_ok-address.ensures _ c.show_why-why.ensures in
     (ready.done _ _ c.in_ok-show.ensures.kept c.in_ok-show.ensures.out c.in_ok-show.ensures.work).turn
+
+pub returns-clause-only : goal.returns-clause-only
+returns-clause-only g c = only_one _ _ _ _ c.in_ok-show.ensures.out (refl, inl c.show_why-why.ensures)

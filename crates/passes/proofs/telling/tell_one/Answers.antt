@@ -8,7 +8,7 @@ use Rattle.passes.specs.Telling.{IsToldTurn}
 use Rattle.passes.proofs.Untold.{untold_some, untold_none}
 use Rattle.passes.proofs.Passings.{told_passing, told_turn_here}
 use Rattle.passes.proofs.Tellings.{turn_still}
-use Rattle.passes.proofs.Tells.{only_none, only_one}
+use Rattle.passes.proofs.Onlies.{only_none, only_one}
 use Rattle.std.proofs.Common.{refl}
 use Rattle.passes.proofs.telling.tell_one.Goals as goal
 
@@ -29,7 +29,7 @@ pub returns-in-None-clause-told : goal.returns-in-None-clause-told
 returns-in-None-clause-told g c = turn_still _ _ (untold_none _ _ _ _ c.requires _ (sym c.untold.ensures ∙ c.in-None.is))
 
 pub returns-in_ok-tell-in-Some-clause-only : goal.returns-in_ok-tell-in-Some-clause-only
-returns-in_ok-tell-in-Some-clause-only g c = only_one _ _ _ _ refl refl c.in_ok-tell-in-Some.ensures.out
+returns-in_ok-tell-in-Some-clause-only g c = only_one _ _ _ _ c.in_ok-tell-in-Some.ensures.out (refl, refl)
 
 pub returns-in-None-clause-only : goal.returns-in-None-clause-only
 returns-in-None-clause-only g c = only_none _ _
