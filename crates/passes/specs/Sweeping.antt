@@ -97,7 +97,7 @@ HasOnlyDiscarded s was out = HasOnly (IsDiscardFor s) was out
 abbrev pub left_count : Seen → ℕ
 left_count s = length (filter (λ (d : Document). not d.is_discarded) s.documents)
 
--- a document was discarded, and all else of use to the pass is as it was
+-- some documents were discarded, and all else of use to the pass is as it was
 pub record IsSweepTurn (s t : Seen) : Type 0 where
   pub history : t.history ≡ s.history
   pub parked : t.parked ≡ s.parked
