@@ -1,0 +1,238 @@
+-- What orders, and the rows that begin or end requests, leave of what lasts.
+use Rattle.coord_facts.proofs.Unread.{next}
+use Rattle.frame_facts.proofs.Parts.{TakersWere, lasting_on, pokes_more, some_same, takers_map, takers_same, takers_then}
+use Rattle.frame_facts.specs.Lasting.{IsLasting, IsMadeShown, IsRunShown, PokesItsNav, wish}
+use Rattle.frame_tab.specs.Alive.{AreThere}
+use Rattle.home_facts.specs.Homes.{document_in}
+use Rattle.coord_facts.proofs.Leadings.{doc_same}
+use Rattle.log_model.specs.After.{addressed, documents_sent, new_document}
+use Rattle.log_model.specs.declared.job.Why.{Why}
+use Rattle.seen_laws.proofs.Keyed.{find_has as seen_number}
+use Rattle.log_model.specs.AfterPlaces.{activated, on_place, places_sent, put_to_sleep, sleepers_below, sleepers_with}
+use Rattle.log_model.specs.AfterRequests.{on_request, request_begun, requests_sent}
+use Rattle.log_model.specs.History.{has_nav, has_row}
+use Rattle.log_model.specs.Seen.{Asked, Document, Place, Seen, asleep, document_of, place_of}
+use Rattle.log_model.specs.declared.job.Job.{Job}
+use Rattle.log_model.specs.declared.job.Task.{Task}
+use Rattle.log_model.specs.declared.outcome.Cause.{Cause}
+use Rattle.log_model.specs.declared.outcome.Denial.{Denial}
+use Rattle.log_model.specs.declared.row_kind.Actor.{Actor}
+use Rattle.plain_tab.specs.Calm.{EachAsked}
+use Rattle.request_facts.proofs.Readers.{IsBlind, SameReads, on_read, reads_then, sent_reads}
+use Rattle.std.proofs.Common.{Bool, List, None, Option, Some, [], ap, cond, false, inl, inr, map, refl, subst, sym, true, ℕ, ◌++◌, ◌==◌, ◌∙◌, ◌∷◌, ◌≡◌, ◌⊎◌}
+use Rattle.std.proofs.lemmas.List.{map-id}
+use Rattle.std.specs.Option.{option_map_or}
+use Rattle.std.specs.Prelude.{find}
+use Rattle.tab_ids.specs.declared.DocId.{DocId}
+use Rattle.tab_ids.specs.declared.EntryId.{EntryId}
+use Rattle.tab_ids.specs.declared.Epoch.{Epoch}
+use Rattle.tab_ids.specs.declared.NavId.{NavId}
+use Rattle.tab_ids.specs.declared.ProcId.{ProcId}
+use Rattle.tab_ids.specs.declared.ReqId.{ReqId}
+use Rattle.tab_ids.specs.declared.StateId.{StateId}
+use Rattle.tab_ids.specs.declared.Step.{Step}
+use Rattle.log_model.specs.declared.job.Task.TheVariants as tasks
+use Rattle.log_model.specs.declared.outcome.Ending.TheVariants as endings
+use Rattle.log_model.specs.declared.row_kind.RowKind.TheVariants as rows
+
+-- ---- what is asked
+
+pub wish_blind : IsBlind wish
+wish_blind = record { moves = λ q activated moved. refl; asks = λ q asks. refl; fragments = λ q doc. refl; misses = λ q is. refl }
+
+-- ---- a document that is changed, but neither in number nor navigable, nor in what runs
+
+pub record KeepsRuns (f : Document → Document) : Type 0 where
+  pub nr : (x : Document) → (f x).nr ≡ x.nr
+  pub nav : (x : Document) → (f x).nav ≡ x.nav
+  pub view : (x : Document) → (f x).view ≡ x.view
+  pub discarded : (x : Document) → (f x).is_discarded ≡ x.is_discarded
+
+pub if_runs : (test : Document → Bool) (f : Document → Document) → KeepsRuns f → KeepsRuns (λ (x : Document). cond (test x) (f x) x)
+if_runs test f keeps =
+    record {
+      nr = λ x. elim (test x) as (λ b. (let y : Document = cond b (f x) x in y).nr ≡ x.nr) [ true ↦ keeps.nr x | false ↦ refl ];
+      nav = λ x. elim (test x) as (λ b. (let y : Document = cond b (f x) x in y).nav ≡ x.nav) [ true ↦ keeps.nav x | false ↦ refl ];
+      view = λ x. elim (test x) as (λ b. (let y : Document = cond b (f x) x in y).view ≡ x.view) [ true ↦ keeps.view x | false ↦ refl ];
+      discarded = λ x. elim (test x) as (λ b. (let y : Document = cond b (f x) x in y).is_discarded ≡ x.is_discarded) [ true ↦ keeps.discarded x | false ↦ refl ];
+    }
+
+pub both_run : (f g : Document → Document) → KeepsRuns f → KeepsRuns g → KeepsRuns (λ (x : Document). g (f x))
+both_run f g one two =
+    record {
+      nr = λ x. two.nr (f x) ∙ one.nr x;
+      nav = λ x. two.nav (f x) ∙ one.nav x;
+      view = λ x. two.view (f x) ∙ one.view x;
+      discarded = λ x. two.discarded (f x) ∙ one.discarded x;
+    }
+
+pub same_runs : KeepsRuns (λ x. x)
+same_runs = record { nr = λ x. refl; nav = λ x. refl; view = λ x. refl; discarded = λ x. refl }
+
+pub run_shown : (f : Document → Document) (x : Document) → (f x).view ≡ x.view → IsRunShown x → IsRunShown (f x)
+run_shown f x same is view has runs = is view (sym same ∙ has) runs
+
+-- ---- rows that leave the history and who took entries
+
+module _ (home : ProcId) (s t : Seen) (there : AreThere home s) where
+  pub mapped_lasting : (g : Document → Document) → KeepsRuns g → t.documents ≡ map g s.documents → t.history.rows ≡ s.history.rows → SameReads wish s.requests t.requests → TakersWere s.places t.places → IsLasting s → IsLasting t
+  mapped_lasting g keeps documents rows_ wishes takers =
+      lasting_on home s t g there (record {
+        documents = documents;
+        nr = keeps.nr;
+        nav = keeps.nav;
+        runs = λ doc x found is. run_shown g x (keeps.view x) is;
+        gone = λ doc x found gone. inl (sym (keeps.discarded x) ∙ gone);
+        wishes = wishes;
+        bare = λ nav placed bare. ap (λ (l : List _). has_row nav l) rows_ ∙ bare;
+        takers = λ nav place req found taken. inl (takers nav place req found taken);
+      })
+
+  pub quiet_lasting : t.documents ≡ s.documents → t.history.rows ≡ s.history.rows → SameReads wish s.requests t.requests → t.places ≡ s.places → IsLasting s → IsLasting t
+  quiet_lasting documents rows_ wishes places =
+      mapped_lasting (λ x. x) same_runs (documents ∙ sym (map-id s.documents)) rows_ wishes (takers_same s.places t.places places)
+
+-- ---- who falls asleep, or is shown
+
+-- a change of a place that leaves its number and who took its entries
+record KeepsTaker (f : Place → Place) : Type 0 where
+  nav : (p : Place) → (f p).nav ≡ p.nav
+  taker : (p : Place) → (f p).taken_by ≡ p.taken_by
+
+if_taker : (test : Place → Bool) (f : Place → Place) → KeepsTaker f → KeepsTaker (λ (p : Place). cond (test p) (f p) p)
+if_taker test f keeps =
+    record {
+      nav = λ p. elim (test p) as (λ b. (let y : Place = cond b (f p) p in y).nav ≡ p.nav) [ true ↦ keeps.nav p | false ↦ refl ];
+      taker = λ p. elim (test p) as (λ b. (let y : Place = cond b (f p) p in y).taken_by ≡ p.taken_by) [ true ↦ keeps.taker p | false ↦ refl ];
+    }
+
+all_takers : (places : List Place) (f : Place → Place) → KeepsTaker f → TakersWere places (map f places)
+all_takers places f keeps = takers_map places f keeps.nav keeps.taker
+
+sleep_takers : (navs : List NavId) (why : Why) (places : List Place) → TakersWere places (put_to_sleep navs why places)
+sleep_takers navs why places =
+    all_takers places (λ (p : Place). cond (has_nav navs p.nav) (record p { status = asleep; why = why }) p) (if_taker (λ (p : Place). has_nav navs p.nav) (λ (p : Place). record p { status = asleep; why = why }) (record { nav = λ p. refl; taker = λ p. refl }))
+
+pub on_takers : (nav : NavId) (f : Place → Place) (places : List Place) → ((p : Place) → (f p).nav ≡ p.nav) → ((p : Place) → (f p).taken_by ≡ p.taken_by) → TakersWere places (on_place nav f places)
+on_takers nav f places same taker =
+    all_takers places (λ (p : Place). cond (p.nav.0 == nav.0) (f p) p) (if_taker (λ (p : Place). p.nav.0 == nav.0) f (record { nav = same; taker = taker }))
+
+pub or_takers : {A : Type 0} (f : A → List Place) (o : Option A) (places : List Place) → ((x : A) → TakersWere places (f x)) → TakersWere places (option_map_or f o places)
+or_takers f None places each = takers_same places places refl
+or_takers f (Some x) places each = each x
+
+pub sent_takers : (s : Seen) (job : Job) (task : Task) → TakersWere s.places (places_sent s job task)
+sent_takers s job (tasks.Activate entry epoch length index memo address) =
+    or_takers (λ (d : Document). on_place d.nav (activated job entry epoch d) (put_to_sleep (option_map_or (sleepers_below s job.doc) (place_of s d.nav) []) job.why s.places)) (document_of s job.doc) s.places
+    (λ d. takers_then s.places (put_to_sleep (option_map_or (sleepers_below s job.doc) (place_of s d.nav) []) job.why s.places) (on_place d.nav (activated job entry epoch d) (put_to_sleep (option_map_or (sleepers_below s job.doc) (place_of s d.nav) []) job.why s.places)) (sleep_takers (option_map_or (sleepers_below s job.doc) (place_of s d.nav) []) job.why s.places) (on_takers d.nav (activated job entry epoch d) (put_to_sleep (option_map_or (sleepers_below s job.doc) (place_of s d.nav) []) job.why s.places) (λ p. refl) (λ p. refl)))
+sent_takers s job tasks.Freeze = sleep_takers (sleepers_with s job.doc) job.why s.places
+sent_takers s job tasks.Discard = sleep_takers (sleepers_with s job.doc) job.why s.places
+sent_takers s job (tasks.Populate nav state address initial) = takers_same s.places s.places refl
+sent_takers s job (tasks.Update length index) = takers_same s.places s.places refl
+sent_takers s job (tasks.Ask slot cause) = takers_same s.places s.places refl
+sent_takers s job (tasks.DoFragment req mode address) = takers_same s.places s.places refl
+
+-- what is found in a list with one item more
+pub found_last : {A : Type 0} (test : A → Bool) (xs : List A) (y x : A) → find test (xs ++ y ∷ []) ≡ Some x → (find test xs ≡ Some x) ⊎ (y ≡ x)
+found_last {A} test [] y x is = by_test (test y) is
+  where
+    by_test : (b : Bool) → (let o : Option A = cond b (Some y) None in o) ≡ Some x → (find test [] ≡ Some x) ⊎ (y ≡ x)
+    by_test true e = inr (some_same e)
+    by_test false e = absurd cc
+found_last {A} test (z ∷ xs) y x is = by_test (test z) is (found_last test xs y x)
+  where
+    by_test : (b : Bool) → (let o : Option A = cond b (Some z) (find test (xs ++ y ∷ [])) in o) ≡ Some x → (find test (xs ++ y ∷ []) ≡ Some x → (find test xs ≡ Some x) ⊎ (y ≡ x)) → ((let o : Option A = cond b (Some z) (find test xs) in o) ≡ Some x) ⊎ (y ≡ x)
+    by_test true e more = inl e
+    by_test false e more = more e
+
+-- ---- the rows
+
+module _ (home : ProcId) (s : Seen) (event : ℕ) (actor : Actor) (there : AreThere home s) (is : IsLasting s) where
+  -- an order that is no other than these
+  addressed_runs : (job : Job) (task : Task) → KeepsRuns (λ (x : Document). cond (x.nr.0 == job.doc.0) (addressed task x) x)
+  addressed_runs job task =
+      if_runs (λ (x : Document). x.nr.0 == job.doc.0) (addressed task) (record { nr = λ x. refl; nav = λ x. refl; view = λ x. refl; discarded = λ x. refl })
+
+  pub told_lasting : (job : Job) (long at : ℕ) → job.task ≡ tasks.Update long at → IsLasting (next s event actor (rows.Sent job))
+  told_lasting job long at task =
+      mapped_lasting home s (next s event actor (rows.Sent job)) there (λ (x : Document). cond (x.nr.0 == job.doc.0) (addressed (tasks.Update long at) x) x) (addressed_runs job (tasks.Update long at)) (ap (λ (t : Task). documents_sent s job t) task) refl (sent_reads wish wish_blind s job job.task s.requests) (sent_takers s job job.task) is
+
+  pub shown_lasting : (job : Job) (entry : EntryId) (epoch : Epoch) (long at : ℕ) (memo : Option (List ℕ)) (address : List ℕ) → job.task ≡ tasks.Activate entry epoch long at memo address → IsLasting (next s event actor (rows.Sent job))
+  shown_lasting job entry epoch long at memo address task =
+      mapped_lasting home s (next s event actor (rows.Sent job)) there (λ (x : Document). cond (x.nr.0 == job.doc.0) (addressed (tasks.Activate entry epoch long at memo address) x) x) (addressed_runs job (tasks.Activate entry epoch long at memo address)) (ap (λ (t : Task). documents_sent s job t) task) refl (sent_reads wish wish_blind s job job.task s.requests) (sent_takers s job job.task) is
+
+  -- a document of a navigable without an entry is discarded
+  pub discarded_lasting : (job : Job) → job.task ≡ tasks.Discard → ((d : Document) → document_of s job.doc ≡ Some d → has_row d.nav s.history.rows ≡ false) → IsLasting (next s event actor (rows.Sent job))
+  discarded_lasting job task bare =
+      lasting_on home s (next s event actor (rows.Sent job)) g there (record {
+        documents = ap (λ (t : Task). documents_sent s job t) task;
+        nr = λ x. by_test (λ y. y.nr) (λ y. refl) x;
+        nav = λ x. by_test (λ y. y.nav) (λ y. refl) x;
+        runs = λ doc x found shown. run_shown g x (by_test (λ y. y.view) (λ y. refl) x) shown;
+        gone = λ doc x found gone. by_doc doc x found (x.nr.0 == job.doc.0) refl gone;
+        wishes = sent_reads wish wish_blind s job job.task s.requests;
+        bare = λ nav placed none. none;
+        takers = λ nav place req found taken. inl (sent_takers s job job.task nav place req found taken);
+      }) is
+    where
+      g : Document → Document
+      g x = cond (x.nr.0 == job.doc.0) (record x { is_discarded = true }) x
+
+      by_test : {B : Type 0} (read : Document → B) → ((x : Document) → read (record x { is_discarded = true }) ≡ read x) → (x : Document) → read (g x) ≡ read x
+      by_test read same x = elim (x.nr.0 == job.doc.0) as (λ b. read (let y : Document = cond b (record x { is_discarded = true }) x in y) ≡ read x) [ true ↦ same x | false ↦ refl ]
+
+      by_doc : (doc : DocId) (x : Document) → document_of s doc ≡ Some x → (b : Bool) → (x.nr.0 == job.doc.0) ≡ b → (let y : Document = cond b (record x { is_discarded = true }) x in y).is_discarded ≡ true → (x.is_discarded ≡ true) ⊎ (has_row x.nav s.history.rows ≡ false)
+      by_doc doc x found false e gone = inl gone
+      by_doc doc x found true e gone =
+          let number : x.nr.0 ≡ doc.0 = seen_number (λ (y : Document). y.nr.0) doc.0 s.documents x found in
+          let same : doc ≡ job.doc = doc_same doc job.doc (ap (λ (n : ℕ). n == job.doc.0) (sym number) ∙ e) in
+          inr (bare x (ap (λ (n : DocId). document_of s n) (sym same) ∙ found))
+
+  -- a document more is to be made
+  pub making_lasting : (job : Job) (nav : NavId) (state : StateId) (address : List ℕ) (initial : Bool) → job.task ≡ tasks.Populate nav state address initial → IsLasting (next s event actor (rows.Sent job))
+  making_lasting job nav state address initial task =
+      record {
+        shown = λ doc x found. shown_by doc x (found_in doc x found);
+        made = subst (λ (l : List Asked). EachAsked (λ (req : ReqId) (q : Asked). IsMadeShown (wish q)) l) (sym requests_) is.made;
+        poked = subst (λ (l : List Document). EachAsked (λ (req : ReqId) (q : Asked). PokesItsNav l (wish q)) (next s event actor (rows.Sent job)).requests) (sym documents_)
+            (subst (λ (l : List Asked). EachAsked (λ (req : ReqId) (q : Asked). PokesItsNav (s.documents ++ new ∷ []) (wish q)) l) (sym requests_) (λ req q at. pokes_more s.documents (new ∷ []) (wish q) (is.poked req q at)));
+        taken = λ n place req found taken.
+            (let w = sent_takers s job job.task n place req found taken in is.taken n w.before req w.there w.taken);
+        gone = λ doc x found gone. gone_by doc x gone (found_in doc x found);
+      }
+    where
+      new : Document
+      new = new_document s job nav state
+
+      documents_ : (next s event actor (rows.Sent job)).documents ≡ s.documents ++ new ∷ []
+      documents_ = ap (λ (t : Task). documents_sent s job t) task
+
+      requests_ : (next s event actor (rows.Sent job)).requests ≡ s.requests
+      requests_ = ap (λ (t : Task). requests_sent s job t s.requests) task
+
+      found_in : (doc : DocId) (x : Document) → document_of (next s event actor (rows.Sent job)) doc ≡ Some x → (document_of s doc ≡ Some x) ⊎ (new ≡ x)
+      found_in doc x found =
+          found_last (λ (y : Document). y.nr.0 == doc.0) s.documents new x (ap (λ (l : List Document). document_in l doc) (sym documents_) ∙ found)
+
+      shown_by : (doc : DocId) (x : Document) → (document_of s doc ≡ Some x) ⊎ (new ≡ x) → IsRunShown x
+      shown_by doc x (inl old) = is.shown doc x old
+      shown_by doc x (inr one) = subst IsRunShown one (λ view has runs. absurd cc)
+
+      gone_by : (doc : DocId) (x : Document) → x.is_discarded ≡ true → (document_of s doc ≡ Some x) ⊎ (new ≡ x) → has_row x.nav s.history.rows ≡ false
+      gone_by doc x gone (inl old) = is.gone doc x old gone
+      gone_by doc x gone (inr one) = (let never : false ≡ true = ap (λ (y : Document). y.is_discarded) one ∙ gone in absurd cc)
+
+  -- a traversal begins; a request ends but for a change
+  pub started_lasting : (req : ReqId) (goal : Option Step) → IsLasting (next s event actor (rows.Started req goal))
+  started_lasting req goal =
+      quiet_lasting home s (next s event actor (rows.Started req goal)) there refl refl
+      (reads_then wish s.requests (on_request req (λ q. record q { is_started = true; goal = goal }) s.requests) (next s event actor (rows.Started req goal)).requests (on_read wish s.requests req (λ q. record q { is_started = true; goal = goal }) (λ q. refl)) (on_read wish (on_request req (λ q. record q { is_started = true; goal = goal }) s.requests) req (request_begun s) (λ q. refl)))
+      refl is
+
+  pub refused_lasting : (req : ReqId) (reason : Denial) → IsLasting (next s event actor (rows.Refused req reason))
+  refused_lasting req reason =
+      quiet_lasting home s (next s event actor (rows.Refused req reason)) there refl refl (on_read wish s.requests req (λ q. record q { ending = Some (endings.Refused reason) }) (λ q. refl)) refl is
+
+  pub dropped_lasting : (req : ReqId) (cause : Cause) → IsLasting (next s event actor (rows.Dropped req cause))
+  dropped_lasting req cause =
+      quiet_lasting home s (next s event actor (rows.Dropped req cause)) there refl refl (on_read wish s.requests req (λ q. record q { ending = Some (endings.Dropped cause) }) (λ q. refl)) refl is

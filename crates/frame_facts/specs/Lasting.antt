@@ -1,0 +1,60 @@
+-- What lasts in a tab of frames: documents act under an epoch under which they were shown, pokes are of the navigables of their documents, and what is gone stays gone.
+-- HTML Standard, "destroy a document" and "destroy a child navigable"; epochs are this project's own.
+use Rattle.frame_tab.specs.Alive.{EachThere}
+use Rattle.home_facts.specs.Homes.{document_in}
+use Rattle.log_model.specs.History.{has_row}
+use Rattle.log_model.specs.Points.{nav_of_request}
+use Rattle.log_model.specs.Seen.{Asked, Document, Place, Seen, document_of, place_of}
+use Rattle.log_model.specs.Views.{View}
+use Rattle.log_model.specs.declared.made.Made.{Made}
+use Rattle.log_model.specs.declared.request.Request.{Request}
+use Rattle.plain_tab.specs.Calm.{EachAsked}
+use Rattle.std.specs.Prelude.{List, Option, Some, false, true, ◌≡◌, ◌≤◌}
+use Rattle.tab_ids.specs.declared.DocId.{DocId}
+use Rattle.tab_ids.specs.declared.NavId.{NavId}
+use Rattle.tab_ids.specs.declared.ReqId.{ReqId}
+
+-- what a request asks, of which document, and what was made of it
+pub record Wish : Type 0 where
+  pub what : Request
+  pub doc : Option DocId
+  pub made : Option Made
+
+abbrev pub wish : Asked → Wish
+wish q = record { what = q.what; doc = q.doc; made = q.made }
+
+-- a document that runs was shown, so it has an epoch
+abbrev pub IsRunShown : Document → Type 0
+IsRunShown d = (view : View) → d.view ≡ Some view → view.running ≡ true → 1 ≤ view.epoch.0
+
+-- what was made was made under an epoch
+abbrev pub IsMadeShown : Wish → Type 0
+IsMadeShown w = (made : Made) → w.made ≡ Some made → 1 ≤ made.epoch.0
+
+-- a document that is there, of the request's navigable
+pub record IsOfItsNav (documents : List Document) (w : Wish) (doc : DocId) : Type 0 where
+  pub d : Document
+  pub found : document_in documents doc ≡ Some d
+  pub nav_is : nav_of_request w.what ≡ Some d.nav
+
+-- so is the one that it pokes
+abbrev pub PokesItsNav : List Document → Wish → Type 0
+PokesItsNav documents w = (doc : DocId) → w.doc ≡ Some doc → IsOfItsNav documents w doc
+
+-- a navigable whose last entries were taken has none
+abbrev pub AreTakenBare : Seen → Type 0
+AreTakenBare s =
+    (nav : NavId) (place : Place) (req : ReqId) → place_of s nav ≡ Some place → place.taken_by ≡ Some req → has_row nav s.history.rows ≡ false
+
+-- nor has the navigable of a document that is discarded
+abbrev pub AreGoneBare : Seen → Type 0
+AreGoneBare s =
+    (doc : DocId) (d : Document) → document_of s doc ≡ Some d → d.is_discarded ≡ true → has_row d.nav s.history.rows ≡ false
+
+-- all of it
+pub record IsLasting (s : Seen) : Type 0 where
+  pub shown : EachThere IsRunShown s.documents
+  pub made : EachAsked (λ (req : ReqId) (q : Asked). IsMadeShown (wish q)) s.requests
+  pub poked : EachAsked (λ (req : ReqId) (q : Asked). PokesItsNav s.documents (wish q)) s.requests
+  pub taken : AreTakenBare s
+  pub gone : AreGoneBare s

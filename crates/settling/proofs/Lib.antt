@@ -1,0 +1,5 @@
+pub mod Ended
+pub mod More
+pub mod Blank
+pub mod Ends
+pub mod Changed
