@@ -4,6 +4,7 @@ use Rattle.doors.proofs.Nodes.{places_with}
 use Rattle.doors.proofs.Requests.{applied_moved, moved_same}
 use Rattle.doors.proofs.Sights.{sights_on, sights_same}
 use Rattle.doors.specs.Look.{Sight, look_of, moved_by, sight}
+use Rattle.doors.proofs.Shown.{shown_map, shown_more}
 use Rattle.doors.proofs.Whose.{whose_same}
 use Rattle.doors.specs.Ties.{AreHeld, AreListed, AreTied, AreWhose, Holds, IsAwakeAtHome, IsTied}
 use Rattle.doors.specs.declared.tables.Tables.{Tables}
@@ -74,6 +75,7 @@ none_taken old new req (p ∷ places) keeps = by_test (has_row p.nav old.rows) r
 pub record Changes (t u : Tables) : Type 0 where
   pub making : u.making.entries ≡ t.making.entries
   pub whose : u.whose.entries ≡ t.whose.entries
+  pub shown : u.shown.entries ≡ t.shown.entries
   pub documents : u.documents ≡ t.documents
   pub sent : length u.sent.items ≡ length t.sent.items
 
@@ -93,6 +95,9 @@ module _ (s : Seen) (run : Option ReqId) (event : ℕ) (actor : Actor) (req : Re
 
     given_place_nav : (p : Place) → (given_place p).nav ≡ p.nav
     given_place_nav p = elim (p.nav.0 == nav.0) as (λ b. (let x : Place = cond b (given_entry entry p) p in x).nav ≡ p.nav) [ true ↦ refl | false ↦ refl ]
+
+    given_place_last : (p : Place) → (given_place p).last_job ≡ p.last_job
+    given_place_last p = elim (p.nav.0 == nav.0) as (λ b. (let x : Place = cond b (given_entry entry p) p in x).last_job ≡ p.last_job) [ true ↦ refl | false ↦ refl ]
 
     places_are : new.places ≡ map given_place s.places
     places_are = given_places ∙ ap (λ (l : List Place). with_taker s.history (applied s.history change) req l) its ∙ none_taken s.history (applied s.history change) req (map given_place s.places) keeps_rows
@@ -149,6 +154,7 @@ module _ (s : Seen) (run : Option ReqId) (event : ℕ) (actor : Actor) (req : Re
             navs = subst (λ (x : Tree). AreHeld (look_of new run) x) (sym tree) (subst (λ (l : List Sight). AreHeld (record (look_of new run) { documents = l }) (with_nav (given_nav entry pushed) nav t.tree)) (sym documents_are) (subst (λ (l : List NavId). AreHeld (record (look_of new run) { documents = documents; moved = l }) (with_nav (given_nav entry pushed) nav t.tree)) (sym (moved_same s.requests new.requests run (applied_moved s event actor req change))) (held_changed (look_of s run) (record (look_of new run) { documents = documents; moved = moved_by s.requests run }) t.tree (with_nav (given_nav entry pushed) nav t.tree) (on_nav (given_nav entry pushed) nav) given_place (λ other. node_with_nav (given_nav entry pushed) nav other t.tree) (keys_with_nav (given_nav entry pushed) nav t.tree) given_place_nav places_are tie holds.navs)));
             documents = subst (λ (es : List (StateId × DocId)). AreListed (map sight new.documents) u.tree es) (sym one.making) (subst (λ (x : Tree). AreListed (map sight new.documents) x t.making.entries) (sym tree) (subst (λ (l : List Sight). AreListed l (with_nav (given_nav entry pushed) nav t.tree) t.making.entries) (sym documents_are) (listed_tree documents t.tree (with_nav (given_nav entry pushed) nav t.tree) t.making.entries (places_with (given_nav entry pushed) nav t.tree) listed)));
             whose = whose_same documents t.whose.entries whose (map sight new.documents) u.whose.entries one.whose documents_are;
+            shown = shown_map s.places t.shown.entries holds.shown new.places u.shown.entries given_place one.shown places_are given_place_nav given_place_last;
             history = subst (λ (h : History). SameHistory (history_held u.store) h) (sym its) history;
             numbered = one.documents ∙ holds.numbered ∙ sym (ap (λ (l : List Sight). length l) documents_are ∙ long);
             states = states;
@@ -251,6 +257,7 @@ module _ (s : Seen) (run : Option ReqId) (event : ℕ) (actor : Actor) (req : Re
         })));
         documents = subst (λ (es : List (StateId × DocId)). AreListed (map sight added_new.documents) u.tree es) (sym one.making) (subst (λ (x : Tree). AreListed (map sight added_new.documents) x t.making.entries) (sym tree) (subst (λ (l : List Sight). AreListed l added_tree t.making.entries) (sym same_documents) (listed_tree (map sight s.documents) t.tree added_tree t.making.entries refl holds.documents)));
         whose = whose_same (map sight s.documents) t.whose.entries holds.whose (map sight added_new.documents) u.whose.entries one.whose same_documents;
+        shown = shown_more s.places t.shown.entries holds.shown added_new.places u.shown.entries (new_place req nav owner up) one.shown added_places refl;
         history = history;
         numbered = one.documents ∙ holds.numbered ∙ sym (ap (λ (l : List Sight). length l) same_documents);
         states = states;

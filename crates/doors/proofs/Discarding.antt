@@ -6,6 +6,7 @@ use Rattle.doors.proofs.Keyed.{off_once, off_other, off_same, state_same}
 use Rattle.doors.proofs.Nodes.{places_asleep}
 use Rattle.doors.proofs.Sights.{found_has, listed_gone, listed_kept, sights_document, sights_on}
 use Rattle.doors.proofs.Telling.{SendsOne}
+use Rattle.doors.proofs.Shown.{shown_map}
 use Rattle.doors.proofs.Whose.{whose_on}
 use Rattle.doors.specs.Look.{Sight, is_live_for, is_made_for, look_of, moved_by, sight, sight_in}
 use Rattle.doors.specs.Orders.{next_order}
@@ -59,6 +60,9 @@ module _ (s : Seen) (run : Option ReqId) (event : ℕ) (actor : Actor) (proc : P
 
   abbrev slept : Place → Place
   slept p = cond (has_nav (sleepers_with s doc) p.nav) (record p { status = asleep; why = why }) p
+
+  slept_last : (p : Place) → (slept p).last_job ≡ p.last_job
+  slept_last p = elim (has_nav (sleepers_with s doc) p.nav) as (λ b. (let q : Place = cond b (record p { status = asleep; why = why }) p in q).last_job ≡ p.last_job) [ true ↦ refl | false ↦ refl ]
 
   slept_nav : (p : Place) → (slept p).nav ≡ p.nav
   slept_nav p = elim (has_nav (sleepers_with s doc) p.nav) as (λ b. (let q : Place = cond b (record p { status = asleep; why = why }) p in q).nav ≡ p.nav) [ true ↦ refl | false ↦ refl ]
@@ -139,12 +143,13 @@ module _ (s : Seen) (run : Option ReqId) (event : ℕ) (actor : Actor) (proc : P
             home = at_home_kept (map sight s.documents) doc discarded_sight p.nav n.nav.told p.status (λ x. refl) (λ x. refl) (λ x. refl) tied.home;
           }))
 
-  pub discard_holds : moved_by discard_new.requests run ≡ moved_by s.requests run → (u : Tables) → u.tree ≡ slept_tree → SendsOne t u → Holds (look_of discard_new run) u
+  pub discard_holds : moved_by discard_new.requests run ≡ moved_by s.requests run → (u : Tables) → u.tree ≡ slept_tree → SendsOne t u t.shown.entries → Holds (look_of discard_new run) u
   discard_holds moved u tree one =
       record {
         navs = subst (λ (x : Tree). AreHeld (look_of discard_new run) x) (sym tree) (subst (λ (l : List Sight). AreHeld (record (look_of discard_new run) { documents = l }) slept_tree) (sym documents_are) (subst (λ (l : List NavId). AreHeld (record (look_of discard_new run) { documents = gone; moved = l }) slept_tree) (sym moved) (held_changed (look_of s run) (record (look_of discard_new run) { documents = gone; moved = moved_by s.requests run }) (discarded state t.tree) slept_tree (slept_node navs why) slept (λ other. node_sleep_all navs why other (discarded state t.tree)) (keys_sleep_all navs why (discarded state t.tree)) slept_nav refl tie (record { navs = holds.navs.navs; order = holds.navs.order }))));
         documents = subst (λ (es : List (StateId × DocId)). AreListed (map sight discard_new.documents) u.tree es) (sym one.making) (subst (λ (x : Tree). AreListed (map sight discard_new.documents) x t.making.entries) (sym tree) (subst (λ (l : List Sight). AreListed l slept_tree t.making.entries) (sym documents_are) listed));
         whose = whose_on (map sight s.documents) t.whose.entries holds.whose (map sight discard_new.documents) u.whose.entries doc discarded_sight one.whose documents_are (λ x. refl) (λ x. refl);
+        shown = shown_map s.places t.shown.entries holds.shown discard_new.places u.shown.entries slept one.shown refl slept_nav slept_last;
         history = subst (λ (h : History). SameHistory h s.history) (sym one.history) holds.history;
         numbered = one.documents ∙ holds.numbered ∙ sym (ap (λ (l : List Sight). length l) documents_are ∙ length-map (map sight s.documents) _);
         states = one.states ∙ holds.states;

@@ -4,6 +4,7 @@ use Rattle.doors.proofs.Holding.{held_changed, listed_tree}
 use Rattle.doors.proofs.Nodes.{keys_changed, node_changed, places_changed, places_with}
 use Rattle.doors.proofs.Requests.{applied_moved, moved_same}
 use Rattle.doors.proofs.Sights.{sights_same}
+use Rattle.doors.proofs.Shown.{shown_map, shown_same}
 use Rattle.doors.proofs.Whose.{whose_same}
 use Rattle.doors.specs.Ending.{destroy_all, destroyed, unmove_all}
 use Rattle.doors.specs.Look.{Look, Sight, look_of, moved_by, sight}
@@ -44,6 +45,7 @@ left_holds l m t documents places history moved jobs states entries holds =
       };
       documents = subst (λ (x : List Sight). AreListed x t.tree t.making.entries) (sym documents) holds.documents;
       whose = whose_same l.documents t.whose.entries holds.whose m.documents t.whose.entries refl documents;
+      shown = shown_same l.places t.shown.entries holds.shown m.places t.shown.entries refl places;
       history = subst (λ (h : History). SameHistory (history_held t.store) h) (sym history) holds.history;
       numbered = holds.numbered ∙ ap (λ (x : List Sight). length x) (sym documents);
       states = holds.states ∙ sym states;
@@ -133,6 +135,7 @@ module _ (s : Seen) (event : ℕ) (actor : Actor) (req : ReqId) (goal : Step) (t
         navs = subst (λ (x : Tree). AreHeld (look_of ended_new None) x) (sym tree) (subst (λ (l : List Sight). AreHeld (record (look_of ended_new None) { documents = l }) ended_tree) (sym ended_documents) (held_changed (look_of s (Some req)) (record (look_of ended_new None) { documents = map sight s.documents }) t.tree ended_tree (unmoved_if (map (λ (e : NavId × Node). e.0) t.tree.navs)) (λ p. p) (λ other. node_unmoved (map (λ (e : NavId × Node). e.0) t.tree.navs) other t.tree) (keys_unmoved (map (λ (e : NavId × Node). e.0) t.tree.navs) t.tree) (λ p. refl) ended_places tie holds.navs));
         documents = subst (λ (es : List (StateId × DocId)). AreListed (map sight ended_new.documents) u.tree es) (sym one.making) (subst (λ (x : Tree). AreListed (map sight ended_new.documents) x t.making.entries) (sym tree) (subst (λ (l : List Sight). AreListed l ended_tree t.making.entries) (sym ended_documents) (listed_tree (map sight s.documents) t.tree ended_tree t.making.entries (places_unmoved (map (λ (e : NavId × Node). e.0) t.tree.navs) t.tree) holds.documents)));
         whose = whose_same (map sight s.documents) t.whose.entries holds.whose (map sight ended_new.documents) u.whose.entries one.whose ended_documents;
+        shown = shown_map s.places t.shown.entries holds.shown ended_new.places u.shown.entries (λ p. p) one.shown ended_places (λ p. refl) (λ p. refl);
         history = history;
         numbered = one.documents ∙ holds.numbered ∙ sym (ap (λ (l : List Sight). length l) ended_documents);
         states = states ∙ holds.states;
@@ -176,6 +179,9 @@ module _ (s : Seen) (run : Option ReqId) (event : ℕ) (actor : Actor) (req : Re
   taken_nav : (p : Place) → (taken_place p).nav ≡ p.nav
   taken_nav p = elim (has_row p.nav s.history.rows && not (has_row p.nav (applied s.history (changes.RemoveFrame nav)).rows)) as (λ b. (let x : Place = cond b (record p { taken_by = Some req }) p in x).nav ≡ p.nav) [ true ↦ refl | false ↦ refl ]
 
+  taken_last : (p : Place) → (taken_place p).last_job ≡ p.last_job
+  taken_last p = elim (has_row p.nav s.history.rows && not (has_row p.nav (applied s.history (changes.RemoveFrame nav)).rows)) as (λ b. (let x : Place = cond b (record p { taken_by = Some req }) p in x).last_job ≡ p.last_job) [ true ↦ refl | false ↦ refl ]
+
   removed_documents : map sight removed_new.documents ≡ map sight s.documents
   removed_documents = sights_same (λ (d : Document). applied_to (changes.RemoveFrame nav) (told_after_change d (changes.RemoveFrame nav))) (λ d. refl) s.documents
 
@@ -209,6 +215,7 @@ module _ (s : Seen) (run : Option ReqId) (event : ℕ) (actor : Actor) (req : Re
         navs = subst (λ (x : Tree). AreHeld (look_of removed_new run) x) (sym tree) (subst (λ (l : List Sight). AreHeld (record (look_of removed_new run) { documents = l }) (destroy_all lost_navs req t.tree)) (sym removed_documents) (subst (λ (l : List NavId). AreHeld (record (look_of removed_new run) { documents = map sight s.documents; moved = l }) (destroy_all lost_navs req t.tree)) (sym (moved_same s.requests removed_new.requests run (applied_moved s event actor req (changes.RemoveFrame nav)))) (held_changed (look_of s run) (record (look_of removed_new run) { documents = map sight s.documents; moved = moved_by s.requests run }) t.tree (destroy_all lost_navs req t.tree) (destroyed_if lost_navs req) taken_place (λ other. node_destroyed lost_navs req other t.tree) (keys_destroyed lost_navs req t.tree) taken_nav refl removed_tie holds.navs)));
         documents = subst (λ (es : List (StateId × DocId)). AreListed (map sight removed_new.documents) u.tree es) (sym one.making) (subst (λ (x : Tree). AreListed (map sight removed_new.documents) x t.making.entries) (sym tree) (subst (λ (l : List Sight). AreListed l (destroy_all lost_navs req t.tree) t.making.entries) (sym removed_documents) (listed_tree (map sight s.documents) t.tree (destroy_all lost_navs req t.tree) t.making.entries (places_destroyed lost_navs req t.tree) holds.documents)));
         whose = whose_same (map sight s.documents) t.whose.entries holds.whose (map sight removed_new.documents) u.whose.entries one.whose removed_documents;
+        shown = shown_map s.places t.shown.entries holds.shown removed_new.places u.shown.entries taken_place one.shown refl taken_nav taken_last;
         history = history;
         numbered = one.documents ∙ holds.numbered ∙ sym (ap (λ (l : List Sight). length l) removed_documents);
         states = states ∙ holds.states;

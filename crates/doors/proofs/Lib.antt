@@ -5,6 +5,8 @@ pub mod Whose
 pub mod Holding
 pub mod Telling
 pub mod Showing
+pub mod Shown
+pub mod Arriving
 pub mod Making
 pub mod Discarding
 pub mod Requests

@@ -8,7 +8,9 @@ use Rattle.doors.proofs.Keyed.{off_once, off_other, off_same, put_once, put_othe
 use Rattle.doors.proofs.Sights.{KeepsNumber, found_has, found_same, listed_gone, listed_kept, listed_more, listed_new, sights_on}
 use Rattle.doors.specs.Look.{Look, Sight, is_live_for, is_made_for, look_of, moved_by, sight, sight_in}
 use Rattle.doors.specs.Orders.{next_order}
+use Rattle.doors.proofs.Shown.{shown_same}
 use Rattle.doors.proofs.Whose.{whose_more, whose_on}
+use Rattle.doors.specs.Noting.{PlacesOne}
 use Rattle.doors.specs.Ties.{AreHeld, AreListed, AreTied, Holds, IsListed, IsOneSuch, is_doc}
 use Rattle.doors.specs.declared.tables.Tables.{Tables}
 use Rattle.hang_facts.proofs.Members.{has_any, has_map}
@@ -54,6 +56,7 @@ pub record MakesOne (nav : NavId) (state : StateId) (doc : DocId) (t u : Tables)
   pub tree : u.tree ≡ t.tree
   pub making : u.making.entries ≡ insert_entry is_state t.making.entries state doc
   pub whose : u.whose.entries ≡ insert_entry is_doc t.whose.entries doc nav
+  pub shown : u.shown.entries ≡ t.shown.entries
   pub history : history_held u.store ≡ history_held t.store
   pub documents : u.documents ≡ t.documents + 1
   pub states : u.states ≡ t.states
@@ -130,6 +133,7 @@ module _ (s : Seen) (run : Option ReqId) (event : ℕ) (actor : Actor) (proc : P
           navs = subst (λ (x : Tree). AreHeld (look_of make_new run) x) (sym one.tree) (subst (λ (l : List Sight). AreHeld (record (look_of make_new run) { documents = l }) t.tree) (sym documents_are) held);
           documents = subst (λ (es : List (StateId × DocId)). AreListed (map sight make_new.documents) u.tree es) (sym one.making) (subst (λ (x : Tree). AreListed (map sight make_new.documents) x (insert_entry is_state t.making.entries state doc)) (sym one.tree) (subst (λ (l : List Sight). AreListed l t.tree (insert_entry is_state t.making.entries state doc)) (sym documents_are) listed));
           whose = whose_more (map sight s.documents) t.whose.entries holds.whose (map sight make_new.documents) u.whose.entries new_sight one.whose documents_are unknown;
+          shown = shown_same s.places t.shown.entries holds.shown make_new.places u.shown.entries one.shown refl;
           history = subst (λ (h : History). SameHistory h s.history) (sym one.history) holds.history;
           numbered = one.documents ∙ ap (λ (n : ℕ). n + 1) holds.numbered ∙ sym (ap (λ (l : List Sight). length l) documents_are ∙ length-append (map sight s.documents) (new_sight ∷ []));
           states = one.states ∙ holds.states;
@@ -160,17 +164,6 @@ listed_comes test doc g documents d keeps found is none =
         let yes_ : test y ≡ true = ap test it ∙ passes_ in
         let never_ : true ≡ false = sym (has_any test documents y there yes_) ∙ none in
         absurd cc
-
--- the document is made, and placed for its state
-pub record PlacesOne (state : StateId) (place : live_place.Place) (t u : Tables) : Type 0 where
-  pub tree : u.tree ≡ placed state place t.tree
-  pub whose : u.whose.entries ≡ t.whose.entries
-  pub making : u.making.entries ≡ remove_entry (is_state state) t.making.entries
-  pub history : history_held u.store ≡ history_held t.store
-  pub documents : u.documents ≡ t.documents
-  pub states : u.states ≡ t.states
-  pub entries : u.entries ≡ t.entries
-  pub sent : length u.sent.items ≡ length t.sent.items
 
 module _ (look new : Look) (t : Tables) (doc : DocId) (state : StateId) (place : live_place.Place) (d : Sight) (holds : Holds look t) (documents : new.documents ≡ sights_on doc made_ready look.documents) (places : new.places ≡ look.places) (history : new.history ≡ look.history) (moved : new.moved ≡ look.moved) (jobs : new.jobs ≡ look.jobs) (states : new.states ≡ look.states) (entries : new.entries ≡ look.entries) (found : sight_in look.documents doc ≡ Some d) (its_state : (x : Sight) → Has look.documents x → (x.nr.0 == doc.0) ≡ true → x.state ≡ state) (undiscarded : d.is_discarded ≡ false) (unknown : d.is_known_dead ≡ false) (being : lookup (is_state state) t.making.entries ≡ Some doc) (unplaced : document_of state t.tree ≡ None) (its_doc : place.doc ≡ doc) where
   abbrev ready : List Sight
@@ -253,6 +246,7 @@ module _ (look new : Look) (t : Tables) (doc : DocId) (state : StateId) (place :
         };
         documents = subst (λ (es : List (StateId × DocId)). AreListed new.documents u.tree es) (sym one.making) (subst (λ (x : Tree). AreListed new.documents x (remove_entry (is_state state) t.making.entries)) (sym one.tree) (subst (λ (l : List Sight). AreListed l (placed state place t.tree) (remove_entry (is_state state) t.making.entries)) (sym documents) listed_now));
         whose = whose_on look.documents t.whose.entries holds.whose new.documents u.whose.entries doc made_ready one.whose documents (λ x. refl) (λ x. refl);
+        shown = shown_same look.places t.shown.entries holds.shown new.places u.shown.entries one.shown places;
         history = subst (λ (h : History). SameHistory h new.history) (sym one.history) (subst (λ (h : History). SameHistory (history_held t.store) h) (sym history) holds.history);
         numbered = one.documents ∙ holds.numbered ∙ sym (ap (λ (l : List Sight). length l) documents ∙ length-map look.documents _);
         states = one.states ∙ holds.states ∙ sym states;

@@ -3,6 +3,8 @@ use Rattle.doors.proofs.Holding.{held_changed, home_other, listed_unseen}
 use Rattle.doors.proofs.Nodes.{places_with}
 use Rattle.doors.proofs.Sights.{found_same, sight_of, sights_document, sights_on}
 use Rattle.doors.proofs.Telling.{SendsOne, told_to}
+use Rattle.doors.proofs.Shown.{shown_put}
+use Rattle.indexmap.specs.IndexMap.{insert_entry}
 use Rattle.doors.proofs.Whose.{whose_on}
 use Rattle.doors.specs.Look.{Sight, look_of, moved_by, sight, sight_in}
 use Rattle.doors.specs.Orders.{next_order}
@@ -18,14 +20,14 @@ use Rattle.log_model.specs.Seen.{Document, Place, Seen, Status, asleep, awake, d
 use Rattle.log_model.specs.declared.job.Job.{Job}
 use Rattle.log_model.specs.declared.job.Why.{Why}
 use Rattle.log_model.specs.declared.row_kind.Actor.{Actor}
-use Rattle.nav_tree.specs.Tree.{Tree, node_of, with_nav}
+use Rattle.nav_tree.specs.Tree.{Tree, is_nav, node_of, with_nav}
 use Rattle.nav_tree.specs.declared.nav.Nav.{Nav}
 use Rattle.nav_tree.specs.declared.node.Node.{Node}
 use Rattle.std.proofs.Common.{Bool, List, Option, Some, [], ap, arith, cond, false, length, map, refl, subst, sym, true, ℕ, ◌+◌, ◌==◌, ◌∙◌, ◌∷◌, ◌≡◌}
 use Rattle.std.proofs.lemmas.Bool.Decides.{nat_tests}
 use Rattle.std.proofs.lemmas.List.{length-map}
 use Rattle.std.specs.Option.{option_map_or}
-use Rattle.std.specs.Prelude.{option_map}
+use Rattle.std.specs.Prelude.{is_some, option_map}
 use Rattle.tab_ids.specs.declared.DocId.{DocId}
 use Rattle.tab_ids.specs.declared.EntryId.{EntryId}
 use Rattle.tab_ids.specs.declared.Epoch.{Epoch}
@@ -154,12 +156,13 @@ module _ (s : Seen) (run : Option ReqId) (event : ℕ) (actor : Actor) (proc : P
               home = apart_home p.nav n.nav.told p.status t_ tied.home;
             }))
 
-    pub show_holds : (u : Tables) → u.tree ≡ with_nav its_nav d.nav t.tree → SendsOne t u → Holds (look_of show_new run) u
-    show_holds u tree one =
+    pub show_holds : (u : Tables) → u.tree ≡ with_nav its_nav d.nav t.tree → SendsOne t u (insert_entry is_nav t.shown.entries d.nav show_job.nr) → is_some (place_of s d.nav) ≡ true → Holds (look_of show_new run) u
+    show_holds u tree one there_ =
         record {
           navs = subst (λ (x : Tree). AreHeld (look_of show_new run) x) (sym tree) (subst (λ (l : List Sight). AreHeld (record (look_of show_new run) { documents = l }) (with_nav its_nav d.nav t.tree)) (sym show_documents) (subst (λ (l : List NavId). AreHeld (record (look_of show_new run) { documents = documents_then; moved = l }) (with_nav its_nav d.nav t.tree)) (sym moved_is) (held_changed (look_of s run) (record (look_of show_new run) { documents = documents_then; moved = moved }) t.tree (with_nav its_nav d.nav t.tree) (on_nav its_nav d.nav) show_place (λ other. node_with_nav its_nav d.nav other t.tree) (keys_with_nav its_nav d.nav t.tree) show_place_nav places_are tie holds.navs)));
           documents = subst (λ (es : List (StateId × DocId)). AreListed (map sight show_new.documents) u.tree es) (sym one.making) (subst (λ (x : Tree). AreListed (map sight show_new.documents) x t.making.entries) (sym tree) (subst (λ (l : List Sight). AreListed l (with_nav its_nav d.nav t.tree) t.making.entries) (sym show_documents) (listed_unseen (map sight s.documents) t.tree (with_nav its_nav d.nav t.tree) t.making.entries doc (told_to pair) (λ x. refl) (λ state x there_ is. refl) (λ state x there_ is. refl) (places_with its_nav d.nav t.tree) holds.documents)));
           whose = whose_on (map sight s.documents) t.whose.entries holds.whose (map sight show_new.documents) u.whose.entries doc (told_to pair) one.whose show_documents (λ x. refl) (λ x. refl);
+          shown = shown_put s.places t.shown.entries holds.shown show_new.places u.shown.entries (activated show_job entry epoch d) d.nav show_job.nr one.shown places_are (λ p. refl) (λ p. refl) there_;
           history = subst (λ (h : History). SameHistory h s.history) (sym one.history) holds.history;
           numbered = one.documents ∙ holds.numbered ∙ sym (ap (λ (l : List Sight). length l) show_documents ∙ length-map (map sight s.documents) _);
           states = one.states ∙ holds.states;

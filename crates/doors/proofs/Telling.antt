@@ -2,6 +2,7 @@
 use Rattle.doors.proofs.Holding.{at_home_other, awake_home, held_changed, home_same, listed_unseen}
 use Rattle.doors.proofs.Nodes.{places_with}
 use Rattle.doors.proofs.Sights.{sights_document, sights_on}
+use Rattle.doors.proofs.Shown.{shown_same}
 use Rattle.doors.proofs.Whose.{whose_on}
 use Rattle.doors.specs.Look.{Sight, look_of, moved_by, sight}
 use Rattle.doors.specs.Orders.{next_order}
@@ -22,6 +23,7 @@ use Rattle.std.proofs.Common.{Bool, List, Option, Some, ap, arith, false, length
 use Rattle.std.proofs.lemmas.List.{length-map, map-id}
 use Rattle.step_index.specs.Held.{history_held}
 use Rattle.tab_ids.specs.declared.DocId.{DocId}
+use Rattle.tab_ids.specs.declared.JobId.{JobId}
 use Rattle.tab_ids.specs.declared.NavId.{NavId}
 use Rattle.tab_ids.specs.declared.ProcId.{ProcId}
 use Rattle.tab_ids.specs.declared.ReqId.{ReqId}
@@ -33,9 +35,10 @@ use Rattle.coord.proofs.LookUps.{nav_same}
 use Rattle.coord.proofs.Nodes.{keys_with_nav, node_with_nav, on_nav}
 
 -- an order more was sent; all but the navigables is as it was
-pub record SendsOne (t u : Tables) : Type 0 where
+pub record SendsOne (t u : Tables) (shown_ : List (NavId × JobId)) : Type 0 where
   pub making : u.making.entries ≡ t.making.entries
   pub whose : u.whose.entries ≡ t.whose.entries
+  pub shown : u.shown.entries ≡ shown_
   pub history : history_held u.store ≡ history_held t.store
   pub documents : u.documents ≡ t.documents
   pub states : u.states ≡ t.states
@@ -106,12 +109,13 @@ module _ (s : Seen) (run : Option ReqId) (event : ℕ) (actor : Actor) (proc : P
             home = at_home_other (map sight s.documents) doc (told_to pair) nav node.nav.told (λ d. refl) here p.nav n.nav.told p.status (subst (λ (m : NavId). (nav.0 == m.0) ≡ false) (sym is) apart) tied.home;
           })
 
-  pub tell_holds : (u : Tables) → u.tree ≡ with_nav (λ (n : Nav). record n { told = Some pair }) nav t.tree → SendsOne t u → Holds (look_of new run) u
+  pub tell_holds : (u : Tables) → u.tree ≡ with_nav (λ (n : Nav). record n { told = Some pair }) nav t.tree → SendsOne t u t.shown.entries → Holds (look_of new run) u
   tell_holds u tree one =
       record {
         navs = subst (λ (x : Tree). AreHeld (look_of new run) x) (sym tree) (subst (λ (l : List Sight). AreHeld (record (look_of new run) { documents = l }) (with_nav (λ (n : Nav). record n { told = Some pair }) nav t.tree)) (sym documents_are) (held_changed (look_of s run) (record (look_of new run) { documents = sights_on doc (told_to pair) (map sight s.documents) }) t.tree (with_nav (λ (n : Nav). record n { told = Some pair }) nav t.tree) tell_node (λ p. p) (λ other. node_with_nav (λ (n : Nav). record n { told = Some pair }) nav other t.tree) (keys_with_nav (λ (n : Nav). record n { told = Some pair }) nav t.tree) (λ p. refl) (sym (map-id s.places)) tie holds.navs));
         documents = subst (λ (es : List (StateId × DocId)). AreListed (map sight new.documents) u.tree es) (sym one.making) (subst (λ (x : Tree). AreListed (map sight new.documents) x t.making.entries) (sym tree) (subst (λ (l : List Sight). AreListed l (with_nav (λ (n : Nav). record n { told = Some pair }) nav t.tree) t.making.entries) (sym documents_are) (listed_unseen (map sight s.documents) t.tree (with_nav (λ (n : Nav). record n { told = Some pair }) nav t.tree) t.making.entries doc (told_to pair) (λ d. refl) (λ state d there_ is. refl) (λ state d there_ is. refl) (places_with (λ (n : Nav). record n { told = Some pair }) nav t.tree) holds.documents)));
         whose = whose_on (map sight s.documents) t.whose.entries holds.whose (map sight new.documents) u.whose.entries doc (told_to pair) one.whose documents_are (λ d. refl) (λ d. refl);
+        shown = shown_same s.places t.shown.entries holds.shown new.places u.shown.entries one.shown refl;
         history = subst (λ (h : History). SameHistory h s.history) (sym one.history) holds.history;
         numbered = one.documents ∙ holds.numbered ∙ sym (ap (λ (l : List Sight). length l) documents_are ∙ length-map (map sight s.documents) _);
         states = one.states ∙ holds.states;

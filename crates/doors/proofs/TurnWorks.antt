@@ -198,6 +198,7 @@ module _ (e : InEvent) (out : List RowKind) (t : Tables) (req : ReqId) (goal : S
             navs = holds.navs;
             documents = holds.documents;
             whose = holds.whose;
+            shown = holds.shown;
             history = holds.history;
             numbered = holds.numbered;
             states = holds.states;

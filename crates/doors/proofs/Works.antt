@@ -21,6 +21,7 @@ use Rattle.frame_rows.specs.Discarding.{IsDiscardDue, SettlesNone}
 use Rattle.frame_rows.specs.Lawful.{AreLawful, KeepsHeld}
 use Rattle.frame_rows.specs.Making.{IsMakeDue}
 use Rattle.hang_facts.specs.Members.{Has}
+use Rattle.indexmap.specs.IndexMap.{insert_entry}
 use Rattle.log_model.proofs.Refl.{nat_eq_refl}
 use Rattle.log_model.specs.After.{after}
 use Rattle.log_model.specs.AfterDocuments.{new_document}
@@ -34,7 +35,7 @@ use Rattle.log_model.specs.declared.job.Task.{Task}
 use Rattle.log_model.specs.declared.job.Why.{Why}
 use Rattle.log_model.specs.declared.row_kind.LogRow.{LogRow}
 use Rattle.log_model.specs.declared.row_kind.RowKind.{RowKind}
-use Rattle.nav_tree.specs.Tree.{Tree, is_state, nav_of, node_of, with_nav}
+use Rattle.nav_tree.specs.Tree.{Tree, is_nav, is_state, nav_of, node_of, with_nav}
 use Rattle.nav_tree.specs.declared.nav.Nav.{Nav}
 use Rattle.plain_tab.specs.Calm.{is_run, is_this}
 use Rattle.request_facts.proofs.LookUps.{on_itself}
@@ -149,7 +150,7 @@ module _ (e : InEvent) (out : List RowKind) (t u : Tables) (nav : NavId) (doc : 
   update_lawful due =
       lawful_plain e out (rows.Sent update) (order_quiet e update (tasks.Update long at) refl tt) (sent_held e out update) work.lawful (update_may (here_of e out) e.event e.actor update there.document long at refl (led_here e out work.own) (numbered (here_of e out).now t.home doc why (tasks.Update long at) there.known) (record { found = there.found; proc = there.proc_is; alive = there.alive }) due)
 
-  pub tell_work : IsUpdateDue (now_of e out) update (long, at) → u.tree ≡ with_nav (λ (n : Nav). record n { told = Some (long, at) }) nav t.tree → SendsOne t u → u.running ≡ t.running → u.goal ≡ t.goal → IsAtWork e (out ++ rows.Sent update ∷ []) u
+  pub tell_work : IsUpdateDue (now_of e out) update (long, at) → u.tree ≡ with_nav (λ (n : Nav). record n { told = Some (long, at) }) nav t.tree → SendsOne t u t.shown.entries → u.running ≡ t.running → u.goal ≡ t.goal → IsAtWork e (out ++ rows.Sent update ∷ []) u
   tell_work due tree one running goal =
       work_more e out (rows.Sent update) t u work
       (subst (λ (r : Option ReqId). Holds (look_of (after (now_of e out) (row_of e (rows.Sent update))) r) u) (sym running) (tell_holds (now_of e out) t.running e.event e.actor t.home doc why (long, at) nav awake_.node t awake_.there awake_.wakes work.holds u tree one))
@@ -221,10 +222,10 @@ module _ (e : InEvent) (out : List RowKind) (t u : Tables) (nav : NavId) (doc : 
         let one : may.due.place ≡ p = cc in
         ap (λ (x : Place). x.is_unmet) (sym one) ∙ may.unreloaded
 
-    pub show_work : u.tree ≡ with_nav (λ (n : Nav). record n { moved = is_some t.running }) nav (with_nav (λ (n : Nav). record n { told = Some (long, at) }) nav (with_nav (activated entry doc why) nav t.tree)) → SendsOne t u → u.running ≡ t.running → u.goal ≡ t.goal → IsAtWork e (out ++ rows.Sent show ∷ []) u
+    pub show_work : u.tree ≡ with_nav (λ (n : Nav). record n { moved = is_some t.running }) nav (with_nav (λ (n : Nav). record n { told = Some (long, at) }) nav (with_nav (activated entry doc why) nav t.tree)) → SendsOne t u (insert_entry is_nav t.shown.entries nav show.nr) → u.running ≡ t.running → u.goal ≡ t.goal → IsAtWork e (out ++ rows.Sent show ∷ []) u
     show_work tree one running goal =
         work_more e out (rows.Sent show) t u work
-        (subst (λ (r : Option ReqId). Holds (look_of then_shown r) u) (sym running) (show_holds (now_of e out) t.running e.event e.actor t.home doc why entry epoch (long, at) memo address d may.goes.found may.nobody may.node t (λ b. is_some t.running) (moved_then t.running) (subst (λ (n : NavId). node_of n t.tree ≡ Some may.node) (sym may.nav_is) may.there) may.next work.holds place_unmet (moved_is t.running for_run work.runs) (own t.running) (others t.running) u (tree ∙ fused) one))
+        (subst (λ (r : Option ReqId). Holds (look_of then_shown r) u) (sym running) (show_holds (now_of e out) t.running e.event e.actor t.home doc why entry epoch (long, at) memo address d may.goes.found may.nobody may.node t (λ b. is_some t.running) (moved_then t.running) (subst (λ (n : NavId). node_of n t.tree ≡ Some may.node) (sym may.nav_is) may.there) may.next work.holds place_unmet (moved_is t.running for_run work.runs) (own t.running) (others t.running) u (tree ∙ fused) (subst (λ (n : NavId). SendsOne t u (insert_entry is_nav t.shown.entries n show.nr)) (sym may.nav_is) one) (rw may.due.placed refl)))
         (subst (λ (r : Option ReqId). IsRunning then_shown.requests r) (sym running) (runs_same (now_of e out).requests then_shown.requests t.running (same_reads is_run (λ q navs n. refl)) work.runs))
         (subst (λ (r : Option ReqId). HasGoal then_shown.requests r u.goal) (sym running) (subst (λ (g : Step). HasGoal then_shown.requests t.running g) (sym goal) (goal_same (now_of e out).requests then_shown.requests t.running t.goal (same_reads goal_read (λ q navs n. refl)) work.goal)))
         (few_sent (now_of e out).documents _ (now_of e out).jobs (length-map (now_of e out).documents _) work.few)
@@ -272,7 +273,7 @@ module _ (e : InEvent) (out : List RowKind) (t u : Tables) (doc : DocId) (by : R
   discard_lawful due known settles =
       lawful_plain e out (rows.Sent discard) (discard_quiet e discard refl) (sent_held e out discard) work.lawful (discard_may (here_of e out) e.event e.actor discard d by r (led_here e out work.own) (record { number = refl; incarnation = sym known }) due settles)
 
-  pub discard_work : IsDiscardDue (now_of e out) discard d by r → (desk_of (now_of e out) t.home).known ≡ 0 → SettlesNone (now_of e out) (row_of e (rows.Sent discard)) → ((other : NavId) → has_nav (sleepers_with (now_of e out) doc) other ≡ has_nav navs other) → ((x : Sight) → Has (map sight (now_of e out).documents) x → (x.nr.0 == doc.0) ≡ true → x.state ≡ state) → d.is_ready ≡ true → option_map (λ (p : live_place.Place). p.doc) (document_of state t.tree) ≡ Some doc → is_this t.running by ≡ false → u.tree ≡ sleep_all navs (whys.Req by) (discarded state t.tree) → SendsOne t u → u.running ≡ t.running → u.goal ≡ t.goal → IsAtWork e (out ++ rows.Sent discard ∷ []) u
+  pub discard_work : IsDiscardDue (now_of e out) discard d by r → (desk_of (now_of e out) t.home).known ≡ 0 → SettlesNone (now_of e out) (row_of e (rows.Sent discard)) → ((other : NavId) → has_nav (sleepers_with (now_of e out) doc) other ≡ has_nav navs other) → ((x : Sight) → Has (map sight (now_of e out).documents) x → (x.nr.0 == doc.0) ≡ true → x.state ≡ state) → d.is_ready ≡ true → option_map (λ (p : live_place.Place). p.doc) (document_of state t.tree) ≡ Some doc → is_this t.running by ≡ false → u.tree ≡ sleep_all navs (whys.Req by) (discarded state t.tree) → SendsOne t u t.shown.entries → u.running ≡ t.running → u.goal ≡ t.goal → IsAtWork e (out ++ rows.Sent discard ∷ []) u
   discard_work due known settles are its_state ready its apart tree one running goal =
       work_more e out (rows.Sent discard) t u work
       (subst (λ (x : Option ReqId). Holds (look_of then_gone x) u) (sym running) (discard_holds (now_of e out) t.running e.event e.actor t.home doc (whys.Req by) state (sight d) navs t work.holds are (sight_of (now_of e out) doc d due.to.found) its_state ready its (moved_apart t.running apart) u tree one))

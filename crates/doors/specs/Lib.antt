@@ -4,3 +4,4 @@ pub mod Orders
 pub mod Ending
 pub mod Dues
 pub mod Working
+pub mod Noting

@@ -6,15 +6,16 @@ use Rattle.hang_facts.specs.Members.{Has}
 use Rattle.log_model.specs.History.{History, has_nav}
 use Rattle.log_model.specs.Order.{SameHistory}
 use Rattle.log_model.specs.Seen.{Asked, Place, Status, asleep, awake, lost, place_in, request_in}
-use Rattle.nav_tree.specs.Tree.{document_of, Tree, is_state, node_of}
+use Rattle.nav_tree.specs.Tree.{document_of, Tree, is_nav, is_state, node_of}
 use Rattle.nav_tree.specs.declared.node.Node.{Node}
 use Rattle.nav_tree.specs.declared.status.NavStatus.{NavStatus}
 use Rattle.plain_tab.specs.Calm.{EachAsked, is_run, is_this}
 use Rattle.std.specs.List.{list_any}
 use Rattle.std.specs.Map.{lookup}
-use Rattle.std.specs.Prelude.{Bool, List, None, Option, Some, [], false, length, map, option_map, slice_get, true, ℕ, ◌+◌, ◌==◌, ◌∷◌, ◌≡◌}
+use Rattle.std.specs.Prelude.{Bool, List, None, Option, Some, [], false, length, map, option_and_then, option_map, slice_get, true, ℕ, ◌+◌, ◌==◌, ◌∷◌, ◌≡◌}
 use Rattle.step_index.specs.Held.{history_held}
 use Rattle.tab_ids.specs.declared.DocId.{DocId}
+use Rattle.tab_ids.specs.declared.JobId.{JobId}
 use Rattle.tab_ids.specs.declared.NavId.{NavId}
 use Rattle.tab_ids.specs.declared.ReqId.{ReqId}
 use Rattle.tab_ids.specs.declared.StateId.{StateId}
@@ -104,6 +105,10 @@ is_doc doc other = doc.0 == other.0
 abbrev pub AreWhose : List Sight → List (DocId × NavId) → Type 0
 AreWhose documents whose = (doc : DocId) → lookup (is_doc doc) whose ≡ option_map (λ (d : Sight). d.nav) (sight_in documents doc)
 
+-- the table has the last order that showed the navigable a document, of each that was ever shown one
+abbrev pub AreShown : List Place → List (NavId × JobId) → Type 0
+AreShown places shown = (nav : NavId) → lookup (is_nav nav) shown ≡ option_and_then (λ (p : Place). p.last_job) (place_in places nav)
+
 -- the history of the store is that of the log, up to the order of its rows
 abbrev pub HoldsHistory : History → History → Type 0
 HoldsHistory held history = SameHistory held history
@@ -121,6 +126,7 @@ pub record Holds (look : Look) (t : Tables) : Type 0 where
   pub navs : AreHeld look t.tree
   pub documents : AreListed look.documents t.tree t.making.entries
   pub whose : AreWhose look.documents t.whose.entries
+  pub shown : AreShown look.places t.shown.entries
   pub history : HoldsHistory (history_held t.store) look.history
   pub numbered : t.documents ≡ length look.documents
   pub states : t.states ≡ look.states

@@ -209,6 +209,7 @@ impl Tables {
         ensures work { OnOk result (IsAtWork e out.new self.new) }
         ensures out { OnOk result (out.new ≡ out.old ++ rows.Applied req (changes.Traverse goal) ∷ []) }
         ensures ended { OnOk result (self.new.running ≡ None) }
+        ensures home { OnOk result (self.new.home ≡ self.old.home) }
     {
         let change = Change::Traverse { goal };
         make_change(&mut self.store, out, &change)?;

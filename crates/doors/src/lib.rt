@@ -2,6 +2,7 @@
 #![tactic(auto)]
 
 mod changes;
+mod notes;
 mod orders;
 mod tables;
 mod turns;

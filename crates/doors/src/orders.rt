@@ -106,7 +106,9 @@ impl Tables {
             address,
         };
         let job = count_order(&mut self.sent, self.home, doc, why, task)?;
+        let nr = job.nr;
         out.push(RowKind::Sent { job })?;
+        self.shown.insert(nav, nr)?;
         self.tree.give(nav, entry, doc, why);
         self.tree.set_told(nav, Some((length, index)));
         self.tree.set_moved(nav, self.running.is_some());

@@ -7,7 +7,7 @@ use address::OutOfMemory;
 use indexmap::IndexMap;
 use nav_tree::NavTree;
 use step_index::StepIndex;
-use tab_ids::{DocId, NavId, ProcId, ReqId, StateId, Step};
+use tab_ids::{DocId, JobId, NavId, ProcId, ReqId, StateId, Step};
 
 /// The session history, the navigables with the documents that are there, those that are being made, how many of each were numbered, and where the tab's documents live.
 #[derive(Drop)]
@@ -18,6 +18,8 @@ pub struct Tables {
     pub making: IndexMap<StateId, DocId>,
     /// The navigable of each document that was ever made.
     pub whose: IndexMap<DocId, NavId>,
+    /// The last order that showed each navigable a document.
+    pub shown: IndexMap<NavId, JobId>,
     /// How many documents, document states and entries of the coordinator were numbered.
     pub documents: u64,
     pub states: u32,

@@ -153,8 +153,8 @@ module _ (home : ProcId) (run : Option ReqId) (s : Seen) (event : ℕ) (is : IsB
             documents = refl;
             places = refl;
             history = refl;
-            joined = without_same s.joined poke.req not_joined;
-            parked = without_same s.parked poke.req not_parked;
+            joined = λ none. without_same s.joined poke.req not_joined;
+            parked = λ none. without_same s.parked poke.req not_parked;
             runs = others_run run poke.req s.requests unpoked.requests other (λ r apart. on_else s.requests poke.req (λ q. record q { ending = Some (endings.Refused reason) }) r apart);
           })
           unpoked_tab unpoked_flows
@@ -246,8 +246,8 @@ module _ (home : ProcId) (run : Option ReqId) (s : Seen) (event : ℕ) (is : IsB
           documents = refl;
           places = refl;
           history = refl;
-          joined = without_same s.joined req new_unjoined;
-          parked = without_same s.parked req new_unparked;
+          joined = λ none. without_same s.joined req new_unjoined;
+          parked = λ none. without_same s.parked req new_unparked;
           runs = others_run run req s.requests turned_away.requests not_run (λ r apart.
               let other : (req.0 == r.0) ≡ false = grind (arith, nat_tests, apart) in
               on_else strayed.requests req (λ q. record q { ending = Some (endings.Refused reason) }) r apart ∙ others_before s.requests new req nr r other);

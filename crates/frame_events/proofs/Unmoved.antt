@@ -15,7 +15,7 @@ use Rattle.log_model.specs.Seen.{Asked, Document, Place, Seen, place_in, place_o
 use Rattle.plain_tab.proofs.Calms.{at_place}
 use Rattle.plain_tab.specs.Calm.{EachAsked}
 use Rattle.seen_laws.proofs.Sendings.{both}
-use Rattle.std.proofs.Common.{Bool, List, Option, Some, [], ap, cond, false, length, not, refl, subst, suc, sym, true, ℕ, ◌&&◌, ◌+◌, ◌==◌, ◌||◌, ◌∙◌, ◌∷◌, ◌≡◌}
+use Rattle.std.proofs.Common.{Bool, List, None, Option, Some, [], ap, cond, false, length, not, refl, subst, suc, sym, true, ℕ, ◌&&◌, ◌+◌, ◌==◌, ◌||◌, ◌∙◌, ◌∷◌, ◌≡◌}
 use Rattle.std.proofs.lemmas.Bool.{and_parts}
 use Rattle.std.specs.List.{list_all}
 use Rattle.std.specs.Option.{option_map_or}
@@ -78,13 +78,13 @@ steps_run asked plain =
 
 -- ---- what is left
 
--- what a row leaves, or the rows of an event
+-- what a row leaves, or the rows of an event; where a traversal runs, others may join it, and reports may be held back for it
 pub record IsUnmoved (run : Option ReqId) (s t : Seen) : Type 0 where
   pub documents : t.documents ≡ s.documents
   pub places : t.places ≡ s.places
   pub history : t.history ≡ s.history
-  pub joined : t.joined ≡ s.joined
-  pub parked : t.parked ≡ s.parked
+  pub joined : run ≡ None → t.joined ≡ s.joined
+  pub parked : run ≡ None → t.parked ≡ s.parked
   pub runs : run_in run t.requests ≡ run_in run s.requests
 
 module _ (home : ProcId) (run : Option ReqId) (s t : Seen) (is : IsBetween home run s) (now : IsFrameTab home run [] t) (left : IsUnmoved run s t) where
@@ -156,6 +156,21 @@ module _ (home : ProcId) (run : Option ReqId) (s t : Seen) (is : IsBetween home 
       neither true = refl
       neither false = refl
 
+  -- where the queue is free no traversal runs
+  none_runs : is_queue_free t ≡ true → run ≡ None
+  none_runs free = by_run run refl
+    where
+      idle : is_none (run_in run t.requests) ≡ true
+      idle =
+          ap (λ (o : Option Asked). is_none o) (sym (running_is run t.requests now.asked.only)) ∙ sym (steps_run t.requests now.asked.each) ∙ (and_parts (list_all (λ (q : Asked). not (is_step_under_way q)) t.requests) (all_stand t t.history.current) free).0
+
+      by_run : (o : Option ReqId) → run ≡ o → o ≡ None
+      by_run None e = refl
+      by_run (Some req) e =
+          let its = now.asked.runs req e in
+          let found : run_in run t.requests ≡ Some its.q = ap (λ (r : Option ReqId). run_in r t.requests) its.is ∙ its.there in
+          absurd (let never : false ≡ true = sym (ap (λ (r : Option Asked). is_none r) found) ∙ idle in cc)
+
   stepped : ends_stepped t ≡ true
   unfolding ends_stepped
   stepped =
@@ -165,7 +180,7 @@ module _ (home : ProcId) (run : Option ReqId) (s t : Seen) (is : IsBetween home 
       by_free : (b : Bool) → is_queue_free t ≡ b → (c : Bool) → is_queue_free t ≡ c → implies b (has_no_step_waiting s) ≡ true → implies c (has_no_step_waiting t) ≡ true
       by_free b e false f waiting = refl
       by_free false e true f waiting = (let no_ : false ≡ true = sym e ∙ f in absurd cc)
-      by_free true e true f waiting = both (ap (λ (l : List ReqId). length l == 0) left.joined ∙ (and_parts (length s.joined == 0) (list_all (λ (q : Asked). not (is_ready_load s q)) s.requests) waiting).0) none_ready
+      by_free true e true f waiting = both (ap (λ (l : List ReqId). length l == 0) (left.joined (none_runs f)) ∙ (and_parts (length s.joined == 0) (list_all (λ (q : Asked). not (is_ready_load s q)) s.requests) waiting).0) none_ready
 
   pub between_left : IsTab home run [] t → Flows t → IsBetween home run t
   between_left tab flows =
@@ -175,7 +190,7 @@ module _ (home : ProcId) (run : Option ReqId) (s t : Seen) (is : IsBetween home 
         served = served;
         told = tells;
         stepped = stepped;
-        held = λ none. left.parked ∙ is.held none;
+        held = λ none. left.parked none ∙ is.held none;
         swept = λ doc d found ready there. ap (λ (h : History). has_state d.state h.rows) left.history ∙ is.swept doc d (ap (λ (l : List Document). find (λ (x : Document). x.nr.0 == doc.0) l) (sym left.documents) ∙ found) ready there;
         rows_ = λ nav place doc found wakes. ap (λ (h : History). has_row place.nav h.rows) left.history ∙ is.rows_ nav place doc (ap (λ (l : List Place). place_in l nav) (sym left.places) ∙ found) wakes;
       }

@@ -1,8 +1,14 @@
--- Each row keeps what is known of whom requests have moved.
+-- Each row keeps what is known of whom requests have moved, and of what was made of traversals.
 use Rattle.coord_facts.proofs.Unread.{next}
-use Rattle.frame_facts.proofs.Parts.{each_read}
+use Rattle.frame_facts.proofs.Applied.{applied_wishes}
+use Rattle.frame_facts.proofs.Orders.{wish_blind}
+use Rattle.frame_facts.proofs.Parts.{each_read, some_same}
 use Rattle.frame_facts.proofs.Placed.{KeepPlaces, places_keep}
-use Rattle.frame_facts.specs.Moving.{AreMoves, IsMovedThere, IsUnmovedYet, course}
+use Rattle.frame_facts.specs.Moving.{AreMoves, IsMadeToGo, IsMovedThere, IsUnmovedYet, course}
+use Rattle.frame_facts.specs.Lasting.{Wish, wish}
+use Rattle.log_model.specs.Once.{delta_of}
+use Rattle.request_facts.specs.Knowns.{is_go}
+use Rattle.request_facts.proofs.Readers as readers
 use Rattle.frame_tab.proofs.Plainly.{applied_reads}
 use Rattle.frame_tab.specs.Alive.{AreThere, HasPlace}
 use Rattle.hang_facts.proofs.Forms.{nav_is}
@@ -28,10 +34,10 @@ use Rattle.log_model.specs.declared.request.Request.{Request}
 use Rattle.log_model.specs.declared.row_kind.Actor.{Actor}
 use Rattle.plain_tab.proofs.Calms.{each_asked_more, each_asked_on}
 use Rattle.plain_tab.specs.Calm.{EachAsked}
-use Rattle.request_facts.proofs.Readers.{SameReads, on_read, read_of}
-use Rattle.std.proofs.Common.{Bool, List, None, Option, Some, [], ap, cond, false, inl, inr, length, map, not, refl, subst, sym, true, ℕ, ◌&&◌, ◌++◌, ◌+◌, ◌==◌, ◌||◌, ◌∙◌, ◌∷◌, ◌≡◌, ◌⊎◌}
+use Rattle.request_facts.proofs.Readers.{SameReads, on_read, read_of, reads_then, sent_reads}
+use Rattle.std.proofs.Common.{Bool, List, None, Option, Some, [], ap, cond, false, inl, inr, length, map, not, refl, subst, sym, true, ℕ, ℤ, ◌&&◌, ◌++◌, ◌+◌, ◌==◌, ◌||◌, ◌∙◌, ◌∷◌, ◌≡◌, ◌⊎◌}
 use Rattle.std.specs.Option.{option_map_or}
-use Rattle.std.specs.Prelude.{filter, find, slice_get}
+use Rattle.std.specs.Prelude.{filter, find, is_some, slice_get}
 use Rattle.tab_ids.specs.declared.DocId.{DocId}
 use Rattle.tab_ids.specs.declared.EntryId.{EntryId}
 use Rattle.tab_ids.specs.declared.Epoch.{Epoch}
@@ -46,15 +52,39 @@ use Rattle.log_model.specs.declared.made.Report.TheVariants as reports
 use Rattle.log_model.specs.declared.outcome.Ending.TheVariants as endings
 use Rattle.log_model.specs.declared.outcome.Outcome.TheVariants as outcomes
 use Rattle.log_model.specs.declared.row_kind.RowKind.TheVariants as rows
+use Rattle.log_model.specs.declared.action.Action.TheVariants as actions
+use Rattle.log_model.specs.declared.made.What.TheVariants as whats
+use Rattle.log_model.specs.declared.request.Request.TheVariants as requests
 
 -- ---- requests whose courses are as they were
 
-pub moves_again : (s t : Seen) → SameReads course s.requests t.requests → KeepPlaces s.places t.places → AreMoves s → AreMoves t
-moves_again s t same keep is =
+pub moves_again : (s t : Seen) → SameReads course s.requests t.requests → SameReads wish s.requests t.requests → KeepPlaces s.places t.places → AreMoves s → AreMoves t
+moves_again s t same wishes keep is =
     record {
       unmoved = each_read course IsUnmovedYet s.requests t.requests same is.unmoved;
       there = each_read course (IsMovedThere t.places) s.requests t.requests same (λ req q at nav has. keep nav (is.there req q at nav has));
+      goes = each_read wish IsMadeToGo s.requests t.requests wishes is.goes;
     }
+
+-- of a traversal a document made nothing but that it goes
+pub goes_of : (w : Wish) → IsMadeToGo w → (made : Made) → w.made ≡ Some made → is_traversal w.what ≡ true → is_go made.what ≡ true
+goes_of w to_go made is goes = by_delta (delta_of w.what) refl (has_delta w.what goes)
+  where
+    has_delta : (what : Request) → is_traversal what ≡ true → is_some (delta_of what) ≡ true
+    has_delta (requests.Go delta) e = refl
+    has_delta (requests.Poke nav (actions.Go delta)) e = refl
+    has_delta (requests.Poke nav (actions.Push memo reference)) e = absurd cc
+    has_delta (requests.Poke nav (actions.Replace memo reference)) e = absurd cc
+    has_delta (requests.Poke nav (actions.Fragment text)) e = absurd cc
+    has_delta (requests.Poke nav (actions.AddFrame child)) e = absurd cc
+    has_delta (requests.Poke nav (actions.RemoveFrame child)) e = absurd cc
+    has_delta (requests.Poke nav actions.Edit) e = absurd cc
+    has_delta (requests.Load nav mode address) e = absurd cc
+    has_delta (requests.Reload nav) e = absurd cc
+
+    by_delta : (o : Option ℤ) → delta_of w.what ≡ o → is_some o ≡ true → is_go made.what ≡ true
+    by_delta None e never = absurd cc
+    by_delta (Some delta) e some = ap is_go (to_go made delta is e)
 
 -- ---- what documents answer
 
@@ -198,11 +228,12 @@ module _ (home : ProcId) (s : Seen) (event : ℕ) (actor : Actor) (there : AreTh
         by_either (inl placed) = keep nav placed
         by_either (inr moved) = was nav moved
 
-  served_moves : (t : Seen) (why : Why) (f : Asked → Asked) → AddsMoves f why → t.requests ≡ on_served why f s.requests → KeepPlaces s.places t.places → AreMoves t
-  served_moves t why f adds same keep =
+  served_moves : (t : Seen) (why : Why) (f : Asked → Asked) → AddsMoves f why → t.requests ≡ on_served why f s.requests → SameReads wish s.requests t.requests → KeepPlaces s.places t.places → AreMoves t
+  served_moves t why f adds same wishes keep =
       record {
         unmoved = subst (λ (l : List Asked). EachAsked (λ (req : ReqId) (q : Asked). IsUnmovedYet (course q)) l) (sym same) (by_why why refl);
         there = subst (λ (l : List Asked). EachAsked (λ (req : ReqId) (q : Asked). IsMovedThere t.places (course q)) l) (sym same) (there_by why refl);
+        goes = each_read wish IsMadeToGo s.requests t.requests wishes is.goes;
       }
     where
       by_why : (w : Why) → why ≡ w → EachAsked (λ (req : ReqId) (q : Asked). IsUnmovedYet (course q)) (on_served w f s.requests)
@@ -224,16 +255,16 @@ module _ (home : ProcId) (s : Seen) (event : ℕ) (actor : Actor) (there : AreTh
 
   pub told_moves : (job : Job) (long at : ℕ) → job.task ≡ tasks.Update long at → AreMoves (next s event actor (rows.Sent job))
   told_moves job long at task =
-      moves_again s (next s event actor (rows.Sent job)) (λ r. ap (λ (t : Task). read_of course (request_in (requests_sent s job t s.requests) r)) task) (places_keep s event actor (rows.Sent job) tt) is
+      moves_again s (next s event actor (rows.Sent job)) (λ r. ap (λ (t : Task). read_of course (request_in (requests_sent s job t s.requests) r)) task) (sent_reads wish wish_blind s job job.task s.requests) (places_keep s event actor (rows.Sent job) tt) is
 
   pub making_moves : (job : Job) (nav : NavId) (state : StateId) (address : List ℕ) (initial : Bool) → job.task ≡ tasks.Populate nav state address initial → AreMoves (next s event actor (rows.Sent job))
   making_moves job nav state address initial task =
-      moves_again s (next s event actor (rows.Sent job)) (λ r. ap (λ (t : Task). read_of course (request_in (requests_sent s job t s.requests) r)) task) (places_keep s event actor (rows.Sent job) tt) is
+      moves_again s (next s event actor (rows.Sent job)) (λ r. ap (λ (t : Task). read_of course (request_in (requests_sent s job t s.requests) r)) task) (sent_reads wish wish_blind s job job.task s.requests) (places_keep s event actor (rows.Sent job) tt) is
 
   -- a navigable is shown a document, for no traversal that is still to begin
   pub shown_moves : (job : Job) (entry : EntryId) (epoch : Epoch) (long at : ℕ) (memo : Option (List ℕ)) (address : List ℕ) → job.task ≡ tasks.Activate entry epoch long at memo address → ServesNoneToBegin s job.why → AreMoves (next s event actor (rows.Sent job))
   shown_moves job entry epoch long at memo address task begun =
-      served_moves (next s event actor (rows.Sent job)) job.why (request_served s job (tasks.Activate entry epoch long at memo address)) (by_document (document_of s job.doc) refl) (ap (λ (t : Task). requests_sent s job t s.requests) task) (places_keep s event actor (rows.Sent job) tt)
+      served_moves (next s event actor (rows.Sent job)) job.why (request_served s job (tasks.Activate entry epoch long at memo address)) (by_document (document_of s job.doc) refl) (ap (λ (t : Task). requests_sent s job t s.requests) task) (sent_reads wish wish_blind s job job.task s.requests) (places_keep s event actor (rows.Sent job) tt)
     where
       by_document : (o : Option Document) → document_of s job.doc ≡ o → AddsMoves (λ (q : Asked). option_map_or (λ (d : Document). with_activated d.nav (with_moved (option_map_or (sleepers_below s job.doc) (place_of s d.nav) []) q)) o q) job.why
       by_document None e = record { what = λ q. refl; started = λ q. refl; unmoved = inr begun; placed = λ q nav has. inr has }
@@ -266,7 +297,7 @@ module _ (home : ProcId) (s : Seen) (event : ℕ) (actor : Actor) (there : AreTh
         unmoved = by_either fine;
         placed = λ q nav has. by_sleep q nav (has_either (sleepers_with s job.doc) q.moved nav has);
       })
-      (ap (λ (t : Task). requests_sent s job t s.requests) task) (places_keep s event actor (rows.Sent job) tt)
+      (ap (λ (t : Task). requests_sent s job t s.requests) task) (sent_reads wish wish_blind s job job.task s.requests) (places_keep s event actor (rows.Sent job) tt)
     where
       by_either : (sleepers_with s job.doc ≡ []) ⊎ ServesNoneToBegin s job.why → ((q : Asked) → (request_served s job tasks.Discard q).moved ≡ q.moved) ⊎ ServesNoneToBegin s job.why
       by_either (inl none) = inl (λ q. ap (λ (l : List NavId). l ++ q.moved) none)
@@ -286,6 +317,9 @@ module _ (s : Seen) (event : ℕ) (actor : Actor) (is : AreMoves s) where
             (each_asked_on (λ (r : ReqId) (q : Asked). IsUnmovedYet (course q)) (λ (r : ReqId) (q : Asked). IsUnmovedYet (course q)) s.requests req begin (λ r q apart fine. fine) (λ q at fine goes never. absurd (begun never)) is.unmoved);
         there = each_read course (IsMovedThere s.places) (on_request req begin s.requests) (next s event actor (rows.Started req goal)).requests again
             (each_asked_on (λ (r : ReqId) (q : Asked). IsMovedThere s.places (course q)) (λ (r : ReqId) (q : Asked). IsMovedThere s.places (course q)) s.requests req begin (λ r q apart fine. fine) (λ q at fine. fine) is.there);
+        goes = each_read wish IsMadeToGo s.requests (next s event actor (rows.Started req goal)).requests
+            (reads_then wish s.requests (on_request req begin s.requests) (next s event actor (rows.Started req goal)).requests (on_read wish s.requests req begin (λ q. refl)) (on_read wish (on_request req begin s.requests) req (request_begun s) (λ q. refl)))
+            is.goes;
       }
     where
       begin : Asked → Asked
@@ -299,48 +333,56 @@ module _ (s : Seen) (event : ℕ) (actor : Actor) (is : AreMoves s) where
 
   pub refused_moves : (req : ReqId) (reason : Denial) → AreMoves (next s event actor (rows.Refused req reason))
   refused_moves req reason =
-      moves_again s (next s event actor (rows.Refused req reason)) (on_read course s.requests req (λ q. record q { ending = Some (endings.Refused reason) }) (λ q. refl)) (places_keep s event actor (rows.Refused req reason) tt) is
+      moves_again s (next s event actor (rows.Refused req reason)) (on_read course s.requests req (λ q. record q { ending = Some (endings.Refused reason) }) (λ q. refl)) (on_read wish s.requests req (λ q. record q { ending = Some (endings.Refused reason) }) (λ q. refl)) (places_keep s event actor (rows.Refused req reason) tt) is
 
   pub dropped_moves : (req : ReqId) (cause : Cause) → AreMoves (next s event actor (rows.Dropped req cause))
   dropped_moves req cause =
-      moves_again s (next s event actor (rows.Dropped req cause)) (on_read course s.requests req (λ q. record q { ending = Some (endings.Dropped cause) }) (λ q. refl)) (places_keep s event actor (rows.Dropped req cause) tt) is
+      moves_again s (next s event actor (rows.Dropped req cause)) (on_read course s.requests req (λ q. record q { ending = Some (endings.Dropped cause) }) (λ q. refl)) (on_read wish s.requests req (λ q. record q { ending = Some (endings.Dropped cause) }) (λ q. refl)) (places_keep s event actor (rows.Dropped req cause) tt) is
 
   -- a push, a replace, a frame added or removed, or a traversal that ends
   pub applied_moves : (req : ReqId) (change : Change) → AreMoves (next s event actor (rows.Applied req change))
   applied_moves req change =
-      moves_again s (next s event actor (rows.Applied req change)) (applied_reads course s.requests req change (entries_taken s.history change) (λ q. refl) (λ q. refl) (λ q. refl)) (places_keep s event actor (rows.Applied req change) tt) is
+      moves_again s (next s event actor (rows.Applied req change)) (applied_reads course s.requests req change (entries_taken s.history change) (λ q. refl) (λ q. refl) (λ q. refl)) (applied_wishes s event actor req change) (places_keep s event actor (rows.Applied req change) tt) is
 
   pub accepted_moves : (req : ReqId) (doc : Option DocId) (what : Request) → req.0 ≡ length s.requests + 1 → AreMoves (next s event actor (rows.Accepted req doc what))
   accepted_moves req doc what nr =
       record {
         unmoved = each_asked_more (λ (r : ReqId) (q : Asked). IsUnmovedYet (course q)) s.requests (new_request req doc what) req nr (λ goes unstarted. refl) is.unmoved;
         there = each_asked_more (λ (r : ReqId) (q : Asked). IsMovedThere s.places (course q)) s.requests (new_request req doc what) req nr (λ nav never. absurd cc) is.there;
+        goes = each_asked_more (λ (r : ReqId) (q : Asked). IsMadeToGo (wish q)) s.requests (new_request req doc what) req nr (λ made delta same asks. absurd (let never : None ≡ Some made = same in cc)) is.goes;
       }
 
   -- ---- processes
 
   pub taken_moves : (proc : ProcId) (job : Job) (dirty : Bool) → AreMoves (next s event actor (rows.Taken proc job.nr true dirty))
   taken_moves proc job dirty =
-      moves_again s (next s event actor (rows.Taken proc job.nr true dirty)) (λ r. refl) (places_keep s event actor (rows.Taken proc job.nr true dirty) tt) is
+      moves_again s (next s event actor (rows.Taken proc job.nr true dirty)) (λ r. refl) (λ r. refl) (places_keep s event actor (rows.Taken proc job.nr true dirty) tt) is
 
   pub finished_moves : (proc : ProcId) (order : Order) (outcome : Outcome) → AreMoves (next s event actor (rows.Finished proc order.job.nr outcome))
   finished_moves proc order outcome =
-      moves_again s (next s event actor (rows.Finished proc order.job.nr outcome)) (finished_reads s (desk_of s proc).in_hand outcome s.requests) (places_keep s event actor (rows.Finished proc order.job.nr outcome) tt) is
+      moves_again s (next s event actor (rows.Finished proc order.job.nr outcome)) (finished_reads s (desk_of s proc).in_hand outcome s.requests) (readers.finished_reads wish wish_blind s (desk_of s proc).in_hand outcome s.requests) (places_keep s event actor (rows.Finished proc order.job.nr outcome) tt) is
 
   pub delivered_moves : (proc : ProcId) → AreMoves (next s event actor (rows.Delivered proc))
   delivered_moves proc =
-      moves_again s (next s event actor (rows.Delivered proc)) (delivered_reads (slice_get (desk_of s proc).reports 0) s.requests) (places_keep s event actor (rows.Delivered proc) tt) is
+      moves_again s (next s event actor (rows.Delivered proc)) (delivered_reads (slice_get (desk_of s proc).reports 0) s.requests) (readers.delivered_reads wish wish_blind (slice_get (desk_of s proc).reports 0) s.requests) (places_keep s event actor (rows.Delivered proc) tt) is
 
-  -- a document makes something
-  pub acted_moves : (proc : ProcId) (made : Made) → AreMoves (next s event actor (rows.Made proc made))
-  acted_moves proc made =
-      moves_again s (next s event actor (rows.Made proc made)) (on_read course s.requests made.req (λ q. record q { made = Some made }) (λ q. refl)) (places_keep s event actor (rows.Made proc made) tt) is
+  -- a document makes something: of a traversal that it goes by its delta
+  pub acted_moves : (proc : ProcId) (made : Made) → ((q : Asked) (delta : ℤ) → request_of s made.req ≡ Some q → delta_of q.what ≡ Some delta → made.what ≡ whats.Go delta) → AreMoves (next s event actor (rows.Made proc made))
+  acted_moves proc made kind =
+      record {
+        unmoved = each_read course IsUnmovedYet s.requests (next s event actor (rows.Made proc made)).requests again is.unmoved;
+        there = each_read course (IsMovedThere s.places) s.requests (next s event actor (rows.Made proc made)).requests again is.there;
+        goes = each_asked_on (λ (r : ReqId) (q : Asked). IsMadeToGo (wish q)) (λ (r : ReqId) (q : Asked). IsMadeToGo (wish q)) s.requests made.req (λ q. record q { made = Some made }) (λ r q apart fine. fine) (λ q at fine m delta same asks. ap (λ (x : Made). x.what) (sym (some_same same)) ∙ kind q delta at asks) is.goes;
+      }
+    where
+      again : SameReads course s.requests (next s event actor (rows.Made proc made)).requests
+      again = on_read course s.requests made.req (λ q. record q { made = Some made }) (λ q. refl)
 
 -- ---- the tab opens
 
 pub opened_moves : (event : ℕ) (actor : Actor) (entry : EntryId) (state : StateId) (doc : DocId) (proc : ProcId) (slot : Option ℕ) (address : List ℕ) → AreMoves (next nothing event actor (rows.Opened entry state doc proc slot address))
 opened_moves event actor entry state doc proc slot address =
-    record { unmoved = λ req q at. absurd (none_asked req q (req.0 == 0) at); there = λ req q at. absurd (none_asked req q (req.0 == 0) at) }
+    record { unmoved = λ req q at. absurd (none_asked req q (req.0 == 0) at); there = λ req q at. absurd (none_asked req q (req.0 == 0) at); goes = λ req q at. absurd (none_asked req q (req.0 == 0) at) }
   where
     none_asked : (req : ReqId) (q : Asked) (b : Bool) → (let o : Option Asked = cond b None None in o) ≡ Some q → ⊥
     none_asked req q true e = cc

@@ -2,11 +2,10 @@
 use Rattle.coord_facts.specs.Epochs.{IsWithin, MadeWithin}
 use Rattle.coord_facts.specs.Leading.{held_back}
 use Rattle.frame_facts.specs.Lasting.{IsLasting, IsOfItsNav}
-use Rattle.frame_facts.specs.Taking.{IsItsReport}
+use Rattle.frame_facts.specs.Taking.{IsItsReport, IsWaitingHere}
 use Rattle.frame_tab.specs.Asking.{IsPlainlyAsked}
 use Rattle.frame_tab.specs.Desks.{waiting}
 use Rattle.frame_tab.specs.Steady.{IsUnshownYet}
-use Rattle.frame_whole.proofs.Takes.{IsFirstWaiting}
 use Rattle.frame_whole.specs.Tab.{IsTab}
 use Rattle.hang_facts.specs.Members.{Has}
 use Rattle.log_model.proofs.Refl.{nat_eq_refl}
@@ -47,15 +46,15 @@ has_front [] ys y has = absurd has
 has_front (x ∷ xs) ys y (inl same) = inl same
 has_front (x ∷ xs) ys y (inr more) = inr (has_front xs ys y more)
 
-module _ (home : ProcId) (run : Option ReqId) (hand : List Made) (s : Seen) (tab : IsTab home run hand s) (lasting : IsLasting s) (made : Made) (it : IsItsReport s made) (first : IsFirstWaiting hand s made.req made) where
+module _ (home : ProcId) (run : Option ReqId) (hand : List Made) (s : Seen) (tab : IsTab home run hand s) (lasting : IsLasting s) (made : Made) (it : IsItsReport s made) (here : IsWaitingHere hand s made.req made) where
   -- it waits
   pub it_waits : Has (waiting s hand) made
-  it_waits = by_case first
+  it_waits = by_case here
     where
       front_of : (rest : List ReqId) → s.parked ≡ made.req ∷ rest → Has (held_back s.requests s.parked) made
       front_of rest its = subst (λ (l : List ReqId). Has (held_back s.requests l) made) (sym its) (rw it.there (rw it.makes (inl refl)))
 
-      by_case : IsFirstWaiting hand s made.req made → Has (waiting s hand) made
+      by_case : IsWaitingHere hand s made.req made → Has (waiting s hand) made
       by_case (inl at) = has_back (held_back s.requests s.parked) hand made (subst (λ (l : List Made). Has l made) (sym at.0) (inl refl))
       by_case (inr at) = has_front (held_back s.requests s.parked) hand made (front_of at.0 at.1)
 

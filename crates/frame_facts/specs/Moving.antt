@@ -1,14 +1,18 @@
--- Whom requests have moved: a traversal that hasn't begun nobody, and each only those that have a place.
+-- Whom requests have moved: a traversal that hasn't begun nobody, and each only those that have a place; and what documents made of traversals.
 -- This project's own.
+use Rattle.frame_facts.specs.Lasting.{Wish, wish}
 use Rattle.frame_tab.specs.Alive.{HasPlace}
 use Rattle.log_model.specs.History.{has_nav}
+use Rattle.log_model.specs.Once.{delta_of}
 use Rattle.log_model.specs.Places.{is_traversal}
 use Rattle.log_model.specs.Seen.{Asked, Place, Seen}
+use Rattle.log_model.specs.declared.made.Made.{Made}
 use Rattle.log_model.specs.declared.request.Request.{Request}
 use Rattle.plain_tab.specs.Calm.{EachAsked}
-use Rattle.std.specs.Prelude.{Bool, List, [], false, true, ◌≡◌}
+use Rattle.std.specs.Prelude.{Bool, List, Some, [], false, true, ℤ, ◌≡◌}
 use Rattle.tab_ids.specs.declared.NavId.{NavId}
 use Rattle.tab_ids.specs.declared.ReqId.{ReqId}
+use Rattle.log_model.specs.declared.made.What.TheVariants as whats
 
 -- what a request asks, whether it has begun, and whom it has moved
 pub record Course : Type 0 where
@@ -27,7 +31,12 @@ IsUnmovedYet c = is_traversal c.what ≡ true → c.is_started ≡ false → c.m
 abbrev pub IsMovedThere : List Place → Course → Type 0
 IsMovedThere places c = (nav : NavId) → has_nav c.moved nav ≡ true → HasPlace places nav
 
--- both, of each request
+-- of a traversal by a delta a document made nothing but that it goes by that
+abbrev pub IsMadeToGo : Wish → Type 0
+IsMadeToGo w = (made : Made) (delta : ℤ) → w.made ≡ Some made → delta_of w.what ≡ Some delta → made.what ≡ whats.Go delta
+
+-- all of it, of each request
 pub record AreMoves (s : Seen) : Type 0 where
   pub unmoved : EachAsked (λ (req : ReqId) (q : Asked). IsUnmovedYet (course q)) s.requests
   pub there : EachAsked (λ (req : ReqId) (q : Asked). IsMovedThere s.places (course q)) s.requests
+  pub goes : EachAsked (λ (req : ReqId) (q : Asked). IsMadeToGo (wish q)) s.requests

@@ -10,9 +10,13 @@ use Rattle.log_model.specs.Once.{has_to_begin}
 use Rattle.log_model.specs.Places.{is_traversal}
 use Rattle.log_model.specs.Seen.{Asked, Document, Seen, request_of}
 use Rattle.log_model.specs.declared.made.Made.{Made}
-use Rattle.std.specs.Prelude.{List, None, Option, Some, false, true, ◌≡◌}
+use Rattle.std.specs.Prelude.{List, None, Option, Some, [], false, true, ◌∷◌, ◌≡◌, ◌⊎◌}
 use Rattle.tab_ids.specs.declared.ProcId.{ProcId}
 use Rattle.tab_ids.specs.declared.ReqId.{ReqId}
+
+-- it is at hand, or the first that is held back
+abbrev pub IsWaitingHere : List Made → Seen → ReqId → Made → Type 0
+IsWaitingHere hand s req made = ((hand ≡ made ∷ []) × (made.req ≡ req)) ⊎ ((rest : List ReqId) × (s.parked ≡ req ∷ rest))
 
 -- it waits first, was made by the document that its navigable is awake on, under its epoch, and this navigable has an entry; its request doesn't begin
 pub record IsToTakeUp (home : ProcId) (run : Option ReqId) (hand : List Made) (s : Seen) (made : Made) : Type 0 where

@@ -14,8 +14,11 @@ use Rattle.log_model.specs.declared.job.Why.TheVariants as whys  -- keep
 use Rattle.log_model.specs.declared.request.Request.TheVariants as requests  -- keep
 use Rattle.log_model.specs.declared.row_kind.RowKind.TheVariants as rows  -- keep
 use Rattle.frame_whole.proofs.Discards.{bare_by, gone_by}  -- keep
+use Rattle.frame_facts.proofs.Moves.{ServesNoneToBegin}  -- keep
+use Rattle.passes.proofs.Sendings.{IsRest, discarded_rest, with_rest}  -- keep
+use Rattle.passes.specs.Settling.{IsSettling}  -- keep
 use Rattle.frame_whole.specs.Tab.{AreAwakeWithRows, IsTab}  -- keep
-use Rattle.passes.proofs.Gone.{gone_counted, gone_fewer, gone_room, gone_servable, gone_tab, gone_took, gone_top, gone_turn}  -- keep
+use Rattle.passes.proofs.Gone.{gone_counted, gone_fewer, gone_room, gone_servable, gone_tab, gone_top, gone_turn}  -- keep
 use Rattle.passes.proofs.Onlies.{only_one}  -- keep
 use Rattle.passes.proofs.Sleepers.{sleepers_same, sleepers_there}  -- keep
 use Rattle.passes.specs.Sweeping.{HasOnlyDiscarded, IsDiscardFor, IsSweepTurn, NoTraversalTook, NoneRowless, left_count, rowless_in, sleepers_in, taker_in, taker_of}  -- keep
@@ -262,29 +265,27 @@ module _ (e : InEvent) (out : List RowKind) (t : Tables) (hand : List Made) (pas
 
   -- all that it leaves
   pub record IsGoneNow (new : List RowKind) (u : Tables) : Type 0 where
-    pub passing : IsPassing e new u hand
-    pub servable : IsServable (now_of e new)
-    pub took : NoTraversalTook (now_of e new)
+    pub settling : IsSettling e new u hand
     pub turn : IsSweepTurn s (now_of e new)
     pub only : HasOnlyDiscarded s out new
     pub fewer : left_count (now_of e new) < left_count s
 
-  module _ (state : StateId) (doc : DocId) (by : ReqId) (it : IsRowless state doc) (taken : IsTaken doc by) (servable : IsServable s) (none : NoTraversalTook s) where
+  module _ (state : StateId) (doc : DocId) (by : ReqId) (it : IsRowless state doc) (taken : IsTaken doc by) (servable : IsServable s) (rest : IsRest t.running s) where
     abbrev row : RowKind
     row = rows.Sent (order doc by)
 
     gone_done : (u : Tables) → KeepsStore t u → IsAtWork e (out ++ row ∷ []) u → IsGoneNow (out ++ row ∷ []) u
     gone_done u keeps work =
         record {
-          passing = record {
+          settling = with_rest e (out ++ row ∷ []) u hand (record {
             work = work;
             tab = subst (λ (x : Option ReqId). IsTab u.home x hand (now_of e (out ++ row ∷ []))) (sym keeps.running) (subst (λ (h : ProcId). IsTab h t.running hand (now_of e (out ++ row ∷ []))) (sym keeps.home) (on_log (λ x. IsTab t.home t.running hand x) (gone_tab t.home t.running hand s e.event e.actor pass.tab (order doc by) refl refl it.d by taken.asked refl it.found it.ready it.undiscarded it.bare refl taken.there taken.stays)));
             counted = on_log AreCounted (gone_counted t.home t.running hand s e.event e.actor pass.tab (order doc by) refl refl it.d by taken.asked refl it.found it.ready it.undiscarded it.bare refl taken.there taken.stays pass.counted);
             room = on_log HasRoom (gone_room t.home t.running hand s e.event e.actor pass.tab (order doc by) refl refl it.d by taken.asked refl it.found it.ready it.undiscarded it.bare refl taken.there taken.stays pass.room);
             top_shown = on_log IsTopShown (gone_top t.home t.running hand s e.event e.actor pass.tab (order doc by) refl refl it.d by taken.asked refl it.found it.ready it.undiscarded it.bare refl taken.there taken.stays pass.top_shown);
-          };
-          servable = on_log IsServable (gone_servable t.home t.running hand s e.event e.actor pass.tab (order doc by) refl refl it.d by taken.asked refl it.found it.ready it.undiscarded it.bare refl taken.there taken.stays servable);
-          took = on_log NoTraversalTook (gone_took t.home t.running hand s e.event e.actor pass.tab (order doc by) refl refl it.d by taken.asked refl it.found it.ready it.undiscarded it.bare refl taken.there taken.stays none);
+          })
+              (on_log IsServable (gone_servable t.home t.running hand s e.event e.actor pass.tab (order doc by) refl refl it.d by taken.asked refl it.found it.ready it.undiscarded it.bare refl taken.there taken.stays servable))
+              (subst (λ (r : Option ReqId). IsRest r (now_of e (out ++ row ∷ []))) (sym keeps.running) (on_log (IsRest t.running) rest_then));
           turn = on_log (λ x. IsSweepTurn s x) (gone_turn t.home t.running hand s e.event e.actor pass.tab (order doc by) refl refl it.d by taken.asked refl it.found it.ready it.undiscarded it.bare refl taken.there taken.stays);
           only = only_one (IsDiscardFor s) out (out ++ row ∷ []) row refl (refl, ap (λ (o : Option ReqId). option_map (λ (req : ReqId). whys.Req req) o) taken.of_log);
           fewer = on_log (λ x. left_count x < left_count s) (gone_fewer t.home t.running hand s e.event e.actor pass.tab (order doc by) refl refl it.d by taken.asked refl it.found it.ready it.undiscarded it.bare refl taken.there taken.stays);
@@ -292,6 +293,21 @@ module _ (e : InEvent) (out : List RowKind) (t : Tables) (hand : List Made) (pas
       where
         on_log : (P : Seen → Type 0) → P (next s e.event e.actor row) → P (now_of e (out ++ row ∷ []))
         on_log P p = subst P (sym (now_more e out row)) p
+
+        bare : (d : Document) → document_of s doc ≡ Some d → has_row d.nav s.history.rows ≡ false
+        bare d found = bare_by t.home t.running hand s pass.tab doc d found (let both_ : Some it.d ≡ Some d = sym it.found ∙ found in let one : it.d ≡ d = cc in ap (λ (x : Document). has_state x.state s.history.rows) (sym one) ∙ it.bare)
+
+        -- it is discarded for no traversal
+        stays : ServesNoneToBegin s (whys.Req by)
+        stays req q is at goes =
+            let one : by ≡ req = cc in
+            let both_ : Some taken.asked ≡ Some q = sym taken.there ∙ ap (λ (r : ReqId). request_of s r) one ∙ at in
+            let same : taken.asked ≡ q = cc in
+            let never : false ≡ true = sym taken.stays ∙ ap (λ (x : Asked). is_traversal x.what) same ∙ goes in
+            absurd cc
+
+        rest_then : IsRest t.running (next s e.event e.actor row)
+        rest_then = discarded_rest t.home t.running hand s e.event e.actor pass.tab rest (order doc by) refl bare stays
 
   -- in the words of the call
   pub record IsReadyToGo (state : StateId) (doc : DocId) (by : ReqId) (navs : List NavId) : Type 0 where
@@ -302,17 +318,17 @@ module _ (e : InEvent) (out : List RowKind) (t : Tables) (hand : List Made) (pas
     pub there : AreThere (discarded state t.tree) navs
     pub done : (u : Tables) (new : List RowKind) → KeepsStore t u → new ≡ out ++ rows.Sent (order doc by) ∷ [] → IsAtWork e new u → IsGoneNow new u
 
-  pub ready_to_go : (state : StateId) (doc : DocId) → rowless_in (history_held t.store).rows t.tree state ≡ Some (state, doc) → IsServable s → NoTraversalTook s → (by : ReqId) → taker_in t doc ≡ Some by → (navs : List NavId) → navs ≡ sleepers_in t.tree doc → IsReadyToGo state doc by navs
-  ready_to_go state doc is servable none by by_is navs are =
+  pub ready_to_go : (state : StateId) (doc : DocId) → rowless_in (history_held t.store).rows t.tree state ≡ Some (state, doc) → IsServable s → IsRest t.running s → (by : ReqId) → taker_in t doc ≡ Some by → (navs : List NavId) → navs ≡ sleepers_in t.tree doc → IsReadyToGo state doc by navs
+  ready_to_go state doc is servable rest by by_is navs are =
       let it = rowless_is state doc is in
-      let taken = taker_is state doc by it none by_is in
+      let taken = taker_is state doc by it rest.took by_is in
       record {
         may = may_discard state doc by navs it taken are;
         known = (pass.tab.framed.asked.died t.home).0;
         settles = settles_none (row_of e (rows.Sent (order doc by)));
         apart = apart_from_run by taken.asked taken.there taken.stays;
         there = subst (λ (l : List NavId). AreThere (discarded state t.tree) l) (sym are) (sleepers_there s t.running t pass.work.holds pass.tab.sound pass.tab.hangs state doc);
-        done = λ u new keeps same work. subst (λ (l : List RowKind). IsGoneNow l u) (sym same) (gone_done state doc by it taken servable none u keeps (subst (λ (l : List RowKind). IsAtWork e l u) same work));
+        done = λ u new keeps same work. subst (λ (l : List RowKind). IsGoneNow l u) (sym same) (gone_done state doc by it taken servable rest u keeps (subst (λ (l : List RowKind). IsAtWork e l u) same work));
       }
 
   -- ---- once none is left

@@ -1,7 +1,9 @@
 -- What a request is for may go on in a tab of frames, since nobody is asked.
 use Rattle.log_model.specs.Places.{has_passed_with, is_gone}  -- keep
 use Rattle.passes.proofs.Aims.{passed_is, running_is}  -- keep
-use Rattle.passes.specs.Serving.{MayCause, show_why}  -- keep
+use Rattle.passes.specs.Serving.{MayCause, MayServe, show_why}  -- keep
+use Rattle.log_model.specs.Places.{is_traversal, is_under_way}  -- keep
+use Rattle.plain_tab.specs.Calm.{is_run, is_this}  -- keep
 use Rattle.log_model.specs.Checks.{is_checked}  -- keep
 use Rattle.log_model.specs.ActsAtOnce.{is_for_passed}  -- keep
 use Rattle.seen_laws.specs.Sending.{is_passed}  -- keep
@@ -16,9 +18,9 @@ use Rattle.log_model.specs.Seen.{Asked, Seen, request_in, request_of}
 use Rattle.log_model.specs.declared.job.Job.{Job}
 use Rattle.log_model.specs.declared.job.Task.{Task}
 use Rattle.log_model.specs.declared.job.Why.{Why}
-use Rattle.std.proofs.Common.{Bool, None, Option, Some, [], ap, false, length, refl, subst, sym, true, ◌∙◌, ◌≡◌}
+use Rattle.std.proofs.Common.{Bool, None, Option, Some, [], ap, false, length, refl, subst, sym, true, ◌&&◌, ◌∙◌, ◌≡◌}
 use Rattle.std.specs.Option.{option_map_or}
-use Rattle.std.specs.Prelude.{option_and_then}
+use Rattle.std.specs.Prelude.{is_none, option_and_then}
 use Rattle.tab_ids.specs.declared.DocId.{DocId}
 use Rattle.tab_ids.specs.declared.ReqId.{ReqId}
 
@@ -37,6 +39,17 @@ module _ (s : Seen) (run : Option ReqId) (asked : ArePlainlyAsked run s) where
       by_test true = refl
       by_test false = refl
 
+  -- the traversal that runs has begun
+  run_begun : (req : ReqId) → run ≡ Some req → (q : Asked) → request_of s req ≡ Some q → q.is_started ≡ true
+  run_begun req is q there = first q.is_started (is_none q.ending) (first (is_under_way q) (is_traversal q.what) runs)
+    where
+      runs : is_run q ≡ true
+      runs = asked.only req q there ∙ ap (λ (o : Option ReqId). is_this o req) is ∙ nat_eq_refl req.0
+
+      first : (a b : Bool) → (a && b) ≡ true → a ≡ true
+      first true b e = refl
+      first false b e = absurd cc
+
   -- the traversal that runs is there
   pub runs_there : (req : ReqId) → run ≡ Some req → (q : Asked) × (request_of s req ≡ Some q)
   runs_there req is =
@@ -52,7 +65,7 @@ module _ (s : Seen) (run : Option ReqId) (asked : ArePlainlyAsked run s) where
       by_run (Some req) is = λ r same.
           let there = runs_there req is in
           let one : req ≡ r = cc in
-          subst (λ (x : ReqId). may_go_on s x ≡ true) one (goes_on req there.0 there.1)
+          subst (λ (x : ReqId). MayServe s x) one (record { goes = goes_on req there.0 there.1; begun = λ q at goes. run_begun req is q at })
 
   -- an order for it may be sent
   pub is_passed_for : (task : Task) (why : Why) → MayCause s why → is_passed s task why ≡ true
@@ -61,7 +74,7 @@ module _ (s : Seen) (run : Option ReqId) (asked : ArePlainlyAsked run s) where
     where
       by_task : (x : Task) → is_passed s x (whys.Req req) ≡ true
       by_task (tasks.Update length index) = refl
-      by_task x = may req refl
+      by_task x = (may req refl).goes
   is_passed_for task why may = refl
 
   pub for_passed : (job : Job) (cause : Why) → job.why ≡ show_why run cause → is_for_passed s job ≡ true

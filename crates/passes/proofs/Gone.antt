@@ -18,11 +18,10 @@ use Rattle.log_model.specs.declared.job.Task.{Task}
 use Rattle.log_model.specs.declared.made.Made.{Made}
 use Rattle.log_model.specs.declared.row_kind.Actor.{Actor}
 use Rattle.passes.proofs.Ordered.{discard_servable}
-use Rattle.passes.proofs.Servings.{asked_still, blind, ended_same, length_same}
-use Rattle.passes.proofs.Takers.{plain_took}
+use Rattle.passes.proofs.Servings.{asked_still, begun, blind, ended_same, length_same}
 use Rattle.passes.specs.Passing.{AreCounted, HasRoom, IsTopShown}
 use Rattle.passes.specs.Serving.{IsServable}
-use Rattle.passes.specs.Sweeping.{IsSweepTurn, NoTraversalTook, left_count, taker_of}
+use Rattle.passes.specs.Sweeping.{IsSweepTurn, left_count, taker_of}
 use Rattle.request_facts.proofs.Readers.{sent_reads}
 use Rattle.seen_laws.proofs.Keyed.{find_map}
 use Rattle.std.proofs.Common.{Bool, List, None, Option, Some, [], ap, arith, cond, false, inl, inr, length, map, not, refl, subst, sym, true, ℕ, ◌+◌, ◌<◌, ◌==◌, ◌∙◌, ◌∷◌, ◌≡◌, ◌≤◌}
@@ -140,9 +139,6 @@ module _ (home : ProcId) (run : Option ReqId) (hand : List Made) (s : Seen) (eve
           let one : x ≡ d = cc in
           ap (λ (y : Document). has_state y.state s.history.rows) one ∙ gone
 
-  pub gone_took : NoTraversalTook s → NoTraversalTook left_
-  gone_took none = plain_took s tab.framed.steady none event actor (rows.Sent job) tt
-
   -- ---- what it leaves
 
   takers : (doc : DocId) → taker_of left_ doc ≡ taker_of s doc
@@ -166,7 +162,7 @@ module _ (home : ProcId) (run : Option ReqId) (hand : List Made) (s : Seen) (eve
         history = refl;
         parked = refl;
         joined = refl;
-        causes = asked_still s left_ run gone_tab.framed.asked (λ req. sent_reads (λ (q : Asked). q.ending) blind s job job.task s.requests req);
+        causes = asked_still s left_ run gone_tab.framed.asked (λ req. sent_reads begun blind s job job.task s.requests req);
         takers = takers;
       }
 

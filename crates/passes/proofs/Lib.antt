@@ -1,3 +1,4 @@
+pub mod Adders
 pub mod Aims
 pub mod Awakes
 pub mod Goings
@@ -6,6 +7,7 @@ pub mod Showable
 pub mod Makeable
 pub mod Ordered
 pub mod Servings
+pub mod Sendings
 pub mod Serves
 pub mod Rounds
 pub mod Passings
@@ -19,4 +21,5 @@ pub mod Discarded
 pub mod Onlies
 pub mod Takers
 pub mod Gone
+pub mod HeldUp
 pub mod Sweepings

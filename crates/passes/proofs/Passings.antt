@@ -14,7 +14,11 @@ use Rattle.log_model.specs.declared.job.Job.{Job}
 use Rattle.log_model.specs.declared.job.Why.{Why}
 use Rattle.log_model.specs.declared.made.Made.{Made}
 use Rattle.log_model.specs.declared.row_kind.RowKind.{RowKind}
+use Rattle.passes.proofs.Ordered.{told_servable, told_swept}
+use Rattle.passes.proofs.Sendings.{IsRest, rest_of, told_rest, with_rest}
 use Rattle.passes.proofs.Tellings.{told_turn}
+use Rattle.passes.specs.Serving.{IsServable}
+use Rattle.passes.specs.Settling.{IsSettling}
 use Rattle.passes.specs.Passing.{AreCounted, HasRoom, IsPassing, IsTopShown}
 use Rattle.passes.specs.Telling.{IsToldTurn}
 use Rattle.seen_laws.specs.InEvent.{InEvent, now_of}
@@ -45,7 +49,14 @@ module _ (e : InEvent) (out : List RowKind) (t : Tables) (hand : List Made) (pas
         top_shown = subst (λ (x : Seen). IsTopShown x) (sym (now_more e out (rows.Sent (update doc why pair)))) pass.top_shown;
       }
 
+  -- all goes on
+  pub told_settling : IsSettling e out t hand → (u : Tables) (nav : NavId) (doc : DocId) (why : Why) (pair : ℕ × ℕ) → IsTellDue e out t hand pass nav doc pair → KeepsStore t u → IsAtWork e (more doc why pair) u → IsSettling e (more doc why pair) u hand
+  told_settling rest u nav doc why pair due keeps work =
+      with_rest e (more doc why pair) u hand (told_passing u nav doc why pair due keeps work)
+      (subst (λ (x : Seen). IsServable x) (sym (now_more e out (rows.Sent (update doc why pair)))) (told_servable t.home t.running hand s e.event e.actor pass.tab (update doc why pair) refl refl pair.0 pair.1 refl rest.servable))
+      (subst (λ (r : Option ReqId). IsRest r (now_of e (more doc why pair))) (sym keeps.running) (subst (λ (x : Seen). IsRest t.running x) (sym (now_more e out (rows.Sent (update doc why pair)))) (told_rest t.home t.running hand s e.event e.actor pass.tab (rest_of e out t hand rest) (update doc why pair) pair.0 pair.1 refl)))
+
   -- and its turn is done
   pub told_turn_here : (nav : NavId) (doc : DocId) (why : Why) (pair : ℕ × ℕ) → IsTellDue e out t hand pass nav doc pair → IsToldTurn s (now_of e (more doc why pair)) nav
   told_turn_here nav doc why pair due =
-      subst (λ (x : Seen). IsToldTurn s x nav) (sym (now_more e out (rows.Sent (update doc why pair)))) (told_turn s e.event e.actor t.home doc why pair nav due.place due.there.document due.placed due.on due.there.found pass.tab.flows.whose due.due_pair_is)
+      subst (λ (x : Seen). IsToldTurn s x nav) (sym (now_more e out (rows.Sent (update doc why pair)))) (told_turn s e.event e.actor t.home doc why pair nav due.place due.there.document due.placed due.on due.there.found pass.tab.flows.whose due.due_pair_is (told_swept t.home t.running hand s e.event e.actor pass.tab (update doc why pair) refl refl pair.0 pair.1 refl))

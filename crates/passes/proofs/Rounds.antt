@@ -1,7 +1,9 @@
 -- One turn after the other, all of the walk are served.
 use Rattle.doors.specs.declared.tables.Tables.{Tables}  -- keep
 use Rattle.doors.specs.Working.{KeepsStore}  -- keep
-use Rattle.passes.specs.Serving.{HasOnlyServed, IsServable, IsServeFor, IsServedTurn, IsServing}  -- keep
+use Rattle.passes.specs.Serving.{HasOnlyServed, IsServeFor, IsServedTurn}  -- keep
+use Rattle.passes.specs.Settling.{IsSettling}  -- keep
+use Rattle.passes.specs.Turns.{IsServing}  -- keep
 use Rattle.passes.proofs.Onlies.{only_none, only_then}  -- keep
 use Rattle.apply_plan.specs.Order.{walk_of}  -- keep
 use Rattle.log_model.specs.Walk as log  -- keep
@@ -35,25 +37,23 @@ none_kept t = record { store = refl; home = refl; running = refl; goal = refl }
 pub both_kept : (t u v : Tables) → KeepsStore t u → KeepsStore u v → KeepsStore t v
 both_kept t u v first then_ = record { store = then_.store ∙ first.store; home = then_.home ∙ first.home; running = then_.running ∙ first.running; goal = then_.goal ∙ first.goal }
 
-pub serve_begins : (p : InPass) (cause : Why) (t : Tables) (out : List RowKind) (walk : List NavId) → IsPassing p.event out t p.hand → IsServable (now_of p.event out) → walk ≡ walk_of t.tree → IsServing p cause t out t out walk 0
-serve_begins p cause t out walk pass servable is =
+pub serve_begins : (p : InPass) (cause : Why) (t : Tables) (out : List RowKind) (walk : List NavId) → IsSettling p.event out t p.hand → walk ≡ walk_of t.tree → IsServing p cause t out t out walk 0
+serve_begins p cause t out walk settling is =
     record {
-      passing = pass;
-      servable = servable;
-      order = walk_here p.event out t p.hand pass walk is;
+      settling = settling;
+      order = walk_here p.event out t p.hand settling.passing walk is;
       done = record { each = λ k nav low at. absurd (omega (arith, low)) };
       left = left_none (now_of p.event out);
       kept = none_kept t;
       only = only_none (IsServeFor t.running cause) out;
     }
 
-pub serve_goes_on : (p : InPass) (cause : Why) (t : Tables) (was : List RowKind) (u : Tables) (out : List RowKind) (v : Tables) (then_out : List RowKind) (walk : List NavId) (n : ℕ) (nav : NavId) → IsServing p cause t was u out walk n → slice_get walk n ≡ Some nav → IsPassing p.event then_out v p.hand → IsServable (now_of p.event then_out) → IsServedTurn (now_of p.event out) (now_of p.event then_out) nav → KeepsStore u v → HasOnlyServed u.running cause out then_out → IsServing p cause t was v then_out walk (n + 1)
-serve_goes_on p cause t was u out v then_out walk n nav so at pass servable turn keeps only =
+pub serve_goes_on : (p : InPass) (cause : Why) (t : Tables) (was : List RowKind) (u : Tables) (out : List RowKind) (v : Tables) (then_out : List RowKind) (walk : List NavId) (n : ℕ) (nav : NavId) → IsServing p cause t was u out walk n → slice_get walk n ≡ Some nav → IsSettling p.event then_out v p.hand → IsServedTurn (now_of p.event out) (now_of p.event then_out) nav → KeepsStore u v → HasOnlyServed u.running cause out then_out → IsServing p cause t was v then_out walk (n + 1)
+serve_goes_on p cause t was u out v then_out walk n nav so at settling turn keeps only =
     record {
-      passing = pass;
-      servable = servable;
+      settling = settling;
       order = walk_stays (now_of p.event out) (now_of p.event then_out) walk nav turn.others so.order;
-      done = one_more (now_of p.event out) (now_of p.event then_out) so.passing.tab.sound so.passing.tab.hangs walk n nav at so.order turn.others turn.own so.done;
+      done = one_more (now_of p.event out) (now_of p.event then_out) so.settling.passing.tab.sound so.settling.passing.tab.hangs walk n nav at so.order turn.others turn.own so.done;
       left = left_then (now_of p.event was) (now_of p.event out) (now_of p.event then_out) so.left turn.left;
       kept = both_kept t u v so.kept keeps;
       only = only_then (IsServeFor t.running cause) was out then_out so.only (subst (λ (r : Option ReqId). HasOnlyServed r cause out then_out) so.kept.running only);

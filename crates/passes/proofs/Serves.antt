@@ -30,6 +30,9 @@ use Rattle.passes.proofs.Showable.{IsLiveHere, live_here, may_show, show_job, sh
 use Rattle.passes.proofs.Makeable.{make_due, make_job, unknown, known}  -- keep
 use Rattle.passes.proofs.Servings.{make_counted, make_room, make_servable, make_top, make_turn, show_counted, show_room, show_servable, show_top, show_turn, turn_none}  -- keep
 use Rattle.passes.proofs.Stand.{stand_for}  -- keep
+use Rattle.passes.proofs.Goings.{show_causes}  -- keep
+use Rattle.passes.proofs.Sendings.{IsRest, making_rest, none_to_begin, shown_rest, with_rest}  -- keep
+use Rattle.passes.specs.Settling.{IsSettling}  -- keep
 use Rattle.passes.specs.Passing.{AreCounted, HasRoom, IsPassing, IsTopShown}  -- keep
 use Rattle.passes.specs.Serving.{IsServable, IsServedTurn, MayCause, make_why, need_in, show_why}  -- keep
 use Rattle.plan_laws.proofs.NeedLaws.{needs_is}  -- keep
@@ -73,8 +76,7 @@ made_whys false run cause why is = inl is
 
 -- all that a turn leaves
 pub record IsServedNow (e : InEvent) (was out : List RowKind) (u : Tables) (hand : List Made) (nav : NavId) : Type 0 where
-  pub passing : IsPassing e out u hand
-  pub servable : IsServable (now_of e out)
+  pub settling : IsSettling e out u hand
   pub turn : IsServedTurn (now_of e was) (now_of e out) nav
 
 module _ (e : InEvent) (out : List RowKind) (t : Tables) (hand : List Made) (pass : IsPassing e out t hand) (nav : NavId) where
@@ -83,7 +85,7 @@ module _ (e : InEvent) (out : List RowKind) (t : Tables) (hand : List Made) (pas
 
   -- ---- it is shown its document
 
-  module _ (needing : IsNeeding e out t hand pass nav) (doc : DocId) (here : IsLiveHere e out t hand pass nav needing doc) (cause : Why) (may : MayCause s cause) (epoch : Epoch) (next_ : epoch.0 ≡ needing.node.nav.epoch.0 + 1) (pair : ℕ × ℕ) (pair_is : pair ≡ pair_at s (aim_of s)) (servable : IsServable s) where
+  module _ (needing : IsNeeding e out t hand pass nav) (doc : DocId) (here : IsLiveHere e out t hand pass nav needing doc) (cause : Why) (may : MayCause s cause) (epoch : Epoch) (next_ : epoch.0 ≡ needing.node.nav.epoch.0 + 1) (pair : ℕ × ℕ) (pair_is : pair ≡ pair_at s (aim_of s)) (servable : IsServable s) (rest : IsRest t.running s) where
     abbrev job : Job
     job = show_job e out t hand pass nav needing doc here cause may epoch next_ pair pair_is
 
@@ -96,17 +98,22 @@ module _ (e : InEvent) (out : List RowKind) (t : Tables) (hand : List Made) (pas
     tab_then : IsTab t.home t.running hand (next s e.event e.actor (rows.Sent job))
     tab_then = show_tab t.home t.running hand s e.event e.actor pass.tab job refl refl here.document needing.place needing.target epoch pair.0 pair.1 refl shown_of servable.viewed
 
+    rest_then : IsRest t.running (next s e.event e.actor (rows.Sent job))
+    rest_then =
+        shown_rest t.home t.running hand s e.event e.actor pass.tab rest job here.document here.found needing.target.entry epoch pair.0 pair.1 needing.target.memo needing.target.address refl (none_to_begin s job.why (show_causes s t.running pass.tab.framed.asked cause may))
+
     pub show_done : (u : Tables) → KeepsStore t u → IsAtWork e then_out u → IsServedNow e out then_out u hand nav
     show_done u keeps work =
         record {
-          passing = record {
+          settling = with_rest e then_out u hand (record {
             work = work;
             tab = subst (λ (r : Option ReqId). IsTab u.home r hand (now_of e then_out)) (sym keeps.running) (subst (λ (h : ProcId). IsTab h t.running hand (now_of e then_out)) (sym keeps.home) (subst (λ (x : Seen). IsTab t.home t.running hand x) (sym (now_more e out (rows.Sent job))) tab_then));
             counted = subst (λ (x : Seen). AreCounted x) (sym (now_more e out (rows.Sent job))) (show_counted t.home t.running hand s e.event e.actor pass.tab job refl refl here.document needing.place needing.target epoch pair.0 pair.1 refl shown_of pass.counted);
             room = subst (λ (x : Seen). HasRoom x) (sym (now_more e out (rows.Sent job))) (show_room t.home t.running hand s e.event e.actor pass.tab job refl refl here.document needing.place needing.target epoch pair.0 pair.1 refl shown_of pass.room);
             top_shown = subst (λ (x : Seen). IsTopShown x) (sym (now_more e out (rows.Sent job))) (show_top t.home t.running hand s e.event e.actor pass.tab job refl refl here.document needing.place needing.target epoch pair.0 pair.1 refl shown_of pass.top_shown);
-          };
-          servable = subst (λ (x : Seen). IsServable x) (sym (now_more e out (rows.Sent job))) (show_servable t.home t.running hand s e.event e.actor pass.tab job refl refl here.document needing.place needing.target epoch pair.0 pair.1 refl shown_of servable);
+          })
+              (subst (λ (x : Seen). IsServable x) (sym (now_more e out (rows.Sent job))) (show_servable t.home t.running hand s e.event e.actor pass.tab job refl refl here.document needing.place needing.target epoch pair.0 pair.1 refl shown_of servable))
+              (subst (λ (r : Option ReqId). IsRest r (now_of e then_out)) (sym keeps.running) (subst (λ (x : Seen). IsRest t.running x) (sym (now_more e out (rows.Sent job))) rest_then));
           turn = subst (λ (x : Seen). IsServedTurn s x nav) (sym (now_more e out (rows.Sent job))) (subst (λ (n : NavId). IsServedTurn s (next s e.event e.actor (rows.Sent job)) n) here.nav_is (show_turn t.home t.running hand s e.event e.actor pass.tab job refl refl here.document needing.place needing.target epoch pair.0 pair.1 refl shown_of tab_then));
         }
 
@@ -122,7 +129,7 @@ module _ (e : InEvent) (out : List RowKind) (t : Tables) (hand : List Made) (pas
 
   -- ---- one is made
 
-  module _ (needing : IsNeeding e out t hand pass nav) (bare : document_in_tree needing.target.state t.tree ≡ None) (unmade : lookup (is_state needing.target.state) t.making.entries ≡ None) (servable : IsServable s) (cause : Why) (may : MayCause s cause) (new : Bool) where
+  module _ (needing : IsNeeding e out t hand pass nav) (bare : document_in_tree needing.target.state t.tree ≡ None) (unmade : lookup (is_state needing.target.state) t.making.entries ≡ None) (servable : IsServable s) (cause : Why) (may : MayCause s cause) (new : Bool) (rest : IsRest t.running s) where
     abbrev made : Job
     made = make_job e out t hand pass nav needing bare unmade servable cause may new
 
@@ -143,17 +150,21 @@ module _ (e : InEvent) (out : List RowKind) (t : Tables) (hand : List Made) (pas
             let next_ : made.doc.0 ≡ length s.documents + 1 = due.next in
             absurd (omega (arith, low, number, next_))
 
+    made_rest : IsRest t.running (next s e.event e.actor (rows.Sent made))
+    made_rest = making_rest t.home t.running hand s e.event e.actor pass.tab rest made nav needing.target.state needing.target.address true refl
+
     pub make_done : (u : Tables) → KeepsStore t u → IsAtWork e made_out u → IsServedNow e out made_out u hand nav
     make_done u keeps work =
         record {
-          passing = record {
+          settling = with_rest e made_out u hand (record {
             work = work;
             tab = subst (λ (r : Option ReqId). IsTab u.home r hand (now_of e made_out)) (sym keeps.running) (subst (λ (h : ProcId). IsTab h t.running hand (now_of e made_out)) (sym keeps.home) (subst (λ (x : Seen). IsTab t.home t.running hand x) (sym (now_more e out (rows.Sent made))) (make_tab t.home t.running hand s e.event e.actor pass.tab made refl refl nav needing.target.address true needing.target refl due.next (aim_of s) needing.at)));
             counted = subst (λ (x : Seen). AreCounted x) (sym (now_more e out (rows.Sent made))) (make_counted t.home t.running hand s e.event e.actor pass.tab made refl refl nav needing.target.state needing.target.address true refl gone pass.counted);
             room = subst (λ (x : Seen). HasRoom x) (sym (now_more e out (rows.Sent made))) (make_room t.home t.running hand s e.event e.actor pass.tab made refl refl nav needing.target.state needing.target.address true refl gone pass.room);
             top_shown = subst (λ (x : Seen). IsTopShown x) (sym (now_more e out (rows.Sent made))) (make_top t.home t.running hand s e.event e.actor pass.tab made refl refl nav needing.target.state needing.target.address true refl gone pass.top_shown);
-          };
-          servable = subst (λ (x : Seen). IsServable x) (sym (now_more e out (rows.Sent made))) (make_servable t.home t.running hand s e.event e.actor pass.tab made refl refl nav needing.target.state needing.target.address true refl gone servable);
+          })
+              (subst (λ (x : Seen). IsServable x) (sym (now_more e out (rows.Sent made))) (make_servable t.home t.running hand s e.event e.actor pass.tab made refl refl nav needing.target.state needing.target.address true refl gone servable))
+              (subst (λ (r : Option ReqId). IsRest r (now_of e made_out)) (sym keeps.running) (subst (λ (x : Seen). IsRest t.running x) (sym (now_more e out (rows.Sent made))) made_rest));
           turn = subst (λ (x : Seen). IsServedTurn s x nav) (sym (now_more e out (rows.Sent made))) (make_turn t.home t.running hand s e.event e.actor pass.tab made refl refl nav needing.target.state needing.target.address true refl gone needing.target needing.at refl);
         }
 
@@ -262,8 +273,8 @@ module _ (e : InEvent) (out : List RowKind) (t : Tables) (hand : List Made) (pas
   pub doc_some : (entry : EntryId) (due : IsMoveDue entry) (row : Row) → row_of entry (history_held t.store).rows ≡ Some row → is_some (document_in_tree row.state t.tree) ≡ true
   doc_some entry due row there = ap (λ (r : Row). is_some (document_in_tree r.state t.tree)) (row_same due.needing entry row due.entry_is there) ∙ due.live
 
-  pub ready_to_show : (entry : EntryId) (due : IsMoveDue entry) (servable : IsServable s) (cause : Why) → MayCause s cause → (row : Row) → row_of entry (history_held t.store).rows ≡ Some row → (doc : DocId) → option_map (λ (p : live_place.Place). p.doc) (document_in_tree row.state t.tree) ≡ Some doc → (epoch : Epoch) → option_map (λ (n : Nav). n.epoch.0 + 1) (nav_of nav t.tree) ≡ Some epoch.0 → (long at : ℕ) → (long, at) ≡ pair_in (history_held t.store).rows (aim_in (history_held t.store) t.running t.goal) → (memo : Option (List ℕ)) → memo ≡ row.memo → (address : List ℕ) → address ≡ row.address → (why : Why) → why ≡ show_why t.running cause → IsReadyToShow entry doc why epoch long at memo address
-  ready_to_show entry due servable cause may row there doc its_doc epoch next_ long at pair_is memo memo_is address address_is why why_is =
+  pub ready_to_show : (entry : EntryId) (due : IsMoveDue entry) (servable : IsServable s) (rest : IsRest t.running s) (cause : Why) → MayCause s cause → (row : Row) → row_of entry (history_held t.store).rows ≡ Some row → (doc : DocId) → option_map (λ (p : live_place.Place). p.doc) (document_in_tree row.state t.tree) ≡ Some doc → (epoch : Epoch) → option_map (λ (n : Nav). n.epoch.0 + 1) (nav_of nav t.tree) ≡ Some epoch.0 → (long at : ℕ) → (long, at) ≡ pair_in (history_held t.store).rows (aim_in (history_held t.store) t.running t.goal) → (memo : Option (List ℕ)) → memo ≡ row.memo → (address : List ℕ) → address ≡ row.address → (why : Why) → why ≡ show_why t.running cause → IsReadyToShow entry doc why epoch long at memo address
+  ready_to_show entry due servable rest cause may row there doc its_doc epoch next_ long at pair_is memo memo_is address address_is why why_is =
       subst (λ (x : EntryId). IsReadyToShow x doc why epoch long at memo address) due.entry_is
       (subst (λ (x : Why). IsReadyToShow needing.target.entry doc x epoch long at memo address) (sym why_is)
       (subst (λ (x : Option (List ℕ)). IsReadyToShow needing.target.entry doc (show_why t.running cause) epoch long at x address) (sym (memo_is ∙ ap (λ (r : Row). r.memo) same))
@@ -271,8 +282,8 @@ module _ (e : InEvent) (out : List RowKind) (t : Tables) (hand : List Made) (pas
       (record {
         may = may_show e out t hand pass nav needing doc here cause may epoch next_here (long, at) pair_here;
         for_run = λ r is. ap (λ (o : Option ReqId). show_why o cause) is;
-        fits = epoch_fits needing doc here cause may epoch next_here (long, at) pair_here servable;
-        done = λ u new keeps is work. subst (λ (l : List RowKind). IsServedNow e out l u hand nav) (sym is) (show_done needing doc here cause may epoch next_here (long, at) pair_here servable u keeps (subst (λ (l : List RowKind). IsAtWork e l u) is work));
+        fits = epoch_fits needing doc here cause may epoch next_here (long, at) pair_here servable rest;
+        done = λ u new keeps is work. subst (λ (l : List RowKind). IsServedNow e out l u hand nav) (sym is) (show_done needing doc here cause may epoch next_here (long, at) pair_here servable rest u keeps (subst (λ (l : List RowKind). IsAtWork e l u) is work));
       }))))
     where
       needing : IsNeeding e out t hand pass nav
@@ -310,8 +321,8 @@ module _ (e : InEvent) (out : List RowKind) (t : Tables) (hand : List Made) (pas
     pub unknown : sight_in (map sight s.documents) (record { 0 = t.documents + 1 }) ≡ None
     pub done : (u : Tables) (new : List RowKind) → KeepsStore t u → new ≡ out ++ rows.Sent (next_order s.jobs t.home (record { 0 = t.documents + 1 }) why (tasks.Populate nav state address true)) ∷ [] → IsAtWork e new u → IsServedNow e out new u hand nav
 
-  pub ready_to_make : (entry : EntryId) (due : IsMakingDue entry) (servable : IsServable s) (cause : Why) → MayCause s cause → (row : Row) → row_of entry (history_held t.store).rows ≡ Some row → (state : StateId) → state ≡ row.state → lookup (is_state state) t.making.entries ≡ None → (address : List ℕ) → address ≡ row.address → (new : Bool) (why : Why) → why ≡ make_why new t.running cause → IsReadyToMake state address why
-  ready_to_make entry due servable cause may row there state state_is_ unmade address address_is new why why_is =
+  pub ready_to_make : (entry : EntryId) (due : IsMakingDue entry) (servable : IsServable s) (rest : IsRest t.running s) (cause : Why) → MayCause s cause → (row : Row) → row_of entry (history_held t.store).rows ≡ Some row → (state : StateId) → state ≡ row.state → lookup (is_state state) t.making.entries ≡ None → (address : List ℕ) → address ≡ row.address → (new : Bool) (why : Why) → why ≡ make_why new t.running cause → IsReadyToMake state address why
+  ready_to_make entry due servable rest cause may row there state state_is_ unmade address address_is new why why_is =
       subst (λ (x : StateId). IsReadyToMake x address why) (sym state_same)
       (subst (λ (x : Why). IsReadyToMake due.needing.target.state address x) (sym why_is)
       (subst (λ (x : List ℕ). IsReadyToMake due.needing.target.state x (make_why new t.running cause)) (sym (address_is ∙ ap (λ (r : Row). r.address) same))
@@ -319,7 +330,7 @@ module _ (e : InEvent) (out : List RowKind) (t : Tables) (hand : List Made) (pas
         due = make_due e out t hand pass nav due.needing due.bare unmade_here servable cause may new;
         known = known e out t hand pass nav due.needing due.bare unmade_here;
         unknown = unknown e out t hand pass nav due.needing due.bare unmade_here;
-        done = λ u out_ keeps is work. subst (λ (l : List RowKind). IsServedNow e out l u hand nav) (sym is) (make_done due.needing due.bare unmade_here servable cause may new u keeps (subst (λ (l : List RowKind). IsAtWork e l u) is work));
+        done = λ u out_ keeps is work. subst (λ (l : List RowKind). IsServedNow e out l u hand nav) (sym is) (make_done due.needing due.bare unmade_here servable cause may new rest u keeps (subst (λ (l : List RowKind). IsAtWork e l u) is work));
       })))
     where
       same : row ≡ due.needing.target

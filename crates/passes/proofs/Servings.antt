@@ -16,7 +16,8 @@ use Rattle.frame_whole.proofs.Shows.{IsShowOf}  -- keep
 use Rattle.frame_whole.proofs.FlowsTold.{sent_home}  -- keep
 use Rattle.request_facts.proofs.Readers.{IsBlind, SameReads, sent_reads}  -- keep
 use Rattle.passes.specs.Passing.{AreCounted, HasRoom, IsTopShown, ended_count}  -- keep
-use Rattle.passes.specs.Serving.{IsServable, IsServedTurn, IsSwept, LeavesSwept, MayCause}  -- keep
+use Rattle.passes.specs.Serving.{IsServable, IsServedTurn, IsSwept, LeavesSwept, MayCause, MayServe}  -- keep
+use Rattle.log_model.specs.declared.request.Request.{Request}  -- keep
 use Rattle.passes.proofs.Goings.{goes_on}  -- keep
 use Rattle.hang_facts.proofs.Hung.{places_distinct}  -- keep
 use Rattle.log_model.specs.Places.{top}  -- keep
@@ -37,12 +38,11 @@ use Rattle.log_model.specs.Checks.{may_go_on}
 use Rattle.log_model.specs.Equal.{holds, implies}
 use Rattle.log_model.specs.History.{has_row, has_state, is_of}
 use Rattle.log_model.specs.Checks.{is_checked}  -- keep
-use Rattle.log_model.specs.Places.{aim_of, has_passed}
+use Rattle.log_model.specs.Places.{aim_of, has_passed, is_traversal}
 use Rattle.log_model.specs.declared.job.Job.{Job}
 use Rattle.log_model.specs.declared.job.Task.{Task}
 use Rattle.log_model.specs.declared.job.Why.{Why}
 use Rattle.log_model.specs.declared.made.Made.{Made}
-use Rattle.log_model.specs.declared.outcome.Ending.{Ending}
 use Rattle.log_model.specs.declared.row.Row.{Row}
 use Rattle.log_model.specs.declared.row_kind.Actor.{Actor}
 use Rattle.std.proofs.Common.{Bool, List, None, Option, Some, [], ap, arith, cond, false, fold, length, map, refl, subst, suc, sym, true, ℕ, ◌+◌, ◌<◌, ◌==◌, ◌∙◌, ◌∷◌, ◌≡◌, ◌≤◌}
@@ -78,23 +78,39 @@ ended_same asked then_ same = sym (ended_blur then_) ∙ ap ended_count same ∙
 pub length_same : (asked then_ : List Asked) → map blur then_ ≡ map blur asked → length then_ ≡ length asked
 length_same asked then_ same = sym (length-map then_ blur) ∙ ap (λ (l : List Asked). length l) same ∙ length-map asked blur
 
+-- what a request asks, and whether it has begun
+pub record Begun : Type 0 where
+  pub what : Request
+  pub is_started : Bool
+
+abbrev pub begun : Asked → Begun
+begun q = record { what = q.what; is_started = q.is_started }
+
+some_begun : (o : Option Asked) (q : Asked) → option_map begun o ≡ Some (begun q) → (new : Asked) × (o ≡ Some new) × (begun new ≡ begun q)
+some_begun None q e = absurd cc
+some_begun (Some new) q e = (new, refl, cc)
+
 -- requests that are there go on
-pub asked_still : (s t : Seen) (run : Option ReqId) → ArePlainlyAsked run t → SameReads (λ (q : Asked). q.ending) s.requests t.requests → (why : Why) → MayCause s why → MayCause t why
-asked_still s t run plain same why may req is = by_there (request_of s req) refl (by_old (request_of s req) (may req is))
+pub asked_still : (s t : Seen) (run : Option ReqId) → ArePlainlyAsked run t → SameReads begun s.requests t.requests → (why : Why) → MayCause s why → MayCause t why
+asked_still s t run plain same why may req is = by_found (request_of s req) refl (may req is).goes
   where
-    by_old : (o : Option Asked) → holds (λ (q : Asked). implies (is_checked q) (has_passed s q)) o ≡ true → is_some o ≡ true
-    by_old None h = absurd cc
-    by_old (Some q) h = refl
+    serves : (q : Asked) → request_of s req ≡ Some q → (new : Asked) × (request_of t req ≡ Some new) × (begun new ≡ begun q) → MayServe t req
+    serves q at now_ =
+        record {
+          goes = goes_on t run plain req now_.0 now_.1;
+          begun = λ r there goes.
+              let both_ : Some now_.0 ≡ Some r = sym now_.1 ∙ there in
+              let one : now_.0 ≡ r = cc in
+              let asks : q.what ≡ r.what = ap (λ (b : Begun). b.what) (sym now_.2) ∙ ap (λ (x : Asked). x.what) one in
+              let starts : q.is_started ≡ r.is_started = ap (λ (b : Begun). b.is_started) (sym now_.2) ∙ ap (λ (x : Asked). x.is_started) one in
+              sym starts ∙ (may req is).begun q at (ap is_traversal asks ∙ goes);
+        }
 
-    by_new : (o : Option Asked) → request_of t req ≡ o → is_some (option_map (λ (q : Asked). q.ending) o) ≡ true → may_go_on t req ≡ true
-    by_new None at h = absurd cc
-    by_new (Some q) at h = goes_on t run plain req q at
+    by_found : (o : Option Asked) → request_of s req ≡ o → holds (λ (q : Asked). implies (is_checked q) (has_passed s q)) o ≡ true → MayServe t req
+    by_found None at h = absurd cc
+    by_found (Some q) at h = serves q at (some_begun (request_of t req) q (same req ∙ ap (λ (o : Option Asked). option_map begun o) at))
 
-    by_there : (o : Option Asked) → request_of s req ≡ o → is_some o ≡ true → may_go_on t req ≡ true
-    by_there None at h = absurd cc
-    by_there (Some q) at h = by_new (request_of t req) refl (ap (λ (o : Option (Option Ending)). is_some o) (same req) ∙ ap (λ (o : Option Asked). is_some (option_map (λ (x : Asked). x.ending) o)) at)
-
-pub blind : IsBlind (λ (q : Asked). q.ending)
+pub blind : IsBlind begun
 blind = record { moves = λ q activated moved. refl; asks = λ q asks. refl; fragments = λ q doc. refl; misses = λ q is. refl }
 
 -- ---- one is shown its document
@@ -169,7 +185,7 @@ module _ (home : ProcId) (run : Option ReqId) (hand : List Made) (s : Seen) (eve
         joined = refl;
         swept = order_swept home run hand s event actor tab job to first (addressed job.task) documents_are (telling_leaves s job act_view);
         rows_ = rows_then;
-        causes = asked_still s shown run then_.framed.asked (λ r. sent_reads (λ (q : Asked). q.ending) blind s job job.task s.requests r);
+        causes = asked_still s shown run then_.framed.asked (λ r. sent_reads begun blind s job job.task s.requests r);
       }
 
   -- ---- the numbers
@@ -282,7 +298,8 @@ module _ (home : ProcId) (run : Option ReqId) (hand : List Made) (s : Seen) (eve
         joined = refl;
         swept = swept_made;
         rows_ = λ rows_ of p doc found wakes. rows_ of p doc (sym (placed_same of) ∙ found) wakes;
-        causes = λ why may req is. goes_still req (may req is);
+        causes = λ why may req is.
+            (let was = may req is in record { goes = goes_still req was.goes; begun = λ q at goes. was.begun q (sym (requests_then req) ∙ at) goes });
       }
     where
       requests_then : (req : ReqId) → request_of making req ≡ request_of s req

@@ -53,7 +53,7 @@ abbrev what_of : Asked → Request
 what_of q = q.what
 
 -- each is there still, and asks the same
-abbrev AllAskAlike : List Asked → List Asked → Type 0
+abbrev pub AllAskAlike : List Asked → List Asked → Type 0
 AllAskAlike asked next_ =
     (req : ReqId) (q : Asked) → request_in asked req ≡ Some q → (new : Asked) × (request_in next_ req ≡ Some new) × (new.what ≡ q.what)
 
@@ -114,22 +114,23 @@ took_asleep navs why places = took_if (λ (p : Place). has_nav navs p.nav) (λ (
 took_on : (nav : NavId) (f : Place → Place) (places : List Place) → ((p : Place) → (f p).nav ≡ p.nav) → ((p : Place) → (f p).taken_by ≡ p.taken_by) → AllTookBefore places (on_place nav f places)
 took_on nav f places number taker = took_if (λ (p : Place). p.nav.0 == nav.0) f places number taker
 
+-- who is found once one has joined was there before, or is that one
+pub found_or : (l : List Place) (p : Place) (nav : NavId) (place : Place) → place_in (l ++ p ∷ []) nav ≡ Some place → (place_in l nav ≡ Some place) ⊎ (p ≡ place)
+found_or [] p nav place e = by_test (p.nav.0 == nav.0) e
+  where
+    by_test : (b : Bool) → (let o : Option Place = cond b (Some p) None in o) ≡ Some place → (place_in [] nav ≡ Some place) ⊎ (p ≡ place)
+    by_test true h = inr (some_same h)
+    by_test false h = absurd cc
+found_or (x ∷ l) p nav place e = by_test (x.nav.0 == nav.0) e (λ h. found_or l p nav place h)
+  where
+    by_test : (b : Bool) → cond b (Some x) (place_in (l ++ p ∷ []) nav) ≡ Some place → (place_in (l ++ p ∷ []) nav ≡ Some place → (place_in l nav ≡ Some place) ⊎ (p ≡ place)) → (cond b (Some x) (place_in l nav) ≡ Some place) ⊎ (p ≡ place)
+    by_test true h more = inl h
+    by_test false h more = more h
+
 -- one joins that nobody took entries from
 took_more : (places : List Place) (p : Place) → p.taken_by ≡ None → AllTookBefore places (places ++ p ∷ [])
-took_more places p none nav place at = by_case (found_or places at)
+took_more places p none nav place at = by_case (found_or places p nav place at)
   where
-    found_or : (l : List Place) → place_in (l ++ p ∷ []) nav ≡ Some place → (place_in l nav ≡ Some place) ⊎ (p ≡ place)
-    found_or [] e = by_test (p.nav.0 == nav.0) e
-      where
-        by_test : (b : Bool) → (let o : Option Place = cond b (Some p) None in o) ≡ Some place → (place_in [] nav ≡ Some place) ⊎ (p ≡ place)
-        by_test true h = inr (some_same h)
-        by_test false h = absurd cc
-    found_or (x ∷ l) e = by_test (x.nav.0 == nav.0) e (λ h. found_or l h)
-      where
-        by_test : (b : Bool) → cond b (Some x) (place_in (l ++ p ∷ []) nav) ≡ Some place → (place_in (l ++ p ∷ []) nav ≡ Some place → (place_in l nav ≡ Some place) ⊎ (p ≡ place)) → (cond b (Some x) (place_in l nav) ≡ Some place) ⊎ (p ≡ place)
-        by_test true h more = inl h
-        by_test false h more = more h
-
     by_case : (place_in places nav ≡ Some place) ⊎ (p ≡ place) → TookBefore places nav place
     by_case (inl early) = inr (place, early, refl, refl)
     by_case (inr same) = inl (ap (λ (x : Place). x.taken_by) (sym same) ∙ none)
@@ -202,6 +203,12 @@ module _ (s : Seen) where
   plain_asked (rows.Killed proc death) is = λ r. refl
   plain_asked (rows.Evicted state) is = λ r. refl
 
+pub plain_asked_alike : (s : Seen) (event : ℕ) (actor : Actor) (kind : RowKind) → IsPlainRow kind → AllAskAlike s.requests (next s event actor kind).requests
+plain_asked_alike s event actor kind is = is_asked what_of s.requests _ (plain_asked s kind is)
+
+pub applied_asked : (s : Seen) (event : ℕ) (actor : Actor) (req : ReqId) (change : Change) → AllAskAlike s.requests (next s event actor (rows.Applied req change)).requests
+applied_asked s event actor req change r q at = let now_ = applied_stay s event actor req change r q at in (now_.new, now_.there, now_.what)
+
 -- ---- who took them before is no traversal
 
 module _ (s t : Seen) (steady : AreSteady s) (none : NoTraversalTook s) (asked : AllAskAlike s.requests t.requests) where
@@ -251,7 +258,7 @@ module _ (s : Seen) (steady : AreSteady s) (none : NoTraversalTook s) (event : �
   -- a change is applied: nobody loses its last entries to a traversal
   module _ (req : ReqId) where
     asked_still : (change : Change) → AllAskAlike s.requests (next s event actor (rows.Applied req change)).requests
-    asked_still change r q at = let now_ = applied_stay s event actor req change r q at in (now_.new, now_.there, now_.what)
+    asked_still change = applied_asked s event actor req change
 
     abbrev LosesNone : Change → Type 0
     LosesNone change =

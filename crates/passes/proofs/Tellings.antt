@@ -12,10 +12,12 @@ use Rattle.log_model.specs.AfterDocuments.{addressed}
 use Rattle.log_model.specs.Equal.{holds, implies, same_pair}
 use Rattle.log_model.specs.History.{has_nav}
 use Rattle.log_model.specs.Orders.{is_being_made}
-use Rattle.log_model.specs.Places.{aim_of, due_pair, due_pair_with, is_awake, is_gone, told_pair}
-use Rattle.log_model.specs.Seen.{Document, Place, Seen, Status, asleep, awake, document_of, lost, place_of}
+use Rattle.log_model.specs.Checks.{is_checked}
+use Rattle.log_model.specs.Places.{aim_of, due_pair, due_pair_with, has_passed_with, is_awake, is_gone, told_pair}
+use Rattle.log_model.specs.Seen.{Asked, Document, Place, Seen, Status, asleep, awake, document_of, lost, place_of, request_of}
 use Rattle.log_model.specs.declared.job.Why.{Why}
 use Rattle.log_model.specs.declared.row_kind.Actor.{Actor}
+use Rattle.passes.specs.Serving.{IsSwept, MayCause}
 use Rattle.passes.specs.Telling.{AreToldUpTo, IsToldAt, IsToldMore, IsToldTurn}
 use Rattle.rest_facts.proofs.Stands.{get_of}
 use Rattle.seen_laws.proofs.Keyed.{find_on_other, find_on_same}
@@ -111,11 +113,20 @@ module _ (s : Seen) (event : ℕ) (actor : Actor) (proc : ProcId) (doc : DocId) 
         made = (told_alike is.document).1 ∙ is.made;
       }
 
-  pub told_turn : IsToldTurn s told_ nav
-  told_turn =
+  -- what an order may be sent for, it may still
+  causes_more : (other : Why) → MayCause s other → MayCause told_ other
+  causes_more other may req is =
+      let was = may req is in
+      record {
+        goes = ap (λ (gone : DocId → Bool). holds (λ (q : Asked). implies (is_checked q) (has_passed_with gone q)) (request_of s req)) (fun_ext gone_same) ∙ was.goes;
+        begun = was.begun;
+      }
+
+  pub told_turn : (IsSwept s → IsSwept told_) → IsToldTurn s told_ nav
+  told_turn swept =
       record {
         own = own;
-        more = record { places = refl; history = refl; requests = refl; parked = refl; aim = telling_aim; making = making_more; still = others };
+        more = record { places = refl; history = refl; requests = refl; parked = refl; aim = telling_aim; making = making_more; swept = swept; causes = causes_more; still = others };
       }
 
 -- nobody need be told who isn't awake, or was told what is due
@@ -126,7 +137,8 @@ pub told_none : (s : Seen) (nav : NavId) → place_of s nav ≡ None → IsToldA
 told_none s nav none p at = let never : None ≡ Some p = sym none ∙ at in cc
 
 pub more_none : (s : Seen) → IsToldMore s s
-more_none s = record { places = refl; history = refl; requests = refl; parked = refl; aim = refl; making = λ state m. m; still = λ other was. was }
+more_none s =
+    record { places = refl; history = refl; requests = refl; parked = refl; aim = refl; making = λ state m. m; swept = λ h. h; causes = λ why may. may; still = λ other was. was }
 
 pub more_then : (s t u : Seen) → IsToldMore s t → IsToldMore t u → IsToldMore s u
 more_then s t u first then_ =
@@ -137,6 +149,8 @@ more_then s t u first then_ =
       parked = then_.parked ∙ first.parked;
       aim = then_.aim ∙ first.aim;
       making = λ state m. then_.making state (first.making state m);
+      swept = λ h. then_.swept (first.swept h);
+      causes = λ why may. then_.causes why (first.causes why may);
       still = λ nav was. then_.still nav (first.still nav was);
     }
 

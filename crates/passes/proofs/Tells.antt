@@ -1,7 +1,8 @@
 -- One turn after the other, all of the walk are told.
 use Rattle.doors.specs.declared.tables.Tables.{Tables}  -- keep
 use Rattle.doors.specs.Working.{KeepsStore}  -- keep
-use Rattle.passes.specs.Telling.{IsTelling}  -- keep
+use Rattle.passes.specs.Settling.{IsSettling}  -- keep
+use Rattle.passes.specs.Turns.{IsTelling}  -- keep
 use Rattle.apply_plan.specs.Order.{walk_of}  -- keep
 use Rattle.hang_facts.proofs.Hung.{places_distinct}  -- keep
 use Rattle.passes.proofs.Tellings.{one_more}  -- keep
@@ -37,21 +38,21 @@ kept_none t = record { store = refl; home = refl; running = refl; goal = refl }
 kept_then : (t u v : Tables) → KeepsStore t u → KeepsStore u v → KeepsStore t v
 kept_then t u v first then_ = record { store = then_.store ∙ first.store; home = then_.home ∙ first.home; running = then_.running ∙ first.running; goal = then_.goal ∙ first.goal }
 
-pub tell_begins : (p : InPass) (why : Why) (t : Tables) (out : List RowKind) (walk : List NavId) → IsPassing p.event out t p.hand → walk ≡ walk_of t.tree → IsTelling p why t out t out walk 0
-tell_begins p why t out walk pass is =
+pub tell_begins : (p : InPass) (why : Why) (t : Tables) (out : List RowKind) (walk : List NavId) → IsSettling p.event out t p.hand → walk ≡ walk_of t.tree → IsTelling p why t out t out walk 0
+tell_begins p why t out walk settling is =
     record {
-      passing = pass;
-      all = walk_names p.event out t p.hand pass walk is;
+      settling = settling;
+      all = walk_names p.event out t p.hand settling.passing walk is;
       done = λ k nav low at. absurd (omega (arith, low));
       more = more_none (now_of p.event out);
       kept = kept_none t;
       only = only_none (IsUpdateFor why) out;
     }
 
-pub tell_goes_on : (p : InPass) (why : Why) (t : Tables) (was : List RowKind) (u : Tables) (out : List RowKind) (v : Tables) (then_out : List RowKind) (walk : List NavId) (n : ℕ) (nav : NavId) → IsTelling p why t was u out walk n → slice_get walk n ≡ Some nav → IsPassing p.event then_out v p.hand → IsToldTurn (now_of p.event out) (now_of p.event then_out) nav → KeepsStore u v → HasOnlyTold why out then_out → IsTelling p why t was v then_out walk (n + 1)
-tell_goes_on p why t was u out v then_out walk n nav so at pass turn keeps only =
+pub tell_goes_on : (p : InPass) (why : Why) (t : Tables) (was : List RowKind) (u : Tables) (out : List RowKind) (v : Tables) (then_out : List RowKind) (walk : List NavId) (n : ℕ) (nav : NavId) → IsTelling p why t was u out walk n → slice_get walk n ≡ Some nav → IsSettling p.event then_out v p.hand → IsToldTurn (now_of p.event out) (now_of p.event then_out) nav → KeepsStore u v → HasOnlyTold why out then_out → IsTelling p why t was v then_out walk (n + 1)
+tell_goes_on p why t was u out v then_out walk n nav so at settling turn keeps only =
     record {
-      passing = pass;
+      settling = settling;
       all = so.all;
       done = one_more (now_of p.event out) (now_of p.event then_out) walk n nav at so.done turn;
       more = more_then (now_of p.event was) (now_of p.event out) (now_of p.event then_out) so.more turn.more;
@@ -70,7 +71,7 @@ place_in_list nav (n ∷ navs) has = by_nav (n.0 == nav.0) refl has (place_in_li
 
 pub tell_ends : (p : InPass) (why : Why) (t : Tables) (was : List RowKind) (u : Tables) (out : List RowKind) (walk : List NavId) (n : ℕ) → IsTelling p why t was u out walk n → length walk ≤ n → ends_told (now_of p.event out) ≡ true
 tell_ends p why t was u out walk n so all =
-    all_told (now_of p.event out) walk (λ nav place at. so.all nav place (ap (λ (l : List Place). place_in l nav) (sym so.more.places) ∙ at)) (places_distinct (now_of p.event out) so.passing.tab.sound so.passing.tab.hangs) (λ nav has. told nav (place_in_list nav walk has))
+    all_told (now_of p.event out) walk (λ nav place at. so.all nav place (ap (λ (l : List Place). place_in l nav) (sym so.more.places) ∙ at)) (places_distinct (now_of p.event out) so.settling.passing.tab.sound so.settling.passing.tab.hangs) (λ nav has. told nav (place_in_list nav walk has))
   where
     told : (nav : NavId) → (k : ℕ) × ((k < length walk) × (slice_get walk k ≡ Some nav)) → IsToldAt (now_of p.event out) nav
     told nav found = let low = found.1.0 in so.done found.0 nav (omega (arith, low, all)) found.1.1

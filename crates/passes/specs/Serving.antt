@@ -4,38 +4,41 @@ use Rattle.frame_whole.specs.Beside.{EachIsViewed}
 use Rattle.address.specs.Addresses.{base_of, blank_text}
 use Rattle.apply_plan.specs.Needs.{need_of}
 use Rattle.apply_plan.specs.declared.need.Need.{Need}
-use Rattle.doors.specs.Working.{KeepsStore}
 use Rattle.doors.specs.declared.tables.Tables.{Tables}
 use Rattle.frame_whole.specs.Tab.{AreAwakeWithRows}
 use Rattle.hang_facts.specs.Members.{Has}
 use Rattle.log_model.specs.Checks.{may_go_on}
 use Rattle.log_model.specs.Equal.{holds, same_why}
 use Rattle.log_model.specs.History.{has_state}
-use Rattle.log_model.specs.Places.{top}
-use Rattle.log_model.specs.Seen.{Document, Seen, document_of}
+use Rattle.log_model.specs.Places.{is_traversal, top}
+use Rattle.log_model.specs.Seen.{Asked, Document, Seen, document_of, request_of}
 use Rattle.log_model.specs.declared.job.Task.{Task}
 use Rattle.log_model.specs.declared.job.Why.{Why}
 use Rattle.log_model.specs.declared.row.Row.{Row}
 use Rattle.log_model.specs.declared.row_kind.RowKind.{RowKind}
 use Rattle.nav_tree.specs.Tree.{Tree, nav_of}
 use Rattle.nav_tree.specs.declared.nav.Nav.{Nav}
-use Rattle.passes.specs.Passing.{HasOnly, InPass, IsPassing, aim_in}
-use Rattle.seen_laws.specs.InEvent.{now_of}
-use Rattle.std.specs.Prelude.{Bool, List, None, Option, Some, false, if◌then◌else◌, true, ℕ, ◌&&◌, ◌==◌, ◌≡◌, ◌≢◌, ◌⊎◌}
+use Rattle.passes.specs.Passing.{HasOnly, aim_in}
+use Rattle.std.specs.Prelude.{Bool, List, None, Option, Some, false, if◌then◌else◌, true, ◌&&◌, ◌==◌, ◌≡◌, ◌≢◌, ◌⊎◌}
 use Rattle.std.specs.Str.{bytes_eq}
 use Rattle.step_index.specs.Held.{history_held}
 use Rattle.tab_ids.specs.declared.DocId.{DocId}
 use Rattle.tab_ids.specs.declared.NavId.{NavId}
 use Rattle.tab_ids.specs.declared.ReqId.{ReqId}
 use Rattle.walk_facts.specs.Serving.{IsServedAt}
-use Rattle.walk_facts.specs.Walking.{AreServedUpTo, IsWalk, LeavesOthers}
+use Rattle.walk_facts.specs.Walking.{LeavesOthers}
 use Rattle.log_model.specs.declared.job.Task.TheVariants as tasks
 use Rattle.log_model.specs.declared.job.Why.TheVariants as whys
 use Rattle.log_model.specs.declared.row_kind.RowKind.TheVariants as rows
 
+-- the request may go on, and has begun if it is a traversal
+pub record MayServe (s : Seen) (req : ReqId) : Type 0 where
+  pub goes : may_go_on s req ≡ true
+  pub begun : (q : Asked) → request_of s req ≡ Some q → is_traversal q.what ≡ true → q.is_started ≡ true
+
 -- an order for this may be sent
 abbrev pub MayCause : Seen → Why → Type 0
-MayCause s why = (req : ReqId) → why ≡ whys.Req req → may_go_on s req ≡ true
+MayCause s why = (req : ReqId) → why ≡ whys.Req req → MayServe s req
 
 -- each document that is made and not discarded has an entry
 abbrev pub IsSwept : Seen → Type 0
@@ -103,13 +106,3 @@ pub record IsServedTurn (s t : Seen) (nav : NavId) : Type 0 where
   pub own : IsServedAt t nav
   pub others : LeavesOthers s t nav
   pub left : LeavesSwept s t
-
--- so many of the walk were served
-pub record IsServing (p : InPass) (cause : Why) (t : Tables) (was : List RowKind) (u : Tables) (out : List RowKind) (walk : List NavId) (n : ℕ) : Type 0 where
-  pub passing : IsPassing p.event out u p.hand
-  pub servable : IsServable (now_of p.event out)
-  pub order : IsWalk (now_of p.event out) walk
-  pub done : AreServedUpTo (now_of p.event out) walk n
-  pub left : LeavesSwept (now_of p.event was) (now_of p.event out)
-  pub kept : KeepsStore t u
-  pub only : HasOnlyServed t.running cause was out

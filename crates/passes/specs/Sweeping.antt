@@ -13,14 +13,12 @@ use Rattle.log_model.specs.declared.job.Why.{Why}
 use Rattle.log_model.specs.declared.row.Row.{Row}
 use Rattle.log_model.specs.declared.row_kind.RowKind.{RowKind}
 use Rattle.doors.specs.Ties.{is_doc}
-use Rattle.doors.specs.Working.{KeepsStore}
 use Rattle.doors.specs.declared.tables.Tables.{Tables}
 use Rattle.nav_tree.specs.Tree.{Tree, nav_of, node_of}
 use Rattle.nav_tree.specs.declared.nav.Nav.{Nav}
 use Rattle.nav_tree.specs.declared.node.Node.{Node}
-use Rattle.passes.specs.Passing.{HasOnly, InPass, IsPassing}
-use Rattle.passes.specs.Serving.{IsServable, MayCause}
-use Rattle.seen_laws.specs.InEvent.{now_of}
+use Rattle.passes.specs.Passing.{HasOnly}
+use Rattle.passes.specs.Serving.{MayCause}
 use Rattle.passes.specs.Telling.{awake_on}
 use Rattle.std.specs.List.{list_any}
 use Rattle.std.specs.Map.{lookup}
@@ -72,6 +70,16 @@ abbrev pub NoTraversalTook : Seen → Type 0
 NoTraversalTook s =
     (nav : NavId) (place : Place) (req : ReqId) (q : Asked) → place_of s nav ≡ Some place → has_row place.nav s.history.rows ≡ false → place.taken_by ≡ Some req → request_of s req ≡ Some q → is_traversal q.what ≡ false
 
+-- the request is there, and is no traversal
+pub record IsAdder (s : Seen) (req : ReqId) : Type 0 where
+  pub q : Asked
+  pub there : request_of s req ≡ Some q
+  pub stays : is_traversal q.what ≡ false
+
+-- so is the request that added a navigable
+abbrev pub NoTraversalAdded : Seen → Type 0
+NoTraversalAdded s = (nav : NavId) (place : Place) (req : ReqId) → place_of s nav ≡ Some place → place.added_by ≡ Some req → IsAdder s req
+
 -- the request that took the last entries of the document's navigable
 abbrev pub taker_of : Seen → DocId → Option ReqId
 taker_of s doc =
@@ -104,12 +112,3 @@ pub record IsSweepTurn (s t : Seen) : Type 0 where
   pub joined : t.joined ≡ s.joined
   pub causes : (why : Why) → MayCause s why → MayCause t why
   pub takers : (doc : DocId) → taker_of t doc ≡ taker_of s doc
-
--- some were discarded
-pub record IsSweeping (p : InPass) (t : Tables) (was : List RowKind) (u : Tables) (out : List RowKind) : Type 0 where
-  pub passing : IsPassing p.event out u p.hand
-  pub servable : IsServable (now_of p.event out)
-  pub took : NoTraversalTook (now_of p.event out)
-  pub turn : IsSweepTurn (now_of p.event was) (now_of p.event out)
-  pub only : HasOnlyDiscarded (now_of p.event was) was out
-  pub kept : KeepsStore t u

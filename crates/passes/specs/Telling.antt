@@ -1,11 +1,8 @@
 -- Who is to be told length and index, and who was.
 -- HTML Standard, "update document for history step application".
 use Rattle.nav_tree.specs.declared.status.NavStatus.TheVariants as kept  -- keep
-use Rattle.doors.specs.declared.tables.Tables.{Tables}  -- keep
 use Rattle.log_model.specs.declared.job.Task.TheVariants as tasks  -- keep
 use Rattle.log_model.specs.declared.row_kind.RowKind.TheVariants as rows  -- keep
-use Rattle.passes.specs.Passing.{InPass, IsPassing}  -- keep
-use Rattle.doors.specs.Working.{KeepsStore}
 use Rattle.log_model.specs.ActsAtOnce.{is_told}
 use Rattle.log_model.specs.Equal.{holds, same_pair}
 use Rattle.log_model.specs.History.{History, has_nav}
@@ -17,7 +14,7 @@ use Rattle.log_model.specs.declared.row_kind.RowKind.{RowKind}
 use Rattle.nav_tree.specs.declared.nav.Nav.{Nav}
 use Rattle.nav_tree.specs.declared.status.NavStatus.{NavStatus}
 use Rattle.passes.specs.Passing.{HasOnly, aim_in}
-use Rattle.seen_laws.specs.InEvent.{now_of}
+use Rattle.passes.specs.Serving.{IsSwept, MayCause}
 use Rattle.std.specs.Prelude.{Bool, List, None, Option, Some, false, if◌then◌else◌, length, option_and_then, option_map, slice_get, true, ℕ, ◌<◌, ◌≡◌}
 use Rattle.tab_ids.specs.declared.DocId.{DocId}
 use Rattle.tab_ids.specs.declared.NavId.{NavId}
@@ -62,6 +59,8 @@ pub record IsToldMore (s t : Seen) : Type 0 where
   pub parked : t.parked ≡ s.parked
   pub aim : aim_of t ≡ aim_of s
   pub making : (state : StateId) → IsMaking s.documents state → IsMaking t.documents state
+  pub swept : IsSwept s → IsSwept t
+  pub causes : (why : Why) → MayCause s why → MayCause t why
   pub still : (nav : NavId) → IsToldAt s nav → IsToldAt t nav
 
 -- and so is the navigable now
@@ -85,12 +84,3 @@ HasOnlyTold why was out = HasOnly (IsUpdateFor why) was out
 -- the walk names each navigable that has a place
 abbrev pub NamesAll : Seen → List NavId → Type 0
 NamesAll s walk = (nav : NavId) (place : Place) → place_of s nav ≡ Some place → has_nav walk nav ≡ true
-
--- so many of the walk were told, and all else is as it was
-pub record IsTelling (p : InPass) (why : Why) (t : Tables) (was : List RowKind) (u : Tables) (out : List RowKind) (walk : List NavId) (n : ℕ) : Type 0 where
-  pub passing : IsPassing p.event out u p.hand
-  pub all : NamesAll (now_of p.event was) walk
-  pub done : AreToldUpTo (now_of p.event out) walk n
-  pub more : IsToldMore (now_of p.event was) (now_of p.event out)
-  pub kept : KeepsStore t u
-  pub only : HasOnlyTold why was out

@@ -6,6 +6,7 @@ mod serving;
 mod sweeping;
 mod telling;
 
+pub use reading::aim;
 pub use serving::serve_all;
 pub use sweeping::sweep;
 pub use telling::tell_all;

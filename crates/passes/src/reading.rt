@@ -9,7 +9,7 @@ use entry_store::Store;
 use tab_ids::Step;
 
 /// The step that the history is brought to: that of the goal of the traversal that runs, else the current one.
-pub(crate) fn aim(tables: &Tables) -> Step
+pub fn aim(tables: &Tables) -> Step
     ensures { result.0 ≡ aim_in (history_held tables.now.store) tables.now.running tables.now.goal }
 {
     match tables.running {

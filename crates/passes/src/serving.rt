@@ -8,8 +8,9 @@ ghost use Rattle.seen_laws.specs.InEvent.{now_of};
 ghost use Rattle.step_index.specs.Held.{history_held};
 ghost use Rattle.walk_facts.specs.Serving.{AreServed};
 ghost use Rattle.doors.specs.Working.{KeepsStore};
-ghost use Rattle.passes.specs.Passing.{InPass, IsPassing};
-ghost use Rattle.passes.specs.Serving.{MayCause, HasOnlyServed, LeavesSwept, IsServable, IsServedTurn, need_in, is_new_by, make_why, show_why};
+ghost use Rattle.passes.specs.Passing.{InPass};
+ghost use Rattle.passes.specs.Serving.{MayCause, HasOnlyServed, LeavesSwept, IsServedTurn, need_in, is_new_by, make_why, show_why};
+ghost use Rattle.passes.specs.Settling.{IsSettling};
 
 use crate::reading::{aim, pair_at};
 use address::OutOfMemory;
@@ -106,12 +107,10 @@ fn show_target(
     cause: Why,
 ) -> Result<(), OutOfMemory>
     ghost p: { InPass }
-    requires passing { IsPassing p.event out.old tables.old p.hand }
-    requires servable { IsServable (now_of p.event out.old) }
+    requires settling { IsSettling p.event out.old tables.old p.hand }
     requires cause { MayCause (now_of p.event out.old) cause }
     requires need { need_in tables.old nav ≡ Some (needs.Move nav entry) }
-    ensures passing { OnOk result (IsPassing p.event out.new tables.new p.hand) }
-    ensures servable { OnOk result (IsServable (now_of p.event out.new)) }
+    ensures settling { OnOk result (IsSettling p.event out.new tables.new p.hand) }
     ensures turn { OnOk result (IsServedTurn (now_of p.event out.old) (now_of p.event out.new) nav) }
     ensures only { OnOk result (HasOnlyServed tables.old.running cause out.old out.new) }
     ensures kept { OnOk result (KeepsStore tables.old tables.new) }
@@ -138,12 +137,10 @@ fn make_target(
     cause: Why,
 ) -> Result<(), OutOfMemory>
     ghost p: { InPass }
-    requires passing { IsPassing p.event out.old tables.old p.hand }
-    requires servable { IsServable (now_of p.event out.old) }
+    requires settling { IsSettling p.event out.old tables.old p.hand }
     requires cause { MayCause (now_of p.event out.old) cause }
     requires need { need_in tables.old nav ≡ Some (needs.Populate nav entry) }
-    ensures passing { OnOk result (IsPassing p.event out.new tables.new p.hand) }
-    ensures servable { OnOk result (IsServable (now_of p.event out.new)) }
+    ensures settling { OnOk result (IsSettling p.event out.new tables.new p.hand) }
     ensures turn { OnOk result (IsServedTurn (now_of p.event out.old) (now_of p.event out.new) nav) }
     ensures only { OnOk result (HasOnlyServed tables.old.running cause out.old out.new) }
     ensures kept { OnOk result (KeepsStore tables.old tables.new) }
@@ -171,11 +168,9 @@ fn need_at(tables: &Tables, nav: NavId) -> Option<Need>
 /// The navigable is served what it needs.
 fn serve_one(tables: &mut Tables, out: &mut Out, nav: NavId, cause: Why) -> Result<(), OutOfMemory>
     ghost p: { InPass }
-    requires passing { IsPassing p.event out.old tables.old p.hand }
-    requires servable { IsServable (now_of p.event out.old) }
+    requires settling { IsSettling p.event out.old tables.old p.hand }
     requires cause { MayCause (now_of p.event out.old) cause }
-    ensures passing { OnOk result (IsPassing p.event out.new tables.new p.hand) }
-    ensures servable { OnOk result (IsServable (now_of p.event out.new)) }
+    ensures settling { OnOk result (IsSettling p.event out.new tables.new p.hand) }
     ensures turn { OnOk result (IsServedTurn (now_of p.event out.old) (now_of p.event out.new) nav) }
     ensures only { OnOk result (HasOnlyServed tables.old.running cause out.old out.new) }
     ensures kept { OnOk result (KeepsStore tables.old tables.new) }
@@ -198,11 +193,9 @@ pub fn serve_all(
     cause: Why,
 ) -> Result<(), OutOfMemory>
     ghost p: { InPass }
-    requires passing { IsPassing p.event out.old tables.old p.hand }
-    requires servable { IsServable (now_of p.event out.old) }
+    requires settling { IsSettling p.event out.old tables.old p.hand }
     requires cause { MayCause (now_of p.event out.old) cause }
-    ensures passing { OnOk result (IsPassing p.event out.new tables.new p.hand) }
-    ensures servable { OnOk result (IsServable (now_of p.event out.new)) }
+    ensures settling { OnOk result (IsSettling p.event out.new tables.new p.hand) }
     ensures served { OnOk result (AreServed (now_of p.event out.new)) }
     ensures left { OnOk result (LeavesSwept (now_of p.event out.old) (now_of p.event out.new)) }
     ensures only { OnOk result (HasOnlyServed tables.old.running cause out.old out.new) }

@@ -9,9 +9,10 @@ ghost use Rattle.std.specs.Option.{IsSome};
 ghost use Rattle.apply_plan.specs.Order.{made_in, parent_in};
 ghost use Rattle.doors.specs.Working.{KeepsStore};
 ghost use Rattle.frame_whole.specs.Tab.{AreAwakeWithRows};
-ghost use Rattle.passes.specs.Passing.{InPass, IsPassing};
-ghost use Rattle.passes.specs.Serving.{IsServable, IsSwept};
-ghost use Rattle.passes.specs.Sweeping.{HasOnlyDiscarded, IsSweepTurn, NoTraversalTook, NoneRowless, left_count, taker_in, earlier, falls_below, is_below_in, rowless_in, sleepers_in, wakes_on};
+ghost use Rattle.passes.specs.Passing.{InPass};
+ghost use Rattle.passes.specs.Serving.{IsSwept};
+ghost use Rattle.passes.specs.Settling.{IsSettling};
+ghost use Rattle.passes.specs.Sweeping.{HasOnlyDiscarded, IsSweepTurn, NoneRowless, left_count, taker_in, earlier, falls_below, is_below_in, rowless_in, sleepers_in, wakes_on};
 
 use address::OutOfMemory;
 use doors::Tables;
@@ -183,13 +184,9 @@ fn discard_one(
     doc: DocId,
 ) -> Result<(), OutOfMemory>
     ghost p: { InPass }
-    requires passing { IsPassing p.event out.old tables.old p.hand }
-    requires servable { IsServable (now_of p.event out.old) }
-    requires took { NoTraversalTook (now_of p.event out.old) }
+    requires settling { IsSettling p.event out.old tables.old p.hand }
     requires rowless { rowless_in (history_held tables.old.store).rows tables.old.tree state ≡ Some (state, doc) }
-    ensures passing { OnOk result (IsPassing p.event out.new tables.new p.hand) }
-    ensures servable { OnOk result (IsServable (now_of p.event out.new)) }
-    ensures took { OnOk result (NoTraversalTook (now_of p.event out.new)) }
+    ensures settling { OnOk result (IsSettling p.event out.new tables.new p.hand) }
     ensures turn { OnOk result (IsSweepTurn (now_of p.event out.old) (now_of p.event out.new)) }
     ensures only { OnOk result (HasOnlyDiscarded (now_of p.event out.old) out.old out.new) }
     ensures fewer { OnOk result (left_count (now_of p.event out.new) < left_count (now_of p.event out.old)) }
@@ -204,12 +201,8 @@ fn discard_one(
 /// Each document that is made and whose state has no entry any more is discarded, in the order of their numbers, for the request that took the last entries of its navigable. Who is awake on it falls asleep, with those below. HTML Standard, "destroy a document".
 pub fn sweep(alloc: Global, tables: &mut Tables, out: &mut Out) -> Result<(), OutOfMemory>
     ghost p: { InPass }
-    requires passing { IsPassing p.event out.old tables.old p.hand }
-    requires servable { IsServable (now_of p.event out.old) }
-    requires took { NoTraversalTook (now_of p.event out.old) }
-    ensures passing { OnOk result (IsPassing p.event out.new tables.new p.hand) }
-    ensures servable { OnOk result (IsServable (now_of p.event out.new)) }
-    ensures took { OnOk result (NoTraversalTook (now_of p.event out.new)) }
+    requires settling { IsSettling p.event out.old tables.old p.hand }
+    ensures settling { OnOk result (IsSettling p.event out.new tables.new p.hand) }
     ensures swept { OnOk result (IsSwept (now_of p.event out.new)) }
     ensures rows { OnOk result (AreAwakeWithRows (now_of p.event out.new)) }
     ensures turn { OnOk result (IsSweepTurn (now_of p.event out.old) (now_of p.event out.new)) }

@@ -6,7 +6,8 @@ ghost use Rattle.nav_tree.specs.Tree.{nav_of};
 ghost use Rattle.seen_laws.specs.InEvent.{now_of};
 ghost use Rattle.step_index.specs.Held.{history_held};
 ghost use Rattle.doors.specs.Working.{KeepsStore};
-ghost use Rattle.passes.specs.Passing.{InPass, IsPassing};
+ghost use Rattle.passes.specs.Passing.{InPass};
+ghost use Rattle.passes.specs.Settling.{IsSettling};
 ghost use Rattle.passes.specs.Telling.{awake_on, step_in, if_new, untold_in, HasOnlyTold, IsToldTurn, IsToldMore};
 
 use crate::reading::{aim, pair_at};
@@ -62,8 +63,8 @@ fn untold(tables: &Tables, nav: NavId) -> Option<(DocId, (u32, u32))>
 /// The navigable's document is told length and index, where these are due.
 fn tell_one(tables: &mut Tables, out: &mut Out, nav: NavId, why: Why) -> Result<(), OutOfMemory>
     ghost p: { InPass }
-    requires passing { IsPassing p.event out.old tables.old p.hand }
-    ensures passing { OnOk result (IsPassing p.event out.new tables.new p.hand) }
+    requires settling { IsSettling p.event out.old tables.old p.hand }
+    ensures settling { OnOk result (IsSettling p.event out.new tables.new p.hand) }
     ensures told { OnOk result (IsToldTurn (now_of p.event out.old) (now_of p.event out.new) nav) }
     ensures only { OnOk result (HasOnlyTold why out.old out.new) }
     ensures kept { OnOk result (KeepsStore tables.old tables.new) }
@@ -83,8 +84,8 @@ pub fn tell_all(
     why: Why,
 ) -> Result<(), OutOfMemory>
     ghost p: { InPass }
-    requires passing { IsPassing p.event out.old tables.old p.hand }
-    ensures passing { OnOk result (IsPassing p.event out.new tables.new p.hand) }
+    requires settling { IsSettling p.event out.old tables.old p.hand }
+    ensures settling { OnOk result (IsSettling p.event out.new tables.new p.hand) }
     ensures told { OnOk result (ends_told (now_of p.event out.new) ≡ true) }
     ensures more { OnOk result (IsToldMore (now_of p.event out.old) (now_of p.event out.new)) }
     ensures only { OnOk result (HasOnlyTold why out.old out.new) }

@@ -22,15 +22,17 @@ use Rattle.log_model.specs.declared.change.Change.{Change}
 use Rattle.log_model.specs.declared.made.Made.{Made}
 use Rattle.log_model.specs.declared.row.Row.{Row}
 use Rattle.log_model.specs.declared.row_kind.RowKind.{RowKind}
+use Rattle.passes.proofs.Adders.{applied_added, traversed_added}
 use Rattle.passes.proofs.Takers.{applied_took, traversed_took}
+use Rattle.passes.specs.Holding.{AreHeldUp}
 use Rattle.passes.specs.Passing.{ended_count}
 use Rattle.passes.specs.Serving.{AreBlankYet}
-use Rattle.passes.specs.Sweeping.{NoTraversalTook}
+use Rattle.passes.specs.Sweeping.{NoTraversalAdded, NoTraversalTook}
 use Rattle.seen_laws.specs.InEvent.{InEvent, now_of}
 use Rattle.settling.proofs.Blank.{IsLiveFor, added_blank, pushed_blank, removed_blank, replaced_blank, traversed_blank}
 use Rattle.settling.proofs.Ended.{applied_count}
 use Rattle.settling.proofs.More.{EpochsWere, IsKept, as_many, counted_more, epochs_if, epochs_more, epochs_or, epochs_same, put_steps, top_more}
-use Rattle.settling.specs.Settling.{AreSteps, IsSettling}
+use Rattle.passes.specs.Settling.{AreSteps, IsSettling}
 use Rattle.std.proofs.Common.{Bool, List, None, Option, Some, [], ap, arith, cond, false, fold, inl, inr, length, map, max, not, refl, true, ℕ, ◌&&◌, ◌++◌, ◌+◌, ◌<◌, ◌==◌, ◌∙◌, ◌∷◌, ◌≡◌, ◌≢◌, ◌≤◌, ◌⊎◌}
 use Rattle.std.proofs.lemmas.Bool.Decides.{nat_tests}
 use Rattle.std.specs.Prelude.{filter, nat_le, option_and_then}
@@ -107,9 +109,10 @@ module _ (e : InEvent) (out : List RowKind) (t : Tables) (hand next_hand : List 
     lasting : IsLasting (then_ change)
     steps : AreSteps (then_ change)
     took : NoTraversalTook (then_ change)
+    added : NoTraversalAdded (then_ change)
 
-  changed_kept : (change : Change) → IsChange change → IsTab u.home u.running next_hand (then_ change) → IsQueued u.running (then_ change) → IsKept u next_hand (then_ change)
-  changed_kept change does tab queued =
+  changed_kept : (change : Change) → IsChange change → IsTab u.home u.running next_hand (then_ change) → IsQueued u.running (then_ change) → AreHeldUp u.running (then_ change) → IsKept u next_hand (then_ change)
+  changed_kept change does tab queued held =
       let long : length (then_ change).requests ≡ length s.requests = as_long change in
       let room : length s.requests + 2 < 4294967296 = is.passing.room.requests in
       record {
@@ -123,7 +126,9 @@ module _ (e : InEvent) (out : List RowKind) (t : Tables) (hand next_hand : List 
         moves = applied_moves s e.event e.actor is.moves req change;
         queued = queued;
         took = does.took;
+        added = does.added;
         steps = does.steps;
+        held = held;
       }
 
   -- an entry more at most
@@ -141,7 +146,7 @@ module _ (e : InEvent) (out : List RowKind) (t : Tables) (hand next_hand : List 
   was_early row there_ = inl (row, there_, omega arith)
 
   module _ (stays : is_traversal q.what ≡ false) where
-    pub pushed_kept : (nav : NavId) (entry : EntryId) (state : StateId) (address : List ℕ) (memo : Option (List ℕ)) → fits s.history (changes.Push nav entry state address memo) ≡ true → IsLiveFor s state → IsTab u.home u.running next_hand (then_ (changes.Push nav entry state address memo)) → IsQueued u.running (then_ (changes.Push nav entry state address memo)) → IsKept u next_hand (then_ (changes.Push nav entry state address memo))
+    pub pushed_kept : (nav : NavId) (entry : EntryId) (state : StateId) (address : List ℕ) (memo : Option (List ℕ)) → fits s.history (changes.Push nav entry state address memo) ≡ true → IsLiveFor s state → IsTab u.home u.running next_hand (then_ (changes.Push nav entry state address memo)) → IsQueued u.running (then_ (changes.Push nav entry state address memo)) → AreHeldUp u.running (then_ (changes.Push nav entry state address memo)) → IsKept u next_hand (then_ (changes.Push nav entry state address memo))
     pushed_kept nav entry state address memo fit live =
         changed_kept push
         (record {
@@ -152,6 +157,7 @@ module _ (e : InEvent) (out : List RowKind) (t : Tables) (hand next_hand : List 
           lasting = pushed_lasting t.home s e.event e.actor is.passing.tab.framed.documents req nav entry state address memo fit is.lasting;
           steps = put_steps s (then_ push) is.steps (applied_count s e.event e.actor req q there open_ push) (applied s.history push) refl (λ row has. by_row row (push_rows s.history nav entry state address memo row has)) (omega (arith, now_low));
           took = applied_took s is.passing.tab.framed.steady is.took e.event e.actor req push q there stays;
+          added = applied_added s is.added e.event e.actor req push q there stays;
         })
       where
         push : Change
@@ -161,7 +167,7 @@ module _ (e : InEvent) (out : List RowKind) (t : Tables) (hand next_hand : List 
         by_row row (inl old) = was_early row old
         by_row row (inr new) = inr (let at : s.history.current + 1 ≡ row.step.0 = ap (λ (r : Row). r.step.0) new in omega (arith, at))
 
-    pub replaced_kept : (nav : NavId) (over entry : EntryId) (state : StateId) (address : List ℕ) (memo : Option (List ℕ)) → IsLiveFor s state → IsTab u.home u.running next_hand (then_ (changes.Replace nav over entry state address memo)) → IsQueued u.running (then_ (changes.Replace nav over entry state address memo)) → IsKept u next_hand (then_ (changes.Replace nav over entry state address memo))
+    pub replaced_kept : (nav : NavId) (over entry : EntryId) (state : StateId) (address : List ℕ) (memo : Option (List ℕ)) → IsLiveFor s state → IsTab u.home u.running next_hand (then_ (changes.Replace nav over entry state address memo)) → IsQueued u.running (then_ (changes.Replace nav over entry state address memo)) → AreHeldUp u.running (then_ (changes.Replace nav over entry state address memo)) → IsKept u next_hand (then_ (changes.Replace nav over entry state address memo))
     replaced_kept nav over entry state address memo live =
         changed_kept replace
         (record {
@@ -172,6 +178,7 @@ module _ (e : InEvent) (out : List RowKind) (t : Tables) (hand next_hand : List 
           lasting = replaced_lasting t.home s e.event e.actor is.passing.tab.framed.documents req nav over entry state address memo is.lasting;
           steps = put_steps s (then_ replace) is.steps (applied_count s e.event e.actor req q there open_ replace) (applied s.history replace) refl (λ row has. by_row row (replace_rows s.history nav over entry state address memo row has)) (omega (arith, now_low));
           took = applied_took s is.passing.tab.framed.steady is.took e.event e.actor req replace q there stays;
+          added = applied_added s is.added e.event e.actor req replace q there stays;
         })
       where
         replace : Change
@@ -181,7 +188,7 @@ module _ (e : InEvent) (out : List RowKind) (t : Tables) (hand next_hand : List 
         by_row row (inl old) = was_early row old
         by_row row (inr put) = inl (put.was, put.there, (let at : row.step.0 ≡ put.was.step.0 = ap (λ (x : Step). x.0) put.step_is in omega (arith, at)))
 
-    pub added_kept : (owner : StateId) (nav : NavId) (entry : EntryId) (state : StateId) → has_state owner s.history.rows ≡ true → nav ≢ top → place_of s nav ≡ None → IsTab u.home u.running next_hand (then_ (changes.AddFrame owner nav entry state)) → IsQueued u.running (then_ (changes.AddFrame owner nav entry state)) → IsKept u next_hand (then_ (changes.AddFrame owner nav entry state))
+    pub added_kept : (owner : StateId) (nav : NavId) (entry : EntryId) (state : StateId) → has_state owner s.history.rows ≡ true → nav ≢ top → place_of s nav ≡ None → IsTab u.home u.running next_hand (then_ (changes.AddFrame owner nav entry state)) → IsQueued u.running (then_ (changes.AddFrame owner nav entry state)) → AreHeldUp u.running (then_ (changes.AddFrame owner nav entry state)) → IsKept u next_hand (then_ (changes.AddFrame owner nav entry state))
     added_kept owner nav entry state has_owner apart new =
         changed_kept add
         (record {
@@ -192,6 +199,7 @@ module _ (e : InEvent) (out : List RowKind) (t : Tables) (hand next_hand : List 
           lasting = added_lasting t.home s e.event e.actor is.passing.tab.framed.documents req owner nav entry state new is.lasting;
           steps = put_steps s (then_ add) is.steps (applied_count s e.event e.actor req q there open_ add) (applied s.history add) refl (λ row has. by_row row (add_rows s.history owner nav entry state row has)) (omega (arith, now_low));
           took = applied_took s is.passing.tab.framed.steady is.took e.event e.actor req add q there stays;
+          added = applied_added s is.added e.event e.actor req add q there stays;
         })
       where
         add : Change
@@ -205,7 +213,7 @@ module _ (e : InEvent) (out : List RowKind) (t : Tables) (hand next_hand : List 
         by_row row (inr its) =
             inl (holder.it, holder.there, (let least : first_step owner s.history.rows ≤ holder.it.step.0 = first_least owner s.history.rows holder.it holder.there holder.passes in let at : first_step owner s.history.rows ≡ row.step.0 = ap (λ (r : Row). r.step.0) its in omega (arith, least, at)))
 
-    pub removed_kept : (nav : NavId) → IsTab u.home u.running next_hand (then_ (changes.RemoveFrame nav)) → IsQueued u.running (then_ (changes.RemoveFrame nav)) → IsKept u next_hand (then_ (changes.RemoveFrame nav))
+    pub removed_kept : (nav : NavId) → IsTab u.home u.running next_hand (then_ (changes.RemoveFrame nav)) → IsQueued u.running (then_ (changes.RemoveFrame nav)) → AreHeldUp u.running (then_ (changes.RemoveFrame nav)) → IsKept u next_hand (then_ (changes.RemoveFrame nav))
     removed_kept nav =
         changed_kept remove
         (record {
@@ -216,13 +224,14 @@ module _ (e : InEvent) (out : List RowKind) (t : Tables) (hand next_hand : List 
           lasting = removed_lasting t.home s e.event e.actor is.passing.tab.framed.documents req nav is.lasting;
           steps = put_steps s (then_ remove) is.steps (applied_count s e.event e.actor req q there open_ remove) (applied s.history remove) refl (λ row has. was_early row (remove_rows s.history nav row has)) (let low : used_step_at (applied s.history remove).rows s.history.current ≤ s.history.current = used_low (applied s.history remove).rows s.history.current in omega (arith, low, now_low));
           took = applied_took s is.passing.tab.framed.steady is.took e.event e.actor req remove q there stays;
+          added = applied_added s is.added e.event e.actor req remove q there stays;
         })
       where
         remove : Change
         remove = changes.RemoveFrame nav
 
   -- a traversal ends at a used step
-  pub traversed_kept : (goal : Step) → IsTab u.home u.running next_hand (then_ (changes.Traverse goal)) → IsQueued u.running (then_ (changes.Traverse goal)) → IsKept u next_hand (then_ (changes.Traverse goal))
+  pub traversed_kept : (goal : Step) → IsTab u.home u.running next_hand (then_ (changes.Traverse goal)) → IsQueued u.running (then_ (changes.Traverse goal)) → AreHeldUp u.running (then_ (changes.Traverse goal)) → IsKept u next_hand (then_ (changes.Traverse goal))
   traversed_kept goal =
       changed_kept (changes.Traverse goal)
       (record {
@@ -233,4 +242,5 @@ module _ (e : InEvent) (out : List RowKind) (t : Tables) (hand next_hand : List 
         lasting = traversed_lasting t.home s e.event e.actor is.passing.tab.framed.documents req goal is.lasting;
         steps = put_steps s (then_ (changes.Traverse goal)) is.steps (applied_count s e.event e.actor req q there open_ (changes.Traverse goal)) (applied s.history (changes.Traverse goal)) refl was_early (let low : used_step_at s.history.rows goal.0 ≤ ended_count s.requests = used_most s.history.rows goal.0 (ended_count s.requests) is.steps.rows_ in omega (arith, low));
         took = traversed_took s is.passing.tab.framed.steady is.took e.event e.actor req goal;
+        added = traversed_added s is.added e.event e.actor req goal;
       })

@@ -14,11 +14,13 @@ use Rattle.log_model.specs.declared.outcome.Cause.{Cause}
 use Rattle.log_model.specs.declared.outcome.Denial.{Denial}
 use Rattle.log_model.specs.declared.outcome.Ending.{Ending}
 use Rattle.log_model.specs.declared.row_kind.RowKind.{RowKind}
+use Rattle.passes.proofs.Adders.{plain_added}
+use Rattle.passes.proofs.HeldUp.{dropped_held, refused_held}
 use Rattle.passes.proofs.Takers.{plain_took}
 use Rattle.seen_laws.specs.InEvent.{InEvent, now_of}
 use Rattle.settling.proofs.Ended.{dropped_count, refused_count}
 use Rattle.settling.proofs.More.{IsKept, as_many, counted_more, epochs_same, same_steps}
-use Rattle.settling.specs.Settling.{IsSettling}
+use Rattle.passes.specs.Settling.{IsSettling}
 use Rattle.std.proofs.Common.{List, None, Some, arith, length, refl, ◌+◌, ◌<◌, ◌≡◌}
 use Rattle.tab_ids.specs.declared.ReqId.{ReqId}
 use Rattle.log_model.specs.declared.outcome.Ending.TheVariants as endings
@@ -47,6 +49,8 @@ module _ (e : InEvent) (out : List RowKind) (t : Tables) (hand next_hand : List 
         moves = refused_moves s e.event e.actor is.moves req reason;
         queued = queued_after t.running s e.event e.actor is.queued (rows.Refused req reason) leaves;
         took = plain_took s is.passing.tab.framed.steady is.took e.event e.actor (rows.Refused req reason) tt;
+        added = plain_added s is.added e.event e.actor (rows.Refused req reason) tt;
+        held = refused_held s e.event e.actor t.running req reason is.held;
         steps = same_steps s (next s e.event e.actor (rows.Refused req reason)) is.steps (refused_count s e.event e.actor req q there open_ reason) refl;
       }
 
@@ -63,5 +67,7 @@ module _ (e : InEvent) (out : List RowKind) (t : Tables) (hand next_hand : List 
         moves = dropped_moves s e.event e.actor is.moves req cause;
         queued = queued_after t.running s e.event e.actor is.queued (rows.Dropped req cause) leaves;
         took = plain_took s is.passing.tab.framed.steady is.took e.event e.actor (rows.Dropped req cause) tt;
+        added = plain_added s is.added e.event e.actor (rows.Dropped req cause) tt;
+        held = dropped_held s e.event e.actor t.running req cause is.held;
         steps = same_steps s (next s e.event e.actor (rows.Dropped req cause)) is.steps (dropped_count s e.event e.actor req q there open_ cause) refl;
       }

@@ -20,12 +20,13 @@ use Rattle.log_model.specs.Seen.{Asked, Place, Seen, place_in}
 use Rattle.log_model.specs.declared.made.Made.{Made}
 use Rattle.log_model.specs.declared.row.Row.{Row}
 use Rattle.log_model.specs.declared.row_kind.RowKind.{RowKind}
+use Rattle.passes.specs.Holding.{AreHeldUp}
 use Rattle.passes.specs.Passing.{AreCounted, HasRoom, IsTopShown, ended_count}
 use Rattle.passes.specs.Serving.{IsServable}
-use Rattle.passes.specs.Sweeping.{NoTraversalTook}
+use Rattle.passes.specs.Sweeping.{NoTraversalAdded, NoTraversalTook}
 use Rattle.seen_laws.proofs.InEvents.{now_more}
 use Rattle.seen_laws.specs.InEvent.{InEvent, now_of}
-use Rattle.settling.specs.Settling.{AreSteps, IsSettling}
+use Rattle.passes.specs.Settling.{AreSteps, IsSettling}
 use Rattle.std.proofs.Common.{Bool, List, None, Option, Some, [], ap, arith, cond, false, inl, inr, length, map, refl, subst, sym, true, ℕ, ◌++◌, ◌+◌, ◌-◌, ◌<◌, ◌==◌, ◌∙◌, ◌∷◌, ◌≡◌, ◌≢◌, ◌≤◌, ◌⊎◌}
 use Rattle.std.proofs.lemmas.List.{length-set}
 use Rattle.std.specs.Option.{option_map_or}
@@ -46,7 +47,9 @@ pub record IsKept (u : Tables) (hand : List Made) (s : Seen) : Type 0 where
   pub moves : AreMoves s
   pub queued : IsQueued u.running s
   pub took : NoTraversalTook s
+  pub added : NoTraversalAdded s
   pub steps : AreSteps s
+  pub held : AreHeldUp u.running s
 
 -- the steps leave room for one more
 pub room_by : (s : Seen) → AreSteps s → length s.requests + 2 < 4294967296 → HasRoom s
@@ -67,7 +70,9 @@ settling_now e out kind u hand work kept =
       moves = k.moves;
       queued = k.queued;
       took = k.took;
+      added = k.added;
       steps = k.steps;
+      held = k.held;
     }
 
 -- ---- requests

@@ -1,4 +1,4 @@
-use Rattle.passes.specs.Serving.{IsServing}
+use Rattle.passes.specs.Turns.{IsServing}
 use Rattle.passes.proofs.serving.serve_all.Given as goal
 
 abbrev pub ghost-serve_one : goal.ghost-serve_one

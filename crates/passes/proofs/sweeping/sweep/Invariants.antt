@@ -1,5 +1,6 @@
 use Rattle.seen_laws.specs.InEvent.{now_of}
-use Rattle.passes.specs.Sweeping.{IsSweeping, left_count}
+use Rattle.passes.specs.Sweeping.{left_count}
+use Rattle.passes.specs.Turns.{IsSweeping}
 use Rattle.passes.proofs.sweeping.sweep.Given as goal
 
 abbrev pub ghost-discard_one : goal.ghost-discard_one

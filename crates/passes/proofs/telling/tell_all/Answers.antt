@@ -9,7 +9,7 @@ loop-i-init g c = tell_begins g.p _ _ _ _ c.requires (c.navs.view_is ∙ c.in_ok
 
 pub loop-i-preserved : goal.loop-i-preserved
 loop-i-preserved g c =
-    tell_goes_on g.p _ _ _ _ _ _ _ _ _ _ c.loop-i.invariant (ap (λ (l : List NavId). slice_get l c.loop-i.i) c.navs.view_is ∙ c.at.ensures) c.in_ok-tell_one.ensures.passing c.in_ok-tell_one.ensures.told c.in_ok-tell_one.ensures.kept c.in_ok-tell_one.ensures.only
+    tell_goes_on g.p _ _ _ _ _ _ _ _ _ _ c.loop-i.invariant (ap (λ (l : List NavId). slice_get l c.loop-i.i) c.navs.view_is ∙ c.at.ensures) c.in_ok-tell_one.ensures.settling c.in_ok-tell_one.ensures.told c.in_ok-tell_one.ensures.kept c.in_ok-tell_one.ensures.only
 
 pub returns-clause-told : goal.returns-clause-told
 returns-clause-told g c =

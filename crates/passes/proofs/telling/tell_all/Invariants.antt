@@ -1,4 +1,4 @@
-use Rattle.passes.specs.Telling.{IsTelling}
+use Rattle.passes.specs.Turns.{IsTelling}
 use Rattle.passes.proofs.telling.tell_all.Given as goal
 
 abbrev pub ghost-tell_one : goal.ghost-tell_one

@@ -4,7 +4,7 @@ use Rattle.doors.proofs.tables.Tables.discard.Goals as goal
 
 pub returns-clause-work : goal.returns-clause-work
 returns-clause-work g c =
-    rw (c.sleep_each.ensures, c.discard.ensures) (next_work _ _ _ _ (order_is _ _ _ _ _ _ _ _ _ c.requires.0 c.in_ok-push.ensures.ok c.in_ok-job.ensures.job) (discard_work _ _ _ _ _ _ _ _ _ _ c.requires.0 c.requires.1.0.due c.requires.1.1.0 c.requires.1.1.1.0 c.requires.1.0.are c.requires.1.0.its_state c.requires.1.0.ready c.requires.1.0.its c.requires.1.1.1.1.0 refl (record { making = refl; whose = refl; history = refl; documents = refl; states = refl; entries = refl; sent = c.in_ok-job.ensures.sent }) refl refl))
+    rw (c.sleep_each.ensures, c.discard.ensures) (next_work _ _ _ _ (order_is _ _ _ _ _ _ _ _ _ c.requires.0 c.in_ok-push.ensures.ok c.in_ok-job.ensures.job) (discard_work _ _ _ _ _ _ _ _ _ _ c.requires.0 c.requires.1.0.due c.requires.1.1.0 c.requires.1.1.1.0 c.requires.1.0.are c.requires.1.0.its_state c.requires.1.0.ready c.requires.1.0.its c.requires.1.1.1.1.0 refl (record { making = refl; whose = refl; shown = refl; history = refl; documents = refl; states = refl; entries = refl; sent = c.in_ok-job.ensures.sent }) refl refl))
 
 pub returns-clause-out : goal.returns-clause-out
 returns-clause-out g c = order_is _ _ _ _ _ _ _ _ _ c.requires.0 c.in_ok-push.ensures.ok c.in_ok-job.ensures.job

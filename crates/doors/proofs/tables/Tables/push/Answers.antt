@@ -14,4 +14,4 @@ set_told-requires g c = still_more _ _ _ _ c.given.ensures (awake_still _ _ _ c.
 
 pub returns-clause-work : goal.returns-clause-work
 returns-clause-work g c =
-    rw (c.set_told.ensures, c.given.ensures) (next_work _ _ _ _ c.in_ok-push.ensures.ok (push_work _ _ _ _ _ _ _ _ _ _ c.requires.0 c.requires.1.0 c.requires.1.1.0 c.requires.1.1.1.1.0 c.requires.1.1.1.1.1.0 c.requires.1.1.1.1.1.1 refl c.in_ok-make_change.ensures.ok (record { making = refl; whose = refl; documents = refl; sent = refl }) refl refl refl refl))
+    rw (c.set_told.ensures, c.given.ensures) (next_work _ _ _ _ c.in_ok-push.ensures.ok (push_work _ _ _ _ _ _ _ _ _ _ c.requires.0 c.requires.1.0 c.requires.1.1.0 c.requires.1.1.1.1.0 c.requires.1.1.1.1.1.0 c.requires.1.1.1.1.1.1 refl c.in_ok-make_change.ensures.ok (record { making = refl; whose = refl; shown = refl; documents = refl; sent = refl }) refl refl refl refl))

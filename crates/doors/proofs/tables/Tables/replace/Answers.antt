@@ -11,4 +11,4 @@ given-requires g c = awake_still _ _ _ c.requires.1.0
 
 pub returns-clause-work : goal.returns-clause-work
 returns-clause-work g c =
-    rw c.given.ensures (next_work _ _ _ _ c.in_ok-push.ensures.ok (replace_work _ _ _ _ _ _ _ _ _ _ _ c.requires.0 c.requires.1.1.0 c.requires.1.1.1.1.0 c.requires.1.1.1.1.1.0 c.requires.1.1.1.1.1.1 refl c.in_ok-make_change.ensures.ok (record { making = refl; whose = refl; documents = refl; sent = refl }) refl refl refl refl))
+    rw c.given.ensures (next_work _ _ _ _ c.in_ok-push.ensures.ok (replace_work _ _ _ _ _ _ _ _ _ _ _ c.requires.0 c.requires.1.1.0 c.requires.1.1.1.1.0 c.requires.1.1.1.1.1.0 c.requires.1.1.1.1.1.1 refl c.in_ok-make_change.ensures.ok (record { making = refl; whose = refl; shown = refl; documents = refl; sent = refl }) refl refl refl refl))

@@ -1,4 +1,8 @@
-use Rattle.std.proofs.Common.{refl}
+use Rattle.indexmap.specs.IndexMap.{insert_entry}
+use Rattle.log_model.specs.declared.job.Job.{Job}
+use Rattle.nav_tree.specs.Tree.{is_nav}
+use Rattle.std.proofs.Common.{ap, refl, ℕ, ◌∙◌}
+use Rattle.tab_ids.specs.declared.JobId.{JobId}
 use Rattle.doors.proofs.Works.{show_work, order_is, next_work, show_known, show_known_more, show_fits, still_more}
 use Rattle.doors.proofs.tables.Tables.show.Goals as goal
 
@@ -16,7 +20,7 @@ set_moved-requires g c = still_more _ _ _ _ c.set_told.ensures (show_known_more 
 
 pub returns-clause-work : goal.returns-clause-work
 returns-clause-work g c =
-    rw (c.set_moved.ensures, c.set_told.ensures, c.give.ensures.tree, c.is_some.ensures) (next_work _ _ _ _ (order_is _ _ _ _ _ _ _ _ _ c.requires.0 c.in_ok-push.ensures.ok c.in_ok-job.ensures.job) (show_work _ _ _ _ _ _ _ _ _ _ _ _ _ c.requires.0 c.requires.1.0 c.requires.1.1.0 refl (record { making = refl; whose = refl; history = refl; documents = refl; states = refl; entries = refl; sent = c.in_ok-job.ensures.sent }) refl refl))
+    rw (c.set_moved.ensures, c.set_told.ensures, c.give.ensures.tree, c.is_some.ensures) (next_work _ _ _ _ (order_is _ _ _ _ _ _ _ _ _ c.requires.0 c.in_ok-push.ensures.ok c.in_ok-job.ensures.job) (show_work _ _ _ _ _ _ _ _ _ _ _ _ _ c.requires.0 c.requires.1.0 c.requires.1.1.0 refl (record { making = refl; whose = refl; shown = c.in_ok-insert.ensures.entries ∙ ap (λ (n : JobId). insert_entry is_nav c.args.self.now.shown.entries c.args.nav n) (ap (λ (j : Job). j.nr) c.in_ok-job.ensures.job ∙ ap (λ (n : ℕ). let x : JobId = record { 0 = n } in x) c.requires.0.holds.sent); history = refl; documents = refl; states = refl; entries = refl; sent = c.in_ok-job.ensures.sent }) refl refl))
 
 pub returns-clause-out : goal.returns-clause-out
 returns-clause-out g c = order_is _ _ _ _ _ _ _ _ _ c.requires.0 c.in_ok-push.ensures.ok c.in_ok-job.ensures.job

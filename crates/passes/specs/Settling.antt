@@ -9,9 +9,10 @@ use Rattle.log_model.specs.Seen.{Seen}
 use Rattle.log_model.specs.declared.made.Made.{Made}
 use Rattle.log_model.specs.declared.row.Row.{Row}
 use Rattle.log_model.specs.declared.row_kind.RowKind.{RowKind}
+use Rattle.passes.specs.Holding.{AreHeldUp}
 use Rattle.passes.specs.Passing.{IsPassing, ended_count}
 use Rattle.passes.specs.Serving.{IsServable}
-use Rattle.passes.specs.Sweeping.{NoTraversalTook}
+use Rattle.passes.specs.Sweeping.{NoTraversalAdded, NoTraversalTook}
 use Rattle.seen_laws.specs.InEvent.{InEvent, now_of}
 use Rattle.std.specs.Prelude.{List, ◌≤◌}
 
@@ -29,4 +30,6 @@ pub record IsSettling (e : InEvent) (out : List RowKind) (t : Tables) (hand : Li
   pub moves : AreMoves (now_of e out)
   pub queued : IsQueued t.running (now_of e out)
   pub took : NoTraversalTook (now_of e out)
+  pub added : NoTraversalAdded (now_of e out)
   pub steps : AreSteps (now_of e out)
+  pub held : AreHeldUp t.running (now_of e out)

@@ -1,0 +1,3 @@
+pub mod Endings
+pub mod Waits
+pub mod Releases

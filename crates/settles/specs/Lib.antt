@@ -1,0 +1,3 @@
+pub mod Reasons
+pub mod Passes
+pub mod Settling
