@@ -1,8 +1,9 @@
 -- What an applied change leaves of what lasts.
 use Rattle.coord_facts.proofs.Unread.{next}
 use Rattle.frame_facts.proofs.Changes.{add_none, push_none, remove_none, replace_none}
-use Rattle.frame_facts.proofs.Orders.{KeepsRuns, both_run, found_last, if_runs, on_takers, or_takers, run_shown, same_runs}
+use Rattle.frame_facts.proofs.Orders.{KeepsRuns, both_run, found_last, if_runs, on_takers, or_takers, run_shown, same_runs, unmade_runs}
 use Rattle.seen_laws.proofs.Keyed.{find_has as seen_number}
+use Rattle.frame_facts.proofs.Naming.{same_names}
 use Rattle.frame_facts.proofs.Parts.{TakersWere, WasTakenIn, lasting_on, some_same, takers_same}
 use Rattle.frame_facts.specs.Lasting.{IsLasting, wish}
 use Rattle.frame_tab.specs.Alive.{AreThere, HasPlace}
@@ -34,7 +35,7 @@ use Rattle.log_model.specs.declared.row_kind.RowKind.TheVariants as rows
 
 told_runs : (c : Change) → KeepsRuns (λ (x : Document). told_after_change x c)
 told_runs (changes.Push nav entry state address memo) =
-    if_runs (λ (x : Document). x.nr.0 == entry.maker) (λ (x : Document). record x { told = None }) (record { nr = λ x. refl; nav = λ x. refl; view = λ x. refl; discarded = λ x. refl })
+    if_runs (λ (x : Document). x.nr.0 == entry.maker) (λ (x : Document). record x { told = None }) (record { nr = λ x. refl; nav = λ x. refl; state = λ x. refl; view = λ x. refl; discarded = λ x. refl; unready = λ x e. e })
 told_runs (changes.Replace nav over entry state address memo) = same_runs
 told_runs (changes.AddFrame owner nav entry state) = same_runs
 told_runs (changes.RemoveFrame nav) = same_runs
@@ -44,13 +45,13 @@ told_runs changes.Edit = same_runs
 
 entry_runs : (entry : EntryId) → KeepsRuns (with_applied entry)
 entry_runs entry =
-    if_runs (λ (x : Document). x.nr.0 == entry.maker) (λ (x : Document). record x { last_applied = entry.nr }) (record { nr = λ x. refl; nav = λ x. refl; view = λ x. refl; discarded = λ x. refl })
+    if_runs (λ (x : Document). x.nr.0 == entry.maker) (λ (x : Document). record x { last_applied = entry.nr }) (record { nr = λ x. refl; nav = λ x. refl; state = λ x. refl; view = λ x. refl; discarded = λ x. refl; unready = λ x e. e })
 
 applied_runs : (c : Change) → KeepsRuns (λ (x : Document). applied_to c x)
 applied_runs (changes.Push nav entry state address memo) = entry_runs entry
 applied_runs (changes.Replace nav over entry state address memo) = entry_runs entry
 applied_runs (changes.Reload nav) =
-    if_runs (λ (x : Document). x.nav.0 == nav.0) (λ (x : Document). record x { is_fresh = false }) (record { nr = λ x. refl; nav = λ x. refl; view = λ x. refl; discarded = λ x. refl })
+    if_runs (λ (x : Document). x.nav.0 == nav.0) (λ (x : Document). record x { is_fresh = false }) (record { nr = λ x. refl; nav = λ x. refl; state = λ x. refl; view = λ x. refl; discarded = λ x. refl; unready = λ x e. e })
 applied_runs (changes.AddFrame owner nav entry state) = same_runs
 applied_runs (changes.RemoveFrame nav) = same_runs
 applied_runs (changes.Traverse goal) = same_runs
@@ -118,6 +119,10 @@ module _ (home : ProcId) (s : Seen) (event : ℕ) (actor : Actor) (there : AreTh
         documents = refl;
         nr = keeps.nr;
         nav = keeps.nav;
+        state = keeps.state;
+        undone = λ x there_. sym (keeps.discarded x) ∙ there_;
+        unmade = λ doc x found kept. unmade_runs (λ (y : Document). applied_to change (told_after_change y change)) keeps x kept;
+        names = same_names s (next s event actor (rows.Applied req change)) refl;
         runs = λ doc x found shown. run_shown (λ (y : Document). applied_to change (told_after_change y change)) x (keeps.view x) shown;
         gone = λ doc x found gone. inl (sym (keeps.discarded x) ∙ gone);
         wishes = applied_wishes s event actor req change;

@@ -1,13 +1,14 @@
 -- What lasts is there as the tab opens, and stays over the rows of users and processes.
-use Rattle.coord_facts.proofs.Unread.{next}
-use Rattle.frame_facts.proofs.Orders.{KeepsRuns, if_runs, mapped_lasting, on_takers, or_takers, quiet_lasting, run_shown, same_runs, wish_blind}
-use Rattle.frame_facts.proofs.Parts.{TakersWere, WasIn, lasting_on, pokes_map, some_same, takers_same, was_in}
-use Rattle.frame_facts.specs.Lasting.{IsLasting, IsMadeShown, IsOfItsNav, IsRunShown, PokesItsNav, Wish, wish}
+use Rattle.coord_facts.proofs.Unread.{accepted_left, next}
+use Rattle.frame_facts.proofs.Naming.{acted_names, delivered_names, finished_names, left_names, taken_names}
+use Rattle.frame_facts.proofs.Orders.{KeepsRuns, if_runs, mapped_lasting, on_takers, or_takers, quiet_lasting, run_shown, same_runs, unmade_runs, wish_blind}
+use Rattle.frame_facts.proofs.Parts.{TakersWere, WasIn, lasting_on, names_map, pokes_map, sole_map, some_same, takers_same, was_in}
+use Rattle.frame_facts.specs.Lasting.{IsKeptUnmade, IsLasting, IsMadeShown, IsOfItsNav, IsRunShown, NameTheirStates, PokesItsNav, Wish, wish}
 use Rattle.frame_tab.specs.Alive.{AreThere}
 use Rattle.log_model.specs.After.{new_request}
 use Rattle.log_model.specs.AfterDocuments.{documents_delivered, documents_finished, opening_document, slot_finished, view_finished}
 use Rattle.log_model.specs.AfterPlaces.{is_dead_by, on_place, opening_place, place_arrived, places_delivered}
-use Rattle.log_model.specs.Seen.{Asked, Document, Place, Seen, desk_of, document_of, nothing, request_in, request_of}
+use Rattle.log_model.specs.Seen.{Asked, Desk, Document, Place, Seen, desk_of, document_of, empty_desk, nothing, request_in, request_of}
 use Rattle.log_model.specs.Views.{View, after_made, after_task}
 use Rattle.log_model.specs.declared.job.Job.{Job}
 use Rattle.log_model.specs.declared.job.Order.{Order}
@@ -40,7 +41,7 @@ use Rattle.log_model.specs.declared.row_kind.RowKind.TheVariants as rows
 
 ready_runs : (job : Job) → KeepsRuns (λ (x : Document). cond (x.nr.0 == job.doc.0) (record x { is_ready = true; is_fresh = true }) x)
 ready_runs job =
-    if_runs (λ (x : Document). x.nr.0 == job.doc.0) (λ (x : Document). record x { is_ready = true; is_fresh = true }) (record { nr = λ x. refl; nav = λ x. refl; view = λ x. refl; discarded = λ x. refl })
+    if_runs (λ (x : Document). x.nr.0 == job.doc.0) (λ (x : Document). record x { is_ready = true; is_fresh = true }) (record { nr = λ x. refl; nav = λ x. refl; state = λ x. refl; view = λ x. refl; discarded = λ x. refl; unready = λ x e. absurd cc })
 
 record IsChangedBy (documents next : List Document) : Type 0 where
   g : Document → Document
@@ -57,7 +58,7 @@ delivered_runs documents (Some (reports.Made made)) = record { g = λ x. x; keep
 delivered_runs documents (Some (reports.Died death)) =
     record {
       g = λ (x : Document). cond (is_dead_by death x) (record x { is_known_dead = true }) x;
-      keeps = if_runs (is_dead_by death) (λ (x : Document). record x { is_known_dead = true }) (record { nr = λ x. refl; nav = λ x. refl; view = λ x. refl; discarded = λ x. refl });
+      keeps = if_runs (is_dead_by death) (λ (x : Document). record x { is_known_dead = true }) (record { nr = λ x. refl; nav = λ x. refl; state = λ x. refl; view = λ x. refl; discarded = λ x. refl; unready = λ x e. e });
       is = refl;
     }
 delivered_runs documents (Some (reports.Done job (outcomes.Populated slot) made)) =
@@ -94,13 +95,13 @@ module _ (home : ProcId) (s : Seen) (event : ℕ) (actor : Actor) (there : AreTh
   pub delivered_lasting : (proc : ProcId) → NoDeath (slice_get (desk_of s proc).reports 0) → IsLasting (next s event actor (rows.Delivered proc))
   delivered_lasting proc fine =
       let by = delivered_runs s.documents (slice_get (desk_of s proc).reports 0) in
-      mapped_lasting home s (next s event actor (rows.Delivered proc)) there by.g by.keeps by.is refl (delivered_reads wish wish_blind (slice_get (desk_of s proc).reports 0) s.requests) (delivered_takers s (slice_get (desk_of s proc).reports 0) fine) is
+      mapped_lasting home s (next s event actor (rows.Delivered proc)) there by.g by.keeps by.is refl (delivered_reads wish wish_blind (slice_get (desk_of s proc).reports 0) s.requests) (delivered_takers s (slice_get (desk_of s proc).reports 0) fine) (delivered_names s event actor proc) is
 
   -- ---- the process takes up an order
 
   pub taken_lasting : (proc : ProcId) (job : Job) (dirty : Bool) → IsLasting (next s event actor (rows.Taken proc job.nr true dirty))
   taken_lasting proc job dirty =
-      quiet_lasting home s (next s event actor (rows.Taken proc job.nr true dirty)) there refl refl (λ r. refl) refl is
+      quiet_lasting home s (next s event actor (rows.Taken proc job.nr true dirty)) there refl refl (λ r. refl) refl (taken_names s event actor proc job true dirty) is
 
   -- ---- it finishes one
 
@@ -140,7 +141,7 @@ module _ (home : ProcId) (s : Seen) (event : ℕ) (actor : Actor) (there : AreTh
     slots_keep (outcomes.Populated slot) documents =
         record {
           g = λ (x : Document). cond (x.nr.0 == order.job.doc.0) (record x { slot = slot }) x;
-          keeps = if_runs (λ (x : Document). x.nr.0 == order.job.doc.0) (λ (x : Document). record x { slot = slot }) (record { nr = λ x. refl; nav = λ x. refl; view = λ x. refl; discarded = λ x. refl });
+          keeps = if_runs (λ (x : Document). x.nr.0 == order.job.doc.0) (λ (x : Document). record x { slot = slot }) (record { nr = λ x. refl; nav = λ x. refl; state = λ x. refl; view = λ x. refl; discarded = λ x. refl; unready = λ x e. e });
           is = refl;
         }
     slots_keep outcomes.Activated documents = record { g = λ x. x; keeps = same_runs; is = map_same documents }
@@ -160,6 +161,10 @@ module _ (home : ProcId) (s : Seen) (event : ℕ) (actor : Actor) (there : AreTh
           documents = documents_;
           nr = λ x. by.keeps.nr (done x) ∙ by_done (λ y. y.nr) (λ y o. refl) x;
           nav = λ x. by.keeps.nav (done x) ∙ by_done (λ y. y.nav) (λ y o. refl) x;
+          state = λ x. by.keeps.state (done x) ∙ by_done (λ y. y.state) (λ y o. refl) x;
+          undone = λ x there_. sym (by_done (λ y. y.is_discarded) (λ y o. refl) x) ∙ (sym (by.keeps.discarded (done x)) ∙ there_);
+          unmade = λ doc x found kept. unmade_runs by.g by.keeps (done x) (λ unready. by_done (λ y. y.is_discarded) (λ y o. refl) x ∙ kept (sym (by_done (λ y. y.is_ready) (λ y o. refl) x) ∙ unready));
+          names = finished_names s event actor proc order outcome;
           runs = λ doc x found shown. run_shown by.g (done x) (by.keeps.view (done x)) (done_shown x (x.nr.0 == order.job.doc.0) shown);
           gone = λ doc x found gone. inl (sym (by_done (λ y. y.is_discarded) (λ y o. refl) x) ∙ (sym (by.keeps.discarded (done x)) ∙ gone));
           wishes = finished_reads wish wish_blind s (desk_of s proc).in_hand outcome s.requests;
@@ -214,6 +219,10 @@ module _ (home : ProcId) (s : Seen) (event : ℕ) (actor : Actor) (there : AreTh
           gone = λ of x at gone. (let w = was of x at in
               subst (λ (n : NavId). has_row n s.history.rows ≡ false) (sym (by_acts (λ z. z.nav) (λ z o. refl) w.old) ∙ ap (λ (y : Document). y.nav) w.new)
               (is.gone of w.old w.there (sym (by_acts (λ z. z.is_discarded) (λ z o. refl) w.old) ∙ ap (λ (y : Document). y.is_discarded) w.new ∙ gone)));
+          populates = λ p. names_map s.documents acts (desk_of (next s event actor (rows.Made proc made)) p) (by_acts (λ z. z.nr) (λ z o. refl)) (by_acts (λ z. z.state) (λ z o. refl)) (acted_names s event actor proc made s.documents p (is.populates p));
+          unmade = λ of x at. (let w = was of x at in
+              subst IsKeptUnmade w.new (λ unready. by_acts (λ z. z.is_discarded) (λ z o. refl) w.old ∙ is.unmade of w.old w.there (sym (by_acts (λ z. z.is_ready) (λ z o. refl) w.old) ∙ unready)));
+          sole = sole_map s.documents acts (by_acts (λ z. z.nr) (λ z o. refl)) (by_acts (λ z. z.state) (λ z o. refl)) (λ x there_. sym (by_acts (λ z. z.is_discarded) (λ z o. refl) x) ∙ there_) is.sole;
         }
       where
         its_epoch : 1 ≤ made.epoch.0
@@ -236,6 +245,9 @@ module _ (home : ProcId) (s : Seen) (event : ℕ) (actor : Actor) (there : AreTh
         poked = each_asked_more (λ (r : ReqId) (a : Asked). PokesItsNav s.documents (wish a)) s.requests (new_request req doc what) req nr pokes is.poked;
         taken = is.taken;
         gone = is.gone;
+        populates = λ proc. left_names s (next s event actor (rows.Accepted req doc what)) (accepted_left s event actor req doc what) s.documents proc (is.populates proc);
+        unmade = is.unmade;
+        sole = is.sole;
       }
 
 -- ---- the tab opens
@@ -248,10 +260,26 @@ opened_lasting event actor entry state doc proc slot address =
       poked = λ req q there. absurd (none_asked req q there);
       taken = λ nav place req found taken. absurd (none_taken nav place req (0 == nav.0) found taken);
       gone = λ of x found gone. absurd (none_gone of x (doc.0 == of.0) found gone);
+      populates = λ p. none_named (first ∷ []) p (proc.0 == p.0);
+      unmade = λ of x found unready. absurd (none_unmade of x (doc.0 == of.0) found unready);
+      sole = λ of other d o at_d at_o same there_d there_o. ap (λ (y : Document). y.nr) (sym (is_first other o (doc.0 == other.0) at_o) ∙ is_first of d (doc.0 == of.0) at_d);
     }
   where
     first : Document
     first = opening_document entry state doc proc slot address
+
+    -- there is none but this
+    is_first : (of : DocId) (x : Document) (b : Bool) → (let o : Option Document = cond b (Some (opening_document entry state doc proc slot address)) None in o) ≡ Some x → first ≡ x
+    is_first of x false e = absurd cc
+    is_first of x true e = some_same e
+
+    none_unmade : (of : DocId) (x : Document) (b : Bool) → (let o : Option Document = cond b (Some (opening_document entry state doc proc slot address)) None in o) ≡ Some x → x.is_ready ≡ false → ⊥
+    none_unmade of x false e unready = cc
+    none_unmade of x true e unready = (let never : true ≡ false = ap (λ (y : Document). y.is_ready) (some_same e) ∙ unready in cc)
+
+    none_named : (documents : List Document) (p : ProcId) (b : Bool) → NameTheirStates documents (let desk : Desk = cond b (empty_desk proc) (empty_desk p) in desk)
+    none_named documents p true = record { orders = tt; told = tt }
+    none_named documents p false = record { orders = tt; told = tt }
 
     shown_by : (of : DocId) (x : Document) (b : Bool) → (let o : Option Document = cond b (Some (opening_document entry state doc proc slot address)) None in o) ≡ Some x → IsRunShown x
     shown_by of x false e = absurd cc

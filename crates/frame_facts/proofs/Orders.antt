@@ -1,7 +1,8 @@
 -- What orders, and the rows that begin or end requests, leave of what lasts.
-use Rattle.coord_facts.proofs.Unread.{next}
-use Rattle.frame_facts.proofs.Parts.{TakersWere, lasting_on, pokes_more, some_same, takers_map, takers_same, takers_then}
-use Rattle.frame_facts.specs.Lasting.{IsLasting, IsMadeShown, IsRunShown, PokesItsNav, wish}
+use Rattle.coord_facts.proofs.Unread.{dropped_left, next, refused_left, started_left}
+use Rattle.frame_facts.proofs.Naming.{LeavesNames, left_names, sent_names}
+use Rattle.frame_facts.proofs.Parts.{TakersWere, lasting_on, names_more, pokes_more, some_same, takers_map, takers_same, takers_then}
+use Rattle.frame_facts.specs.Lasting.{IsKeptUnmade, IsLasting, IsMadeShown, IsRunShown, NameTheirStates, NamesItsState, PokesItsNav, wish}
 use Rattle.frame_tab.specs.Alive.{AreThere}
 use Rattle.home_facts.specs.Homes.{document_in}
 use Rattle.coord_facts.proofs.Leadings.{doc_same}
@@ -11,7 +12,8 @@ use Rattle.seen_laws.proofs.Keyed.{find_has as seen_number}
 use Rattle.log_model.specs.AfterPlaces.{activated, on_place, places_sent, put_to_sleep, sleepers_below, sleepers_with}
 use Rattle.log_model.specs.AfterRequests.{on_request, request_begun, requests_sent}
 use Rattle.log_model.specs.History.{has_nav, has_row}
-use Rattle.log_model.specs.Seen.{Asked, Document, Place, Seen, asleep, document_of, place_of}
+use Rattle.log_model.proofs.Refl.{nat_eq_refl}
+use Rattle.log_model.specs.Seen.{Asked, Document, Place, Seen, asleep, desk_of, document_of, place_of}
 use Rattle.log_model.specs.declared.job.Job.{Job}
 use Rattle.log_model.specs.declared.job.Task.{Task}
 use Rattle.log_model.specs.declared.outcome.Cause.{Cause}
@@ -19,7 +21,7 @@ use Rattle.log_model.specs.declared.outcome.Denial.{Denial}
 use Rattle.log_model.specs.declared.row_kind.Actor.{Actor}
 use Rattle.plain_tab.specs.Calm.{EachAsked}
 use Rattle.request_facts.proofs.Readers.{IsBlind, SameReads, on_read, reads_then, sent_reads}
-use Rattle.std.proofs.Common.{Bool, List, None, Option, Some, [], ap, cond, false, inl, inr, map, refl, subst, sym, true, ℕ, ◌++◌, ◌==◌, ◌∙◌, ◌∷◌, ◌≡◌, ◌⊎◌}
+use Rattle.std.proofs.Common.{Bool, List, None, Option, Some, [], ap, arith, cond, false, inl, inr, length, map, refl, subst, sym, true, ℕ, ◌++◌, ◌+◌, ◌==◌, ◌∙◌, ◌∷◌, ◌≡◌, ◌≤◌, ◌⊎◌}
 use Rattle.std.proofs.lemmas.List.{map-id}
 use Rattle.std.specs.Option.{option_map_or}
 use Rattle.std.specs.Prelude.{find}
@@ -40,21 +42,29 @@ use Rattle.log_model.specs.declared.row_kind.RowKind.TheVariants as rows
 pub wish_blind : IsBlind wish
 wish_blind = record { moves = λ q activated moved. refl; asks = λ q asks. refl; fragments = λ q doc. refl; misses = λ q is. refl }
 
--- ---- a document that is changed, but neither in number nor navigable, nor in what runs
+-- ---- a document that is changed, but neither in number, navigable nor state, nor in what runs, and that isn't unmade
 
 pub record KeepsRuns (f : Document → Document) : Type 0 where
   pub nr : (x : Document) → (f x).nr ≡ x.nr
   pub nav : (x : Document) → (f x).nav ≡ x.nav
+  pub state : (x : Document) → (f x).state ≡ x.state
   pub view : (x : Document) → (f x).view ≡ x.view
   pub discarded : (x : Document) → (f x).is_discarded ≡ x.is_discarded
+  pub unready : (x : Document) → (f x).is_ready ≡ false → x.is_ready ≡ false
+
+-- so it isn't discarded before it is made
+pub unmade_runs : (f : Document → Document) → KeepsRuns f → (x : Document) → IsKeptUnmade x → IsKeptUnmade (f x)
+unmade_runs f keeps x kept unready = keeps.discarded x ∙ kept (keeps.unready x unready)
 
 pub if_runs : (test : Document → Bool) (f : Document → Document) → KeepsRuns f → KeepsRuns (λ (x : Document). cond (test x) (f x) x)
 if_runs test f keeps =
     record {
       nr = λ x. elim (test x) as (λ b. (let y : Document = cond b (f x) x in y).nr ≡ x.nr) [ true ↦ keeps.nr x | false ↦ refl ];
       nav = λ x. elim (test x) as (λ b. (let y : Document = cond b (f x) x in y).nav ≡ x.nav) [ true ↦ keeps.nav x | false ↦ refl ];
+      state = λ x. elim (test x) as (λ b. (let y : Document = cond b (f x) x in y).state ≡ x.state) [ true ↦ keeps.state x | false ↦ refl ];
       view = λ x. elim (test x) as (λ b. (let y : Document = cond b (f x) x in y).view ≡ x.view) [ true ↦ keeps.view x | false ↦ refl ];
       discarded = λ x. elim (test x) as (λ b. (let y : Document = cond b (f x) x in y).is_discarded ≡ x.is_discarded) [ true ↦ keeps.discarded x | false ↦ refl ];
+      unready = λ x. elim (test x) as (λ b. (let y : Document = cond b (f x) x in y).is_ready ≡ false → x.is_ready ≡ false) [ true ↦ keeps.unready x | false ↦ (λ e. e) ];
     }
 
 pub both_run : (f g : Document → Document) → KeepsRuns f → KeepsRuns g → KeepsRuns (λ (x : Document). g (f x))
@@ -62,12 +72,14 @@ both_run f g one two =
     record {
       nr = λ x. two.nr (f x) ∙ one.nr x;
       nav = λ x. two.nav (f x) ∙ one.nav x;
+      state = λ x. two.state (f x) ∙ one.state x;
       view = λ x. two.view (f x) ∙ one.view x;
       discarded = λ x. two.discarded (f x) ∙ one.discarded x;
+      unready = λ x e. one.unready x (two.unready (f x) e);
     }
 
 pub same_runs : KeepsRuns (λ x. x)
-same_runs = record { nr = λ x. refl; nav = λ x. refl; view = λ x. refl; discarded = λ x. refl }
+same_runs = record { nr = λ x. refl; nav = λ x. refl; state = λ x. refl; view = λ x. refl; discarded = λ x. refl; unready = λ x e. e }
 
 pub run_shown : (f : Document → Document) (x : Document) → (f x).view ≡ x.view → IsRunShown x → IsRunShown (f x)
 run_shown f x same is view has runs = is view (sym same ∙ has) runs
@@ -75,12 +87,16 @@ run_shown f x same is view has runs = is view (sym same ∙ has) runs
 -- ---- rows that leave the history and who took entries
 
 module _ (home : ProcId) (s t : Seen) (there : AreThere home s) where
-  pub mapped_lasting : (g : Document → Document) → KeepsRuns g → t.documents ≡ map g s.documents → t.history.rows ≡ s.history.rows → SameReads wish s.requests t.requests → TakersWere s.places t.places → IsLasting s → IsLasting t
-  mapped_lasting g keeps documents rows_ wishes takers =
+  pub mapped_lasting : (g : Document → Document) → KeepsRuns g → t.documents ≡ map g s.documents → t.history.rows ≡ s.history.rows → SameReads wish s.requests t.requests → TakersWere s.places t.places → LeavesNames s t → IsLasting s → IsLasting t
+  mapped_lasting g keeps documents rows_ wishes takers names =
       lasting_on home s t g there (record {
         documents = documents;
         nr = keeps.nr;
         nav = keeps.nav;
+        state = keeps.state;
+        undone = λ x there_. sym (keeps.discarded x) ∙ there_;
+        unmade = λ doc x found kept. unmade_runs g keeps x kept;
+        names = names;
         runs = λ doc x found is. run_shown g x (keeps.view x) is;
         gone = λ doc x found gone. inl (sym (keeps.discarded x) ∙ gone);
         wishes = wishes;
@@ -88,9 +104,9 @@ module _ (home : ProcId) (s t : Seen) (there : AreThere home s) where
         takers = λ nav place req found taken. inl (takers nav place req found taken);
       })
 
-  pub quiet_lasting : t.documents ≡ s.documents → t.history.rows ≡ s.history.rows → SameReads wish s.requests t.requests → t.places ≡ s.places → IsLasting s → IsLasting t
-  quiet_lasting documents rows_ wishes places =
-      mapped_lasting (λ x. x) same_runs (documents ∙ sym (map-id s.documents)) rows_ wishes (takers_same s.places t.places places)
+  pub quiet_lasting : t.documents ≡ s.documents → t.history.rows ≡ s.history.rows → SameReads wish s.requests t.requests → t.places ≡ s.places → LeavesNames s t → IsLasting s → IsLasting t
+  quiet_lasting documents rows_ wishes places names =
+      mapped_lasting (λ x. x) same_runs (documents ∙ sym (map-id s.documents)) rows_ wishes (takers_same s.places t.places places) names
 
 -- ---- who falls asleep, or is shown
 
@@ -145,29 +161,47 @@ found_last {A} test (z ∷ xs) y x is = by_test (test z) is (found_last test xs 
     by_test true e more = inl e
     by_test false e more = more e
 
+-- the last of a list, where none before it passes
+find_last : {A : Type 0} (test : A → Bool) (xs : List A) (y : A) → find test xs ≡ None → test y ≡ true → find test (xs ++ y ∷ []) ≡ Some y
+find_last test [] y none own = rw own refl
+find_last {A} test (z ∷ xs) y none own = by_test (test z) none (λ less. find_last test xs y less own)
+  where
+    by_test : (b : Bool) → (let o : Option A = cond b (Some z) (find test xs) in o) ≡ None → (find test xs ≡ None → find test (xs ++ y ∷ []) ≡ Some y) → (let o : Option A = cond b (Some z) (find test (xs ++ y ∷ [])) in o) ≡ Some y
+    by_test true e more = absurd cc
+    by_test false e more = more e
+
 -- ---- the rows
 
 module _ (home : ProcId) (s : Seen) (event : ℕ) (actor : Actor) (there : AreThere home s) (is : IsLasting s) where
+  -- an order that makes no document
+  plain_names : (job : Job) → ((nav : NavId) (state : StateId) (address : List ℕ) (initial : Bool) → job.task ≡ tasks.Populate nav state address initial → ⊥) → LeavesNames s (next s event actor (rows.Sent job))
+  plain_names job never documents =
+      sent_names s event actor job documents (λ nav state address initial made. absurd (never nav state address initial made))
+
   -- an order that is no other than these
   addressed_runs : (job : Job) (task : Task) → KeepsRuns (λ (x : Document). cond (x.nr.0 == job.doc.0) (addressed task x) x)
   addressed_runs job task =
-      if_runs (λ (x : Document). x.nr.0 == job.doc.0) (addressed task) (record { nr = λ x. refl; nav = λ x. refl; view = λ x. refl; discarded = λ x. refl })
+      if_runs (λ (x : Document). x.nr.0 == job.doc.0) (addressed task) (record { nr = λ x. refl; nav = λ x. refl; state = λ x. refl; view = λ x. refl; discarded = λ x. refl; unready = λ x e. e })
 
   pub told_lasting : (job : Job) (long at : ℕ) → job.task ≡ tasks.Update long at → IsLasting (next s event actor (rows.Sent job))
   told_lasting job long at task =
-      mapped_lasting home s (next s event actor (rows.Sent job)) there (λ (x : Document). cond (x.nr.0 == job.doc.0) (addressed (tasks.Update long at) x) x) (addressed_runs job (tasks.Update long at)) (ap (λ (t : Task). documents_sent s job t) task) refl (sent_reads wish wish_blind s job job.task s.requests) (sent_takers s job job.task) is
+      mapped_lasting home s (next s event actor (rows.Sent job)) there (λ (x : Document). cond (x.nr.0 == job.doc.0) (addressed (tasks.Update long at) x) x) (addressed_runs job (tasks.Update long at)) (ap (λ (t : Task). documents_sent s job t) task) refl (sent_reads wish wish_blind s job job.task s.requests) (sent_takers s job job.task) (plain_names job (λ nav state address initial made. (let never : tasks.Update long at ≡ tasks.Populate nav state address initial = sym task ∙ made in cc))) is
 
   pub shown_lasting : (job : Job) (entry : EntryId) (epoch : Epoch) (long at : ℕ) (memo : Option (List ℕ)) (address : List ℕ) → job.task ≡ tasks.Activate entry epoch long at memo address → IsLasting (next s event actor (rows.Sent job))
   shown_lasting job entry epoch long at memo address task =
-      mapped_lasting home s (next s event actor (rows.Sent job)) there (λ (x : Document). cond (x.nr.0 == job.doc.0) (addressed (tasks.Activate entry epoch long at memo address) x) x) (addressed_runs job (tasks.Activate entry epoch long at memo address)) (ap (λ (t : Task). documents_sent s job t) task) refl (sent_reads wish wish_blind s job job.task s.requests) (sent_takers s job job.task) is
+      mapped_lasting home s (next s event actor (rows.Sent job)) there (λ (x : Document). cond (x.nr.0 == job.doc.0) (addressed (tasks.Activate entry epoch long at memo address) x) x) (addressed_runs job (tasks.Activate entry epoch long at memo address)) (ap (λ (t : Task). documents_sent s job t) task) refl (sent_reads wish wish_blind s job job.task s.requests) (sent_takers s job job.task) (plain_names job (λ nav state address_ initial made. (let never : tasks.Activate entry epoch long at memo address ≡ tasks.Populate nav state address_ initial = sym task ∙ made in cc))) is
 
-  -- a document of a navigable without an entry is discarded
-  pub discarded_lasting : (job : Job) → job.task ≡ tasks.Discard → ((d : Document) → document_of s job.doc ≡ Some d → has_row d.nav s.history.rows ≡ false) → IsLasting (next s event actor (rows.Sent job))
-  discarded_lasting job task bare =
+  -- a made document of a navigable without an entry is discarded
+  pub discarded_lasting : (job : Job) → job.task ≡ tasks.Discard → ((d : Document) → document_of s job.doc ≡ Some d → d.is_ready ≡ true) → ((d : Document) → document_of s job.doc ≡ Some d → has_row d.nav s.history.rows ≡ false) → IsLasting (next s event actor (rows.Sent job))
+  discarded_lasting job task ready bare =
       lasting_on home s (next s event actor (rows.Sent job)) g there (record {
         documents = ap (λ (t : Task). documents_sent s job t) task;
         nr = λ x. by_test (λ y. y.nr) (λ y. refl) x;
         nav = λ x. by_test (λ y. y.nav) (λ y. refl) x;
+        state = λ x. by_test (λ y. y.state) (λ y. refl) x;
+        undone = λ x. elim (x.nr.0 == job.doc.0) as (λ b. (let y : Document = cond b (record x { is_discarded = true }) x in y).is_discarded ≡ false → x.is_discarded ≡ false) [ true ↦ (λ e. cc) | false ↦ (λ e. e) ];
+        unmade = λ doc x found kept. by_made doc x found (x.nr.0 == job.doc.0) refl kept;
+        names = plain_names job (λ nav state address initial made. (let never : tasks.Discard ≡ tasks.Populate nav state address initial = sym task ∙ made in cc));
         runs = λ doc x found shown. run_shown g x (by_test (λ y. y.view) (λ y. refl) x) shown;
         gone = λ doc x found gone. by_doc doc x found (x.nr.0 == job.doc.0) refl gone;
         wishes = sent_reads wish wish_blind s job job.task s.requests;
@@ -181,16 +215,25 @@ module _ (home : ProcId) (s : Seen) (event : ℕ) (actor : Actor) (there : AreTh
       by_test : {B : Type 0} (read : Document → B) → ((x : Document) → read (record x { is_discarded = true }) ≡ read x) → (x : Document) → read (g x) ≡ read x
       by_test read same x = elim (x.nr.0 == job.doc.0) as (λ b. read (let y : Document = cond b (record x { is_discarded = true }) x in y) ≡ read x) [ true ↦ same x | false ↦ refl ]
 
-      by_doc : (doc : DocId) (x : Document) → document_of s doc ≡ Some x → (b : Bool) → (x.nr.0 == job.doc.0) ≡ b → (let y : Document = cond b (record x { is_discarded = true }) x in y).is_discarded ≡ true → (x.is_discarded ≡ true) ⊎ (has_row x.nav s.history.rows ≡ false)
-      by_doc doc x found false e gone = inl gone
-      by_doc doc x found true e gone =
+      -- the order's own document
+      its_own : (doc : DocId) (x : Document) → document_of s doc ≡ Some x → (x.nr.0 == job.doc.0) ≡ true → document_of s job.doc ≡ Some x
+      its_own doc x found e =
           let number : x.nr.0 ≡ doc.0 = seen_number (λ (y : Document). y.nr.0) doc.0 s.documents x found in
           let same : doc ≡ job.doc = doc_same doc job.doc (ap (λ (n : ℕ). n == job.doc.0) (sym number) ∙ e) in
-          inr (bare x (ap (λ (n : DocId). document_of s n) (sym same) ∙ found))
+          ap (λ (n : DocId). document_of s n) (sym same) ∙ found
 
-  -- a document more is to be made
-  pub making_lasting : (job : Job) (nav : NavId) (state : StateId) (address : List ℕ) (initial : Bool) → job.task ≡ tasks.Populate nav state address initial → IsLasting (next s event actor (rows.Sent job))
-  making_lasting job nav state address initial task =
+      by_doc : (doc : DocId) (x : Document) → document_of s doc ≡ Some x → (b : Bool) → (x.nr.0 == job.doc.0) ≡ b → (let y : Document = cond b (record x { is_discarded = true }) x in y).is_discarded ≡ true → (x.is_discarded ≡ true) ⊎ (has_row x.nav s.history.rows ≡ false)
+      by_doc doc x found false e gone = inl gone
+      by_doc doc x found true e gone = inr (bare x (its_own doc x found e))
+
+      by_made : (doc : DocId) (x : Document) → document_of s doc ≡ Some x → (b : Bool) → (x.nr.0 == job.doc.0) ≡ b → IsKeptUnmade x → IsKeptUnmade (let y : Document = cond b (record x { is_discarded = true }) x in y)
+      by_made doc x found false e kept = kept
+      by_made doc x found true e kept =
+          λ unready. (let never : true ≡ false = sym (ready x (its_own doc x found e)) ∙ unready in cc)
+
+  -- a document more is to be made, under the next number, of a state whose documents are discarded
+  pub making_lasting : (job : Job) (nav : NavId) (state : StateId) (address : List ℕ) (initial : Bool) → job.task ≡ tasks.Populate nav state address initial → job.doc.0 ≡ length s.documents + 1 → ((doc : DocId) (d : Document) → document_of s doc ≡ Some d → d.state ≡ state → d.is_discarded ≡ true) → IsLasting (next s event actor (rows.Sent job))
+  making_lasting job nav state address initial task next_ bare =
       record {
         shown = λ doc x found. shown_by doc x (found_in doc x found);
         made = subst (λ (l : List Asked). EachAsked (λ (req : ReqId) (q : Asked). IsMadeShown (wish q)) l) (sym requests_) is.made;
@@ -199,6 +242,10 @@ module _ (home : ProcId) (s : Seen) (event : ℕ) (actor : Actor) (there : AreTh
         taken = λ n place req found taken.
             (let w = sent_takers s job job.task n place req found taken in is.taken n w.before req w.there w.taken);
         gone = λ doc x found gone. gone_by doc x gone (found_in doc x found);
+        populates = λ proc. subst (λ (l : List Document). NameTheirStates l (desk_of (next s event actor (rows.Sent job)) proc)) (sym documents_)
+            (sent_names s event actor job (s.documents ++ new ∷ []) its_state proc (names_more s.documents (new ∷ []) (desk_of s proc) (is.populates proc)));
+        unmade = λ doc x found. unmade_by doc x (found_in doc x found);
+        sole = λ doc other d o at_d at_o same there_d there_o. sole_by doc other d o same there_d there_o (found_in doc d at_d) (found_in other o at_o);
       }
     where
       new : Document
@@ -222,17 +269,53 @@ module _ (home : ProcId) (s : Seen) (event : ℕ) (actor : Actor) (there : AreTh
       gone_by doc x gone (inl old) = is.gone doc x old gone
       gone_by doc x gone (inr one) = (let never : false ≡ true = ap (λ (y : Document). y.is_discarded) one ∙ gone in absurd cc)
 
+      unmade_by : (doc : DocId) (x : Document) → (document_of s doc ≡ Some x) ⊎ (new ≡ x) → IsKeptUnmade x
+      unmade_by doc x (inl old) = is.unmade doc x old
+      unmade_by doc x (inr one) = subst IsKeptUnmade one (λ unready. refl)
+
+      -- the number is new
+      unused : document_of s job.doc ≡ None
+      unused = by_found (document_of s job.doc) refl
+        where
+          by_found : (o : Option Document) → document_of s job.doc ≡ o → document_of s job.doc ≡ None
+          by_found None e = e
+          by_found (Some x) e =
+              let low : x.nr.0 ≤ length s.documents = (there job.doc x e).number in
+              let number : x.nr.0 ≡ job.doc.0 = seen_number (λ (y : Document). y.nr.0) job.doc.0 s.documents x e in
+              absurd (omega (arith, low, number, next_))
+
+      its_state : NamesItsState (s.documents ++ new ∷ []) job
+      its_state nav_ state_ address_ initial_ made =
+          let one : tasks.Populate nav state address initial ≡ tasks.Populate nav_ state_ address_ initial_ = sym task ∙ made in
+          record {
+            d = new;
+            found = find_last (λ (y : Document). y.nr.0 == job.doc.0) s.documents new unused (nat_eq_refl job.doc.0);
+            state_is = (let same : state ≡ state_ = cc in same);
+          }
+
+      -- an old document of the new one's state is discarded
+      never_both : (doc : DocId) (x : Document) → document_of s doc ≡ Some x → x.state ≡ state → x.is_discarded ≡ false → ⊥
+      never_both doc x old same there_ = (let never : true ≡ false = sym (bare doc x old same) ∙ there_ in cc)
+
+      sole_by : (doc other : DocId) (d o : Document) → o.state ≡ d.state → d.is_discarded ≡ false → o.is_discarded ≡ false → (document_of s doc ≡ Some d) ⊎ (new ≡ d) → (document_of s other ≡ Some o) ⊎ (new ≡ o) → o.nr ≡ d.nr
+      sole_by doc other d o same there_d there_o (inl old) (inl too) = is.sole doc other d o old too same there_d there_o
+      sole_by doc other d o same there_d there_o (inl old) (inr one) =
+          absurd (never_both doc d old (sym same ∙ sym (ap (λ (y : Document). y.state) one)) there_d)
+      sole_by doc other d o same there_d there_o (inr one) (inl old) =
+          absurd (never_both other o old (same ∙ sym (ap (λ (y : Document). y.state) one)) there_o)
+      sole_by doc other d o same there_d there_o (inr one) (inr two) = ap (λ (y : Document). y.nr) (sym two ∙ one)
+
   -- a traversal begins; a request ends but for a change
   pub started_lasting : (req : ReqId) (goal : Option Step) → IsLasting (next s event actor (rows.Started req goal))
   started_lasting req goal =
       quiet_lasting home s (next s event actor (rows.Started req goal)) there refl refl
       (reads_then wish s.requests (on_request req (λ q. record q { is_started = true; goal = goal }) s.requests) (next s event actor (rows.Started req goal)).requests (on_read wish s.requests req (λ q. record q { is_started = true; goal = goal }) (λ q. refl)) (on_read wish (on_request req (λ q. record q { is_started = true; goal = goal }) s.requests) req (request_begun s) (λ q. refl)))
-      refl is
+      refl (left_names s (next s event actor (rows.Started req goal)) (started_left s event actor req goal)) is
 
   pub refused_lasting : (req : ReqId) (reason : Denial) → IsLasting (next s event actor (rows.Refused req reason))
   refused_lasting req reason =
-      quiet_lasting home s (next s event actor (rows.Refused req reason)) there refl refl (on_read wish s.requests req (λ q. record q { ending = Some (endings.Refused reason) }) (λ q. refl)) refl is
+      quiet_lasting home s (next s event actor (rows.Refused req reason)) there refl refl (on_read wish s.requests req (λ q. record q { ending = Some (endings.Refused reason) }) (λ q. refl)) refl (left_names s (next s event actor (rows.Refused req reason)) (refused_left s event actor req reason)) is
 
   pub dropped_lasting : (req : ReqId) (cause : Cause) → IsLasting (next s event actor (rows.Dropped req cause))
   dropped_lasting req cause =
-      quiet_lasting home s (next s event actor (rows.Dropped req cause)) there refl refl (on_read wish s.requests req (λ q. record q { ending = Some (endings.Dropped cause) }) (λ q. refl)) refl is
+      quiet_lasting home s (next s event actor (rows.Dropped req cause)) there refl refl (on_read wish s.requests req (λ q. record q { ending = Some (endings.Dropped cause) }) (λ q. refl)) refl (left_names s (next s event actor (rows.Dropped req cause)) (dropped_left s event actor req cause)) is

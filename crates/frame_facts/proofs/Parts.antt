@@ -1,9 +1,10 @@
 -- How each part of what lasts is handed on, where documents, requests and navigables are changed one by one.
-use Rattle.frame_facts.specs.Lasting.{IsLasting, IsMadeShown, IsRunShown, PokesItsNav, Wish, wish}
+use Rattle.frame_facts.proofs.Naming.{LeavesNames, names_on}
+use Rattle.frame_facts.specs.Lasting.{AreSole, IsKeptUnmade, IsLasting, IsMadeShown, IsOfState, IsRunShown, NameTheirStates, PokesItsNav, Wish, wish}
 use Rattle.frame_tab.specs.Alive.{AreThere, HasPlace}
 use Rattle.home_facts.specs.Homes.{document_in}
 use Rattle.log_model.specs.History.{has_row}
-use Rattle.log_model.specs.Seen.{Asked, Document, Place, Seen, document_of, place_in, place_of, request_in}
+use Rattle.log_model.specs.Seen.{Asked, Desk, Document, Place, Seen, desk_of, document_of, place_in, place_of, request_in}
 use Rattle.plain_tab.specs.Calm.{EachAsked}
 use Rattle.request_facts.proofs.Readers.{SameReads}
 use Rattle.seen_laws.proofs.Keyed.{find_map}
@@ -13,6 +14,7 @@ use Rattle.tab_ids.specs.declared.DocId.{DocId}
 use Rattle.tab_ids.specs.declared.NavId.{NavId}
 use Rattle.tab_ids.specs.declared.ProcId.{ProcId}
 use Rattle.tab_ids.specs.declared.ReqId.{ReqId}
+use Rattle.tab_ids.specs.declared.StateId.{StateId}
 
 pub some_same : {A : Type 0} {a b : A} → (let o : Option A = Some a in o) ≡ Some b → a ≡ b
 some_same e = cc
@@ -70,6 +72,32 @@ pokes_more documents more w pokes doc is =
     let its = pokes doc is in
     record { d = its.d; found = find_front (λ (x : Document). x.nr.0 == doc.0) documents more its.d its.found; nav_is = its.nav_is }
 
+-- orders name their documents' states still
+pub names_map : (documents : List Document) (g : Document → Document) (desk : Desk) → ((x : Document) → (g x).nr ≡ x.nr) → ((x : Document) → (g x).state ≡ x.state) → NameTheirStates documents desk → NameTheirStates (map g documents) desk
+names_map documents g desk nr state =
+    names_on documents (map g documents) stay desk
+  where
+    stay : (doc : DocId) (st : StateId) → IsOfState documents doc st → IsOfState (map g documents) doc st
+    stay doc st its =
+        record {
+          d = g its.d;
+          found = in_map documents g doc nr ∙ ap (λ (o : Option Document). option_map g o) its.found;
+          state_is = state its.d ∙ its.state_is;
+        }
+
+pub names_more : (documents more : List Document) (desk : Desk) → NameTheirStates documents desk → NameTheirStates (documents ++ more) desk
+names_more documents more desk =
+    names_on documents (documents ++ more) (λ doc st its. record { d = its.d; found = find_front (λ (x : Document). x.nr.0 == doc.0) documents more its.d its.found; state_is = its.state_is }) desk
+
+-- a document state has one document still, where none is undone that was discarded
+pub sole_map : (documents : List Document) (g : Document → Document) → ((x : Document) → (g x).nr ≡ x.nr) → ((x : Document) → (g x).state ≡ x.state) → ((x : Document) → (g x).is_discarded ≡ false → x.is_discarded ≡ false) → AreSole documents → AreSole (map g documents)
+sole_map documents g nr state kept sole doc other d o at_d at_o same there_d there_o =
+    let w : WasIn documents g doc d = was_in documents g doc d nr at_d in
+    let v : WasIn documents g other o = was_in documents g other o nr at_o in
+    let states : v.old.state ≡ w.old.state = sym (state v.old) ∙ ap (λ (y : Document). y.state) v.new ∙ same ∙ sym (ap (λ (y : Document). y.state) w.new) ∙ state w.old in
+    let one : v.old.nr ≡ w.old.nr = sole doc other w.old v.old w.there v.there states (kept w.old (ap (λ (y : Document). y.is_discarded) w.new ∙ there_d)) (kept v.old (ap (λ (y : Document). y.is_discarded) v.new ∙ there_o)) in
+    sym (ap (λ (y : Document). y.nr) v.new) ∙ nr v.old ∙ one ∙ sym (nr w.old) ∙ ap (λ (y : Document). y.nr) w.new
+
 -- ---- who took a navigable's last entries
 
 pub record WasTakenIn (places : List Place) (nav : NavId) (req : ReqId) : Type 0 where
@@ -105,6 +133,10 @@ pub record LeavesLasting (s t : Seen) (g : Document → Document) : Type 0 where
   pub documents : t.documents ≡ map g s.documents
   pub nr : (x : Document) → (g x).nr ≡ x.nr
   pub nav : (x : Document) → (g x).nav ≡ x.nav
+  pub state : (x : Document) → (g x).state ≡ x.state
+  pub undone : (x : Document) → (g x).is_discarded ≡ false → x.is_discarded ≡ false
+  pub unmade : (doc : DocId) (x : Document) → document_of s doc ≡ Some x → IsKeptUnmade x → IsKeptUnmade (g x)
+  pub names : LeavesNames s t
   pub runs : (doc : DocId) (x : Document) → document_of s doc ≡ Some x → IsRunShown x → IsRunShown (g x)
   pub gone : (doc : DocId) (x : Document) → document_of s doc ≡ Some x → (g x).is_discarded ≡ true → (x.is_discarded ≡ true) ⊎ (has_row x.nav s.history.rows ≡ false)
   pub wishes : SameReads wish s.requests t.requests
@@ -131,6 +163,11 @@ module _ (home : ProcId) (s t : Seen) (g : Document → Document) (there : AreTh
             let nav_is : w.old.nav ≡ x.nav = sym (leaves.nav w.old) ∙ ap (λ (y : Document). y.nav) w.new in
             subst (λ (n : NavId). has_row n t.history.rows ≡ false) nav_is
             (leaves.bare w.old.nav (there doc w.old w.there).placed (by_gone doc w.old w.there (leaves.gone doc w.old w.there (ap (λ (y : Document). y.is_discarded) w.new ∙ discarded)))));
+        populates = λ proc. subst (λ (l : List Document). NameTheirStates l (desk_of t proc)) (sym leaves.documents) (names_map s.documents g (desk_of t proc) leaves.nr leaves.state (leaves.names s.documents proc (is.populates proc)));
+        unmade = λ doc x found.
+            (let w = was doc x found in
+            subst IsKeptUnmade w.new (leaves.unmade doc w.old w.there (is.unmade doc w.old w.there)));
+        sole = subst AreSole (sym leaves.documents) (sole_map s.documents g leaves.nr leaves.state leaves.undone is.sole);
       }
     where
       by_gone : (doc : DocId) (x : Document) → document_of s doc ≡ Some x → (x.is_discarded ≡ true) ⊎ (has_row x.nav s.history.rows ≡ false) → has_row x.nav s.history.rows ≡ false

@@ -294,8 +294,14 @@ module _ (e : InEvent) (out : List RowKind) (t : Tables) (hand : List Made) (pas
         on_log : (P : Seen → Type 0) → P (next s e.event e.actor row) → P (now_of e (out ++ row ∷ []))
         on_log P p = subst P (sym (now_more e out row)) p
 
+        its_own : (d : Document) → document_of s doc ≡ Some d → d ≡ it.d
+        its_own d found = (let both_ : Some d ≡ Some it.d = sym found ∙ it.found in let one : d ≡ it.d = cc in one)
+
         bare : (d : Document) → document_of s doc ≡ Some d → has_row d.nav s.history.rows ≡ false
-        bare d found = bare_by t.home t.running hand s pass.tab doc d found (let both_ : Some it.d ≡ Some d = sym it.found ∙ found in let one : it.d ≡ d = cc in ap (λ (x : Document). has_state x.state s.history.rows) (sym one) ∙ it.bare)
+        bare d found = bare_by t.home t.running hand s pass.tab doc d found (ap (λ (x : Document). has_state x.state s.history.rows) (its_own d found) ∙ it.bare)
+
+        ready : (d : Document) → document_of s doc ≡ Some d → d.is_ready ≡ true
+        ready d found = ap (λ (x : Document). x.is_ready) (its_own d found) ∙ it.ready
 
         -- it is discarded for no traversal
         stays : ServesNoneToBegin s (whys.Req by)
@@ -307,7 +313,7 @@ module _ (e : InEvent) (out : List RowKind) (t : Tables) (hand : List Made) (pas
             absurd cc
 
         rest_then : IsRest t.running (next s e.event e.actor row)
-        rest_then = discarded_rest t.home t.running hand s e.event e.actor pass.tab rest (order doc by) refl bare stays
+        rest_then = discarded_rest t.home t.running hand s e.event e.actor pass.tab rest (order doc by) refl ready bare stays
 
   -- in the words of the call
   pub record IsReadyToGo (state : StateId) (doc : DocId) (by : ReqId) (navs : List NavId) : Type 0 where

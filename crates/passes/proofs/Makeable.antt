@@ -98,7 +98,7 @@ module _ (e : InEvent) (out : List RowKind) (t : Tables) (hand : List Made) (pas
       by_tests false r gone dead again is a b = absurd cc
 
   -- each document of the state is discarded
-  each_gone : (doc : DocId) (d : Document) → document_of s doc ≡ Some d → d.state ≡ target.state → d.is_discarded ≡ true
+  pub each_gone : (doc : DocId) (d : Document) → document_of s doc ≡ Some d → d.state ≡ target.state → d.is_discarded ≡ true
   each_gone doc d found is =
       let there : Has s.documents d = (find_has (λ (x : Document). x.nr.0 == doc.0) s.documents d found).0 in
       let same : (d.state.0 == target.state.0) ≡ true = ap (λ (x : StateId). x.0 == target.state.0) is ∙ nat_eq_refl target.state.0 in

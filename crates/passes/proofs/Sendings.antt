@@ -28,7 +28,8 @@ use Rattle.passes.specs.Serving.{IsServable, MayCause}
 use Rattle.passes.specs.Settling.{AreSteps, IsSettling}
 use Rattle.passes.specs.Sweeping.{NoTraversalAdded, NoTraversalTook}
 use Rattle.seen_laws.specs.InEvent.{InEvent, now_of}
-use Rattle.std.proofs.Common.{Bool, List, Option, Some, false, inr, map, refl, subst, sym, ℕ, ◌≡◌, ◌≤◌}
+use Rattle.std.proofs.Common.{Bool, List, Option, Some, false, inr, length, map, refl, subst, sym, true, ℕ, ◌+◌, ◌≡◌, ◌≤◌}
+use Rattle.tab_ids.specs.declared.DocId.{DocId}
 use Rattle.tab_ids.specs.declared.EntryId.{EntryId}
 use Rattle.tab_ids.specs.declared.Epoch.{Epoch}
 use Rattle.tab_ids.specs.declared.NavId.{NavId}
@@ -100,15 +101,15 @@ module _ (home : ProcId) (run : Option ReqId) (hand : List Made) (s : Seen) (eve
       order_rest (subst (λ (t : Task). map blur (requests_sent s job t s.requests) ≡ map blur s.requests) (sym task) refl)
       (told_lasting home s event actor tab.framed.documents is.lasting job long at task) (told_moves home s event actor tab.framed.documents is.moves job long at task)
 
-  pub making_rest : (nav : NavId) (state : StateId) (address : List ℕ) (initial : Bool) → job.task ≡ tasks.Populate nav state address initial → IsRest run sent
-  making_rest nav state address initial task =
+  pub making_rest : (nav : NavId) (state : StateId) (address : List ℕ) (initial : Bool) → job.task ≡ tasks.Populate nav state address initial → job.doc.0 ≡ length s.documents + 1 → ((doc : DocId) (d : Document) → document_of s doc ≡ Some d → d.state ≡ state → d.is_discarded ≡ true) → IsRest run sent
+  making_rest nav state address initial task next_ bare =
       order_rest (subst (λ (t : Task). map blur (requests_sent s job t s.requests) ≡ map blur s.requests) (sym task) refl)
-      (making_lasting home s event actor tab.framed.documents is.lasting job nav state address initial task) (making_moves home s event actor tab.framed.documents is.moves job nav state address initial task)
+      (making_lasting home s event actor tab.framed.documents is.lasting job nav state address initial task next_ bare) (making_moves home s event actor tab.framed.documents is.moves job nav state address initial task)
 
-  pub discarded_rest : job.task ≡ tasks.Discard → ((d : Document) → document_of s job.doc ≡ Some d → has_row d.nav s.history.rows ≡ false) → ServesNoneToBegin s job.why → IsRest run sent
-  discarded_rest task bare none =
+  pub discarded_rest : job.task ≡ tasks.Discard → ((d : Document) → document_of s job.doc ≡ Some d → d.is_ready ≡ true) → ((d : Document) → document_of s job.doc ≡ Some d → has_row d.nav s.history.rows ≡ false) → ServesNoneToBegin s job.why → IsRest run sent
+  discarded_rest task ready bare none =
       order_rest (subst (λ (t : Task). map blur (requests_sent s job t s.requests) ≡ map blur s.requests) (sym task) (on_served_blur job.why (request_served s job tasks.Discard) s.requests (λ q. refl)))
-      (discarded_lasting home s event actor tab.framed.documents is.lasting job task bare) (discarded_moves home s event actor tab.framed.documents is.moves job task (inr none))
+      (discarded_lasting home s event actor tab.framed.documents is.lasting job task ready bare) (discarded_moves home s event actor tab.framed.documents is.moves job task (inr none))
 
   pub shown_rest : (d : Document) → document_of s job.doc ≡ Some d → (entry : EntryId) (epoch : Epoch) (long at : ℕ) (memo : Option (List ℕ)) (address : List ℕ) → job.task ≡ tasks.Activate entry epoch long at memo address → ServesNoneToBegin s job.why → IsRest run sent
   shown_rest d found entry epoch long at memo address task none =

@@ -1,0 +1,13 @@
+pub mod Asks
+pub mod Began
+pub mod Causes
+pub mod Changes
+pub mod Dones
+pub mod Ended
+pub mod Goes
+pub mod Lastings
+pub mod Mades
+pub mod Opened
+pub mod Parks
+pub mod Placings
+pub mod Reports
