@@ -11,7 +11,7 @@ last line feed. What is worked by hand stands in the case: `bad=L` is the line o
     play, play log,      the program's call, over a source and a sink that move 16 bytes a call
     make N
     faults WORDS         the call, with each call of its sink failing in turn
-    scenario [one|run]   a scenario is read and printed: all lines, those of one document, those where threads run
+    scenario [one|run]   a scenario is read and printed: all lines, those of a tab of frames, those where threads run
     log                  a log is read and printed
     moments              a log is asked after each of its rows, the last one first
     views                a document's view acts on each accepted poke of a log, and does each order that is sent

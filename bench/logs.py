@@ -1,11 +1,11 @@
 #!/usr/bin/env python3
-"""Compares the logs and reports that the proved program prints of random scenarios of one document with those of the
-plain model, byte for byte.
+"""Compares the logs and reports that the proved program prints of random scenarios with those of the plain model, byte
+for byte.
 
-    python3 bench/logs.py MODEL [FIRST COUNT [PROGRAM]]
+    python3 bench/logs.py MODEL [FIRST COUNT [PROFILE [PROGRAM]]]
 
-MODEL is a folder with the plain model of the engine. The seeds are 1 to 300, or COUNT from FIRST on. The program is
-PROGRAM, or the proved one of this repository; each scenario is played with the words `play log`.
+MODEL is a folder with the plain model of the engine. The seeds are 1 to 300, or COUNT from FIRST on. PROFILE
+is `one_document`, or `frames` for a tab of frames. The program is PROGRAM, or the proved one of this repository; each scenario is played with the words `play log`.
 """
 import subprocess
 import sys
@@ -32,10 +32,10 @@ def first_difference(got: str, wanted: str) -> str:
     return "the lines are the same, their ends differ"
 
 
-def main(model: str, first: str = str(FIRST), count: str = str(COUNT), program: str = "") -> int:
+def main(model: str, first: str = str(FIRST), count: str = str(COUNT), profile: str = "one_document", program: str = "") -> int:
     program = program or proved_program([])
     agree, rows = 0, 0
-    for name, text, log, report in played(model, int(first), int(count)):
+    for name, text, log, report in played(model, int(first), int(count), profile):
         got = printed(program, text)
         if got != log + report:
             print(f"seed {name}: {first_difference(got, log + report)}")
@@ -46,4 +46,4 @@ def main(model: str, first: str = str(FIRST), count: str = str(COUNT), program: 
 
 
 if __name__ == "__main__":
-    sys.exit(main(*sys.argv[1:5]))
+    sys.exit(main(*sys.argv[1:6]))

@@ -1,6 +1,6 @@
-"""Random scenarios of one document with the reports of the plain model, as cases for the program.
+"""Random scenarios, of one document or another profile of the model, with the reports of the plain model, as cases for the program.
 
-    python3 bench/one_document.py MODEL FOLDER FIRST COUNT
+    python3 bench/one_document.py MODEL FOLDER FIRST COUNT [PROFILE]
 
 MODEL is a folder with the plain model of the engine. For each seed FOLDER gets a scenario, its report, and the
 program's word. To compare:
@@ -11,7 +11,7 @@ import os
 import sys
 
 
-def played(model, first, count):
+def played(model, first, count, profile='one_document'):
     """For each seed its name, the scenario, and the log and the report of the plain model, as texts."""
     sys.path.insert(0, model)
     import cases
@@ -21,7 +21,7 @@ def played(model, first, count):
     from engine import World
 
     for seed in range(first, first + count):
-        text = cases.one_document(seed, 'one_document')
+        text = cases.one_document(seed, profile) if profile == 'one_document' else cases.staged(seed, profile)
         read = scenario.read(text.encode())
         world = World(read.header)
         for line in read.lines:
@@ -37,10 +37,10 @@ def write_case(folder, name, contents):
             file.write(content)
 
 
-def main(model, folder, first, count):
-    for name, text, _, report in played(model, int(first), int(count)):
+def main(model, folder, first, count, profile='one_document'):
+    for name, text, _, report in played(model, int(first), int(count), profile):
         write_case(folder, name, {'': text, '.stdout': report, '.args': 'play\n'})
 
 
 if __name__ == '__main__':
-    main(*sys.argv[1:5])
+    main(*sys.argv[1:6])

@@ -12,4 +12,5 @@ pub use leave::leaving;
 pub use need::{Need, need_of};
 pub use order::walk;
 pub use planning::plan;
+pub use reach::{Reach, is_reached};
 pub use settling::settled;

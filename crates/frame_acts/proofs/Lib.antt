@@ -3,7 +3,6 @@ pub mod Standing
 pub mod Alone
 pub mod Orders
 pub mod Acts
-pub mod Reached
 pub mod Pokes
 pub mod EventLaws
 pub mod Homes

@@ -3,7 +3,7 @@ use Rattle.coord_facts.proofs.Held.{held_more}
 use Rattle.coord_facts.proofs.Unread.{next}
 use Rattle.frame_acts.proofs.Acts.{refused_left}
 use Rattle.frame_acts.proofs.Alone.{acted_numbered, acted_twice}
-use Rattle.frame_acts.proofs.Reached.{reached}
+use Rattle.frame_coord.proofs.Reached.{reached}
 use Rattle.frame_acts.proofs.Left.{IsLeft, LastsOn, lasts_so, left_then, plain_on}
 use Rattle.frame_acts.proofs.Standing.{stands_left}
 use Rattle.frame_coord.specs.Standing.{HasActed, StandsFor}

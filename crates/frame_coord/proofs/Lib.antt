@@ -11,3 +11,6 @@ pub mod Opened
 pub mod Parks
 pub mod Placings
 pub mod Reports
+pub mod Reached
+pub mod Poked
+pub mod ShownLaws

@@ -1,3 +1,4 @@
 pub mod Delivering
 pub mod Ready
 pub mod Standing
+pub mod Poking

@@ -3,6 +3,8 @@
 
 mod coordinator;
 mod delivering;
+mod poking;
 mod settled;
+mod showing;
 
 pub use coordinator::Coordinator;

@@ -2,7 +2,7 @@
 use Rattle.coord_facts.proofs.Unread.{accepted_left, next}
 use Rattle.frame_facts.proofs.Naming.{acted_names, delivered_names, finished_names, left_names, taken_names}
 use Rattle.frame_facts.proofs.Orders.{KeepsRuns, if_runs, mapped_lasting, on_takers, or_takers, quiet_lasting, run_shown, same_runs, unmade_runs, wish_blind}
-use Rattle.frame_facts.proofs.Parts.{TakersWere, WasIn, lasting_on, names_map, pokes_map, sole_map, some_same, takers_same, was_in}
+use Rattle.frame_facts.proofs.Parts.{TakersWere, WasIn, lasting_on, names_map, pokes_map, single_map, sole_map, some_same, takers_same, was_in}
 use Rattle.frame_facts.specs.Lasting.{IsKeptUnmade, IsLasting, IsMadeShown, IsOfItsNav, IsRunShown, NameTheirStates, PokesItsNav, Wish, wish}
 use Rattle.frame_tab.specs.Alive.{AreThere}
 use Rattle.log_model.specs.After.{new_request}
@@ -223,6 +223,7 @@ module _ (home : ProcId) (s : Seen) (event : ℕ) (actor : Actor) (there : AreTh
           unmade = λ of x at. (let w = was of x at in
               subst IsKeptUnmade w.new (λ unready. by_acts (λ z. z.is_discarded) (λ z o. refl) w.old ∙ is.unmade of w.old w.there (sym (by_acts (λ z. z.is_ready) (λ z o. refl) w.old) ∙ unready)));
           sole = sole_map s.documents acts (by_acts (λ z. z.nr) (λ z o. refl)) (by_acts (λ z. z.state) (λ z o. refl)) (λ x there_. sym (by_acts (λ z. z.is_discarded) (λ z o. refl) x) ∙ there_) is.sole;
+          single = single_map s.documents acts (by_acts (λ z. z.nr) (λ z o. refl)) (by_acts (λ z. z.nav) (λ z o. refl)) is.single;
         }
       where
         its_epoch : 1 ≤ made.epoch.0
@@ -248,6 +249,7 @@ module _ (home : ProcId) (s : Seen) (event : ℕ) (actor : Actor) (there : AreTh
         populates = λ proc. left_names s (next s event actor (rows.Accepted req doc what)) (accepted_left s event actor req doc what) s.documents proc (is.populates proc);
         unmade = is.unmade;
         sole = is.sole;
+        single = is.single;
       }
 
 -- ---- the tab opens
@@ -263,6 +265,7 @@ opened_lasting event actor entry state doc proc slot address =
       populates = λ p. none_named (first ∷ []) p (proc.0 == p.0);
       unmade = λ of x found unready. absurd (none_unmade of x (doc.0 == of.0) found unready);
       sole = λ of other d o at_d at_o same there_d there_o. ap (λ (y : Document). y.nr) (sym (is_first other o (doc.0 == other.0) at_o) ∙ is_first of d (doc.0 == of.0) at_d);
+      single = λ of other d o at_d at_o same. ap (λ (y : Document). y.nr) (sym (is_first other o (doc.0 == other.0) at_o) ∙ is_first of d (doc.0 == of.0) at_d);
     }
   where
     first : Document

@@ -231,9 +231,9 @@ module _ (home : ProcId) (s : Seen) (event : ℕ) (actor : Actor) (there : AreTh
       by_made doc x found true e kept =
           λ unready. (let never : true ≡ false = sym (ready x (its_own doc x found e)) ∙ unready in cc)
 
-  -- a document more is to be made, under the next number, of a state whose documents are discarded
-  pub making_lasting : (job : Job) (nav : NavId) (state : StateId) (address : List ℕ) (initial : Bool) → job.task ≡ tasks.Populate nav state address initial → job.doc.0 ≡ length s.documents + 1 → ((doc : DocId) (d : Document) → document_of s doc ≡ Some d → d.state ≡ state → d.is_discarded ≡ true) → IsLasting (next s event actor (rows.Sent job))
-  making_lasting job nav state address initial task next_ bare =
+  -- a document more is to be made, under the next number, of a state whose documents are discarded, and the first of its navigable
+  pub making_lasting : (job : Job) (nav : NavId) (state : StateId) (address : List ℕ) (initial : Bool) → job.task ≡ tasks.Populate nav state address initial → job.doc.0 ≡ length s.documents + 1 → ((doc : DocId) (d : Document) → document_of s doc ≡ Some d → d.state ≡ state → d.is_discarded ≡ true) → ((doc : DocId) (d : Document) → document_of s doc ≡ Some d → d.nav ≡ nav → ⊥) → IsLasting (next s event actor (rows.Sent job))
+  making_lasting job nav state address initial task next_ bare first =
       record {
         shown = λ doc x found. shown_by doc x (found_in doc x found);
         made = subst (λ (l : List Asked). EachAsked (λ (req : ReqId) (q : Asked). IsMadeShown (wish q)) l) (sym requests_) is.made;
@@ -246,6 +246,7 @@ module _ (home : ProcId) (s : Seen) (event : ℕ) (actor : Actor) (there : AreTh
             (sent_names s event actor job (s.documents ++ new ∷ []) its_state proc (names_more s.documents (new ∷ []) (desk_of s proc) (is.populates proc)));
         unmade = λ doc x found. unmade_by doc x (found_in doc x found);
         sole = λ doc other d o at_d at_o same there_d there_o. sole_by doc other d o same there_d there_o (found_in doc d at_d) (found_in other o at_o);
+        single = λ doc other d o at_d at_o same. single_by doc other d o same (found_in doc d at_d) (found_in other o at_o);
       }
     where
       new : Document
@@ -304,6 +305,14 @@ module _ (home : ProcId) (s : Seen) (event : ℕ) (actor : Actor) (there : AreTh
       sole_by doc other d o same there_d there_o (inr one) (inl old) =
           absurd (never_both other o old (same ∙ sym (ap (λ (y : Document). y.state) one)) there_o)
       sole_by doc other d o same there_d there_o (inr one) (inr two) = ap (λ (y : Document). y.nr) (sym two ∙ one)
+
+      single_by : (doc other : DocId) (d o : Document) → o.nav ≡ d.nav → (document_of s doc ≡ Some d) ⊎ (new ≡ d) → (document_of s other ≡ Some o) ⊎ (new ≡ o) → o.nr ≡ d.nr
+      single_by doc other d o same (inl old) (inl too) = is.single doc other d o old too same
+      single_by doc other d o same (inl old) (inr one) =
+          absurd (first doc d old (sym same ∙ sym (ap (λ (y : Document). y.nav) one)))
+      single_by doc other d o same (inr one) (inl old) =
+          absurd (first other o old (same ∙ sym (ap (λ (y : Document). y.nav) one)))
+      single_by doc other d o same (inr one) (inr two) = ap (λ (y : Document). y.nr) (sym two ∙ one)
 
   -- a traversal begins; a request ends but for a change
   pub started_lasting : (req : ReqId) (goal : Option Step) → IsLasting (next s event actor (rows.Started req goal))

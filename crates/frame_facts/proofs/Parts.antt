@@ -1,6 +1,6 @@
 -- How each part of what lasts is handed on, where documents, requests and navigables are changed one by one.
 use Rattle.frame_facts.proofs.Naming.{LeavesNames, names_on}
-use Rattle.frame_facts.specs.Lasting.{AreSole, IsKeptUnmade, IsLasting, IsMadeShown, IsOfState, IsRunShown, NameTheirStates, PokesItsNav, Wish, wish}
+use Rattle.frame_facts.specs.Lasting.{AreSingle, AreSole, IsKeptUnmade, IsLasting, IsMadeShown, IsOfState, IsRunShown, NameTheirStates, PokesItsNav, Wish, wish}
 use Rattle.frame_tab.specs.Alive.{AreThere, HasPlace}
 use Rattle.home_facts.specs.Homes.{document_in}
 use Rattle.log_model.specs.History.{has_row}
@@ -98,6 +98,15 @@ sole_map documents g nr state kept sole doc other d o at_d at_o same there_d the
     let one : v.old.nr ≡ w.old.nr = sole doc other w.old v.old w.there v.there states (kept w.old (ap (λ (y : Document). y.is_discarded) w.new ∙ there_d)) (kept v.old (ap (λ (y : Document). y.is_discarded) v.new ∙ there_o)) in
     sym (ap (λ (y : Document). y.nr) v.new) ∙ nr v.old ∙ one ∙ sym (nr w.old) ∙ ap (λ (y : Document). y.nr) w.new
 
+-- a navigable has one document still
+pub single_map : (documents : List Document) (g : Document → Document) → ((x : Document) → (g x).nr ≡ x.nr) → ((x : Document) → (g x).nav ≡ x.nav) → AreSingle documents → AreSingle (map g documents)
+single_map documents g nr nav single doc other d o at_d at_o same =
+    let w : WasIn documents g doc d = was_in documents g doc d nr at_d in
+    let v : WasIn documents g other o = was_in documents g other o nr at_o in
+    let navs : v.old.nav ≡ w.old.nav = sym (nav v.old) ∙ ap (λ (y : Document). y.nav) v.new ∙ same ∙ sym (ap (λ (y : Document). y.nav) w.new) ∙ nav w.old in
+    let one : v.old.nr ≡ w.old.nr = single doc other w.old v.old w.there v.there navs in
+    sym (ap (λ (y : Document). y.nr) v.new) ∙ nr v.old ∙ one ∙ sym (nr w.old) ∙ ap (λ (y : Document). y.nr) w.new
+
 -- ---- who took a navigable's last entries
 
 pub record WasTakenIn (places : List Place) (nav : NavId) (req : ReqId) : Type 0 where
@@ -168,6 +177,7 @@ module _ (home : ProcId) (s t : Seen) (g : Document → Document) (there : AreTh
             (let w = was doc x found in
             subst IsKeptUnmade w.new (leaves.unmade doc w.old w.there (is.unmade doc w.old w.there)));
         sole = subst AreSole (sym leaves.documents) (sole_map s.documents g leaves.nr leaves.state leaves.undone is.sole);
+        single = subst AreSingle (sym leaves.documents) (single_map s.documents g leaves.nr leaves.nav is.single);
       }
     where
       by_gone : (doc : DocId) (x : Document) → document_of s doc ≡ Some x → (x.is_discarded ≡ true) ⊎ (has_row x.nav s.history.rows ≡ false) → has_row x.nav s.history.rows ≡ false

@@ -1,4 +1,4 @@
--- What lasts in a tab of frames: documents act under an epoch under which they were shown, pokes are of the navigables of their documents, what is gone stays gone, and a document state has one document that is there.
+-- What lasts in a tab of frames: documents act under an epoch under which they were shown, pokes are of the navigables of their documents, what is gone stays gone, a document state has one document that is there, and a navigable has one document.
 -- HTML Standard, "attempt to populate the history entry's document", "destroy a document" and "destroy a child navigable"; epochs and orders are this project's own.
 use Rattle.coord_facts.specs.Leading.{orders_of_desk}
 use Rattle.frame_tab.specs.Alive.{EachThere}
@@ -89,6 +89,11 @@ abbrev pub AreSole : List Document → Type 0
 AreSole documents =
     (doc other : DocId) (d o : Document) → document_in documents doc ≡ Some d → document_in documents other ≡ Some o → o.state ≡ d.state → d.is_discarded ≡ false → o.is_discarded ≡ false → o.nr ≡ d.nr
 
+-- a navigable has one document
+abbrev pub AreSingle : List Document → Type 0
+AreSingle documents =
+    (doc other : DocId) (d o : Document) → document_in documents doc ≡ Some d → document_in documents other ≡ Some o → o.nav ≡ d.nav → o.nr ≡ d.nr
+
 -- all of it
 pub record IsLasting (s : Seen) : Type 0 where
   pub shown : EachThere IsRunShown s.documents
@@ -99,3 +104,4 @@ pub record IsLasting (s : Seen) : Type 0 where
   pub populates : (proc : ProcId) → NameTheirStates s.documents (desk_of s proc)
   pub unmade : EachThere IsKeptUnmade s.documents
   pub sole : AreSole s.documents
+  pub single : AreSingle s.documents

@@ -2,7 +2,7 @@
 use Rattle.doors.specs.declared.tables.Tables.{Tables}  -- keep
 use Rattle.doors.specs.Ties.{IsListed, IsOneSuch, is_doc}  -- keep
 use Rattle.doors.proofs.Sights.{IsSeen, seen_of, sight_of}  -- keep
-use Rattle.doors.proofs.Holding.{its_node}  -- keep
+use Rattle.doors.proofs.Holding.{HasNode, its_node}  -- keep
 use Rattle.doors.specs.Orders.{MayDiscard}  -- keep
 use Rattle.doors.specs.Working.{IsAtWork, KeepsStore}  -- keep
 use Rattle.coord.specs.Showing.{AreThere}  -- keep
@@ -21,7 +21,7 @@ use Rattle.frame_whole.specs.Tab.{AreAwakeWithRows, IsTab}  -- keep
 use Rattle.passes.proofs.Gone.{gone_counted, gone_fewer, gone_room, gone_servable, gone_tab, gone_top, gone_turn}  -- keep
 use Rattle.passes.proofs.Onlies.{only_one}  -- keep
 use Rattle.passes.proofs.Sleepers.{sleepers_same, sleepers_there}  -- keep
-use Rattle.passes.specs.Sweeping.{HasOnlyDiscarded, IsDiscardFor, IsSweepTurn, NoTraversalTook, NoneRowless, left_count, rowless_in, sleepers_in, taker_in, taker_of}  -- keep
+use Rattle.passes.specs.Sweeping.{HasOnlyDiscarded, IsDiscardFor, IsAdder, IsSweepTurn, NoTraversalAdded, NoTraversalTook, NoneRowless, discarder_in, discarder_of, discards_for, discards_in, left_count, rowless_in, sleepers_in}  -- keep
 use Rattle.seen_laws.proofs.InEvents.{now_more}  -- keep
 use Rattle.coord_facts.proofs.Unread.{next}
 use Rattle.doors.specs.Look.{Sight, is_live_for, look_of, sight}
@@ -41,8 +41,8 @@ use Rattle.log_model.specs.Equal.{holds}
 use Rattle.log_model.specs.History.{History, has_nav, has_row, has_state}
 use Rattle.log_model.specs.Order.{SameHistory}
 use Rattle.log_model.specs.Orders.{ongoing_load}
-use Rattle.log_model.specs.Places.{is_load, is_ongoing_load, is_traversal, is_under_way}
-use Rattle.log_model.specs.Seen.{Asked, Document, Seen, desk_of, request_in, request_of}
+use Rattle.log_model.specs.Places.{is_load, is_ongoing_load, is_traversal, is_under_way, top}
+use Rattle.log_model.specs.Seen.{Asked, Document, Seen, desk_of, place_of, request_in, request_of}
 use Rattle.log_model.specs.declared.job.Job.{Job}
 use Rattle.log_model.specs.declared.made.Made.{Made}
 use Rattle.log_model.specs.declared.request.Request.{Request}
@@ -63,6 +63,7 @@ use Rattle.std.specs.Prelude.{filter, find, is_some, nat_lt, option_and_then, op
 use Rattle.step_index.proofs.Counting.{any_counted}
 use Rattle.step_index.specs.Held.{history_held}
 use Rattle.tab_ids.specs.declared.DocId.{DocId}
+use Rattle.tab_ids.specs.declared.Epoch.{Epoch}
 use Rattle.tab_ids.specs.declared.NavId.{NavId}
 use Rattle.tab_ids.specs.declared.ProcId.{ProcId}
 use Rattle.tab_ids.specs.declared.ReqId.{ReqId}
@@ -146,38 +147,79 @@ module _ (e : InEvent) (out : List RowKind) (t : Tables) (hand : List Made) (pas
 
   -- ---- the request that it is discarded for
 
-  -- who took the last entries of its navigable is there, and is no traversal
+  -- it is there, and is no traversal
   pub record IsTaken (doc : DocId) (by : ReqId) : Type 0 where
     pub asked : Asked
     pub there : request_of s by ≡ Some asked
     pub stays : is_traversal asked.what ≡ false
-    pub of_log : taker_of s doc ≡ Some by
-    pub of_tables : taker_in t doc ≡ Some by
+    pub of_log : discarder_of s doc ≡ Some by
+    pub of_tables : discarder_in t doc ≡ Some by
 
-  its_taker : (state : StateId) (doc : DocId) → IsRowless state doc → NoTraversalTook s → (by : ReqId) × IsTaken doc by
-  its_taker state doc it none =
-      let has : HasPlace s.places it.d.nav = (pass.tab.framed.documents doc it.d it.found).placed in
-      let number : has.place.nav ≡ it.d.nav = found_nav s.places it.d.nav has.place has.found in
-      let bare : has_row has.place.nav s.history.rows ≡ false = ap (λ (n : NavId). has_row n s.history.rows) number ∙ bare_by t.home t.running hand s pass.tab doc it.d it.found it.bare in
-      let by : IsAskedBy s.requests has.place.taken_by = (pass.tab.framed.steady it.d.nav has.place has.found).taken bare in
-      let noted : lookup (is_doc doc) t.whose.entries ≡ Some it.d.nav = pass.work.holds.whose doc ∙ ap (λ (o : Option Sight). option_map (λ (x : Sight). x.nav) o) (sight_of s doc it.d it.found) in
-      let kept = its_node (look_of s t.running) t.tree it.d.nav has.place pass.work.holds.navs has.found in (
-        by.req,
-        record {
-          asked = by.q;
-          there = by.there;
-          stays = none it.d.nav has.place by.req by.q has.found bare by.is by.there;
-          of_log = rw it.found (rw has.found by.is);
-          of_tables = rw noted (rw kept.there (kept.tied.destroyed_by ∙ by.is));
-        },
-      )
+  its_taker : (state : StateId) (doc : DocId) → IsRowless state doc → NoTraversalTook s → NoTraversalAdded s → (by : ReqId) × IsTaken doc by
+  its_taker state doc it none add = by_epoch (has.place.epoch.0 == 0) refl
+    where
+      has : HasPlace s.places it.d.nav
+      has = (pass.tab.framed.documents doc it.d it.found).placed
 
-  pub taker_some : (state : StateId) (doc : DocId) → rowless_in (history_held t.store).rows t.tree state ≡ Some (state, doc) → NoTraversalTook s → is_some (taker_in t doc) ≡ true
-  taker_some state doc is none = ap (λ (o : Option ReqId). is_some o) (its_taker state doc (rowless_is state doc is) none).1.of_tables
+      number : has.place.nav ≡ it.d.nav
+      number = found_nav s.places it.d.nav has.place has.found
 
-  taker_is : (state : StateId) (doc : DocId) (by : ReqId) → IsRowless state doc → NoTraversalTook s → taker_in t doc ≡ Some by → IsTaken doc by
-  taker_is state doc by it none is =
-      let its = its_taker state doc it none in
+      bare : has_row has.place.nav s.history.rows ≡ false
+      bare = ap (λ (n : NavId). has_row n s.history.rows) number ∙ bare_by t.home t.running hand s pass.tab doc it.d it.found it.bare
+
+      noted : lookup (is_doc doc) t.whose.entries ≡ Some it.d.nav
+      noted = pass.work.holds.whose doc ∙ ap (λ (o : Option Sight). option_map (λ (x : Sight). x.nav) o) (sight_of s doc it.d it.found)
+
+      kept : HasNode (look_of s t.running) t.tree it.d.nav has.place
+      kept = its_node (look_of s t.running) t.tree it.d.nav has.place pass.work.holds.navs has.found
+
+      same_test : (kept.node.nav.epoch.0 == 0) ≡ (has.place.epoch.0 == 0)
+      same_test = ap (λ (x : Epoch). x.0 == 0) kept.tied.epoch
+
+      in_log : (by : Option ReqId) → discards_for has.place ≡ by → discarder_of s doc ≡ by
+      in_log by is = rw it.found (rw has.found is)
+
+      in_tables : (by : Option ReqId) → discards_in kept.node ≡ by → discarder_in t doc ≡ by
+      in_tables by is = rw noted (rw kept.there is)
+
+      -- the top was shown
+      not_top : (has.place.epoch.0 == 0) ≡ true → has.place.nav ≡ top → ⊥
+      not_top none_ is =
+          let one : 1 ≤ has.place.epoch.0 = pass.top_shown has.place (ap (λ (n : NavId). place_of s n) (sym is ∙ number) ∙ has.found) in
+          let zero_ : has.place.epoch.0 ≡ 0 = grind (arith, nat_tests, none_) in
+          absurd (omega (arith, one, zero_))
+
+      by_epoch : (b : Bool) → (has.place.epoch.0 == 0) ≡ b → (by : ReqId) × IsTaken doc by
+      by_epoch true e =
+          let by : IsAskedBy s.requests has.place.added_by = (pass.tab.framed.steady it.d.nav has.place has.found).added (not_top e) in
+          let its : IsAdder s by.req = add it.d.nav has.place by.req has.found by.is in (
+            by.req,
+            record {
+              asked = its.q;
+              there = its.there;
+              stays = its.stays;
+              of_log = in_log (Some by.req) (rw e by.is);
+              of_tables = in_tables (Some by.req) (rw (same_test ∙ e) (kept.tied.added_by ∙ by.is));
+            },
+          )
+      by_epoch false e =
+          let by : IsAskedBy s.requests has.place.taken_by = (pass.tab.framed.steady it.d.nav has.place has.found).taken bare in (
+            by.req,
+            record {
+              asked = by.q;
+              there = by.there;
+              stays = none it.d.nav has.place by.req by.q has.found bare by.is by.there;
+              of_log = in_log (Some by.req) (rw e by.is);
+              of_tables = in_tables (Some by.req) (rw (same_test ∙ e) (kept.tied.destroyed_by ∙ by.is));
+            },
+          )
+
+  pub taker_some : (state : StateId) (doc : DocId) → rowless_in (history_held t.store).rows t.tree state ≡ Some (state, doc) → NoTraversalTook s → NoTraversalAdded s → is_some (discarder_in t doc) ≡ true
+  taker_some state doc is none add = ap (λ (o : Option ReqId). is_some o) (its_taker state doc (rowless_is state doc is) none add).1.of_tables
+
+  taker_is : (state : StateId) (doc : DocId) (by : ReqId) → IsRowless state doc → NoTraversalTook s → NoTraversalAdded s → discarder_in t doc ≡ Some by → IsTaken doc by
+  taker_is state doc by it none add is =
+      let its = its_taker state doc it none add in
       let both_ : Some its.0 ≡ Some by = sym its.1.of_tables ∙ is in
       let same : its.0 ≡ by = cc in
       subst (λ (x : ReqId). IsTaken doc x) same its.1
@@ -324,10 +366,10 @@ module _ (e : InEvent) (out : List RowKind) (t : Tables) (hand : List Made) (pas
     pub there : AreThere (discarded state t.tree) navs
     pub done : (u : Tables) (new : List RowKind) → KeepsStore t u → new ≡ out ++ rows.Sent (order doc by) ∷ [] → IsAtWork e new u → IsGoneNow new u
 
-  pub ready_to_go : (state : StateId) (doc : DocId) → rowless_in (history_held t.store).rows t.tree state ≡ Some (state, doc) → IsServable s → IsRest t.running s → (by : ReqId) → taker_in t doc ≡ Some by → (navs : List NavId) → navs ≡ sleepers_in t.tree doc → IsReadyToGo state doc by navs
+  pub ready_to_go : (state : StateId) (doc : DocId) → rowless_in (history_held t.store).rows t.tree state ≡ Some (state, doc) → IsServable s → IsRest t.running s → (by : ReqId) → discarder_in t doc ≡ Some by → (navs : List NavId) → navs ≡ sleepers_in t.tree doc → IsReadyToGo state doc by navs
   ready_to_go state doc is servable rest by by_is navs are =
       let it = rowless_is state doc is in
-      let taken = taker_is state doc by it rest.took by_is in
+      let taken = taker_is state doc by it rest.took rest.added by_is in
       record {
         may = may_discard state doc by navs it taken are;
         known = (pass.tab.framed.asked.died t.home).0;

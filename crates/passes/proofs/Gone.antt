@@ -21,7 +21,7 @@ use Rattle.passes.proofs.Ordered.{discard_servable}
 use Rattle.passes.proofs.Servings.{asked_still, begun, blind, ended_same, length_same}
 use Rattle.passes.specs.Passing.{AreCounted, HasRoom, IsTopShown}
 use Rattle.passes.specs.Serving.{IsServable}
-use Rattle.passes.specs.Sweeping.{IsSweepTurn, left_count, taker_of}
+use Rattle.passes.specs.Sweeping.{IsSweepTurn, discarder_of, discards_for, left_count}
 use Rattle.request_facts.proofs.Readers.{sent_reads}
 use Rattle.seen_laws.proofs.Keyed.{find_map}
 use Rattle.std.proofs.Common.{Bool, List, None, Option, Some, [], ap, arith, cond, false, inl, inr, length, map, not, refl, subst, sym, true, ℕ, ◌+◌, ◌<◌, ◌==◌, ◌∙◌, ◌∷◌, ◌≡◌, ◌≤◌}
@@ -141,19 +141,19 @@ module _ (home : ProcId) (run : Option ReqId) (hand : List Made) (s : Seen) (eve
 
   -- ---- what it leaves
 
-  takers : (doc : DocId) → taker_of left_ doc ≡ taker_of s doc
-  takers doc =
-      ap (λ (o : Option Document). option_and_then (λ (p : Place). p.taken_by) (option_and_then (λ (x : Document). place_of left_ x.nav) o)) (document_now doc) ∙ by_document (document_of s doc)
+  discarders : (doc : DocId) → discarder_of left_ doc ≡ discarder_of s doc
+  discarders doc =
+      ap (λ (o : Option Document). option_and_then (λ (p : Place). discards_for p) (option_and_then (λ (x : Document). place_of left_ x.nav) o)) (document_now doc) ∙ by_document (document_of s doc)
     where
-      by_place : (o : Option Place) → option_and_then (λ (p : Place). p.taken_by) (option_map slept o) ≡ option_and_then (λ (p : Place). p.taken_by) o
+      by_place : (o : Option Place) → option_and_then (λ (p : Place). discards_for p) (option_map slept o) ≡ option_and_then (λ (p : Place). discards_for p) o
       by_place None = refl
-      by_place (Some p) = slept_reads (λ x. x.taken_by) (λ x. refl) p
+      by_place (Some p) = slept_reads (λ x. discards_for x) (λ x. refl) p
 
-      by_document : (o : Option Document) → option_and_then (λ (p : Place). p.taken_by) (option_and_then (λ (x : Document). place_of left_ x.nav) (option_map told o)) ≡ option_and_then (λ (p : Place). p.taken_by) (option_and_then (λ (x : Document). place_of s x.nav) o)
+      by_document : (o : Option Document) → option_and_then (λ (p : Place). discards_for p) (option_and_then (λ (x : Document). place_of left_ x.nav) (option_map told o)) ≡ option_and_then (λ (p : Place). discards_for p) (option_and_then (λ (x : Document). place_of s x.nav) o)
       by_document None = refl
       by_document (Some x) =
-          ap (λ (n : NavId). option_and_then (λ (p : Place). p.taken_by) (place_of left_ n)) (told_reads (λ y. y.nav) (λ y. refl) x)
-          ∙ ap (λ (o : Option Place). option_and_then (λ (p : Place). p.taken_by) o) (place_now x.nav)
+          ap (λ (n : NavId). option_and_then (λ (p : Place). discards_for p) (place_of left_ n)) (told_reads (λ y. y.nav) (λ y. refl) x)
+          ∙ ap (λ (o : Option Place). option_and_then (λ (p : Place). discards_for p) o) (place_now x.nav)
           ∙ by_place (place_of s x.nav)
 
   pub gone_turn : IsSweepTurn s left_
@@ -163,7 +163,7 @@ module _ (home : ProcId) (run : Option ReqId) (hand : List Made) (s : Seen) (eve
         parked = refl;
         joined = refl;
         causes = asked_still s left_ run gone_tab.framed.asked (λ req. sent_reads begun blind s job job.task s.requests req);
-        takers = takers;
+        discarders = discarders;
       }
 
   pub gone_fewer : left_count left_ < left_count s

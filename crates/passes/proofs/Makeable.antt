@@ -7,6 +7,7 @@ use Rattle.doors.specs.Look.{is_live_for, is_made_for, sight, sight_in}  -- keep
 use Rattle.doors.specs.Ties.{IsListed}  -- keep
 use Rattle.doors.proofs.Sights.{sight_found}  -- keep
 use Rattle.doors.specs.Orders.{next_order}  -- keep
+use Rattle.frame_facts.specs.Lasting.{AreGoneBare}
 use Rattle.passes.proofs.Needing.{IsNeeding}  -- keep
 use Rattle.passes.proofs.Showable.{up}  -- keep
 use Rattle.passes.proofs.Stand.{stand_for}  -- keep
@@ -122,6 +123,15 @@ module _ (e : InEvent) (out : List RowKind) (t : Tables) (hand : List Made) (pas
   has_one : has_row needing.place.nav s.history.rows ≡ true
   has_one =
       has_any (is_of needing.place.nav) s.history.rows target its.there (subst (λ (n : NavId). (target.nav.0 == n.0) ≡ true) (its.nav_is ∙ sym needing.nav_is) (nat_eq_refl target.nav.0))
+
+  -- it has no document yet, since that one would be discarded, and the navigable without an entry
+  pub none_before : AreGoneBare s → (doc : DocId) (d : Document) → document_of s doc ≡ Some d → d.nav ≡ nav → ⊥
+  none_before gone_bare doc d found is =
+      let state : target.state ≡ d.state = (pass.tab.framed.stated.documents doc d found).rows_ target its.there (its.nav_is ∙ sym is) in
+      let gone : d.is_discarded ≡ true = each_gone doc d found (sym state) in
+      let none : has_row d.nav s.history.rows ≡ false = gone_bare doc d found gone in
+      let one : has_row d.nav s.history.rows ≡ true = subst (λ (n : NavId). has_row n s.history.rows ≡ true) (needing.nav_is ∙ sym is) has_one in
+      let never : true ≡ false = sym one ∙ none in cc
 
   -- it isn't the top
   not_top : nav ≡ top → ⊥

@@ -101,10 +101,10 @@ module _ (home : ProcId) (run : Option ReqId) (hand : List Made) (s : Seen) (eve
       order_rest (subst (λ (t : Task). map blur (requests_sent s job t s.requests) ≡ map blur s.requests) (sym task) refl)
       (told_lasting home s event actor tab.framed.documents is.lasting job long at task) (told_moves home s event actor tab.framed.documents is.moves job long at task)
 
-  pub making_rest : (nav : NavId) (state : StateId) (address : List ℕ) (initial : Bool) → job.task ≡ tasks.Populate nav state address initial → job.doc.0 ≡ length s.documents + 1 → ((doc : DocId) (d : Document) → document_of s doc ≡ Some d → d.state ≡ state → d.is_discarded ≡ true) → IsRest run sent
-  making_rest nav state address initial task next_ bare =
+  pub making_rest : (nav : NavId) (state : StateId) (address : List ℕ) (initial : Bool) → job.task ≡ tasks.Populate nav state address initial → job.doc.0 ≡ length s.documents + 1 → ((doc : DocId) (d : Document) → document_of s doc ≡ Some d → d.state ≡ state → d.is_discarded ≡ true) → ((doc : DocId) (d : Document) → document_of s doc ≡ Some d → d.nav ≡ nav → ⊥) → IsRest run sent
+  making_rest nav state address initial task next_ bare first =
       order_rest (subst (λ (t : Task). map blur (requests_sent s job t s.requests) ≡ map blur s.requests) (sym task) refl)
-      (making_lasting home s event actor tab.framed.documents is.lasting job nav state address initial task next_ bare) (making_moves home s event actor tab.framed.documents is.moves job nav state address initial task)
+      (making_lasting home s event actor tab.framed.documents is.lasting job nav state address initial task next_ bare first) (making_moves home s event actor tab.framed.documents is.moves job nav state address initial task)
 
   pub discarded_rest : job.task ≡ tasks.Discard → ((d : Document) → document_of s job.doc ≡ Some d → d.is_ready ≡ true) → ((d : Document) → document_of s job.doc ≡ Some d → has_row d.nav s.history.rows ≡ false) → ServesNoneToBegin s job.why → IsRest run sent
   discarded_rest task ready bare none =

@@ -27,7 +27,7 @@ use Rattle.doors.specs.Ties.{IsListed, IsOneSuch}  -- keep
 use Rattle.doors.proofs.Sights.{IsSeen, seen_of}  -- keep
 use Rattle.passes.proofs.Needing.{IsNeeding, NeedsIt, aims, need_here, needs_it}  -- keep
 use Rattle.passes.proofs.Showable.{IsLiveHere, live_here, may_show, show_job, show_of}  -- keep
-use Rattle.passes.proofs.Makeable.{each_gone, make_due, make_job, unknown, known}  -- keep
+use Rattle.passes.proofs.Makeable.{each_gone, make_due, make_job, none_before, unknown, known}  -- keep
 use Rattle.passes.proofs.Servings.{make_counted, make_room, make_servable, make_top, make_turn, show_counted, show_room, show_servable, show_top, show_turn, turn_none}  -- keep
 use Rattle.passes.proofs.Stand.{stand_for}  -- keep
 use Rattle.passes.proofs.Goings.{show_causes}  -- keep
@@ -151,7 +151,7 @@ module _ (e : InEvent) (out : List RowKind) (t : Tables) (hand : List Made) (pas
             absurd (omega (arith, low, number, next_))
 
     made_rest : IsRest t.running (next s e.event e.actor (rows.Sent made))
-    made_rest = making_rest t.home t.running hand s e.event e.actor pass.tab rest made nav needing.target.state needing.target.address true refl due.next (each_gone e out t hand pass nav needing bare unmade)
+    made_rest = making_rest t.home t.running hand s e.event e.actor pass.tab rest made nav needing.target.state needing.target.address true refl due.next (each_gone e out t hand pass nav needing bare unmade) (none_before e out t hand pass nav needing bare unmade rest.lasting.gone)
 
     pub make_done : (u : Tables) → KeepsStore t u → IsAtWork e made_out u → IsServedNow e out made_out u hand nav
     make_done u keeps work =

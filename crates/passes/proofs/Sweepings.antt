@@ -20,14 +20,14 @@ pub sweep_begins : (p : InPass) (t : Tables) (out : List RowKind) → IsSettling
 sweep_begins p t out settling =
     record {
       settling = settling;
-      turn = record { history = refl; parked = refl; joined = refl; causes = λ why may. may; takers = λ doc. refl };
+      turn = record { history = refl; parked = refl; joined = refl; causes = λ why may. may; discarders = λ doc. refl };
       only = only_none (IsDiscardFor (now_of p.event out)) out;
       kept = none_kept t;
     }
 
 -- who took a navigable's entries is the same after a turn
 for_before : (s t : Seen) → IsSweepTurn s t → (row : RowKind) → IsDiscardFor t row → IsDiscardFor s row
-for_before s t turn (rows.Sent job) is = (is.0, ap (λ (o : Option ReqId). option_map (λ (req : ReqId). whys.Req req) o) (sym (turn.takers job.doc)) ∙ is.1)
+for_before s t turn (rows.Sent job) is = (is.0, ap (λ (o : Option ReqId). option_map (λ (req : ReqId). whys.Req req) o) (sym (turn.discarders job.doc)) ∙ is.1)
 for_before s t turn _ never = absurd never
 
 pub sweep_goes_on : (p : InPass) (t : Tables) (was : List RowKind) (u : Tables) (out : List RowKind) (v : Tables) (then_out : List RowKind) → IsSweeping p t was u out → IsSettling p.event then_out v p.hand → IsSweepTurn (now_of p.event out) (now_of p.event then_out) → HasOnlyDiscarded (now_of p.event out) out then_out → KeepsStore u v → IsSweeping p t was v then_out
@@ -39,7 +39,7 @@ sweep_goes_on p t was u out v then_out so settling turn only keeps =
         parked = turn.parked ∙ so.turn.parked;
         joined = turn.joined ∙ so.turn.joined;
         causes = λ why may. turn.causes why (so.turn.causes why may);
-        takers = λ doc. turn.takers doc ∙ so.turn.takers doc;
+        discarders = λ doc. turn.discarders doc ∙ so.turn.discarders doc;
       };
       only = only_then (IsDiscardFor (now_of p.event was)) was out then_out so.only (only_as (IsDiscardFor (now_of p.event out)) (IsDiscardFor (now_of p.event was)) out then_out (for_before (now_of p.event was) (now_of p.event out) so.turn) only);
       kept = both_kept t u v so.kept keeps;

@@ -80,19 +80,25 @@ pub record IsAdder (s : Seen) (req : ReqId) : Type 0 where
 abbrev pub NoTraversalAdded : Seen → Type 0
 NoTraversalAdded s = (nav : NavId) (place : Place) (req : ReqId) → place_of s nav ≡ Some place → place.added_by ≡ Some req → IsAdder s req
 
--- the request that took the last entries of the document's navigable
-abbrev pub taker_of : Seen → DocId → Option ReqId
-taker_of s doc =
-    option_and_then (λ (place : Place). place.taken_by) (option_and_then (λ (d : Document). place_of s d.nav) (document_in_log s doc))
+-- a document without entries is discarded for the request that took the last entries of its navigable; but where none was ever shown there, for the one that added the navigable, for which the document was made
+abbrev pub discards_for : Place → Option ReqId
+discards_for place = if place.epoch.0 == 0 then place.added_by else place.taken_by
+
+-- that request, of the document's navigable
+abbrev pub discarder_of : Seen → DocId → Option ReqId
+discarder_of s doc = option_and_then discards_for (option_and_then (λ (d : Document). place_of s d.nav) (document_in_log s doc))
 
 -- the same, as the tables tell
-abbrev pub taker_in : Tables → DocId → Option ReqId
-taker_in t doc =
-    option_and_then (λ (node : Node). node.destroyed_by) (option_and_then (λ (nav : NavId). node_of nav t.tree) (lookup (is_doc doc) t.whose.entries))
+abbrev pub discards_in : Node → Option ReqId
+discards_in node = if node.nav.epoch.0 == 0 then node.nav.added_by else node.destroyed_by
 
--- the row is an order that discards a document, for the request that took the last entries of its navigable
+abbrev pub discarder_in : Tables → DocId → Option ReqId
+discarder_in t doc =
+    option_and_then discards_in (option_and_then (λ (nav : NavId). node_of nav t.tree) (lookup (is_doc doc) t.whose.entries))
+
+-- the row is an order that discards a document, for that request
 abbrev pub IsDiscardFor : Seen → RowKind → Type 0
-IsDiscardFor s (rows.Sent job) = (job.task ≡ tasks.Discard) × (option_map (λ (req : ReqId). whys.Req req) (taker_of s job.doc) ≡ Some job.why)
+IsDiscardFor s (rows.Sent job) = (job.task ≡ tasks.Discard) × (option_map (λ (req : ReqId). whys.Req req) (discarder_of s job.doc) ≡ Some job.why)
 IsDiscardFor s _ = ⊥
 
 -- nothing but such orders was put out
@@ -111,4 +117,4 @@ pub record IsSweepTurn (s t : Seen) : Type 0 where
   pub parked : t.parked ≡ s.parked
   pub joined : t.joined ≡ s.joined
   pub causes : (why : Why) → MayCause s why → MayCause t why
-  pub takers : (doc : DocId) → taker_of t doc ≡ taker_of s doc
+  pub discarders : (doc : DocId) → discarder_of t doc ≡ discarder_of s doc

@@ -12,7 +12,7 @@ ghost use Rattle.frame_whole.specs.Tab.{AreAwakeWithRows};
 ghost use Rattle.passes.specs.Passing.{InPass};
 ghost use Rattle.passes.specs.Serving.{IsSwept};
 ghost use Rattle.passes.specs.Settling.{IsSettling};
-ghost use Rattle.passes.specs.Sweeping.{HasOnlyDiscarded, IsSweepTurn, NoneRowless, left_count, taker_in, earlier, falls_below, is_below_in, rowless_in, sleepers_in, wakes_on};
+ghost use Rattle.passes.specs.Sweeping.{HasOnlyDiscarded, IsSweepTurn, NoneRowless, left_count, discarder_in, earlier, falls_below, is_below_in, rowless_in, sleepers_in, wakes_on};
 
 use address::OutOfMemory;
 use doors::Tables;
@@ -161,16 +161,30 @@ fn sleepers(alloc: Global, tree: &NavTree, doc: DocId) -> Result<Navs, OutOfMemo
     Ok(navs)
 }
 
-/// The request that took the last entries of the document's navigable.
-fn taker(tables: &Tables, doc: DocId) -> ReqId
-    requires { IsSome (taker_in tables.now doc) }
-    ensures { taker_in tables.now doc ≡ Some result }
+/// The request for which a document without entries is discarded: the one that took the last entries of its navigable; but where none was ever shown there, the one that added the navigable, for which the document was made.
+fn discards_for(tables: &Tables, doc: DocId) -> Option<ReqId>
+    ensures { result ≡ discarder_in tables.now doc }
 {
-    match tables.nav_of(doc) {
-        Some(nav) => match tables.tree.destroyed_by(nav) {
-            Some(by) => by,
-            None => unreachable!(),
-        },
+    let Some(nav) = tables.nav_of(doc) else {
+        return None;
+    };
+    let Some(fields) = tables.tree.nav(nav) else {
+        return None;
+    };
+    if fields.epoch.0 == 0 {
+        fields.added_by
+    } else {
+        tables.tree.destroyed_by(nav)
+    }
+}
+
+/// That request, which is there.
+fn discarder(tables: &Tables, doc: DocId) -> ReqId
+    requires { IsSome (discarder_in tables.now doc) }
+    ensures { discarder_in tables.now doc ≡ Some result }
+{
+    match discards_for(tables, doc) {
+        Some(by) => by,
         None => unreachable!(),
     }
 }
@@ -192,13 +206,13 @@ fn discard_one(
     ensures fewer { OnOk result (left_count (now_of p.event out.new) < left_count (now_of p.event out.old)) }
     ensures kept { OnOk result (KeepsStore tables.old tables.new) }
 {
-    let by = taker(tables, doc);
+    let by = discarder(tables, doc);
     let navs = sleepers(alloc, &tables.tree, doc)?;
     tables.discard(out, &navs, doc, state, by)?;
     Ok(())
 }
 
-/// Each document that is made and whose state has no entry any more is discarded, in the order of their numbers, for the request that took the last entries of its navigable. Who is awake on it falls asleep, with those below. HTML Standard, "destroy a document".
+/// Each document that is made and whose state has no entry any more is discarded, in the order of their numbers, for the request that took the last entries of its navigable, or, where none was ever shown there, for the one for which it was made. Who is awake on it falls asleep, with those below. HTML Standard, "destroy a document".
 pub fn sweep(alloc: Global, tables: &mut Tables, out: &mut Out) -> Result<(), OutOfMemory>
     ghost p: { InPass }
     requires settling { IsSettling p.event out.old tables.old p.hand }

@@ -1,6 +1,6 @@
 -- The views of the documents, by document: one that isn't there has none.
 -- This project's own.
-use Rattle.std.specs.Prelude.{◌≡◌, ◌+◌, ◌<◌, ◌^◌, ◌==◌, Bool, List, Option, Some, if◌then◌else◌}
+use Rattle.std.specs.Prelude.{◌≡◌, ◌+◌, ◌<◌, ◌^◌, ◌==◌, Bool, List, Option, None, Some, if◌then◌else◌}
 use Rattle.std.specs.Map.{lookup}
 use Rattle.tab_ids.specs.declared.DocId.{DocId}
 use Rattle.log_model.specs.declared.made.Made.{Made}
@@ -18,6 +18,10 @@ view_at views doc = lookup (is_doc doc) views
 -- the view of one document becomes this, and no other's changes
 abbrev pub Becomes : DocId → View → List (DocId × View) → List (DocId × View) → Type 0
 Becomes of view old new = (doc : DocId) → view_at new doc ≡ (if of.0 == doc.0 then Some view else view_at old doc)
+
+-- the document is gone and has no view, and no other's changes
+abbrev pub Goes : DocId → List (DocId × View) → List (DocId × View) → Type 0
+Goes of old new = (doc : DocId) → view_at new doc ≡ (if of.0 == doc.0 then None else view_at old doc)
 
 -- no view changes
 abbrev pub Stays : List (DocId × View) → List (DocId × View) → Type 0

@@ -3,7 +3,7 @@ ghost use Rattle.std.specs.Prelude.{◌≡◌, [], false, None, IfOk, IfSome, Is
 ghost use Rattle.doc_view.specs.Jobs.{IsForView, made_of_order};
 ghost use Rattle.std.specs.Option.{option_copied};
 ghost use Rattle.log_model.specs.Views.{after_task, made_by};
-ghost use Rattle.proc_tables.specs.Views.{Acts, Becomes, HasRoom, Stays, view_at};
+ghost use Rattle.proc_tables.specs.Views.{Acts, Becomes, Goes, HasRoom, Stays, view_at};
 
 use address::OutOfMemory;
 use doc_view::{ActError, View};
@@ -76,6 +76,13 @@ impl Views {
     {
         do_in(&mut self.views, job)
     }
+
+    /// A document is gone, and its view with it. Where it wasn't there, nothing changes.
+    pub fn remove(&mut self, doc: DocId)
+        ensures { Goes doc self.old self.new }
+    {
+        remove_in(&mut self.views, doc);
+    }
 }
 
 fn add_in(views: &mut IndexMap<DocId, View>, doc: DocId, view: View) -> Result<(), OutOfMemory>
@@ -111,4 +118,10 @@ fn do_in(views: &mut IndexMap<DocId, View>, job: &Job) -> Result<Option<Made>, O
         Some(view) => view.do_job(job),
         None => unreachable!(),
     }
+}
+
+fn remove_in(views: &mut IndexMap<DocId, View>, doc: DocId)
+    ensures { Goes doc views.old.entries views.new.entries }
+{
+    views.swap_remove(&doc);
 }

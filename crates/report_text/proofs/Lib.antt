@@ -1,2 +1,3 @@
 pub mod StoreReads
 pub mod WorldReport
+pub mod ShownNavs

@@ -1,7 +1,6 @@
 -- The report of a log, line by line.
 -- This project's own; the entries, the current step, length and index are the HTML Standard's, as the module on histories says.
 use Rattle.std.specs.Prelude.{ℕ, ◌+◌, Bool, true, false, ◌&&◌, ◌==◌, List, [], ◌∷◌, ◌++◌, flat_map, codes, decimal, Option, Some, None, if◌then◌else◌}
-use Rattle.std.specs.Option.{option_map_or}
 use Rattle.log_model.specs.declared.outcome.Cause.{Cause}
 use Rattle.log_model.specs.declared.outcome.Cause.TheVariants as causes
 use Rattle.log_model.specs.declared.outcome.Denial.{Denial}
@@ -10,13 +9,13 @@ use Rattle.log_model.specs.declared.outcome.Ending.{Ending}
 use Rattle.log_model.specs.declared.outcome.Ending.TheVariants as endings
 use Rattle.log_model.specs.declared.row.Row.{Row}
 use Rattle.log_model.specs.declared.row_kind.LogRow.{LogRow}
-use Rattle.log_model.specs.History.{same_entry, history_length, history_index, target_entry}
+use Rattle.log_model.specs.History.{History, same_entry, history_length, history_index, target_entry}
 use Rattle.log_model.specs.Order.{ordered}
 use Rattle.log_model.specs.Views.{View}
 use Rattle.log_model.specs.Seen.{Seen, Document, Asked}
 use Rattle.log_model.specs.Logs.{seen_of, is_quiet}
 use Rattle.log_model.specs.Equal.{holds}
-use Rattle.log_model.specs.Places.{top}
+use Rattle.log_model.specs.Places.{is_shown}
 use Rattle.log_model.specs.Formed.{running_documents}
 
 -- ---- words
@@ -96,26 +95,39 @@ abbrev pub one_is_at : Row → ℕ → ℕ → List Document → Bool
 one_is_at row length index (d ∷ []) = holds (is_at row length index) d.view
 one_is_at row length index _ = false
 
--- the line of the top navigable, with its target
-abbrev pub top_line : Seen → Row → List ℕ
-top_line s target =
+-- the line of a navigable, with its target
+abbrev pub nav_line : Seen → Row → List ℕ
+nav_line s target =
     let long = history_length s.history.rows in
     let at = history_index s.history.rows s.history.current in
-    if one_is_at target long at (running_documents s top)
-    then runs_line 0 target.step.0 long at else moves_line 0 target.step.0
+    if one_is_at target long at (running_documents s target.nav)
+    then runs_line target.nav.0 target.step.0 long at else moves_line target.nav.0 target.step.0
+
+-- the row is its navigable's target at the current step
+abbrev pub is_target : History → Row → Bool
+is_target history row =
+    holds (λ (target : Row). same_entry target.entry row.entry) (target_entry history.rows row.nav history.current)
+
+-- and the navigable is shown there
+abbrev pub is_shown_target : History → Row → Bool
+is_shown_target history row = is_target history row && is_shown history.rows history.current row.nav
+
+-- the line of the row's navigable, where the row is the target of a shown one
+abbrev pub shown_line : Seen → Row → List ℕ
+shown_line s row = if is_shown_target s.history row then nav_line s row else []
 
 -- the requests, numbered from here on
 abbrev pub request_lines : ℕ → List Asked → List ℕ
 request_lines nr [] = []
 request_lines nr (asked ∷ others) = request_line nr asked.ending ++ request_lines (nr + 1) others
 
--- the report of what a log has come to; the entries stand by navigable and then by step
+-- the report of what a log has come to; the entries stand by navigable and then by step, and so do the shown navigables, each with its target
 abbrev pub report_with : Seen → List ℕ
 report_with s =
     quiet_line (is_quiet s)
     ++ step_line s.history.current (history_length s.history.rows) (history_index s.history.rows s.history.current)
     ++ flat_map entry_line (ordered s.history.rows)
-    ++ option_map_or (top_line s) (target_entry s.history.rows top s.history.current) []
+    ++ flat_map (shown_line s) (ordered s.history.rows)
     ++ request_lines 1 s.requests
 
 -- the report of a log

@@ -100,17 +100,18 @@ fn put_address(out: &mut Vec<u8>, row: &Row) -> Result<(), OutOfMemory>
     Ok(())
 }
 
-/// The top navigable, whose document shows its target.
+/// A navigable whose document shows its target.
 pub(crate) fn put_runs(
     out: &mut Vec<u8>,
+    nav: u64,
     step: u64,
     length: u64,
     index: u64,
 ) -> Result<(), OutOfMemory>
-    ensures { OnOk result (out.new.items ≡ out.old.items ++ spec.runs_line 0 step length index) }
+    ensures { OnOk result (out.new.items ≡ out.old.items ++ spec.runs_line nav step length index) }
 {
     put(out, b"nav")?;
-    put_number(out, 0)?;
+    put_number(out, nav)?;
     put(out, b" runs")?;
     put_number(out, step)?;
     put_pair_line(out, length, index)?;
@@ -125,12 +126,12 @@ fn put_pair_line(out: &mut Vec<u8>, length: u64, index: u64) -> Result<(), OutOf
     Ok(())
 }
 
-/// The top navigable, which is on its way to its target.
-pub(crate) fn put_moves(out: &mut Vec<u8>, step: u64) -> Result<(), OutOfMemory>
-    ensures { OnOk result (out.new.items ≡ out.old.items ++ spec.moves_line 0 step) }
+/// A navigable that is on its way to its target.
+pub(crate) fn put_moves(out: &mut Vec<u8>, nav: u64, step: u64) -> Result<(), OutOfMemory>
+    ensures { OnOk result (out.new.items ≡ out.old.items ++ spec.moves_line nav step) }
 {
     put(out, b"nav")?;
-    put_number(out, 0)?;
+    put_number(out, nav)?;
     put(out, b" moves")?;
     put_number(out, step)?;
     put(out, b"\n")?;

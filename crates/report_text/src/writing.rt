@@ -1,11 +1,11 @@
 //! `report`, the report of a world's log.
-ghost use Rattle.std.specs.Prelude.{◌≡◌, ◌++◌, false, [], IfOk, OnOk, flat_map};
-ghost use Rattle.std.specs.Option.{option_copied, option_map_or};
+ghost use Rattle.std.specs.Prelude.{◌≡◌, ◌++◌, false, true, IfOk, OnOk, flat_map};
+ghost use Rattle.std.specs.Option.{option_copied};
 ghost use Rattle.log_model.specs.Equal.{holds};
-ghost use Rattle.log_model.specs.History.{history_length, history_index, target_entry};
+ghost use Rattle.log_model.specs.Formed.{running_documents};
+ghost use Rattle.log_model.specs.History.{history_length, history_index};
 ghost use Rattle.log_model.specs.Logs.{history_of, seen_of};
 ghost use Rattle.log_model.specs.Order.{ordered};
-ghost use Rattle.log_model.specs.Places.{top};
 ghost use Rattle.report_text.specs.Endings.{ending_lines};
 ghost use Rattle.report_text.specs.Reports as spec;
 
@@ -15,7 +15,6 @@ use doc_view::View;
 use entry_store::Store;
 use log_model::{Ending, Row, Rows};
 use std::alloc::Global;
-use tab_ids::NavId;
 use world::World;
 
 /// The report of a world's log. It is made of what the world keeps beside the log, so it reads no row again.
@@ -38,7 +37,7 @@ fn write(out: &mut Vec<u8>, world: &World) -> Result<(), OutOfMemory>
     put_quiet(out, world.is_quiet())?;
     put_step(out, at.step, at.length, at.index)?;
     put_entries(out, rows.as_slice())?;
-    put_top(out, world)?;
+    put_navs(out, world, rows.as_slice())?;
     put_endings(out, world)?;
     Ok(())
 }
@@ -103,43 +102,72 @@ fn put_requests(out: &mut Vec<u8>, endings: &[Option<Ending>]) -> Result<(), Out
     Ok(())
 }
 
-/// The line of the top navigable: its document shows its target, or is on its way there.
-fn put_top(out: &mut Vec<u8>, world: &World) -> Result<(), OutOfMemory>
+/// For each shown navigable, by number: its document shows its target, or is on its way there.
+fn put_navs(out: &mut Vec<u8>, world: &World, rows: &[Row]) -> Result<(), OutOfMemory>
     requires open { world.now.closed ≡ false }
-    ensures { OnOk result (out.new.items ≡ out.old.items ++ option_map_or (spec.top_line (seen_of world.now.log)) (target_entry (history_of world.now.log).rows top (history_of world.now.log).current) []) }
+    ensures { OnOk result (out.new.items ≡ out.old.items ++ flat_map (spec.shown_line (seen_of world.now.log)) rows.now) }
 {
-    match target(world) {
-        Some(row) => put_target(out, world, row),
-        None => Ok(()),
-    }
-}
-
-/// The row that is the top's target at the current step.
-fn target(world: &World) -> Option<&Row>
-    requires open { world.now.closed ≡ false }
-    ensures { option_copied result ≡ target_entry (history_of world.now.log).rows top (history_of world.now.log).current }
-{
-    let store = world.store();
-    match store.target(NavId(0), store.current()) {
-        Some(entry) => store.row(entry),
-        None => None,
-    }
-}
-
-/// The line of the top navigable with its target.
-fn put_target(out: &mut Vec<u8>, world: &World, row: &Row) -> Result<(), OutOfMemory>
-    requires open { world.now.closed ≡ false }
-    ensures { OnOk result (out.new.items ≡ out.old.items ++ spec.top_line (seen_of world.now.log) row.now) }
-{
-    let at = stands_at(world);
-    let step = u64::from(row.step.0);
-    let shown = is_shown(row, at, world.view(NavId(0)));
-    if shown {
-        put_runs(out, step, at.length, at.index)?;
-    } else {
-        put_moves(out, step)?;
+    for row in rows {
+        put_shown(out, world, row)?;
     }
     Ok(())
+}
+
+/// The line of a row's navigable, where the row is the target of a shown one.
+fn put_shown(out: &mut Vec<u8>, world: &World, row: &Row) -> Result<(), OutOfMemory>
+    requires open { world.now.closed ≡ false }
+    ensures { OnOk result (out.new.items ≡ out.old.items ++ spec.shown_line (seen_of world.now.log) row.now) }
+{
+    if !is_shown_target(world, row) {
+        return Ok(());
+    }
+    put_target(out, world, row)
+}
+
+/// Whether the row is the target of a shown navigable.
+fn is_shown_target(world: &World, row: &Row) -> bool
+    requires open { world.now.closed ≡ false }
+    ensures { result ≡ spec.is_shown_target (history_of world.now.log) row.now }
+{
+    is_target(world, row) && world.is_shown(row.nav)
+}
+
+/// Whether the row is its navigable's target at the current step.
+fn is_target(world: &World, row: &Row) -> bool
+    requires open { world.now.closed ≡ false }
+    ensures { result ≡ spec.is_target (history_of world.now.log) row.now }
+{
+    let store = world.store();
+    match store.target(row.nav, store.current()) {
+        Some(entry) => entry == row.entry,
+        None => false,
+    }
+}
+
+/// The line of a navigable with its target, which it shows or is on its way to.
+fn put_target(out: &mut Vec<u8>, world: &World, row: &Row) -> Result<(), OutOfMemory>
+    requires open { world.now.closed ≡ false }
+    requires target { spec.is_target (history_of world.now.log) row.now ≡ true }
+    ensures { OnOk result (out.new.items ≡ out.old.items ++ spec.nav_line (seen_of world.now.log) row.now) }
+{
+    let at = stands_at(world);
+    let nav = u64::from(row.nav.0);
+    let step = u64::from(row.step.0);
+    if shows(world, row, at) {
+        put_runs(out, nav, step, at.length, at.index)?;
+    } else {
+        put_moves(out, nav, step)?;
+    }
+    Ok(())
+}
+
+/// Whether exactly one document of a target's navigable runs, and shows the target with this length and index.
+fn shows(world: &World, row: &Row, at: Position) -> bool
+    requires open { world.now.closed ≡ false }
+    requires target { spec.is_target (history_of world.now.log) row.now ≡ true }
+    ensures { result ≡ spec.one_is_at row.now at.length at.index (running_documents (seen_of world.now.log) row.now.nav) }
+{
+    is_shown(row, at, world.view(row.nav))
 }
 
 /// Whether the view is at the row.

@@ -8,6 +8,8 @@ use Rattle.log_model.specs.declared.job.Job.{Job}
 use Rattle.log_model.specs.declared.job.Order.{Order}
 use Rattle.log_model.specs.declared.made.What.{What}
 use Rattle.log_model.specs.declared.request.Request.TheVariants as requests
+use Rattle.log_model.specs.declared.outcome.Denial.TheVariants as denials
+use Rattle.log_model.specs.declared.request.Poke.{Poke}
 use Rattle.log_model.specs.declared.row_kind.LogRow.{LogRow}
 use Rattle.log_model.specs.declared.row_kind.RowKind.{RowKind}
 use Rattle.log_model.specs.declared.row_kind.RowKind.TheVariants as rows
@@ -31,7 +33,7 @@ use Rattle.world.specs.declared.event.Reply.{Reply}
 use Rattle.world.specs.declared.event.Reply.TheVariants as replies
 use Rattle.world.specs.Kept.{WorldState}
 use Rattle.world.specs.Open.{view_in}
-use Rattle.world.specs.Steps.{actor_of, act_row, order_for, row_in, begin_idles, idle_reply, Begins, HasHappened, StepsAs, Steps}
+use Rattle.world.specs.Steps.{actor_of, act_row, acted_row, order_for, row_in, begin_idles, idle_reply, Begins, HasHappened, StepsAs, Steps}
 use Rattle.scenario_play.specs.Courses.{Leads, Cuts, Plays, line_of, order_of, IsOfHand}
 use Rattle.scenario_play.proofs.StepMoves.{idles_without}
 use Rattle.scenario_play.proofs.LeadLaws.{leads_none, leads_event, cuts_here, all_done, all_leads, all_cuts, all_then, all_cut, all_last, all_appended, all_appended_cut, all_cut_front}
@@ -91,11 +93,19 @@ own_is : (s : Seen) (event : Event) (reply : Reply) (own : RowKind) (out : List 
 own_is s (events.Go delta) reply own out begins = rw begins.1 (same_request_itself (requests.Go delta))
 own_is s (events.Poke nav action) reply own out begins = rw begins.1 (same_request_itself (requests.Poke nav action))
 own_is s (events.Act proc) reply own out begins =
-    of_some (slice_get (desk_of s proc).input 0) _ (λ poke shown. of_some (view_in s poke.doc) _ (λ view is. rw is (by_made view poke.req (made_by view poke.action))) shown) begins.2
+    of_some (slice_get (desk_of s proc).input 0) _ (λ poke is. rw is (by_view poke (view_in s poke.doc))) begins.2
   where
     by_made : (view : View) (req : ReqId) (made : Option What) → is_own (lines.Act proc) (act_row proc view req made) ≡ true
     by_made view req (Some what) = number_itself proc.0
     by_made view req None = refl
+
+    by_view : (poke : Poke) (o : Option View) → is_own (lines.Act proc) (acted_row proc poke o) ≡ true
+    by_view poke None = refl
+    by_view poke (Some view) =
+        elim view.running as (λ b. is_own (lines.Act proc) (if b then act_row proc view poke.req (made_by view poke.action) else rows.Refused poke.req denials.NoDocument) ≡ true) [
+          | true ↦ by_made view poke.req (made_by view poke.action)
+          | false ↦ refl
+        ]
 own_is s (events.Begin proc) reply own out begins =
     of_some (slice_get (desk_of s proc).mail 0) _ (λ job is. rw is.1 (number_itself proc.0)) begins.1
 own_is s (events.Finish proc done) reply own out begins =

@@ -1,5 +1,5 @@
 //! `play`, which makes the events of a scenario's lines.
-ghost use Rattle.std.specs.Prelude.{◌≡◌, All, false, None, IfErr, IfSome, IsSome, OnOk, length};
+ghost use Rattle.std.specs.Prelude.{◌≡◌, [], All, false, None, IfErr, IfSome, IsSome, OnOk, length};
 ghost use Rattle.scenario_text.specs.declared.line.ScenarioLine.TheVariants as lines;
 ghost use Rattle.log_model.specs.Suits.{Suits};
 ghost use Rattle.scenario_text.specs.Follows.{Follows, IsCutShort, does, plays, plays_line};
@@ -28,6 +28,7 @@ pub fn play(scenario: &Scenario, world: World) -> Played
     requires opened { length world.log ≡ 1 }
     requires header { world.header ≡ scenario.now.header }
     requires suits { Suits scenario.now.header world.log }
+    requires pages { scenario.now.header.pages ≡ [] }
     // A round of a settle has a turn of the document's process.
     requires turn { HasTurn (opening_process scenario.now.header) }
     requires built { All IsBuiltLine scenario.now.lines }

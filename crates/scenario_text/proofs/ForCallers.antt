@@ -42,10 +42,10 @@ NoPageCame places.Start = Unit {0}
 NoPageCame (places.Heading stage settings) = settings.pages ≡ []
 NoPageCame (places.Body header lines) = header.pages ≡ []
 
--- a scenario of one document names no page
-pub header_played : (in_run : Bool) (bytes : List ℕ) (scenario : Scenario) → scenario_of in_run builts.Document bytes ≡ Ok scenario → scenario.header.pages ≡ []
+-- a scenario of a tab of frames names no page
+pub header_played : (in_run : Bool) (bytes : List ℕ) (scenario : Scenario) → scenario_of in_run builts.Frames bytes ≡ Ok scenario → scenario.header.pages ≡ []
 header_played in_run bytes scenario read =
-    scenario_stays in_run builts.Document NoPageCame tt
+    scenario_stays in_run builts.Frames NoPageCame tt
     (record {
       version = refl;
       heading = λ stage settings none. record {

@@ -1,7 +1,10 @@
 -- Which lines a caller can play.
 -- This project's own.
 use Rattle.std.specs.Prelude.{Bool, true, false}
-use Rattle.log_model.specs.Entries.{is_request_of_document}
+use Rattle.log_model.specs.declared.action.Action.{Action}
+use Rattle.log_model.specs.declared.action.Action.TheVariants as actions
+use Rattle.log_model.specs.declared.request.Request.{Request}
+use Rattle.log_model.specs.declared.request.Request.TheVariants as requests
 use Rattle.scenario_text.specs.declared.built.Built.{Built}
 use Rattle.scenario_text.specs.declared.built.Built.TheVariants as builts
 use Rattle.scenario_text.specs.declared.line.ScenarioLine.{ScenarioLine}
@@ -19,20 +22,31 @@ is_step (lines.Finish proc) = true
 is_step (lines.Deliver proc) = true
 is_step _ = false
 
--- a line of back and forward in one document
-abbrev pub is_of_document : ScenarioLine → Bool
-is_of_document (lines.Ask request) = is_request_of_document request
-is_of_document lines.Settle = true
-is_of_document line = is_step line
+-- any action but an edit of the page
+abbrev pub is_no_edit : Action → Bool
+is_no_edit actions.Edit = false
+is_no_edit _ = true
+
+-- a request of a tab of frames: a traversal, or such an action of a document
+abbrev pub is_request_of_frames : Request → Bool
+is_request_of_frames (requests.Go delta) = true
+is_request_of_frames (requests.Poke nav action) = is_no_edit action
+is_request_of_frames _ = false
+
+-- a line of a tab of frames
+abbrev pub is_of_frames : ScenarioLine → Bool
+is_of_frames (lines.Ask request) = is_request_of_frames request
+is_of_frames lines.Settle = true
+is_of_frames line = is_step line
 
 -- the caller can play the line
 abbrev pub plays : Built → ScenarioLine → Bool
-plays builts.Document line = is_of_document line
+plays builts.Frames line = is_of_frames line
 plays builts.All line = true
 
--- the caller can play a header that has come so far: a tab of one document has no handlers yet
+-- the caller can play a header that has come so far: a tab of frames has no handlers yet
 abbrev pub plays_stage : Built → Stage → Bool
-plays_stage builts.Document stages.Page = false
+plays_stage builts.Frames stages.Page = false
 plays_stage _ _ = true
 
 -- the caller can play the line that leads here

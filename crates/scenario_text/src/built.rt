@@ -1,6 +1,5 @@
 //! `Built`, the lines that a caller can play.
 ghost use Rattle.std.specs.Prelude.{◌≡◌};
-ghost use Rattle.log_model.specs.Entries as entries;
 ghost use Rattle.scenario_text.specs.Plays as spec;
 
 use crate::line::ScenarioLine;
@@ -10,8 +9,8 @@ use log_model::{Action, Request};
 /// The lines that a caller can play; any other is refused as `unbuilt`, once it has no other fault.
 #[derive(Clone, Copy, PartialEq, Eq, Debug)]
 pub enum Built {
-    /// The lines of back and forward in one document: `go`, `push`, `replace`, `fragment`, `act`, `begin`, `finish`, `deliver` and `settle`.
-    Document,
+    /// The lines of a tab of frames: `go`, `push`, `replace`, `fragment`, `frame`, `remove`, `docgo`, `act`, `begin`, `finish`, `deliver` and `settle`.
+    Frames,
     /// All lines.
     All,
 }
@@ -22,7 +21,7 @@ impl Built {
         ensures { result ≡ spec.plays self line.now }
     {
         match self {
-            Built::Document => is_of_document(line),
+            Built::Frames => is_of_frames(line),
             Built::All => true,
         }
     }
@@ -41,8 +40,8 @@ impl Built {
         ensures { result ≡ spec.plays_stage self stage }
     {
         match (self, stage) {
-            (Built::Document, Stage::Page) => false,
-            (Built::Document, Stage::Version | Stage::Keep | Stage::Site) | (Built::All, _) => true,
+            (Built::Frames, Stage::Page) => false,
+            (Built::Frames, Stage::Version | Stage::Keep | Stage::Site) | (Built::All, _) => true,
         }
     }
 }
@@ -64,12 +63,12 @@ pub fn is_step(line: &ScenarioLine) -> bool
     }
 }
 
-/// Whether it is a line of back and forward in one document.
-fn is_of_document(line: &ScenarioLine) -> bool
-    ensures { result ≡ spec.is_of_document line.now }
+/// Whether it is a line of a tab of frames.
+fn is_of_frames(line: &ScenarioLine) -> bool
+    ensures { result ≡ spec.is_of_frames line.now }
 {
     match line {
-        ScenarioLine::Ask(request) => is_request_of_document(request),
+        ScenarioLine::Ask(request) => is_request_of_frames(request),
         ScenarioLine::Act { .. }
         | ScenarioLine::Begin { .. }
         | ScenarioLine::Finish { .. }
@@ -79,23 +78,26 @@ fn is_of_document(line: &ScenarioLine) -> bool
     }
 }
 
-fn is_request_of_document(request: &Request) -> bool
-    ensures { result ≡ entries.is_request_of_document request.now }
+fn is_request_of_frames(request: &Request) -> bool
+    ensures { result ≡ spec.is_request_of_frames request.now }
 {
     match request {
         Request::Go { .. } => true,
-        Request::Poke { action, .. } => is_change_of_entry(action),
+        Request::Poke { action, .. } => is_no_edit(action),
         Request::Load { .. } | Request::Reload { .. } => false,
     }
 }
 
-fn is_change_of_entry(action: &Action) -> bool
-    ensures { result ≡ entries.is_change_of_entry action.now }
+fn is_no_edit(action: &Action) -> bool
+    ensures { result ≡ spec.is_no_edit action.now }
 {
     match action {
-        Action::Push { .. } | Action::Replace { .. } | Action::Fragment { .. } => true,
-        Action::AddFrame { .. } | Action::RemoveFrame { .. } | Action::Go { .. } | Action::Edit => {
-            false
-        }
+        Action::Push { .. }
+        | Action::Replace { .. }
+        | Action::Fragment { .. }
+        | Action::AddFrame { .. }
+        | Action::RemoveFrame { .. }
+        | Action::Go { .. } => true,
+        Action::Edit => false,
     }
 }

@@ -55,12 +55,12 @@ pub fn play_call<S: Source, K: Sink>(
     // Where nothing is in the way, the call is done, or refuses what is no scenario.
     ensures done { (bytes : List ℕ) → (scenario : Scenario)
         → IsHeard (map (λ w. string_bytes w) words.now) bytes (S.left source.old) (S.faults source.old) (S.faults source.new) result.status
-        → scenario_of false builts.Document bytes ≡ Ok scenario
+        → scenario_of false builts.Frames bytes ≡ Ok scenario
         → IsUnhindered scenario (K.faults sink.old) (K.faults sink.new) result.log
         → result.status ≡ Status.Done }
     ensures refused { (bytes : List ℕ) → (refusal : Refusal)
         → IsHeard (map (λ w. string_bytes w) words.now) bytes (S.left source.old) (S.faults source.old) (S.faults source.new) result.status
-        → scenario_of false builts.Document bytes ≡ Err refusal
+        → scenario_of false builts.Frames bytes ≡ Err refusal
         → result.status ≡ Status.Scenario refusal }
     ensures made { (n : ℕ)
         → work_of (map (λ w. string_bytes w) words.now) ≡ Some (Work.Make n)
@@ -138,7 +138,7 @@ fn read_scenario<S: Source>(alloc: Global, source: &mut S) -> Result<Scenario, S
 fn spelled(alloc: Global, bytes: Vec<u8>) -> Result<Scenario, Status>
     ensures { SpellsAs result bytes.items }
 {
-    match Scenario::read_vec(alloc, bytes, false, Built::Document) {
+    match Scenario::read_vec(alloc, bytes, false, Built::Frames) {
         Ok(scenario) => Ok(scenario),
         Err(ScenarioError::Refused(refusal)) => Err(Status::Scenario(refusal)),
         Err(ScenarioError::UrlOverflow(overflowed)) => Err(Status::UrlOverflow(overflowed)),

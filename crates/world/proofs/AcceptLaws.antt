@@ -11,7 +11,6 @@ use Rattle.tab_ids.specs.declared.ReqId.{ReqId}
 use Rattle.log_model.specs.declared.action.Action.{Action}
 use Rattle.log_model.specs.declared.action.Action.TheVariants as acts
 use Rattle.log_model.specs.declared.header.Header.{Header}
-use Rattle.log_model.specs.declared.outcome.Denial.TheVariants as denials
 use Rattle.log_model.specs.declared.outcome.Ending.{Ending}
 use Rattle.log_model.specs.declared.outcome.Ending.TheVariants as ends
 use Rattle.log_model.specs.declared.request.Request.{Request}
@@ -21,29 +20,32 @@ use Rattle.log_model.specs.declared.row_kind.LogRow.{LogRow}
 use Rattle.log_model.specs.declared.row_kind.RowKind.{RowKind}
 use Rattle.log_model.specs.declared.row_kind.RowKind.TheVariants as rows
 use Rattle.log_model.specs.After.{after, new_request}
-use Rattle.log_model.specs.Entries.{HasPassed, is_change_of_entry}
+use Rattle.log_model.specs.Entries.{HasPassed}
+use Rattle.log_model.specs.Causes.{denial_of_poke}
+use Rattle.log_model.specs.declared.outcome.Denial.{Denial}
 use Rattle.log_model.specs.Logs.{seen_of}
-use Rattle.log_model.specs.Places.{top}
 use Rattle.log_model.specs.Seen.{Seen, Document, Desk, Asked, desk_of, document_of}
 use Rattle.history_log.proofs.DeskLaws.{desk_of-after, desk_poked, with_poke}
 use Rattle.proc_tables.specs.declared.item.Item.TheVariants as items
 use Rattle.proc_tables.specs.Desks.{Changes, desk_at, desk_noted, desk_with, on_proc}
 use Rattle.proc_tables.specs.Views.{view_at}
-use Rattle.plain_tab.specs.Calm.{IsPlainRequest}
-use Rattle.coord.specs.Standing.{HasActed}
-use Rattle.coord.specs.declared.coordinator.Coordinator.{Coordinator}
-use Rattle.coord.proofs.ActLaws.{poked_acted, stray_acted}
+use Rattle.frame_tab.specs.Asking.{IsNoEditing}
+use Rattle.seen_laws.specs.InEvent.{InEvent}
+use Rattle.frame_coord.specs.Standing.{HasActed, HasRoomFor, IsAsk, StandsFor}
+use Rattle.frame_coord.specs.declared.coordinator.Coordinator.{Coordinator}
+use Rattle.frame_acts.proofs.Pokes.{poked_acts, stray_acts}
 use Rattle.world.specs.declared.event.Event.TheVariants as events
 use Rattle.world.specs.declared.event.Reply.TheVariants as replies
 use Rattle.world.specs.declared.state.State.{State}
 use Rattle.world.specs.Asking.{event_of, asking}
 use Rattle.world.specs.Notes.{endings_noted, ended_in, row_with}
 use Rattle.world.specs.Open.{IsOpen, opening_process, row_limit}
-use Rattle.world.specs.Steps.{next_request}
+use Rattle.world.specs.Reaching.{Reaches}
+use Rattle.world.specs.Steps.{is_no_edit, next_request, reached_in}
 use Rattle.world.specs.Turns.{HasGone}
 use Rattle.world.proofs.EndingLaws.{endings}
 use Rattle.world.proofs.EventLaws.{works_on}
-use Rattle.world.proofs.Facts.{found, poked_is, unpoked, asked_long}
+use Rattle.world.proofs.Facts.{IsReaching, asked_long, lives_home, poked_there, reaches_none, reaching}
 use Rattle.world.proofs.NoteLaws.{Keeping}
 use Rattle.world.proofs.TableLaws.{desks_go}
 
@@ -62,12 +64,20 @@ ended_last endings_ req ending nr =
     let at : (req.0 - 1) ≡ length endings_ = omega (arith, nr) in
     rw (real, at) (set_last endings_ (Some ending))
 
--- such an action makes an entry
-plain_request : (nav : NavId) (action : Action) → HasPassed (is_change_of_entry action) → IsPlainRequest (requests.Poke nav action)
-plain_request nav (acts.Push memo reference) is = tt
-plain_request nav (acts.Replace memo reference) is = tt
-plain_request nav (acts.Fragment text) is = tt
-plain_request nav _ is = elim is [ ]
+-- such an action is no edit
+no_editing : (action : Action) → HasPassed (is_no_edit action) → IsNoEditing action
+no_editing (acts.Push memo reference) is = tt
+no_editing (acts.Replace memo reference) is = tt
+no_editing (acts.Fragment text) is = tt
+no_editing (acts.AddFrame child) is = tt
+no_editing (acts.RemoveFrame child) is = tt
+no_editing (acts.Go delta) is = tt
+no_editing acts.Edit never = elim never [ ]
+
+-- what the coordinator asks of the event of a traversal
+pub asks_so : (e : InEvent) (header : Header) (log : List LogRow) (req : ReqId) (delta : ℤ) (c : Coordinator) (out : List RowKind) → e ≡ asking header log req delta → StandsFor (seen_of log) c → HasRoomFor (seen_of log) → req.0 ≡ length (seen_of log).requests + 1 → out ≡ [] → IsAsk e req delta × (StandsFor e.start c × (HasRoomFor e.start × (out ≡ [])))
+asks_so e header log req delta c out is stands room next none =
+    subst (λ (x : InEvent). IsAsk x req delta × (StandsFor x.start c × (HasRoomFor x.start × (out ≡ [])))) (sym is) (record { by_user = refl; own = refl; next = next }, (stands, (room, none)))
 
 -- the row of one number and actor, at the log's own number
 rows_same : (log : List LogRow) (n m : ℕ) (own : RowKind) (out : List RowKind) → n ≡ m → (log ++ row_with n actors.Ui own ∷ []) ++ map (row_with n actors.Ui) out ≡ log ++ row_with m actors.Ui own ∷ map (row_with m actors.Ui) out
@@ -105,60 +115,61 @@ module _ (header : Header) (log : List LogRow) (t : State) (is : IsOpen header l
         stands = subst (λ (l : List LogRow). IsOpen header l new) (sym whole) (works_on header log t is short actors.Ui (rows.Accepted req None (requests.Go delta)) out new (desk_at t.desks) (t.endings.items ++ None ∷ []) tt refl acted (unsent req (requests.Go delta)) events_ views desks ends_);
       }
 
-  -- ---- a poke of the document
+  -- ---- a poke that reaches a document
 
-  pub poke_gone : (req : ReqId) (nav : NavId) (action : Action) (doc : DocId) (proc : ProcId) (new : State) (longer : List LogRow) → HasPassed (is_change_of_entry action) → nav ≡ top → doc ≡ is.keeps.stands.d.nr → proc ≡ is.keeps.stands.d.proc → req ≡ next_request s → new.coordinator ≡ t.coordinator → new.events ≡ t.events + 1 → new.views ≡ t.views → Changes proc (desk_with (items.Poke (record { req = req; doc = doc; action = action }))) t.desks new.desks → new.endings.items ≡ t.endings.items ++ None ∷ [] → longer ≡ log ++ row_with t.events actors.Ui (rows.Accepted req (Some doc) (requests.Poke nav action)) ∷ [] → HasGone header (events.Poke nav action) (replies.Accepted req) log longer new
-  poke_gone req nav action doc proc new longer built of_top doc_is proc_is nr coordinator events_ views desks ends_ more =
+  pub poke_gone : (req : ReqId) (nav : NavId) (action : Action) (doc : DocId) (proc : ProcId) (new : State) (longer : List LogRow) → HasPassed (is_no_edit action) → Reaches s nav doc → proc ≡ t.coordinator.tables.home → req ≡ next_request s → new.coordinator ≡ t.coordinator → new.events ≡ t.events + 1 → new.views ≡ t.views → Changes proc (desk_with (items.Poke (record { req = req; doc = doc; action = action }))) t.desks new.desks → new.endings.items ≡ t.endings.items ++ None ∷ [] → longer ≡ log ++ row_with t.events actors.Ui (rows.Accepted req (Some doc) (requests.Poke nav action)) ∷ [] → HasGone header (events.Poke nav action) (replies.Accepted req) log longer new
+  poke_gone req nav action doc proc new longer built reaches proc_is nr coordinator events_ views desks ends_ more =
       let whole : longer ≡ log ++ row_with s.events actors.Ui own ∷ [] = more ∙ ap (λ (k : ℕ). log ++ row_with k actors.Ui own ∷ []) (sym is.holds.events) in
       record {
-        happened = record {
-          own = own;
-          out = [];
-          begins = (ap (λ (r : ReqId). replies.Accepted r) nr, ap (λ (r : ReqId). rows.Accepted r (Some doc) (requests.Poke nav action)) nr ∙ ap (λ (o : Option DocId). rows.Accepted (next_request s) o (requests.Poke nav action)) (sym (ap (λ (o : Option Document). option_map (λ (d : Document). d.nr) o) (poked_is header log t is nav of_top) ∙ ap (λ (n : DocId). let o : Option DocId = Some n in o) (sym doc_is))));
-          log = whole;
-        };
+        happened = record { own = own; out = []; begins = (ap (λ (r : ReqId). replies.Accepted r) nr, begun); log = whole };
         stands = subst (λ (l : List LogRow). IsOpen header l new) (sym whole) (works_on header log t is short actors.Ui own [] new (desk_at new.desks) (t.endings.items ++ None ∷ []) tt refl acted kept events_ views (λ p. refl) ends_);
       }
     where
       own : RowKind
       own = rows.Accepted req (Some doc) (requests.Poke nav action)
 
-      own_is : own ≡ rows.Accepted req (Some is.keeps.stands.d.nr) (requests.Poke top action)
-      own_is =
-          ap (λ (n : DocId). rows.Accepted req (Some n) (requests.Poke nav action)) doc_is ∙ ap (λ (n : NavId). rows.Accepted req (Some is.keeps.stands.d.nr) (requests.Poke n action)) of_top
+      its : IsReaching s nav doc
+      its = reaching s nav doc reaches
+
+      its_doc : Some doc ≡ option_map (λ (d : Document). d.nr) (reached_in s nav)
+      its_doc =
+          sym (ap (λ (o : Option Document). option_map (λ (d : Document). d.nr) o) its.in_step ∙ ap (λ (n : DocId). let o : Option DocId = Some n in o) its.nr)
+
+      begun : own ≡ rows.Accepted (next_request s) (option_map (λ (d : Document). d.nr) (reached_in s nav)) (requests.Poke nav action)
+      begun =
+          ap (λ (r : ReqId). rows.Accepted r (Some doc) (requests.Poke nav action)) nr
+          ∙ ap (λ (o : Option DocId). rows.Accepted (next_request s) o (requests.Poke nav action)) its_doc
 
       acted : HasActed (event_of header log actors.Ui own) [] new.coordinator
       acted =
-          subst (λ (c : Coordinator). HasActed (event_of header log actors.Ui own) [] c) (sym coordinator) (poked_acted (event_of header log actors.Ui own) t.coordinator is.keeps.stands req action (ap (λ (r : ReqId). r.0) nr) (plain_request top action built) refl own_is)
+          subst (λ (c : Coordinator). HasActed (event_of header log actors.Ui own) [] c) (sym coordinator) (poked_acts (event_of header log actors.Ui own) t.coordinator is.keeps.stands refl refl req (ap (λ (r : ReqId). r.0) nr) nav action (no_editing action built) its.d reaches.row its.reaches (ap (λ (n : DocId). rows.Accepted req (Some n) (requests.Poke nav action)) (sym its.nr)))
 
-      there : document_of s doc ≡ Some is.keeps.stands.d
-      there = ap (λ (n : DocId). document_of s n) doc_is ∙ found header log t is
+      found : document_of s doc ≡ Some its.d
+      found = ap (λ (n : DocId). document_of s n) (sym its.nr) ∙ poked_there header log t is nav its.d its.reaches
+
+      of_home : its.d.proc ≡ proc
+      of_home = lives_home header log t is doc its.d found ∙ sym proc_is
 
       kept : Keeping (opening_process header) (after s (row_with s.events actors.Ui own)) s.events (desk_at new.desks) (view_at t.views) (t.endings.items ++ None ∷ [])
       kept =
           record {
             events = refl;
             desks = λ p. desk_of-after s p s.events actors.Ui own
-                ∙ (ap (λ (o : Option Document). option_map_or (λ (d : Document). with_poke p req doc action d (desk_of s p)) o (desk_of s p)) there
-                ∙ (ap (λ (q : ProcId). on_proc q (desk_poked req doc action) p (desk_of s p)) (sym proc_is)
+                ∙ (ap (λ (o : Option Document). option_map_or (λ (d : Document). with_poke p req doc action d (desk_of s p)) o (desk_of s p)) found
+                ∙ (ap (λ (q : ProcId). on_proc q (desk_poked req doc action) p (desk_of s p)) of_home
                 ∙ desks_go s t.desks new.desks proc (desk_poked req doc action) (desk_with (items.Poke (record { req = req; doc = doc; action = action }))) is.holds.desks refl desks p));
             views = is.holds.views;
             endings = more_endings s.requests (new_request req (Some doc) (requests.Poke nav action)) ∙ ap (λ (l : List (Option Ending)). l ++ None ∷ []) is.holds.endings;
             lives = is.home;
           }
 
-  -- ---- a poke of a navigable without a row
+  -- ---- a poke that reaches none
 
-  pub stray_gone : (req : ReqId) (nav : NavId) (action : Action) (new : State) (longer : List LogRow) → HasPassed (is_change_of_entry action) → 0 < nav.0 → req ≡ next_request s → new.coordinator ≡ t.coordinator → new.events ≡ t.events + 1 → new.views ≡ t.views → new.desks ≡ t.desks → new.endings.items ≡ t.endings.items ++ Some (ends.Refused denials.NoNavigable) ∷ [] → longer ≡ (log ++ row_with t.events actors.Ui (rows.Accepted req None (requests.Poke nav action)) ∷ []) ++ row_with t.events actors.Ui (rows.Refused req denials.NoNavigable) ∷ [] → HasGone header (events.Poke nav action) (replies.Accepted req) log longer new
-  stray_gone req nav action new longer built some nr coordinator events_ views desks ends_ more =
+  pub stray_gone : (req : ReqId) (nav : NavId) (action : Action) (reason : Denial) (new : State) (longer : List LogRow) → HasPassed (is_no_edit action) → denial_of_poke s nav ≡ Some reason → req ≡ next_request s → new.coordinator ≡ t.coordinator → new.events ≡ t.events + 1 → new.views ≡ t.views → new.desks ≡ t.desks → new.endings.items ≡ t.endings.items ++ Some (ends.Refused reason) ∷ [] → longer ≡ (log ++ row_with t.events actors.Ui (rows.Accepted req None (requests.Poke nav action)) ∷ []) ++ row_with t.events actors.Ui (rows.Refused req reason) ∷ [] → HasGone header (events.Poke nav action) (replies.Accepted req) log longer new
+  stray_gone req nav action reason new longer built denied nr coordinator events_ views desks ends_ more =
       let whole : longer ≡ log ++ row_with s.events actors.Ui own ∷ map (row_with s.events actors.Ui) out = more ∙ rows_same log t.events s.events own out (sym is.holds.events) in
       record {
-        happened = record {
-          own = own;
-          out = out;
-          begins = (ap (λ (r : ReqId). replies.Accepted r) nr, ap (λ (r : ReqId). rows.Accepted r None (requests.Poke nav action)) nr ∙ ap (λ (o : Option DocId). rows.Accepted (next_request s) o (requests.Poke nav action)) (sym (ap (λ (o : Option Document). option_map (λ (d : Document). d.nr) o) (unpoked header log t is nav some))));
-          log = whole;
-        };
+        happened = record { own = own; out = out; begins = (ap (λ (r : ReqId). replies.Accepted r) nr, begun); log = whole };
         stands = subst (λ (l : List LogRow). IsOpen header l new) (sym whole) (works_on header log t is short actors.Ui own out new (desk_at t.desks) (t.endings.items ++ None ∷ []) tt refl acted (unsent req (requests.Poke nav action)) events_ views (λ p. ap (λ (l : List (ProcId × Desk)). desk_at l p) desks) (ends_ ∙ ended));
       }
     where
@@ -166,16 +177,21 @@ module _ (header : Header) (log : List LogRow) (t : State) (is : IsOpen header l
       own = rows.Accepted req None (requests.Poke nav action)
 
       out : List RowKind
-      out = rows.Refused req denials.NoNavigable ∷ []
+      out = rows.Refused req reason ∷ []
 
       at : req.0 ≡ length s.requests + 1
       at = ap (λ (r : ReqId). r.0) nr
 
+      begun : own ≡ rows.Accepted (next_request s) (option_map (λ (d : Document). d.nr) (reached_in s nav)) (requests.Poke nav action)
+      begun =
+          ap (λ (r : ReqId). rows.Accepted r None (requests.Poke nav action)) nr
+          ∙ ap (λ (o : Option DocId). rows.Accepted (next_request s) o (requests.Poke nav action)) (sym (ap (λ (o : Option Document). option_map (λ (d : Document). d.nr) o) (reaches_none s nav reason denied)))
+
       acted : HasActed (event_of header log actors.Ui own) out new.coordinator
       acted =
-          subst (λ (c : Coordinator). HasActed (event_of header log actors.Ui own) out c) (sym coordinator) (stray_acted (event_of header log actors.Ui own) t.coordinator is.keeps.stands req nav action at (plain_request nav action built) (let away : (nav.0 == 0) ≡ false = grind (arith, nat_tests, some) in away) refl refl refl)
+          subst (λ (c : Coordinator). HasActed (event_of header log actors.Ui own) out c) (sym coordinator) (stray_acts (event_of header log actors.Ui own) t.coordinator is.keeps.stands refl refl req at nav action (no_editing action built) reason denied refl)
 
-      ended : t.endings.items ++ Some (ends.Refused denials.NoNavigable) ∷ [] ≡ ended_in (t.endings.items ++ None ∷ []) req (ends.Refused denials.NoNavigable)
+      ended : t.endings.items ++ Some (ends.Refused reason) ∷ [] ≡ ended_in (t.endings.items ++ None ∷ []) req (ends.Refused reason)
       ended =
           let long : length t.endings.items ≡ length s.requests = asked_long header log t is in
-          sym (ended_last t.endings.items req (ends.Refused denials.NoNavigable) (omega (arith, at, long)))
+          sym (ended_last t.endings.items req (ends.Refused reason) (omega (arith, at, long)))

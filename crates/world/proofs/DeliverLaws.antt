@@ -1,5 +1,5 @@
 -- The coordinator takes a report.
-use Rattle.std.proofs.Common.{◌≡◌, ℕ, ◌+◌, ◌<◌, List, [], ◌∷◌, ◌++◌, length, drop, map, fold, Option, Some, None, refl, sym, ap, ◌∙◌, subst, append_assoc}
+use Rattle.std.proofs.Common.{◌≡◌, ℕ, ◌+◌, ◌<◌, List, [], ◌∷◌, ◌++◌, length, drop, map, fold, Option, Some, refl, sym, ap, ◌∙◌, subst, append_assoc}
 use Rattle.std.specs.Prelude.{slice_get}
 use Rattle.tab_ids.specs.declared.ProcId.{ProcId}
 use Rattle.log_model.specs.declared.header.Header.{Header}
@@ -11,11 +11,14 @@ use Rattle.log_model.specs.declared.row_kind.RowKind.{RowKind}
 use Rattle.log_model.specs.declared.row_kind.RowKind.TheVariants as rows
 use Rattle.log_model.specs.After.{after, desk_delivered, known_after}
 use Rattle.log_model.specs.Logs.{seen_of}
-use Rattle.log_model.specs.Seen.{Seen, Desk, desk_of}
+use Rattle.log_model.specs.Seen.{Seen, Desk, Document, Place, desk_of}
 use Rattle.history_log.proofs.DeskLaws.{desk_of-after}
-use Rattle.plain_tab.specs.Flow.{IsReportOf}
+use Rattle.frame_tab.specs.Desks.{IsReportTo}
 use Rattle.plain_tab.proofs.Eaches.{each_first}
-use Rattle.coord.specs.Standing.{HasActed}
+use Rattle.frame_acts.proofs.Homes.{report_home}
+use Rattle.seen_laws.specs.InEvent.{InEvent}
+use Rattle.frame_coord.specs.Standing.{HasActed, HasRoomFor, IsDelivery, StandsFor}
+use Rattle.frame_coord.specs.declared.coordinator.Coordinator.{Coordinator}
 use Rattle.world.specs.declared.event.Event.TheVariants as events
 use Rattle.world.specs.declared.event.Reply.TheVariants as replies
 use Rattle.world.specs.declared.state.State.{State}
@@ -28,34 +31,38 @@ use Rattle.world.specs.Turns.{HasGone}
 use Rattle.world.proofs.EndingLaws.{delivered_left}
 use Rattle.world.proofs.EventLaws.{works_on}
 use Rattle.world.proofs.FaceLaws.{delivered_face, faces_kept}
-use Rattle.world.proofs.Facts.{busy_here}
 use Rattle.world.proofs.NoteLaws.{Keeping}
 use Rattle.world.proofs.TableLaws.{desks_go}
+
+-- what the coordinator asks of the event of a delivery
+pub delivers_so : (e : InEvent) (header : Header) (log : List LogRow) (proc : ProcId) (report : Report) (c : Coordinator) (out : List RowKind) → e ≡ delivering header log proc → StandsFor (seen_of log) c → c.tables.home ≡ proc → slice_get (desk_of (seen_of log) proc).reports 0 ≡ Some report → HasRoomFor (seen_of log) → out ≡ [] → IsDelivery e c.tables.home report × (StandsFor e.start c × (HasRoomFor e.start × (out ≡ [])))
+delivers_so e header log proc report c out is stands home waits room none =
+    subst (λ (x : InEvent). IsDelivery x c.tables.home report × (StandsFor x.start c × (HasRoomFor x.start × (out ≡ [])))) (sym is) (record { by_coord = refl; own = ap (λ (p : ProcId). rows.Delivered p) (sym home); first = ap (λ (p : ProcId). slice_get (desk_of (seen_of log) p).reports 0) home ∙ waits }, (stands, (room, none)))
 
 module _ (header : Header) (log : List LogRow) (t : State) (is : IsOpen header log t) (short : length log < row_limit) (proc : ProcId) (report : Report) (first : slice_get (desk_at t.desks proc).reports 0 ≡ Some report) where
   abbrev s : Seen
   s = seen_of log
 
-  -- it waits in the document's process
-  pub here : proc ≡ is.keeps.stands.d.proc
-  here = busy_here header log t is proc (λ none. (let never : None ≡ Some report = sym (ap (λ (d : Desk). slice_get d.reports 0) none) ∙ first in absurd cc))
-
   pub waits : slice_get (desk_of s proc).reports 0 ≡ Some report
   waits = ap (λ (d : Desk). slice_get d.reports 0) (is.holds.desks proc) ∙ first
 
-  -- it tells of no death
-  unknown : (known : ℕ) (r : Report) → IsReportOf is.keeps.stands.d.nr is.keeps.stands.place.epoch is.keeps.stands.place.last_job r → known_after known (Some r) ≡ known
-  unknown known (told.Done job outcome made) its = refl
-  unknown known (told.Made made) its = refl
-  unknown known (told.Died death) its = elim its [ ]
+  -- it waits in the process of all documents
+  pub here : proc ≡ t.coordinator.tables.home
+  here = report_home s t.coordinator is.keeps.stands proc report waits
 
-  its_report : IsReportOf is.keeps.stands.d.nr is.keeps.stands.place.epoch is.keeps.stands.place.last_job report
+  -- it tells of no death
+  unknown : (documents : List Document) (places : List Place) (known : ℕ) (r : Report) → IsReportTo documents places r → known_after known (Some r) ≡ known
+  unknown documents places known (told.Done job outcome made) its = refl
+  unknown documents places known (told.Made made) its = refl
+  unknown documents places known (told.Died death) its = elim its [ ]
+
+  its_report : IsReportTo s.documents s.places report
   its_report =
-      each_first (IsReportOf is.keeps.stands.d.nr is.keeps.stands.place.epoch is.keeps.stands.place.last_job) (desk_of s is.keeps.stands.d.proc).reports report (subst (λ (p : ProcId). slice_get (desk_of s p).reports 0 ≡ Some report) here waits) is.keeps.stands.tab.flowing.own.reports
+      each_first (IsReportTo s.documents s.places) (desk_of s t.coordinator.tables.home).reports report (subst (λ (p : ProcId). slice_get (desk_of s p).reports 0 ≡ Some report) here waits) is.keeps.stands.between.tab.framed.desks.own.told
 
   taken : desk_delivered (desk_at t.desks proc) ≡ without_report (desk_at t.desks proc)
   taken =
-      ap (λ (n : ℕ). let d : Desk = record (desk_at t.desks proc) { reports = drop 1 (desk_at t.desks proc).reports; known = n } in d) (ap (λ (o : Option Report). known_after (desk_at t.desks proc).known o) first ∙ unknown (desk_at t.desks proc).known report its_report)
+      ap (λ (n : ℕ). let d : Desk = record (desk_at t.desks proc) { reports = drop 1 (desk_at t.desks proc).reports; known = n } in d) (ap (λ (o : Option Report). known_after (desk_at t.desks proc).known o) first ∙ unknown s.documents s.places (desk_at t.desks proc).known report its_report)
 
   module _ (mid : List (ProcId × Desk)) (taking : Changes proc without_report t.desks mid) where
     kept : Keeping (opening_process header) (after s (row_with s.events actors.Coord (rows.Delivered proc))) s.events (desk_at mid) (view_at t.views) t.endings.items

@@ -21,12 +21,14 @@ use Rattle.seen_laws.specs.InEvent.{InEvent, first_of, now_of}
 use Rattle.seen_laws.specs.Sending.{leads}
 use Rattle.seen_laws.proofs.Sendings.{both}
 use Rattle.coord.specs.Ending.{IsWorker}
-use Rattle.coord.specs.Standing.{HasActed}
-use Rattle.coord.proofs.EventLaws.{event_keeps, now_fold}
+use Rattle.frame_coord.specs.Standing.{HasActed}
+use Rattle.coord.proofs.EventLaws.{now_fold}
+use Rattle.frame_acts.proofs.EventLaws.{event_keeps}
 use Rattle.world.specs.declared.state.State.{State}
 use Rattle.world.specs.Asking.{event_of}
 use Rattle.proc_tables.specs.Desks.{desk_at, desk_noted}
-use Rattle.proc_tables.specs.Views.{Becomes, Stays, view_at}
+use Rattle.proc_tables.specs.Views.{Stays, view_at}
+use Rattle.world.specs.Shows.{Shows}
 use Rattle.world.specs.Notes.{endings_noted, row_with}
 use Rattle.world.specs.Open.{IsOpen, Holds, IsSmall, first_document, opening_process, process_in, row_limit}
 use Rattle.world.proofs.NoteLaws.{Keeping, works_keep}
@@ -54,7 +56,7 @@ holds_all home s t event keeps events small =
     record { events = keeps.events ∙ sym events; desks = keeps.desks; views = keeps.views; endings = keeps.endings; small = small }
 
 -- a view is small after one event more
-small_more : (events more : ℕ) (view : Option View) → more ≡ events + 1 → IfSome view (IsSmall events) → IfSome view (IsSmall more)
+pub small_more : (events more : ℕ) (view : Option View) → more ≡ events + 1 → IfSome view (IsSmall events) → IfSome view (IsSmall more)
 small_more events more None next small = tt
 small_more events more (Some view) next small =
     record { numbered = omega (arith, small.numbered, next); index = omega (arith, small.index, next) }
@@ -64,12 +66,12 @@ pub stays_small : (old new : List (DocId × View)) (events more : ℕ) → more 
 stays_small old new events more next stays small doc =
     subst (λ (o : Option View). IfSome o (IsSmall more)) (sym (stays doc)) (small_more events more (view_at old doc) next (small doc))
 
--- or one becomes a small one
-pub becomes_small : (of : DocId) (view : View) (old new : List (DocId × View)) (events more : ℕ) → more ≡ events + 1 → Becomes of view old new → IsSmall more view → ((doc : DocId) → IfSome (view_at old doc) (IsSmall events)) → (doc : DocId) → IfSome (view_at new doc) (IsSmall more)
-becomes_small of view old new events more next becomes is small doc =
-    subst (λ (o : Option View). IfSome o (IsSmall more)) (sym (becomes doc)) (by_test (of.0 == doc.0))
+-- or one becomes a small one, or has gone
+pub shows_small : (of : DocId) (view : Option View) (old new : List (DocId × View)) (events more : ℕ) → more ≡ events + 1 → Shows of view old new → IfSome view (IsSmall more) → ((doc : DocId) → IfSome (view_at old doc) (IsSmall events)) → (doc : DocId) → IfSome (view_at new doc) (IsSmall more)
+shows_small of view old new events more next shows is small doc =
+    subst (λ (o : Option View). IfSome o (IsSmall more)) (sym (shows doc)) (by_test (of.0 == doc.0))
   where
-    by_test : (b : Bool) → IfSome (cond b (Some view) (view_at old doc)) (IsSmall more)
+    by_test : (b : Bool) → IfSome (cond b view (view_at old doc)) (IsSmall more)
     by_test true = is
     by_test false = small_more events more (view_at old doc) next (small doc)
 

@@ -53,7 +53,7 @@ faces_left documents doc f leaves =
     by_found (Some d) = ap (λ (x : Option View × ProcId). let o : Option (Option View × ProcId) = Some x in o) (leaves.face d)
 
 -- a test before it
-leaves_if : (test : Document → Bool) (f : Document → Document) → LeavesFaces f → LeavesFaces (λ d. if test d then f d else d)
+pub leaves_if : (test : Document → Bool) (f : Document → Document) → LeavesFaces f → LeavesFaces (λ d. if test d then f d else d)
 leaves_if test f leaves =
     record {
       nr = λ d. nr_by d (test d);

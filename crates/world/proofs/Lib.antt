@@ -4,6 +4,7 @@ mod NoteLaws
 mod TableLaws
 mod Facts
 mod EventLaws
+mod ReachLaws
 mod AcceptLaws
 mod WorkLaws
 mod DeliverLaws

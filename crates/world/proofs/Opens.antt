@@ -7,6 +7,7 @@ use Rattle.address.specs.Addresses.{base_of, blank_text, origin_of}
 use Rattle.tab_ids.specs.declared.DocId.{DocId}
 use Rattle.tab_ids.specs.declared.ProcId.{ProcId}
 use Rattle.log_model.specs.declared.header.Header.{Header}
+use Rattle.log_model.specs.declared.header.Page.{Page}
 use Rattle.log_model.specs.declared.row_kind.LogRow.{LogRow}
 use Rattle.log_model.specs.ActsAtOnce.{ActsAtOnce}
 use Rattle.log_model.specs.Events.{events_of, AtEachEvent, after_opening, each_event}
@@ -17,14 +18,14 @@ use Rattle.log_model.specs.Seen.{Desk, Document, nothing, desk_of, empty_desk}
 use Rattle.log_model.specs.Suits.{Suits, first_process, home_of, opens_suitably, process_of_origin}
 use Rattle.log_model.specs.AfterDocuments.{opening_document}
 use Rattle.log_model.specs.Views.{View, opening_view}
-use Rattle.coord.specs.Keeping.{Keeps}
-use Rattle.coord.specs.Standing.{StandsFor, opened_at}
-use Rattle.coord.specs.declared.coordinator.Coordinator.{Coordinator}
-use Rattle.coord.proofs.StandLaws.{stands_settled}
+use Rattle.frame_acts.specs.Keeping.{Keeps}
+use Rattle.frame_coord.specs.Standing.{StandsFor, opened_at}
+use Rattle.frame_coord.specs.declared.coordinator.Coordinator.{Coordinator}
+use Rattle.frame_acts.proofs.EventLaws.{stands_settled}
 use Rattle.world.specs.declared.state.State.{State}
 use Rattle.world.specs.Kept.{IsKept, OpensAs, OpensUnhandled}
 use Rattle.proc_tables.specs.Desks.{desk_at}
-use Rattle.world.specs.Open.{IsOpen, IsSmall, first_document, opening_process, row_limit, view_in}
+use Rattle.world.specs.Open.{IsOpen, IsSmall, bare, first_document, opening_process, row_limit, view_in}
 use Rattle.world.specs.Opening.{opening_row, IsJustOpened}
 
 opened_below : (address : List ℕ) (proc : ProcId) → BeginsBelow row_limit (opening_row address proc ∷ [])
@@ -54,14 +55,14 @@ opened_suits : (header : Header) (address : List ℕ) (proc : ProcId) → OpensA
 unfolding events_of AtEachEvent after_opening each_event
 opened_suits header address proc opened = record { opened = opened; placed = refl; kept = refl }
 
-opened_keeps : (header : Header) (proc : ProcId) (c : Coordinator) → StandsFor (opened_at header.first proc) c → Keeps header (opening_row header.first proc ∷ []) c
+opened_keeps : (header : Header) (proc : ProcId) (c : Coordinator) → StandsFor (opened_at header.first proc) c → Keeps (bare header) (opening_row header.first proc ∷ []) c
 unfolding seen_of
 opened_keeps header proc c stands =
     record {
       some = omega arith;
       legal = opened_legal header.first proc c stands;
       at_once = opened_at_once header.first proc;
-      suits = opened_suits header header.first proc;
+      suits = opened_suits (bare header) header.first proc;
       stands = stands;
     }
 
@@ -106,15 +107,22 @@ opened_open header proc t home just =
           | false ↦ tt
         ]
 
+-- settings without pages are these
+bare_same : (header : Header) → header.pages ≡ [] → bare header ≡ header
+bare_same header none = ap (λ (pages : List Page). let h : Header = record header { pages = pages } in h) (sym none)
+
+suits_all : (header : Header) (log : List LogRow) → (OpensAs (bare header) log → Suits (bare header) log) → header.pages ≡ [] → OpensAs header log → Suits header log
+suits_all header log suits none = subst (λ (h : Header). OpensAs h log → Suits h log) (bare_same header none) suits
+
 -- an open world keeps what each world does
 pub open_kept : (header : Header) (log : List LogRow) (t : State) → IsOpen header log t → IsKept header log t false
 open_kept header log t is =
-    record { legal = is.keeps.legal; at_once = is.keeps.at_once; suits = is.keeps.suits; limited = is.limited; stands = λ e. is }
+    record { legal = is.keeps.legal; at_once = is.keeps.at_once; suits = suits_all header log is.keeps.suits; limited = is.limited; stands = λ e. is }
 
 -- and so it does once it is closed
 pub closed_kept : (header : Header) (log : List LogRow) (t new : State) → IsOpen header log t → IsKept header log new true
 closed_kept header log t new is =
-    record { legal = is.keeps.legal; at_once = is.keeps.at_once; suits = is.keeps.suits; limited = is.limited; stands = λ e. absurd cc }
+    record { legal = is.keeps.legal; at_once = is.keeps.at_once; suits = suits_all header log is.keeps.suits; limited = is.limited; stands = λ e. absurd cc }
 
 -- the process of the first document is the opening one
 first_home : (header : Header) → home_of header nothing (record { 0 = 0 }) header.first ≡ Some (opening_process header)

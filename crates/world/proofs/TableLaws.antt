@@ -1,15 +1,17 @@
 -- How the tables of desks and views go with what the log has come to.
-use Rattle.std.proofs.Common.{◌≡◌, ℕ, Bool, true, false, cond, ◌==◌, List, [], ◌∷◌, Option, Some, None, refl, sym, ap, ◌∙◌, subst, arith}
-use Rattle.std.specs.Prelude.{option_and_then, option_map}
+use Rattle.std.proofs.Common.{◌≡◌, ℕ, Bool, true, false, cond, ◌==◌, List, Option, Some, None, refl, sym, ap, ◌∙◌, subst, arith}
+use Rattle.std.specs.Prelude.{option_and_then, option_map, if◌then◌else◌}
 use Rattle.std.proofs.lemmas.Bool.Decides.{nat_tests}
 use Rattle.tab_ids.specs.declared.DocId.{DocId}
 use Rattle.tab_ids.specs.declared.ProcId.{ProcId}
 use Rattle.log_model.specs.Seen.{Seen, Desk, Document, desk_of}
 use Rattle.log_model.specs.Views.{View}
 use Rattle.proc_tables.specs.Desks.{Changes, desk_at, on_proc}
-use Rattle.proc_tables.specs.Views.{Becomes, view_at}
-use Rattle.world.specs.Open.{first_document}
-use Rattle.world.proofs.FaceLaws.{process_found, view_found}
+use Rattle.log_model.specs.AfterDocuments.{on_document}
+use Rattle.proc_tables.specs.Views.{view_at}
+use Rattle.seen_laws.proofs.Keyed.{find_map, find_on_other, find_on_same}
+use Rattle.world.specs.Shows.{Shows}
+use Rattle.world.proofs.FaceLaws.{document_in, process_found, view_found}
 
 -- ---- desks
 
@@ -38,25 +40,53 @@ changes_then of f g a b c first second proc =
     by_test true = refl
     by_test false = refl
 
--- ---- the one document, with another view
+-- ---- documents of which one has another view
 
-module _ (d : Document) (o : Option View) (next : List Document) (are : next ≡ record d { view = o } ∷ []) where
-  pub lives_on : (old : List Document) (home : ProcId) → old ≡ d ∷ [] → process_found old first_document ≡ Some home → process_found next first_document ≡ Some home
-  lives_on old home were lives =
-      ap (λ (l : List Document). process_found l first_document) are
-      ∙ (by_test (d.nr.0 == 1) ∙ (ap (λ (l : List Document). process_found l first_document) (sym were) ∙ lives))
-    where
-      by_test : (b : Bool) → option_map (λ (x : Document). x.proc) (cond b (Some (let x : Document = record d { view = o } in x)) None) ≡ option_map (λ (x : Document). x.proc) (cond b (Some d) None)
-      by_test true = refl
-      by_test false = refl
+module _ (documents : List Document) (of : DocId) (f : Document → Option View) where
+  abbrev pub viewed : Document → Document
+  viewed d = record d { view = f d }
 
-  pub views_on : (old : List Document) (views new : List (DocId × View)) (w : View) (of : DocId) → old ≡ d ∷ [] → ((doc : DocId) → view_found old doc ≡ view_at views doc) → o ≡ Some w → of ≡ d.nr → Becomes of w views new → (doc : DocId) → view_found next doc ≡ view_at new doc
-  views_on old views new w of were holds now its becomes doc =
-      ap (λ (l : List Document). view_found l doc) are
-      ∙ (by_test (d.nr.0 == doc.0) refl ∙ sym (becomes doc ∙ ap (λ (n : DocId). cond (n.0 == doc.0) (Some w) (view_at views doc)) its))
+  pub viewed_on : (doc : DocId) → view_found (on_document of viewed documents) doc ≡ cond (of.0 == doc.0) (option_and_then f (document_in documents of)) (view_found documents doc)
+  viewed_on doc = by_test (of.0 == doc.0) refl
     where
-      by_test : (b : Bool) → (d.nr.0 == doc.0) ≡ b → option_and_then (λ (x : Document). x.view) (cond (d.nr.0 == doc.0) (Some (let x : Document = record d { view = o } in x)) None) ≡ cond (d.nr.0 == doc.0) (Some w) (view_at views doc)
-      by_test true e = rw e now
+      by_found : (o : Option Document) → option_and_then (λ (x : Document). x.view) (option_map viewed o) ≡ option_and_then f o
+      by_found None = refl
+      by_found (Some d) = refl
+
+      own : view_found (on_document of viewed documents) of ≡ option_and_then f (document_in documents of)
+      own =
+          ap (λ (o : Option Document). option_and_then (λ (x : Document). x.view) o) (find_on_same (λ (d : Document). d.nr.0) viewed of.0 documents (λ d. refl))
+          ∙ by_found (document_in documents of)
+
+      by_test : (b : Bool) → (of.0 == doc.0) ≡ b → view_found (on_document of viewed documents) doc ≡ cond b (option_and_then f (document_in documents of)) (view_found documents doc)
+      by_test true e =
+          let n : of.0 ≡ doc.0 = grind (arith, nat_tests, e) in
+          let at : of ≡ doc = ap (λ (i : ℕ). let x : DocId = record { 0 = i } in x) n in
+          subst (λ (x : DocId). view_found (on_document of viewed documents) x ≡ option_and_then f (document_in documents of)) at own
       by_test false e =
-          let none : view_found (d ∷ []) doc ≡ None = rw e refl in
-          rw e (sym none ∙ (ap (λ (l : List Document). view_found l doc) (sym were) ∙ holds doc))
+          ap (λ (o : Option Document). option_and_then (λ (x : Document). x.view) o) (find_on_other (λ (d : Document). d.nr.0) viewed of.0 doc.0 documents (λ d. refl) e)
+
+  -- the table goes with it
+  pub views_on : (views new : List (DocId × View)) (view : Option View) → ((doc : DocId) → view_found documents doc ≡ view_at views doc) → option_and_then f (document_in documents of) ≡ view → Shows of view views new → (doc : DocId) → view_found (on_document of viewed documents) doc ≡ view_at new doc
+  views_on views new view holds is shows doc =
+      viewed_on doc
+      ∙ (ap (λ (o : Option View). cond (of.0 == doc.0) o (view_found documents doc)) is
+      ∙ (ap (λ (o : Option View). cond (of.0 == doc.0) view o) (holds doc) ∙ sym (shows doc)))
+
+  -- each is in its process
+  pub placed_on : (doc : DocId) → process_found (on_document of viewed documents) doc ≡ process_found documents doc
+  placed_on doc =
+      ap (λ (o : Option Document). option_map (λ (d : Document). d.proc) o) (find_map (λ (d : Document). d.nr.0) (λ d. if d.nr.0 == of.0 then viewed d else d) doc.0 documents (λ d. same_number d (d.nr.0 == of.0)))
+      ∙ by_found (document_in documents doc)
+    where
+      same_number : (d : Document) (b : Bool) → (let x : Document = cond b (viewed d) d in x).nr.0 ≡ d.nr.0
+      same_number d true = refl
+      same_number d false = refl
+
+      same_process : (d : Document) (b : Bool) → (let x : Document = cond b (viewed d) d in x).proc ≡ d.proc
+      same_process d true = refl
+      same_process d false = refl
+
+      by_found : (o : Option Document) → option_map (λ (d : Document). d.proc) (option_map (λ (d : Document). if d.nr.0 == of.0 then viewed d else d) o) ≡ option_map (λ (d : Document). d.proc) o
+      by_found None = refl
+      by_found (Some d) = ap (λ (p : ProcId). let o : Option ProcId = Some p in o) (same_process d (d.nr.0 == of.0))

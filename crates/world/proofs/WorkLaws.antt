@@ -1,9 +1,8 @@
 -- The process acts, takes up an order, or finishes one.
 use Rattle.std.proofs.Common.{◌≡◌, ℕ, ◌+◌, ◌<◌, ◌≤◌, Bool, true, false, ◌==◌, List, [], ◌∷◌, ◌++◌, length, drop, Option, Some, None, refl, sym, ap, ◌∙◌, subst, arith}
-use Rattle.std.specs.Prelude.{option_map, slice_get, IfSome, IsSomeAnd}
+use Rattle.std.specs.Prelude.{option_and_then, option_map, slice_get, IfSome}
 use Rattle.std.proofs.lemmas.Bool.Decides.{nat_tests}
 use Rattle.tab_ids.specs.declared.DocId.{DocId}
-use Rattle.tab_ids.specs.declared.Epoch.{Epoch}
 use Rattle.tab_ids.specs.declared.ProcId.{ProcId}
 use Rattle.log_model.specs.declared.header.Header.{Header}
 use Rattle.log_model.specs.declared.job.Job.{Job}
@@ -15,39 +14,39 @@ use Rattle.log_model.specs.declared.made.Report.{Report}
 use Rattle.log_model.specs.declared.made.Report.TheVariants as told
 use Rattle.log_model.specs.declared.made.What.{What}
 use Rattle.log_model.specs.declared.made.What.TheVariants as whats
+use Rattle.log_model.specs.declared.outcome.Denial.{Denial}
 use Rattle.log_model.specs.declared.outcome.Denial.TheVariants as denials
 use Rattle.log_model.specs.declared.outcome.Ending.{Ending}
 use Rattle.log_model.specs.declared.outcome.Ending.TheVariants as ends
 use Rattle.log_model.specs.declared.outcome.Outcome.{Outcome}
+use Rattle.log_model.specs.declared.outcome.Outcome.TheVariants as outcomes
 use Rattle.log_model.specs.declared.request.Poke.{Poke}
 use Rattle.log_model.specs.declared.row_kind.Actor.{Actor}
 use Rattle.log_model.specs.declared.row_kind.Actor.TheVariants as actors
 use Rattle.log_model.specs.declared.row_kind.LogRow.{LogRow}
 use Rattle.log_model.specs.declared.row_kind.RowKind.{RowKind}
 use Rattle.log_model.specs.declared.row_kind.RowKind.TheVariants as rows
-use Rattle.log_model.specs.After.{after, follows_finished, desk_finished, desk_made, desk_taken, desks_made, reports_made, on_document, slot_finished, view_finished}
-use Rattle.log_model.specs.AfterRequests.{requests_finished}
+use Rattle.log_model.specs.After.{after, follows_finished, desk_finished, desk_made, desk_taken, desks_made, reports_made}
+use Rattle.log_model.specs.AfterDocuments.{documents_finished, slot_finished, view_finished}
+use Rattle.log_model.specs.AfterRequests.{is_running, requests_finished}
 use Rattle.log_model.specs.Equal.{holds}
 use Rattle.log_model.specs.Logs.{seen_of}
-use Rattle.log_model.specs.Seen.{Seen, Document, Desk, desk_of}
-use Rattle.log_model.specs.Views.{View, made_by, after_made, after_task}
+use Rattle.log_model.specs.Seen.{Seen, Document, Desk, Place, desk_of, document_of}
+use Rattle.log_model.specs.Views.{View, made_by, after_made}
 use Rattle.log_counts.specs.Counts.{told_index}
-use Rattle.doc_view.specs.Jobs.{IsForView}
 use Rattle.history_log.proofs.DeskLaws.{desk_of-after}
 use Rattle.seen_laws.specs.InEvent.{InEvent}
-use Rattle.seen_laws.specs.Sending.{IsToldTask}
-use Rattle.seen_laws.proofs.Processes.{told_outcome}
 use Rattle.proc_work.specs.Work as worked
 use Rattle.proc_work.specs.Work.{outcome_of_task}
-use Rattle.plain_tab.specs.Flow.{IsOrder, IsOrderOf, IsPokeTo}
-use Rattle.plain_tab.specs.Making.{IsNewOf}
-use Rattle.plain_tab.proofs.Eaches.{each_first}
-use Rattle.plain_tab.proofs.Flows.{in_hand_of}
-use Rattle.plain_tab.proofs.Soles.{on_sole}
-use Rattle.coord_facts.specs.Leading.{orders_of_desk}
-use Rattle.coord.specs.Standing.{HasActed}
-use Rattle.coord.specs.declared.coordinator.Coordinator.{Coordinator}
-use Rattle.coord.proofs.ActLaws.{taken_acted, finished_acted, made_acted, refused_acted, new_of_made, enters, to_act}
+use Rattle.rest_facts.proofs.Again.{its_number}
+use Rattle.frame_tab.specs.Asking.{IsNoEditing}
+use Rattle.frame_tab.specs.Desks.{IsMadeNew, IsOrderTo, IsTaskOf}
+use Rattle.frame_events.proofs.Processes.{its_act, made_of_action}
+use Rattle.frame_coord.specs.Standing.{HasActed, StandsFor}
+use Rattle.frame_coord.specs.declared.coordinator.Coordinator.{Coordinator}
+use Rattle.frame_acts.proofs.Acts.{made_acts, no_address_acts, no_document_acts}
+use Rattle.frame_acts.proofs.Homes.{job_home, order_home, poke_home}
+use Rattle.frame_acts.proofs.Orders.{finished_acts, in_hand_to, own_outcome, taken_acts}
 use Rattle.world.specs.declared.event.Event.{Event}
 use Rattle.world.specs.declared.event.Event.TheVariants as events
 use Rattle.world.specs.declared.event.Reply.{Reply}
@@ -57,78 +56,114 @@ use Rattle.world.specs.Asking.{event_of}
 use Rattle.world.specs.Notes.{ended_in, row_with}
 use Rattle.proc_tables.specs.declared.item.Item.TheVariants as items
 use Rattle.proc_tables.specs.Desks.{Changes, desk_at, desk_with, on_proc, without_job, without_order, without_poke}
-use Rattle.proc_tables.specs.Views.{Acts, Becomes, HasRoom, Stays, view_at}
-use Rattle.world.specs.Open.{IsOpen, IsSmall, opening_process, row_limit, view_in}
-use Rattle.world.specs.Steps.{Begins, act_row, actor_of, order_for}
+use Rattle.proc_tables.specs.Views.{Acts, Stays, view_at}
+use Rattle.world.specs.Open.{IsOpen, IsSmall, first_document, opening_process, row_limit}
+use Rattle.world.specs.Shows.{IsFrameTask, Shows, shown_after}
+use Rattle.world.specs.Steps.{Begins, act_row, acted_row, actor_of, order_for}
 use Rattle.world.specs.Turns.{HasGone}
 use Rattle.world.proofs.EndingLaws.{left_on, ended_on}
-use Rattle.world.proofs.EventLaws.{alone_on, becomes_small, stays_small}
-use Rattle.world.proofs.Facts.{busy_here, hand_small, has_room, kept_view, shown_small, viewed}
+use Rattle.world.proofs.EventLaws.{alone_on, shows_small, stays_small}
+use Rattle.world.proofs.FaceLaws.{document_in, faces_kept, faces_left, leaves_if, process_found, view_found}
+use Rattle.world.proofs.Facts.{HasView, hand_small, holds_then, viewed}
 use Rattle.world.proofs.NoteLaws.{Keeping}
-use Rattle.world.proofs.TableLaws.{desks_go, lives_on, views_on}
+use Rattle.world.proofs.TableLaws.{desks_go, placed_on, views_on}
 
 -- the row of one number, at the log's own
 row_same : (log : List LogRow) (n m : ℕ) (actor : Actor) (own : RowKind) → n ≡ m → log ++ row_with n actor own ∷ [] ≡ log ++ row_with m actor own ∷ []
 row_same log n m actor own same = ap (λ (k : ℕ). log ++ row_with k actor own ∷ []) same
 
--- an order of a tab of one document shows an entry, or tells length and index
-pub is_told : (epoch : Epoch) (task : Task) → IsOrder epoch task → IsToldTask task
-is_told epoch (tasks.Activate entry ep long at memo address) is = tt
-is_told epoch (tasks.Update long at) is = tt
-is_told epoch _ is = elim is [ ]
+-- ---- orders
 
--- it is one for a view that is there
-pub for_view : (task : Task) → IsToldTask task → IsForView task
-for_view (tasks.Activate entry ep long at memo address) is = tt
-for_view (tasks.Update long at) is = tt
-for_view _ is = elim is [ ]
+-- an order to a document makes, shows, tells or discards it
+pub frame_task : (d : Document) (place : Place) (task : Task) → IsTaskOf d place task → IsFrameTask task
+frame_task d place (tasks.Populate nav state address initial) to = tt
+frame_task d place (tasks.Activate entry epoch long at memo address) to = tt
+frame_task d place (tasks.Update long at) to = tt
+frame_task d place tasks.Discard to = tt
+frame_task d place tasks.Freeze never = absurd never
+frame_task d place (tasks.Ask slot cause) never = absurd never
+frame_task d place (tasks.DoFragment req mode address) never = absurd never
 
 -- what comes of it, by two definitions
-same_outcome : (task : Task) (dirty : Bool) → IsToldTask task → outcome_of_task task dirty None ≡ told_outcome task
+same_outcome : (task : Task) (dirty : Bool) → IsFrameTask task → outcome_of_task task dirty None ≡ own_outcome task
+same_outcome (tasks.Populate nav state address initial) dirty is = refl
 same_outcome (tasks.Activate entry epoch long at memo address) dirty is = refl
 same_outcome (tasks.Update long at) dirty is = refl
-same_outcome _ dirty is = elim is [ ]
+same_outcome tasks.Discard dirty is = refl
+same_outcome tasks.Freeze dirty never = absurd never
+same_outcome (tasks.Ask slot cause) dirty never = absurd never
+same_outcome (tasks.DoFragment req mode address) dirty never = absurd never
 
--- the documents and requests once it is finished
-record IsFinishing (s : Seen) (d : Document) (order : Order) (outcome : Outcome) (view : View) : Type 0 where
-  pub documents : slot_finished (on_document order.job.doc (λ (x : Document). record x { view = view_finished x order.job.task }) s.documents) (Some order.job) outcome ≡ record d { view = Some (after_task view order.job.task) } ∷ []
+-- the view that it makes, by two definitions
+same_view : (d : Document) (task : Task) → IsFrameTask task → view_finished d task ≡ shown_after d.nr d.view task
+same_view d (tasks.Populate nav state address initial) is = refl
+same_view d (tasks.Activate entry epoch long at memo address) is = refl
+same_view d (tasks.Update long at) is = refl
+same_view d tasks.Discard is = refl
+same_view d tasks.Freeze never = absurd never
+same_view d (tasks.Ask slot cause) never = absurd never
+same_view d (tasks.DoFragment req mode address) never = absurd never
+
+-- it is small
+shown_small : (events more : ℕ) (doc : DocId) (view : Option View) (task : Task) → IsFrameTask task → more ≡ events + 1 → IfSome view (IsSmall events) → told_index task ≤ events → IfSome (shown_after doc view task) (IsSmall more)
+shown_small events more doc view (tasks.Populate nav state address initial) is next small told_ =
+    record { numbered = omega arith; index = omega arith }
+shown_small events more doc None (tasks.Activate entry epoch long at memo address) is next small told_ = tt
+shown_small events more doc (Some view) (tasks.Activate entry epoch long at memo address) is next small told_ =
+    let low : at ≤ events = told_ in
+    record { numbered = omega (arith, small.numbered, next); index = omega (arith, low, next) }
+shown_small events more doc None (tasks.Update long at) is next small told_ = tt
+shown_small events more doc (Some view) (tasks.Update long at) is next small told_ =
+    let low : at ≤ events = told_ in
+    record { numbered = omega (arith, small.numbered, next); index = omega (arith, low, next) }
+shown_small events more doc view tasks.Discard is next small told_ = tt
+shown_small events more doc view tasks.Freeze never next small told_ = absurd never
+shown_small events more doc view (tasks.Ask slot cause) never next small told_ = absurd never
+shown_small events more doc view (tasks.DoFragment req mode address) never next small told_ = absurd never
+
+-- what a finished order leaves but for the view of its document
+record IsFinishing (s : Seen) (order : Order) (outcome : Outcome) : Type 0 where
+  pub views : (doc : DocId) → view_found (slot_finished (documents_finished s.documents (Some order.job)) (Some order.job) outcome) doc ≡ view_found (documents_finished s.documents (Some order.job)) doc
+  pub homes : (doc : DocId) (proc : ProcId) → process_found (documents_finished s.documents (Some order.job)) doc ≡ Some proc → process_found (slot_finished (documents_finished s.documents (Some order.job)) (Some order.job) outcome) doc ≡ Some proc
   pub requests : requests_finished s (Some order) outcome s.requests ≡ s.requests
 
-finishing : (s : Seen) (d : Document) (order : Order) (task : Task) (view : View) → s.documents ≡ d ∷ [] → order.job.doc ≡ d.nr → d.view ≡ Some view → order.job.task ≡ task → IsToldTask task → IsFinishing s d order (told_outcome task) view
-finishing s d order (tasks.Activate entry epoch long at memo address) view only of_it viewed is told =
-    record {
-      documents = on_sole s.documents d order.job.doc _ only of_it ∙ rw is (ap (λ (o : Option View). let x : Document = record d { view = option_map (λ (v : View). after_task v (tasks.Activate entry epoch long at memo address)) o } in x ∷ []) viewed);
-      requests = refl;
-    }
-finishing s d order (tasks.Update long at) view only of_it viewed is told =
-    record {
-      documents = on_sole s.documents d order.job.doc _ only of_it ∙ rw is (ap (λ (o : Option View). let x : Document = record d { view = option_map (λ (v : View). after_task v (tasks.Update long at)) o } in x ∷ []) viewed);
-      requests = refl;
-    }
-finishing s d order _ view only of_it viewed is told = elim told [ ]
+finishing : (s : Seen) (order : Order) (task : Task) → IsFrameTask task → IsFinishing s order (own_outcome task)
+finishing s order (tasks.Populate nav state address initial) is =
+    let faces = faces_kept (documents_finished s.documents (Some order.job)) (slot_finished (documents_finished s.documents (Some order.job)) (Some order.job) (outcomes.Populated None)) (λ doc. faces_left (documents_finished s.documents (Some order.job)) doc _ (leaves_if (λ d. d.nr.0 == order.job.doc.0) (λ d. record d { slot = None }) (record { nr = λ d. refl; face = λ d. refl }))) in
+    record { views = faces.views; homes = faces.home; requests = refl }
+finishing s order (tasks.Activate entry epoch long at memo address) is =
+    record { views = λ doc. refl; homes = λ doc proc e. e; requests = refl }
+finishing s order (tasks.Update long at) is = record { views = λ doc. refl; homes = λ doc proc e. e; requests = refl }
+finishing s order tasks.Discard is = record { views = λ doc. refl; homes = λ doc proc e. e; requests = refl }
+finishing s order tasks.Freeze never = absurd never
+finishing s order (tasks.Ask slot cause) never = absurd never
+finishing s order (tasks.DoFragment req mode address) never = absurd never
 
--- its view's index is the one that it told, and its entries are as many
-record IsIndexed (task : Task) (view : View) : Type 0 where
-  pub index : (after_task view task).index ≡ told_index task
-  pub numbered : (after_task view task).numbered ≡ view.numbered
+-- ---- what a document made
 
-indexed : (task : Task) (view : View) → IsToldTask task → IsIndexed task view
-indexed (tasks.Activate entry epoch long at memo address) view is = record { index = refl; numbered = refl }
-indexed (tasks.Update long at) view is = record { index = refl; numbered = refl }
-indexed _ view is = elim is [ ]
-
--- what a document made is reported, and numbers an entry
+-- it is reported, and numbers one entry at most
 record IsMaking (view : View) (made : Made) (what : What) : Type 0 where
   pub reported : (waiting : List Report) → reports_made waiting made what ≡ waiting ++ told.Made made ∷ []
   pub index : (after_made view what).index ≤ view.index + 1
-  pub numbered : (after_made view what).numbered ≡ view.numbered + 1
+  pub numbered : (after_made view what).numbered ≤ view.numbered + 1
 
-making : (view : View) (made : Made) (what : What) → IsNewOf view what → IsMaking view made what
+making : (view : View) (made : Made) (what : What) → IsMadeNew view what → IsMaking view made what
 making view made (whats.Push entry memo address) is =
-    record { reported = λ waiting. refl; index = omega arith; numbered = refl }
+    record { reported = λ waiting. refl; index = omega arith; numbered = omega arith }
 making view made (whats.Replace over_ entry memo address) is =
-    record { reported = λ waiting. refl; index = omega arith; numbered = refl }
-making view made _ is = elim is [ ]
+    record { reported = λ waiting. refl; index = omega arith; numbered = omega arith }
+making view made (whats.AddFrame nav) is =
+    record { reported = λ waiting. refl; index = omega arith; numbered = omega arith }
+making view made (whats.RemoveFrame nav) is =
+    record { reported = λ waiting. refl; index = omega arith; numbered = omega arith }
+making view made (whats.Go delta) is =
+    record { reported = λ waiting. refl; index = omega arith; numbered = omega arith }
+making view made whats.Edit never = absurd never
+
+-- a document that doesn't run refuses its poke
+stopped_row : (proc : ProcId) (poke : Poke) (o : Option View) → holds (λ (v : View). v.running) o ≡ false → acted_row proc poke o ≡ rows.Refused poke.req denials.NoDocument
+stopped_row proc poke None stopped = refl
+stopped_row proc poke (Some view) stopped = rw stopped refl
 
 module _ (header : Header) (log : List LogRow) (t : State) (is : IsOpen header log t) (short : length log < row_limit) (proc : ProcId) where
   abbrev s : Seen
@@ -137,34 +172,33 @@ module _ (header : Header) (log : List LogRow) (t : State) (is : IsOpen header l
   abbrev by : Actor
   by = actors.Proc proc
 
-  abbrev d : Document
-  d = is.keeps.stands.d
+  abbrev c : Coordinator
+  c = t.coordinator
+
+  abbrev home : ProcId
+  home = t.coordinator.tables.home
 
   abbrev desk : Desk
   desk = desk_at t.desks proc
 
-  -- the view of the one document
-  abbrev pub view : View
-  view = is.keeps.stands.tab.flowing.own.running.view
+  abbrev stands : StandsFor (seen_of log) t.coordinator
+  stands = is.keeps.stands
 
-  -- a process in which something waits is the document's
-  pub poke_here : (poke : Poke) → slice_get desk.input 0 ≡ Some poke → proc ≡ d.proc
-  poke_here poke first =
-      busy_here header log t is proc (λ none. (let never : None ≡ Some poke = sym (ap (λ (x : Desk). slice_get x.input 0) none) ∙ first in absurd cc))
+  -- a process in which something waits is that of all documents
+  pub poke_here : (poke : Poke) → slice_get desk.input 0 ≡ Some poke → proc ≡ home
+  poke_here poke first = poke_home s c stands proc poke (ap (λ (x : Desk). slice_get x.input 0) (is.holds.desks proc) ∙ first)
 
-  pub first_job_here : (job : Job) → slice_get desk.mail 0 ≡ Some job → proc ≡ d.proc
-  first_job_here job first =
-      busy_here header log t is proc (λ none. (let never : None ≡ Some job = sym (ap (λ (x : Desk). slice_get x.mail 0) none) ∙ first in absurd cc))
+  pub first_job_here : (job : Job) → slice_get desk.mail 0 ≡ Some job → proc ≡ home
+  first_job_here job first = job_home s c stands proc job (ap (λ (x : Desk). slice_get x.mail 0) (is.holds.desks proc) ∙ first)
 
-  pub hand_here : (order : Order) → desk.in_hand ≡ Some order → proc ≡ d.proc
-  hand_here order hand =
-      busy_here header log t is proc (λ none. (let never : None ≡ Some order = sym (ap (λ (x : Desk). x.in_hand) none) ∙ hand in absurd cc))
+  pub hand_here : (order : Order) → desk.in_hand ≡ Some order → proc ≡ home
+  hand_here order hand = order_home s c stands proc order (ap (λ (x : Desk). x.in_hand) (is.holds.desks proc) ∙ hand)
 
-  module _ (here : proc ≡ is.keeps.stands.d.proc) where
-    its_desk : desk_of s d.proc ≡ desk
+  module _ (here : proc ≡ t.coordinator.tables.home) where
+    its_desk : desk_of s home ≡ desk
     its_desk = ap (λ (p : ProcId). desk_of s p) (sym here) ∙ is.holds.desks proc
 
-    by_it : by ≡ actors.Proc d.proc
+    by_it : by ≡ actors.Proc home
     by_it = ap (λ (p : ProcId). actors.Proc p) here
 
     -- an event of its own row alone, which leaves the coordinator
@@ -178,16 +212,12 @@ module _ (header : Header) (log : List LogRow) (t : State) (is : IsOpen header l
             begins = begins;
             log = whole ∙ ap (λ (a : Actor). log ++ row_with s.events a own ∷ []) (sym by_is);
           };
-          stands = subst (λ (l : List LogRow). IsOpen header l new) (sym whole) (alone_on header log t is short by own new (subst (λ (c : Coordinator). HasActed (event_of header log by own) [] c) (sym coordinator) acted) kept events_ small);
+          stands = subst (λ (l : List LogRow). IsOpen header l new) (sym whole) (alone_on header log t is short by own new (subst (λ (x : Coordinator). HasActed (event_of header log by own) [] x) (sym coordinator) acted) kept events_ small);
         }
 
     -- ---- an order is taken up
 
     module _ (job : Job) (first : slice_get desk.mail 0 ≡ Some job) (free : desk.in_hand ≡ None) where
-      its_job : job.doc ≡ d.nr
-      its_job =
-          (each_first (IsOrderOf d.nr is.keeps.stands.place.epoch is.keeps.stands.place.last_job) (orders_of_desk (desk_of s d.proc)) job (rw (its_desk, free) first) is.keeps.stands.tab.flowing.own.orders).of_doc
-
       pub begin_gone : (dirty : Bool) (new : State) (longer : List LogRow) → dirty ≡ holds (λ (v : View). v.dirty) (view_at t.views job.doc) → new.coordinator ≡ t.coordinator → new.events ≡ t.events + 1 → new.views ≡ t.views → Changes proc (λ (x : Desk). desk_with (items.Order (record { job = job; dirty = dirty })) (without_job x)) t.desks new.desks → new.endings.items ≡ t.endings.items → longer ≡ log ++ row_with t.events by (rows.Taken proc job.nr true dirty) ∷ [] → HasGone header (events.Begin proc) (replies.Took (record { job = job; dirty = dirty })) log longer new
       begin_gone dirty new longer dirt coordinator events_ views desks ends_ more =
           gone_alone (events.Begin proc) (replies.Took (record { job = job; dirty = dirty })) own new longer begins refl acted kept coordinator events_ (stays_small t.views new.views t.events new.events events_ stays is.holds.small) more
@@ -207,7 +237,7 @@ module _ (header : Header) (log : List LogRow) (t : State) (is : IsOpen header l
 
           acted : HasActed (event_of header log by own) [] t.coordinator
           acted =
-              taken_acted (event_of header log by own) t.coordinator is.keeps.stands job (ap (λ (x : Desk). x.in_hand) its_desk ∙ free) (ap (λ (x : Desk). slice_get x.mail 0) its_desk ∙ first) by_it (ap (λ (p : ProcId). rows.Taken p job.nr true dirty) here ∙ ap (λ (b : Bool). rows.Taken d.proc job.nr true b) (dirt ∙ ap (λ (o : Option View). holds (λ (v : View). v.dirty) o) (kept_view header log t is job.doc its_job)))
+              taken_acts (event_of header log by own) c stands refl by_it job (ap (λ (x : Desk). x.in_hand) its_desk ∙ free) (ap (λ (x : Desk). slice_get x.mail 0) its_desk ∙ first) (ap (λ (p : ProcId). rows.Taken p job.nr true dirty) here ∙ ap (λ (b : Bool). rows.Taken home job.nr true b) (its_dirt ∙ holds_then (λ (v : View). v.dirty) (document_of s job.doc)))
 
           kept : Keeping (opening_process header) (after s (row_with s.events by own)) s.events (desk_at new.desks) (view_at new.views) new.endings.items
           kept =
@@ -222,32 +252,38 @@ module _ (header : Header) (log : List LogRow) (t : State) (is : IsOpen header l
     -- ---- an order is finished
 
     module _ (order : Order) (hand : desk.in_hand ≡ Some order) where
-      its_order : IsOrderOf d.nr is.keeps.stands.place.epoch is.keeps.stands.place.last_job order.job
-      its_order =
-          in_hand_of (desk_of s d.proc) d is.keeps.stands.place order (ap (λ (x : Desk). x.in_hand) its_desk ∙ hand) is.keeps.stands.tab.flowing.own
+      in_hand : (desk_of s home).in_hand ≡ Some order
+      in_hand = ap (λ (x : Desk). x.in_hand) its_desk ∙ hand
 
-      pub its_told : IsToldTask order.job.task
-      its_told = is_told is.keeps.stands.place.epoch order.job.task its_order.task
+      its_order : IsOrderTo s.documents s.places order.job
+      its_order = in_hand_to s c stands order in_hand
 
-      pub its_doc : IsSomeAnd (view_at t.views order.job.doc) (λ (v : View). order.job.doc ≡ v.doc)
-      its_doc = rw (kept_view header log t is order.job.doc its_order.of_doc) (its_order.of_doc ∙ sym is.keeps.stands.tab.flowing.own.running.doc)
+      pub its_task : IsFrameTask order.job.task
+      its_task = frame_task its_order.document its_order.place order.job.task its_order.task
 
-      pub its_room : IsSomeAnd (view_at t.views order.job.doc) HasRoom
-      its_room = has_room header log t is order.job.doc its_order.of_doc
+      -- the view that it makes
+      abbrev next_view : Option View
+      next_view = shown_after order.job.doc (view_at t.views order.job.doc) order.job.task
 
-      pub finish_gone : (outcome : Outcome) (new : State) (longer : List LogRow) → ((dirty : Bool) → outcome ≡ outcome_of_task order.job.task dirty None) → new.coordinator ≡ t.coordinator → new.events ≡ t.events + 1 → IfSome (view_at t.views order.job.doc) (λ (v : View). Becomes order.job.doc (after_task v order.job.task) t.views new.views) → Changes proc (λ (x : Desk). desk_with (items.Report (told.Done order.job outcome None)) (without_order x)) t.desks new.desks → new.endings.items ≡ t.endings.items → longer ≡ log ++ row_with t.events by (rows.Finished proc order.job.nr outcome) ∷ [] → (done : worked.Done) → HasGone header (events.Finish proc done) replies.Finished log longer new
-      finish_gone outcome new longer out_is coordinator events_ viewed desks ends_ more done =
-          gone_alone (events.Finish proc done) replies.Finished own new longer begins refl acted kept coordinator events_ (becomes_small order.job.doc (after_task view order.job.task) t.views new.views t.events new.events events_ becomes small is.holds.small) more
+      made_view : option_and_then (λ (d : Document). view_finished d order.job.task) (document_in s.documents order.job.doc) ≡ next_view
+      made_view =
+          let d = its_order.document in
+          let number : d.nr ≡ order.job.doc = its_number s order.job.doc d its_order.found in
+          let before : d.view ≡ view_at t.views order.job.doc = sym (ap (λ (o : Option Document). option_and_then (λ (x : Document). x.view) o) its_order.found) ∙ is.holds.views order.job.doc in
+          ap (λ (o : Option Document). option_and_then (λ (x : Document). view_finished x order.job.task) o) its_order.found
+          ∙ (same_view d order.job.task its_task
+          ∙ (ap (λ (n : DocId). shown_after n d.view order.job.task) number
+          ∙ ap (λ (o : Option View). shown_after order.job.doc o order.job.task) before))
+
+      pub finish_gone : (outcome : Outcome) (new : State) (longer : List LogRow) → ((dirty : Bool) → outcome ≡ outcome_of_task order.job.task dirty None) → new.coordinator ≡ t.coordinator → new.events ≡ t.events + 1 → Shows order.job.doc next_view t.views new.views → Changes proc (λ (x : Desk). desk_with (items.Report (told.Done order.job outcome None)) (without_order x)) t.desks new.desks → new.endings.items ≡ t.endings.items → longer ≡ log ++ row_with t.events by (rows.Finished proc order.job.nr outcome) ∷ [] → (done : worked.Done) → HasGone header (events.Finish proc done) replies.Finished log longer new
+      finish_gone outcome new longer out_is coordinator events_ shows desks ends_ more done =
+          gone_alone (events.Finish proc done) replies.Finished own new longer begins refl acted kept coordinator events_ (shows_small order.job.doc next_view t.views new.views t.events new.events events_ shows small is.holds.small) more
         where
           own : RowKind
           own = rows.Finished proc order.job.nr outcome
 
-          becomes : Becomes order.job.doc (after_task view order.job.task) t.views new.views
-          becomes =
-              subst (λ (o : Option View). IfSome o (λ (v : View). Becomes order.job.doc (after_task v order.job.task) t.views new.views)) (kept_view header log t is order.job.doc its_order.of_doc) viewed
-
-          is_its : outcome ≡ told_outcome order.job.task
-          is_its = out_is true ∙ same_outcome order.job.task true its_told
+          is_its : outcome ≡ own_outcome order.job.task
+          is_its = out_is true ∙ same_outcome order.job.task true its_task
 
           begins : Begins s (events.Finish proc done) replies.Finished own []
           begins =
@@ -255,11 +291,10 @@ module _ (header : Header) (log : List LogRow) (t : State) (is : IsOpen header l
 
           acted : HasActed (event_of header log by own) [] t.coordinator
           acted =
-              finished_acted (event_of header log by own) t.coordinator is.keeps.stands order (ap (λ (x : Desk). x.in_hand) its_desk ∙ hand) by_it (ap (λ (p : ProcId). rows.Finished p order.job.nr outcome) here ∙ ap (λ (o : Outcome). rows.Finished d.proc order.job.nr o) is_its)
+              finished_acts (event_of header log by own) c stands refl by_it order in_hand refl (ap (λ (p : ProcId). rows.Finished p order.job.nr outcome) here ∙ ap (λ (o : Outcome). rows.Finished home order.job.nr o) is_its)
 
-          ends : IsFinishing s d order outcome view
-          ends =
-              subst (λ (o : Outcome). IsFinishing s d order o view) (sym is_its) (finishing s d order order.job.task view is.keeps.stands.tab.sole.documents its_order.of_doc is.keeps.stands.tab.flowing.own.running.seen refl its_told)
+          ends : IsFinishing s order outcome
+          ends = subst (λ (o : Outcome). IsFinishing s order o) (sym is_its) (finishing s order order.job.task its_task)
 
           held : (desk_of s proc).in_hand ≡ Some order
           held = ap (λ (x : Desk). x.in_hand) (is.holds.desks proc) ∙ hand
@@ -269,121 +304,133 @@ module _ (header : Header) (log : List LogRow) (t : State) (is : IsOpen header l
               record {
                 events = refl;
                 desks = λ p. desk_of-after s p s.events by own ∙ desks_go s t.desks new.desks proc (desk_finished outcome) (λ (x : Desk). desk_with (items.Report (told.Done order.job outcome None)) (without_order x)) is.holds.desks (rw hand refl) desks p;
-                views = λ doc. rw held (views_on d (Some (after_task view order.job.task)) _ ends.documents s.documents t.views new.views (after_task view order.job.task) order.job.doc is.keeps.stands.tab.sole.documents is.holds.views refl its_order.of_doc becomes doc);
+                views = λ doc. rw held (ends.views doc ∙ views_on s.documents order.job.doc (λ (d : Document). view_finished d order.job.task) t.views new.views next_view is.holds.views made_view shows doc);
                 endings = rw (held, ends.requests) (is.holds.endings ∙ sym ends_);
-                lives = rw held (lives_on d (Some (after_task view order.job.task)) _ ends.documents s.documents (opening_process header) is.keeps.stands.tab.sole.documents is.home);
+                lives = rw held (ends.homes first_document (opening_process header) (placed_on s.documents order.job.doc (λ (d : Document). view_finished d order.job.task) first_document ∙ is.home));
               }
 
-          small : IsSmall new.events (after_task view order.job.task)
+          small : IfSome next_view (IsSmall new.events)
           small =
-              let before = shown_small header log t is order.job.doc its_order.of_doc in
-              let same : (after_task view order.job.task).numbered ≡ view.numbered = (indexed order.job.task view its_told).numbered in
-              let at : (after_task view order.job.task).index ≡ told_index order.job.task = (indexed order.job.task view its_told).index in
-              let told_small : told_index order.job.task ≤ t.events = hand_small header log t is order (subst (λ (p : ProcId). (desk_at t.desks p).in_hand ≡ Some order) here hand) in
-              record { numbered = omega (arith, before.numbered, same, events_); index = omega (arith, told_small, at, events_) }
+              shown_small t.events new.events order.job.doc (view_at t.views order.job.doc) order.job.task its_task events_ (is.holds.small order.job.doc) (hand_small header log t is proc order hand)
 
-    -- ---- the document acts on a poke
+    -- ---- a poke is acted on
 
     module _ (poke : Poke) (first : slice_get desk.input 0 ≡ Some poke) where
-      there : slice_get (desk_of s d.proc).input 0 ≡ Some poke
-      there = ap (λ (x : Desk). slice_get x.input 0) its_desk ∙ first
+      waits : slice_get (desk_of s home).input 0 ≡ Some poke
+      waits = ap (λ (x : Desk). slice_get x.input 0) its_desk ∙ first
 
-      its_poke : poke.doc ≡ d.nr
-      its_poke =
-          (each_first (IsPokeTo d d.proc) (desk_of s d.proc).input poke there (is.keeps.stands.tab.pokes d.proc)).0
+      begins_with : (own : RowKind) → own ≡ acted_row proc poke (view_at t.views poke.doc) → Begins s (events.Act proc) replies.Acted own []
+      begins_with own own_is =
+          (refl, refl, rw (is.holds.desks proc, first) (own_is ∙ ap (λ (o : Option View). acted_row proc poke o) (sym (is.holds.views poke.doc))))
 
-      pub poke_room : IsSomeAnd (view_at t.views poke.doc) HasRoom
-      poke_room = has_room header log t is poke.doc its_poke
+      -- the process refuses it
+      refused_kept : (reason : Denial) (new : State) → Stays t.views new.views → Changes proc without_poke t.desks new.desks → new.endings.items ≡ ended_in t.endings.items poke.req (ends.Refused reason) → Keeping (opening_process header) (after s (row_with s.events by (rows.Refused poke.req reason))) s.events (desk_at new.desks) (view_at new.views) new.endings.items
+      refused_kept reason new stays desks ends_ =
+          record {
+            events = refl;
+            desks = λ p. desk_of-after s p s.events by (rows.Refused poke.req reason) ∙ desks_go s t.desks new.desks proc without_poke without_poke is.holds.desks refl desks p;
+            views = λ doc. is.holds.views doc ∙ sym (stays doc);
+            endings = ended_on s.requests poke.req _ (ends.Refused reason) (λ q. refl) ∙ (ap (λ (l : List (Option Ending)). ended_in l poke.req (ends.Refused reason)) is.holds.endings ∙ sym ends_);
+            lives = is.home;
+          }
 
-      pub poke_runs : IfSome (view_at t.views poke.doc) (λ (v : View). v.running ≡ false) → ⊥
-      poke_runs stopped =
-          let not_ : view.running ≡ false = subst (λ (o : Option View). IfSome o (λ (v : View). v.running ≡ false)) (kept_view header log t is poke.doc its_poke) stopped in
-          let wrong : true ≡ false = sym is.keeps.stands.tab.flowing.own.running.runs ∙ not_ in absurd cc
-
-      begins_with : (own : RowKind) → (own ≡ act_row proc view poke.req (made_by view poke.action)) → IsSomeAnd (slice_get (desk_of s proc).input 0) (λ (p : Poke). IsSomeAnd (view_in s p.doc) (λ (v : View). own ≡ act_row proc v p.req (made_by v p.action)))
-      begins_with own own_is = rw (is.holds.desks proc, first, viewed header log t is poke.doc its_poke) own_is
-
-      pub made_gone : (made : Made) (new : State) (longer : List LogRow) → IfSome (view_at t.views poke.doc) (λ (v : View). Acts v poke made t.views new.views) → new.coordinator ≡ t.coordinator → new.events ≡ t.events + 1 → Changes proc (λ (x : Desk). desk_with (items.Report (told.Made made)) (without_poke x)) t.desks new.desks → new.endings.items ≡ t.endings.items → longer ≡ log ++ row_with t.events by (rows.Made proc made) ∷ [] → HasGone header (events.Act proc) replies.Acted log longer new
-      made_gone made new longer acting coordinator events_ desks ends_ more =
-          gone_alone (events.Act proc) replies.Acted own new longer begins refl acted_ kept coordinator events_ (becomes_small poke.doc (after_made view made.what) t.views new.views t.events new.events events_ acts.becomes small is.holds.small) more
+      -- its document is gone, or doesn't run
+      pub stopped_gone : (new : State) (longer : List LogRow) → holds (λ (v : View). v.running) (view_at t.views poke.doc) ≡ false → new.coordinator ≡ t.coordinator → new.events ≡ t.events + 1 → new.views ≡ t.views → Changes proc without_poke t.desks new.desks → new.endings.items ≡ ended_in t.endings.items poke.req (ends.Refused denials.NoDocument) → longer ≡ log ++ row_with t.events by (rows.Refused poke.req denials.NoDocument) ∷ [] → HasGone header (events.Act proc) replies.Acted log longer new
+      stopped_gone new longer stopped coordinator events_ views desks ends_ more =
+          gone_alone (events.Act proc) replies.Acted (rows.Refused poke.req denials.NoDocument) new longer (begins_with _ (sym (stopped_row proc poke (view_at t.views poke.doc) stopped))) refl acted (refused_kept denials.NoDocument new stays desks ends_) coordinator events_ (stays_small t.views new.views t.events new.events events_ stays is.holds.small) more
         where
-          own : RowKind
-          own = rows.Made proc made
+          stays : Stays t.views new.views
+          stays doc = ap (λ (v : List (DocId × View)). view_at v doc) views
 
-          acts : Acts view poke made t.views new.views
-          acts =
-              subst (λ (o : Option View). IfSome o (λ (v : View). Acts v poke made t.views new.views)) (kept_view header log t is poke.doc its_poke) acting
+          none_runs : is_running s poke.doc ≡ false
+          none_runs =
+              sym (holds_then (λ (v : View). v.running) (document_of s poke.doc))
+              ∙ (ap (λ (o : Option View). holds (λ (v : View). v.running) o) (is.holds.views poke.doc) ∙ stopped)
 
-          e : InEvent
-          e = event_of header log by own
+          acted : HasActed (event_of header log by (rows.Refused poke.req denials.NoDocument)) [] t.coordinator
+          acted = no_document_acts (event_of header log by (rows.Refused poke.req denials.NoDocument)) c stands refl by_it poke waits none_runs refl
 
-          begins : Begins s (events.Act proc) replies.Acted own []
-          begins =
-              (refl, refl, begins_with own (ap (λ (m : Made). rows.Made proc m) acts.is ∙ ap (λ (o : Option What). act_row proc view poke.req o) (sym acts.what)))
+      -- it runs
+      module _ (view : View) (at : view_at t.views poke.doc ≡ Some view) (running : view.running ≡ true) where
+        its_view : HasView s poke.doc view
+        its_view = viewed header log t is poke.doc view at
 
-          acted_ : HasActed e [] t.coordinator
-          acted_ =
-              made_acted e t.coordinator is.keeps.stands poke there by_it refl made.what acts.what (ap (λ (p : ProcId). rows.Made p made) here ∙ ap (λ (m : Made). rows.Made d.proc m) acts.is)
+        its_row : acted_row proc poke (view_at t.views poke.doc) ≡ act_row proc view poke.req (made_by view poke.action)
+        its_row = rw at (rw running refl)
 
-          makes : IsMaking view made made.what
-          makes =
-              making view made made.what (new_of_made view (to_act e t.coordinator is.keeps.stands poke there by_it refl).1 poke.action made.what (enters e t.coordinator is.keeps.stands poke there by_it refl) acts.what).0
+        pub made_gone : (made : Made) (new : State) (longer : List LogRow) → IfSome (view_at t.views poke.doc) (λ (v : View). Acts v poke made t.views new.views) → new.coordinator ≡ t.coordinator → new.events ≡ t.events + 1 → Changes proc (λ (x : Desk). desk_with (items.Report (told.Made made)) (without_poke x)) t.desks new.desks → new.endings.items ≡ t.endings.items → longer ≡ log ++ row_with t.events by (rows.Made proc made) ∷ [] → HasGone header (events.Act proc) replies.Acted log longer new
+        made_gone made new longer acting coordinator events_ desks ends_ more =
+            gone_alone (events.Act proc) replies.Acted own new longer begins refl acted_ kept coordinator events_ (shows_small poke.doc (Some (after_made view made.what)) t.views new.views t.events new.events events_ acts.becomes small is.holds.small) more
+          where
+            own : RowKind
+            own = rows.Made proc made
 
-          apart : follows_finished s (row_with s.events by own) ≡ false
-          apart = let never : (s.events == (s.events + 1)) ≡ false = grind (arith, nat_tests) in rw never refl
+            acts : Acts view poke made t.views new.views
+            acts = subst (λ (o : Option View). IfSome o (λ (v : View). Acts v poke made t.views new.views)) at acting
 
-          of_it : made.doc ≡ poke.doc
-          of_it = ap (λ (m : Made). m.doc) acts.is ∙ (is.keeps.stands.tab.flowing.own.running.doc ∙ sym its_poke)
+            e : InEvent
+            e = event_of header log by own
 
-          kept : Keeping (opening_process header) (after s (row_with s.events by own)) s.events (desk_at new.desks) (view_at new.views) new.endings.items
-          kept =
-              record {
-                events = refl;
-                desks = λ p. desk_of-after s p s.events by own
-                    ∙ (ap (λ (b : Bool). on_proc proc (desks_made b made) p (desk_of s p)) apart
-                    ∙ desks_go s t.desks new.desks proc (desk_made made) (λ (x : Desk). desk_with (items.Report (told.Made made)) (without_poke x)) is.holds.desks (ap (λ (l : List Report). let x : Desk = record desk { input = drop 1 desk.input; reports = l } in x) (makes.reported desk.reports)) desks p);
-                views = views_on d (option_map (λ (v : View). after_made v made.what) d.view) _ are s.documents t.views new.views (after_made view made.what) poke.doc is.keeps.stands.tab.sole.documents is.holds.views (ap (λ (o : Option View). option_map (λ (v : View). after_made v made.what) o) is.keeps.stands.tab.flowing.own.running.seen) its_poke acts.becomes;
-                endings = left_on s.requests made.req _ (λ q. refl) ∙ (is.holds.endings ∙ sym ends_);
-                lives = lives_on d (option_map (λ (v : View). after_made v made.what) d.view) _ are s.documents (opening_process header) is.keeps.stands.tab.sole.documents is.home;
-              }
-            where
-              are : on_document made.doc (λ (x : Document). record x { view = option_map (λ (v : View). after_made v made.what) x.view }) s.documents ≡ record d { view = option_map (λ (v : View). after_made v made.what) d.view } ∷ []
-              are = on_sole s.documents d made.doc _ is.keeps.stands.tab.sole.documents (of_it ∙ its_poke)
+            begins : Begins s (events.Act proc) replies.Acted own []
+            begins =
+                begins_with own (ap (λ (m : Made). rows.Made proc m) acts.is ∙ (ap (λ (o : Option What). act_row proc view poke.req o) (sym acts.what) ∙ sym its_row))
 
-          small : IsSmall new.events (after_made view made.what)
-          small =
-              let before = shown_small header log t is poke.doc its_poke in
-              record {
-                numbered = omega (arith, before.numbered, makes.numbered, events_);
-                index = omega (arith, before.index, makes.index, events_);
-              }
+            acted_ : HasActed e [] t.coordinator
+            acted_ =
+                made_acts e c stands refl by_it poke waits its_view.d view its_view.found its_view.has running made.what acts.what (ap (λ (p : ProcId). rows.Made p made) here ∙ ap (λ (m : Made). rows.Made home m) acts.is)
 
-      pub refused_gone : (new : State) (longer : List LogRow) → IfSome (view_at t.views poke.doc) (λ (v : View). made_by v poke.action ≡ None) → new.coordinator ≡ t.coordinator → new.events ≡ t.events + 1 → Stays t.views new.views → Changes proc without_poke t.desks new.desks → new.endings.items ≡ ended_in t.endings.items poke.req (ends.Refused denials.BadAddress) → longer ≡ log ++ row_with t.events by (rows.Refused poke.req denials.BadAddress) ∷ [] → HasGone header (events.Act proc) replies.Acted log longer new
-      refused_gone new longer unmade coordinator events_ stays desks ends_ more =
-          gone_alone (events.Act proc) replies.Acted own new longer begins refl acted_ kept coordinator events_ (stays_small t.views new.views t.events new.events events_ stays is.holds.small) more
-        where
-          own : RowKind
-          own = rows.Refused poke.req denials.BadAddress
+            fine : IsNoEditing poke.action
+            fine = (its_act home c.tables.running s stands.between poke waits its_view.d view its_view.found its_view.has running).fine
 
-          none : made_by view poke.action ≡ None
-          none =
-              subst (λ (o : Option View). IfSome o (λ (v : View). made_by v poke.action ≡ None)) (kept_view header log t is poke.doc its_poke) unmade
+            makes : IsMaking view made made.what
+            makes = making view made made.what (made_of_action view poke.action made.what fine acts.what).new
 
-          e : InEvent
-          e = event_of header log by own
+            apart : follows_finished s (row_with s.events by own) ≡ false
+            apart = let never : (s.events == (s.events + 1)) ≡ false = grind (arith, nat_tests) in rw never refl
 
-          begins : Begins s (events.Act proc) replies.Acted own []
-          begins = (refl, refl, begins_with own (ap (λ (o : Option What). act_row proc view poke.req o) (sym none)))
+            of_it : made.doc ≡ poke.doc
+            of_it =
+                ap (λ (m : Made). m.doc) acts.is
+                ∙ ((stands.between.tab.framed.documents poke.doc its_view.d its_view.found).alive.viewed view its_view.has ∙ its_number s poke.doc its_view.d its_view.found)
 
-          acted_ : HasActed e [] t.coordinator
-          acted_ = refused_acted e t.coordinator is.keeps.stands poke there by_it refl none refl
+            new_view : option_and_then (λ (d : Document). option_map (λ (v : View). after_made v made.what) d.view) (document_in s.documents made.doc) ≡ Some (after_made view made.what)
+            new_view =
+                ap (λ (n : DocId). option_and_then (λ (d : Document). option_map (λ (v : View). after_made v made.what) d.view) (document_in s.documents n)) of_it
+                ∙ (ap (λ (o : Option Document). option_and_then (λ (d : Document). option_map (λ (v : View). after_made v made.what) d.view) o) its_view.found
+                ∙ ap (λ (o : Option View). option_map (λ (v : View). after_made v made.what) o) its_view.has)
 
-          kept : Keeping (opening_process header) (after s (row_with s.events by own)) s.events (desk_at new.desks) (view_at new.views) new.endings.items
-          kept =
-              record {
-                events = refl;
-                desks = λ p. desk_of-after s p s.events by own ∙ desks_go s t.desks new.desks proc without_poke without_poke is.holds.desks refl desks p;
-                views = λ doc. is.holds.views doc ∙ sym (stays doc);
-                endings = ended_on s.requests poke.req _ (ends.Refused denials.BadAddress) (λ q. refl) ∙ (ap (λ (l : List (Option Ending)). ended_in l poke.req (ends.Refused denials.BadAddress)) is.holds.endings ∙ sym ends_);
-                lives = is.home;
-              }
+            shows : Shows made.doc (Some (after_made view made.what)) t.views new.views
+            shows =
+                subst (λ (n : DocId). Shows n (Some (after_made view made.what)) t.views new.views) (sym of_it) acts.becomes
+
+            kept : Keeping (opening_process header) (after s (row_with s.events by own)) s.events (desk_at new.desks) (view_at new.views) new.endings.items
+            kept =
+                record {
+                  events = refl;
+                  desks = λ p. desk_of-after s p s.events by own
+                      ∙ (ap (λ (b : Bool). on_proc proc (desks_made b made) p (desk_of s p)) apart
+                      ∙ desks_go s t.desks new.desks proc (desk_made made) (λ (x : Desk). desk_with (items.Report (told.Made made)) (without_poke x)) is.holds.desks (ap (λ (l : List Report). let x : Desk = record desk { input = drop 1 desk.input; reports = l } in x) (makes.reported desk.reports)) desks p);
+                  views = views_on s.documents made.doc (λ (d : Document). option_map (λ (v : View). after_made v made.what) d.view) t.views new.views (Some (after_made view made.what)) is.holds.views new_view shows;
+                  endings = left_on s.requests made.req _ (λ q. refl) ∙ (is.holds.endings ∙ sym ends_);
+                  lives = placed_on s.documents made.doc (λ (d : Document). option_map (λ (v : View). after_made v made.what) d.view) first_document ∙ is.home;
+                }
+
+            small : IsSmall new.events (after_made view made.what)
+            small =
+                let before : IsSmall t.events view = subst (λ (o : Option View). IfSome o (IsSmall t.events)) at (is.holds.small poke.doc) in
+                record {
+                  numbered = omega (arith, before.numbered, makes.numbered, events_);
+                  index = omega (arith, before.index, makes.index, events_);
+                }
+
+        -- its address is none for the document
+        pub refused_gone : (new : State) (longer : List LogRow) → IfSome (view_at t.views poke.doc) (λ (v : View). made_by v poke.action ≡ None) → new.coordinator ≡ t.coordinator → new.events ≡ t.events + 1 → Stays t.views new.views → Changes proc without_poke t.desks new.desks → new.endings.items ≡ ended_in t.endings.items poke.req (ends.Refused denials.BadAddress) → longer ≡ log ++ row_with t.events by (rows.Refused poke.req denials.BadAddress) ∷ [] → HasGone header (events.Act proc) replies.Acted log longer new
+        refused_gone new longer unmade coordinator events_ stays desks ends_ more =
+            gone_alone (events.Act proc) replies.Acted (rows.Refused poke.req denials.BadAddress) new longer (begins_with _ (ap (λ (o : Option What). act_row proc view poke.req o) (sym none) ∙ sym its_row)) refl acted_ (refused_kept denials.BadAddress new stays desks ends_) coordinator events_ (stays_small t.views new.views t.events new.events events_ stays is.holds.small) more
+          where
+            none : made_by view poke.action ≡ None
+            none = subst (λ (o : Option View). IfSome o (λ (v : View). made_by v poke.action ≡ None)) at unmade
+
+            acted_ : HasActed (event_of header log by (rows.Refused poke.req denials.BadAddress)) [] t.coordinator
+            acted_ =
+                no_address_acts (event_of header log by (rows.Refused poke.req denials.BadAddress)) c stands refl by_it poke waits its_view.d view its_view.found its_view.has running none refl

@@ -12,11 +12,12 @@ use Rattle.log_model.specs.declared.row_kind.RowKind.{RowKind}
 use Rattle.log_model.specs.declared.row_kind.RowKind.TheVariants as rows
 use Rattle.log_model.specs.Logs.{seen_of}
 use Rattle.seen_laws.specs.InEvent.{InEvent}
+use Rattle.world.specs.Open.{bare}
 
 -- the next event of a log, with its own row
 abbrev pub event_of : Header → List LogRow → Actor → RowKind → InEvent
 event_of header log actor own =
-    record { header = header; start = seen_of log; event = (seen_of log).events; actor = actor; own = own }
+    record { header = bare header; start = seen_of log; event = (seen_of log).events; actor = actor; own = own }
 
 -- a traversal is accepted
 abbrev pub asking : Header → List LogRow → ReqId → ℤ → InEvent

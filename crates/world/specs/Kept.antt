@@ -1,6 +1,6 @@
 -- What a world is to its callers: its settings, its log, and whether it is closed; and what holds of every world.
 -- This project's own.
-use Rattle.std.specs.Prelude.{◌≡◌, Bool, false, List, None, IsTrue}
+use Rattle.std.specs.Prelude.{◌≡◌, Bool, false, List, [], None, IsTrue}
 use Rattle.log_model.specs.declared.row_kind.LogRow.{LogRow}
 use Rattle.log_model.specs.declared.header.Header.{Header}
 use Rattle.log_model.specs.Seen.{nothing}
@@ -26,8 +26,8 @@ OpensAs header log = IsTrue (opens_as header nothing (events_of log))
 pub record IsKept (header : Header) (log : List LogRow) (state : State) (closed : Bool) : Type 0 where
   pub legal : IsLegal log
   pub at_once : ActsAtOnce log
-  -- it suits the settings if it opens as they say
-  pub suits : OpensAs header log → Suits header log
+  -- it suits the settings if it opens as they say, and they have no pages
+  pub suits : header.pages ≡ [] → OpensAs header log → Suits header log
   pub limited : BeginsBelow row_limit log
   -- and what is kept beside the log is what it has come to, unless the world is closed
   pub stands : closed ≡ false → IsOpen header log state

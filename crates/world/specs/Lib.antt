@@ -2,6 +2,8 @@ pub mod Kept
 pub mod Open
 pub mod Opening
 pub mod Notes
+pub mod Reaching
+pub mod Shows
 pub mod Steps
 pub mod Turns
 pub mod Asking

@@ -1,6 +1,6 @@
--- What an open world keeps beside its log, which is what the log has come to.
+-- What an open world of a tab of frames keeps beside its log, which is what the log has come to.
 -- This project's own.
-use Rattle.std.specs.Prelude.{◌≡◌, ℕ, ◌≤◌, ◌*◌, List, map, Option, Some, IfSome, bytes_eq, if◌then◌else◌, option_map, option_and_then}
+use Rattle.std.specs.Prelude.{◌≡◌, ℕ, ◌≤◌, ◌*◌, List, [], map, Option, Some, IfSome, bytes_eq, if◌then◌else◌, option_map, option_and_then}
 use Rattle.tab_ids.specs.declared.DocId.{DocId}
 use Rattle.tab_ids.specs.declared.ProcId.{ProcId}
 use Rattle.address.specs.Addresses.{base_of, origin_of, blank_text}
@@ -14,7 +14,7 @@ use Rattle.log_model.specs.Suits.{first_process, process_of_origin}
 use Rattle.log_model.specs.Views.{View}
 use Rattle.proc_tables.specs.Desks.{desk_at}
 use Rattle.proc_tables.specs.Views.{view_at}
-use Rattle.coord.specs.Keeping.{Keeps}
+use Rattle.frame_acts.specs.Keeping.{Keeps}
 use Rattle.world.specs.declared.state.State.{State}
 
 -- no event begins at this many rows or more
@@ -56,9 +56,13 @@ pub record Holds (s : Seen) (t : State) : Type 0 where
   pub endings : endings_of s ≡ t.endings.items
   pub small : (doc : DocId) → IfSome (view_at t.views doc) (IsSmall t.events)
 
+-- the settings without their pages: no document gets a handler yet
+abbrev pub bare : Header → Header
+bare header = record header { pages = [] }
+
 -- the log keeps all rules, the coordinator stands for it, and the rest is what it has come to
 pub record IsOpen (header : Header) (log : List LogRow) (t : State) : Type 0 where
-  pub keeps : Keeps header log t.coordinator
+  pub keeps : Keeps (bare header) log t.coordinator
   pub limited : BeginsBelow row_limit log
   pub holds : Holds (seen_of log) t
   -- the document with which the tab opened is in its process

@@ -7,7 +7,7 @@ use Rattle.log_model.specs.declared.row_kind.LogRow.{LogRow}
 use Rattle.log_model.specs.declared.row_kind.RowKind.TheVariants as rows
 use Rattle.log_model.specs.Views.{opening_view}
 use Rattle.proc_tables.specs.Views.{Becomes}
-use Rattle.coord.specs.Standing.{StandsFor, opened_at}
+use Rattle.frame_coord.specs.Standing.{StandsFor, opened_at}
 use Rattle.world.specs.declared.state.State.{State}
 use Rattle.world.specs.Open.{first_document}
 

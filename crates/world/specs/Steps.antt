@@ -1,8 +1,12 @@
--- What a step of a world answers, and what it logs.
+-- What a step of a world of a tab of frames answers, and what it logs.
 -- This project's own.
-use Rattle.std.specs.Prelude.{◌≡◌, ℕ, ◌+◌, ◌<◌, ◌≤◌, true, ◌==◌, List, [], ◌∷◌, ◌++◌, map, length, slice_get, Option, Some, None, option_map, Result, Ok, Err, IsSomeAnd, if◌then◌else◌}
+use Rattle.std.specs.Prelude.{◌≡◌, ℕ, ◌+◌, ◌<◌, ◌≤◌, true, ◌==◌, List, [], ◌∷◌, ◌++◌, map, length, slice_get, Bool, false, Option, Some, None, is_some, option_map, Result, Ok, Err, IsSomeAnd, if◌then◌else◌}
 use Rattle.tab_ids.specs.declared.ProcId.{ProcId}
 use Rattle.tab_ids.specs.declared.ReqId.{ReqId}
+use Rattle.tab_ids.specs.declared.NavId.{NavId}
+use Rattle.log_model.specs.declared.action.Action.{Action}
+use Rattle.log_model.specs.declared.action.Action.TheVariants as actions
+use Rattle.log_model.specs.declared.request.Poke.{Poke}
 use Rattle.log_model.specs.declared.job.Job.{Job}
 use Rattle.log_model.specs.declared.job.Order.{Order}
 use Rattle.log_model.specs.declared.made.What.{What}
@@ -13,7 +17,8 @@ use Rattle.log_model.specs.declared.row_kind.Actor.TheVariants as actors
 use Rattle.log_model.specs.declared.row_kind.LogRow.{LogRow}
 use Rattle.log_model.specs.declared.row_kind.RowKind.{RowKind}
 use Rattle.log_model.specs.declared.row_kind.RowKind.TheVariants as rows
-use Rattle.log_model.specs.Entries.{HasPassed, is_change_of_entry}
+use Rattle.log_model.specs.Causes.{denial_of_poke}
+use Rattle.log_model.specs.Entries.{HasPassed}
 use Rattle.log_model.specs.Equal.{holds}
 use Rattle.log_model.specs.Formed.{poked_document}
 use Rattle.log_model.specs.Logs.{seen_of}
@@ -30,10 +35,15 @@ use Rattle.world.specs.Kept.{WorldState}
 use Rattle.world.specs.Notes.{row_with}
 use Rattle.world.specs.Open.{row_limit, view_in}
 
--- the events that a world of one document takes: a poke is a push, a replace or a fragment
+-- any action but an edit of the page
+abbrev pub is_no_edit : Action → Bool
+is_no_edit actions.Edit = false
+is_no_edit _ = true
+
+-- the events that a world of a tab of frames takes: a poke is any action but an edit of the page
 abbrev pub IsBuilt : Event → Type 0
 IsBuilt (events.Go delta) = Unit {0}
-IsBuilt (events.Poke nav action) = HasPassed (is_change_of_entry action)
+IsBuilt (events.Poke nav action) = HasPassed (is_no_edit action)
 IsBuilt (events.Act proc) = Unit {0}
 IsBuilt (events.Begin proc) = Unit {0}
 IsBuilt (events.Finish proc done) = Unit {0}
@@ -80,10 +90,20 @@ row_in s event kind = row_with s.events (actor_of event) kind
 abbrev pub next_request : Seen → ReqId
 next_request s = record { 0 = length s.requests + 1 }
 
+-- the document that a poke of the navigable reaches, where no reason denies it
+abbrev pub reached_in : Seen → NavId → Option Document
+reached_in s nav = if is_some (denial_of_poke s nav) then None else poked_document s nav
+
 -- what a document makes of the poke of a request, or that its address is refused
 abbrev pub act_row : ProcId → View → ReqId → Option What → RowKind
 act_row proc view req (Some what) = rows.Made proc (made_for view req what)
 act_row proc view req None = rows.Refused req denials.BadAddress
+
+-- so where its view runs; a document that is gone or doesn't run refuses the poke
+abbrev pub acted_row : ProcId → Poke → Option View → RowKind
+acted_row proc poke (Some view) =
+    if view.running then act_row proc view poke.req (made_by view poke.action) else rows.Refused poke.req denials.NoDocument
+acted_row proc poke None = rows.Refused poke.req denials.NoDocument
 
 -- an order as it is taken up: whether its document has unsaved edits is noted
 abbrev pub order_for : Seen → Job → Order
@@ -95,10 +115,10 @@ Begins s (events.Go delta) reply own out =
     (reply ≡ replies.Accepted (next_request s)) × (own ≡ rows.Accepted (next_request s) None (requests.Go delta))
 Begins s (events.Poke nav action) reply own out =
     (reply ≡ replies.Accepted (next_request s))
-    × (own ≡ rows.Accepted (next_request s) (option_map (λ (d : Document). d.nr) (poked_document s nav)) (requests.Poke nav action))
+    × (own ≡ rows.Accepted (next_request s) (option_map (λ (d : Document). d.nr) (reached_in s nav)) (requests.Poke nav action))
 Begins s (events.Act proc) reply own out =
     (reply ≡ replies.Acted) × (out ≡ [])
-    × IsSomeAnd (slice_get (desk_of s proc).input 0) (λ poke. IsSomeAnd (view_in s poke.doc) (λ view. own ≡ act_row proc view poke.req (made_by view poke.action)))
+    × IsSomeAnd (slice_get (desk_of s proc).input 0) (λ poke. own ≡ acted_row proc poke (view_in s poke.doc))
 Begins s (events.Begin proc) reply own out =
     (out ≡ [])
     × IsSomeAnd (slice_get (desk_of s proc).mail 0) (λ job. (reply ≡ replies.Took (order_for s job)) × (own ≡ rows.Taken proc job.nr true (order_for s job).dirty))

@@ -1,28 +1,30 @@
 //! The events in which a request is accepted.
-ghost use Rattle.std.specs.Prelude.{◌≡◌, ◌<◌, ◌+◌, [], length, take, IfOk, IfErr, OnOk, OnErr};
-ghost use Rattle.coord.specs.Keeping.{Keeps};
-ghost use Rattle.coord.specs.Queueing.{HasRoom};
-ghost use Rattle.coord.specs.Standing.{HasActed};
-ghost use Rattle.log_model.specs.Entries.{HasPassed, is_change_of_entry};
+ghost use Rattle.std.specs.Prelude.{◌≡◌, ◌<◌, ◌+◌, [], Some, length, take, IfOk, IfErr, OnOk, OnErr};
+ghost use Rattle.frame_coord.specs.Standing.{HasActed, HasRoomFor, StandsFor};
+ghost use Rattle.log_model.specs.Causes.{denial_of_poke};
+ghost use Rattle.log_model.specs.Entries.{HasPassed};
 ghost use Rattle.log_model.specs.Logs.{seen_of};
 ghost use Rattle.seen_laws.specs.InEvent.{InEvent};
 ghost use Rattle.world.specs.declared.event.Event.TheVariants as events;
 ghost use Rattle.world.specs.Asking.{asking};
 ghost use Rattle.world.specs.Open.{IsOpen, row_limit};
+ghost use Rattle.world.specs.Reaching.{Reaches};
+ghost use Rattle.world.specs.Steps.{is_no_edit};
 ghost use Rattle.world.specs.Turns.{HasGone, Shuts};
 
 use crate::endings::{add, next_request};
 use crate::error::StepError;
 use crate::event::Reply;
 use crate::logging::{log_row, log_work};
+use crate::reading::reached;
 use crate::state::State;
 use address::OutOfMemory;
-use coord::Coordinator;
+use frame_coord::Coordinator;
 use history_log::Log;
 use log_model::{Action, Actor, Denial, Ending, Header, Out, Poke, Request, RowKind};
 use proc_tables::Item;
 use std::alloc::Global;
-use tab_ids::{NavId, ReqId};
+use tab_ids::{DocId, NavId, ReqId};
 
 /// A traversal is accepted: it joins the queue, and has its turn where none runs.
 pub(crate) fn accept_go(
@@ -81,8 +83,8 @@ fn ask(
 ) -> Result<(), OutOfMemory>
     ghost e: { InEvent }
     requires is { e ≡ asking header.now log.now req delta }
-    requires keeps { Keeps header.now log.now coordinator.old }
-    requires room { HasRoom (seen_of log.now) }
+    requires stands { StandsFor (seen_of log.now) coordinator.old }
+    requires room { HasRoomFor (seen_of log.now) }
     requires next { req.0 ≡ length (seen_of log.now).requests + 1 }
     requires first { out.old ≡ [] }
     ensures acted { OnOk result (HasActed (asking header.now log.now req delta) out.new coordinator.new) }
@@ -90,7 +92,7 @@ fn ask(
     coordinator.request(alloc, out, req, delta)
 }
 
-/// A poke is accepted: it waits in the process of the one document, or is refused where it names another navigable.
+/// A poke is accepted: it waits in the process of the document that it reaches, or is refused where it reaches none.
 pub(crate) fn accept_poke(
     log: &mut Log,
     header: &Header,
@@ -100,36 +102,36 @@ pub(crate) fn accept_poke(
 ) -> Result<Reply, StepError>
     requires open { IsOpen header.now log.old state.old }
     requires short { length log.old < row_limit }
-    requires built { HasPassed (is_change_of_entry action) }
+    requires built { HasPassed (is_no_edit action) }
     ensures gone { IfOk result (λ reply. HasGone header.now (events.Poke nav action) reply log.old log.new state.new) }
     ensures shuts { IfErr result Shuts }
     ensures front { OnErr result (take (length log.old) log.new ≡ log.old) }
 {
-    if nav.0 == 0 {
-        return accept_here(log, header, state, nav, action);
+    match reached(&state.coordinator, &state.views, nav) {
+        Ok(doc) => accept_here(log, header, state, nav, action, doc),
+        Err(reason) => refuse_stray(log, header, state, nav, action, reason),
     }
-    refuse_stray(log, header, state, nav, action)
 }
 
-/// A poke of the top waits in the process of its document.
+/// A poke that reaches a document waits in the process of all documents.
 fn accept_here(
     log: &mut Log,
     header: &Header,
     state: &mut State,
     nav: NavId,
     action: Action,
+    doc: DocId,
 ) -> Result<Reply, StepError>
     requires open { IsOpen header.now log.old state.old }
     requires short { length log.old < row_limit }
-    requires built { HasPassed (is_change_of_entry action) }
-    requires here { nav.0 ≡ 0 }
+    requires built { HasPassed (is_no_edit action) }
+    requires reached { Reaches (seen_of log.old) nav doc }
     ensures gone { IfOk result (λ reply. HasGone header.now (events.Poke nav action) reply log.old log.new state.new) }
     ensures shuts { IfErr result Shuts }
     ensures front { OnErr result (take (length log.old) log.new ≡ log.old) }
 {
     let req = next_request(&state.endings);
-    let doc = state.coordinator.home.doc;
-    let proc = state.coordinator.home.proc;
+    let proc = state.coordinator.tables.home;
     let kept = action.copy()?;
     add(&mut state.endings, None)?;
     let poke = Poke {
@@ -148,24 +150,24 @@ fn accept_here(
     Ok(Reply::Accepted(req))
 }
 
-/// A poke of a navigable without a row is refused.
+/// A poke that reaches no document is refused.
 fn refuse_stray(
     log: &mut Log,
     header: &Header,
     state: &mut State,
     nav: NavId,
     action: Action,
+    reason: Denial,
 ) -> Result<Reply, StepError>
     requires open { IsOpen header.now log.old state.old }
     requires short { length log.old < row_limit }
-    requires built { HasPassed (is_change_of_entry action) }
-    requires stray { 0 < nav.0 }
+    requires built { HasPassed (is_no_edit action) }
+    requires denied { denial_of_poke (seen_of log.old) nav ≡ Some reason }
     ensures gone { IfOk result (λ reply. HasGone header.now (events.Poke nav action) reply log.old log.new state.new) }
     ensures shuts { IfErr result Shuts }
     ensures front { OnErr result (take (length log.old) log.new ≡ log.old) }
 {
     let req = next_request(&state.endings);
-    let reason = Denial::NoNavigable;
     add(&mut state.endings, Some(Ending::Refused(reason)))?;
     let event = state.events;
     let own = RowKind::Accepted {

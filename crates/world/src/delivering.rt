@@ -1,8 +1,6 @@
 //! The event in which the coordinator takes a report.
 ghost use Rattle.std.specs.Prelude.{◌≡◌, ◌<◌, [], length, slice_get, take, Some, IfOk, IfErr, OnOk, OnErr};
-ghost use Rattle.coord.specs.Keeping.{Keeps};
-ghost use Rattle.coord.specs.Queueing.{HasRoom};
-ghost use Rattle.coord.specs.Standing.{HasActed};
+ghost use Rattle.frame_coord.specs.Standing.{HasActed, HasRoomFor, StandsFor};
 ghost use Rattle.log_model.specs.Logs.{seen_of};
 ghost use Rattle.log_model.specs.Seen.{desk_of};
 ghost use Rattle.seen_laws.specs.InEvent.{InEvent};
@@ -17,7 +15,7 @@ use crate::event::Reply;
 use crate::logging::{log_row, log_work};
 use crate::state::State;
 use address::OutOfMemory;
-use coord::Coordinator;
+use frame_coord::Coordinator;
 use history_log::Log;
 use log_model::{Actor, Header, Out, Report, RowKind};
 use std::alloc::Global;
@@ -77,10 +75,10 @@ fn take(
 ) -> Result<(), OutOfMemory>
     ghost e: { InEvent }
     requires is { e ≡ delivering header.now log.now proc }
-    requires keeps { Keeps header.now log.now coordinator.old }
-    requires home { coordinator.old.home.proc ≡ proc }
+    requires stands { StandsFor (seen_of log.now) coordinator.old }
+    requires home { coordinator.old.tables.home ≡ proc }
     requires waits { slice_get (desk_of (seen_of log.now) proc).reports 0 ≡ Some report.now }
-    requires room { HasRoom (seen_of log.now) }
+    requires room { HasRoomFor (seen_of log.now) }
     requires first { out.old ≡ [] }
     ensures acted { OnOk result (HasActed (delivering header.now log.now proc) out.new coordinator.new) }
 {

@@ -1,4 +1,4 @@
-//! `World`, one tab under one step: a contract sees its settings, its log, and whether it is closed.
+//! `World`, one tab of frames under one step: a contract sees its settings, its log, and whether it is closed.
 #![tactic(auto)]
 
 mod accepting;

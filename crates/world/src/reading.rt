@@ -1,12 +1,18 @@
-//! What waits in a process, and what it has in hand.
-ghost use Rattle.std.specs.Prelude.{◌≡◌, length};
+//! What waits in a process, what it has in hand, and whom a poke reaches.
+ghost use Rattle.std.specs.Prelude.{◌≡◌, Some, IfErr, IfOk, length};
 ghost use Rattle.std.specs.Option.{option_copied};
+ghost use Rattle.log_model.specs.Causes.{denial_of_poke};
+ghost use Rattle.log_model.specs.Equal.{holds};
+ghost use Rattle.log_model.specs.Seen.{Seen};
 ghost use Rattle.proc_tables.specs.Desks.{desk_at};
+ghost use Rattle.proc_tables.specs.Views.{view_at};
+ghost use Rattle.world.specs.Reaching.{AreOf, Reaches};
 
 use crate::event::Waiting;
-use log_model::Order;
-use proc_tables::Desks;
-use tab_ids::ProcId;
+use frame_coord::Coordinator;
+use log_model::{Denial, Order};
+use proc_tables::{Desks, Views};
+use tab_ids::{DocId, NavId, ProcId};
 
 /// How many pokes, orders and reports wait in a process.
 pub(crate) fn waiting(desks: &Desks, proc: ProcId) -> Waiting
@@ -35,5 +41,44 @@ pub(crate) fn in_hand(desks: &Desks, proc: ProcId) -> Option<&Order>
     match desks.of(proc) {
         Some(desk) => desk.in_hand(),
         None => None,
+    }
+}
+
+/// Whether a document that is there has unsaved edits.
+pub(crate) fn is_dirty(views: &Views, doc: DocId) -> bool
+    ensures { result ≡ holds (λ view. view.dirty) (view_at views.now doc) }
+{
+    match views.of(doc) {
+        Some(view) => view.dirty(),
+        None => false,
+    }
+}
+
+/// Whether a document is there and runs.
+pub(crate) fn runs(views: &Views, doc: DocId) -> bool
+    ensures { result ≡ holds (λ view. view.running) (view_at views.now doc) }
+{
+    match views.of(doc) {
+        Some(view) => view.running(),
+        None => false,
+    }
+}
+
+/// The document that a poke of a navigable reaches, or the reason that denies it.
+pub(crate) fn reached(coordinator: &Coordinator, views: &Views, nav: NavId) -> Result<DocId, Denial>
+    ensures reached { IfOk result (λ doc. (s : Seen) → AreOf s coordinator.now views.now → Reaches s nav doc) }
+    ensures denied { IfErr result (λ reason. (s : Seen) → AreOf s coordinator.now views.now → denial_of_poke s nav ≡ Some reason) }
+{
+    let made = coordinator.made_document(nav);
+    if !coordinator.has_entry(nav) {
+        return Err(Denial::NoNavigable);
+    }
+    let Some(doc) = made else {
+        return Err(Denial::NoDocument);
+    };
+    if runs(views, doc) {
+        Ok(doc)
+    } else {
+        Err(Denial::NoDocument)
     }
 }

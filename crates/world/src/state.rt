@@ -3,8 +3,8 @@ ghost use Rattle.std.specs.Prelude.{IfOk};
 ghost use Rattle.world.specs.Opening.{IsJustOpened};
 
 use address::{Address, OutOfMemory};
-use coord::Coordinator;
 use doc_view::View;
+use frame_coord::Coordinator;
 use log_model::Ending;
 use proc_tables::{Desks, Views};
 use std::alloc::Global;

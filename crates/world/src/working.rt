@@ -1,27 +1,34 @@
 //! The events in which a process acts, takes up an order, and finishes it.
-ghost use Rattle.std.specs.Prelude.{◌≡◌, Bool, ◌<◌, length, take, IsSome, None, IfOk, IfSome, IfErr, IsSomeAnd, OnErr, OnOk};
-ghost use Rattle.log_model.specs.Equal.{holds};
-ghost use Rattle.proc_tables.specs.Desks.{desk_at};
+ghost use Rattle.std.specs.Prelude.{◌≡◌, Bool, ◌++◌, ◌<◌, ◌∷◌, [], length, take, IsSome, None, IfOk, IfSome, IfErr, OnErr, OnOk, option_map};
+ghost use Rattle.doc_view.specs.Jobs.{IsForView};
+ghost use Rattle.log_model.specs.declared.outcome.Ending.TheVariants as ends;
+ghost use Rattle.log_model.specs.declared.row_kind.Actor.TheVariants as actors;
+ghost use Rattle.log_model.specs.declared.row_kind.RowKind.TheVariants as rows;
 ghost use Rattle.log_model.specs.Views.{after_task};
-ghost use Rattle.proc_tables.specs.Views.{Becomes, HasRoom, view_at};
+ghost use Rattle.proc_tables.specs.Desks.{desk_at};
+ghost use Rattle.proc_tables.specs.Views.{HasRoom, view_at};
 ghost use Rattle.proc_work.specs.Work.{outcome_of_task};
-ghost use Rattle.seen_laws.specs.Sending.{IsToldTask};
-ghost use Rattle.world.specs.declared.event.Event.TheVariants as events;
 ghost use Rattle.proc_work.specs.Work as worked;
+ghost use Rattle.world.specs.declared.event.Event.TheVariants as events;
+ghost use Rattle.world.specs.Notes.{ended_in, row_with};
 ghost use Rattle.world.specs.Open.{IsOpen, row_limit};
+ghost use Rattle.world.specs.Shows.{IsFrameTask, Shows, shown_after};
 ghost use Rattle.world.specs.Turns.{HasGone, Shuts};
 
 use crate::endings::end;
 use crate::error::StepError;
 use crate::event::Reply;
 use crate::logging::log_row;
+use crate::reading::{is_dirty, runs};
 use crate::state::State;
 use address::OutOfMemory;
-use doc_view::ActError;
+use doc_view::{ActError, View};
 use history_log::Log;
-use log_model::{Actor, Denial, Ending, Header, Job, Order, Outcome, Report, RowKind, Task};
+use log_model::{
+    Actor, Denial, Ending, Header, Job, Order, Outcome, Report, RowKind, Task, Verdict,
+};
 use proc_tables::{Item, Views};
-use tab_ids::{DocId, ProcId};
+use tab_ids::{ProcId, ReqId};
 
 /// A document of the process acts on the first poke.
 pub(crate) fn act(
@@ -41,6 +48,18 @@ pub(crate) fn act(
     let Some(poke) = state.desks.next_poke(proc) else {
         unreachable!()
     };
+    if !runs(&state.views, poke.doc) {
+        refuse(
+            log,
+            &mut state.endings,
+            event,
+            proc,
+            poke.req,
+            Denial::NoDocument,
+        )?;
+        state.events += 1;
+        return Ok(Reply::Acted);
+    }
     match state.views.act(&poke) {
         Ok(made) => {
             let told = made.copy()?;
@@ -50,14 +69,13 @@ pub(crate) fn act(
             Ok(Reply::Acted)
         }
         Err(ActError::NotRewritable) => {
-            let req = poke.req;
-            let reason = Denial::BadAddress;
-            end(&mut state.endings, req, Ending::Refused(reason));
-            log_row(
+            refuse(
                 log,
+                &mut state.endings,
                 event,
-                Actor::Proc(proc),
-                RowKind::Refused { req, reason },
+                proc,
+                poke.req,
+                Denial::BadAddress,
             )?;
             state.events += 1;
             Ok(Reply::Acted)
@@ -66,6 +84,29 @@ pub(crate) fn act(
         Err(ActError::UrlOverflow(overflowed)) => Err(StepError::UrlOverflow(overflowed)),
         Err(ActError::OutOfMemory) => Err(StepError::OutOfMemory),
     }
+}
+
+/// The process refuses a poke.
+fn refuse(
+    log: &mut Log,
+    endings: &mut Vec<Option<Ending>>,
+    event: u32,
+    proc: ProcId,
+    req: ReqId,
+    reason: Denial,
+) -> Result<(), OutOfMemory>
+    ensures log { OnOk result (log.new ≡ log.old ++ row_with event (actors.Proc proc) (rows.Refused req reason) ∷ []) }
+    ensures endings { endings.new.items ≡ ended_in endings.old.items req (ends.Refused reason) }
+    ensures err { OnErr result (log.new ≡ log.old) }
+{
+    end(endings, req, Ending::Refused(reason));
+    log_row(
+        log,
+        event,
+        Actor::Proc(proc),
+        RowKind::Refused { req, reason },
+    )?;
+    Ok(())
 }
 
 /// A process takes up the first order of its mail.
@@ -102,16 +143,6 @@ pub(crate) fn begin(
     Ok(Reply::Took(taken))
 }
 
-/// Whether a document that is there has unsaved edits.
-fn is_dirty(views: &Views, doc: DocId) -> bool
-    ensures { result ≡ holds (λ view. view.dirty) (view_at views.now doc) }
-{
-    match views.of(doc) {
-        Some(view) => view.dirty(),
-        None => false,
-    }
-}
-
 /// A process finishes the order in hand.
 pub(crate) fn finish(
     log: &mut Log,
@@ -145,31 +176,56 @@ pub(crate) fn finish(
     Ok(Reply::Finished)
 }
 
-/// Lets the document of an order do it, and answers how it went.
+/// Does an order at its document, and answers how it went.
 fn work(views: &mut Views, job: &Job) -> Result<Outcome, OutOfMemory>
-    requires room { IsSomeAnd (view_at views.old job.now.doc) HasRoom }
-    requires doc { IsSomeAnd (view_at views.old job.now.doc) (λ view. job.now.doc ≡ view.doc) }
-    requires told { IsToldTask job.now.task }
+    requires room { IfSome (view_at views.old job.now.doc) HasRoom }
+    requires doc { IfSome (view_at views.old job.now.doc) (λ view. job.now.doc ≡ view.doc) }
+    requires task { IsFrameTask job.now.task }
     ensures outcome { IfOk result (λ outcome. (dirty : Bool) → outcome ≡ outcome_of_task job.now.task dirty None) }
-    ensures view { OnOk result (IfSome (view_at views.old job.now.doc) (λ view. Becomes job.now.doc (after_task view job.now.task) views.old views.new)) }
+    ensures view { OnOk result (Shows job.now.doc (shown_after job.now.doc (view_at views.old job.now.doc) job.now.task) views.old views.new) }
 {
     let outcome = outcome_of(&job.task);
-    views.do_job(job)?;
+    match &job.task {
+        Task::Populate {
+            address,
+            initial,
+            ..
+        } => {
+            let address = address.copy()?;
+            views.add(job.doc, View::fresh(job.doc, address, *initial))?;
+        }
+        Task::Discard => views.remove(job.doc),
+        Task::Activate { .. } => tell(views, job)?,
+        Task::Update { .. } => tell(views, job)?,
+        Task::Freeze | Task::Ask { .. } | Task::DoFragment { .. } => unreachable!(),
+    }
     Ok(outcome)
 }
 
-/// What comes of an order that shows an entry, or tells length and index.
+/// Lets the document of an order do it, where it is there.
+fn tell(views: &mut Views, job: &Job) -> Result<(), OutOfMemory>
+    requires room { IfSome (view_at views.old job.now.doc) HasRoom }
+    requires doc { IfSome (view_at views.old job.now.doc) (λ view. job.now.doc ≡ view.doc) }
+    requires task { IsForView job.now.task }
+    ensures view { OnOk result (Shows job.now.doc (option_map (λ view. after_task view job.now.task) (view_at views.old job.now.doc)) views.old views.new) }
+{
+    if views.of(job.doc).is_some() {
+        views.do_job(job)?;
+    }
+    Ok(())
+}
+
+/// What comes of an order, where no document has a handler.
 fn outcome_of(task: &Task) -> Outcome
-    requires told { IsToldTask task.now }
     ensures { (dirty : Bool) → result ≡ outcome_of_task task.now dirty None }
 {
     match task {
+        Task::Populate { .. } => Outcome::Populated(None),
         Task::Activate { .. } => Outcome::Activated,
         Task::Update { .. } => Outcome::Updated,
-        Task::Populate { .. }
-        | Task::Freeze
-        | Task::Discard
-        | Task::Ask { .. }
-        | Task::DoFragment { .. } => unreachable!(),
+        Task::Freeze => Outcome::Frozen,
+        Task::Discard => Outcome::Discarded,
+        Task::Ask { .. } => Outcome::Asked(Verdict::Leave),
+        Task::DoFragment { .. } => Outcome::Fragmented,
     }
 }

@@ -1,4 +1,4 @@
-//! `World`, one tab: a contract sees its settings, its log, and whether it is closed.
+//! `World`, one tab of frames: a contract sees its settings, its log, and whether it is closed.
 ghost use Rattle.std.specs.Prelude.{◌≡◌, ◌↔◌, ◌<◌, ◌≤◌, ◌==◌, ◌∷◌, [], true, false, None, IfOk, IfErr, OnErr, IsErrOf, length, take};
 ghost use Rattle.std.specs.Option.{option_copied, option_and_then};
 ghost use Rattle.log_model.specs.declared.header.Header.{Header};
@@ -6,15 +6,17 @@ ghost use Rattle.log_model.specs.ActsAtOnce.{ActsAtOnce};
 ghost use Rattle.log_model.specs.Legal.{IsLegal};
 ghost use Rattle.log_model.specs.Limits.{BeginsBelow};
 ghost use Rattle.log_model.specs.Suits.{Suits};
-ghost use Rattle.log_model.specs.Formed.{poked_document, running_documents};
+ghost use Rattle.log_model.specs.Formed.{running_documents};
+ghost use Rattle.log_model.specs.History.{has_row};
 ghost use Rattle.log_model.specs.Logs.{seen_of, history_of, in_hand_of, input_of, mail_of, reports_of, is_idle, is_still, is_quiet};
 ghost use Rattle.log_model.specs.Order.{SameHistory};
+ghost use Rattle.log_model.specs.Places.{is_shown};
 ghost use Rattle.log_model.specs.Seen.{desk_of};
 ghost use Rattle.step_index.specs.Held.{history_held};
 ghost use Rattle.world.specs.Kept.{OpensAs, OpensUnhandled};
 ghost use Rattle.world.specs.Open.{IsOpen, endings_of, opening_process, row_limit};
 ghost use Rattle.world.specs.Opening.{opening_row};
-ghost use Rattle.world.specs.Steps.{IsBuilt, Steps, idle_reply};
+ghost use Rattle.world.specs.Steps.{IsBuilt, Steps, idle_reply, reached_in};
 ghost use Rattle.world.specs.Turns.{HasGone, Shuts};
 
 use crate::accepting::{accept_go, accept_poke};
@@ -23,7 +25,7 @@ use crate::error::StepError;
 use crate::event::{Event, Reply, Waiting};
 use crate::idling::idle;
 use crate::opening::opening_process;
-use crate::reading::{in_hand, waiting};
+use crate::reading::{in_hand, reached, waiting};
 use crate::state::{State, opened_at};
 use crate::working::{act, begin, finish};
 use address::OutOfMemory;
@@ -38,7 +40,7 @@ use tab_ids::{DocId, EntryId, NavId, ProcId, StateId};
 /// No event that logs begins at this many rows or more.
 const ROW_LIMIT: usize = 1_000_000;
 
-/// A tab with one document, in the process of its site.
+/// A tab of frames, with all its documents in the process of the site at which it opened.
 ///
 /// What the log has come to is kept beside it: no step reads the log again.
 #[derive(Drop)]
@@ -104,7 +106,7 @@ impl World {
         // What holds of the log, whatever is answered.
         ensures legal { IsLegal self.new.log }
         ensures at_once { ActsAtOnce self.new.log }
-        ensures suits { OpensAs self.new.header self.new.log → Suits self.new.header self.new.log }
+        ensures suits { self.new.header.pages ≡ [] → OpensAs self.new.header self.new.log → Suits self.new.header self.new.log }
         ensures limited { BeginsBelow row_limit self.new.log }
     {
         let result = self.try_step(event);
@@ -154,7 +156,7 @@ impl World {
         ensures log { result.now ≡ self.now.log }
         ensures legal { IsLegal self.now.log }
         ensures at_once { ActsAtOnce self.now.log }
-        ensures suits { OpensAs self.now.header self.now.log → Suits self.now.header self.now.log }
+        ensures suits { self.now.header.pages ≡ [] → OpensAs self.now.header self.now.log → Suits self.now.header self.now.log }
         ensures limited { BeginsBelow row_limit self.now.log }
     {
         // Brings what holds of every world.
@@ -167,7 +169,7 @@ impl World {
         ensures log { result ≡ self.log }
         ensures legal { IsLegal self.log }
         ensures at_once { ActsAtOnce self.log }
-        ensures suits { OpensAs self.header self.log → Suits self.header self.log }
+        ensures suits { self.header.pages ≡ [] → OpensAs self.header self.log → Suits self.header self.log }
         ensures limited { BeginsBelow row_limit self.log }
     {
         let World {
@@ -181,15 +183,23 @@ impl World {
 
     /// The view of the document that a poke of the navigable reaches.
     pub fn view(&self, nav: NavId) -> Option<&View>
-        ensures view { self.now.closed ≡ false → option_copied result ≡ option_and_then (λ document. document.view) (poked_document (seen_of self.now.log) nav) }
+        ensures view { self.now.closed ≡ false → option_copied result ≡ option_and_then (λ document. document.view) (reached_in (seen_of self.now.log) nav) }
         // At most one document of a navigable runs.
         ensures sole { self.now.closed ≡ false → length (running_documents (seen_of self.now.log) nav) ≤ 1 }
     {
-        if nav.0 == 0 {
-            self.state.views.of(self.state.coordinator.home.doc)
-        } else {
-            None
+        match reached(&self.state.coordinator, &self.state.views, nav) {
+            Ok(doc) => self.state.views.of(doc),
+            Err(_) => None,
         }
+    }
+
+    /// Whether a navigable with an entry is shown at the current step: it is the top, or it hangs on the document state of its shown parent's target. HTML Standard, "Navigables".
+    pub fn is_shown(&self, nav: NavId) -> bool
+        ensures shown { self.now.closed ≡ false → has_row nav (history_of self.now.log).rows ≡ true → result ≡ is_shown (history_of self.now.log).rows (history_of self.now.log).current nav }
+    {
+        // Brings what holds of every world.
+        let _open = &self.closed;
+        self.state.coordinator.is_shown(nav)
     }
 
     /// The order that a process has in hand.
@@ -211,7 +221,7 @@ impl World {
     /// Whether nothing is in transit.
     pub fn is_still(&self) -> bool
         ensures still { self.now.closed ≡ false → result ≡ is_still (seen_of self.now.log) }
-        // What is in transit waits in the process of the one document.
+        // What is in transit waits in the process of all documents.
         ensures home { self.now.closed ≡ false → result ≡ is_idle (desk_of (seen_of self.now.log) (opening_process self.now.header)) }
     {
         self.state.desks.is_idle()

@@ -1,6 +1,5 @@
-use Rattle.std.proofs.Common.{◌≡◌, ◌<◌, ◌∙◌, ℕ, ◌-◌, refl, subst, arith}
+use Rattle.std.proofs.Common.{◌≡◌, ◌∙◌, ℕ, ◌-◌, refl, subst, arith}
 use Rattle.scenario_text.specs.Follows.{does_all, turns_to, a_round}
-use Rattle.world.specs.Open.{opening_process}
 use Rattle.scenario_play.specs.Courses.{Leads}
 use Rattle.scenario_play.proofs.LeadLaws.{failed, all_done, turn_more, turn_cut}
 use Rattle.scenario_play.proofs.StepMoves.{none_moved, moved_more}

@@ -4,7 +4,7 @@ use Rattle.log_model.specs.declared.request.Request.TheVariants as requests
 use Rattle.log_model.specs.declared.row_kind.Actor.TheVariants as actors
 use Rattle.log_model.specs.declared.row_kind.LogRow.{LogRow}
 use Rattle.log_model.specs.declared.row_kind.RowKind.TheVariants as rows
-use Rattle.coord.specs.Standing.{HasActed}
+use Rattle.frame_coord.specs.Standing.{HasActed}
 use Rattle.world.specs.Asking.{asking}
 use Rattle.world.specs.Notes.{endings_noted, row_with}
 use mir.Val.{SFits}
@@ -21,7 +21,7 @@ next_request-req-requires c = asked_small _ _ _ c.requires.«open»
 
 pub ask-requires : goal.ask-requires
 ask-requires c =
-    (refl, (c.requires.«open».keeps, (room _ _ _ c.requires.«open» c.requires.short, (ap (λ (r : ReqId). r.0) (next_is _ _ _ c.requires.«open» _ c.next_request-req.ensures), c.new-out.ensures))))
+    (refl, (c.requires.«open».keeps.stands, (room _ _ _ c.requires.«open», (ap (λ (r : ReqId). r.0) (next_is _ _ _ c.requires.«open» _ c.next_request-req.ensures), c.new-out.ensures))))
 
 pub overflow_add-state : goal.overflow_add-state
 overflow_add-state c = grind (arith, events_small _ _ _ c.requires.«open»)

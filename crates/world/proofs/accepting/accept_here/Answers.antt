@@ -1,7 +1,6 @@
-use Rattle.std.proofs.Common.{ℕ, refl, ap, arith}
-use Rattle.tab_ids.specs.declared.NavId.{NavId}
+use Rattle.std.proofs.Common.{refl, arith}
 use Rattle.world.proofs.AcceptLaws.{poke_gone}
-use Rattle.world.proofs.Facts.{events_small, asked_small, home_doc, home_proc, next_is}
+use Rattle.world.proofs.Facts.{events_small, asked_small, next_is}
 use Rattle.world.proofs.accepting.accept_here.Goals as goal
 
 pub next_request-req-requires : goal.next_request-req-requires
@@ -12,5 +11,4 @@ overflow_add-state c = grind (arith, events_small _ _ _ c.requires.«open»)
 
 pub returns-clause-gone : goal.returns-clause-gone
 returns-clause-gone c =
-    let of_top = ap (λ (n : ℕ). let nav : NavId = record { 0 = n } in nav) c.requires.here in
-    poke_gone _ _ _ c.requires.«open» c.requires.short _ _ _ _ _ _ _ c.requires.built of_top (home_doc _ _ _ c.requires.«open») (home_proc _ _ _ c.requires.«open») (next_is _ _ _ c.requires.«open» _ c.next_request-req.ensures) refl refl refl (rw c.in_ok-kept.ensures at c.in_ok-add-2.ensures.ok) c.in_ok-add.ensures c.in_ok-log_row.ensures.ok
+    poke_gone _ _ _ c.requires.«open» c.requires.short _ _ _ _ _ _ _ c.requires.built c.requires.reached refl (next_is _ _ _ c.requires.«open» _ c.next_request-req.ensures) refl refl refl (rw c.in_ok-kept.ensures at c.in_ok-add-2.ensures.ok) c.in_ok-add.ensures c.in_ok-log_row.ensures.ok

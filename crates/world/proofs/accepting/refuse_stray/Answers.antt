@@ -1,5 +1,4 @@
 use Rattle.std.proofs.Common.{List, [], ◌∷◌, ◌++◌, refl, ap, ◌∙◌, arith}
-use Rattle.log_model.specs.declared.outcome.Denial.TheVariants as denials
 use Rattle.log_model.specs.declared.row_kind.Actor.TheVariants as actors
 use Rattle.log_model.specs.declared.row_kind.LogRow.{LogRow}
 use Rattle.log_model.specs.declared.row_kind.RowKind.TheVariants as rows
@@ -16,4 +15,4 @@ overflow_add-state c = grind (arith, events_small _ _ _ c.requires.«open»)
 
 pub returns-clause-gone : goal.returns-clause-gone
 returns-clause-gone c =
-    stray_gone _ _ _ c.requires.«open» c.requires.short _ _ _ _ _ c.requires.built c.requires.stray (next_is _ _ _ c.requires.«open» _ c.next_request-req.ensures) refl refl refl refl c.in_ok-add.ensures (c.in_ok-log_row-2.ensures.ok ∙ ap (λ (l : List LogRow). l ++ row_with c.args.state.now.events actors.Ui (rows.Refused c.next_request-req.result denials.NoNavigable) ∷ []) c.in_ok-log_row.ensures.ok)
+    stray_gone _ _ _ c.requires.«open» c.requires.short _ _ _ _ _ _ c.requires.built c.requires.denied (next_is _ _ _ c.requires.«open» _ c.next_request-req.ensures) refl refl refl refl c.in_ok-add.ensures (c.in_ok-log_row-2.ensures.ok ∙ ap (λ (l : List LogRow). l ++ row_with c.args.state.now.events actors.Ui (rows.Refused c.next_request-req.result c.args.reason) ∷ []) c.in_ok-log_row.ensures.ok)

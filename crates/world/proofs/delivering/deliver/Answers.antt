@@ -4,13 +4,13 @@ use Rattle.log_model.specs.declared.row_kind.LogRow.{LogRow}
 use Rattle.world.specs.Notes.{row_with}
 use Rattle.world.proofs.DeliverLaws.{here, waits, deliver_gone}
 use Rattle.world.proofs.EventLaws.{front_of, on_any_error}
-use Rattle.world.proofs.Facts.{events_small, room, home_proc}
+use Rattle.world.proofs.Facts.{events_small, room}
 use Rattle.world.proofs.delivering.deliver.Goals as goal
 
 pub take-requires : goal.take-requires
 take-requires c =
     let first = sym c.next_report.ensures.first ∙ c.in-Some.is in
-    (refl, (c.requires.«open».keeps, (home_proc _ _ _ c.requires.«open» ∙ sym (here _ _ _ c.requires.«open» c.requires.short _ _ first), (waits _ _ _ c.requires.«open» c.requires.short _ _ first, (room _ _ _ c.requires.«open» c.requires.short, c.new-out.ensures)))))
+    (refl, (c.requires.«open».keeps.stands, (sym (here _ _ _ c.requires.«open» c.requires.short _ _ first), (waits _ _ _ c.requires.«open» c.requires.short _ _ first, (room _ _ _ c.requires.«open», c.new-out.ensures)))))
 
 pub returns-in_err-log_work-clause-front : goal.returns-in_err-log_work-clause-front
 returns-in_err-log_work-clause-front c =

@@ -2,25 +2,21 @@ use Rattle.std.proofs.Common.{None, refl, sym, ◌∙◌, arith}
 use Rattle.log_model.specs.declared.made.Report.TheVariants as told
 use Rattle.proc_tables.specs.declared.item.Item.TheVariants as items
 use Rattle.proc_tables.specs.Desks.{desk_with, without_order}
-use Rattle.world.proofs.Facts.{events_small}
+use Rattle.world.proofs.Facts.{events_small, has_room, view_doc}
 use Rattle.world.proofs.TableLaws.{changes_then}
-use Rattle.world.proofs.WorkLaws.{finish_gone, hand_here, its_told, its_doc, its_room}
+use Rattle.world.proofs.WorkLaws.{finish_gone, hand_here, its_task}
 use Rattle.world.proofs.working.finish.Goals as goal
 
-pub work-requires-clause-told : goal.work-requires-clause-told
-work-requires-clause-told c =
+pub work-requires-clause-task : goal.work-requires-clause-task
+work-requires-clause-task c =
     let hand = sym c.let_go.ensures.held ∙ c.in-Some.is in
-    its_told _ _ _ c.requires.«open» c.requires.short _ (hand_here _ _ _ c.requires.«open» c.requires.short _ _ hand) _ hand
+    its_task _ _ _ c.requires.«open» c.requires.short _ (hand_here _ _ _ c.requires.«open» c.requires.short _ _ hand) _ hand
 
 pub work-requires-clause-room : goal.work-requires-clause-room
-work-requires-clause-room c =
-    let hand = sym c.let_go.ensures.held ∙ c.in-Some.is in
-    its_room _ _ _ c.requires.«open» c.requires.short _ (hand_here _ _ _ c.requires.«open» c.requires.short _ _ hand) _ hand
+work-requires-clause-room c = has_room _ _ _ c.requires.«open» _
 
 pub work-requires-clause-doc : goal.work-requires-clause-doc
-work-requires-clause-doc c =
-    let hand = sym c.let_go.ensures.held ∙ c.in-Some.is in
-    its_doc _ _ _ c.requires.«open» c.requires.short _ (hand_here _ _ _ c.requires.«open» c.requires.short _ _ hand) _ hand
+work-requires-clause-doc c = view_doc _ _ _ c.requires.«open» _
 
 pub overflow_add-state : goal.overflow_add-state
 overflow_add-state c = grind (arith, events_small _ _ _ c.requires.«open»)

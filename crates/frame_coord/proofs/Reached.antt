@@ -36,20 +36,22 @@ newest_has (x ∷ xs) best d e =
     by_test true is newest = first (newest x is)
     by_test false is newest = same (newest best is)
 
--- it is one of the documents, of the navigable, of which one runs
+-- it is one of the documents of the navigable, and runs
 pub record IsReached (s : Seen) (nav : NavId) (d : Document) : Type 0 where
   pub there : Has s.documents d
   pub first : Document
   pub others : List Document
   pub run : running_documents s nav ≡ first ∷ others
   pub nav_is : d.nav ≡ nav
+  pub runs : holds (λ (v : View). v.running) d.view ≡ true
 
 pub reached : (s : Seen) (nav : NavId) (d : Document) → poked_document s nav ≡ Some d → IsReached s nav d
 reached s nav d is = by_list (running_documents s nav) refl is
   where
     by_has : (x : Document) (xs : List Document) → running_documents s nav ≡ x ∷ xs → Has s.documents d × ((d.nav.0 == nav.0 && holds (λ (v : View). v.running) d.view) ≡ true) → IsReached s nav d
     by_has x xs e its =
-        record { there = its.0; first = x; others = xs; run = e; nav_is = nav_is d.nav nav (and_parts (d.nav.0 == nav.0) (holds (λ (v : View). v.running) d.view) its.1).0 }
+        let both = and_parts (d.nav.0 == nav.0) (holds (λ (v : View). v.running) d.view) its.1 in
+        record { there = its.0; first = x; others = xs; run = e; nav_is = nav_is d.nav nav both.0; runs = both.1 }
 
     by_list : (l : List Document) → running_documents s nav ≡ l → fold newer None l ≡ Some d → IsReached s nav d
     by_list [] e never = absurd cc
