@@ -1,18 +1,22 @@
 -- A report tells what a document made that changes the history: it is held back, or taken up, refused or dropped, and then the tab is brought to rest.
 use Rattle.coord_facts.proofs.Held.{without_same}
+use Rattle.coord_facts.proofs.Unread.{next}
 use Rattle.coord_facts.specs.Leading.{held_back}
 use Rattle.doors.proofs.Works.{here_now}
 use Rattle.doors.specs.Look.{moved_by}
 use Rattle.doors.specs.Working.{KeepsRun}
 use Rattle.doors.specs.declared.tables.Tables.{Tables}
+use Rattle.frame_coord.proofs.Adding.{added_has, added_since}
 use Rattle.frame_coord.proofs.Began.{number_low}
 use Rattle.frame_coord.proofs.Causes.{req_serves, rest_serves}
 use Rattle.frame_coord.proofs.Dones.{held_first, parked_same, queue_same}
+use Rattle.frame_coord.proofs.Framed.{added_rests}
 use Rattle.frame_coord.proofs.Lastings.{still_held}
 use Rattle.frame_coord.proofs.Mades.{IsPokeOf, coming, heard, heard_documents, heard_holds, heard_joined, heard_now, heard_parked, heard_places, heard_requests, heard_stands, made_there, poke_of}
 use Rattle.frame_coord.proofs.Parks.{has_node, held_moved, held_parks, parks_held}
 use Rattle.frame_coord.proofs.Reports.{begun, clear, its_row, legal, turning}
 use Rattle.frame_coord.specs.Delivering.{IsMade}
+use Rattle.frame_coord.specs.Framed.{HasAdded}
 use Rattle.frame_coord.specs.Ready.{IsReady}
 use Rattle.frame_coord.specs.Standing.{HasActed, StandsFor}
 use Rattle.frame_coord.specs.declared.coordinator.Coordinator.{Coordinator}
@@ -32,7 +36,7 @@ use Rattle.log_model.specs.AfterPlaces.{report_taken}
 use Rattle.log_model.specs.AfterRequests.{changes_history, is_held_back, is_held_up, is_in_place, joined_delivered, made_of_report}
 use Rattle.log_model.specs.Causes.{takes_report}
 use Rattle.log_model.specs.Equal.{has_req, holds as some_holds, implies}
-use Rattle.log_model.specs.History.{has_nav}
+use Rattle.log_model.specs.History.{fits, has_nav}
 use Rattle.log_model.specs.Places.{is_traversal, running_traversal}
 use Rattle.log_model.specs.Points.{is_taken_up_in, nav_of_request}
 use Rattle.log_model.specs.Queue.{is_delivered_duly, is_taken_up_at_once, is_traverse}
@@ -63,6 +67,7 @@ use Rattle.seen_laws.proofs.Sums.{over}
 use Rattle.seen_laws.specs.Blocks.{point_at}
 use Rattle.seen_laws.specs.InEvent.{InEvent, IsTakenIn, here_of, now_of, row_of, start_of}
 use Rattle.settles.proofs.Passed.{parked_on}
+use Rattle.settles.specs.Alone.{IsRestedBut}
 use Rattle.settles.specs.Settling.{MayRelease}
 use Rattle.std.proofs.Common.{Bool, List, None, Option, Some, [], ap, arith, false, inl, inr, length, map, not, refl, subst, sym, true, ℕ, ◌&&◌, ◌++◌, ◌+◌, ◌<◌, ◌==◌, ◌||◌, ◌∙◌, ◌∷◌, ◌≡◌, ◌≤◌, ◌⊎◌}
 use Rattle.std.proofs.lemmas.Bool.Decides.{nat_tests}
@@ -74,10 +79,11 @@ use Rattle.sync_core.specs.declared.judging.Judged.{Judged}
 use Rattle.tab_ids.specs.declared.NavId.{NavId}
 use Rattle.tab_ids.specs.declared.ProcId.{ProcId}
 use Rattle.tab_ids.specs.declared.ReqId.{ReqId}
-use Rattle.takes.specs.Taking.{EndsAlone, HasNode, IsForTaking, judged_in}
+use Rattle.takes.specs.Taking.{AddsFrame, EndsAlone, HasNode, IsForTaking, judged_in}
 use Rattle.turns.proofs.Firsts.{deltas_same, steps_on}
 use Rattle.turns.proofs.Turned.{turning_on}
 use Rattle.turns.specs.Queueing.{AreStepsOf, HasQueue, IsTurning}
+use Rattle.log_model.specs.declared.change.Change.TheVariants as changes_of
 use Rattle.log_model.specs.declared.job.Why.TheVariants as whys
 use Rattle.log_model.specs.declared.made.Report.TheVariants as reports
 use Rattle.log_model.specs.declared.made.What.TheVariants as whats
@@ -452,3 +458,34 @@ module _ (e : InEvent) (c : Coordinator) (made : Made) (it : IsMade e c made) (c
             releasing = λ some. may_release;
             taken = takes_it;
           }
+
+      -- where it added a frame and no traversal runs, all others are as they were
+      pub change_alone : (nav : NavId) → AddsFrame e [] out made.req nav → t.running ≡ None → IsRestedBut (now_of e out) (Some nav)
+      change_alone nav adds idle = added_rests home_ e.start (now_of e out) between_idle tab_idle nav has
+        where
+          idle_before : run_ ≡ None
+          idle_before = sym kept.running ∙ idle
+
+          between_idle : IsBetween home_ None e.start
+          between_idle = subst (λ (o : Option ReqId). IsBetween home_ o e.start) idle_before stands.between
+
+          tab_idle : IsTab home_ None [] (now_of e out)
+          tab_idle =
+              subst (λ (h : ProcId). IsTab h None [] (now_of e out)) kept.home
+              (subst (λ (o : Option ReqId). IsTab t.home o [] (now_of e out)) idle
+              (subst (λ (l : List Made). IsTab t.home t.running l (now_of e out)) none_left settled.passing.tab))
+
+          fit : fits told.history (changes_of.AddFrame adds.owner nav adds.entry adds.state) ≡ true
+          fit = subst (λ (s : Seen). fits s.history (changes_of.AddFrame adds.owner nav adds.entry adds.state) ≡ true) (heard_now e c made it) adds.fit
+
+          then_ : now_of e out ≡ next told e.event e.actor (rows.Applied made.req (changes_of.AddFrame adds.owner nav adds.entry adds.state))
+          then_ =
+              ap (λ (l : List RowKind). now_of e l) adds.out
+              ∙ now_more e [] (rows.Applied made.req (changes_of.AddFrame adds.owner nav adds.entry adds.state))
+              ∙ ap (λ (s : Seen). next s e.event e.actor (rows.Applied made.req (changes_of.AddFrame adds.owner nav adds.entry adds.state))) (heard_now e c made it)
+
+          has : HasAdded e.start (now_of e out) nav
+          has =
+              subst (λ (s : Seen). HasAdded e.start s nav) (sym then_)
+              (added_since e.start told _ nav refl (heard_places e c made it) (heard_documents e c made it)
+              (added_has home_ run_ (made ∷ []) told e.event e.actor tab_hand made.req adds.owner nav adds.entry adds.state fit))

@@ -12,6 +12,7 @@ use Rattle.doors.specs.declared.tables.Tables.{Tables}
 use Rattle.frame_coord.proofs.Causes.{adder_serves}
 use Rattle.frame_coord.proofs.Lastings.{IsComing, came_lasts, still_held}
 use Rattle.frame_coord.proofs.Reports.{alive, begun, came, clear, its_report, its_row, legal, now, turning}
+use Rattle.frame_coord.proofs.Rests.{shown_rests}
 use Rattle.frame_coord.specs.Delivering.{IsDone, IsShowTask, follows_from}
 use Rattle.frame_coord.specs.Ready.{IsReady}
 use Rattle.frame_coord.specs.Standing.{HasActed, StandsFor}
@@ -43,6 +44,7 @@ use Rattle.releases.specs.Releasing.{HoldsParked}
 use Rattle.seen_laws.proofs.InEvents.{clear_paid, legal_end}
 use Rattle.seen_laws.specs.Blocks.{point_at}
 use Rattle.seen_laws.specs.InEvent.{InEvent, IsTakenIn, now_of, start_of}
+use Rattle.settles.specs.Alone.{IsRestedBut}
 use Rattle.settles.specs.Settling.{MayRelease}
 use Rattle.settling.proofs.More.{EpochsWere, epochs_if, epochs_same}
 use Rattle.std.proofs.Common.{List, None, Option, Some, [], ap, inl, inr, length, map, refl, subst, sym, true, ℕ, ◌==◌, ◌∙◌, ◌≡◌, ◌⊎◌}
@@ -119,7 +121,7 @@ module _ (e : InEvent) (c : Coordinator) (job : Job) (done : IsDone e c job) whe
   parked : told.parked ≡ e.start.parked
   parked = done_parked home_ run_ e.start e.event stands.between.tab.framed job outcome done.delivery.first
 
-  tab : IsTab home_ run_ [] told
+  pub tab : IsTab home_ run_ [] told
   tab = done_tab home_ run_ e.start e.event stands.between job outcome done.delivery.first
 
   pub its_order : IsOrderTo e.start.documents e.start.places job
@@ -139,7 +141,7 @@ module _ (e : InEvent) (c : Coordinator) (job : Job) (done : IsDone e c job) whe
   held_parked : HoldsParked told c.queue.parked
   held_parked = parked_same e.start told same parked c.queue.parked stands.parked
 
-  now_ : now_of e [] ≡ told
+  pub now_ : now_of e [] ≡ told
   now_ = now e c stands report done.delivery
 
   pub moved_same : moved_by told.requests run_ ≡ moved_by e.start.requests run_
@@ -291,6 +293,16 @@ module _ (e : InEvent) (c : Coordinator) (job : Job) (done : IsDone e c job) whe
         (comes (λ x. x) (λ x. refl) (λ x. refl) (λ x. refl) (shown_documents ∙ sym (map-id e.start.documents)) shown_epochs)
         (arrived_holds (look_of e.start run_) (look_of told run_) c.tables job.doc job.nr (sight d) stands.holds (sight_of e.start job.doc d its_order.found) (ap (λ (l : List Document). map sight l) shown_documents) shown_places refl moved_same refl refl refl) out none)
 
+    -- and where no traversal runs, all others are as they were
+    pub shown_alone : run_ ≡ None → (out : List RowKind) → out ≡ [] → IsRestedBut (now_of e out) None
+    shown_alone idle out none =
+        subst (λ (l : List RowKind). IsRestedBut (now_of e l) None) (sym none)
+        (subst (λ (s : Seen). IsRestedBut s None) (sym now_)
+        (shown_rests home_ e.start told
+        (subst (λ (o : Option ReqId). IsBetween home_ o e.start) idle stands.between)
+        (subst (λ (o : Option ReqId). IsTab home_ o [] told) idle tab)
+        refl shown_documents d.nav job shown_places))
+
   -- its document's navigable is there
   pub nav_there : (nav : NavId) → lookup (is_doc job.doc) c.tables.whose.entries ≡ Some nav → IsSome (node_of nav c.tables.tree)
   nav_there nav noted =
@@ -307,6 +319,18 @@ module _ (e : InEvent) (c : Coordinator) (job : Job) (done : IsDone e c job) whe
       by_task : (task : Task) → job.task ≡ task → IsShowTask task → IsReady e out t c.queue cause
       by_task (tasks.Activate entry epoch long at memo address) its shows_ =
           subst (λ (w : Why). IsReady e out t c.queue w) (sym follows) (shown_ready entry epoch long at memo address its t is out none)
+      by_task (tasks.Populate nav state address initial) its never = absurd never
+      by_task (tasks.Update long at) its never = absurd never
+      by_task tasks.Freeze its never = absurd never
+      by_task tasks.Discard its never = absurd never
+      by_task (tasks.Ask slot cause_) its never = absurd never
+      by_task (tasks.DoFragment req mode address) its never = absurd never
+
+  pub shown_rested : IsShowTask job.task → run_ ≡ None → (out : List RowKind) → out ≡ [] → IsRestedBut (now_of e out) None
+  shown_rested shows idle out none = by_task job.task refl shows
+    where
+      by_task : (task : Task) → job.task ≡ task → IsShowTask task → IsRestedBut (now_of e out) None
+      by_task (tasks.Activate entry epoch long at memo address) its shows_ = shown_alone entry epoch long at memo address its idle out none
       by_task (tasks.Populate nav state address initial) its never = absurd never
       by_task (tasks.Update long at) its never = absurd never
       by_task tasks.Freeze its never = absurd never

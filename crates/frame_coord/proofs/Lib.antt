@@ -14,3 +14,8 @@ pub mod Reports
 pub mod Reached
 pub mod Poked
 pub mod ShownLaws
+pub mod Alike
+pub mod Rests
+pub mod Framed
+pub mod Adding
+pub mod Childless

@@ -2,3 +2,5 @@ pub mod Delivering
 pub mod Ready
 pub mod Standing
 pub mod Poking
+pub mod Framed
+pub mod Alone

@@ -80,7 +80,10 @@ impl Coordinator {
     {
         self.tables.note_shown(job.doc, job.nr);
         let cause = follows_from(&self.tables, job.doc);
-        self.settle(alloc, out, cause, None)
+        match self.tables.running {
+            Some(_) => self.settle(alloc, out, cause, None),
+            None => self.settle_one(alloc, out, cause, None, None),
+        }
     }
 
     /// A document was made for a document state.
@@ -97,9 +100,13 @@ impl Coordinator {
         requires first { out.old ≡ [] }
         ensures acted { OnOk result (HasActed e out.new self.new) }
     {
+        let alone = self.alone_for(job.doc, state)?;
         self.tables.note_made(state, job.doc)?;
         let cause = follows_from(&self.tables, job.doc);
-        self.settle(alloc, out, cause, None)
+        match alone {
+            Some(nav) => self.settle_one(alloc, out, cause, None, Some(nav)),
+            None => self.settle(alloc, out, cause, None),
+        }
     }
 
     /// What a document made: a traversal joins the queue, and a change is taken up, refused, dropped, or held back.
@@ -153,7 +160,16 @@ impl Coordinator {
             self.queue.park(made.copy()?)?;
             return Ok(());
         }
-        take(alloc, &mut self.tables, out, made, verdict)?;
-        self.settle(alloc, out, Why::Req(made.req), Some(made.req))
+        let added = take(alloc, &mut self.tables, out, made, verdict)?;
+        match (self.tables.running, added) {
+            (None, Some(nav)) => self.settle_one(
+                alloc,
+                out,
+                Why::Req(made.req),
+                Some(made.req),
+                Some(nav),
+            ),
+            _ => self.settle(alloc, out, Why::Req(made.req), Some(made.req)),
+        }
     }
 }

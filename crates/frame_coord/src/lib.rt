@@ -1,6 +1,7 @@
 //! The coordinator of a tab of frames.
 #![tactic(auto)]
 
+mod alone;
 mod coordinator;
 mod delivering;
 mod poking;

@@ -33,7 +33,7 @@ impl Coordinator {
     }
 
     /// The document state of a navigable's entries; None where it has none.
-    fn state_of(&self, nav: NavId) -> Option<StateId>
+    pub(crate) fn state_of(&self, nav: NavId) -> Option<StateId>
         ensures { (s : Seen) → StandsFor s self.now → IsStateOf s nav result }
     {
         let store = &self.tables.store;

@@ -1,5 +1,5 @@
 //! `MoveQueue`, which a contract sees as two lists: the steps that wait, and the reports that are parked.
-ghost use Rattle.std.specs.Prelude.{◌≡◌, ◌↔◌, [], ◌∷◌, ◌++◌, IsNone, IfSome, IfNone, OnOk, OnErr, position};
+ghost use Rattle.std.specs.Prelude.{◌≡◌, ◌↔◌, [], ◌∷◌, ◌++◌, IsNone, IfSome, IfNone, OnOk, OnErr, is_some, position, slice_get};
 ghost use Rattle.std.specs.List.{list_any};
 ghost use Rattle.move_queue.specs.Queue.{serves, without_first};
 
@@ -53,6 +53,13 @@ impl MoveQueue {
         ensures unchanged { IfNone result (self.new ≡ self.old) }
     {
         self.steps.pop_front()
+    }
+
+    /// Whether a step waits.
+    pub fn has_next(&self) -> bool
+        ensures { result ≡ is_some (slice_get self.now.waiting 0) }
+    {
+        !self.steps.is_empty()
     }
 
     /// Takes the first step of a request out of the queue, and answers whether there was one.

@@ -23,3 +23,4 @@ pub mod Takers
 pub mod Gone
 pub mod HeldUp
 pub mod Sweepings
+pub mod StillTold

@@ -34,7 +34,10 @@ use Rattle.passes.proofs.Goings.{show_causes}  -- keep
 use Rattle.passes.proofs.Sendings.{IsRest, making_rest, none_to_begin, shown_rest, with_rest}  -- keep
 use Rattle.passes.specs.Settling.{IsSettling}  -- keep
 use Rattle.passes.specs.Passing.{AreCounted, HasRoom, IsPassing, IsTopShown}  -- keep
-use Rattle.passes.specs.Serving.{IsServable, IsServedTurn, MayCause, make_why, need_in, show_why}  -- keep
+use Rattle.log_model.specs.ActsAtOnce.{ends_told}
+use Rattle.passes.proofs.Aims.{aim_is}
+use Rattle.passes.proofs.StillTold.{made_told, shown_told}
+use Rattle.passes.specs.Serving.{IsServable, IsServedTurn, LeavesTold, MayCause, make_why, need_in, show_why}  -- keep
 use Rattle.plan_laws.proofs.NeedLaws.{needs_is}  -- keep
 use Rattle.walk_facts.proofs.Placed.{found_nav}  -- keep
 use Rattle.walk_facts.specs.Serving.{IsMaking, is_needing, is_stopping}  -- keep
@@ -78,6 +81,13 @@ made_whys false run cause why is = inl is
 pub record IsServedNow (e : InEvent) (was out : List RowKind) (u : Tables) (hand : List Made) (nav : NavId) : Type 0 where
   pub settling : IsSettling e out u hand
   pub turn : IsServedTurn (now_of e was) (now_of e out) nav
+  pub still : LeavesTold u.running (now_of e was) (now_of e out)
+
+-- where no traversal runs, the aim is the current step
+aim_idle : (e : InEvent) (out : List RowKind) (t : Tables) (hand : List Made) → IsPassing e out t hand → t.running ≡ None → aim_of (now_of e out) ≡ (now_of e out).history.current
+aim_idle e out t hand pass idle =
+    aim_is (now_of e out) t.running pass.tab.framed.asked t.goal pass.work.goal
+    ∙ ap (λ (r : Option ReqId). aim_in (now_of e out).history r t.goal) idle
 
 module _ (e : InEvent) (out : List RowKind) (t : Tables) (hand : List Made) (pass : IsPassing e out t hand) (nav : NavId) where
   abbrev s : Seen
@@ -115,6 +125,7 @@ module _ (e : InEvent) (out : List RowKind) (t : Tables) (hand : List Made) (pas
               (subst (λ (x : Seen). IsServable x) (sym (now_more e out (rows.Sent job))) (show_servable t.home t.running hand s e.event e.actor pass.tab job refl refl here.document needing.place needing.target epoch pair.0 pair.1 refl shown_of servable))
               (subst (λ (r : Option ReqId). IsRest r (now_of e then_out)) (sym keeps.running) (subst (λ (x : Seen). IsRest t.running x) (sym (now_more e out (rows.Sent job))) rest_then));
           turn = subst (λ (x : Seen). IsServedTurn s x nav) (sym (now_more e out (rows.Sent job))) (subst (λ (n : NavId). IsServedTurn s (next s e.event e.actor (rows.Sent job)) n) here.nav_is (show_turn t.home t.running hand s e.event e.actor pass.tab job refl refl here.document needing.place needing.target epoch pair.0 pair.1 refl shown_of tab_then));
+          still = λ idle told. subst (λ (x : Seen). ends_told x ≡ true) (sym (now_more e out (rows.Sent job))) (shown_told t.home t.running hand s e.event e.actor pass.tab job refl refl here.document needing.place needing.target epoch pair.0 pair.1 refl shown_of (sym keeps.running ∙ idle) (pair_is ∙ ap (λ (n : ℕ). pair_in s.history.rows n) (aim_idle e out t hand pass (sym keeps.running ∙ idle))) tab_then told);
         }
 
     -- the epoch's number fits
@@ -166,6 +177,7 @@ module _ (e : InEvent) (out : List RowKind) (t : Tables) (hand : List Made) (pas
               (subst (λ (x : Seen). IsServable x) (sym (now_more e out (rows.Sent made))) (make_servable t.home t.running hand s e.event e.actor pass.tab made refl refl nav needing.target.state needing.target.address true refl gone servable))
               (subst (λ (r : Option ReqId). IsRest r (now_of e made_out)) (sym keeps.running) (subst (λ (x : Seen). IsRest t.running x) (sym (now_more e out (rows.Sent made))) made_rest));
           turn = subst (λ (x : Seen). IsServedTurn s x nav) (sym (now_more e out (rows.Sent made))) (make_turn t.home t.running hand s e.event e.actor pass.tab made refl refl nav needing.target.state needing.target.address true refl gone needing.target needing.at refl);
+          still = λ idle told. subst (λ (x : Seen). ends_told x ≡ true) (sym (now_more e out (rows.Sent made))) (made_told t.home t.running hand s e.event e.actor pass.tab made nav needing.target.state needing.target.address true refl (sym keeps.running ∙ idle) (make_tab t.home t.running hand s e.event e.actor pass.tab made refl refl nav needing.target.address true needing.target refl due.next (aim_of s) needing.at) told);
         }
 
   -- ---- one is being made already

@@ -149,12 +149,12 @@ module _ (home : ProcId) (run : Option ReqId) (hand : List Made) (s : Seen) (eve
       by_old (Some p) = ap (λ (q : Place). Some q) (stays p)
 
   -- the place that it was
-  record PlaceBefore (nav : NavId) (p : Place) : Type 0 where
-    old : Place
-    found : place_of s nav ≡ Some old
-    is : (let q : Place = cond (old.nav.0 == d.nav.0) (activated job target.entry epoch d old) old in q) ≡ p
+  pub record PlaceBefore (nav : NavId) (p : Place) : Type 0 where
+    pub old : Place
+    pub found : place_of s nav ≡ Some old
+    pub is : (let q : Place = cond (old.nav.0 == d.nav.0) (activated job target.entry epoch d old) old in q) ≡ p
 
-  was_place : (nav : NavId) (p : Place) → place_of shown nav ≡ Some p → PlaceBefore nav p
+  pub was_place : (nav : NavId) (p : Place) → place_of shown nav ≡ Some p → PlaceBefore nav p
   was_place nav p found = by_old (place_of s nav) refl (sym (place_now nav) ∙ found)
     where
       by_old : (o : Option Place) → place_of s nav ≡ o → option_map (λ (x : Place). let q : Place = cond (x.nav.0 == d.nav.0) (activated job target.entry epoch d x) x in q) o ≡ Some p → PlaceBefore nav p

@@ -7,6 +7,7 @@ use Rattle.apply_plan.specs.declared.need.Need.{Need}
 use Rattle.doors.specs.declared.tables.Tables.{Tables}
 use Rattle.frame_whole.specs.Tab.{AreAwakeWithRows}
 use Rattle.hang_facts.specs.Members.{Has}
+use Rattle.log_model.specs.ActsAtOnce.{ends_told}
 use Rattle.log_model.specs.Checks.{may_go_on}
 use Rattle.log_model.specs.Equal.{holds, same_why}
 use Rattle.log_model.specs.History.{has_state}
@@ -106,3 +107,7 @@ pub record IsServedTurn (s t : Seen) (nav : NavId) : Type 0 where
   pub own : IsServedAt t nav
   pub others : LeavesOthers s t nav
   pub left : LeavesSwept s t
+
+-- while no traversal runs, all who were told the due length and index are so still
+abbrev pub LeavesTold : Option ReqId → Seen → Seen → Type 0
+LeavesTold run s t = run ≡ None → ends_told s ≡ true → ends_told t ≡ true

@@ -7,6 +7,6 @@ mod sweeping;
 mod telling;
 
 pub use reading::aim;
-pub use serving::serve_all;
+pub use serving::{serve_all, serve_one};
 pub use sweeping::sweep;
 pub use telling::tell_all;

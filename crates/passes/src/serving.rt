@@ -9,7 +9,7 @@ ghost use Rattle.step_index.specs.Held.{history_held};
 ghost use Rattle.walk_facts.specs.Serving.{AreServed};
 ghost use Rattle.doors.specs.Working.{KeepsStore};
 ghost use Rattle.passes.specs.Passing.{InPass};
-ghost use Rattle.passes.specs.Serving.{MayCause, HasOnlyServed, LeavesSwept, IsServedTurn, need_in, is_new_by, make_why, show_why};
+ghost use Rattle.passes.specs.Serving.{MayCause, HasOnlyServed, LeavesSwept, IsServedTurn, LeavesTold, need_in, is_new_by, make_why, show_why};
 ghost use Rattle.passes.specs.Settling.{IsSettling};
 
 use crate::reading::{aim, pair_at};
@@ -113,6 +113,7 @@ fn show_target(
     ensures settling { OnOk result (IsSettling p.event out.new tables.new p.hand) }
     ensures turn { OnOk result (IsServedTurn (now_of p.event out.old) (now_of p.event out.new) nav) }
     ensures only { OnOk result (HasOnlyServed tables.old.running cause out.old out.new) }
+    ensures still { OnOk result (LeavesTold tables.old.running (now_of p.event out.old) (now_of p.event out.new)) }
     ensures kept { OnOk result (KeepsStore tables.old tables.new) }
 {
     let (length, index) = pair_at(tables, aim(tables));
@@ -143,6 +144,7 @@ fn make_target(
     ensures settling { OnOk result (IsSettling p.event out.new tables.new p.hand) }
     ensures turn { OnOk result (IsServedTurn (now_of p.event out.old) (now_of p.event out.new) nav) }
     ensures only { OnOk result (HasOnlyServed tables.old.running cause out.old out.new) }
+    ensures still { OnOk result (LeavesTold tables.old.running (now_of p.event out.old) (now_of p.event out.new)) }
     ensures kept { OnOk result (KeepsStore tables.old tables.new) }
 {
     let row = row_there(&tables.store, entry);
@@ -165,14 +167,20 @@ fn need_at(tables: &Tables, nav: NavId) -> Option<Need>
     need_of(&tables.store, &tables.tree, aim(tables), nav)
 }
 
-/// The navigable is served what it needs.
-fn serve_one(tables: &mut Tables, out: &mut Out, nav: NavId, cause: Why) -> Result<(), OutOfMemory>
+/// The navigable is served what it needs: where the walk at the aim finds it in need of something, it is shown its document, or one is made for it.
+pub fn serve_one(
+    tables: &mut Tables,
+    out: &mut Out,
+    nav: NavId,
+    cause: Why,
+) -> Result<(), OutOfMemory>
     ghost p: { InPass }
     requires settling { IsSettling p.event out.old tables.old p.hand }
     requires cause { MayCause (now_of p.event out.old) cause }
     ensures settling { OnOk result (IsSettling p.event out.new tables.new p.hand) }
     ensures turn { OnOk result (IsServedTurn (now_of p.event out.old) (now_of p.event out.new) nav) }
     ensures only { OnOk result (HasOnlyServed tables.old.running cause out.old out.new) }
+    ensures still { OnOk result (LeavesTold tables.old.running (now_of p.event out.old) (now_of p.event out.new)) }
     ensures kept { OnOk result (KeepsStore tables.old tables.new) }
 {
     match need_at(tables, nav) {

@@ -6,3 +6,4 @@ pub mod Ended
 pub mod Begun
 pub mod Between
 mod Grown
+mod AllServed

@@ -1,3 +1,4 @@
 pub mod Reasons
 pub mod Passes
 pub mod Settling
+pub mod Alone

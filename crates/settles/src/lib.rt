@@ -7,4 +7,4 @@ mod resting;
 mod turning;
 
 pub use reasons::Reasons;
-pub use resting::settle;
+pub use resting::{settle, settle_one};

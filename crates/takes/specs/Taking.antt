@@ -7,7 +7,7 @@ use Rattle.frame_rows.specs.Lawful.{KeepsHeld}
 use Rattle.frame_rows.specs.Taking.{IsFree, IsTakenNow}
 use Rattle.log_model.specs.AfterRequests.{changes_history}
 use Rattle.log_model.specs.Causes.{takes_report}
-use Rattle.log_model.specs.History.{History, row_of as entry_row, target_entry}
+use Rattle.log_model.specs.History.{Fits, History, row_of as entry_row, target_entry}
 use Rattle.log_model.specs.Places.{goes, running_traversal}
 use Rattle.log_model.specs.Points.{ends_in, is_taken_up_in}
 use Rattle.log_model.specs.Queue.{is_taken_up_at_once, is_traverse}
@@ -26,9 +26,11 @@ use Rattle.sync_core.specs.Changes.{asked_change}
 use Rattle.sync_core.specs.Judging.{judged}
 use Rattle.sync_core.specs.declared.judging.Judged.{Judged}
 use Rattle.tab_ids.specs.declared.DocId.{DocId}
+use Rattle.tab_ids.specs.declared.EntryId.{EntryId}
 use Rattle.tab_ids.specs.declared.NavId.{NavId}
 use Rattle.tab_ids.specs.declared.ReqId.{ReqId}
 use Rattle.tab_ids.specs.declared.StateId.{StateId}
+use Rattle.log_model.specs.declared.change.Change.TheVariants as changes
 use Rattle.log_model.specs.declared.request.Request.TheVariants as requests
 use Rattle.log_model.specs.declared.row_kind.Actor.TheVariants as actors
 use Rattle.log_model.specs.declared.row_kind.RowKind.TheVariants as rows
@@ -92,3 +94,16 @@ pub record EndsAlone (e : InEvent) (old new : List RowKind) (made : Made) : Type
   pub ends : Ends e kind made.req
   pub no_turn : is_traverse (row_of e kind) ≡ false
   pub up : is_taken_up_at_once (now_of e old) made ≡ true → is_taken_up_in made.req (row_of e kind) ≡ true
+
+-- the row that was put out adds a frame of this number, where there was none
+pub record AddsFrame (e : InEvent) (old new : List RowKind) (req : ReqId) (nav : NavId) : Type 0 where
+  pub owner : StateId
+  pub entry : EntryId
+  pub state : StateId
+  pub out : new ≡ old ++ rows.Applied req (changes.AddFrame owner nav entry state) ∷ []
+  pub fit : Fits (now_of e old).history (changes.AddFrame owner nav entry state)
+
+-- where it is one
+abbrev pub MayAdd : InEvent → List RowKind → List RowKind → ReqId → Option NavId → Type 0
+MayAdd e old new req None = Unit {0}
+MayAdd e old new req (Some nav) = AddsFrame e old new req nav

@@ -1,12 +1,12 @@
 //! The change that a document made is applied.
-ghost use Rattle.std.specs.Prelude.{◌≡◌, OnOk, Some};
+ghost use Rattle.std.specs.Prelude.{◌≡◌, IfOk, OnOk, Some};
 ghost use Rattle.frame_tab.proofs.Skips.{without_made};
 ghost use Rattle.log_model.specs.declared.change.Change.TheVariants as changes;
 ghost use Rattle.doors.specs.Working.{KeepsRun};
 ghost use Rattle.passes.specs.Passing.{InPass};
 ghost use Rattle.passes.specs.Settling.{IsSettling};
 ghost use Rattle.sync_core.specs.declared.judging.Judged.TheVariants as verdicts;
-ghost use Rattle.takes.specs.Taking.{EndsAlone, IsForTaking, asked_in, judged_in};
+ghost use Rattle.takes.specs.Taking.{EndsAlone, IsForTaking, MayAdd, asked_in, judged_in};
 
 use crate::judging::nav_there;
 use address::{Address, OutOfMemory, Text};
@@ -22,7 +22,7 @@ pub(crate) fn apply(
     out: &mut Out,
     made: &Made,
     change: Change,
-) -> Result<(), OutOfMemory>
+) -> Result<Option<NavId>, OutOfMemory>
     ghost p: { InPass }
     requires settling { IsSettling p.event out.old tables.old p.hand }
     requires taking { IsForTaking p.event out.old p.hand made.now }
@@ -31,6 +31,7 @@ pub(crate) fn apply(
     ensures settling { OnOk result (IsSettling p.event out.new tables.new (without_made made.now.req p.hand)) }
     ensures ended { OnOk result (EndsAlone p.event out.old out.new made.now) }
     ensures kept { OnOk result (KeepsRun tables.old tables.new) }
+    ensures adds { IfOk result (λ added. MayAdd p.event out.old out.new made.now.req added) }
 {
     match change {
         Change::Push {
@@ -71,7 +72,7 @@ fn push(
     state: StateId,
     address: Address,
     memo: Option<Text>,
-) -> Result<(), OutOfMemory>
+) -> Result<Option<NavId>, OutOfMemory>
     ghost p: { InPass }
     requires settling { IsSettling p.event out.old tables.old p.hand }
     requires taking { IsForTaking p.event out.old p.hand made.now }
@@ -80,9 +81,10 @@ fn push(
     ensures settling { OnOk result (IsSettling p.event out.new tables.new (without_made made.now.req p.hand)) }
     ensures ended { OnOk result (EndsAlone p.event out.old out.new made.now) }
     ensures kept { OnOk result (KeepsRun tables.old tables.new) }
+    ensures adds { IfOk result (λ added. MayAdd p.event out.old out.new made.now.req added) }
 {
     tables.push(out, made.req, nav, entry, state, address, memo)?;
-    Ok(())
+    Ok(None)
 }
 
 /// An entry takes another's place.
@@ -96,7 +98,7 @@ fn replace(
     state: StateId,
     address: Address,
     memo: Option<Text>,
-) -> Result<(), OutOfMemory>
+) -> Result<Option<NavId>, OutOfMemory>
     ghost p: { InPass }
     requires settling { IsSettling p.event out.old tables.old p.hand }
     requires taking { IsForTaking p.event out.old p.hand made.now }
@@ -105,9 +107,10 @@ fn replace(
     ensures settling { OnOk result (IsSettling p.event out.new tables.new (without_made made.now.req p.hand)) }
     ensures ended { OnOk result (EndsAlone p.event out.old out.new made.now) }
     ensures kept { OnOk result (KeepsRun tables.old tables.new) }
+    ensures adds { IfOk result (λ added. MayAdd p.event out.old out.new made.now.req added) }
 {
     tables.replace(out, made.req, nav, over, entry, state, address, memo)?;
-    Ok(())
+    Ok(None)
 }
 
 /// A frame is added.
@@ -119,7 +122,7 @@ fn add_frame(
     nav: NavId,
     entry: EntryId,
     state: StateId,
-) -> Result<(), OutOfMemory>
+) -> Result<Option<NavId>, OutOfMemory>
     ghost p: { InPass }
     requires settling { IsSettling p.event out.old tables.old p.hand }
     requires taking { IsForTaking p.event out.old p.hand made.now }
@@ -128,10 +131,11 @@ fn add_frame(
     ensures settling { OnOk result (IsSettling p.event out.new tables.new (without_made made.now.req p.hand)) }
     ensures ended { OnOk result (EndsAlone p.event out.old out.new made.now) }
     ensures kept { OnOk result (KeepsRun tables.old tables.new) }
+    ensures adds { IfOk result (λ added. MayAdd p.event out.old out.new made.now.req added) }
 {
     let parent = nav_there(tables, made);
     tables.add_frame(out, made.req, owner, nav, parent)?;
-    Ok(())
+    Ok(Some(nav))
 }
 
 /// A frame is removed, with all below it.
@@ -141,7 +145,7 @@ fn remove_frame(
     out: &mut Out,
     made: &Made,
     nav: NavId,
-) -> Result<(), OutOfMemory>
+) -> Result<Option<NavId>, OutOfMemory>
     ghost p: { InPass }
     requires settling { IsSettling p.event out.old tables.old p.hand }
     requires taking { IsForTaking p.event out.old p.hand made.now }
@@ -150,7 +154,8 @@ fn remove_frame(
     ensures settling { OnOk result (IsSettling p.event out.new tables.new (without_made made.now.req p.hand)) }
     ensures ended { OnOk result (EndsAlone p.event out.old out.new made.now) }
     ensures kept { OnOk result (KeepsRun tables.old tables.new) }
+    ensures adds { IfOk result (λ added. MayAdd p.event out.old out.new made.now.req added) }
 {
     tables.remove_frame(alloc, out, made.req, nav)?;
-    Ok(())
+    Ok(None)
 }

@@ -1,5 +1,5 @@
 //! What a document made is taken up, refused or dropped.
-ghost use Rattle.std.specs.Prelude.{◌≡◌, OnOk, Some};
+ghost use Rattle.std.specs.Prelude.{◌≡◌, IfOk, OnOk, Some};
 ghost use Rattle.std.specs.Option.{IsSome};
 ghost use Rattle.frame_tab.proofs.Skips.{without_made};
 ghost use Rattle.log_model.specs.Causes.{denial_at_delivery};
@@ -10,7 +10,7 @@ ghost use Rattle.seen_laws.specs.InEvent.{now_of};
 ghost use Rattle.passes.specs.Settling.{IsSettling};
 ghost use Rattle.step_index.specs.Held.{history_held};
 ghost use Rattle.sync_core.specs.declared.judging.Judged.TheVariants as verdicts;
-ghost use Rattle.takes.specs.Taking.{EndsAlone, IsForTaking, judged_in, state_in};
+ghost use Rattle.takes.specs.Taking.{EndsAlone, IsForTaking, MayAdd, judged_in, state_in};
 
 use crate::applying::apply;
 use crate::judging::nav_there;
@@ -30,7 +30,7 @@ pub fn take(
     out: &mut Out,
     made: &Made,
     verdict: Judged,
-) -> Result<(), OutOfMemory>
+) -> Result<Option<NavId>, OutOfMemory>
     ghost p: { InPass }
     requires settling { IsSettling p.event out.old tables.old p.hand }
     requires taking { IsForTaking p.event out.old p.hand made.now }
@@ -39,6 +39,7 @@ pub fn take(
     ensures settling { OnOk result (IsSettling p.event out.new tables.new (without_made made.now.req p.hand)) }
     ensures ended { OnOk result (EndsAlone p.event out.old out.new made.now) }
     ensures kept { OnOk result (KeepsRun tables.old tables.new) }
+    ensures adds { IfOk result (λ added. MayAdd p.event out.old out.new made.now.req added) }
 {
     match verdict {
         Judged::Gone(by) => destroyed(tables, out, made, by),
@@ -49,7 +50,12 @@ pub fn take(
 }
 
 /// It is dropped by the request that took its navigable's last entries.
-fn destroyed(tables: &mut Tables, out: &mut Out, made: &Made, by: ReqId) -> Result<(), OutOfMemory>
+fn destroyed(
+    tables: &mut Tables,
+    out: &mut Out,
+    made: &Made,
+    by: ReqId,
+) -> Result<Option<NavId>, OutOfMemory>
     ghost p: { InPass }
     requires settling { IsSettling p.event out.old tables.old p.hand }
     requires taking { IsForTaking p.event out.old p.hand made.now }
@@ -57,13 +63,19 @@ fn destroyed(tables: &mut Tables, out: &mut Out, made: &Made, by: ReqId) -> Resu
     ensures settling { OnOk result (IsSettling p.event out.new tables.new (without_made made.now.req p.hand)) }
     ensures ended { OnOk result (EndsAlone p.event out.old out.new made.now) }
     ensures kept { OnOk result (KeepsRun tables.old tables.new) }
+    ensures adds { IfOk result (λ added. MayAdd p.event out.old out.new made.now.req added) }
 {
     tables.destroy(out, made.req, by)?;
-    Ok(())
+    Ok(None)
 }
 
 /// It is dropped by the traversal that has shown its navigable a document since.
-fn moved(tables: &mut Tables, out: &mut Out, made: &Made, why: Why) -> Result<(), OutOfMemory>
+fn moved(
+    tables: &mut Tables,
+    out: &mut Out,
+    made: &Made,
+    why: Why,
+) -> Result<Option<NavId>, OutOfMemory>
     ghost p: { InPass }
     requires settling { IsSettling p.event out.old tables.old p.hand }
     requires taking { IsForTaking p.event out.old p.hand made.now }
@@ -71,6 +83,7 @@ fn moved(tables: &mut Tables, out: &mut Out, made: &Made, why: Why) -> Result<()
     ensures settling { OnOk result (IsSettling p.event out.new tables.new (without_made made.now.req p.hand)) }
     ensures ended { OnOk result (EndsAlone p.event out.old out.new made.now) }
     ensures kept { OnOk result (KeepsRun tables.old tables.new) }
+    ensures adds { IfOk result (λ added. MayAdd p.event out.old out.new made.now.req added) }
 {
     match why {
         Why::Req(by) => moved_by(tables, out, made, by),
@@ -81,7 +94,12 @@ fn moved(tables: &mut Tables, out: &mut Out, made: &Made, why: Why) -> Result<()
 }
 
 /// It is dropped by this traversal.
-fn moved_by(tables: &mut Tables, out: &mut Out, made: &Made, by: ReqId) -> Result<(), OutOfMemory>
+fn moved_by(
+    tables: &mut Tables,
+    out: &mut Out,
+    made: &Made,
+    by: ReqId,
+) -> Result<Option<NavId>, OutOfMemory>
     ghost p: { InPass }
     requires settling { IsSettling p.event out.old tables.old p.hand }
     requires taking { IsForTaking p.event out.old p.hand made.now }
@@ -89,9 +107,10 @@ fn moved_by(tables: &mut Tables, out: &mut Out, made: &Made, by: ReqId) -> Resul
     ensures settling { OnOk result (IsSettling p.event out.new tables.new (without_made made.now.req p.hand)) }
     ensures ended { OnOk result (EndsAlone p.event out.old out.new made.now) }
     ensures kept { OnOk result (KeepsRun tables.old tables.new) }
+    ensures adds { IfOk result (λ added. MayAdd p.event out.old out.new made.now.req added) }
 {
     tables.drop_moved(out, made.req, by)?;
-    Ok(())
+    Ok(None)
 }
 
 /// The document state of the navigable's entries.
@@ -114,7 +133,7 @@ fn take_up(
     tables: &mut Tables,
     out: &mut Out,
     made: &Made,
-) -> Result<(), OutOfMemory>
+) -> Result<Option<NavId>, OutOfMemory>
     ghost p: { InPass }
     requires settling { IsSettling p.event out.old tables.old p.hand }
     requires taking { IsForTaking p.event out.old p.hand made.now }
@@ -122,6 +141,7 @@ fn take_up(
     ensures settling { OnOk result (IsSettling p.event out.new tables.new (without_made made.now.req p.hand)) }
     ensures ended { OnOk result (EndsAlone p.event out.old out.new made.now) }
     ensures kept { OnOk result (KeepsRun tables.old tables.new) }
+    ensures adds { IfOk result (λ added. MayAdd p.event out.old out.new made.now.req added) }
 {
     let nav = nav_there(tables, made);
     let state = state_there(&tables.store, nav);
@@ -144,7 +164,7 @@ fn denied(
     out: &mut Out,
     made: &Made,
     reason: Denial,
-) -> Result<(), OutOfMemory>
+) -> Result<Option<NavId>, OutOfMemory>
     ghost p: { InPass }
     requires settling { IsSettling p.event out.old tables.old p.hand }
     requires taking { IsForTaking p.event out.old p.hand made.now }
@@ -152,7 +172,8 @@ fn denied(
     ensures settling { OnOk result (IsSettling p.event out.new tables.new (without_made made.now.req p.hand)) }
     ensures ended { OnOk result (EndsAlone p.event out.old out.new made.now) }
     ensures kept { OnOk result (KeepsRun tables.old tables.new) }
+    ensures adds { IfOk result (λ added. MayAdd p.event out.old out.new made.now.req added) }
 {
     tables.deny(out, made.req, reason)?;
-    Ok(())
+    Ok(None)
 }

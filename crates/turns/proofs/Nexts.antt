@@ -9,6 +9,7 @@ use Rattle.move_queue.specs.declared.queue_step.QueueStep.{QueueStep}
 use Rattle.seen_laws.specs.InEvent.{InEvent, now_of}
 use Rattle.passes.specs.Settling.{IsSettling}
 use Rattle.std.proofs.Common.{Bool, List, None, Option, Some, [], ap, arith, false, length, refl, subst, sym, true, ℕ, ℤ, ◌+◌, ◌<◌, ◌∙◌, ◌∷◌, ◌≡◌}
+use Rattle.std.specs.Prelude.{is_some, slice_get}
 use Rattle.step_index.specs.Held.{history_held}
 use Rattle.tab_ids.specs.declared.ReqId.{ReqId}
 use Rattle.turns.proofs.Firsts.{ahead, goes_first}
@@ -30,6 +31,10 @@ none_next e out (step ∷ was) standing = standing
 
 pub empty_next : (e : InEvent) (out : List RowKind) (was : List QueueStep) → was ≡ [] → false ≡ is_next (now_of e out) was
 empty_next e out was none = sym (ap (λ (l : List QueueStep). is_next (now_of e out) l) none)
+
+pub nobody_next : (e : InEvent) (out : List RowKind) (was : List QueueStep) → false ≡ is_some (slice_get was 0) → false ≡ is_next (now_of e out) was
+nobody_next e out [] none = refl
+nobody_next e out (step ∷ was) never = absurd cc
 
 -- by a delta that is the same
 pub first_with : (e : InEvent) (out : List RowKind) (req : ReqId) (delta z : ℤ) → z ≡ delta → IsFirst (now_of e out) req delta → IsFirst (now_of e out) req z

@@ -87,6 +87,9 @@ pub fn begin_next(
     ensures fewer { IfOk result (λ did. did ≡ true → turns_left tables.new.running queue.new.waiting < turns_left tables.old.running queue.old.waiting) }
     ensures parked { queue.new.parked ≡ queue.old.parked }
 {
+    if !queue.has_next() {
+        return Ok(false);
+    }
     let current = tables.store.current();
     if stand_at(tables, current) {
         if let Some(step) = queue.next() {

@@ -32,3 +32,11 @@ returns-in-Some-clause-only g c = only_none _ _
 pub returns-in_ok-make-in-None-clause-only : goal.returns-in_ok-make-in-None-clause-only
 returns-in_ok-make-in-None-clause-only g c =
     only_one _ _ _ _ c.in_ok-make-in-None.ensures.out (refl, made_whys _ _ _ _ c.make_why-why.ensures)
+
+pub returns-in_ok-make-in-None-clause-still : goal.returns-in_ok-make-in-None-clause-still
+returns-in_ok-make-in-None-clause-still g c idle =
+    let ready = ready_to_make _ _ _ _ c.requires.0.passing _ _ ((make_due_now _ _ _ _ c.requires.0.passing _ _ _ c.requires.1.1).1) c.requires.0.servable (rest_of _ _ _ _ c.requires.0) _ c.requires.1.0 _ c.row_there-row.ensures _ refl (sym c.made_for.ensures ∙ c.in-None.is) _ c.in_ok-address-in-None.ensures _ _ c.make_why-why.ensures in
+    (ready.done _ _ c.in_ok-make-in-None.ensures.kept c.in_ok-make-in-None.ensures.out c.in_ok-make-in-None.ensures.work).still (c.in_ok-make-in-None.ensures.kept.running ∙ idle)
+
+pub returns-in-Some-clause-still : goal.returns-in-Some-clause-still
+returns-in-Some-clause-still g c idle told = told

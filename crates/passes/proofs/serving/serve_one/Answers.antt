@@ -8,3 +8,6 @@ returns-in-None-clause-turn g c = idle_turn _ _ _ _ c.requires.0.passing _ (sym 
 
 pub returns-in-None-clause-only : goal.returns-in-None-clause-only
 returns-in-None-clause-only g c = only_none _ _
+
+pub returns-in-None-clause-still : goal.returns-in-None-clause-still
+returns-in-None-clause-still g c idle told = told

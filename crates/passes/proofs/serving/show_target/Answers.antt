@@ -32,3 +32,8 @@ returns-clause-turn g c =
 
 pub returns-clause-only : goal.returns-clause-only
 returns-clause-only g c = only_one _ _ _ _ c.in_ok-show.ensures.out (refl, inl c.show_why-why.ensures)
+
+pub returns-clause-still : goal.returns-clause-still
+returns-clause-still g c idle =
+    let ready = ready_to_show _ _ _ _ c.requires.0.passing _ _ ((move_due _ _ _ _ c.requires.0.passing _ _ _ c.requires.1.1).1) c.requires.0.servable (rest_of _ _ _ _ c.requires.0) _ c.requires.1.0 _ c.row_there-row.ensures _ c.doc_there-doc.ensures _ c.next_epoch-epoch.ensures _ _ (c.pair_at-length.ensures ∙ ap (λ (n : ℕ). pair_in (history_held c.args.tables.now.store).rows n) c.aim.ensures) _ c.in_ok-memo.ensures _ c.in_ok-address.ensures _ c.show_why-why.ensures in
+    (ready.done _ _ c.in_ok-show.ensures.kept c.in_ok-show.ensures.out c.in_ok-show.ensures.work).still (c.in_ok-show.ensures.kept.running ∙ idle)

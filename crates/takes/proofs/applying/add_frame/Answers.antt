@@ -18,8 +18,10 @@ add_frame-requires g c =
 pub returns : goal.returns
 returns g c =
     let told = tells _ _ _ _ c.requires.0 _ c.requires.1.0 _ c.requires.1.1.0 in
+    let ready = add_ready _ _ _ _ c.requires.0 _ c.requires.1.0 told _ _ _ _ c.requires.1.1.1 in
     record {
       settling = add_done _ _ _ _ c.requires.0 _ c.requires.1.0 told _ _ _ _ c.requires.1.1.1 _ _ c.in_ok-add_frame.ensures.out c.in_ok-add_frame.ensures.kept c.in_ok-add_frame.ensures.work;
       ended = record { kind = _; out = c.in_ok-add_frame.ensures.out; ends = refl; no_turn = refl; up = λ due. nat_eq_refl _ };
       kept = c.in_ok-add_frame.ensures.kept;
+      adds = record { owner = _; entry = _; state = _; out = c.in_ok-add_frame.ensures.out; fit = ready.1.0.fits };
     }

@@ -3,7 +3,7 @@ use mir.Val.{SFits}
 use Rattle.move_queue.specs.Queue.{Queue}
 use Rattle.std.proofs.Common.{ap, rules, sym, ◌∙◌}
 use Rattle.std.proofs.lemmas.Int.{to_z-of_z}
-use Rattle.turns.proofs.Nexts.{fewer_left, first_with, gone_with, has_taken, its_first, its_traversal, none_next, one_next, queue_then, stand_here}
+use Rattle.turns.proofs.Nexts.{fewer_left, first_with, gone_with, has_taken, its_first, its_traversal, nobody_next, none_next, one_next, queue_then, stand_here}
 use Rattle.turns.proofs.taking.begin_next.Goals as goal
 
 pub traversal_of-delta-requires : goal.traversal_of-delta-requires
@@ -41,3 +41,6 @@ returns-in-Some-clause-fewer g c did =
 pub returns-else-stand_at-clause-due : goal.returns-else-stand_at-clause-due
 returns-else-stand_at-clause-due g c =
     none_next _ _ _ (sym c.if-stand_at.false ∙ stand_here _ _ _ _ c.requires.0 _ c.current-current.ensures _ c.stand_at.ensures)
+
+pub returns-then-not-has_next-clause-due : goal.returns-then-not-has_next-clause-due
+returns-then-not-has_next-clause-due g c = nobody_next _ _ _ (sym c.if-not-has_next.true ∙ c.has_next.ensures)

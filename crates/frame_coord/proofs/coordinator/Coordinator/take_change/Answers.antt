@@ -1,4 +1,4 @@
-use Rattle.frame_coord.proofs.Changes.{change_ready, for_taking, hand_settling, held_acted, node_there}
+use Rattle.frame_coord.proofs.Changes.{change_alone, change_ready, for_taking, hand_settling, held_acted, node_there}
 use Rattle.frame_coord.proofs.coordinator.Coordinator.take_change.Goals as goal
 use Rattle.log_model.specs.declared.made.Made.{Made}
 use Rattle.log_model.specs.declared.row_kind.RowKind.{RowKind}
@@ -6,7 +6,8 @@ use Rattle.move_queue.specs.Queue.{Queue}
 use Rattle.passes.specs.Settling.{IsSettling}
 use Rattle.std.proofs.Common.{List, Option, Some, [], ap, subst, sym, ◌++◌, ◌∙◌, ◌∷◌}
 use Rattle.sync_core.specs.declared.judging.Judged.{Judged}
-use Rattle.takes.specs.Taking.{EndsAlone, IsForTaking}
+use Rattle.tab_ids.specs.declared.NavId.{NavId}
+use Rattle.takes.specs.Taking.{AddsFrame, EndsAlone, IsForTaking, MayAdd}
 
 pub judged-verdict-requires : goal.judged-verdict-requires
 judged-verdict-requires g c = node_there g.e c.args.self.now c.args.made.now c.requires.0 c.requires.1.0
@@ -26,4 +27,15 @@ take-requires g c = (
 
 pub settle-requires : goal.settle-requires
 settle-requires g c =
-    change_ready g.e c.args.self.now c.args.made.now c.requires.0 c.requires.1.0 _ c.judged-verdict.ensures c.in_default.not-Park _ _ c.in_ok-take.ensures.settling (subst (λ (l : List RowKind). EndsAlone g.e l c.take.new.out c.args.made.now) c.requires.1.1 c.in_ok-take.ensures.ended) c.in_ok-take.ensures.kept
+    change_ready g.e c.args.self.now c.args.made.now c.requires.0 c.requires.1.0 _ c.judged-verdict.ensures c.in_default.not-Park _ _ c.in_ok-added.ensures.settling (subst (λ (l : List RowKind). EndsAlone g.e l c.take.new.out c.args.made.now) c.requires.1.1 c.in_ok-added.ensures.ended) c.in_ok-added.ensures.kept
+
+pub settle_one-requires : goal.settle_one-requires
+settle_one-requires g c =
+    let alone : EndsAlone g.e [] c.take.new.out c.args.made.now = subst (λ (l : List RowKind). EndsAlone g.e l c.take.new.out c.args.made.now) c.requires.1.1 c.in_ok-added.ensures.ended in
+    let adds : AddsFrame g.e [] c.take.new.out c.args.made.now.req c.in-None-Some.nav = subst (λ (l : List RowKind). AddsFrame g.e l c.take.new.out c.args.made.now.req c.in-None-Some.nav) c.requires.1.1 (subst (λ (o : Option NavId). MayAdd g.e c.args.out.now c.take.new.out c.args.made.now.req o) c.in-None-Some.is-1 c.in_ok-added.ensures.adds) in (
+      change_ready g.e c.args.self.now c.args.made.now c.requires.0 c.requires.1.0 _ c.judged-verdict.ensures c.in_default.not-Park _ _ c.in_ok-added.ensures.settling alone c.in_ok-added.ensures.kept,
+      (
+        c.in-None-Some.is-0,
+        change_alone g.e c.args.self.now c.args.made.now c.requires.0 c.requires.1.0 _ c.judged-verdict.ensures c.in_default.not-Park _ _ c.in_ok-added.ensures.settling alone c.in_ok-added.ensures.kept _ adds c.in-None-Some.is-0,
+      ),
+    )

@@ -6,3 +6,6 @@ ghost-take g a = record { event = g.e; hand = a.made.now ∷ [] }
 
 abbrev pub ghost-settle : goal.ghost-settle
 ghost-settle g a = g.e
+
+abbrev pub ghost-settle_one : goal.ghost-settle_one
+ghost-settle_one g a = g.e
