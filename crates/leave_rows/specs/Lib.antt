@@ -1,0 +1,4 @@
+pub mod Leaving
+pub mod Freezing
+pub mod Evicting
+pub mod Fragments
