@@ -2,13 +2,11 @@
 use Rattle.leave_rows.specs.Fragments.{IsFragmentDue}
 use Rattle.log_model.proofs.Refl.{bytes_eq_refl, nat_eq_refl, same_mode_refl}
 use Rattle.log_model.specs.ActsAtOnce.{is_order_of_use}
-use Rattle.log_model.specs.Causes.{denial_at_acceptance}
 use Rattle.log_model.specs.Checks.{is_sent_in_time, settles_duly}
 use Rattle.log_model.specs.Events.{Point}
 use Rattle.log_model.specs.Orders.{Question, has_cause, is_addressed, is_for, is_sent_to_fragment}
-use Rattle.log_model.specs.Seen.{Asked, Document, Seen, desk_of}
+use Rattle.log_model.specs.Seen.{Asked, Document, desk_of}
 use Rattle.log_model.specs.Suits.{is_discarded_suitably, is_sent_home}
-use Rattle.log_model.specs.declared.header.Header.{Header}
 use Rattle.log_model.specs.declared.job.Job.{Job}
 use Rattle.log_model.specs.declared.job.Task.{Task}
 use Rattle.log_model.specs.declared.job.Why.{Why}
@@ -20,30 +18,14 @@ use Rattle.seen_laws.proofs.Sendings.{both, led_follows, order_row}
 use Rattle.seen_laws.specs.Blocks.{Here, MayLog, Passes, point_at}
 use Rattle.seen_laws.specs.InEvent.{Anything, InEvent}
 use Rattle.seen_laws.specs.Sending.{IsNumbered, is_led}
-use Rattle.std.proofs.Common.{Bool, List, None, Option, [], cond, false, length, refl, subst, sym, true, ℕ, ◌&&◌, ◌+◌, ◌==◌, ◌∷◌, ◌≡◌}
+use Rattle.std.proofs.Common.{Bool, List, None, Option, [], cond, false, refl, subst, sym, true, ℕ, ◌&&◌, ◌+◌, ◌==◌, ◌∷◌, ◌≡◌}
 use Rattle.tab_ids.specs.declared.NavId.{NavId}
 use Rattle.tab_ids.specs.declared.ReqId.{ReqId}
 use Rattle.log_model.specs.declared.job.Task.TheVariants as tasks
 use Rattle.log_model.specs.declared.job.Why.TheVariants as whys
-use Rattle.log_model.specs.declared.request.Request.TheVariants as requests
-use Rattle.log_model.specs.declared.row_kind.Actor.TheVariants as actors
 use Rattle.log_model.specs.declared.row_kind.RowKind.TheVariants as rows
 
 -- ---- the load is accepted
-
--- the user's load is accepted, where no reason to refuse it holds
-pub load_passes : (header : Header) (s : Seen) (event : ℕ) (req : ReqId) (nav : NavId) (mode : Mode) (address : List ℕ) (later : List LogRow) → req.0 ≡ length s.requests + 1 → denial_at_acceptance s (requests.Load nav mode address) ≡ None → Passes header (record { start = s; now = s; done = []; later = later }) (record { event = event; actor = actors.Ui; row = rows.Accepted req None (requests.Load nav mode address) })
-load_passes header s event req nav mode address later next undenied =
-    record {
-      formed = refl;
-      once = rw next (nat_eq_refl (length s.requests + 1));
-      caused = rw undenied refl;
-      queued = refl;
-      ordered = refl;
-      checked = refl;
-      in_time = refl;
-      suits = refl;
-    }
 
 -- ---- its order
 

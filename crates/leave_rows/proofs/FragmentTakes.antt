@@ -11,7 +11,6 @@ use Rattle.log_model.specs.Equal.{has_req, holds}
 use Rattle.log_model.specs.Events.{Point}
 use Rattle.log_model.specs.History.{owner_of}
 use Rattle.log_model.specs.Once.{change_of_made, change_of_report, due_change}
-use Rattle.log_model.specs.Places.{has_passed}
 use Rattle.log_model.specs.Points.{is_taken_up_in, taken_report}
 use Rattle.log_model.specs.Queue.{is_delivered_duly, is_jump, is_load_step, is_taken_up_at_once, is_traverse, is_traversed_duly}
 use Rattle.log_model.specs.Seen.{Asked, Document, Seen, desk_of, document_of}
@@ -100,10 +99,6 @@ untraversed p s q (changes.AddFrame owner nav entry state) is = refl
 untraversed p s q (changes.RemoveFrame nav) is = refl
 untraversed p s q (changes.Reload nav) is = refl
 untraversed p s q changes.Edit is = refl
-
--- a request for which nobody was asked has passed its check
-pub unasked_passed : (s : Seen) (q : Asked) → q.asks ≡ [] → q.prompted ≡ None → has_passed s q ≡ true
-unasked_passed s q none unprompted = rw (none, unprompted) refl
 
 -- the event takes the report
 pub taken_now : (h : Here) (row own : LogRow) (done : List LogRow) (proc : ProcId) (job : Job) (made : Made) → h.done ≡ own ∷ done → own.row ≡ rows.Delivered proc → slice_get (desk_of h.start proc).reports 0 ≡ Some (reports.Done job outcomes.Fragmented (Some made)) → IsTakenNow h row made

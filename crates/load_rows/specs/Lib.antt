@@ -1,0 +1,5 @@
+pub mod Dropping
+pub mod Beginning
+pub mod LoadMaking
+pub mod Loaded
+pub mod Arriving
