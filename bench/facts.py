@@ -1,7 +1,8 @@
 """Tries what the crates of facts take to be true between two events, on random runs of a model, by its checker: where
 each awake navigable's document is, what is on its way, that what isn't shown rests, that each visited navigable is
 served; and how often all of it stands at once with nothing loaded, reloaded or dead, in transit or not. On runs of the
-profile `frames` it tries, after each row, what `frame_tab` says of a tab of frames.
+profile `frames` it tries, after each row, what `frame_tab` says of a tab of frames; on those of `loads` and `kept`, what
+`load_facts`, `kept_facts` and `mover_facts` say, and what a tab of frames and loads is to keep of documents, desks and places.
 
     python3 bench/facts.py MODEL [FIRST COUNT [PROFILE ...]]
 
@@ -154,8 +155,8 @@ class Beside:
 
     def feed(self, row):
         s = self.s
-        if row.kind == 'delivered' and s.proc(row.proc).reports[0][0] == 'made':
-            made = s.proc(row.proc).reports[0][1]
+        made = self.made_of(s.proc(row.proc).reports[0]) if row.kind == 'delivered' else None
+        if made is not None:
             if self.is_held_back(made):
                 self.parked.append(made.req)
             elif made.what.kind != 'go':
@@ -164,18 +165,28 @@ class Beside:
             self.parked = [req for req in self.parked if req != row.req]
             self.hand = [made for made in self.hand if made.req != row.req]
         if row.kind == 'applied' and row.change.kind in ('push', 'replace'):
-            self.applied[row.change.entry[0]] = row.change.entry[1]
+            maker, nr = row.change.entry
+            self.applied[maker] = nr
+            self.entries += maker == 0
         if row.kind == 'applied' and row.change.kind == 'frame':
             self.entries, self.states = self.entries + 1, self.states + 1
             self.initial.append(row.change.state)
+        if row.kind == 'started' and s.reqs[row.req].kind == 'load':
+            self.states += 1
         if row.kind == 'sent' and row.job.task.kind == 'freeze':
             self.frozen.add(row.job.doc)
+        if row.kind == 'sent' and row.job.task.kind == SHOWS:
+            self.frozen.discard(row.job.doc)
         s.feed(row)
+
+    def made_of(self, report):
+        """What a document made, where the report tells of it."""
+        return report[1] if report[0] == 'made' else self.s.jobs[report[1]].made if report[0] == 'done' else None
 
     def mades(self):
         """What documents made and the history doesn't have yet."""
-        waiting = [report[1] for p in self.s.procs.values() for report in p.reports if report[0] == 'made']
-        return [self.s.reqs[req].made for req in self.parked] + self.hand + waiting
+        waiting = [self.made_of(report) for p in self.s.procs.values() for report in p.reports]
+        return [self.s.reqs[req].made for req in self.parked] + self.hand + [made for made in waiting if made is not None]
 
     def jobs(self):
         """Orders that are unfinished, or whose report waits."""
@@ -279,6 +290,108 @@ def try_frames(log):
         try_desks(b)
 
 
+# ---- a tab of frames and loads
+
+def ongoing_loads(s):
+    return [q for q in s.open_started if q.kind == 'load']
+
+
+def ever_shown(s):
+    return {doc for docs in s.awake_ever.values() for doc in docs}
+
+
+def try_load_documents(b):
+    s = b.s
+    awake, states, made = {p.doc for p in s.place.values() if p.status == 'awake'}, {r.state for r in s.H.rows}, b.mades()
+    for d in s.docs.values():
+        v, ready = s.views.get(d.nr), d.pop_delivered is not None
+        count('alive', d.inc == 0 and d.slot is None and d.dead_by is None and (v is None or v.doc == d.nr)
+              and (ready or v is None or not v.running), d.nr)
+        count('there', d.nav in s.place and 1 <= d.nr <= len(s.docs) and 1 <= d.state <= b.states, d.nr)
+        makes = [j for j in b.jobs() if j.doc == d.nr and j.task.kind == MAKES]
+        count('made once', len(makes) == (0 if ready else 1), d.nr)
+        own = [m for m in made if m.doc == d.nr]
+        numbers = [b.applied.get(d.nr, 0)] + [entry_of(m)[1] for m in own if entry_of(m)]
+        count('made nothing', ready or (not own and not numbers[0]), d.nr)
+        count('ascends', v is None or (sorted(set(numbers)) == numbers and numbers[-1] <= v.nr), d.nr)
+        count('gone', not d.discarded or (ready and d.nr not in awake and d.nr not in s.kept), d.nr)
+        count('frozen', d.nr not in b.frozen or d.nr not in awake, d.nr)
+        count('sole', d.discarded or not any(o is not d and o.state == d.state and not o.discarded for o in s.docs.values()), d.nr)
+        count('of its state', all(r.nav == d.nav for r in s.H.rows if r.state == d.state), d.nr)
+    count('states numbered', all(1 <= state <= b.states for state in states))
+
+
+def try_ongoing(b, ends):
+    s, loads, shown, states = b.s, ongoing_loads(b.s), ever_shown(b.s), {r.state for r in b.s.H.rows}
+    count('loads apart', len({q.lstate for q in loads}) == len({q.what.nav for q in loads}) == len(loads))
+    for q in loads:
+        docs = [d for d in s.docs.values() if d.state == q.lstate and not d.discarded]
+        count('loading', q.made is None and q.frag_job is None and q.lstate not in states and q.lstate <= b.states, q.nr)
+        count('its documents', all(d.nav == q.what.nav and d.nr not in shown for d in docs) and len(docs) <= 1, q.nr)
+        count('its document', not ends or len(docs) == 1, q.nr)
+
+
+def try_kept(b, ends, keep):
+    s, states, awake = b.s, {r.state for r in b.s.H.rows}, {p.doc for p in b.s.place.values() if p.status == 'awake'}
+    for doc in s.kept:
+        d = s.docs[doc]
+        count('kept', d.pop_delivered is not None and not d.discarded and doc not in awake and s.last_act[d.nav].doc != doc, doc)
+        count('kept as an event ends', not ends or (d.state in states and doc in b.frozen), doc)
+    count('kept apart', len(set(s.kept)) == len(s.kept))
+    count('kept few', len(s.kept) <= keep + (not ends))
+
+
+def has_moved_away(s, n, req):
+    q, way = s.reqs.get(req), logcheck.way(s.H, n)
+    if q is None:
+        return False
+    return ((q.trav and q.started is not None and logcheck.D12d_passed(s, q))
+            or (q.change is not None and getattr(q.change, 'nav', None) in way)
+            or any(entry in s.given_ever.get(m, ()) for m in way for entry in q.took))
+
+
+def try_places(b, ends):
+    s, run, aim = b.s, logcheck.running_traversal(b.s), logcheck.D12c_aim(b.s)
+    for n, p in s.place.items():
+        has_row, awake, act = n in s.H.by_nav, p.status == 'awake', s.last_act.get(n)
+        count('steady', p.status != 'lost' and (not awake or (p.epoch >= 1 and p.given is not None)), n)
+        count('shown before', (p.epoch == 0) == (act is None) == (p.given is None), n)
+        count('taken', has_row or s.taken_last.get(n) in s.reqs, n)
+        if p.epoch >= 2 or (p.status == 'asleep' and p.epoch >= 1):
+            count('mover', p.why[0] == 'r' and has_moved_away(s, n, p.why[1]), (n, p.why))
+        if act is not None:
+            count('given of the last', all(r.state == s.docs[act.doc].state for r in s.H.rows if r.nav == n and r.entry == p.given), n)
+        if awake and has_row and ends:
+            step = aim if run is not None and n in s.moved.get(run.nr, ()) else s.H.current
+            count('given', p.given == logcheck.D3_target(s.H, n, step).entry, n)
+        count('awake with a row', not ends or not awake or has_row, n)
+
+
+def try_load_desks(b):
+    s = b.s
+    for job in b.jobs():
+        d, kind = s.docs[job.doc], job.task.kind
+        count('order', job.proc == d.proc and job.inc == 0 and (kind == MAKES or (d.pop_delivered is not None and (
+            kind in ('update', 'discard', 'freeze', 'fragment') or (kind == SHOWS and 1 <= job.task.epoch <= s.place[d.nav].epoch)))), job.nr)
+    for made in b.mades():
+        count('made there', made.what.kind != 'edit' and (entry_of(made) is None or entry_of(made)[0] == made.doc), made.req)
+    for proc, p in s.procs.items():
+        count('at home', all(s.docs[s.reqs[req].doc].proc == proc for req in p.input)
+              and all(s.docs[(r[1] if r[0] == 'made' else s.jobs[r[1]]).doc].proc == proc for r in p.reports), proc)
+
+
+def try_loads(log, keep):
+    b = Beside(log)
+    for i, row in enumerate(log):
+        b.feed(row)
+        ends = i + 1 == len(log) or log[i + 1].event != row.event
+        try_load_documents(b)
+        try_ongoing(b, ends)
+        try_kept(b, ends, keep)
+        try_places(b, ends)
+        try_load_desks(b)
+
+
 for profile in PROFILES:
     seen.clear()
     for seed in range(FIRST, FIRST + COUNT):
@@ -295,6 +408,8 @@ for profile in PROFILES:
             count('legal log', broken is None, broken)
             if profile == 'frames':
                 try_frames(log)
+            if profile in ('loads', 'kept'):
+                try_loads(log, read.header.keep)
     print(profile + ':', ', '.join(f'{what} {total}' + (f' ({wrong} FALSE)' if wrong else '') for what, (total, wrong) in sorted(seen.items())))
     if any(wrong for _, wrong in seen.values()):
         sys.exit(1)

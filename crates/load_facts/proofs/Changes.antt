@@ -98,6 +98,14 @@ document_free s req doc d nav place are found there shown =
       others = λ other l at on has. absurd (shown_free s doc d nav place are found there shown other l at on has);
     }
 
+-- nor has one the document state of an entry
+pub row_free : (s : Seen) (row : Row) → AreLoading s → Has s.history.rows row → IsFree s row.state
+row_free s row are has req l at on state =
+    let is = are.each req l at on in
+    let both : Some is.state ≡ Some row.state = sym is.state_is ∙ state in
+    let same : is.state ≡ row.state = cc in
+    is.unheld row has (ap (λ (x : StateId). x.0) (sym same))
+
 -- ---- the row
 
 module _ (s : Seen) (event : ℕ) (actor : Actor) (are : AreLoading s) (req : ReqId) (change : Change) where
