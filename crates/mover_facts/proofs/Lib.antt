@@ -1,0 +1,9 @@
+pub mod Stays
+pub mod Places
+pub mod Asked
+pub mod Rows
+pub mod Orders
+pub mod Changes
+pub mod Reasons
+pub mod Ways
+pub mod Below
