@@ -2,7 +2,8 @@
 each awake navigable's document is, what is on its way, that what isn't shown rests, that each visited navigable is
 served; and how often all of it stands at once with nothing loaded, reloaded or dead, in transit or not. On runs of the
 profile `frames` it tries, after each row, what `frame_tab` says of a tab of frames; on those of `loads` and `kept`, what
-`load_facts`, `kept_facts` and `mover_facts` say, and what a tab of frames and loads is to keep of documents, desks and places.
+`load_facts`, `kept_facts`, `desk_facts`, `mover_facts` and `load_whereabouts` say, and what a tab of frames and loads is to
+keep of documents and places.
 
     python3 bench/facts.py MODEL [FIRST COUNT [PROFILE ...]]
 
@@ -380,11 +381,58 @@ def try_load_desks(b):
               and all(s.docs[(r[1] if r[0] == 'made' else s.jobs[r[1]]).doc].proc == proc for r in p.reports), proc)
 
 
+def waits_to_fragment(q):
+    return q.outcome is None and q.made is None and q.frag_job is not None
+
+
+class AtHand:
+    """The loads at hand in the event, and those whose fragment order was reported in it."""
+    def __init__(self):
+        self.loads, self.missed = [], []
+
+    def before(self, b, row):
+        """As a report is delivered."""
+        if row.kind != 'delivered':
+            return
+        report = b.s.proc(row.proc).reports[0]
+        made = b.made_of(report)
+        if report[0] == 'done' and b.s.jobs[report[1]].task.kind == 'fragment':
+            self.missed.append(b.s.jobs[report[1]].task.req)
+        if made is not None and b.s.reqs[made.req].kind == 'load' and not b.is_held_back(made):
+            self.loads.append(made.req)
+
+    def after(self, b, row):
+        """As a load is accepted, begins, is sent to a fragment or ends."""
+        order = row.job.task if row.kind == 'sent' and row.job.task.kind == 'fragment' else None
+        if row.kind == 'accepted' and b.s.reqs[row.req].kind == 'load':
+            self.loads.append(row.req)
+        gone = order.req if order else row.req if row.kind in ('started', 'applied', 'refused', 'dropped') else None
+        self.loads = [req for req in self.loads if req != gone]
+
+
+def try_whereabouts(b, at_hand, ends):
+    s = b.s
+    told = [made.req for p in s.procs.values() for made in map(b.made_of, p.reports) if made is not None]
+    for q in s.reqs.values():
+        if q.kind == 'load':
+            times = sum(reqs.count(q.nr) for reqs in (told, b.parked, at_hand.loads))
+            count('once', times + (q.started is not None and q.outcome is None) + waits_to_fragment(q) == (q.outcome is None), q.nr)
+            if waits_to_fragment(q) and q.nr not in at_hand.missed:
+                proc = s.docs[s.jobs[q.frag_job].doc].proc
+                count('fragment comes', outstanding(s, proc, lambda j: j.nr == q.frag_job), q.nr)
+    if ends:
+        count('no load at hand', not at_hand.loads and not any(waits_to_fragment(s.reqs[req]) for req in at_hand.missed))
+        at_hand.missed = []
+
+
 def try_loads(log, keep):
-    b = Beside(log)
+    b, at_hand = Beside(log), AtHand()
     for i, row in enumerate(log):
+        at_hand.before(b, row)
         b.feed(row)
+        at_hand.after(b, row)
         ends = i + 1 == len(log) or log[i + 1].event != row.event
+        try_whereabouts(b, at_hand, ends)
         try_load_documents(b)
         try_ongoing(b, ends)
         try_kept(b, ends, keep)

@@ -1,0 +1,12 @@
+pub mod Trips
+pub mod Counts
+pub mod Rows
+pub mod Begun
+pub mod Ended
+pub mod Answered
+pub mod Others
+pub mod Finding
+pub mod Homes
+pub mod Waits
+pub mod Coming
+pub mod Arriving

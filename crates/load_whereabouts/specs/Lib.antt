@@ -1,0 +1,2 @@
+pub mod Whereabouts
+pub mod Coming
