@@ -2,8 +2,8 @@
 each awake navigable's document is, what is on its way, that what isn't shown rests, that each visited navigable is
 served; and how often all of it stands at once with nothing loaded, reloaded or dead, in transit or not. On runs of the
 profile `frames` it tries, after each row, what `frame_tab` says of a tab of frames; on those of `loads` and `kept`, what
-`load_facts`, `kept_facts`, `desk_facts`, `mover_facts` and `load_whereabouts` say, and what a tab of frames and loads is to
-keep of documents and places.
+`load_facts`, `kept_facts`, `desk_facts`, `entry_facts`, `mover_facts` and `load_whereabouts` say, and what a tab of
+frames and loads is to keep of documents and places.
 
     python3 bench/facts.py MODEL [FIRST COUNT [PROFILE ...]]
 
@@ -205,13 +205,9 @@ def try_alive(b):
         v, ready = s.views.get(d.nr), d.pop_delivered is not None
         count('alive', d.proc == home and d.inc == 0 and d.slot is None and d.nr not in b.frozen and d.dead_by is None
               and not d.known_dead and (v is None or v.doc == d.nr) and (ready or v is None or not v.running), d.nr)
-        count('there', d.nav in s.place and 1 <= d.nr <= len(s.docs), d.nr)
+        count('there', d.nav in s.place, d.nr)
         makes = [j for j in b.jobs() if j.task.kind == MAKES and j.doc == d.nr]
         count('made once', len(makes) == (0 if ready else 1), d.nr)
-        mades = [made for made in b.mades() if made.doc == d.nr]
-        count('made nothing', ready or (not mades and not b.applied.get(d.nr, 0)), d.nr)
-        numbers = [b.applied.get(d.nr, 0)] + [entry_of(made)[1] for made in mades if entry_of(made)]
-        count('ascends', v is None or (sorted(set(numbers)) == numbers and numbers[-1] <= v.nr), d.nr)
         count('discarded without rows', not d.discarded or d.nav not in s.H.by_nav, d.nr)
 
 
@@ -225,9 +221,6 @@ def try_numbers(b):
     for d in s.docs.values():
         count('state of its rows', state.get(d.nav, d.state) == d.state and d.state <= b.states, d.nr)
     count('listed', list(s.place) == [0] + list(s.H.added))
-    entries = [row.entry for row in s.H.rows] + [e for given in s.given_ever.values() for e in given]
-    for maker, nr in entries + [e for q in s.reqs.values() for e in q.took]:
-        count('numbered', maker <= len(s.docs) and nr <= (b.applied.get(maker, 0) if maker else b.entries), (maker, nr))
     for step in range(max(row.step for row in s.H.rows) + 2):
         count('shown', set(logcheck.D11_shown(s.H, step)) == set(s.H.by_nav), step)
 
@@ -247,13 +240,36 @@ def try_steady(b):
         count('added', n == 0 or s.added_by[n] in s.reqs, n)
         if awake and has_row and not (run is not None and n in s.moved.get(run.nr, ())):
             count('given', p.given == logcheck.D3_target(s.H, n, s.H.current).entry, n)
-        if awake and has_row:
-            entry, continues = p.given, True
-            for made in b.mades():
-                if made.doc == p.doc and made.epoch == p.epoch:
-                    continues = continues and (made.what.kind != 'replace' or made.what.over == entry)
-                    entry = entry_of(made) or entry
-            count('continues', continues, n)
+
+
+def continues_from(p, mades):
+    """Whether each replace that is coming of the awake navigable's document is of the entry before it."""
+    entry = p.given
+    for made in mades:
+        if made.doc == p.doc and made.epoch == p.epoch:
+            if made.what.kind == 'replace' and made.what.over != entry:
+                return False
+            entry = entry_of(made) or entry
+    return True
+
+
+def try_entries(b):
+    s, mades = b.s, b.mades()
+    for d in s.docs.values():
+        own = [made for made in mades if made.doc == d.nr]
+        numbers = [b.applied.get(d.nr, 0)] + [entry_of(made)[1] for made in own if entry_of(made)]
+        count('counted', 1 <= d.nr <= len(s.docs), d.nr)
+        count('made nothing', d.pop_delivered is not None or (not own and not b.applied.get(d.nr, 0)), d.nr)
+        if d.nr in s.views:
+            count('ascends', sorted(set(numbers)) == numbers and numbers[-1] <= s.views[d.nr].nr, d.nr)
+    entries = [row.entry for row in s.H.rows] + [e for given in s.given_ever.values() for e in given]
+    for maker, nr in entries + [e for q in s.reqs.values() for e in q.took]:
+        count('numbered', maker <= len(s.docs) and nr <= (b.applied.get(maker, 0) if maker else b.entries), (maker, nr))
+    for made in mades:
+        count('waits', made.doc in s.docs and (entry_of(made) is None or entry_of(made)[0] == made.doc), made.req)
+    for n, p in s.place.items():
+        if p.status == 'awake' and n in s.H.by_nav and p.given is not None:
+            count('continues', continues_from(p, mades), n)
 
 
 def try_asking(b, ends):
@@ -286,6 +302,7 @@ def try_frames(log):
         b.feed(row)
         try_alive(b)
         try_numbers(b)
+        try_entries(b)
         try_steady(b)
         try_asking(b, i + 1 == len(log) or log[i + 1].event != row.event)
         try_desks(b)
@@ -303,18 +320,14 @@ def ever_shown(s):
 
 def try_load_documents(b):
     s = b.s
-    awake, states, made = {p.doc for p in s.place.values() if p.status == 'awake'}, {r.state for r in s.H.rows}, b.mades()
+    awake, states = {p.doc for p in s.place.values() if p.status == 'awake'}, {r.state for r in s.H.rows}
     for d in s.docs.values():
         v, ready = s.views.get(d.nr), d.pop_delivered is not None
         count('alive', d.inc == 0 and d.slot is None and d.dead_by is None and (v is None or v.doc == d.nr)
               and (ready or v is None or not v.running), d.nr)
-        count('there', d.nav in s.place and 1 <= d.nr <= len(s.docs) and 1 <= d.state <= b.states, d.nr)
+        count('there', d.nav in s.place and 1 <= d.state <= b.states, d.nr)
         makes = [j for j in b.jobs() if j.doc == d.nr and j.task.kind == MAKES]
         count('made once', len(makes) == (0 if ready else 1), d.nr)
-        own = [m for m in made if m.doc == d.nr]
-        numbers = [b.applied.get(d.nr, 0)] + [entry_of(m)[1] for m in own if entry_of(m)]
-        count('made nothing', ready or (not own and not numbers[0]), d.nr)
-        count('ascends', v is None or (sorted(set(numbers)) == numbers and numbers[-1] <= v.nr), d.nr)
         count('gone', not d.discarded or (ready and d.nr not in awake and d.nr not in s.kept), d.nr)
         count('frozen', d.nr not in b.frozen or d.nr not in awake, d.nr)
         count('sole', d.discarded or not any(o is not d and o.state == d.state and not o.discarded for o in s.docs.values()), d.nr)
@@ -433,6 +446,7 @@ def try_loads(log, keep):
         at_hand.after(b, row)
         ends = i + 1 == len(log) or log[i + 1].event != row.event
         try_whereabouts(b, at_hand, ends)
+        try_entries(b)
         try_load_documents(b)
         try_ongoing(b, ends)
         try_kept(b, ends, keep)
