@@ -3,7 +3,7 @@ each awake navigable's document is, what is on its way, that what isn't shown re
 served; and how often all of it stands at once with nothing loaded, reloaded or dead, in transit or not. On runs of the
 profile `frames` it tries, after each row, what `frame_tab` says of a tab of frames; on those of `loads` and `kept`, what
 `load_facts`, `kept_facts`, `desk_facts`, `entry_facts`, `mover_facts` and `load_whereabouts` say, and what a tab of
-frames and loads is to keep of documents and places.
+frames and loads is to keep of documents and places; and that their rows are as `load_rows` and `leave_rows` ask.
 
     python3 bench/facts.py MODEL [FIRST COUNT [PROFILE ...]]
 
@@ -19,19 +19,12 @@ import logcheck
 import logtext
 import scenario
 import tab
+from rows_due import try_ends_due, try_load_due, try_orders_due
 from tab import World
+from tries import MAKES, SHOWS, Beside, count, entry_of, ongoing_loads, seen
 
 FIRST, COUNT = (int(n) for n in (sys.argv[2:4] or (1, 40)))
 PROFILES = sys.argv[4:] or ['frames', 'kept', 'prompts', 'deaths']
-SHOWS, MAKES = 'activate', 'populate'
-seen = {}
-
-
-def count(what, holds=True, why=None):
-    total, wrong = seen.get(what, (0, 0))
-    seen[what] = (total + 1, wrong + (not holds))
-    if not holds and wrong < 3:
-        print(what, 'is false:', why)
 
 
 def outstanding(s, proc, test):
@@ -138,65 +131,6 @@ def hook(s, event, rows):
             except logcheck.Fail:
                 settled = False
             count('settled', settled, event)
-
-
-class Beside:
-    """What a log has come to, and the checker doesn't keep: reports held back and at hand, numbers and states."""
-    def __init__(self, log):
-        self.s, self.log = logcheck.St(), log
-        self.parked, self.hand, self.applied, self.frozen = [], [], {}, set()
-        self.states = self.entries = 1
-        self.initial = [1] if log[0].address == 'about:blank' else []
-
-    def is_held_back(self, made):
-        s, nav = self.s, self.s.docs[made.doc].nav
-        p, run = s.place[nav], logcheck.running_traversal(self.s)
-        return (made.what.kind != 'go' and p.status == 'awake' and p.epoch == made.epoch and nav in s.H.by_nav
-                and run is not None and nav in s.acts_for.get(run.nr, ()))
-
-    def feed(self, row):
-        s = self.s
-        made = self.made_of(s.proc(row.proc).reports[0]) if row.kind == 'delivered' else None
-        if made is not None:
-            if self.is_held_back(made):
-                self.parked.append(made.req)
-            elif made.what.kind != 'go':
-                self.hand = [made]
-        if row.kind in ('applied', 'refused', 'dropped'):
-            self.parked = [req for req in self.parked if req != row.req]
-            self.hand = [made for made in self.hand if made.req != row.req]
-        if row.kind == 'applied' and row.change.kind in ('push', 'replace'):
-            maker, nr = row.change.entry
-            self.applied[maker] = nr
-            self.entries += maker == 0
-        if row.kind == 'applied' and row.change.kind == 'frame':
-            self.entries, self.states = self.entries + 1, self.states + 1
-            self.initial.append(row.change.state)
-        if row.kind == 'started' and s.reqs[row.req].kind == 'load':
-            self.states += 1
-        if row.kind == 'sent' and row.job.task.kind == 'freeze':
-            self.frozen.add(row.job.doc)
-        if row.kind == 'sent' and row.job.task.kind == SHOWS:
-            self.frozen.discard(row.job.doc)
-        s.feed(row)
-
-    def made_of(self, report):
-        """What a document made, where the report tells of it."""
-        return report[1] if report[0] == 'made' else self.s.jobs[report[1]].made if report[0] == 'done' else None
-
-    def mades(self):
-        """What documents made and the history doesn't have yet."""
-        waiting = [self.made_of(report) for p in self.s.procs.values() for report in p.reports]
-        return [self.s.reqs[req].made for req in self.parked] + self.hand + [made for made in waiting if made is not None]
-
-    def jobs(self):
-        """Orders that are unfinished, or whose report waits."""
-        return [self.s.jobs[j] for p in self.s.procs.values()
-                for j in ([p.hand] if p.hand is not None else []) + list(p.mail) + [r[1] for r in p.reports if r[0] == 'done']]
-
-
-def entry_of(made):
-    return made.what.entry if made.what.kind in ('push', 'replace') else None
 
 
 def try_alive(b):
@@ -309,10 +243,6 @@ def try_frames(log):
 
 
 # ---- a tab of frames and loads
-
-def ongoing_loads(s):
-    return [q for q in s.open_started if q.kind == 'load']
-
 
 def ever_shown(s):
     return {doc for docs in s.awake_ever.values() for doc in docs}
@@ -441,10 +371,17 @@ def try_whereabouts(b, at_hand, ends):
 def try_loads(log, keep):
     b, at_hand = Beside(log), AtHand()
     for i, row in enumerate(log):
+        if i > 0 and log[i - 1].event != row.event:
+            c = logcheck.Ctx(b.s, [r for r in log[i:] if r.event == row.event])
+        if i > 0:
+            try_orders_due(b, c, row, c.rows[c.rows.index(row) + 1:], keep)
+            try_load_due(b, c, row)
         at_hand.before(b, row)
         b.feed(row)
         at_hand.after(b, row)
         ends = i + 1 == len(log) or log[i + 1].event != row.event
+        if ends and i > 0:
+            try_ends_due(b, c, [r for r in c.rows if r.kind == 'dropped'])
         try_whereabouts(b, at_hand, ends)
         try_entries(b)
         try_load_documents(b)
