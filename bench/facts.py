@@ -1,9 +1,10 @@
 """Tries what the crates of facts take to be true between two events, on random runs of a model, by its checker: where
 each awake navigable's document is, what is on its way, that what isn't shown rests, that each visited navigable is
-served; and how often all of it stands at once with nothing loaded, reloaded or dead, in transit or not. On runs of the
-profile `frames` it tries, after each row, what `frame_tab` says of a tab of frames; on those of `loads` and `kept`, what
-`load_facts`, `kept_facts`, `desk_facts`, `entry_facts`, `mover_facts` and `load_whereabouts` say, and what a tab of
-frames and loads is to keep of documents and places; and that their rows are as `load_rows` and `leave_rows` ask.
+served, that ongoing loads stand (`load_ends`); and how often all of it stands at once with nothing loaded, reloaded or
+dead, in transit or not. On runs of the profile `frames` it tries, after each row, what `frame_tab` says of a tab of
+frames; on those of `loads` and `kept`, what `load_facts`, `kept_facts`, `desk_facts`, `entry_facts`, `mover_facts` and
+`load_whereabouts` say, and what a tab of frames and loads is to keep of documents and places; and that their rows are as
+`load_rows` and `leave_rows` ask.
 
     python3 bench/facts.py MODEL [FIRST COUNT [PROFILE ...]]
 
@@ -120,6 +121,7 @@ def hook(s, event, rows):
     try_homes(s)
     try_ways(s)
     try_rests(s)
+    try_loads_stand(s)
     if is_plain(s):
         try_served(s)
         still = logcheck.D10_still(s)
@@ -273,6 +275,15 @@ def try_ongoing(b, ends):
         count('loading', q.made is None and q.frag_job is None and q.lstate not in states and q.lstate <= b.states, q.nr)
         count('its documents', all(d.nav == q.what.nav and d.nr not in shown for d in docs) and len(docs) <= 1, q.nr)
         count('its document', not ends or len(docs) == 1, q.nr)
+
+
+def try_loads_stand(s):
+    """As an event ends."""
+    aim = logcheck.D12c_aim(s)
+    for q in ongoing_loads(s):
+        line = logcheck.way(s.H, q.nav)
+        count('loads stand', all(n in logcheck.D11_shown(s.H, aim) and logcheck.D12c_stands(s, n, aim) for n in line)
+              and not any(logcheck.known_lost(s, n) for n in logcheck.above(s.H, q.nav)), q.nr)
 
 
 def try_kept(b, ends, keep):
