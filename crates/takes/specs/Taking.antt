@@ -20,7 +20,7 @@ use Rattle.nav_tree.specs.Tree.{node_of}
 use Rattle.seen_laws.specs.InEvent.{InEvent, here_of, now_of, row_of}
 use Rattle.std.specs.Map.{lookup}
 use Rattle.std.specs.Option.{IsSome}
-use Rattle.std.specs.Prelude.{List, None, Option, Some, [], false, length, nat_lt, option_and_then, option_map, true, ◌++◌, ◌+◌, ◌∷◌, ◌≡◌}
+use Rattle.std.specs.Prelude.{Bool, List, None, Option, Some, [], false, length, nat_lt, option_and_then, option_map, true, ◌++◌, ◌+◌, ◌∷◌, ◌≡◌}
 use Rattle.step_index.specs.Held.{history_held}
 use Rattle.sync_core.specs.Changes.{asked_change}
 use Rattle.sync_core.specs.Judging.{judged}
@@ -103,7 +103,22 @@ pub record AddsFrame (e : InEvent) (old new : List RowKind) (req : ReqId) (nav :
   pub out : new ≡ old ++ rows.Applied req (changes.AddFrame owner nav entry state) ∷ []
   pub fit : Fits (now_of e old).history (changes.AddFrame owner nav entry state)
 
--- where it is one
+-- the row adds a frame
+abbrev pub adds_frame : RowKind → Bool
+adds_frame (rows.Applied req change) = is_new_frame change
+  where
+    is_new_frame : Change → Bool
+    is_new_frame (changes.AddFrame owner nav entry state) = true
+    is_new_frame _ = false
+adds_frame _ = false
+
+-- the row that was put out adds none
+pub record AddsNone (old new : List RowKind) : Type 0 where
+  pub kind : RowKind
+  pub out : new ≡ old ++ kind ∷ []
+  pub none : adds_frame kind ≡ false
+
+-- the frame that was added, where one was
 abbrev pub MayAdd : InEvent → List RowKind → List RowKind → ReqId → Option NavId → Type 0
-MayAdd e old new req None = Unit {0}
+MayAdd e old new req None = AddsNone old new
 MayAdd e old new req (Some nav) = AddsFrame e old new req nav

@@ -15,5 +15,5 @@ returns g c =
       settling = remove_done _ _ _ _ c.requires.0 _ c.requires.1.0 (tells _ _ _ _ c.requires.0 _ c.requires.1.0 _ c.requires.1.1.0) _ c.requires.1.1.1 _ _ c.in_ok-remove_frame.ensures.out c.in_ok-remove_frame.ensures.kept c.in_ok-remove_frame.ensures.work;
       ended = record { kind = _; out = c.in_ok-remove_frame.ensures.out; ends = refl; no_turn = refl; up = λ due. nat_eq_refl _ };
       kept = c.in_ok-remove_frame.ensures.kept;
-      adds = tt;
+      adds = record { kind = _; out = c.in_ok-remove_frame.ensures.out; none = refl };
     }

@@ -17,5 +17,5 @@ returns g c =
       settling = replace_done _ _ _ _ c.requires.0 _ c.requires.1.0 told _ _ _ _ _ _ c.requires.1.1.1 _ _ c.in_ok-replace.ensures.out c.in_ok-replace.ensures.kept c.in_ok-replace.ensures.work;
       ended = record { kind = _; out = c.in_ok-replace.ensures.out; ends = refl; no_turn = refl; up = λ due. nat_eq_refl _ };
       kept = c.in_ok-replace.ensures.kept;
-      adds = tt;
+      adds = record { kind = _; out = c.in_ok-replace.ensures.out; none = refl };
     }

@@ -15,5 +15,5 @@ returns g c =
       settling = deny_done _ _ _ _ c.requires.0 _ c.requires.1.0 _ c.requires.1.1 _ _ c.in_ok-deny.ensures.out c.in_ok-deny.ensures.tables c.in_ok-deny.ensures.work;
       ended = record { kind = _; out = c.in_ok-deny.ensures.out; ends = refl; no_turn = refl; up = λ due. nat_eq_refl _ };
       kept = kept_same _ _ c.in_ok-deny.ensures.tables;
-      adds = tt;
+      adds = record { kind = _; out = c.in_ok-deny.ensures.out; none = refl };
     }

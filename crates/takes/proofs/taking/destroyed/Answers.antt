@@ -14,5 +14,5 @@ returns g c =
       settling = destroy_done _ _ _ _ c.requires.0 _ c.requires.1.0 _ (tells _ _ _ _ c.requires.0 _ c.requires.1.0 _ c.requires.1.1) _ _ c.in_ok-destroy.ensures.out c.in_ok-destroy.ensures.tables c.in_ok-destroy.ensures.work;
       ended = record { kind = _; out = c.in_ok-destroy.ensures.out; ends = refl; no_turn = refl; up = λ due. absurd (destroyed_unplaced _ _ _ _ c.requires.0 _ c.requires.1.0 _ (tells _ _ _ _ c.requires.0 _ c.requires.1.0 _ c.requires.1.1) due) };
       kept = kept_same _ _ c.in_ok-destroy.ensures.tables;
-      adds = tt;
+      adds = record { kind = _; out = c.in_ok-destroy.ensures.out; none = refl };
     }

@@ -16,5 +16,5 @@ returns g c =
       settling = drop_done _ _ _ _ c.requires.0 _ c.requires.1.0 told.0 told.1.0 _ told.1.1 _ _ _ c.in_ok-drop_moved.ensures.out c.in_ok-drop_moved.ensures.tables c.in_ok-drop_moved.ensures.work;
       ended = record { kind = _; out = c.in_ok-drop_moved.ensures.out; ends = refl; no_turn = refl; up = λ due. absurd (moved_absent _ _ _ _ c.requires.0 _ c.requires.1.0 told.0 told.1.0 _ told.1.1 due) };
       kept = kept_same _ _ c.in_ok-drop_moved.ensures.tables;
-      adds = tt;
+      adds = record { kind = _; out = c.in_ok-drop_moved.ensures.out; none = refl };
     }
