@@ -12,7 +12,7 @@ use Rattle.log_model.specs.declared.made.Report.TheVariants as reports
 use Rattle.log_model.specs.Seen.{Document, Desk, Place, place_in}
 use Rattle.coord_facts.specs.Leading.{orders_of_desk}
 use Rattle.home_facts.specs.Homes.{document_in}
-use Rattle.plain_tab.proofs.Eaches.{each_on}
+use Rattle.each_facts.proofs.Eaches.{each_on}
 use Rattle.desk_facts.specs.Own.{IsDeskIn, IsMadeIn, IsMadeOfOrder, IsOrderIn, IsPokeIn, IsReportIn, IsTaskOf, LivesIn}
 
 -- the document is there, where it lived and of its navigable, and made if it was

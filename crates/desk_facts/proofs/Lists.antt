@@ -18,8 +18,8 @@ use Rattle.coord_facts.specs.Leading.{orders_of_desk}
 use Rattle.coord_facts.proofs.Leadings.{proc_same}
 use Rattle.seen_laws.proofs.Desks.{desk_on_same, desk_on_other}
 use Rattle.transit_facts.specs.Orders.{IsOutcomeOf}
-use Rattle.plain_tab.specs.Sole.{Each}
-use Rattle.plain_tab.proofs.Eaches.{each_less, each_more}
+use Rattle.each_facts.specs.Items.{Each}
+use Rattle.each_facts.proofs.Eaches.{each_less, each_more}
 use Rattle.desk_facts.specs.Own.{AreDesksIn, IsDeskIn, IsFragmentTask, IsMadeIn, IsOrderIn, IsPokeIn, IsReportIn, LivesIn}
 use Rattle.desk_facts.proofs.Again.{AllStay, AllStayAt, desk_again}
 

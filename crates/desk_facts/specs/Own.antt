@@ -15,7 +15,7 @@ use Rattle.log_model.specs.declared.request.Poke.{Poke}
 use Rattle.log_model.specs.Seen.{Seen, Document, Desk, Place, desk_of, place_in}
 use Rattle.coord_facts.specs.Leading.{orders_of_desk}
 use Rattle.home_facts.specs.Homes.{document_in}
-use Rattle.plain_tab.specs.Sole.{Each}
+use Rattle.each_facts.specs.Items.{Each}
 use Rattle.transit_facts.specs.Orders.{IsOutcomeOf}
 
 -- a document that lives in the process

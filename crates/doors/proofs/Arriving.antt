@@ -1,7 +1,7 @@
 -- The report that an order showed its document is noted: the tables stand for what the log has come to then.
 use Rattle.doors.specs.declared.tables.Tables.{Tables}  -- keep
-use Rattle.coord.proofs.LookUps.{nav_same}
-use Rattle.coord.proofs.Nodes.{keys_with_nav, node_with_nav, on_nav}
+use Rattle.doors.proofs.LookUps.{nav_same}
+use Rattle.doors.proofs.Nodes.{keys_with_nav, node_with_nav, on_nav}
 use Rattle.doors.proofs.Holding.{held_changed, listed_tree}
 use Rattle.doors.proofs.Nodes.{places_with}
 use Rattle.doors.proofs.Shown.{last_of, shown_map}

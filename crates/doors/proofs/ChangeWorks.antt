@@ -36,7 +36,7 @@ use Rattle.log_model.specs.declared.row_kind.RowKind.{RowKind}
 use Rattle.nav_tree.specs.Tree.{child_node, node_of, with_nav}
 use Rattle.nav_tree.specs.declared.nav.Nav.{Nav}
 use Rattle.nav_tree.specs.declared.node.Node.{Node}
-use Rattle.plain_tab.specs.Calm.{is_this}
+use Rattle.each_facts.specs.Runs.{is_this}
 use Rattle.request_facts.proofs.Readers.{SameReads, on_read, reads_then}
 use Rattle.seen_laws.proofs.InEvents.{led_here, now_more}
 use Rattle.seen_laws.specs.Blocks.{Here, point_at}
@@ -54,9 +54,9 @@ use Rattle.tab_ids.specs.declared.Step.{Step}
 use Rattle.log_model.specs.declared.change.Change.TheVariants as changes
 use Rattle.log_model.specs.declared.outcome.Ending.TheVariants as endings
 use Rattle.log_model.specs.declared.row_kind.RowKind.TheVariants as rows
-use Rattle.coord.proofs.LookUps.{nav_same}
-use Rattle.coord.proofs.Nodes.{changed_twice}
-use Rattle.coord.specs.Ties.{IsAwakeIn}
+use Rattle.doors.proofs.LookUps.{nav_same}
+use Rattle.doors.proofs.Nodes.{changed_twice}
+use Rattle.doors.specs.Ties.{IsAwakeIn}
 
 -- ---- what an applied change leaves of the requests
 

@@ -35,8 +35,8 @@ use Rattle.tab_ids.specs.declared.StateId.{StateId}
 use Rattle.walk_facts.proofs.Placed.{found_nav}
 use Rattle.log_model.specs.declared.change.Change.TheVariants as changes
 use Rattle.log_model.specs.declared.row_kind.RowKind.TheVariants as rows
-use Rattle.coord.proofs.LookUps.{nav_same}
-use Rattle.coord.proofs.Nodes.{keys_with_nav, node_with_nav, on_nav}
+use Rattle.doors.proofs.LookUps.{nav_same}
+use Rattle.doors.proofs.Nodes.{keys_with_nav, node_with_nav, on_nav}
 
 -- ---- documents
 

@@ -17,7 +17,7 @@ use Rattle.std.specs.Option.{IsSome}
 use Rattle.std.specs.Prelude.{filter, option_map, slice_get}
 use Rattle.tab_ids.specs.declared.NavId.{NavId}
 use Rattle.tab_ids.specs.declared.ReqId.{ReqId}
-use Rattle.coord.specs.Showing.{AreThere}
+use Rattle.doors.specs.Sleeping.{AreThere}
 
 mapped_there : (f : Node → Node) (o : Option Node) → IsSome o → IsSome (option_map f o)
 mapped_there f None is = cc

@@ -36,8 +36,8 @@ use Rattle.tab_ids.specs.declared.ReqId.{ReqId}
 use Rattle.tab_ids.specs.declared.StateId.{StateId}
 use Rattle.log_model.specs.declared.job.Task.TheVariants as tasks
 use Rattle.log_model.specs.declared.row_kind.RowKind.TheVariants as rows
-use Rattle.coord.proofs.Nodes.{keys_sleep_all, node_sleep_all, slept_node}
-use Rattle.coord.specs.Showing.{sleep_all}
+use Rattle.doors.proofs.Nodes.{keys_sleep_all, node_sleep_all, slept_node}
+use Rattle.doors.specs.Sleeping.{sleep_all}
 
 abbrev pub discarded_sight : Sight → Sight
 discarded_sight d = record d { is_discarded = true }

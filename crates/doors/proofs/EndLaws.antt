@@ -32,7 +32,7 @@ use Rattle.tab_ids.specs.declared.StateId.{StateId}
 use Rattle.tab_ids.specs.declared.Step.{Step}
 use Rattle.log_model.specs.declared.change.Change.TheVariants as changes
 use Rattle.log_model.specs.declared.row_kind.RowKind.TheVariants as rows
-use Rattle.coord.proofs.Nodes.{keys_with_nav, node_with_nav}
+use Rattle.doors.proofs.Nodes.{keys_with_nav, node_with_nav}
 
 -- ---- rows of which they tell nothing
 

@@ -1,17 +1,23 @@
--- What the store finds is what the log has.
+-- What the store finds is what the log has, and it goes on holding that over a change.
 use Rattle.coord_facts.proofs.Held.{fun_ext}
+use Rattle.entry_store.proofs.ForCallers.{refused_only_for_memory}
+use Rattle.entry_store.proofs.SameReplay.{may_same, fits_same, applied_same, trans_same}
+use Rattle.entry_store.specs.Store.{MayTake, IsRefused}
+use Rattle.entry_store.specs.declared.error.StoreError.TheVariants as errors
+use Rattle.entry_store.specs.declared.error.StoreError.{StoreError}
+use Rattle.log_model.specs.declared.change.Change.{Change}
 use Rattle.doors.specs.Dues.{begins}
 use Rattle.history_laws.proofs.InOrder.{count_by-ordered, target_entry-ordered}
 use Rattle.history_laws.proofs.Sorted.{HaveSteps}
-use Rattle.log_model.specs.History.{History, target_entry}
+use Rattle.log_model.specs.History.{History, Fits, applied, target_entry}
 use Rattle.log_model.specs.Order.{SameHistory, ordered}
 use Rattle.log_model.specs.Soundness.{stands_at}
 use Rattle.log_model.specs.declared.row.Row.{Row}
-use Rattle.std.proofs.Common.{Bool, List, Option, ap, arith, not, sym, ℕ, ◌∙◌, ◌≡◌, ◌≤◌}
+use Rattle.std.proofs.Common.{Bool, List, Option, ap, arith, not, subst, sym, ℕ, ◌∙◌, ◌≡◌, ◌≤◌, ◌<◌}
 use Rattle.std.specs.List.{count_by}
 use Rattle.std.specs.Prelude.{filter, is_some}
 use Rattle.step_index.specs.Held.{history_held}
-use Rattle.step_index.specs.contracts.step_index.StepIndexStore.TheImpl.Laws.{sound-law}
+use Rattle.step_index.specs.contracts.step_index.StepIndexStore.TheImpl.Laws.{sound-law, added-law}
 use Rattle.step_index.specs.declared.step_index.StepIndex.{StepIndex}
 use Rattle.tab_ids.specs.declared.NavId.{NavId}
 
@@ -42,3 +48,22 @@ held_lost old new was now_ before after_ navs had lost had_is lost_is =
     lost_is
     ∙ ap (λ (f : NavId → Bool). filter f had) (fun_ext (λ n. ap not (held_begins new now_ after_ n)))
     ∙ ap (λ (l : List NavId). filter (λ (n : NavId). not (begins now_.rows n)) l) (had_is ∙ ap (λ (f : NavId → Bool). filter f navs) (fun_ext (λ n. held_begins old was before n)))
+
+-- ---- the store's change
+
+module _ (store : StepIndex) (history : History) (change : Change) (same : SameHistory (history_held store) history) (fit : Fits history change) (may : MayTake history change) where
+  pub may_here : MayTake (history_held store) change
+  may_here = may_same (history_held store) history same (sound-law store) change may
+
+  pub fits_here : Fits (history_held store) change
+  fits_here = fits_same (history_held store) history same (sound-law store) change ∙ fit
+
+  pub changed_same : (new : StepIndex) → SameHistory (history_held new) (applied (history_held store) change) → SameHistory (history_held new) (applied history change)
+  changed_same new became =
+      trans_same (history_held new) (applied (history_held store) change) (applied history change) became (applied_same (history_held store) history same (sound-law store) (added-law store) change fits_here may)
+
+  pub only_memory : (error : StoreError) → IsRefused (history_held store) change error → error ≡ errors.OutOfMemory
+  only_memory error refused = refused_only_for_memory (history_held store) change error fits_here refused
+
+  pub room_here : history.current < 4294967294 → (history_held store).current < 4294967294
+  room_here room = subst (λ (n : ℕ). n < 4294967294) (sym same.current) room

@@ -1,4 +1,6 @@
+pub mod LookUps
 pub mod Nodes
+pub mod Asleep
 pub mod Keyed
 pub mod Sights
 pub mod Whose

@@ -8,8 +8,8 @@ use Rattle.log_model.specs.declared.change.Change.{Change}
 use Rattle.log_model.specs.declared.outcome.Ending.{Ending}
 use Rattle.log_model.specs.declared.row_kind.Actor.{Actor}
 use Rattle.log_model.specs.declared.row_kind.RowKind.{RowKind}
-use Rattle.plain_tab.proofs.Courses.{is_asked, runs_again, runs_ended, runs_ended_other}
-use Rattle.plain_tab.specs.Calm.{is_run, is_this}
+use Rattle.each_facts.proofs.Courses.{is_asked, runs_again, runs_ended, runs_ended_other}
+use Rattle.each_facts.specs.Runs.{is_run, is_this}
 use Rattle.request_facts.proofs.Readers.{SameReads, on_read, reads_then}
 use Rattle.std.proofs.Common.{Bool, List, None, Option, Some, [], arith, false, refl, suc, true, zero, ℕ, ◌-◌, ◌==◌, ◌∷◌, ◌≡◌}
 use Rattle.std.proofs.lemmas.Bool.Decides.{nat_tests}

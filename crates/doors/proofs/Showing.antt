@@ -38,8 +38,8 @@ use Rattle.tab_ids.specs.declared.StateId.{StateId}
 use Rattle.log_model.specs.declared.job.Task.TheVariants as tasks
 use Rattle.log_model.specs.declared.row_kind.RowKind.TheVariants as rows
 use Rattle.nav_tree.specs.declared.status.NavStatus.TheVariants as kept
-use Rattle.coord.proofs.LookUps.{nav_same}
-use Rattle.coord.proofs.Nodes.{keys_with_nav, node_with_nav, on_nav}
+use Rattle.doors.proofs.LookUps.{nav_same}
+use Rattle.doors.proofs.Nodes.{keys_with_nav, node_with_nav, on_nav}
 
 -- the navigable in the table: awake on the document, given the entry, under the next epoch, told the pair, and moved as this says
 abbrev pub shown_nav : EntryId → DocId → Why → ℕ × ℕ → (Bool → Bool) → Nav → Nav

@@ -26,14 +26,14 @@ use Rattle.log_model.specs.declared.request.Request.{Request}
 use Rattle.log_model.specs.declared.row_kind.Actor.{Actor}
 use Rattle.log_model.specs.declared.row_kind.LogRow.{LogRow}
 use Rattle.log_model.specs.declared.row_kind.RowKind.{RowKind}
-use Rattle.plain_tab.proofs.Courses.{runs_begun}
-use Rattle.plain_tab.specs.Calm.{EachAsked, is_run, is_this}
+use Rattle.each_facts.proofs.Courses.{runs_begun}
+use Rattle.each_facts.specs.Runs.{EachAsked, is_run, is_this}
 use Rattle.request_facts.proofs.LookUps.{on_itself}
 use Rattle.request_facts.proofs.Readers.{on_read}
 use Rattle.seen_laws.proofs.InEvents.{led_here}
 use Rattle.seen_laws.specs.Blocks.{point_at}
 use Rattle.seen_laws.specs.InEvent.{InEvent, here_of, now_of, row_of}
-use Rattle.seen_laws.specs.Owing.{owes_row}
+use Rattle.seen_laws.specs.Owing.{is_sole_load, owes_row}
 use Rattle.std.proofs.Common.{Bool, List, None, Option, Some, [], ap, false, inl, inr, length, map, refl, subst, sym, true, ℕ, ◌++◌, ◌+◌, ◌||◌, ◌∙◌, ◌∷◌, ◌≡◌, ◌≤◌, ◌⊎◌}
 use Rattle.std.specs.Prelude.{nat_lt, option_map}
 use Rattle.tab_ids.specs.declared.ReqId.{ReqId}
@@ -182,6 +182,14 @@ module _ (e : InEvent) (out : List RowKind) (t : Tables) (req : ReqId) (goal : S
   begin_lawful =
       lawful_more e out (rows.Started req (Some goal)) (λ r. refl) (started_held e out req (Some goal)) work.lawful (λ later asks. begin_may (here_of e out) e.event e.actor req goal.0 due.delta due.asked (led_here e out work.own) due.at due.asks due.unstarted due.open_ due.there due.turn due.unasked later (asks.0 req (nat_eq_refl req.0)))
 
+  no_sole : (what : Request) (nr : ReqId) (end : Seen) → IsTraversalBy due.delta what → is_sole_load what nr end ≡ true
+  no_sole what nr end (inl is) = rw is refl
+  no_sole what nr end (inr poke) = let is : what ≡ requests.Poke poke.0 (actions.Go due.delta) = poke.1 in rw is refl
+
+  begin_owes : (end : Seen) → owes_row (here_of e out) (row_of e (rows.Started req (Some goal))) end ≡ true
+  unfolding now_of
+  begin_owes end = rw due.at (no_sole due.asked.what due.asked.nr end its)
+
   pub begin_work : IsAtWork e (out ++ rows.Started req (Some goal) ∷ []) u
   begin_work =
       work_more e out (rows.Started req (Some goal)) t u work
@@ -190,7 +198,7 @@ module _ (e : InEvent) (out : List RowKind) (t : Tables) (req : ReqId) (goal : S
       goal_then
       work.few
       begin_lawful
-      (λ end. refl)
+      begin_owes
     where
       on_tables : Holds (look_of begun_ (Some req)) t → Holds (look_of begun_ (Some req)) u
       on_tables holds =

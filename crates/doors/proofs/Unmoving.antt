@@ -13,7 +13,7 @@ use Rattle.std.specs.Map.{lookup}
 use Rattle.std.specs.Option.{IsSome}
 use Rattle.std.specs.Prelude.{option_map, slice_get}
 use Rattle.tab_ids.specs.declared.NavId.{NavId}
-use Rattle.coord.proofs.Nodes.{keys_with_nav}
+use Rattle.doors.proofs.Nodes.{keys_with_nav}
 
 mapped_there : (f : Node → Node) (o : Option Node) → IsSome o → IsSome (option_map f o)
 mapped_there f None is = cc

@@ -2,7 +2,7 @@
 use Rattle.seen_laws.specs.InEvent.{first_of}  -- keep
 use Rattle.nav_tree.specs.declared.place.Place as live_place  -- keep
 use Rattle.nav_tree.specs.Tree.{document_of, discarded, activated}  -- keep
-use Rattle.plain_tab.proofs.Courses.{was_asked}  -- keep
+use Rattle.each_facts.proofs.Courses.{was_asked}  -- keep
 use Rattle.doors.proofs.Discarding.{discard_holds}
 use Rattle.doors.proofs.Making.{MakesOne, make_holds}
 use Rattle.doors.proofs.Requests.{on_another, runs_same}
@@ -37,7 +37,7 @@ use Rattle.log_model.specs.declared.row_kind.LogRow.{LogRow}
 use Rattle.log_model.specs.declared.row_kind.RowKind.{RowKind}
 use Rattle.nav_tree.specs.Tree.{Tree, is_nav, is_state, nav_of, node_of, with_nav}
 use Rattle.nav_tree.specs.declared.nav.Nav.{Nav}
-use Rattle.plain_tab.specs.Calm.{is_run, is_this}
+use Rattle.each_facts.specs.Runs.{is_run, is_this}
 use Rattle.request_facts.proofs.LookUps.{on_itself}
 use Rattle.request_facts.proofs.Readers.{SameReads, on_read}
 use Rattle.seen_laws.proofs.InEvents.{led_here, now_more, order_quiet}
@@ -64,9 +64,9 @@ use Rattle.tab_ids.specs.declared.Step.{Step}
 use Rattle.log_model.specs.declared.job.Task.TheVariants as tasks
 use Rattle.log_model.specs.declared.job.Why.TheVariants as whys
 use Rattle.log_model.specs.declared.row_kind.RowKind.TheVariants as rows
-use Rattle.coord.proofs.Nodes.{changed_twice, still_there}
-use Rattle.coord.specs.Ties.{IsAwakeIn}
-use Rattle.coord.specs.Showing.{sleep_all}
+use Rattle.doors.proofs.Nodes.{changed_twice, still_there}
+use Rattle.doors.specs.Ties.{IsAwakeIn}
+use Rattle.doors.specs.Sleeping.{sleep_all}
 
 -- a row that owes nothing where it stands
 clear_here : (e : InEvent) (out : List RowKind) (kind : RowKind) → ((end : Seen) → owes_row (here_of e out) (row_of e kind) end ≡ true) → IsClear e out → IsClear e (out ++ kind ∷ [])

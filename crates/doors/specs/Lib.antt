@@ -1,5 +1,6 @@
 pub mod Look
 pub mod Ties
+pub mod Sleeping
 pub mod Orders
 pub mod Ending
 pub mod Dues

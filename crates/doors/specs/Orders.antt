@@ -13,7 +13,7 @@ use Rattle.log_model.specs.declared.job.Task.{Task}
 use Rattle.log_model.specs.declared.job.Why.{Why}
 use Rattle.nav_tree.specs.Tree.{Tree, node_of}
 use Rattle.nav_tree.specs.declared.node.Node.{Node}
-use Rattle.plain_tab.specs.Calm.{is_run}
+use Rattle.each_facts.specs.Runs.{is_run}
 use Rattle.seen_laws.specs.Sending.{IsShowDue, IsTo, is_passed}
 use Rattle.std.specs.Option.{option_map_or}
 use Rattle.std.specs.Prelude.{List, None, Option, Some, [], false, map, option_map, true, ℕ, ◌+◌, ◌==◌, ◌||◌, ◌≡◌}

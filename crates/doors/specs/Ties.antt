@@ -9,7 +9,7 @@ use Rattle.log_model.specs.Seen.{Asked, Place, Status, asleep, awake, lost, plac
 use Rattle.nav_tree.specs.Tree.{document_of, Tree, is_nav, is_state, node_of}
 use Rattle.nav_tree.specs.declared.node.Node.{Node}
 use Rattle.nav_tree.specs.declared.status.NavStatus.{NavStatus}
-use Rattle.plain_tab.specs.Calm.{EachAsked, is_run, is_this}
+use Rattle.each_facts.specs.Runs.{EachAsked, is_run, is_this}
 use Rattle.std.specs.List.{list_any}
 use Rattle.std.specs.Map.{lookup}
 use Rattle.std.specs.Prelude.{Bool, List, None, Option, Some, [], false, length, map, option_and_then, option_map, slice_get, true, ℕ, ◌+◌, ◌==◌, ◌∷◌, ◌≡◌}
@@ -133,3 +133,11 @@ pub record Holds (look : Look) (t : Tables) : Type 0 where
   pub entries : t.entries ≡ look.entries
   -- an entry for the opening, and one for each order
   pub sent : length t.sent.items ≡ look.jobs + 1
+
+-- ---- one that is awake
+
+-- the navigable is awake on the document
+pub record IsAwakeIn (tree : Tree) (nav : NavId) (doc : DocId) : Type 0 where
+  pub node : Node
+  pub there : node_of nav tree ≡ Some node
+  pub wakes : node.nav.status ≡ kept.Awake doc

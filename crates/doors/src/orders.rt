@@ -8,13 +8,13 @@ ghost use Rattle.seen_laws.specs.InEvent.{InEvent, now_of, row_of};
 ghost use Rattle.seen_laws.specs.Sending.{IsUpdateDue};
 ghost use Rattle.frame_rows.specs.Making.{IsMakeDue};
 ghost use Rattle.frame_rows.specs.Discarding.{SettlesNone};
-ghost use Rattle.plain_tab.specs.Calm.{is_this};
+ghost use Rattle.each_facts.specs.Runs.{is_this};
 ghost use Rattle.std.specs.Map.{lookup};
 ghost use Rattle.nav_tree.specs.Tree.{is_state, discarded};
 ghost use Rattle.doors.specs.Look.{sight, sight_in};
 ghost use Rattle.tab_ids.specs.declared.ReqId.{ReqId};
-ghost use Rattle.coord.specs.Ties.{IsAwakeIn};
-ghost use Rattle.coord.specs.Showing.{AreThere, sleep_all};
+ghost use Rattle.doors.specs.Ties.{IsAwakeIn};
+ghost use Rattle.doors.specs.Sleeping.{AreThere, sleep_all};
 ghost use Rattle.doors.specs.Orders.{numbered_order, next_order, IsThere, MayShow, MayDiscard};
 ghost use Rattle.doors.specs.Working.{IsAtWork, KeepsStore};
 
@@ -180,7 +180,7 @@ impl Tables {
 }
 
 /// Puts these navigables to sleep.
-#[tactic(auto, using(coord::proofs::ShowDoor::sleeper_there, coord::proofs::ShowDoor::one_more))]
+#[tactic(auto, using(crate::proofs::Asleep::sleeper_there, crate::proofs::Asleep::one_more))]
 fn sleep_each(tree: &mut NavTree, navs: &Navs, why: Why)
     requires { AreThere tree.old navs.now }
     ensures { tree.new ≡ sleep_all navs.now why tree.old }

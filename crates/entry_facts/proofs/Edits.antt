@@ -14,7 +14,7 @@ use Rattle.log_model.specs.Equal.{has_req}
 use Rattle.log_model.specs.Seen.{Seen, Document, desk_of}
 use Rattle.log_model.specs.Views.{View, after_made}
 use Rattle.coord_facts.proofs.Held.{held_apart, on_alike}
-use Rattle.plain_tab.specs.Sole.{Each}
+use Rattle.each_facts.specs.Items.{Each}
 use Rattle.entry_facts.specs.Entries.{AreEntries, IsMadeThere, mades_of, untold, waiting}
 use Rattle.entry_facts.proofs.Parts.{KeepsDoc, SameTold, applied_mapped, docs_mapped, given_same, had_same, home_same, keeps_if, same_shown, took_by, took_of, told_on, view_stays, views_mapped}
 use Rattle.entry_facts.proofs.Skips.{IsPassed, Skips, skips_same}

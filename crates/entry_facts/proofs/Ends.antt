@@ -18,7 +18,7 @@ use Rattle.coord_facts.specs.Leading.{held_back}
 use Rattle.coord_facts.proofs.Held.{made_of}
 use Rattle.coord_facts.proofs.Unread.{desk_mapped}
 use Rattle.hang_facts.specs.Members.{Has}
-use Rattle.plain_tab.specs.Sole.{Each}
+use Rattle.each_facts.specs.Items.{Each}
 use Rattle.entry_facts.specs.Entries.{AreEntries, IsMadeThere, mades_of, untold, waiting}
 use Rattle.entry_facts.proofs.Parts.{GivenBefore, KeepsAsked, SameTold, asked_on, given_same, goes_entries, home_same, itself_keeps, map_itself, same_shown, told_on, view_stays}
 use Rattle.entry_facts.proofs.Skips.{IsNoEntry, IsPassed, Skips, each_skip, hand_skips, held_skips, made_in, skips_append, skips_same, without_made}

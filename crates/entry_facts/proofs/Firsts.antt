@@ -12,7 +12,7 @@ use Rattle.log_model.specs.Equal.{has_req}
 use Rattle.log_model.specs.AfterRequests.{without_req}
 use Rattle.hang_facts.specs.Members.{Has}
 use Rattle.log_model.proofs.Refl.{nat_eq_refl}
-use Rattle.plain_tab.specs.Sole.{Each}
+use Rattle.each_facts.specs.Items.{Each}
 use Rattle.entry_facts.specs.Entries.{waiting}
 use Rattle.entry_facts.proofs.Ends.{Ended}
 use Rattle.entry_facts.proofs.Skips.{without_made}

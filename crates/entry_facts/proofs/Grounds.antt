@@ -24,7 +24,7 @@ use Rattle.coord_facts.specs.Reaching.{AllTell}
 use Rattle.coord_facts.proofs.NewEpoch.{nothing_comes}
 use Rattle.seen_laws.proofs.Desks.{desk_on_same}
 use Rattle.coord_facts.proofs.OneMade.{pair_after, tells, with_pair}
-use Rattle.plain_tab.specs.Flow.{Ascend, IsNext, entry_after}
+use Rattle.each_facts.specs.Mades.{Ascend, IsNext, entry_after}
 use Rattle.entry_facts.specs.Entries.{AreEntries, mades_of, untaken, untold, waiting}
 use Rattle.entry_facts.proofs.Firsts.{IsFirstOf, first_with, own_first}
 use Rattle.entry_facts.proofs.Makes.{EndsUnmade, IsFaced}

@@ -27,9 +27,9 @@ use Rattle.log_model.specs.Seen.{Seen, Desk, Document, Place, awake, desk_of, do
 use Rattle.log_model.specs.Views.{View, after_made, next_entry}
 use Rattle.coord_facts.specs.Leading.{coming, is_made_under}
 use Rattle.coord_facts.proofs.Held.{held_apart, on_alike}
-use Rattle.plain_tab.specs.Flow.{Ascend, Continues, IsNext, IsOver, entry_after, number_after}
-use Rattle.plain_tab.specs.Sole.{Each}
-use Rattle.plain_tab.proofs.Eaches.{ascend_more, continues_more, each_more}
+use Rattle.each_facts.specs.Mades.{Ascend, Continues, IsNext, IsOver, entry_after, number_after}
+use Rattle.each_facts.specs.Items.{Each}
+use Rattle.each_facts.proofs.Eaches.{ascend_more, continues_more, each_more}
 use Rattle.entry_facts.specs.Entries.{AreEntries, EachAscends, EachContinues, EachHasMadeNothing, IsItsOwn, IsMadeIn, IsMadeThere, IsNumbered, mades_of, untaken, untold, waiting}
 use Rattle.entry_facts.proofs.Docs.{its_own}
 use Rattle.entry_facts.proofs.Parts.{KeepsDoc, WasOf, applied_mapped, docs_mapped, each_desk, given_same, keeps_if, took_by, took_of, was_of}

@@ -17,8 +17,8 @@ use Rattle.log_model.specs.AfterPlaces.{opening_place}
 use Rattle.log_model.specs.Seen.{Seen, Asked, Desk, Document, Place, desk_of, document_of, empty_desk, nothing, place_of, request_in}
 use Rattle.coord_facts.specs.Leading.{is_made_under}
 use Rattle.hang_facts.specs.Members.{Has}
-use Rattle.plain_tab.specs.Flow.{Ascend, Continues}
-use Rattle.plain_tab.specs.Sole.{Each, IsUpTo}
+use Rattle.each_facts.specs.Mades.{Ascend, Continues}
+use Rattle.each_facts.specs.Items.{Each, IsUpTo}
 use Rattle.entry_facts.specs.Entries.{AreEntries, IsCounted, IsMadeIn, IsNumbered, mades_of}
 use Rattle.entry_facts.proofs.Stays.{some_same}
 

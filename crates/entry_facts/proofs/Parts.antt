@@ -23,7 +23,7 @@ use Rattle.request_facts.proofs.Readers.{SameReads}
 use Rattle.seen_laws.proofs.Desks.{desk_on_same, desk_on_other}
 use Rattle.seen_laws.proofs.Keyed.{find_map}
 use Rattle.home_facts.specs.Homes.{document_in}
-use Rattle.plain_tab.specs.Sole.{Each}
+use Rattle.each_facts.specs.Items.{Each}
 use Rattle.entry_facts.specs.Entries.{AreEntries, IsMadeIn, IsMadeThere, mades_of, untold, waiting}
 use Rattle.entry_facts.proofs.Skips.{IsPassed, Skips, skips_same}
 use Rattle.entry_facts.proofs.Stays.{AllWereShown, DocsGo, EntriesGo, HadRows, IsNewEntry, IsNumberedSo, Leaves, ListsGo, SameApplied, ViewsGo, WasDoc, WasGiven, WasShown, WasTook, left_entries, lists_of, some_same}

@@ -16,9 +16,9 @@ use Rattle.coord_facts.specs.Leading.{is_made_under, held_back}
 use Rattle.coord_facts.proofs.Held.{held_alike}
 use Rattle.hang_facts.specs.Members.{Has}
 use Rattle.log_model.proofs.Refl.{nat_eq_refl}
-use Rattle.plain_tab.specs.Flow.{Ascend, Continues, entry_after, number_after}
-use Rattle.plain_tab.specs.Sole.{Each}
-use Rattle.plain_tab.proofs.Eaches.{ascend_less}
+use Rattle.each_facts.specs.Mades.{Ascend, Continues, entry_after, number_after}
+use Rattle.each_facts.specs.Items.{Each}
+use Rattle.each_facts.proofs.Eaches.{ascend_less}
 
 abbrev front : Option Made → List Made → List Made
 front None rest = rest

@@ -18,8 +18,8 @@ use Rattle.coord_facts.specs.Leading.{coming, is_made_under}
 use Rattle.hang_facts.specs.Members.{Has}
 use Rattle.hang_facts.proofs.Members.{find_has}
 use Rattle.home_facts.specs.Homes.{document_in}
-use Rattle.plain_tab.specs.Flow.{Ascend, Continues}
-use Rattle.plain_tab.specs.Sole.{Each, IsUpTo}
+use Rattle.each_facts.specs.Mades.{Ascend, Continues}
+use Rattle.each_facts.specs.Items.{Each, IsUpTo}
 use Rattle.entry_facts.specs.Entries.{AreEntries, EachAscends, EachContinues, EachEntry, EachHasMadeNothing, EachThere, IsCounted, IsMadeIn, IsMadeThere, IsNumbered, mades_of, untaken, untold, waiting}
 use Rattle.entry_facts.proofs.Skips.{IsNoEntry, IsPassed, Skips, ascends_skip, continues_skip, filter_skip, none_skip}
 

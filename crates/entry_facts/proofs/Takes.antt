@@ -19,8 +19,8 @@ use Rattle.log_model.specs.Seen.{Seen, Document, Place, request_in}
 use Rattle.coord_facts.specs.Leading.{EachIsOfItsNavigable}
 use Rattle.coord_facts.proofs.Held.{made_of}
 use Rattle.home_facts.proofs.Changed.{taker}
-use Rattle.plain_tab.specs.Flow.{entry_after, number_after}
-use Rattle.plain_tab.specs.Sole.{Each}
+use Rattle.each_facts.specs.Mades.{entry_after, number_after}
+use Rattle.each_facts.specs.Items.{Each}
 use Rattle.entry_facts.specs.Entries.{AreEntries, IsItsOwn, IsMadeThere}
 use Rattle.entry_facts.proofs.Applied.{applying, places_both, pushed_rows, replaced_rows}
 use Rattle.entry_facts.proofs.Changes.{takes_in}

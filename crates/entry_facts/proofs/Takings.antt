@@ -23,9 +23,9 @@ use Rattle.hang_facts.specs.Members.{Has}
 use Rattle.home_facts.proofs.Changed.{taker}
 use Rattle.log_model.proofs.Refl.{nat_eq_refl}
 use Rattle.seen_laws.proofs.Keyed.{find_has}
-use Rattle.plain_tab.specs.Flow.{Ascend, Continues, IsNext, entry_after, number_after}
-use Rattle.plain_tab.specs.Sole.{Each, IsUpTo}
-use Rattle.plain_tab.proofs.Eaches.{after_next}
+use Rattle.each_facts.specs.Mades.{Ascend, Continues, IsNext, entry_after, number_after}
+use Rattle.each_facts.specs.Items.{Each, IsUpTo}
+use Rattle.each_facts.proofs.Eaches.{after_next}
 use Rattle.entry_facts.specs.Entries.{AreEntries, EachAscends, EachContinues, EachHasMadeNothing, IsItsOwn, IsMadeIn, IsMadeThere, IsNumbered, mades_of, untaken, untold, waiting}
 use Rattle.entry_facts.proofs.Applied.{RowsGo, applied_tooks, applying, taker_leaves}
 use Rattle.entry_facts.proofs.Changes.{change_read, takes_in}

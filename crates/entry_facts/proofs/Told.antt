@@ -23,8 +23,8 @@ use Rattle.log_model.specs.AfterRequests.{is_held_back, made_of_report}
 use Rattle.log_model.specs.Seen.{Seen, Desk, Document, Place, desk_of, document_of}
 use Rattle.coord_facts.specs.Leading.{held_back}
 use Rattle.home_facts.specs.Homes.{document_in}
-use Rattle.plain_tab.specs.Sole.{Each}
-use Rattle.plain_tab.proofs.Eaches.{each_more}
+use Rattle.each_facts.specs.Items.{Each}
+use Rattle.each_facts.proofs.Eaches.{each_more}
 use Rattle.request_facts.proofs.Readers.{delivered_reads}
 use Rattle.entry_facts.specs.Entries.{AreEntries, IsMadeIn, IsMadeThere, mades_of, untaken, untold, waiting}
 use Rattle.entry_facts.proofs.Docs.{DocsAre, delivered_docs}

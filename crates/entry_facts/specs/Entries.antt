@@ -17,8 +17,8 @@ use Rattle.log_model.specs.Views.{View}
 use Rattle.coord_facts.specs.Leading.{coming, held_back}
 use Rattle.hang_facts.specs.Members.{Has}
 use Rattle.home_facts.specs.Homes.{document_in}
-use Rattle.plain_tab.specs.Flow.{Ascend, Continues}
-use Rattle.plain_tab.specs.Sole.{Each, IsUpTo}
+use Rattle.each_facts.specs.Mades.{Ascend, Continues}
+use Rattle.each_facts.specs.Items.{Each, IsUpTo}
 
 -- a fact of each document
 abbrev pub EachThere : (Document → Type 0) → List Document → Type 0

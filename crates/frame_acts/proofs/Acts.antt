@@ -27,8 +27,8 @@ use Rattle.log_model.specs.declared.outcome.Denial.{Denial}
 use Rattle.log_model.specs.declared.request.Poke.{Poke}
 use Rattle.log_model.specs.declared.row_kind.Actor.{Actor}
 use Rattle.passes.specs.Passing.{ended_count}
-use Rattle.plain_tab.proofs.Courses.{is_asked}
-use Rattle.plain_tab.specs.Calm.{is_this}
+use Rattle.each_facts.proofs.Courses.{is_asked}
+use Rattle.each_facts.specs.Runs.{is_this}
 use Rattle.request_facts.proofs.Readers.{on_read}
 use Rattle.seen_laws.specs.Acting.{IsToAct}
 use Rattle.seen_laws.specs.InEvent.{InEvent}

@@ -1,6 +1,6 @@
 -- An event of its own row alone, or of that and one more: where the coordinator stands for the log after it, it has acted.
-use Rattle.coord.proofs.Arrives.{now_own}
-use Rattle.coord.proofs.IdleLaws.{next_now}
+use Rattle.seen_laws.proofs.InEvents.{now_own}
+use Rattle.seen_laws.proofs.InEvents.{next_now}
 use Rattle.coord_facts.proofs.Unread.{next}
 use Rattle.frame_coord.specs.Standing.{HasActed, StandsFor}
 use Rattle.frame_coord.specs.declared.coordinator.Coordinator.{Coordinator}

@@ -28,7 +28,7 @@ use Rattle.log_model.proofs.Refl.{same_actor_refl}
 use Rattle.seen_laws.specs.Blocks.{Here, Passes, EachPass, point_at, on_row}
 use Rattle.seen_laws.specs.InEvent.{InEvent, row_of, start_of, now_of}
 use Rattle.seen_laws.proofs.Sendings.{both}
-use Rattle.coord.proofs.EventLaws.{now_fold}
+use Rattle.seen_laws.proofs.InEvents.{now_fold}
 use Rattle.frame_events.proofs.Composed.{between_settled}
 use Rattle.frame_coord.specs.Standing.{HasActed, StandsFor}
 use Rattle.frame_coord.specs.declared.coordinator.Coordinator.{Coordinator}

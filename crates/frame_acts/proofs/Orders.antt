@@ -28,7 +28,7 @@ use Rattle.log_model.specs.declared.outcome.Outcome.{Outcome}
 use Rattle.passes.specs.Passing.{ended_count}
 use Rattle.coord_facts.specs.Leading.{held_back}
 use Rattle.rest_facts.proofs.Still.{found_itself}
-use Rattle.plain_tab.specs.Sole.{Each}
+use Rattle.each_facts.specs.Items.{Each}
 use Rattle.seen_laws.specs.InEvent.{InEvent}
 use Rattle.std.proofs.Common.{Bool, List, None, Option, Some, [], ap, arith, cond, false, inl, inr, map, refl, subst, sym, true, ℕ, ◌++◌, ◌==◌, ◌∙◌, ◌∷◌, ◌≡◌, ◌≤◌}
 use Rattle.std.specs.Prelude.{option_map, option_to_list, slice_get}

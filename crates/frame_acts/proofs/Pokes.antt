@@ -35,8 +35,8 @@ use Rattle.log_model.specs.declared.row_kind.Actor.{Actor}
 use Rattle.passes.proofs.Adders.{accepted_added}
 use Rattle.passes.proofs.Takers.{accepted_took}
 use Rattle.passes.specs.Passing.{ended_count}
-use Rattle.plain_tab.proofs.TabRows.{still_there}
-use Rattle.plain_tab.specs.Calm.{is_this}
+use Rattle.each_facts.proofs.Earlier.{still_there}
+use Rattle.each_facts.specs.Runs.{is_this}
 use Rattle.request_facts.proofs.LookUps.{none_before}
 use Rattle.request_facts.proofs.Times.{times_none}
 use Rattle.request_facts.specs.Whereabouts.{is_of_load, times_due, times_found}

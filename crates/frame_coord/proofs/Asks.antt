@@ -1,5 +1,5 @@
 -- A traversal is accepted: it waits behind the others, and has its turn where none runs.
-use Rattle.coord.proofs.Arrives.{now_own}
+use Rattle.seen_laws.proofs.InEvents.{now_own}
 use Rattle.coord_facts.proofs.Unread.{accepted_held, next}
 use Rattle.doors.proofs.EndLaws.{left_holds}
 use Rattle.doors.specs.Look.{look_of}
@@ -28,7 +28,7 @@ use Rattle.move_queue.specs.Queue.{Queue}
 use Rattle.move_queue.specs.declared.queue_step.QueueStep.{QueueStep}
 use Rattle.move_queue.specs.declared.queue_step.QueueStep.TheVariants.{Ready, Reload, Traverse}
 use Rattle.passes.specs.Settling.{IsSettling}
-use Rattle.plain_tab.proofs.TabRows.{still_there}
+use Rattle.each_facts.proofs.Earlier.{still_there}
 use Rattle.releases.specs.Releasing.{HoldsParked}
 use Rattle.request_facts.proofs.LookUps.{one_more}
 use Rattle.request_facts.specs.Knowns.{AreKnown}

@@ -54,7 +54,7 @@ use Rattle.passes.proofs.Aims.{running_is}
 use Rattle.passes.specs.Holding.{AreHeldUp}
 use Rattle.passes.specs.Serving.{MayCause}
 use Rattle.passes.specs.Settling.{IsSettling}
-use Rattle.plain_tab.proofs.Courses.{is_asked}
+use Rattle.each_facts.proofs.Courses.{is_asked}
 use Rattle.releases.proofs.Endings.{IsEnding, ends_parked, is_ending}
 use Rattle.releases.specs.Releasing.{HoldsParked}
 use Rattle.request_facts.proofs.Endings.{due_small}

@@ -22,7 +22,7 @@ use Rattle.passes.proofs.Takers.{accepted_took, plain_took}
 use Rattle.passes.specs.Holding.{AreHeldUp}
 use Rattle.passes.specs.Passing.{ended_count}
 use Rattle.passes.specs.Serving.{AreBlankYet}
-use Rattle.plain_tab.proofs.TabRows.{still_there}
+use Rattle.each_facts.proofs.Earlier.{still_there}
 use Rattle.request_facts.specs.Cores.{Core, core_of}
 use Rattle.request_facts.specs.Knowns.{AllOf, IsParked, req_itself}
 use Rattle.settling.proofs.More.{EpochsWere, HadEpochOf, top_more}

@@ -25,7 +25,7 @@ use Rattle.std.proofs.Common.{Bool, List, None, Option, Some, [], ap, arith, con
 use Rattle.std.proofs.lemmas.Bool.Decides.{nat_tests}
 use Rattle.std.specs.List.{list_any}
 use Rattle.std.specs.Map.{lookup}
-use Rattle.plain_tab.specs.Calm.{is_run, is_this}
+use Rattle.each_facts.specs.Runs.{is_run, is_this}
 use Rattle.std.specs.Prelude.{option_and_then, option_map}
 use Rattle.tab_ids.specs.declared.DocId.{DocId}
 use Rattle.tab_ids.specs.declared.NavId.{NavId}

@@ -18,7 +18,7 @@ use Rattle.log_model.specs.declared.made.Made.{Made}
 use Rattle.nav_tree.specs.declared.node.Node.{Node}
 use Rattle.nav_tree.specs.declared.status.NavStatus.{NavStatus}
 use Rattle.passes.proofs.Aims.{running_is}
-use Rattle.plain_tab.specs.Calm.{is_run, is_this}
+use Rattle.each_facts.specs.Runs.{is_run, is_this}
 use Rattle.std.proofs.Common.{Bool, List, None, Option, Some, ap, false, refl, sym, true, ◌&&◌, ◌==◌, ◌∙◌, ◌≡◌}
 use Rattle.std.proofs.lemmas.Bool.{and_parts}
 use Rattle.std.specs.Prelude.{is_some, option_and_then, option_map}

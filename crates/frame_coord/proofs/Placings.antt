@@ -37,7 +37,7 @@ use Rattle.log_model.specs.declared.row.Row.{Row}
 use Rattle.log_model.specs.declared.row_kind.RowKind.{RowKind}
 use Rattle.nav_tree.specs.Tree.{document_of as placed_for, is_state}
 use Rattle.nav_tree.specs.declared.place.Place as live
-use Rattle.plain_tab.proofs.Eaches.{each_first}
+use Rattle.each_facts.proofs.Eaches.{each_first}
 use Rattle.rest_facts.proofs.Still.{found_itself}
 use Rattle.passes.proofs.StillTold.{told_of}
 use Rattle.seen_laws.specs.InEvent.{InEvent, now_of}

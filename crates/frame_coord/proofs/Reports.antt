@@ -1,5 +1,5 @@
 -- A report is delivered: what is known of it, and what the event's own row leaves, whatever the report tells.
-use Rattle.coord.proofs.Arrives.{now_own}
+use Rattle.seen_laws.proofs.InEvents.{now_own}
 use Rattle.coord_facts.proofs.Unread.{next}
 use Rattle.doors.specs.Look.{look_of}
 use Rattle.doors.specs.Ties.{Holds, IsRunning}
@@ -21,7 +21,7 @@ use Rattle.log_model.specs.declared.row_kind.Actor.{Actor}
 use Rattle.log_model.specs.declared.row_kind.LogRow.{LogRow}
 use Rattle.log_model.specs.declared.row_kind.RowKind.{RowKind}
 use Rattle.passes.specs.Settling.{IsSettling}
-use Rattle.plain_tab.proofs.Eaches.{each_first}
+use Rattle.each_facts.proofs.Eaches.{each_first}
 use Rattle.request_facts.specs.Knowns.{AreKnown}
 use Rattle.seen_laws.proofs.Deliveries.{delivered_row}
 use Rattle.seen_laws.specs.InEvent.{AreLegal, InEvent, IsClear, now_of, row_of, start_of}

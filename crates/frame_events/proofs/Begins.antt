@@ -38,8 +38,8 @@ use Rattle.log_model.specs.declared.made.Report.{Report}
 use Rattle.log_model.specs.declared.made.What.{What}
 use Rattle.log_model.specs.declared.outcome.Outcome.{Outcome}
 use Rattle.log_model.specs.declared.row_kind.Actor.{Actor}
-use Rattle.plain_tab.proofs.Calms.{at_place}
-use Rattle.plain_tab.proofs.Eaches.{each_first}
+use Rattle.each_facts.proofs.Runs.{at_place}
+use Rattle.each_facts.proofs.Eaches.{each_first}
 use Rattle.request_facts.proofs.KnownMoved.{at_hand_known, first_made, go_delivered_known, go_known, held_known, untold_known}
 use Rattle.request_facts.proofs.Placings.{IsNoGo, at_hand_once, go_delivered_once, go_once, held_once, untold_once}
 use Rattle.request_facts.specs.Cores.{Core, core, core_of}

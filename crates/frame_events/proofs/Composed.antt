@@ -12,7 +12,7 @@ use Rattle.log_model.specs.Seen.{Asked, Seen, request_in}
 use Rattle.log_model.specs.Settled.{is_settled_if_quiet}
 use Rattle.log_model.specs.declared.request.Request.{Request}
 use Rattle.frame_whole.specs.Tab.{IsBetween}
-use Rattle.plain_tab.specs.Calm.{is_run, is_this}
+use Rattle.each_facts.specs.Runs.{is_run, is_this}
 use Rattle.request_facts.specs.Whereabouts.{is_of_load}
 use Rattle.rest_facts.proofs.Settled.{quiet_settles}
 use Rattle.std.proofs.Common.{Bool, List, None, Option, Some, [], ap, cond, false, refl, sym, true, ◌&&◌, ◌-◌, ◌==◌, ◌||◌, ◌∙◌, ◌≡◌}

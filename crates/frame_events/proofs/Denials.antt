@@ -25,8 +25,8 @@ use Rattle.log_model.specs.Seen.{Asked, Seen, desk_of, request_in}
 use Rattle.log_model.specs.declared.action.Action.{Action}
 use Rattle.log_model.specs.declared.outcome.Denial.{Denial}
 use Rattle.log_model.specs.declared.request.Poke.{Poke}
-use Rattle.plain_tab.proofs.TabRows.{old_apart, without_itself}
-use Rattle.plain_tab.specs.Calm.{is_this}
+use Rattle.each_facts.proofs.Earlier.{old_apart, without_itself}
+use Rattle.each_facts.specs.Runs.{is_this}
 use Rattle.request_facts.proofs.KnownEnded.{denied_known, poke_refused_known}
 use Rattle.request_facts.proofs.Placings.{one_if, stray_once}
 use Rattle.request_facts.proofs.Times.{itself, times_none}

@@ -34,8 +34,8 @@ use Rattle.log_model.specs.declared.made.What.{What}
 use Rattle.log_model.specs.declared.outcome.Outcome.{Outcome}
 use Rattle.log_model.specs.declared.request.Poke.{Poke}
 use Rattle.log_model.specs.declared.row_kind.Actor.{Actor}
-use Rattle.plain_tab.proofs.Eaches.{each_first}
-use Rattle.plain_tab.specs.Sole.{Each}
+use Rattle.each_facts.proofs.Eaches.{each_first}
+use Rattle.each_facts.specs.Items.{Each}
 use Rattle.request_facts.proofs.KnownRows.{finished_known, taken_known}
 use Rattle.request_facts.proofs.Times.{times_none}
 use Rattle.request_facts.specs.Cores.{Core, core, core_of}

@@ -12,8 +12,8 @@ use Rattle.log_model.specs.History.{History, has_nav, has_row, has_state, used_s
 use Rattle.log_model.specs.Places.{aim_of, all_stand, all_stand_in, awake_document, due_pair, has_passed_with, is_awake, is_gone, is_load, is_moved_in, is_ongoing_load, is_traversal, is_under_way, pair_in, passed_in, passed_traversal, running_in, told_pair}
 use Rattle.log_model.specs.Queue.{is_queue_free, is_step_under_way}
 use Rattle.log_model.specs.Seen.{Asked, Document, Place, Seen, place_in, place_of}
-use Rattle.plain_tab.proofs.Calms.{at_place}
-use Rattle.plain_tab.specs.Calm.{EachAsked}
+use Rattle.each_facts.proofs.Runs.{at_place}
+use Rattle.each_facts.specs.Runs.{EachAsked}
 use Rattle.seen_laws.proofs.Sendings.{both}
 use Rattle.std.proofs.Common.{Bool, List, None, Option, Some, [], ap, cond, false, length, not, refl, subst, suc, sym, true, ℕ, ◌&&◌, ◌+◌, ◌==◌, ◌||◌, ◌∙◌, ◌∷◌, ◌≡◌}
 use Rattle.std.proofs.lemmas.Bool.{and_parts}

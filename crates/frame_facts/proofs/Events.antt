@@ -18,7 +18,7 @@ use Rattle.log_model.specs.declared.made.Report.{Report}
 use Rattle.log_model.specs.declared.outcome.Outcome.{Outcome}
 use Rattle.log_model.specs.declared.request.Request.{Request}
 use Rattle.log_model.specs.declared.row_kind.Actor.{Actor}
-use Rattle.plain_tab.proofs.Calms.{each_asked_more, each_asked_on}
+use Rattle.each_facts.proofs.Runs.{each_asked_more, each_asked_on}
 use Rattle.log_model.specs.History.{has_row}
 use Rattle.log_model.specs.declared.made.What.{What}
 use Rattle.log_model.specs.declared.made.What.TheVariants as whats

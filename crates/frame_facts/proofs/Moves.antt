@@ -32,8 +32,8 @@ use Rattle.log_model.specs.declared.outcome.Denial.{Denial}
 use Rattle.log_model.specs.declared.outcome.Outcome.{Outcome}
 use Rattle.log_model.specs.declared.request.Request.{Request}
 use Rattle.log_model.specs.declared.row_kind.Actor.{Actor}
-use Rattle.plain_tab.proofs.Calms.{each_asked_more, each_asked_on}
-use Rattle.plain_tab.specs.Calm.{EachAsked}
+use Rattle.each_facts.proofs.Runs.{each_asked_more, each_asked_on}
+use Rattle.each_facts.specs.Runs.{EachAsked}
 use Rattle.request_facts.proofs.Readers.{SameReads, on_read, read_of, reads_then, sent_reads}
 use Rattle.std.proofs.Common.{Bool, List, None, Option, Some, [], ap, cond, false, inl, inr, length, map, not, refl, subst, sym, true, ℕ, ℤ, ◌&&◌, ◌++◌, ◌+◌, ◌==◌, ◌||◌, ◌∙◌, ◌∷◌, ◌≡◌, ◌⊎◌}
 use Rattle.std.specs.Option.{option_map_or}

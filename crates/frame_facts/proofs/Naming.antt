@@ -14,8 +14,8 @@ use Rattle.log_model.specs.declared.made.Report.{Report}
 use Rattle.log_model.specs.declared.made.What.{What}
 use Rattle.log_model.specs.declared.outcome.Outcome.{Outcome}
 use Rattle.log_model.specs.declared.row_kind.Actor.{Actor}
-use Rattle.plain_tab.proofs.Eaches.{each_first, each_less, each_more, each_on}
-use Rattle.plain_tab.specs.Sole.{Each}
+use Rattle.each_facts.proofs.Eaches.{each_first, each_less, each_more, each_on}
+use Rattle.each_facts.specs.Items.{Each}
 use Rattle.seen_laws.proofs.Desks.{desk_on_other, desk_on_same}
 use Rattle.std.proofs.Common.{Bool, List, None, Option, Some, [], ap, false, refl, subst, sym, true, ℕ, ◌++◌, ◌==◌, ◌∙◌, ◌∷◌, ◌≡◌}
 use Rattle.std.specs.Prelude.{option_map, option_to_list, slice_get}

@@ -19,7 +19,7 @@ use Rattle.log_model.specs.declared.job.Task.{Task}
 use Rattle.log_model.specs.declared.outcome.Cause.{Cause}
 use Rattle.log_model.specs.declared.outcome.Denial.{Denial}
 use Rattle.log_model.specs.declared.row_kind.Actor.{Actor}
-use Rattle.plain_tab.specs.Calm.{EachAsked}
+use Rattle.each_facts.specs.Runs.{EachAsked}
 use Rattle.request_facts.proofs.Readers.{IsBlind, SameReads, on_read, reads_then, sent_reads}
 use Rattle.std.proofs.Common.{Bool, List, None, Option, Some, [], ap, arith, cond, false, inl, inr, length, map, refl, subst, sym, true, ℕ, ◌++◌, ◌+◌, ◌==◌, ◌∙◌, ◌∷◌, ◌≡◌, ◌≤◌, ◌⊎◌}
 use Rattle.std.proofs.lemmas.List.{map-id}

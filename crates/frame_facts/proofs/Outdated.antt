@@ -17,7 +17,7 @@ use Rattle.log_model.specs.Points.{nav_of_request}
 use Rattle.log_model.specs.Seen.{Document, Place, Seen, Status, asleep, awake, desk_of, document_of, lost, place_of}
 use Rattle.log_model.specs.declared.made.Made.{Made}
 use Rattle.frame_tab.proofs.Plainly.{plain_passes}
-use Rattle.plain_tab.specs.Between.{IsMover}
+use Rattle.each_facts.specs.Moving.{IsMover}
 use Rattle.seen_laws.proofs.Keyed.{find_has as seen_number}
 use Rattle.std.proofs.Common.{Bool, List, Option, Some, [], ap, arith, false, inl, inr, refl, subst, sym, true, ℕ, ◌&&◌, ◌++◌, ◌==◌, ◌∙◌, ◌∷◌, ◌≡◌, ◌≤◌}
 use Rattle.std.proofs.lemmas.Bool.Decides.{nat_tests}

@@ -5,7 +5,7 @@ use Rattle.frame_tab.specs.Alive.{AreThere, HasPlace}
 use Rattle.home_facts.specs.Homes.{document_in}
 use Rattle.log_model.specs.History.{has_row}
 use Rattle.log_model.specs.Seen.{Asked, Desk, Document, Place, Seen, desk_of, document_of, place_in, place_of, request_in}
-use Rattle.plain_tab.specs.Calm.{EachAsked}
+use Rattle.each_facts.specs.Runs.{EachAsked}
 use Rattle.request_facts.proofs.Readers.{SameReads}
 use Rattle.seen_laws.proofs.Keyed.{find_map}
 use Rattle.std.proofs.Common.{Bool, List, None, Option, Some, [], ap, cond, false, inl, inr, map, refl, subst, sym, true, ◌++◌, ◌==◌, ◌∙◌, ◌∷◌, ◌≡◌, ◌⊎◌}

@@ -11,8 +11,8 @@ use Rattle.log_model.specs.declared.job.Job.{Job}
 use Rattle.log_model.specs.declared.made.Made.{Made}
 use Rattle.log_model.specs.declared.made.Report.{Report}
 use Rattle.log_model.specs.declared.request.Request.{Request}
-use Rattle.plain_tab.specs.Calm.{EachAsked}
-use Rattle.plain_tab.specs.Sole.{Each}
+use Rattle.each_facts.specs.Runs.{EachAsked}
+use Rattle.each_facts.specs.Items.{Each}
 use Rattle.std.specs.Prelude.{Bool, List, Option, Some, false, true, ℕ, ◌≡◌, ◌≤◌}
 use Rattle.tab_ids.specs.declared.DocId.{DocId}
 use Rattle.tab_ids.specs.declared.NavId.{NavId}

@@ -8,7 +8,7 @@ use Rattle.log_model.specs.Places.{is_traversal}
 use Rattle.log_model.specs.Seen.{Asked, Place, Seen}
 use Rattle.log_model.specs.declared.made.Made.{Made}
 use Rattle.log_model.specs.declared.request.Request.{Request}
-use Rattle.plain_tab.specs.Calm.{EachAsked}
+use Rattle.each_facts.specs.Runs.{EachAsked}
 use Rattle.std.specs.Prelude.{Bool, List, Some, [], false, true, ℤ, ◌≡◌}
 use Rattle.tab_ids.specs.declared.NavId.{NavId}
 use Rattle.tab_ids.specs.declared.ReqId.{ReqId}

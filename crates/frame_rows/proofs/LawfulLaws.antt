@@ -102,8 +102,8 @@ one_later e out kind later =
     ap (λ (rows : List LogRow). rows ++ later) (map-append (row_of e) out (kind ∷ []))
     ∙ append_assoc (map (row_of e) out) (row_of e kind ∷ []) later
 
--- a row that owes nothing keeps what the rows before it ask of what comes later
-rest_more : (e : InEvent) (out : List RowKind) (kind : RowKind) → IsQuiet e kind → KeepsHeld e out kind → (later : List LogRow) → IsRestOf e (out ++ kind ∷ []) later → IsRestOf e out (row_of e kind ∷ later) × AsksOf e out kind later
+-- a row keeps what the rows before it ask of what comes later
+rest_more : (e : InEvent) (out : List RowKind) (kind : RowKind) → IsQuiet e kind → KeepsHeld e out kind → (later : List LogRow) → IsRestOf e (out ++ kind ∷ []) later → IsRestOf e out (row_of e kind ∷ later) × (AsksOf e out kind later × Pays (here_of e out) (row_of e kind ∷ []) later)
 rest_more e out kind quiet keeps later rest =
     let parts = pays_append (start_of e) (row_of e e.own ∷ map (row_of e) out) (row_of e kind ∷ []) later (subst (λ (rows : List LogRow). Pays (start_of e) (row_of e e.own ∷ rows) later) (map-append (row_of e) out (kind ∷ [])) rest.rest.owed) in (
       record {
@@ -114,13 +114,19 @@ rest_more e out kind quiet keeps later rest =
         };
         held = λ was. keeps later (rest.held (traversed_more e out kind was));
       },
-      (λ req began. rest.rest.asks req (any_last (begins req) out kind began), λ is. rest.held (traversed_last e out kind is)),
+      ((λ req began. rest.rest.asks req (any_last (begins req) out kind began), λ is. rest.held (traversed_last e out kind is)), parts.1),
     )
 
-pub lawful_more : (e : InEvent) (out : List RowKind) (kind : RowKind) → IsQuiet e kind → KeepsHeld e out kind → AreLawful e out → MayLog (here_of e out) (row_of e kind ∷ []) (AsksOf e out kind) → AreLawful e (out ++ kind ∷ [])
+-- one that may be logged, if the event's end pays what it owes
+pub lawful_more_owing : (e : InEvent) (out : List RowKind) (kind : RowKind) → IsQuiet e kind → KeepsHeld e out kind → AreLawful e out → MayLog (here_of e out) (row_of e kind ∷ []) (λ later. AsksOf e out kind later × Pays (here_of e out) (row_of e kind ∷ []) later) → AreLawful e (out ++ kind ∷ [])
 unfolding AreLawful
-lawful_more e out kind quiet keeps lawful may =
+lawful_more_owing e out kind quiet keeps lawful may =
     subst (λ (rows : List LogRow). MayLog (start_of e) (row_of e e.own ∷ rows) (IsRestOf e (out ++ kind ∷ []))) (sym (map-append (row_of e) out (kind ∷ []))) (λ later rest. let parts = rest_more e out kind quiet keeps later rest in each_pass_append (start_of e) (row_of e e.own ∷ map (row_of e) out) (row_of e kind ∷ []) later (lawful (row_of e kind ∷ later) parts.0) (may later parts.1))
+
+-- one that owes nothing
+pub lawful_more : (e : InEvent) (out : List RowKind) (kind : RowKind) → IsQuiet e kind → KeepsHeld e out kind → AreLawful e out → MayLog (here_of e out) (row_of e kind ∷ []) (AsksOf e out kind) → AreLawful e (out ++ kind ∷ [])
+lawful_more e out kind quiet keeps lawful may =
+    lawful_more_owing e out kind quiet keeps lawful (λ later both. may later both.0)
 
 -- one that asks nothing
 pub lawful_plain : (e : InEvent) (out : List RowKind) (kind : RowKind) → IsQuiet e kind → KeepsHeld e out kind → AreLawful e out → MayLog (here_of e out) (row_of e kind ∷ []) Anything → AreLawful e (out ++ kind ∷ [])

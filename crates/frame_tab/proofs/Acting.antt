@@ -28,12 +28,12 @@ use Rattle.coord_facts.specs.Leading.{orders_of_desk, is_made_under, coming}
 use Rattle.coord_facts.proofs.Held.{held_apart}
 use Rattle.coord_facts.proofs.Unread.{next}
 use Rattle.rest_facts.proofs.Again.{its_number}
-use Rattle.plain_tab.specs.Calm.{EachAsked, is_run, is_this}
-use Rattle.plain_tab.specs.Flow.{Ascend, Continues, IsNext, IsOver, number_after, entry_after}
-use Rattle.plain_tab.specs.Sole.{Each}
-use Rattle.plain_tab.proofs.Courses.{runs_again}
-use Rattle.plain_tab.proofs.Eaches.{each_on, each_more, each_less, ascend_more, continues_more}
-use Rattle.plain_tab.proofs.Soles.{died_on}
+use Rattle.each_facts.specs.Runs.{EachAsked, is_run, is_this}
+use Rattle.each_facts.specs.Mades.{Ascend, Continues, IsNext, IsOver, number_after, entry_after}
+use Rattle.each_facts.specs.Items.{Each}
+use Rattle.each_facts.proofs.Courses.{runs_again}
+use Rattle.each_facts.proofs.Eaches.{each_on, each_more, each_less, ascend_more, continues_more}
+use Rattle.each_facts.proofs.Died.{died_on}
 use Rattle.frame_tab.specs.Alive.{IsAlive}
 use Rattle.frame_tab.specs.Asking.{ArePlainlyAsked}
 use Rattle.frame_tab.specs.Desks.{makes_told, makes_sent, IsItsOwn, IsMadeNew, IsMadeThere, IsReportTo, IsPokeThere, waiting, untaken, Ascends}

@@ -34,14 +34,14 @@ use Rattle.std.proofs.lemmas.List.{map-id}
 use Rattle.hang_facts.specs.Forms.{forms_of}
 use Rattle.hang_facts.specs.Hanging.{BeginsBy, IsPlaced, Hangs}
 use Rattle.hang_facts.proofs.Forms.{place_there}
-use Rattle.plain_tab.specs.Flow.{entry_after}
+use Rattle.each_facts.specs.Mades.{entry_after}
 use Rattle.hang_facts.specs.Members.{Has}
 use Rattle.hang_facts.proofs.Leasts.{first_least}
 use Rattle.hang_facts.proofs.Members.{has_any, has_more, into_more, into_last}
 use Rattle.home_facts.specs.Homes.{IsHomed, AreHomed, document_in}
 use Rattle.log_model.proofs.Refl.{nat_eq_refl}
 use Rattle.seen_laws.proofs.Keyed.{find_has}
-use Rattle.plain_tab.proofs.Courses.{runs_ended_other, runs_applied}
+use Rattle.each_facts.proofs.Courses.{runs_ended_other, runs_applied}
 use Rattle.frame_tab.specs.Alive.{HasPlace}
 use Rattle.frame_tab.specs.Numbers.{IsOfGivenState, IsOfItsRows, AreStated, IsNumbered}
 use Rattle.frame_tab.specs.Steady.{IsSteady, AreSteady, AreGiven}

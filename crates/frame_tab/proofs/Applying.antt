@@ -28,11 +28,11 @@ use Rattle.hang_facts.specs.Members.{Has}
 use Rattle.hang_facts.proofs.Frames.{IsNoFrame, applied_kept}
 use Rattle.home_facts.specs.Homes.{AreHomed}
 use Rattle.rest_facts.proofs.Again.{WasOf, was_of, its_number}
-use Rattle.plain_tab.specs.Calm.{is_this}
-use Rattle.plain_tab.specs.Flow.{number_after, IsNext}
-use Rattle.plain_tab.specs.Sole.{Each, IsUpTo}
-use Rattle.plain_tab.proofs.Courses.{runs_ended_other, runs_applied}
-use Rattle.plain_tab.proofs.Eaches.{after_next}
+use Rattle.each_facts.specs.Runs.{is_this}
+use Rattle.each_facts.specs.Mades.{number_after, IsNext}
+use Rattle.each_facts.specs.Items.{Each, IsUpTo}
+use Rattle.each_facts.proofs.Courses.{runs_ended_other, runs_applied}
+use Rattle.each_facts.proofs.Eaches.{after_next}
 use Rattle.frame_tab.specs.Desks.{IsItsOwn, IsMadeThere, waiting}
 use Rattle.frame_tab.specs.Numbers.{EachBegins, IsNumbered}
 use Rattle.frame_tab.specs.Whole.{IsFrameTab}

@@ -26,8 +26,8 @@ use Rattle.log_model.specs.Seen.{Seen, Document, Asked, Place, desk_of, document
 use Rattle.hang_facts.specs.Forms.{forms_of}
 use Rattle.hang_facts.specs.Members.{Has}
 use Rattle.hang_facts.proofs.Frames.{delivered_kept}
-use Rattle.plain_tab.specs.Sole.{Each}
-use Rattle.plain_tab.proofs.Eaches.{each_on}
+use Rattle.each_facts.specs.Items.{Each}
+use Rattle.each_facts.proofs.Eaches.{each_on}
 use Rattle.seen_laws.proofs.Keyed.{find_map}
 use Rattle.coord_facts.specs.Leading.{orders_of_desk}
 use Rattle.frame_tab.specs.Alive.{IsAlive}

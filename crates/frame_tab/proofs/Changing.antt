@@ -22,7 +22,7 @@ use Rattle.home_facts.specs.Homes.{IsHomed, AreHomed}
 use Rattle.home_facts.proofs.Changed.{taker}
 use Rattle.log_model.proofs.Refl.{nat_eq_refl}
 use Rattle.seen_laws.proofs.Keyed.{find_has}
-use Rattle.plain_tab.specs.Flow.{entry_after}
+use Rattle.each_facts.specs.Mades.{entry_after}
 use Rattle.frame_tab.specs.Steady.{IsAskedBy, IsUnshownYet, IsSteady, AreSteady, AreGiven}
 use Rattle.frame_tab.proofs.Goings.{StaysAsked, asked_by_stays, mover_stays}
 use Rattle.frame_tab.proofs.Steadies.{steady_mapped, WasPlace, was_place}

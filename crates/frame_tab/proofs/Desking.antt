@@ -18,7 +18,7 @@ use Rattle.coord_facts.specs.Leading.{orders_of_desk}
 use Rattle.coord_facts.proofs.Leadings.{proc_same}
 use Rattle.home_facts.specs.Homes.{document_in}
 use Rattle.seen_laws.proofs.Desks.{desk_on_same, desk_on_other}
-use Rattle.plain_tab.proofs.Eaches.{each_on}
+use Rattle.each_facts.proofs.Eaches.{each_on}
 use Rattle.frame_tab.specs.Desks.{IsTaskOf, IsOrderTo, IsMadeThere, IsReportTo, IsPokeThere, IsHomeDesk, IsBare, AreDesks}
 
 -- ---- documents and places that stay

@@ -24,12 +24,12 @@ use Rattle.coord_facts.proofs.Held.{on_alike, made_of}
 use Rattle.coord_facts.proofs.Unread.{next, desk_mapped}
 use Rattle.hang_facts.specs.Members.{Has}
 use Rattle.request_facts.proofs.Readers.{SameReads}
-use Rattle.plain_tab.specs.Calm.{EachAsked, is_run, is_this}
-use Rattle.plain_tab.specs.Flow.{Ascend, Continues}
-use Rattle.plain_tab.specs.Sole.{Each, NoneDied}
-use Rattle.plain_tab.proofs.Courses.{runs_ended_other}
-use Rattle.plain_tab.proofs.Eaches.{each_less}
-use Rattle.plain_tab.proofs.Soles.{died_on}
+use Rattle.each_facts.specs.Runs.{EachAsked, is_run, is_this}
+use Rattle.each_facts.specs.Mades.{Ascend, Continues}
+use Rattle.each_facts.specs.Items.{Each, NoneDied}
+use Rattle.each_facts.proofs.Courses.{runs_ended_other}
+use Rattle.each_facts.proofs.Eaches.{each_less}
+use Rattle.each_facts.proofs.Died.{died_on}
 use Rattle.frame_tab.specs.Asking.{IsPlainlyAsked, ArePlainlyAsked}
 use Rattle.frame_tab.specs.Desks.{IsPokeThere, IsMadeThere, IsHomeDesk, IsBare, AreDesks, waiting, untaken}
 use Rattle.frame_tab.specs.Steady.{IsAskedBy}

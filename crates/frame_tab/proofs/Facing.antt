@@ -13,7 +13,7 @@ use Rattle.coord_facts.specs.Flowing.{Flows}
 use Rattle.coord_facts.specs.Leading.{Face, face_after, orders_for, coming, held_back, Leads}
 use Rattle.coord_facts.specs.Reaching.{AllTell}
 use Rattle.coord_facts.proofs.OneMade.{tells, with_pair, pair_after}
-use Rattle.plain_tab.specs.Flow.{entry_after}
+use Rattle.each_facts.specs.Mades.{entry_after}
 use Rattle.frame_tab.specs.Desks.{waiting}
 use Rattle.frame_tab.proofs.Acting.{IsFaced}
 

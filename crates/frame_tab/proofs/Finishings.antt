@@ -28,11 +28,11 @@ use Rattle.coord_facts.specs.Leading.{orders_of_desk, held_back}
 use Rattle.coord_facts.proofs.Unread.{next}
 use Rattle.rest_facts.proofs.Again.{its_number}
 use Rattle.transit_facts.specs.Orders.{IsOutcomeOf}
-use Rattle.plain_tab.specs.Calm.{EachAsked, is_run, is_this}
-use Rattle.plain_tab.specs.Flow.{Ascend}
-use Rattle.plain_tab.specs.Sole.{Each}
-use Rattle.plain_tab.proofs.Eaches.{each_on, each_more}
-use Rattle.plain_tab.proofs.Soles.{died_on}
+use Rattle.each_facts.specs.Runs.{EachAsked, is_run, is_this}
+use Rattle.each_facts.specs.Mades.{Ascend}
+use Rattle.each_facts.specs.Items.{Each}
+use Rattle.each_facts.proofs.Eaches.{each_on, each_more}
+use Rattle.each_facts.proofs.Died.{died_on}
 use Rattle.frame_tab.specs.Alive.{IsAlive}
 use Rattle.frame_tab.specs.Asking.{IsPlainlyAsked}
 use Rattle.frame_tab.specs.Desks.{makes_by, makes_it, makes_sent, makes_told, makes_due, IsTaskOf, IsOrderTo, IsMadeThere, IsReportTo, IsHomeDesk, waiting, untaken, Ascends}

@@ -15,10 +15,10 @@ use Rattle.std.specs.List.{list_any}
 use Rattle.std.proofs.lemmas.List.{length-map}
 use Rattle.hang_facts.specs.Forms.{forms_of}
 use Rattle.hang_facts.specs.Members.{Has}
-use Rattle.plain_tab.specs.Sole.{IsUpTo}
+use Rattle.each_facts.specs.Items.{IsUpTo}
 use Rattle.request_facts.proofs.Readers.{SameReads}
 use Rattle.rest_facts.proofs.Again.{WasOf, was_of}
-use Rattle.plain_tab.proofs.Courses.{was_asked}
+use Rattle.each_facts.proofs.Courses.{was_asked}
 use Rattle.frame_tab.specs.Asking.{ArePlainlyAsked}
 use Rattle.frame_tab.specs.Desks.{AreDesks, EachIsMadeOnce, EachHasMadeNothing, EachWaits, EachAscends, EachContinues}
 use Rattle.frame_tab.specs.Numbers.{IsOfItsRows, AreStated, IsNumbered, EachEntry}

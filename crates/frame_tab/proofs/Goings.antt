@@ -8,9 +8,9 @@ use Rattle.log_model.specs.Places.{is_traversal}
 use Rattle.hang_facts.specs.Forms.{Form, form_of, forms_of, form_in}
 use Rattle.hang_facts.proofs.Forms.{form_there, place_there}
 use Rattle.request_facts.proofs.Readers.{SameReads}
-use Rattle.plain_tab.specs.Between.{IsMover}
-use Rattle.plain_tab.proofs.Courses.{is_asked}
-use Rattle.plain_tab.proofs.TabRows.{still_there}
+use Rattle.each_facts.specs.Moving.{IsMover}
+use Rattle.each_facts.proofs.Courses.{is_asked}
+use Rattle.each_facts.proofs.Earlier.{still_there}
 use Rattle.frame_tab.specs.Alive.{HasPlace}
 use Rattle.frame_tab.specs.Steady.{IsAskedBy}
 

@@ -18,8 +18,8 @@ use Rattle.coord_facts.specs.Leading.{orders_of_desk, is_made_under, coming}
 use Rattle.hang_facts.specs.Forms.{forms_of}
 use Rattle.hang_facts.specs.Members.{Has}
 use Rattle.rest_facts.proofs.Again.{WasOf, was_of}
-use Rattle.plain_tab.specs.Flow.{Ascend, Continues}
-use Rattle.plain_tab.specs.Sole.{Each}
+use Rattle.each_facts.specs.Mades.{Ascend, Continues}
+use Rattle.each_facts.specs.Items.{Each}
 use Rattle.frame_tab.specs.Asking.{ArePlainlyAsked}
 use Rattle.frame_tab.specs.Desks.{makes_sent, makes_told, makes_due, IsMadeOnce, IsMadeThere, AreDesks, EachIsMadeOnce, HasMadeNothing, EachHasMadeNothing, untaken, Ascends, waiting, EachAscends, EachContinues}
 use Rattle.frame_tab.specs.Steady.{AreGiven}

@@ -31,12 +31,12 @@ use Rattle.coord_facts.proofs.Unread.{next, accepted_held, started_held}
 use Rattle.hang_facts.specs.Members.{Has}
 use Rattle.request_facts.proofs.LookUps.{on_itself, others_before, one_more}
 use Rattle.request_facts.proofs.Readers.{reads_then, on_read}
-use Rattle.plain_tab.specs.Calm.{EachAsked, is_run, is_this}
-use Rattle.plain_tab.specs.Sole.{Each, NoneDied}
-use Rattle.plain_tab.proofs.Courses.{runs_more, runs_begun}
-use Rattle.plain_tab.proofs.Eaches.{each_more}
-use Rattle.plain_tab.proofs.Soles.{died_on}
-use Rattle.plain_tab.proofs.TabRows.{old_apart, still_there}
+use Rattle.each_facts.specs.Runs.{EachAsked, is_run, is_this}
+use Rattle.each_facts.specs.Items.{Each, NoneDied}
+use Rattle.each_facts.proofs.Courses.{runs_more, runs_begun}
+use Rattle.each_facts.proofs.Eaches.{each_more}
+use Rattle.each_facts.proofs.Died.{died_on}
+use Rattle.each_facts.proofs.Earlier.{old_apart, still_there}
 use Rattle.frame_tab.specs.Asking.{IsFrameRequest, IsNoEditing, IsPlainlyAsked, ArePlainlyAsked}
 use Rattle.frame_tab.specs.Desks.{IsOrderTo, IsPokeThere, IsMadeThere, waiting, makes_sent, makes_told}
 use Rattle.frame_tab.specs.Steady.{IsAskedBy}

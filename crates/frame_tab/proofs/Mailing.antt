@@ -25,10 +25,10 @@ use Rattle.coord_facts.proofs.OneDocument.{mailed}
 use Rattle.coord_facts.proofs.Unread.{next}
 use Rattle.request_facts.proofs.LookUps.{on_itself}
 use Rattle.request_facts.proofs.Readers.{SameReads, sent_reads}
-use Rattle.plain_tab.specs.Calm.{EachAsked, is_run, is_this}
-use Rattle.plain_tab.specs.Sole.{NoneDied}
-use Rattle.plain_tab.proofs.Courses.{runs_again}
-use Rattle.plain_tab.proofs.Soles.{died_on}
+use Rattle.each_facts.specs.Runs.{EachAsked, is_run, is_this}
+use Rattle.each_facts.specs.Items.{NoneDied}
+use Rattle.each_facts.proofs.Courses.{runs_again}
+use Rattle.each_facts.proofs.Died.{died_on}
 use Rattle.frame_tab.specs.Asking.{IsPlainlyAsked, ArePlainlyAsked}
 use Rattle.frame_tab.specs.Desks.{makes_it, makes_sent, waiting}
 use Rattle.frame_tab.specs.Whole.{IsFrameTab}

@@ -19,8 +19,8 @@ use Rattle.log_model.proofs.Refl.{nat_eq_refl}
 use Rattle.coord_facts.proofs.Unread.{next}
 use Rattle.hang_facts.specs.Members.{Has}
 use Rattle.coord_facts.specs.Leading.{coming}
-use Rattle.plain_tab.specs.Flow.{Ascend, Continues}
-use Rattle.plain_tab.specs.Sole.{IsUpTo}
+use Rattle.each_facts.specs.Mades.{Ascend, Continues}
+use Rattle.each_facts.specs.Items.{IsUpTo}
 use Rattle.frame_tab.specs.Alive.{IsAlive, IsThere}
 use Rattle.frame_tab.specs.Asking.{NoneHeld}
 use Rattle.frame_tab.specs.Desks.{IsMadeOnce, IsHomeDesk, IsBare, HasMadeNothing, untaken, Ascends}

@@ -18,9 +18,9 @@ use Rattle.log_model.specs.Seen.{Seen, Asked, Asking, request_in}
 use Rattle.log_model.specs.After.{new_request, ended}
 use Rattle.log_model.specs.AfterRequests.{on_request, on_served, request_begun}
 use Rattle.request_facts.proofs.Readers.{SameReads, reads_then, on_read}
-use Rattle.plain_tab.specs.Calm.{EachAsked}
-use Rattle.plain_tab.proofs.Calms.{each_asked_on, each_asked_more}
-use Rattle.plain_tab.proofs.Courses.{was_asked}
+use Rattle.each_facts.specs.Runs.{EachAsked}
+use Rattle.each_facts.proofs.Runs.{each_asked_on, each_asked_more}
+use Rattle.each_facts.proofs.Courses.{was_asked}
 use Rattle.frame_tab.specs.Asking.{IsFrameRequest, IsPlainlyAsked}
 
 -- ---- what is read of a request here

@@ -30,9 +30,9 @@ use Rattle.hang_facts.specs.Members.{Has}
 use Rattle.home_facts.specs.Homes.{document_in}
 use Rattle.home_facts.proofs.Again.{all_more}
 use Rattle.rest_facts.proofs.Again.{its_number}
-use Rattle.plain_tab.specs.Calm.{EachAsked}
-use Rattle.plain_tab.specs.Sole.{Each, IsUpTo}
-use Rattle.plain_tab.proofs.Eaches.{each_on}
+use Rattle.each_facts.specs.Runs.{EachAsked}
+use Rattle.each_facts.specs.Items.{Each, IsUpTo}
+use Rattle.each_facts.proofs.Eaches.{each_on}
 use Rattle.frame_tab.specs.Alive.{IsAlive, HasPlace, IsThere}
 use Rattle.frame_tab.specs.Asking.{IsPlainlyAsked}
 use Rattle.frame_tab.specs.Desks.{makes_by, makes_it, makes_sent, makes_told, IsMadeOnce, IsTaskOf, IsOrderTo, IsMadeThere, IsReportTo, IsHomeDesk, waiting, untaken, Ascends, HasMadeNothing}

@@ -29,7 +29,7 @@ use Rattle.hang_facts.proofs.Members.{IsOf, has_filter, has_map, has_more, has_t
 use Rattle.home_facts.specs.Homes.{AreHomed}
 use Rattle.home_facts.proofs.Changed.{taker}
 use Rattle.rest_facts.proofs.Again.{its_number}
-use Rattle.plain_tab.specs.Flow.{entry_after}
+use Rattle.each_facts.specs.Mades.{entry_after}
 use Rattle.frame_tab.specs.Desks.{IsItsOwn}
 use Rattle.frame_tab.specs.Whole.{IsFrameTab}
 use Rattle.frame_tab.proofs.Going.{IsOfRow}

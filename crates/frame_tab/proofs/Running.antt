@@ -9,8 +9,8 @@ use Rattle.log_model.specs.History.{has_nav}
 use Rattle.log_model.specs.Places.{running_in, is_moved_in}
 use Rattle.log_model.specs.Seen.{Asked, request_in}
 use Rattle.request_facts.proofs.Readers.{SameReads}
-use Rattle.plain_tab.specs.Calm.{EachAsked, is_run, is_this}
-use Rattle.plain_tab.proofs.Calms.{none_passes, only_passes}
+use Rattle.each_facts.specs.Runs.{EachAsked, is_run, is_this}
+use Rattle.each_facts.proofs.Runs.{none_passes, only_passes}
 
 -- the request of the traversal that runs
 abbrev pub run_in : Option ReqId → List Asked → Option Asked

@@ -29,10 +29,10 @@ use Rattle.hang_facts.specs.Members.{Has}
 use Rattle.hang_facts.proofs.Frames.{sent_kept}
 use Rattle.log_model.proofs.Refl.{nat_eq_refl}
 use Rattle.seen_laws.proofs.Keyed.{find_has, find_map}
-use Rattle.plain_tab.specs.Calm.{EachAsked}
-use Rattle.plain_tab.specs.Flow.{Continues}
-use Rattle.plain_tab.specs.Sole.{Each}
-use Rattle.plain_tab.proofs.Eaches.{each_on}
+use Rattle.each_facts.specs.Runs.{EachAsked}
+use Rattle.each_facts.specs.Mades.{Continues}
+use Rattle.each_facts.specs.Items.{Each}
+use Rattle.each_facts.proofs.Eaches.{each_on}
 use Rattle.frame_tab.specs.Alive.{IsAlive}
 use Rattle.frame_tab.specs.Asking.{IsPlainlyAsked}
 use Rattle.frame_tab.specs.Desks.{makes_by, makes_it, IsTaskOf, IsOrderTo, IsMadeThere, IsHomeDesk, waiting, untaken, Ascends}

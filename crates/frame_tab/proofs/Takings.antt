@@ -29,11 +29,11 @@ use Rattle.log_model.specs.Seen.{Seen, Document, Place, awake, desk_of, document
 use Rattle.coord_facts.specs.Leading.{is_made_under, coming}
 use Rattle.coord_facts.proofs.Unread.{next}
 use Rattle.seen_laws.proofs.Keyed.{find_has}
-use Rattle.plain_tab.specs.Calm.{EachAsked, is_run, is_this}
-use Rattle.plain_tab.specs.Flow.{Ascend, Continues, number_after, entry_after}
-use Rattle.plain_tab.specs.Sole.{Each}
-use Rattle.plain_tab.proofs.Courses.{runs_ended_other, runs_applied}
-use Rattle.plain_tab.proofs.Eaches.{each_on}
+use Rattle.each_facts.specs.Runs.{EachAsked, is_run, is_this}
+use Rattle.each_facts.specs.Mades.{Ascend, Continues, number_after, entry_after}
+use Rattle.each_facts.specs.Items.{Each}
+use Rattle.each_facts.proofs.Courses.{runs_ended_other, runs_applied}
+use Rattle.each_facts.proofs.Eaches.{each_on}
 use Rattle.frame_tab.specs.Alive.{IsAlive}
 use Rattle.frame_tab.specs.Asking.{ArePlainlyAsked}
 use Rattle.frame_tab.specs.Desks.{IsItsOwn, IsMadeThere, HasMadeNothing, waiting, untaken, Ascends}

@@ -19,9 +19,9 @@ use Rattle.log_model.specs.Seen.{Seen, Document, Desk, Asked, Place, awake, asle
 use Rattle.coord_facts.specs.Leading.{orders_of_desk}
 use Rattle.coord_facts.proofs.OneDocument.{mailed}
 use Rattle.hang_facts.proofs.Frames.{sent_kept}
-use Rattle.plain_tab.specs.Calm.{EachAsked}
-use Rattle.plain_tab.specs.Sole.{Each}
-use Rattle.plain_tab.proofs.Eaches.{each_on, each_more}
+use Rattle.each_facts.specs.Runs.{EachAsked}
+use Rattle.each_facts.specs.Items.{Each}
+use Rattle.each_facts.proofs.Eaches.{each_on, each_more}
 use Rattle.frame_tab.specs.Alive.{IsAlive, HasPlace}
 use Rattle.frame_tab.specs.Asking.{IsPlainlyAsked}
 use Rattle.frame_tab.specs.Desks.{makes_by, makes_it, IsTaskOf, IsOrderTo, IsMadeThere, IsHomeDesk, waiting, untaken, Ascends}

@@ -25,10 +25,10 @@ use Rattle.log_model.specs.Seen.{Seen, Document, Desk, Asked, Place, desk_of, re
 use Rattle.coord_facts.specs.Leading.{orders_of_desk, held_back}
 use Rattle.coord_facts.proofs.Unread.{next}
 use Rattle.transit_facts.specs.Orders.{IsOutcomeOf}
-use Rattle.plain_tab.specs.Calm.{EachAsked, is_run, is_this}
-use Rattle.plain_tab.specs.Sole.{Each, NoneDied}
-use Rattle.plain_tab.proofs.Eaches.{each_less, each_first, each_more}
-use Rattle.plain_tab.proofs.Soles.{died_on}
+use Rattle.each_facts.specs.Runs.{EachAsked, is_run, is_this}
+use Rattle.each_facts.specs.Items.{Each, NoneDied}
+use Rattle.each_facts.proofs.Eaches.{each_less, each_first, each_more}
+use Rattle.each_facts.proofs.Died.{died_on}
 use Rattle.frame_tab.specs.Asking.{IsPlainlyAsked, ArePlainlyAsked}
 use Rattle.frame_tab.specs.Desks.{makes_by, makes_it, makes_sent, makes_told, IsTaskOf, IsOrderTo, IsMadeThere, IsReportTo, IsHomeDesk, AreDesks, waiting}
 use Rattle.frame_tab.specs.Steady.{IsAskedBy}

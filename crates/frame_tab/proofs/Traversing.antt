@@ -30,8 +30,8 @@ use Rattle.hang_facts.specs.Members.{Has}
 use Rattle.hang_facts.proofs.Members.{IsOf, has_filter, has_map}
 use Rattle.request_facts.proofs.LookUps.{on_itself}
 use Rattle.request_facts.proofs.Readers.{SameReads, reads_then, on_read}
-use Rattle.plain_tab.specs.Sole.{Each}
-use Rattle.plain_tab.proofs.Courses.{was_asked, runs_ended}
+use Rattle.each_facts.specs.Items.{Each}
+use Rattle.each_facts.proofs.Courses.{was_asked, runs_ended}
 use Rattle.frame_tab.specs.Alive.{HasPlace}
 use Rattle.frame_tab.specs.Desks.{IsMadeThere, untaken, waiting}
 use Rattle.home_facts.specs.Homes.{document_in}

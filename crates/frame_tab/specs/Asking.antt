@@ -8,8 +8,8 @@ use Rattle.log_model.specs.declared.request.Request.{Request}
 use Rattle.log_model.specs.declared.request.Request.TheVariants as requests
 use Rattle.log_model.specs.Places.{is_traversal}
 use Rattle.log_model.specs.Seen.{Seen, Asked}
-use Rattle.plain_tab.specs.Calm.{EachAsked, OnlyRuns}
-use Rattle.plain_tab.specs.Sole.{NoneDied}
+use Rattle.each_facts.specs.Runs.{EachAsked, OnlyRuns}
+use Rattle.each_facts.specs.Items.{NoneDied}
 use Rattle.frame_tab.specs.Steady.{IsAskedBy}
 
 -- the action is no edit

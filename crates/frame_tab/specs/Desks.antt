@@ -21,8 +21,8 @@ use Rattle.log_model.specs.Seen.{Seen, Document, Desk, Place, awake, desk_of, pl
 use Rattle.coord_facts.specs.Leading.{orders_of_desk, coming, held_back}
 use Rattle.home_facts.specs.Homes.{document_in}
 use Rattle.transit_facts.specs.Orders.{IsOutcomeOf}
-use Rattle.plain_tab.specs.Sole.{Each}
-use Rattle.plain_tab.specs.Flow.{HasNothing, Ascend, Continues}
+use Rattle.each_facts.specs.Items.{Each}
+use Rattle.each_facts.specs.Mades.{HasNothing, Ascend, Continues}
 use Rattle.frame_tab.specs.Alive.{EachThere}
 
 -- ---- orders and reports

@@ -14,7 +14,7 @@ use Rattle.log_model.specs.Seen.{Seen, Document, Asked, Place, place_in, request
 use Rattle.hang_facts.specs.Hanging.{BeginsBy}
 use Rattle.hang_facts.specs.Members.{Has}
 use Rattle.home_facts.specs.Homes.{document_in}
-use Rattle.plain_tab.specs.Sole.{IsUpTo}
+use Rattle.each_facts.specs.Items.{IsUpTo}
 
 -- ---- document states
 

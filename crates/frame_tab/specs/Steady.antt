@@ -7,7 +7,7 @@ use Rattle.tab_ids.specs.declared.ReqId.{ReqId}
 use Rattle.log_model.specs.History.{has_row}
 use Rattle.log_model.specs.Places.{top, is_given_target, is_moved_in}
 use Rattle.log_model.specs.Seen.{Seen, Asked, Place, awake, asleep, lost, place_of, request_in}
-use Rattle.plain_tab.specs.Between.{IsMover}
+use Rattle.each_facts.specs.Moving.{IsMover}
 
 -- the request of a number is there
 pub record IsAskedBy (asked : List Asked) (by : Option ReqId) : Type 0 where

@@ -40,8 +40,8 @@ use Rattle.log_model.specs.declared.made.Made.{Made}
 use Rattle.log_model.specs.declared.made.What.{What}
 use Rattle.log_model.specs.declared.row.Row.{Row}
 use Rattle.log_model.specs.declared.row_kind.Actor.{Actor}
-use Rattle.plain_tab.specs.Calm.{is_this}
-use Rattle.plain_tab.specs.Flow.{IsNext, entry_after}
+use Rattle.each_facts.specs.Runs.{is_this}
+use Rattle.each_facts.specs.Mades.{IsNext, entry_after}
 use Rattle.rest_facts.proofs.Stands.{get_of}
 use Rattle.rest_facts.proofs.Taken.{applied_rests}
 use Rattle.seen_laws.proofs.Keyed.{find_has}

@@ -9,8 +9,8 @@ use Rattle.log_model.specs.Places.{aim_of, all_stand, has_arrived, has_passed_wi
 use Rattle.log_model.specs.Seen.{Asked, Place, Seen, Status, asleep, awake, lost, place_in, place_of, request_in}
 use Rattle.log_model.specs.declared.made.Made.{Made}
 use Rattle.log_model.specs.declared.row.Row.{Row}
-use Rattle.plain_tab.proofs.Calms.{none_passes, only_passes}
-use Rattle.plain_tab.specs.Calm.{is_run, is_this}
+use Rattle.each_facts.proofs.Runs.{none_passes, only_passes}
+use Rattle.each_facts.specs.Runs.{is_run, is_this}
 use Rattle.rest_facts.proofs.Seated.{all_has}
 use Rattle.hang_facts.proofs.Members.{find_has}  -- keep
 use Rattle.std.proofs.Common.{Bool, List, None, Option, Some, [], ap, arith, cond, false, fold, inl, inr, map, not, refl, sym, true, ℕ, ◌&&◌, ◌==◌, ◌∙◌, ◌∷◌, ◌≡◌, ◌≤◌}

@@ -24,7 +24,7 @@ use Rattle.log_model.specs.declared.outcome.Cause.{Cause}
 use Rattle.log_model.specs.declared.outcome.Denial.{Denial}
 use Rattle.log_model.specs.declared.request.Request.{Request}
 use Rattle.log_model.specs.declared.row_kind.Actor.{Actor}
-use Rattle.plain_tab.specs.Calm.{is_this}
+use Rattle.each_facts.specs.Runs.{is_this}
 use Rattle.request_facts.proofs.Endings.{dropped_once, due_small, off_desk, refused_once}
 use Rattle.request_facts.proofs.KnownEnded.{dropped_known, refused_known}
 use Rattle.request_facts.specs.Whereabouts.{AreOnce, is_of_load, times, times_at, times_due}

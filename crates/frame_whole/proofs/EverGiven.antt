@@ -18,8 +18,8 @@ use Rattle.log_model.specs.declared.outcome.Outcome.{Outcome}
 use Rattle.log_model.specs.declared.row_kind.Actor.{Actor}
 use Rattle.log_model.specs.declared.row_kind.LogRow.{LogRow}
 use Rattle.log_model.specs.declared.row_kind.RowKind.{RowKind}
-use Rattle.plain_tab.proofs.Eaches.{each_map, each_more}
-use Rattle.plain_tab.specs.Sole.{Each}
+use Rattle.each_facts.proofs.Eaches.{each_map, each_more}
+use Rattle.each_facts.specs.Items.{Each}
 use Rattle.seen_laws.proofs.Sums.{over}
 use Rattle.std.proofs.Common.{Bool, List, None, Option, Some, [], cond, false, fold, inl, inr, length, map, not, refl, subst, true, ℕ, ◌&&◌, ◌++◌, ◌==◌, ◌∷◌, ◌≡◌}
 use Rattle.std.specs.List.{list_any}

@@ -21,7 +21,7 @@ use Rattle.log_model.specs.Seen.{Desk, Document, Place, Seen, awake, desk_in, de
 use Rattle.log_model.specs.declared.made.Made.{Made}
 use Rattle.log_model.specs.declared.made.What.{What}
 use Rattle.log_model.specs.declared.row.Row.{Row}
-use Rattle.plain_tab.specs.Flow.{entry_after}
+use Rattle.each_facts.specs.Mades.{entry_after}
 use Rattle.seen_laws.proofs.Keyed.{find_has, find_map}
 use Rattle.seen_laws.proofs.Sums.{over}
 use Rattle.std.proofs.Common.{Bool, List, None, Option, Some, [], ap, false, fold, map, refl, subst, sym, true, ℕ, ◌++◌, ◌==◌, ◌||◌, ◌∙◌, ◌∷◌, ◌≡◌}

@@ -14,7 +14,7 @@ use Rattle.log_model.specs.Views.{View}
 use Rattle.log_model.specs.declared.job.Job.{Job}
 use Rattle.log_model.specs.declared.job.Task.{Task}
 use Rattle.log_model.specs.declared.made.Made.{Made}
-use Rattle.plain_tab.specs.Flow.{Ascend, IsNext}
+use Rattle.each_facts.specs.Mades.{Ascend, IsNext}
 use Rattle.seen_laws.proofs.Keyed.{find_has}
 use Rattle.std.proofs.Common.{Bool, List, None, Option, Some, [], ap, arith, cond, false, fold, length, refl, subst, sym, true, ℕ, ◌&&◌, ◌+◌, ◌==◌, ◌∙◌, ◌∷◌, ◌≡◌}
 use Rattle.std.specs.Prelude.{filter}

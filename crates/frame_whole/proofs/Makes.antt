@@ -28,7 +28,7 @@ use Rattle.log_model.specs.declared.made.Made.{Made}
 use Rattle.log_model.specs.declared.made.Report.{Report}
 use Rattle.log_model.specs.declared.row.Row.{Row}
 use Rattle.log_model.specs.declared.row_kind.Actor.{Actor}
-use Rattle.plain_tab.specs.Sole.{Each}
+use Rattle.each_facts.specs.Items.{Each}
 use Rattle.request_facts.proofs.KnownRows.{sent_known}
 use Rattle.request_facts.proofs.Onces.{sent_once}
 use Rattle.rest_facts.proofs.Kept.{making_kept}

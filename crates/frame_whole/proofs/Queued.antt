@@ -11,7 +11,7 @@ use Rattle.log_model.specs.declared.made.What.{What}
 use Rattle.log_model.specs.declared.request.Request.{Request}
 use Rattle.log_model.specs.declared.row_kind.Actor.{Actor}
 use Rattle.log_model.specs.declared.row_kind.RowKind.{RowKind}
-use Rattle.plain_tab.specs.Calm.{is_this}
+use Rattle.each_facts.specs.Runs.{is_this}
 use Rattle.seen_laws.proofs.Sums.{over}
 use Rattle.std.proofs.Common.{Bool, List, None, Option, Some, [], ap, arith, cond, false, not, refl, subst, sym, true, ℕ, ◌++◌, ◌==◌, ◌||◌, ◌∙◌, ◌∷◌, ◌≡◌}
 use Rattle.std.proofs.lemmas.Bool.Decides.{nat_tests}

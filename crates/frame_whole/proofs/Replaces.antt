@@ -36,8 +36,8 @@ use Rattle.log_model.specs.declared.made.Made.{Made}
 use Rattle.log_model.specs.declared.made.What.{What}
 use Rattle.log_model.specs.declared.row.Row.{Row}
 use Rattle.log_model.specs.declared.row_kind.Actor.{Actor}
-use Rattle.plain_tab.specs.Calm.{is_this}
-use Rattle.plain_tab.specs.Flow.{Continues, IsNext, IsOver, entry_after}
+use Rattle.each_facts.specs.Runs.{is_this}
+use Rattle.each_facts.specs.Mades.{Continues, IsNext, IsOver, entry_after}
 use Rattle.rest_facts.proofs.Kept.{applied_kept}
 use Rattle.rest_facts.proofs.Taken.{applied_rests}
 use Rattle.std.proofs.Common.{Bool, List, None, Option, Some, ap, cond, false, inl, inr, map, refl, subst, sym, true, ℕ, ◌&&◌, ◌<◌, ◌==◌, ◌∙◌, ◌∷◌, ◌≡◌, ◌⊎◌}

@@ -38,7 +38,7 @@ use Rattle.log_model.specs.declared.job.Why.{Why}
 use Rattle.log_model.specs.declared.made.Made.{Made}
 use Rattle.log_model.specs.declared.row.Row.{Row}
 use Rattle.log_model.specs.declared.row_kind.Actor.{Actor}
-use Rattle.plain_tab.specs.Calm.{EachAsked, is_run, is_this}
+use Rattle.each_facts.specs.Runs.{EachAsked, is_run, is_this}
 use Rattle.request_facts.proofs.KnownRows.{sent_known}
 use Rattle.request_facts.proofs.LookUps.{on_itself}
 use Rattle.request_facts.proofs.Onces.{sent_once}

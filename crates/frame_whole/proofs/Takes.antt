@@ -17,7 +17,7 @@ use Rattle.log_model.specs.Seen.{Asked, Seen, desk_of, request_in, request_of}
 use Rattle.log_model.specs.declared.change.Change.{Change}
 use Rattle.log_model.specs.declared.made.Made.{Made}
 use Rattle.log_model.specs.declared.row_kind.Actor.{Actor}
-use Rattle.plain_tab.specs.Sole.{Each}
+use Rattle.each_facts.specs.Items.{Each}
 use Rattle.request_facts.proofs.Endings.{applied_once, due_small}
 use Rattle.request_facts.proofs.KnownEnded.{applied_known}
 use Rattle.request_facts.proofs.Times.{times_none}

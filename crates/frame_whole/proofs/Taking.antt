@@ -16,7 +16,7 @@ use Rattle.log_model.specs.History.{has_state}
 use Rattle.log_model.specs.Seen.{Document, Place, Seen, document_of, place_of}
 use Rattle.log_model.specs.declared.made.What.{What}
 use Rattle.log_model.specs.declared.row.Row.{Row}
-use Rattle.plain_tab.specs.Flow.{entry_after}
+use Rattle.each_facts.specs.Mades.{entry_after}
 use Rattle.rest_facts.proofs.Again.{NoNewStates}
 use Rattle.rest_facts.proofs.Stands.{get_of}
 use Rattle.std.proofs.Common.{Bool, List, Option, Some, ap, cond, false, refl, subst, sym, true, ◌==◌, ◌||◌, ◌∙◌, ◌≡◌, ◌≤◌}

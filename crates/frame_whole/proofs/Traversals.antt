@@ -45,7 +45,7 @@ use Rattle.log_model.specs.declared.change.Change.TheVariants as changes
 use Rattle.log_model.specs.declared.request.Request.TheVariants as requests
 use Rattle.log_model.specs.declared.row_kind.RowKind.TheVariants as rows
 use Rattle.log_model.specs.Places.{is_under_way}
-use Rattle.plain_tab.specs.Calm.{is_run}
+use Rattle.each_facts.specs.Runs.{is_run}
 use Rattle.std.proofs.Common.{◌&&◌, ◌==◌}
 use Rattle.std.proofs.lemmas.Bool.Decides.{nat_tests}
 use Rattle.std.specs.Prelude.{is_none}

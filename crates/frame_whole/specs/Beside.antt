@@ -4,7 +4,7 @@ use Rattle.coord_facts.specs.Leading.{pending_view}
 use Rattle.hang_facts.specs.Members.{Has}
 use Rattle.log_model.specs.Equal.{has_req}
 use Rattle.log_model.specs.Seen.{Document, Place, Seen, desk_of, document_of}
-use Rattle.plain_tab.specs.Sole.{Each}
+use Rattle.each_facts.specs.Items.{Each}
 use Rattle.std.specs.Prelude.{Option, Some, false, is_some, true, ◌≡◌}
 use Rattle.tab_ids.specs.declared.DocId.{DocId}
 use Rattle.tab_ids.specs.declared.EntryId.{EntryId}

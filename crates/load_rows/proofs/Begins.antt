@@ -11,8 +11,10 @@ use Rattle.log_model.specs.declared.row_kind.Actor.{Actor}
 use Rattle.log_model.specs.declared.row_kind.LogRow.{LogRow}
 use Rattle.seen_laws.proofs.Sendings.{both, led_follows}
 use Rattle.seen_laws.specs.Blocks.{Here, MayLog, Passes, point_at}
+use Rattle.seen_laws.specs.Owing.{Pays, owes_row}
 use Rattle.seen_laws.specs.Sending.{is_led}
 use Rattle.std.proofs.Common.{Bool, List, None, Option, Some, [], ap, cond, drop, false, refl, sym, take, true, ℕ, zero, suc, ◌++◌, ◌-◌, ◌==◌, ◌∙◌, ◌∷◌, ◌≡◌}
+use Rattle.std.proofs.lemmas.Bool.{and_parts}
 use Rattle.std.proofs.lemmas.List.{take-append-drop}
 use Rattle.std.proofs.lemmas.List.Elements.{filter_map-append}
 use Rattle.std.specs.List.{prefix_len}
@@ -69,6 +71,23 @@ begin_load_may h event actor req nav mode address q led is later rest = (passes,
           in_time = refl;
           suits = refl;
         }
+
+-- it asks no document any more, and owes that no earlier load is ongoing as the event ends
+pub begin_load_owing : (h : Here) (event : ℕ) (actor : Actor) (req : ReqId) (nav : NavId) (mode : Mode) (address : List ℕ) (q : Asked) → is_led h.done ≡ true → IsLoadToBegin h req nav mode address q → MayLog h (begun_row event actor req ∷ []) (λ later. (filter_map (question_in req) later ≡ []) × Pays h (begun_row event actor req ∷ []) later)
+begin_load_owing h event actor req nav mode address q led is later both_ =
+    begin_load_may h event actor req nav mode address q led is later (both_.0, alone)
+  where
+    end : Seen
+    end = fold after (after h.now (begun_row event actor req)) later
+
+    owed : owes_row h (begun_row event actor req) end ≡ true
+    owed = (and_parts (owes_row h (begun_row event actor req) end) true both_.1).0
+
+    its : owes_row h (begun_row event actor req) end ≡ has_no_earlier_load end req nav
+    its = rw is.at (rw is.what (rw is.number refl))
+
+    alone : has_no_earlier_load end req nav ≡ true
+    alone = sym its ∙ owed
 
 -- ---- after that row
 

@@ -17,7 +17,7 @@ use Rattle.log_model.specs.declared.row_kind.Actor.{Actor}
 use Rattle.log_model.specs.declared.row_kind.RowKind.{RowKind}
 use Rattle.passes.proofs.Takers.{AllAskAlike, IsPlainRow, applied_asked, found_or, plain_asked_alike}
 use Rattle.passes.specs.Sweeping.{IsAdder, NoTraversalAdded}
-use Rattle.plain_tab.proofs.TabRows.{still_there}
+use Rattle.each_facts.proofs.Earlier.{still_there}
 use Rattle.seen_laws.proofs.Keyed.{find_map}
 use Rattle.std.proofs.Common.{Bool, List, None, Option, Some, [], ap, cond, false, inl, inr, length, map, not, refl, sym, true, ℕ, ◌&&◌, ◌++◌, ◌+◌, ◌==◌, ◌∙◌, ◌∷◌, ◌≡◌, ◌⊎◌}
 use Rattle.std.specs.List.{list_any}

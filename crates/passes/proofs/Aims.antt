@@ -1,5 +1,5 @@
 -- The aim, and the length and index that are due, as the tables tell of them.
-use Rattle.plain_tab.proofs.Calms.{none_passes, only_passes}  -- keep
+use Rattle.each_facts.proofs.Runs.{none_passes, only_passes}  -- keep
 use Rattle.doors.proofs.Histories.{log_steps}
 use Rattle.doors.specs.Look.{moved_by}
 use Rattle.doors.specs.Working.{HasGoal}
@@ -13,8 +13,8 @@ use Rattle.log_model.specs.Places.{aim_of, has_passed_with, is_gone, is_moved_in
 use Rattle.log_model.specs.Seen.{Asked, Seen, request_in}
 use Rattle.log_model.specs.declared.row.Row.{Row}
 use Rattle.passes.specs.Passing.{aim_in}
-use Rattle.plain_tab.proofs.Calms.{at_place}
-use Rattle.plain_tab.specs.Calm.{OnlyRuns, is_run}
+use Rattle.each_facts.proofs.Runs.{at_place}
+use Rattle.each_facts.specs.Runs.{OnlyRuns, is_run}
 use Rattle.rest_facts.proofs.Stands.{get_of}
 use Rattle.std.proofs.Common.{Bool, List, None, Option, Some, [], ap, cond, false, inl, inr, refl, subst, sym, true, ℕ, ◌&&◌, ◌+◌, ◌∙◌, ◌∷◌, ◌≡◌}
 use Rattle.std.specs.Option.{option_map_or}

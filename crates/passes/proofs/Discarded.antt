@@ -5,7 +5,7 @@ use Rattle.doors.proofs.Sights.{IsSeen, seen_of, sight_of}  -- keep
 use Rattle.doors.proofs.Holding.{HasNode, its_node}  -- keep
 use Rattle.doors.specs.Orders.{MayDiscard}  -- keep
 use Rattle.doors.specs.Working.{IsAtWork, KeepsStore}  -- keep
-use Rattle.coord.specs.Showing.{AreThere}  -- keep
+use Rattle.doors.specs.Sleeping.{AreThere}  -- keep
 use Rattle.nav_tree.specs.declared.place.Place as live  -- keep
 use Rattle.nav_tree.specs.Tree.{discarded, document_of as live_document}  -- keep
 use Rattle.log_model.specs.Seen.{document_of}  -- keep
@@ -51,7 +51,7 @@ use Rattle.log_model.specs.declared.row_kind.LogRow.{LogRow}
 use Rattle.log_model.specs.declared.row_kind.RowKind.{RowKind}
 use Rattle.passes.specs.Passing.{AreCounted, HasRoom, IsPassing, IsTopShown, ended_count}
 use Rattle.passes.specs.Serving.{IsServable, IsSwept}
-use Rattle.plain_tab.specs.Calm.{is_this}
+use Rattle.each_facts.specs.Runs.{is_this}
 use Rattle.rest_facts.proofs.Stands.{all_requests}
 use Rattle.rest_facts.proofs.Still.{found_itself}
 use Rattle.seen_laws.specs.InEvent.{InEvent, now_of, row_of}

@@ -3,7 +3,7 @@ use Rattle.log_model.specs.Places.{has_passed_with, is_gone}  -- keep
 use Rattle.passes.proofs.Aims.{passed_is, running_is}  -- keep
 use Rattle.passes.specs.Serving.{MayCause, MayServe, show_why}  -- keep
 use Rattle.log_model.specs.Places.{is_traversal, is_under_way}  -- keep
-use Rattle.plain_tab.specs.Calm.{is_run, is_this}  -- keep
+use Rattle.each_facts.specs.Runs.{is_run, is_this}  -- keep
 use Rattle.log_model.specs.Checks.{is_checked}  -- keep
 use Rattle.log_model.specs.ActsAtOnce.{is_for_passed}  -- keep
 use Rattle.seen_laws.specs.Sending.{is_passed}  -- keep

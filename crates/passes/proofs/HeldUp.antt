@@ -19,7 +19,7 @@ use Rattle.log_model.specs.declared.outcome.Cause.{Cause}
 use Rattle.log_model.specs.declared.outcome.Denial.{Denial}
 use Rattle.log_model.specs.declared.row_kind.Actor.{Actor}
 use Rattle.passes.specs.Holding.{AreHeldOf, AreHeldUp}
-use Rattle.plain_tab.proofs.Courses.{was_asked}
+use Rattle.each_facts.proofs.Courses.{was_asked}
 use Rattle.request_facts.proofs.LookUps.{on_itself}
 use Rattle.request_facts.proofs.Readers.{SameReads, on_read, sent_reads}
 use Rattle.std.proofs.Common.{Bool, List, None, Option, Some, [], ap, arith, cond, false, not, refl, subst, sym, true, ℕ, ◌++◌, ◌==◌, ◌||◌, ◌∙◌, ◌∷◌, ◌≡◌}

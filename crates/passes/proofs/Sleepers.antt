@@ -2,7 +2,7 @@
 use Rattle.doors.specs.declared.tables.Tables.{Tables}  -- keep
 use Rattle.plan_laws.specs.Held.{AreAbove, StandFor}  -- keep
 use Rattle.rest_facts.proofs.Stands.{get_of}  -- keep
-use Rattle.coord.specs.Showing.{AreThere}  -- keep
+use Rattle.doors.specs.Sleeping.{AreThere}  -- keep
 use Rattle.hang_facts.proofs.Members.{find_has as found_has}  -- keep
 use Rattle.plan_laws.proofs.Ways.{numbers}  -- keep
 use Rattle.nav_tree.specs.declared.status.NavStatus.TheVariants as kept  -- keep

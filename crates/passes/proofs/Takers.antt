@@ -21,8 +21,8 @@ use Rattle.log_model.specs.declared.row.Row.{Row}
 use Rattle.log_model.specs.declared.row_kind.Actor.{Actor}
 use Rattle.log_model.specs.declared.row_kind.RowKind.{RowKind}
 use Rattle.passes.specs.Sweeping.{NoTraversalTook}
-use Rattle.plain_tab.proofs.Courses.{is_asked}
-use Rattle.plain_tab.proofs.TabRows.{still_there}
+use Rattle.each_facts.proofs.Courses.{is_asked}
+use Rattle.each_facts.proofs.Earlier.{still_there}
 use Rattle.request_facts.proofs.Readers.{IsBlind, SameReads, delivered_reads, finished_reads, on_read, reads_then, sent_reads}
 use Rattle.seen_laws.proofs.Keyed.{find_map}
 use Rattle.std.proofs.Common.{Bool, List, None, Option, Some, [], ap, cond, false, inl, inr, length, map, not, refl, sym, true, ℕ, ◌&&◌, ◌++◌, ◌+◌, ◌==◌, ◌∙◌, ◌∷◌, ◌≡◌, ◌⊎◌}

@@ -6,7 +6,7 @@ use Rattle.doors.specs.Ties.{AreTied, IsHome}  -- keep
 use Rattle.doors.specs.Orders.{IsThere}  -- keep
 use Rattle.hang_facts.proofs.Hung.{places_distinct}  -- keep
 use Rattle.doors.specs.declared.tables.Tables.{Tables}  -- keep
-use Rattle.coord.specs.Ties.{IsAwakeIn, status_of}
+use Rattle.doors.specs.Ties.{IsAwakeIn, status_of}
 use Rattle.coord_facts.specs.Leading.{EachIsOfItsNavigable}
 use Rattle.doors.proofs.Holding.{IsThat, awake_home, its_place}
 use Rattle.doors.specs.Look.{Sight, look_of, moved_by, sight}

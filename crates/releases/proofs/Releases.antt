@@ -21,7 +21,7 @@ use Rattle.move_queue.specs.declared.queue_step.QueueStep.{QueueStep}
 use Rattle.passes.proofs.Goings.{goes_on}
 use Rattle.passes.specs.Passing.{InPass}
 use Rattle.passes.specs.Serving.{MayCause, MayServe}
-use Rattle.plain_tab.proofs.Courses.{is_asked, was_asked}
+use Rattle.each_facts.proofs.Courses.{is_asked, was_asked}
 use Rattle.releases.proofs.Endings.{IsEnding, is_ending}
 use Rattle.releases.proofs.Waits.{IsHeld, IsHeldFirst, for_taking, held_first, is_held, none_held, others_apart, traversed_on, unjoined}
 use Rattle.releases.specs.Releasing.{EndsEach, HasReleased, HoldsParked, IsReleasing}

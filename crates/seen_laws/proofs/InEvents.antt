@@ -1,5 +1,5 @@
 -- One row more in an event.
-use Rattle.std.proofs.Common.{◌≡◌, Bool, true, false, cond, ◌||◌, Option, None, List, [], ◌∷◌, ◌++◌, map, refl, sym, ap, ◌∙◌, subst, append_assoc, append-nil}
+use Rattle.std.proofs.Common.{◌≡◌, Bool, true, false, cond, ◌||◌, Option, None, List, [], ◌∷◌, ◌++◌, map, fold, refl, sym, ap, ◌∙◌, subst, append_assoc, append-nil}
 use Rattle.std.proofs.lemmas.List.{map-append}
 use Rattle.log_model.specs.declared.row_kind.LogRow.{LogRow}
 use Rattle.log_model.specs.declared.row_kind.RowKind.{RowKind}
@@ -30,6 +30,24 @@ here_more e out kind = ap (λ (rows : List LogRow). on_rows (first_of e) rows) (
 pub now_more : (e : InEvent) (out : List RowKind) (kind : RowKind) → now_of e (out ++ kind ∷ []) ≡ after (now_of e out) (row_of e kind)
 unfolding now_of
 now_more e out kind = ap (λ (h : Here). h.now) (here_more e out kind)
+
+-- the event's own row alone
+pub now_own : (e : InEvent) → now_of e [] ≡ after e.start (row_of e e.own)
+unfolding now_of
+now_own e = refl
+
+-- the event one row on
+pub next_now : (e : InEvent) (out more : List RowKind) (kind : RowKind) → more ≡ out ++ kind ∷ [] → now_of e more ≡ after (now_of e out) (row_of e kind)
+next_now e out more kind is = ap (λ (l : List RowKind). now_of e l) is ∙ now_more e out kind
+
+-- all rows of the event
+fold_rows : (h : Here) (rows : List LogRow) → (on_rows h rows).now ≡ fold after h.now rows
+fold_rows h [] = refl
+fold_rows h (row ∷ rows) = fold_rows (on_row h row) rows
+
+pub now_fold : (e : InEvent) (out : List RowKind) → now_of e out ≡ fold after e.start (row_of e e.own ∷ map (row_of e) out)
+unfolding now_of
+now_fold e out = fold_rows (start_of e) (row_of e e.own ∷ map (row_of e) out)
 
 -- a row that asks no document
 abbrev pub IsQuiet : InEvent → RowKind → Type 0
@@ -79,20 +97,6 @@ legal_more e out kind quiet legal may = legal_more_owing e out kind quiet legal 
 abbrev pub AsksNoMore : RowKind → List LogRow → Type 0
 AsksNoMore kind later = (req : ReqId) → begins req kind ≡ true → filter_map (question_in req) later ≡ []
 
-any_last : (test : RowKind → Bool) (out : List RowKind) (kind : RowKind) → test kind ≡ true → list_any test (out ++ kind ∷ []) ≡ true
-any_last test [] kind e = or_left (test kind) false e
-any_last test (k ∷ out) kind e = or_right (test k) (any_last test out kind e)
-  where
-    or_right : (a : Bool) {b : Bool} → b ≡ true → (a || b) ≡ true
-    or_right true f = refl
-    or_right false f = f
-
--- a row with which a request begins that asks no document
-pub legal_more_begun : (e : InEvent) (out : List RowKind) (kind : RowKind) → IsQuiet e kind → AreLegal e out → MayLog (here_of e out) (row_of e kind ∷ []) (AsksNoMore kind) → AreLegal e (out ++ kind ∷ [])
-unfolding AreLegal
-legal_more_begun e out kind quiet legal may =
-    subst (λ (rows : List LogRow). MayLog (start_of e) (row_of e e.own ∷ rows) (IsRest e (out ++ kind ∷ []))) (sym (map-append (row_of e) out (kind ∷ []))) (λ later rest. let parts = rest_more e out kind quiet later rest in each_pass_append (start_of e) (row_of e e.own ∷ map (row_of e) out) (row_of e kind ∷ []) later (legal (row_of e kind ∷ later) parts.0) (may later (λ req began. rest.asks req (any_last (begins req) out kind began))))
-
 -- at the event's end nothing comes later
 pub legal_end : (e : InEvent) (out : List RowKind) → AreLegal e out → IsPaid e out → IsTakenIn e (map (row_of e) out) → EachPass (start_of e) (row_of e e.own ∷ map (row_of e) out) []
 unfolding AreLegal
@@ -127,11 +131,6 @@ led_here e out own = done_led (first_of e) (map (row_of e) out) own
 
 -- ---- where nothing is owed
 
--- a row that owes nothing
-pub clear_more : (e : InEvent) (out : List RowKind) (kind : RowKind) → ((h : Here) (end : Seen) → owes_row h (row_of e kind) end ≡ true) → IsClear e out → IsClear e (out ++ kind ∷ [])
-clear_more e out kind none clear end =
-    subst (λ (l : List LogRow). owes (start_of e) (row_of e e.own ∷ l) end ≡ true) (sym (map-append (row_of e) out (kind ∷ []))) (owes_append (start_of e) (row_of e e.own ∷ map (row_of e) out) (row_of e kind ∷ []) end ∙ rw (clear end) (rw (none (on_rows (start_of e) (row_of e e.own ∷ map (row_of e) out)) end) refl))
-
--- then all is paid
+-- all is paid
 pub clear_paid : (e : InEvent) (out : List RowKind) → IsClear e out → IsPaid e out
 clear_paid e out clear = clear (here_of e out).now

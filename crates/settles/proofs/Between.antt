@@ -20,7 +20,7 @@ use Rattle.move_queue.specs.declared.queue_step.QueueStep.{QueueStep}
 use Rattle.passes.proofs.Goings.{runs_there}
 use Rattle.passes.specs.Passing.{InPass}
 use Rattle.passes.specs.Serving.{IsSwept}
-use Rattle.plain_tab.proofs.Calms.{at_place}
+use Rattle.each_facts.proofs.Runs.{at_place}
 use Rattle.rest_facts.proofs.Seated.{all_has}
 use Rattle.seen_laws.proofs.Sendings.{both}
 use Rattle.seen_laws.specs.InEvent.{now_of}

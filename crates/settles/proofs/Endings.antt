@@ -12,8 +12,8 @@ use Rattle.log_model.specs.declared.row_kind.Actor.{Actor}
 use Rattle.log_model.specs.declared.row_kind.RowKind.{RowKind}
 use Rattle.passes.proofs.Goings.{goes_on}
 use Rattle.passes.specs.Serving.{MayCause}
-use Rattle.plain_tab.proofs.Courses.{applied_courses, ended_courses, is_asked, was_asked}
-use Rattle.plain_tab.specs.Courses.{Course, course}
+use Rattle.each_facts.proofs.Courses.{applied_courses, ended_courses, is_asked, was_asked}
+use Rattle.each_facts.specs.Courses.{Course, course}
 use Rattle.releases.proofs.Endings.{by_end}
 use Rattle.releases.specs.Releasing.{EndsEach}
 use Rattle.request_facts.proofs.Readers.{SameReads, reads_then}

@@ -1,5 +1,5 @@
 -- What a document made is applied: what the door asks, and that all goes on.
-use Rattle.coord.specs.Ties.{IsAwakeIn}
+use Rattle.doors.specs.Ties.{IsAwakeIn}
 use Rattle.coord_facts.proofs.Unread.{next}
 use Rattle.doors.specs.Dues.{IsTakeDue, KeepsRows, MayChange}
 use Rattle.doors.specs.Ties.{status_of}

@@ -23,7 +23,7 @@ use Rattle.log_model.specs.declared.job.Why.TheVariants as whys
 use Rattle.log_model.specs.declared.made.Made.{Made}
 use Rattle.log_model.specs.declared.outcome.Cause.{Cause}
 use Rattle.log_model.specs.declared.row_kind.RowKind.{RowKind}
-use Rattle.plain_tab.specs.Between.{IsMover}
+use Rattle.each_facts.specs.Moving.{IsMover}
 use Rattle.request_facts.proofs.Endings.{due_small}
 use Rattle.request_facts.specs.Whereabouts.{times, times_at}
 use Rattle.seen_laws.proofs.Sums.{over}

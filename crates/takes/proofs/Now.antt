@@ -28,7 +28,7 @@ use Rattle.log_model.specs.Queue.{is_taken_up_at_once}
 use Rattle.log_model.specs.Seen.{Asked, Document, Place, Seen, Status, asleep, awake, desk_of, document_of, lost, place_of, request_in}
 use Rattle.log_model.specs.declared.made.Made.{Made}
 use Rattle.log_model.specs.declared.row_kind.RowKind.{RowKind}
-use Rattle.plain_tab.specs.Calm.{is_run, is_this}
+use Rattle.each_facts.specs.Runs.{is_run, is_this}
 use Rattle.seen_laws.proofs.Keyed.{find_has as seen_number}
 use Rattle.seen_laws.specs.InEvent.{InEvent, now_of}
 use Rattle.passes.specs.Settling.{IsSettling}

@@ -16,7 +16,7 @@ use Rattle.nav_tree.specs.Tree.{node_of}
 use Rattle.nav_tree.specs.declared.node.Node.{Node}
 use Rattle.nav_tree.specs.declared.status.NavStatus.{NavStatus}
 use Rattle.nav_tree.specs.declared.status.NavStatus.TheVariants as kept
-use Rattle.plain_tab.specs.Calm.{is_this}
+use Rattle.each_facts.specs.Runs.{is_this}
 use Rattle.seen_laws.specs.InEvent.{InEvent, now_of}
 use Rattle.passes.specs.Settling.{IsSettling}
 use Rattle.std.proofs.Common.{Bool, List, None, Option, Some, ap, false, map, refl, subst, sym, true, ◌&&◌, ◌==◌, ◌∙◌, ◌≡◌}

@@ -1,5 +1,5 @@
 -- The traversal that waits first begins, or is refused where its delta leads nowhere; and all goes on then.
-use Rattle.plain_tab.specs.Calm.{is_this}
+use Rattle.each_facts.specs.Runs.{is_this}
 use Rattle.passes.proofs.Adders.{plain_added}
 use Rattle.passes.proofs.HeldUp.{none_held_up}
 use Rattle.passes.proofs.Takers.{plain_took}

@@ -37,7 +37,7 @@ use Rattle.log_model.specs.declared.row_kind.RowKind.{RowKind}
 use Rattle.move_queue.specs.declared.queue_step.QueueStep.{QueueStep}
 use Rattle.passes.proofs.Needing.{aims}
 use Rattle.passes.specs.Passing.{aim_in}
-use Rattle.plain_tab.specs.Calm.{is_run}
+use Rattle.each_facts.specs.Runs.{is_run}
 use Rattle.request_facts.specs.Knowns.{is_go}
 use Rattle.seen_laws.proofs.InEvents.{now_more}
 use Rattle.seen_laws.specs.InEvent.{InEvent, now_of}

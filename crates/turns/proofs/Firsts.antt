@@ -18,8 +18,8 @@ use Rattle.log_model.specs.Seen.{Asked, Document, Place, Seen, document_of, requ
 use Rattle.log_model.specs.declared.made.Made.{Made}
 use Rattle.log_model.specs.declared.request.Request.{Request}
 use Rattle.move_queue.specs.declared.queue_step.QueueStep.{QueueStep}
-use Rattle.plain_tab.proofs.Calms.{at_place}
-use Rattle.plain_tab.specs.Calm.{is_run}
+use Rattle.each_facts.proofs.Runs.{at_place}
+use Rattle.each_facts.specs.Runs.{is_run}
 use Rattle.request_facts.proofs.Alls.{all_first}
 use Rattle.request_facts.proofs.Endings.{due_small}
 use Rattle.request_facts.proofs.Readers.{SameReads}

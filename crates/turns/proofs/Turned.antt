@@ -13,9 +13,9 @@ use Rattle.log_model.specs.declared.job.Why.{Why}
 use Rattle.log_model.specs.declared.row_kind.RowKind.{RowKind}
 use Rattle.passes.proofs.Goings.{goes_on}
 use Rattle.passes.specs.Serving.{MayCause}
-use Rattle.plain_tab.proofs.Calms.{each_asked_on}
-use Rattle.plain_tab.proofs.Courses.{was_asked, is_asked}
-use Rattle.plain_tab.specs.Calm.{EachAsked}
+use Rattle.each_facts.proofs.Runs.{each_asked_on}
+use Rattle.each_facts.proofs.Courses.{was_asked, is_asked}
+use Rattle.each_facts.specs.Runs.{EachAsked}
 use Rattle.request_facts.proofs.Readers.{SameReads}
 use Rattle.request_facts.specs.Cores.{Core, core, core_of}
 use Rattle.request_facts.specs.Knowns.{AllOf, AreKnown, IsParked, is_go, req_itself}

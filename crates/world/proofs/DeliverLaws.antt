@@ -14,7 +14,7 @@ use Rattle.log_model.specs.Logs.{seen_of}
 use Rattle.log_model.specs.Seen.{Seen, Desk, Document, Place, desk_of}
 use Rattle.history_log.proofs.DeskLaws.{desk_of-after}
 use Rattle.frame_tab.specs.Desks.{IsReportTo}
-use Rattle.plain_tab.proofs.Eaches.{each_first}
+use Rattle.each_facts.proofs.Eaches.{each_first}
 use Rattle.frame_acts.proofs.Homes.{report_home}
 use Rattle.seen_laws.specs.InEvent.{InEvent}
 use Rattle.frame_coord.specs.Standing.{HasActed, HasRoomFor, IsDelivery, StandsFor}

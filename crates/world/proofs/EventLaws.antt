@@ -20,9 +20,9 @@ use Rattle.log_model.proofs.Refl.{nat_eq_refl}
 use Rattle.seen_laws.specs.InEvent.{InEvent, first_of, now_of}
 use Rattle.seen_laws.specs.Sending.{leads}
 use Rattle.seen_laws.proofs.Sendings.{both}
-use Rattle.coord.specs.Ending.{IsWorker}
+use Rattle.doors.specs.Working.{IsWorker}
 use Rattle.frame_coord.specs.Standing.{HasActed}
-use Rattle.coord.proofs.EventLaws.{now_fold}
+use Rattle.seen_laws.proofs.InEvents.{now_fold}
 use Rattle.frame_acts.proofs.EventLaws.{event_keeps}
 use Rattle.world.specs.declared.state.State.{State}
 use Rattle.world.specs.Asking.{event_of}

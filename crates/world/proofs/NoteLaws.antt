@@ -18,7 +18,7 @@ use Rattle.log_model.specs.Views.{View}
 use Rattle.history_log.proofs.DeskLaws.{desk_of-after}
 use Rattle.seen_laws.specs.Blocks.{Here, EachPass, point_at, on_row, on_rows}
 use Rattle.seen_laws.specs.Sending.{leads}
-use Rattle.coord.specs.Ending.{IsWorker}
+use Rattle.doors.specs.Working.{IsWorker}
 use Rattle.proc_tables.specs.Desks.{desk_noted}
 use Rattle.world.specs.Notes.{endings_noted, row_with}
 use Rattle.world.specs.Open.{first_document, endings_of, process_in, view_in}

@@ -12,7 +12,7 @@ use Rattle.log_model.specs.Seen.{Seen, Document, Desk, Asked, desk_of, document_
 use Rattle.log_model.specs.Views.{View}
 use Rattle.history_log.proofs.StillLaws.{all_still, busy_found}
 use Rattle.seen_laws.proofs.Sendings.{both}
-use Rattle.plain_tab.specs.Calm.{EachAsked}
+use Rattle.each_facts.specs.Runs.{EachAsked}
 use Rattle.frame_tab.specs.Asking.{IsPlainlyAsked}
 use Rattle.frame_tab.specs.Desks.{IsBare}
 use Rattle.tab_ids.specs.declared.DocId.{DocId}

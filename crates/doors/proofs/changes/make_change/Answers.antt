@@ -1,6 +1,6 @@
 use Rattle.seen_laws.specs.InEvent.{now_of}
 use Rattle.doors.proofs.changes.make_change.Goals as goal
-use Rattle.coord.proofs.Histories.{may_here, changed_same, only_memory, room_here}
+use Rattle.doors.proofs.Histories.{may_here, changed_same, only_memory, room_here}
 
 pub apply-requires-clause-may : goal.apply-requires-clause-may
 apply-requires-clause-may g c = may_here c.args.store.now (now_of g.e c.args.out.now).history c.args.change.now c.requires.0 c.requires.1.fits c.requires.1.numbers

@@ -1,8 +1,12 @@
-use Rattle.coord.proofs.Asks.{not_some}
 use Rattle.settles.proofs.Begun.{going_begun}
 use Rattle.settles.proofs.Grown.{grown_taken}
 use Rattle.settles.proofs.turning.begin.Goals as goal
-use Rattle.std.proofs.Common.{sym, ◌∙◌}
+use Rattle.std.proofs.Common.{◌≡◌, false, Option, Some, None, refl, sym, ◌∙◌}
+use Rattle.std.specs.Prelude.{is_some}
+
+not_some : {A : Type 0} (o : Option A) → is_some o ≡ false → o ≡ None
+not_some None e = refl
+not_some (Some x) e = cc
 
 pub returns-clause-going : goal.returns-clause-going
 returns-clause-going g c =

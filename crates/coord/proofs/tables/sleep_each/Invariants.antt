@@ -1,6 +1,0 @@
-use Rattle.std.proofs.Common.{◌≡◌, take}
-use Rattle.coord.specs.Showing.{sleep_all}
-use Rattle.coord.proofs.tables.sleep_each.Given as goal
-
-abbrev pub invariant-loop-i : goal.invariant-loop-i
-invariant-loop-i l = l.tree ≡ sleep_all (take l.i l.navs) l.why l.fn.tree

@@ -1,0 +1,31 @@
+-- The navigables that fall asleep are there, one by one.
+use Rattle.std.proofs.Common.{◌≡◌, ℕ, ◌+◌, zero, suc, List, [], ◌∷◌, take, Option, Some, None, refl, sym, ap, ◌∙◌, subst}
+use Rattle.std.specs.Prelude.{option_map, slice_get}
+use Rattle.std.specs.Option.{IsSome}
+use Rattle.std.proofs.lemmas.List.Sums.{fold-append}
+use Rattle.tab_ids.specs.declared.NavId.{NavId}
+use Rattle.log_model.specs.declared.job.Why.{Why}
+use Rattle.nav_tree.specs.declared.node.Node.{Node}
+use Rattle.nav_tree.specs.Tree.{Tree, node_of, with_nav, put_to_sleep}
+use Rattle.nav_tree.proofs.Lists.{take-slice_get}
+use Rattle.doors.specs.Sleeping.{sleep_all, AreThere}
+use Rattle.doors.proofs.Nodes.{node_sleep_all}
+
+mapped_there : (f : Node → Node) (o : Option Node) → IsSome o → IsSome (option_map f o)
+mapped_there f None is = cc
+mapped_there f (Some node) is = refl
+
+pub there_still : (navs : List NavId) (why : Why) (other : NavId) (tree : Tree) → IsSome (node_of other tree) → IsSome (node_of other (sleep_all navs why tree))
+there_still navs why other tree is = rw (node_sleep_all navs why other tree) (mapped_there _ (node_of other tree) is)
+
+there_at : (tree : Tree) (navs : List NavId) (i : ℕ) (nav : NavId) → slice_get navs i ≡ Some nav → AreThere tree navs → IsSome (node_of nav tree)
+there_at tree [] i nav e are = cc
+there_at tree (n ∷ navs) zero nav e are = let same : n ≡ nav = cc in subst (λ (m : NavId). IsSome (node_of m tree)) same are.0
+there_at tree (n ∷ navs) (suc i) nav e are = there_at tree navs i nav e are.1
+
+pub sleeper_there : (tree : Tree) (navs : List NavId) (why : Why) (i : ℕ) (nav : NavId) → AreThere tree navs → slice_get navs i ≡ Some nav → IsSome (node_of nav (sleep_all (take i navs) why tree))
+sleeper_there tree navs why i nav are e = there_still (take i navs) why nav tree (there_at tree navs i nav e are)
+
+pub one_more : (tree : Tree) (navs : List NavId) (why : Why) (i : ℕ) (nav : NavId) → slice_get navs i ≡ Some nav → with_nav (put_to_sleep why) nav (sleep_all (take i navs) why tree) ≡ sleep_all (take (i + 1) navs) why tree
+one_more tree navs why i nav e =
+    sym (ap (λ (l : List NavId). sleep_all l why tree) (take-slice_get navs i nav e) ∙ fold-append (λ (t : Tree) (n : NavId). with_nav (put_to_sleep why) n t) tree (take i navs) (nav ∷ []))

@@ -1,0 +1,5 @@
+pub mod Runs
+pub mod Items
+pub mod Mades
+pub mod Moving
+pub mod Courses
