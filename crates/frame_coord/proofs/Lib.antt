@@ -13,6 +13,7 @@ pub mod Placings
 pub mod Reports
 pub mod Reached
 pub mod Poked
+pub mod NotAlone
 pub mod ShownLaws
 pub mod Alike
 pub mod Rests

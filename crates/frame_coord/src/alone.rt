@@ -1,8 +1,6 @@
 //! Which navigable may need something as a document is made.
-ghost use Rattle.std.specs.Prelude.{IfOk, IfSome};
-ghost use Rattle.log_model.specs.Seen.{Seen};
-ghost use Rattle.frame_coord.specs.Alone.{IsAlone};
-ghost use Rattle.frame_coord.specs.Standing.{StandsFor};
+ghost use Rattle.std.specs.Prelude.{IfOk};
+ghost use Rattle.frame_coord.specs.Alone.{IsToldAlone};
 
 use crate::coordinator::Coordinator;
 use address::OutOfMemory;
@@ -10,9 +8,9 @@ use entry_store::Store;
 use tab_ids::{DocId, NavId, StateId};
 
 impl Coordinator {
-    /// The document's navigable, where it is the one that may need something as the document is made for its state: no traversal runs, the state is that of its entries, and no entry hangs on that state.
+    /// The document's navigable, where it is the one that may need something as the document is made for its state: no traversal runs, the state is that of its entries, and no entry hangs on that state. None where that isn't so.
     pub(crate) fn alone_for(&self, doc: DocId, state: StateId) -> Result<Option<NavId>, OutOfMemory>
-        ensures { IfOk result (λ found. IfSome found (λ nav. (s : Seen) → StandsFor s self.now → IsAlone s self.now doc state nav)) }
+        ensures { IfOk result (λ found. IsToldAlone self.now doc state found) }
     {
         if self.tables.running.is_some() {
             return Ok(None);

@@ -1,10 +1,7 @@
 use Rattle.frame_coord.proofs.Placings.{placed_due, placed_rested}
 use Rattle.frame_coord.proofs.coordinator.Coordinator.take_placed.Goals as goal
-use Rattle.frame_coord.specs.Alone.{IsAlone}
-use Rattle.frame_coord.specs.Standing.{StandsFor}
-use Rattle.log_model.specs.Seen.{Seen}
+use Rattle.frame_coord.specs.Alone.{IsAlone, IsToldAlone}
 use Rattle.std.proofs.Common.{Option, subst, ◌∙◌}
-use Rattle.std.specs.Prelude.{IfSome}
 use Rattle.tab_ids.specs.declared.NavId.{NavId}
 
 pub settle-requires : goal.settle-requires
@@ -13,7 +10,7 @@ settle-requires g c =
 
 pub settle_one-requires : goal.settle_one-requires
 settle_one-requires g c =
-    let told = subst (λ (o : Option NavId). IfSome o (λ nav. (s : Seen) → StandsFor s c.args.self.now → IsAlone s c.args.self.now c.args.job.now.doc c.args.state nav)) c.in-Some.is c.in_ok-alone.ensures in
+    let told = subst (λ (o : Option NavId). IsToldAlone c.args.self.now c.args.job.now.doc c.args.state o) c.in-Some.is c.in_ok-alone.ensures in
     let alone : IsAlone g.e.start c.args.self.now c.args.job.now.doc c.args.state c.in-Some.nav = told g.e.start c.requires.0.stands in (
       placed_due g.e c.args.self.now c.args.job.now c.requires.0 c.args.state c.requires.1.0 _ c.in_ok-note_made.ensures.placed c.in_ok-note_made.ensures.kept _ c.follows_from-cause.ensures _ c.requires.1.1,
       (
