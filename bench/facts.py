@@ -264,6 +264,9 @@ def try_load_documents(b):
         count('frozen', d.nr not in b.frozen or d.nr not in awake, d.nr)
         count('sole', d.discarded or not any(o is not d and o.state == d.state and not o.discarded for o in s.docs.values()), d.nr)
         count('of its state', all(r.nav == d.nav for r in s.H.rows if r.state == d.state), d.nr)
+        count('viewed', d.discarded or will_run(s, d) is not None, d.nr)
+        count('state of one', all(o.nav == d.nav for o in s.docs.values() if o.state == d.state), d.nr)
+    count('shown are there', ever_shown(s) <= set(s.docs) and awake - {None} <= ever_shown(s))
     count('states numbered', all(1 <= state <= b.states for state in states))
 
 
@@ -273,6 +276,7 @@ def try_ongoing(b, ends):
     for q in loads:
         docs = [d for d in s.docs.values() if d.state == q.lstate and not d.discarded]
         count('loading', q.made is None and q.frag_job is None and q.lstate not in states and q.lstate <= b.states, q.nr)
+        count('load placed', q.what.nav in s.place, q.nr)
         count('its documents', all(d.nav == q.what.nav and d.nr not in shown for d in docs) and len(docs) <= 1, q.nr)
         count('its document', not ends or len(docs) == 1, q.nr)
 
@@ -339,6 +343,16 @@ def waits_to_fragment(q):
     return q.outcome is None and q.made is None and q.frag_job is not None
 
 
+def try_fragments(s):
+    """But for the load whose order was just finished, of which the next row tells what was made."""
+    sent = [s.jobs[j].task.req for p in s.procs.values() for j in [*p.mail, *([] if p.hand is None else [p.hand])]
+            if s.jobs[j].task.kind == 'fragment']
+    for q in s.reqs.values():
+        count('fragment once', sent.count(q.nr) == waits_to_fragment(q), q.nr)
+        count('unsent unmade', q.kind != 'load' or q.frag_job is not None or q.made is None, q.nr)
+        count('loads wait', q.kind == 'load' or not waits_to_fragment(q), q.nr)
+
+
 class AtHand:
     """The loads at hand in the event, and those whose fragment order was reported in it."""
     def __init__(self):
@@ -400,6 +414,8 @@ def try_loads(log, keep):
         try_kept(b, ends, keep)
         try_places(b, ends)
         try_load_desks(b)
+        if ends or log[i + 1].kind != 'made':
+            try_fragments(b.s)
 
 
 for profile in PROFILES:

@@ -1,0 +1,6 @@
+pub mod Plainly
+pub mod Stays
+pub mod Rows
+pub mod Begun
+pub mod Orders
+pub mod Running

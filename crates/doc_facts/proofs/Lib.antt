@@ -1,0 +1,9 @@
+pub mod Makes
+pub mod Awakes
+pub mod Leaves
+pub mod Lives
+pub mod Rows
+pub mod Works
+pub mod Reports
+pub mod Orders
+pub mod Making

@@ -1,0 +1,291 @@
+-- All that holds of a tab between two events holds after a document acts on the first poke of its process, with no edit, and after the process refuses that poke.
+use Rattle.asked_facts.proofs.Rows.{made_plain, refused_plain}
+use Rattle.asked_facts.specs.Asking.{IsNoEditing, IsTabRequest}
+use Rattle.coord_facts.proofs.Flowings.{left_flows, made_flows}
+use Rattle.coord_facts.proofs.Held.{held_apart}
+use Rattle.coord_facts.proofs.Unread.{next, refused_held, refused_left}
+use Rattle.coord_facts.specs.Flowing.{Flows}
+use Rattle.desk_facts.proofs.Rows.{made_desks, unmade_desks}
+use Rattle.desk_facts.specs.Own as owning
+use Rattle.doc_facts.proofs.Rows.{made_docs, refused_docs}
+use Rattle.each_facts.proofs.Eaches.{each_first}
+use Rattle.each_facts.specs.Runs.{is_this}
+use Rattle.entry_facts.proofs.Ends.{refused_entries}
+use Rattle.entry_facts.proofs.Grounds.{faced_by}
+use Rattle.entry_facts.proofs.Makes.{IsMadeNew, IsToMake, poke_entries}
+use Rattle.entry_facts.proofs.Stays.{its_number}
+use Rattle.frame_events.proofs.Processes.{IsMadeByAction, made_of_action}
+use Rattle.frame_whole.proofs.FlowsAlike.{flows_if}
+use Rattle.frame_whole.specs.Beside.{IsQueued}
+use Rattle.hang_facts.proofs.Rows.{left_hangs}
+use Rattle.home_facts.proofs.Rows as homing
+use Rattle.kept_facts.proofs.Rows as keeping
+use Rattle.load_facts.proofs.Rows.{made_loading, refused_loading}
+use Rattle.load_facts.specs.Loading.{is_ongoing, look}
+use Rattle.load_whereabouts.proofs.Answered.{made_other}
+use Rattle.load_whereabouts.proofs.Ended.{poke_refused_loads}
+use Rattle.log_model.specs.After.{follows_finished}
+use Rattle.log_model.specs.Equal.{has_req}
+use Rattle.log_model.specs.Places.{goes, is_load, is_traversal, is_under_way}
+use Rattle.log_model.specs.Seen.{Asked, Document, Seen, desk_of, document_of, request_in, request_of}
+use Rattle.log_model.specs.Views.{View, made_by, made_for}
+use Rattle.log_model.specs.declared.made.What.{What}
+use Rattle.log_model.specs.declared.outcome.Denial.{Denial}
+use Rattle.log_model.specs.declared.request.Poke.{Poke}
+use Rattle.log_model.specs.declared.request.Request.{Request}
+use Rattle.mover_facts.proofs.Rows.{made_movers, refused_movers}
+use Rattle.place_facts.proofs.Rows.{made_standing, refused_standing}
+use Rattle.request_facts.proofs.Endings.{poke_refused_once}
+use Rattle.request_facts.proofs.KnownEnded.{poke_refused_known}
+use Rattle.request_facts.proofs.KnownMoved.{IsAlone, alone, first_poke, made_known}
+use Rattle.request_facts.proofs.Placings.{made_once}
+use Rattle.request_facts.proofs.Times.{times_none}
+use Rattle.request_facts.specs.Cores.{Core, core, core_of}
+use Rattle.request_facts.specs.Knowns.{IsPoke}
+use Rattle.request_facts.specs.Whereabouts.{is_of_load}
+use Rattle.rest_facts.proofs.Kept.{left_kept}
+use Rattle.seen_laws.specs.Acting.{IsToAct}
+use Rattle.std.proofs.Common.{Bool, None, Option, Some, [], ap, arith, false, refl, subst, sym, true, ℕ, ◌&&◌, ◌+◌, ◌==◌, ◌∙◌, ◌≡◌}
+use Rattle.std.proofs.lemmas.Bool.{eqb-true}
+use Rattle.std.proofs.lemmas.Bool.Decides.{nat_tests}
+use Rattle.std.specs.Prelude.{is_none, slice_get}
+use Rattle.tab_ids.specs.declared.DocId.{DocId}
+use Rattle.tab_ids.specs.declared.NavId.{NavId}
+use Rattle.tab_ids.specs.declared.ProcId.{ProcId}
+use Rattle.tab_ids.specs.declared.ReqId.{ReqId}
+use Rattle.tab_whole.proofs.Where.{nothing_goes}
+use Rattle.tab_whole.specs.Tab.{IsTab}
+use Rattle.transit_facts.proofs.Rows.{left_ways, made_ways}
+use Rattle.log_model.specs.declared.made.What.TheVariants as whats
+use Rattle.log_model.specs.declared.request.Request.TheVariants as requests
+use Rattle.log_model.specs.declared.row_kind.Actor.TheVariants as actors
+use Rattle.log_model.specs.declared.row_kind.RowKind.TheVariants as rows
+
+some_same : {A : Type 0} {a b : A} → (let o : Option A = Some a in o) ≡ Some b → a ≡ b
+some_same e = cc
+
+-- a new entry is the document's that made it
+its_own : (view : View) (what : What) → IsMadeNew view what → owning.IsItsOwn view.doc what
+its_own view (whats.Push entry memo address) new = rw new refl
+its_own view (whats.Replace over entry memo address) new = rw new.1 refl
+its_own view (whats.AddFrame nav) new = tt
+its_own view (whats.RemoveFrame nav) new = tt
+its_own view (whats.Go delta) new = tt
+its_own view whats.Edit never = absurd never
+
+module _ (run : Option ReqId) (s : Seen) (proc : ProcId) (tab : IsTab run [] [] s) (flows : Flows s) (poke : Poke) (first : slice_get (desk_of s proc).input 0 ≡ Some poke) where
+  -- the request of the poke
+  record Asks : Type 0 where
+    nav : NavId
+    q : Asked
+    there : request_in s.requests poke.req ≡ Some q
+    what : q.what ≡ requests.Poke nav poke.action
+    doc : q.doc ≡ Some poke.doc
+    unmade : q.made ≡ None
+    unended : q.ending ≡ None
+    fine : IsNoEditing poke.action
+
+  its_asked : Asks
+  its_asked = by_found (request_in s.requests poke.req) refl (first_poke s [] proc poke first tab.once tab.known)
+    where
+      by_found : (o : Option Asked) → request_in s.requests poke.req ≡ o → IsPoke (core_of o) poke → Asks
+      by_found None e k = (let never : None ≡ Some _ = k.is in absurd cc)
+      by_found (Some q) e k =
+          let same : core q ≡ record { what = requests.Poke k.nav poke.action; doc = Some poke.doc; made = None; ending = None } = some_same k.is in
+          let what : q.what ≡ requests.Poke k.nav poke.action = ap (λ (c : Core). c.what) same in
+          record {
+            nav = k.nav;
+            q = q;
+            there = e;
+            what = what;
+            doc = ap (λ (c : Core). c.doc) same;
+            unmade = ap (λ (c : Core). c.made) same;
+            unended = ap (λ (c : Core). c.ending) same;
+            fine = subst IsTabRequest what (tab.asked.each poke.req q e).what;
+          }
+
+  no_load : is_of_load (request_in s.requests poke.req) ≡ false
+  no_load = ap is_of_load its_asked.there ∙ ap is_load its_asked.what
+
+  its_place : IsAlone s proc poke.req
+  its_place = alone s [] proc poke first tab.once tab.known
+
+  -- it isn't held back, nor in the queue
+  pub unparked : has_req s.parked poke.req ≡ false
+  unparked = times_none poke.req s.parked its_place.parked
+
+  pub unjoined : has_req s.joined poke.req ≡ false
+  unjoined = times_none poke.req s.joined its_place.joined
+
+  -- the document of the poke lives in the process
+  lives : owning.LivesIn s.documents proc poke.doc
+  lives = each_first (owning.IsPokeIn s.documents proc) (desk_of s proc).input poke first (tab.desks proc).pokes
+
+  -- ---- its document acts
+
+  -- the document of the poke runs, with this view, and makes this of it
+  pub record IsActing (d : Document) (view : View) (what : What) : Type 0 where
+    pub found : document_of s poke.doc ≡ Some d
+    pub has : d.view ≡ Some view
+    pub runs : view.running ≡ true
+    pub makes : made_by view poke.action ≡ Some what
+
+  module _ (d : Document) (view : View) (what : What) (is : IsActing d view what) where
+    number : view.doc ≡ poke.doc
+    number =
+        (tab.docs.each poke.doc d is.found).live.viewed view is.has ∙ ap (λ (n : ℕ). let x : DocId = record { 0 = n } in x) (its_number s.documents poke.doc d is.found)
+
+    its_home : d.proc ≡ proc
+    its_home =
+        let one : lives.d ≡ d = some_same (sym lives.found ∙ is.found) in
+        let same : d.proc.0 ≡ proc.0 = ap (λ (x : Document). x.proc.0) (sym one) ∙ lives.home in
+        ap (λ (n : ℕ). let p : ProcId = record { 0 = n } in p) same
+
+    found : document_of s view.doc ≡ Some d
+    found = ap (λ (n : DocId). document_of s n) number ∙ is.found
+
+    acts : IsToAct s proc poke its_asked.q its_asked.nav d view
+    acts =
+        record {
+          first = first;
+          asked = its_asked.there;
+          unmade = its_asked.unmade;
+          unended = its_asked.unended;
+          asks = its_asked.what;
+          named = its_asked.doc ∙ ap (λ (n : DocId). Some n) (sym number);
+          there = found;
+          home = its_home;
+          has = is.has;
+          runs = is.runs;
+        }
+
+    by_action : IsMadeByAction view poke.action what
+    by_action = made_of_action view poke.action what its_asked.fine is.makes
+
+    abbrev pub acted : Seen
+    acted = next s s.events (actors.Proc proc) (rows.Made proc (made_for view poke.req what))
+
+    -- the row begins an event, so it isn't of an order that was just finished
+    anew : follows_finished s (record { event = s.events; actor = actors.Proc proc; row = rows.Made proc (made_for view poke.req what) }) ≡ false
+    anew = (let later : (s.events == (s.events + 1)) ≡ false = grind (arith, nat_tests) in rw later refl)
+
+    -- it is made
+    ready : d.is_ready ≡ true
+    ready = by_ready d.is_ready refl
+      where
+        by_ready : (b : Bool) → d.is_ready ≡ b → d.is_ready ≡ true
+        by_ready true e = e
+        by_ready false e =
+            let never : true ≡ false = sym is.runs ∙ (tab.docs.each poke.doc d is.found).live.unmade view is.has e in absurd cc
+
+    make : IsToMake [] s proc d view (made_for view poke.req what)
+    make =
+        record {
+          there = found;
+          home = its_home;
+          ready = ready;
+          has = is.has;
+          own = refl;
+          new = by_action.new;
+          unparked = unparked;
+          faced = faced_by s d view (made_for view poke.req what) flows found is.has refl;
+        }
+
+    made_in : owning.IsMadeIn s.documents proc (made_for view poke.req what)
+    made_in =
+        record {
+          lives = record { d = d; found = found; home = ap (λ (p : ProcId). p.0) its_home };
+          own = its_own view what by_action.new;
+        }
+
+    no_ongoing : (q : Asked) → request_of s poke.req ≡ Some q → is_ongoing (look q) ≡ false
+    no_ongoing q there =
+        let one : its_asked.q ≡ q = some_same (sym its_asked.there ∙ there) in
+        let other : is_load q.what ≡ false = ap (λ (x : Asked). is_load x.what) (sym one) ∙ ap is_load its_asked.what in
+        neither (q.is_started && is_none q.ending) (is_load q.what) other
+      where
+        neither : (a b : Bool) → b ≡ false → (a && b) ≡ false
+        neither true b e = e
+        neither false b e = refl
+
+    pub acted_flows : Flows acted
+    acted_flows =
+        made_flows s proc poke its_asked.q its_asked.nav d view what acts by_action.no_edit flows (held_apart s.requests s.parked poke.req (λ x. record x { made = Some (made_for view poke.req what) }) unparked)
+
+    pub acted_tab : IsTab run [] [] acted
+    acted_tab =
+        record {
+          sound = tab.sound;
+          hangs = left_hangs s s.events (actors.Proc proc) tab.hangs (rows.Made proc (made_for view poke.req what)) tt;
+          docs = made_docs s s.events (actors.Proc proc) tab.docs proc (made_for view poke.req what);
+          whose = left_kept s s.events (actors.Proc proc) tab.whose (rows.Made proc (made_for view poke.req what)) tt;
+          homes = homing.left_rows s s.events (actors.Proc proc) tab.homes (rows.Made proc (made_for view poke.req what)) tt;
+          kept = keeping.left_rows s s.events (actors.Proc proc) tab.kept (rows.Made proc (made_for view poke.req what)) tt;
+          standing = made_standing s s.events (actors.Proc proc) tab.standing proc (made_for view poke.req what);
+          movers = made_movers s s.events (actors.Proc proc) tab.movers proc (made_for view poke.req what);
+          asked = made_plain run s s.events (actors.Proc proc) tab.asked proc (made_for view poke.req what);
+          loading = made_loading s s.events (actors.Proc proc) tab.loading proc (made_for view poke.req what) no_ongoing;
+          once = made_once s [] s.events (actors.Proc proc) proc (made_for view poke.req what) poke first refl by_action.no_edit anew tab.once;
+          trips = made_other s [] s.events (actors.Proc proc) proc (made_for view poke.req what) poke first refl no_load anew tab.trips;
+          known = made_known s [] s.events (actors.Proc proc) proc (made_for view poke.req what) poke first refl (sym number) by_action.no_edit by_action.goes_ anew tab.once tab.known;
+          desks = made_desks s s.events (actors.Proc proc) tab.desks proc (made_for view poke.req what) made_in anew;
+          ways = made_ways s s.events (actors.Proc proc) tab.ways proc (made_for view poke.req what) anew;
+          entries = poke_entries [] s s.events (actors.Proc proc) tab.entries proc (made_for view poke.req what) d view make anew;
+          flows = flows_if acted acted_flows;
+        }
+
+  -- ---- its process refuses it
+
+  -- it isn't the running traversal, where that is in the queue
+  pub not_running : IsQueued run s → is_this run poke.req ≡ false
+  not_running queued = by_run run refl
+    where
+      by_run : (r : Option ReqId) → run ≡ r → is_this r poke.req ≡ false
+      by_run None e = refl
+      by_run (Some r) e = by_test (r.0 == poke.req.0) refl
+        where
+          by_test : (b : Bool) → (r.0 == poke.req.0) ≡ b → (r.0 == poke.req.0) ≡ false
+          by_test false h = h
+          by_test true h =
+              let n : r.0 ≡ poke.req.0 = eqb-true r.0 poke.req.0 h in
+              let one : r ≡ poke.req = ap (λ (i : ℕ). let x : ReqId = record { 0 = i } in x) n in
+              let never : true ≡ false = sym (queued r e) ∙ ap (λ (x : ReqId). has_req s.joined x) one ∙ unjoined in absurd cc
+
+  -- nor where it asks for none
+  pub not_going : goes poke.action ≡ false → is_this run poke.req ≡ false
+  not_going stays =
+      sym (tab.asked.only poke.req its_asked.q its_asked.there) ∙ ap (λ (what : Request). is_under_way its_asked.q && is_traversal what) its_asked.what ∙ neither (is_under_way its_asked.q) (goes poke.action) stays
+    where
+      neither : (a b : Bool) → b ≡ false → (a && b) ≡ false
+      neither true b e = e
+      neither false b e = refl
+
+  module _ (event : ℕ) (reason : Denial) where
+    abbrev pub unpoked : Seen
+    unpoked = next s event (actors.Proc proc) (rows.Refused poke.req reason)
+
+    pub unmade_flows : Flows unpoked
+    unmade_flows =
+        left_flows s unpoked (refused_left s event (actors.Proc proc) poke.req reason) refl refl refl (refused_held s event (actors.Proc proc) poke.req reason unparked) flows
+
+    pub unmade_tab : is_this run poke.req ≡ false → IsTab run [] [] unpoked
+    unmade_tab other =
+        record {
+          sound = tab.sound;
+          hangs = left_hangs s event (actors.Proc proc) tab.hangs (rows.Refused poke.req reason) tt;
+          docs = refused_docs s event (actors.Proc proc) tab.docs poke.req reason;
+          whose = left_kept s event (actors.Proc proc) tab.whose (rows.Refused poke.req reason) tt;
+          homes = homing.left_rows s event (actors.Proc proc) tab.homes (rows.Refused poke.req reason) tt;
+          kept = keeping.left_rows s event (actors.Proc proc) tab.kept (rows.Refused poke.req reason) tt;
+          standing = refused_standing s event (actors.Proc proc) tab.standing poke.req reason;
+          movers = refused_movers s event (actors.Proc proc) tab.movers poke.req reason;
+          asked = refused_plain run s event (actors.Proc proc) tab.asked poke.req reason other;
+          loading = refused_loading s event (actors.Proc proc) tab.loading poke.req reason;
+          once = poke_refused_once s [] event proc poke.req reason poke first refl tab.once;
+          trips = poke_refused_loads s [] event proc poke.req reason poke first refl no_load tab.trips;
+          known = poke_refused_known s [] event proc reason poke first tab.once tab.known;
+          desks = unmade_desks s event proc poke.req reason tab.desks;
+          ways = left_ways s event (actors.Proc proc) tab.ways (rows.Refused poke.req reason) (refused_left s event (actors.Proc proc) poke.req reason) refl refl;
+          entries = refused_entries [] s event tab.entries poke.req (nothing_goes [] s poke.req unparked refl) (actors.Proc proc) reason;
+          flows = flows_if unpoked unmade_flows;
+        }

@@ -1,0 +1,209 @@
+-- All that holds of a tab between two events holds after a process finishes the fragment order of a load, whose document runs and makes a new entry of it in the same event.
+use Rattle.asked_facts.proofs.Rows.{made_plain}
+use Rattle.coord_facts.proofs.Kept.{IsInHand}
+use Rattle.coord_facts.proofs.Unread.{next}
+use Rattle.coord_facts.specs.Flowing.{Flows}
+use Rattle.desk_facts.proofs.Rows.{fragment_desks}
+use Rattle.desk_facts.specs.Own as owning
+use Rattle.doc_facts.proofs.Rows.{made_docs}
+use Rattle.entry_facts.proofs.Grounds.{faced_by}
+use Rattle.entry_facts.proofs.Makes.{EndsUnmade, IsMadeNew, IsToMake, fragment_entries}
+use Rattle.entry_facts.proofs.Stays.{its_number}
+use Rattle.fragment_facts.proofs.Knowns.{IsUnmadeLoad, unmade_unheld}
+use Rattle.fragment_facts.proofs.Makes.{fragment_flows}
+use Rattle.fragment_facts.proofs.Orders.{event_known, just_fragmented}
+use Rattle.fragment_facts.specs.Fragments.{IsJustFragmented, fragment_of}
+use Rattle.frame_whole.proofs.FlowsAlike.{flows_if}
+use Rattle.hang_facts.proofs.Rows.{left_hangs}
+use Rattle.home_facts.proofs.Rows as homing
+use Rattle.kept_facts.proofs.Rows as keeping
+use Rattle.load_facts.proofs.Rows.{look_blind, made_loading}
+use Rattle.load_facts.specs.Loading.{is_ongoing, look}
+use Rattle.load_whereabouts.proofs.Answered.{finished_fragment, made_fragment_once}
+use Rattle.load_whereabouts.specs.Whereabouts.{waits_to_fragment}
+use Rattle.log_model.specs.Equal.{has_req}
+use Rattle.log_model.specs.Places.{is_load}
+use Rattle.log_model.specs.Seen.{Asked, Document, Seen, desk_of, document_of, request_in, request_of}
+use Rattle.log_model.specs.Views.{View, made_for, new_entry, is_fragment_replace}
+use Rattle.log_model.specs.declared.job.Order.{Order}
+use Rattle.log_model.specs.declared.job.Task.{Task}
+use Rattle.log_model.specs.declared.made.Made.{Made}
+use Rattle.log_model.specs.declared.request.Mode.{Mode}
+use Rattle.mover_facts.proofs.Rows.{made_movers}
+use Rattle.place_facts.proofs.Rows.{made_standing}
+use Rattle.request_facts.proofs.Cores.{finished_cores}
+use Rattle.request_facts.proofs.Onces.{load_alike}
+use Rattle.request_facts.proofs.Readers.{finished_reads}
+use Rattle.request_facts.specs.Whereabouts.{is_of_load}
+use Rattle.rest_facts.proofs.Kept.{left_kept}
+use Rattle.std.proofs.Common.{Bool, List, None, Option, Some, [], ap, false, refl, subst, sym, true, ℕ, ◌∙◌, ◌≡◌}
+use Rattle.std.specs.Prelude.{is_some, not, option_map}
+use Rattle.tab_ids.specs.declared.DocId.{DocId}
+use Rattle.tab_ids.specs.declared.NavId.{NavId}
+use Rattle.tab_ids.specs.declared.ProcId.{ProcId}
+use Rattle.tab_ids.specs.declared.ReqId.{ReqId}
+use Rattle.tab_whole.proofs.Joining.{joined_ways}
+use Rattle.tab_whole.proofs.Working.{finish_flows, finished_tab, in_hand_lives}
+use Rattle.tab_whole.specs.Tab.{IsTab}
+use Rattle.transit_facts.specs.Orders.{IsOutcomeOf}
+use Rattle.log_model.specs.declared.job.Task.TheVariants as tasks
+use Rattle.log_model.specs.declared.outcome.Outcome.TheVariants as outcomes
+use Rattle.log_model.specs.declared.row_kind.Actor.TheVariants as actors
+use Rattle.log_model.specs.declared.row_kind.RowKind.TheVariants as rows
+
+some_same : {A : Type 0} {a b : A} → (let o : Option A = Some a in o) ≡ Some b → a ≡ b
+some_same e = cc
+
+-- the order in hand sends its document, which runs with this view, to a fragment for a load that waits for it
+pub record IsToFragment (s : Seen) (proc : ProcId) (order : Order) (req : ReqId) (mode : Mode) (address : List ℕ) (d : Document) (view : View) : Type 0 where
+  pub in_hand : (desk_of s proc).in_hand ≡ Some order
+  pub task : order.job.task ≡ tasks.DoFragment req mode address
+  pub found : document_of s order.job.doc ≡ Some d
+  pub has : d.view ≡ Some view
+  pub runs : view.running ≡ true
+  -- the load has no outcome, nothing was made of it, and a document was sent to a fragment for it
+  pub q : Asked
+  pub nav : NavId
+  pub to : Mode
+  pub at : List ℕ
+  pub load : IsUnmadeLoad s req q nav to at
+  pub sent : is_some q.fragment ≡ true
+
+-- what is made is new, and the document's
+fragment_new : (view : View) (mode : Mode) (address : List ℕ) → IsMadeNew view (fragment_of view mode address)
+fragment_new view mode address = by_push (not (is_fragment_replace view mode address))
+  where
+    by_push : (b : Bool) → IsMadeNew view (new_entry view b None address)
+    by_push true = refl
+    by_push false = (refl, refl)
+
+fragment_own : (view : View) (mode : Mode) (address : List ℕ) → owning.IsItsOwn view.doc (fragment_of view mode address)
+fragment_own view mode address = by_push (not (is_fragment_replace view mode address))
+  where
+    by_push : (b : Bool) → owning.IsItsOwn view.doc (new_entry view b None address)
+    by_push true = refl
+    by_push false = refl
+
+module _ (run : Option ReqId) (s : Seen) (event : ℕ) (proc : ProcId) (tab : IsTab run [] [] s) (flows : Flows s) (order : Order) (req : ReqId) (mode : Mode) (address : List ℕ) (d : Document) (view : View) (is : IsToFragment s proc order req mode address d view) where
+  its : IsOutcomeOf order.job.task outcomes.Fragmented
+  its = subst (λ (t : Task). IsOutcomeOf t outcomes.Fragmented) (sym is.task) tt
+
+  abbrev finished : Seen
+  finished = next s event (actors.Proc proc) (rows.Finished proc order.job.nr outcomes.Fragmented)
+
+  abbrev made : Made
+  made = made_for view req (fragment_of view mode address)
+
+  abbrev pub fragment_made : Seen
+  fragment_made = next (next s event (actors.Proc proc) (rows.Finished proc order.job.nr outcomes.Fragmented)) event (actors.Proc proc) (rows.Made proc (made_for view req (fragment_of view mode address)))
+
+  now : IsTab run [] [] finished
+  now = finished_tab run s event proc tab flows order outcomes.Fragmented is.in_hand its tt
+
+  now_flows : Flows finished
+  now_flows = finish_flows run s event proc tab flows order outcomes.Fragmented is.in_hand its tt
+
+  in_ : IsInHand s proc order
+  in_ = in_hand_lives run s event proc tab flows order outcomes.Fragmented is.in_hand its tt
+
+  number : view.doc ≡ order.job.doc
+  number =
+      (tab.docs.each order.job.doc d is.found).live.viewed view is.has ∙ ap (λ (n : ℕ). let x : DocId = record { 0 = n } in x) (its_number s.documents order.job.doc d is.found)
+
+  just : IsJustFragmented finished event proc order.job req mode address d view
+  just = just_fragmented s event proc order req mode address is.task in_ d view is.found is.has number is.runs
+
+  -- ---- the load
+
+  what_load : is_load is.q.what ≡ true
+  what_load = ap is_load is.load.what
+
+  waits : waits_to_fragment is.q ≡ true
+  waits = rw (is.load.unended, is.load.unmade, is.sent) refl
+
+  unparked : has_req s.parked req ≡ false
+  unparked = unmade_unheld s req is.q is.nav is.to is.at is.load tab.known
+
+  load_then : is_of_load (request_in finished.requests req) ≡ true
+  load_then =
+      load_alike (request_in finished.requests req) (request_in s.requests req) (finished_cores s (desk_of s proc).in_hand outcomes.Fragmented s.requests req)
+      ∙ ap is_of_load is.load.asked ∙ what_load
+
+  -- it hasn't begun
+  idle : is.q.is_started ≡ false
+  idle = by_started is.q.is_started refl
+    where
+      by_started : (b : Bool) → is.q.is_started ≡ b → is.q.is_started ≡ false
+      by_started false e = e
+      by_started true e =
+          let none : is_some is.q.fragment ≡ false = ap (λ (o : Option DocId). is_some o) ((tab.asked.each req is.q is.load.asked).begun e) in
+          let never : true ≡ false = sym is.sent ∙ none in absurd cc
+
+  no_ongoing : (q : Asked) → request_of finished req ≡ Some q → is_ongoing (look q) ≡ false
+  no_ongoing q there =
+      let looks : option_map look (request_in finished.requests req) ≡ option_map look (request_in s.requests req) = finished_reads look look_blind s (desk_of s proc).in_hand outcomes.Fragmented s.requests req in
+      let both : Some (look is.q) ≡ Some (look q) = ap (λ (o : Option Asked). option_map look o) (sym is.load.asked) ∙ sym looks ∙ ap (λ (o : Option Asked). option_map look o) there in
+      let one : look is.q ≡ look q = some_same both in
+      ap is_ongoing (sym one) ∙ rw idle refl
+
+  -- ---- what is made
+
+  ready : d.is_ready ≡ true
+  ready = by_ready d.is_ready refl
+    where
+      by_ready : (b : Bool) → d.is_ready ≡ b → d.is_ready ≡ true
+      by_ready true e = e
+      by_ready false e =
+          let never : true ≡ false = sym is.runs ∙ (tab.docs.each order.job.doc d is.found).live.unmade view is.has e in absurd cc
+
+  found : document_of finished view.doc ≡ Some d
+  found = ap (λ (n : DocId). document_of finished n) number ∙ just.found
+
+  make : IsToMake [] finished proc d view made
+  make =
+      record {
+        there = found;
+        home = just.home;
+        ready = ready;
+        has = is.has;
+        own = refl;
+        new = fragment_new view mode address;
+        unparked = unparked;
+        faced = faced_by finished d view made now_flows found is.has refl;
+      }
+
+  made_in : owning.IsMadeIn finished.documents proc made
+  made_in =
+      record {
+        lives = record { d = d; found = found; home = ap (λ (p : ProcId). p.0) just.home };
+        own = fragment_own view mode address;
+      }
+
+  ends : EndsUnmade (desk_of finished proc).reports
+  ends = record { before = just.front; job = order.job; outcome = outcomes.Fragmented; is = just.last }
+
+  pub fragment_made_flows : Flows fragment_made
+  fragment_made_flows =
+      fragment_flows finished event proc order.job req mode address d view just unparked now_flows
+
+  pub fragment_made_tab : IsTab run [] [] fragment_made
+  fragment_made_tab =
+      record {
+        sound = now.sound;
+        hangs = left_hangs finished event (actors.Proc proc) now.hangs (rows.Made proc made) tt;
+        docs = made_docs finished event (actors.Proc proc) now.docs proc made;
+        whose = left_kept finished event (actors.Proc proc) now.whose (rows.Made proc made) tt;
+        homes = homing.left_rows finished event (actors.Proc proc) now.homes (rows.Made proc made) tt;
+        kept = keeping.left_rows finished event (actors.Proc proc) now.kept (rows.Made proc made) tt;
+        standing = made_standing finished event (actors.Proc proc) now.standing proc made;
+        movers = made_movers finished event (actors.Proc proc) now.movers proc made;
+        asked = made_plain run finished event (actors.Proc proc) now.asked proc made;
+        loading = made_loading finished event (actors.Proc proc) now.loading proc made no_ongoing;
+        once = made_fragment_once finished [] event (actors.Proc proc) proc made just.front order.job outcomes.Fragmented just.last just.follows load_then now.once;
+        trips = finished_fragment s event (actors.Proc proc) proc order.job.nr outcomes.Fragmented order is.in_hand [] (actors.Proc proc) made is.q is.load.asked what_load waits tab.trips;
+        known = event_known s event proc order req mode address is.task in_ d view is.found is.has number is.runs is.q is.nav is.to is.at is.load tab.known;
+        desks = fragment_desks finished event (actors.Proc proc) now.desks proc made order.job outcomes.Fragmented just.front made_in just.follows just.last (subst owning.IsFragmentTask (sym is.task) tt) (ap (λ (n : DocId). n.0) number);
+        ways = joined_ways finished event (actors.Proc proc) proc made just.follows now.ways;
+        entries = fragment_entries [] finished event (actors.Proc proc) now.entries proc made d view make just.follows ends;
+        flows = flows_if fragment_made fragment_made_flows;
+      }

@@ -1,0 +1,83 @@
+-- All that holds between two rows holds after a document is sent to a fragment, for a load at hand: that load is on its way then.
+-- This project's own.
+use Rattle.asked_facts.proofs.Orders.{fragment_plain}
+use Rattle.coord_facts.proofs.Unread.{next}
+use Rattle.desk_facts.proofs.Orders.{told_desks}
+use Rattle.desk_facts.proofs.Orders as desk_orders
+use Rattle.doc_facts.proofs.Orders.{told_docs}
+use Rattle.doc_facts.proofs.Orders as doc_orders
+use Rattle.entry_facts.proofs.Orders.{TellsAlone, sent_entries}
+use Rattle.hang_facts.proofs.Rows.{left_hangs}
+use Rattle.home_facts.proofs.Rows.{told_homed}
+use Rattle.kept_facts.proofs.Orders.{told_kept}
+use Rattle.kept_facts.proofs.Orders as kept_orders
+use Rattle.load_facts.proofs.Docs as load_docs
+use Rattle.load_facts.proofs.Orders.{told_loading}
+use Rattle.load_whereabouts.proofs.Begun.{IsAtHand, sent_fragment}
+use Rattle.load_whereabouts.proofs.Begun as begun
+use Rattle.load_whereabouts.proofs.Others.{sent_fragment_once}
+use Rattle.load_whereabouts.specs.Whereabouts.{waits_to_fragment}
+use Rattle.log_model.specs.Places.{is_load}
+use Rattle.log_model.specs.Seen.{Asked, Document, Seen, request_of}
+use Rattle.log_model.specs.declared.job.Job.{Job}
+use Rattle.log_model.specs.declared.job.Task.{Task}
+use Rattle.log_model.specs.declared.made.Made.{Made}
+use Rattle.log_model.specs.declared.request.Mode.{Mode}
+use Rattle.log_model.specs.declared.row_kind.Actor.{Actor}
+use Rattle.mover_facts.proofs.Orders.{told_movers}
+use Rattle.place_facts.proofs.Orders.{told_standing}
+use Rattle.request_facts.proofs.KnownRows.{sent_known}
+use Rattle.rest_facts.proofs.Kept.{IsNoMaking, left_kept}
+use Rattle.std.proofs.Common.{Bool, List, None, Option, Some, arith, cond, false, refl, subst, sym, true, ℕ, ◌&&◌, ◌+◌, ◌∷◌, ◌≡◌}
+use Rattle.std.specs.Prelude.{is_none}
+use Rattle.tab_ids.specs.declared.ReqId.{ReqId}
+use Rattle.tab_whole.proofs.FragmentFlows.{fragment_if}
+use Rattle.tab_whole.proofs.Sending.{IsToMade, ordered_home, sent_home}
+use Rattle.tab_whole.specs.Tab.{IsTab, at_hand}
+use Rattle.transit_facts.proofs.Rows.{told_ways}
+use Rattle.log_model.specs.declared.job.Task.TheVariants as tasks
+use Rattle.log_model.specs.declared.row_kind.RowKind.TheVariants as rows
+
+-- the request is a load of which nothing was made
+pub record IsLoadUnmade (s : Seen) (req : ReqId) (q : Asked) : Type 0 where
+  pub found : request_of s req ≡ Some q
+  pub load : is_load q.what ≡ true
+  pub unmade : q.made ≡ None
+
+module _ (run : Option ReqId) (loads : List ReqId) (hand : List Made) (s : Seen) (event : ℕ) (actor : Actor) (req : ReqId) (tab : IsTab run (req ∷ loads) hand s) (q : Asked) (of : IsLoadUnmade s req q) (job : Job) (mode : Mode) (address : List ℕ) (d : Document) (task : job.task ≡ tasks.DoFragment req mode address) (to : IsToMade s job d) where
+  abbrev pub ordered : Seen
+  ordered = next s event actor (rows.Sent job)
+
+  -- a load at hand hasn't begun
+  unstarted : q.is_started ≡ false
+  unstarted =
+      let at : IsAtHand q = (begun.at_hand s (at_hand loads hand) req q of.found of.load tab.trips).0 in
+      by_test q.is_started (is_none q.ending) (is_load q.what) (waits_to_fragment q) at.unended of.load at.still
+    where
+      by_test : (a b c w : Bool) → b ≡ true → c ≡ true → (let n : ℕ = cond ((a && b) && c) 1 0 in n) + (let n : ℕ = cond w 1 0 in n) ≡ 0 → a ≡ false
+      by_test false b c w open_ load none = refl
+      by_test true true true w open_ load none = absurd (let never : 1 + (let n : ℕ = cond w 1 0 in n) ≡ 0 = none in omega (arith, never))
+      by_test true true false w open_ load none = absurd cc
+      by_test true false c w open_ load none = absurd cc
+
+  pub send_fragment_tab : IsTab run loads hand ordered
+  send_fragment_tab =
+      record {
+        sound = tab.sound;
+        hangs = left_hangs s event actor tab.hangs (rows.Sent job) tt;
+        docs = told_docs s event actor tab.docs job (subst (λ (t : Task). doc_orders.OnlyTells s event actor tab.docs job t) (sym task) tt);
+        whose = left_kept s event actor tab.whose (rows.Sent job) (subst (λ (t : Task). IsNoMaking t) (sym task) tt);
+        homes = told_homed s event actor tab.homes job (tasks.DoFragment req mode address) task tt;
+        kept = told_kept s event actor tab.kept job (subst (λ (t : Task). kept_orders.ShowsNone t) (sym task) tt);
+        standing = told_standing s event actor tab.standing job (tasks.DoFragment req mode address) task tt;
+        movers = told_movers s event actor tab.movers job (tasks.DoFragment req mode address) task tt;
+        asked = fragment_plain run s event actor tab.asked job req mode address q task of.found of.load unstarted;
+        loading = told_loading s event actor tab.loading job (subst (λ (t : Task). load_docs.MakesNone t) (sym task) tt) (subst (λ (t : Task). load_docs.ShowsNone t) (sym task) tt);
+        once = sent_fragment_once s (at_hand loads hand) event actor job req (rw of.found of.load) tab.once;
+        trips = sent_fragment s event actor job req mode address task (at_hand loads hand) q of.found of.load of.unmade tab.trips;
+        known = sent_known s event actor job tab.known;
+        desks = told_desks s event actor tab.desks job (subst (λ (t : Task). desk_orders.IsTold t) (sym task) tt) (ordered_home run (req ∷ loads) hand s tab job d to);
+        ways = told_ways s event actor tab.ways job (tasks.DoFragment req mode address) task tt;
+        entries = sent_entries hand s event actor tab.entries job (subst (λ (t : Task). TellsAlone t) (sym task) tt);
+        flows = fragment_if s event actor hand job req mode address task (sent_home run (req ∷ loads) hand s tab job d to) tab.flows;
+      }
