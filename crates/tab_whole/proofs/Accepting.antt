@@ -7,7 +7,9 @@ use Rattle.coord_facts.specs.Flowing.{Flows}
 use Rattle.desk_facts.proofs.Rows.{poked_desks, unpoked}
 use Rattle.doc_facts.proofs.Rows.{accepted_docs}
 use Rattle.entry_facts.proofs.Rows.{accepted_entries}
+use Rattle.fragment_orders.proofs.Rows.{accepted_fragments}
 use Rattle.frame_whole.proofs.FlowsAlike.{flows_if}
+use Rattle.frame_whole.proofs.Queued.{queued_after}
 use Rattle.hang_facts.proofs.Rows.{left_hangs}
 use Rattle.kept_facts.proofs.Rows as keeping
 use Rattle.home_facts.proofs.Rows as homing
@@ -32,6 +34,7 @@ use Rattle.request_facts.specs.Cores.{core_of}
 use Rattle.request_facts.specs.Knowns.{AreKnown}
 use Rattle.request_facts.specs.Whereabouts.{is_of_load, times_found}
 use Rattle.rest_facts.proofs.Kept.{left_kept}
+use Rattle.shown_facts.proofs.Rows.{accepted_shown}
 use Rattle.std.proofs.Common.{List, None, Option, Some, [], ap, arith, false, length, refl, ℕ, ℤ, ◌+◌, ◌++◌, ◌==◌, ◌∙◌, ◌∷◌, ◌≡◌}
 use Rattle.std.proofs.lemmas.Bool.Decides.{nat_tests}
 use Rattle.tab_ids.specs.declared.DocId.{DocId}
@@ -66,12 +69,15 @@ module _ (run : Option ReqId) (s : Seen) (event : ℕ) (actor : Actor) (tab : Is
           hangs = left_hangs s event actor tab.hangs (accepts None (requests.Go delta)) tt;
           docs = accepted_docs s event actor tab.docs req None (requests.Go delta);
           whose = left_kept s event actor tab.whose (accepts None (requests.Go delta)) tt;
+          shown = accepted_shown s event actor tab.shown req None (requests.Go delta) nr;
           homes = homing.left_rows s event actor tab.homes (accepts None (requests.Go delta)) tt;
           kept = keeping.left_rows s event actor tab.kept (accepts None (requests.Go delta)) tt;
           standing = accepted_standing s event actor tab.standing req None (requests.Go delta) nr;
           movers = accepted_movers s event actor tab.movers req None (requests.Go delta) nr;
           asked = accepted_plain run s event actor tab.asked req None (requests.Go delta) nr tt;
+          queued = queued_after run s event actor tab.queued (accepts None (requests.Go delta)) tt;
           loading = accepted_loading s event actor tab.loading req None (requests.Go delta) nr;
+          fragments = accepted_fragments s event actor tab.fragments req None (requests.Go delta) nr;
           once = go_once s [] event actor req nr delta tab.once;
           trips = accepted_other s [] event actor req nr tab.trips None (requests.Go delta) refl;
           known = go_known s [] event actor req nr tab.once delta tab.known;
@@ -118,12 +124,15 @@ module _ (run : Option ReqId) (s : Seen) (event : ℕ) (actor : Actor) (tab : Is
           hangs = left_hangs s event actor tab.hangs (accepts None load) tt;
           docs = accepted_docs s event actor tab.docs req None load;
           whose = left_kept s event actor tab.whose (accepts None load) tt;
+          shown = accepted_shown s event actor tab.shown req None load nr;
           homes = homing.left_rows s event actor tab.homes (accepts None load) tt;
           kept = keeping.left_rows s event actor tab.kept (accepts None load) tt;
           standing = accepted_standing s event actor tab.standing req None load nr;
           movers = accepted_movers s event actor tab.movers req None load nr;
           asked = accepted_plain run s event actor tab.asked req None load nr tt;
+          queued = queued_after run s event actor tab.queued (accepts None load) tt;
           loading = accepted_loading s event actor tab.loading req None load nr;
+          fragments = accepted_fragments s event actor tab.fragments req None load nr;
           once = accepted_load_once s [] event actor req nr nav mode address tab.once;
           trips = accepted_load s [] event actor req nr tab.trips nav mode address tab.once;
           known = load_known;
@@ -154,12 +163,15 @@ module _ (run : Option ReqId) (s : Seen) (event : ℕ) (actor : Actor) (tab : Is
             hangs = left_hangs s event actor tab.hangs (accepts (Some doc) poke) tt;
             docs = accepted_docs s event actor tab.docs req (Some doc) poke;
             whose = left_kept s event actor tab.whose (accepts (Some doc) poke) tt;
+            shown = accepted_shown s event actor tab.shown req (Some doc) poke nr;
             homes = homing.left_rows s event actor tab.homes (accepts (Some doc) poke) tt;
             kept = keeping.left_rows s event actor tab.kept (accepts (Some doc) poke) tt;
             standing = accepted_standing s event actor tab.standing req (Some doc) poke nr;
             movers = accepted_movers s event actor tab.movers req (Some doc) poke nr;
             asked = accepted_plain run s event actor tab.asked req (Some doc) poke nr fine;
+            queued = queued_after run s event actor tab.queued (accepts (Some doc) poke) tt;
             loading = accepted_loading s event actor tab.loading req (Some doc) poke nr;
+            fragments = accepted_fragments s event actor tab.fragments req (Some doc) poke nr;
             once = poke_once s [] event actor req nr doc d nav action found tab.once;
             trips = accepted_other s [] event actor req nr tab.trips (Some doc) poke refl;
             known = poke_known s [] event actor req nr tab.once doc d nav action found tab.known;
@@ -183,12 +195,15 @@ module _ (run : Option ReqId) (s : Seen) (event : ℕ) (actor : Actor) (tab : Is
           hangs = left_hangs s event actor tab.hangs (accepts None poke) tt;
           docs = accepted_docs s event actor tab.docs req None poke;
           whose = left_kept s event actor tab.whose (accepts None poke) tt;
+          shown = accepted_shown s event actor tab.shown req None poke nr;
           homes = homing.left_rows s event actor tab.homes (accepts None poke) tt;
           kept = keeping.left_rows s event actor tab.kept (accepts None poke) tt;
           standing = accepted_standing s event actor tab.standing req None poke nr;
           movers = accepted_movers s event actor tab.movers req None poke nr;
           asked = accepted_plain run s event actor tab.asked req None poke nr fine;
+          queued = queued_after run s event actor tab.queued (accepts None poke) tt;
           loading = accepted_loading s event actor tab.loading req None poke nr;
+          fragments = accepted_fragments s event actor tab.fragments req None poke nr;
           once = stray_once s [] event actor req nr nav action tab.once;
           trips = at_hand_else strayed [] req (ap is_of_load (one_more s.requests (new_request req None poke) req nr)) (accepted_other s [] event actor req nr tab.trips None poke refl);
           known = stray_known s [] event actor req nr tab.once nav action tab.known;

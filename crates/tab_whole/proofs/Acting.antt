@@ -14,9 +14,12 @@ use Rattle.entry_facts.proofs.Ends.{refused_entries}
 use Rattle.entry_facts.proofs.Grounds.{faced_by}
 use Rattle.entry_facts.proofs.Makes.{IsMadeNew, IsToMake, poke_entries}
 use Rattle.entry_facts.proofs.Stays.{its_number}
+use Rattle.fragment_orders.proofs.Ends.{other_waits_not}
+use Rattle.fragment_orders.proofs.Rows.{refused_fragments}
+use Rattle.fragment_orders.proofs.Works.{made_other_fragments}
 use Rattle.frame_events.proofs.Processes.{IsMadeByAction, made_of_action}
 use Rattle.frame_whole.proofs.FlowsAlike.{flows_if}
-use Rattle.frame_whole.specs.Beside.{IsQueued}
+use Rattle.frame_whole.proofs.Queued.{queued_after}
 use Rattle.hang_facts.proofs.Rows.{left_hangs}
 use Rattle.home_facts.proofs.Rows as homing
 use Rattle.kept_facts.proofs.Rows as keeping
@@ -26,13 +29,12 @@ use Rattle.load_whereabouts.proofs.Answered.{made_other}
 use Rattle.load_whereabouts.proofs.Ended.{poke_refused_loads}
 use Rattle.log_model.specs.After.{follows_finished}
 use Rattle.log_model.specs.Equal.{has_req}
-use Rattle.log_model.specs.Places.{goes, is_load, is_traversal, is_under_way}
+use Rattle.log_model.specs.Places.{is_load}
 use Rattle.log_model.specs.Seen.{Asked, Document, Seen, desk_of, document_of, request_in, request_of}
 use Rattle.log_model.specs.Views.{View, made_by, made_for}
 use Rattle.log_model.specs.declared.made.What.{What}
 use Rattle.log_model.specs.declared.outcome.Denial.{Denial}
 use Rattle.log_model.specs.declared.request.Poke.{Poke}
-use Rattle.log_model.specs.declared.request.Request.{Request}
 use Rattle.mover_facts.proofs.Rows.{made_movers, refused_movers}
 use Rattle.place_facts.proofs.Rows.{made_standing, refused_standing}
 use Rattle.request_facts.proofs.Endings.{poke_refused_once}
@@ -45,6 +47,7 @@ use Rattle.request_facts.specs.Knowns.{IsPoke}
 use Rattle.request_facts.specs.Whereabouts.{is_of_load}
 use Rattle.rest_facts.proofs.Kept.{left_kept}
 use Rattle.seen_laws.specs.Acting.{IsToAct}
+use Rattle.shown_facts.proofs.Rows.{made_shown, refused_shown}
 use Rattle.std.proofs.Common.{Bool, None, Option, Some, [], ap, arith, false, refl, subst, sym, true, ℕ, ◌&&◌, ◌+◌, ◌==◌, ◌∙◌, ◌≡◌}
 use Rattle.std.proofs.lemmas.Bool.{eqb-true}
 use Rattle.std.proofs.lemmas.Bool.Decides.{nat_tests}
@@ -219,12 +222,15 @@ module _ (run : Option ReqId) (s : Seen) (proc : ProcId) (tab : IsTab run [] [] 
           hangs = left_hangs s s.events (actors.Proc proc) tab.hangs (rows.Made proc (made_for view poke.req what)) tt;
           docs = made_docs s s.events (actors.Proc proc) tab.docs proc (made_for view poke.req what);
           whose = left_kept s s.events (actors.Proc proc) tab.whose (rows.Made proc (made_for view poke.req what)) tt;
+          shown = made_shown s s.events (actors.Proc proc) tab.shown proc (made_for view poke.req what);
           homes = homing.left_rows s s.events (actors.Proc proc) tab.homes (rows.Made proc (made_for view poke.req what)) tt;
           kept = keeping.left_rows s s.events (actors.Proc proc) tab.kept (rows.Made proc (made_for view poke.req what)) tt;
           standing = made_standing s s.events (actors.Proc proc) tab.standing proc (made_for view poke.req what);
           movers = made_movers s s.events (actors.Proc proc) tab.movers proc (made_for view poke.req what);
           asked = made_plain run s s.events (actors.Proc proc) tab.asked proc (made_for view poke.req what);
+          queued = queued_after run s s.events (actors.Proc proc) tab.queued (rows.Made proc (made_for view poke.req what)) tt;
           loading = made_loading s s.events (actors.Proc proc) tab.loading proc (made_for view poke.req what) no_ongoing;
+          fragments = made_other_fragments s s.events (actors.Proc proc) proc (made_for view poke.req what) no_load tab.fragments;
           once = made_once s [] s.events (actors.Proc proc) proc (made_for view poke.req what) poke first refl by_action.no_edit anew tab.once;
           trips = made_other s [] s.events (actors.Proc proc) proc (made_for view poke.req what) poke first refl no_load anew tab.trips;
           known = made_known s [] s.events (actors.Proc proc) proc (made_for view poke.req what) poke first refl (sym number) by_action.no_edit by_action.goes_ anew tab.once tab.known;
@@ -236,9 +242,9 @@ module _ (run : Option ReqId) (s : Seen) (proc : ProcId) (tab : IsTab run [] [] 
 
   -- ---- its process refuses it
 
-  -- it isn't the running traversal, where that is in the queue
-  pub not_running : IsQueued run s → is_this run poke.req ≡ false
-  not_running queued = by_run run refl
+  -- it isn't the running traversal, since that is in the queue
+  pub not_running : is_this run poke.req ≡ false
+  not_running = by_run run refl
     where
       by_run : (r : Option ReqId) → run ≡ r → is_this r poke.req ≡ false
       by_run None e = refl
@@ -249,16 +255,7 @@ module _ (run : Option ReqId) (s : Seen) (proc : ProcId) (tab : IsTab run [] [] 
           by_test true h =
               let n : r.0 ≡ poke.req.0 = eqb-true r.0 poke.req.0 h in
               let one : r ≡ poke.req = ap (λ (i : ℕ). let x : ReqId = record { 0 = i } in x) n in
-              let never : true ≡ false = sym (queued r e) ∙ ap (λ (x : ReqId). has_req s.joined x) one ∙ unjoined in absurd cc
-
-  -- nor where it asks for none
-  pub not_going : goes poke.action ≡ false → is_this run poke.req ≡ false
-  not_going stays =
-      sym (tab.asked.only poke.req its_asked.q its_asked.there) ∙ ap (λ (what : Request). is_under_way its_asked.q && is_traversal what) its_asked.what ∙ neither (is_under_way its_asked.q) (goes poke.action) stays
-    where
-      neither : (a b : Bool) → b ≡ false → (a && b) ≡ false
-      neither true b e = e
-      neither false b e = refl
+              let never : true ≡ false = sym (tab.queued r e) ∙ ap (λ (x : ReqId). has_req s.joined x) one ∙ unjoined in absurd cc
 
   module _ (event : ℕ) (reason : Denial) where
     abbrev pub unpoked : Seen
@@ -268,19 +265,22 @@ module _ (run : Option ReqId) (s : Seen) (proc : ProcId) (tab : IsTab run [] [] 
     unmade_flows =
         left_flows s unpoked (refused_left s event (actors.Proc proc) poke.req reason) refl refl refl (refused_held s event (actors.Proc proc) poke.req reason unparked) flows
 
-    pub unmade_tab : is_this run poke.req ≡ false → IsTab run [] [] unpoked
-    unmade_tab other =
+    pub unmade_tab : IsTab run [] [] unpoked
+    unmade_tab =
         record {
           sound = tab.sound;
           hangs = left_hangs s event (actors.Proc proc) tab.hangs (rows.Refused poke.req reason) tt;
           docs = refused_docs s event (actors.Proc proc) tab.docs poke.req reason;
           whose = left_kept s event (actors.Proc proc) tab.whose (rows.Refused poke.req reason) tt;
+          shown = refused_shown s event (actors.Proc proc) tab.shown poke.req reason;
           homes = homing.left_rows s event (actors.Proc proc) tab.homes (rows.Refused poke.req reason) tt;
           kept = keeping.left_rows s event (actors.Proc proc) tab.kept (rows.Refused poke.req reason) tt;
           standing = refused_standing s event (actors.Proc proc) tab.standing poke.req reason;
           movers = refused_movers s event (actors.Proc proc) tab.movers poke.req reason;
-          asked = refused_plain run s event (actors.Proc proc) tab.asked poke.req reason other;
+          asked = refused_plain run s event (actors.Proc proc) tab.asked poke.req reason not_running;
+          queued = queued_after run s event (actors.Proc proc) tab.queued (rows.Refused poke.req reason) not_running;
           loading = refused_loading s event (actors.Proc proc) tab.loading poke.req reason;
+          fragments = refused_fragments s event (actors.Proc proc) tab.fragments poke.req reason (other_waits_not s tab.fragments poke.req no_load);
           once = poke_refused_once s [] event proc poke.req reason poke first refl tab.once;
           trips = poke_refused_loads s [] event proc poke.req reason poke first refl no_load tab.trips;
           known = poke_refused_known s [] event proc reason poke first tab.once tab.known;

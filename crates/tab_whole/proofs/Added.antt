@@ -10,6 +10,7 @@ use Rattle.entry_facts.proofs.Applied.{applied_ends}
 use Rattle.entry_facts.proofs.Ends.{IsToEnd}
 use Rattle.entry_facts.proofs.Frames.{added_entries}
 use Rattle.entry_facts.proofs.Skips.{without_made}
+use Rattle.frame_whole.proofs.Queued.{queued_after}
 use Rattle.frame_whole.proofs.Soundly.{none_entry, sound_added}
 use Rattle.frame_whole.specs.Untold.{FlowsIf}
 use Rattle.hang_facts.proofs.Forms.{IsPlaceOf, form_there, nav_is, place_there}
@@ -203,6 +204,7 @@ module _ (run : Option ReqId) (loads : List ReqId) (hand : List Made) (s : Seen)
         homes = added_homed s event actor req tab.homes owner nav (next_entry_of s) (next_state s) unused;
         standing = added_standing s event actor tab.standing req owner nav (next_entry_of s) (next_state s) (record { q = q; found = there }) (absent_ungiven s nav (next_entry_of s) unused);
         asked = applied_plain run s event actor tab.asked req change other;
+        queued = queued_after run s event actor tab.queued (rows.Applied req change) other;
         entries = added_entries hand s event actor tab.entries req end owner nav (next_state s) unused;
         flows = flows;
       })

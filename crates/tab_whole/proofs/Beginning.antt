@@ -6,9 +6,13 @@ use Rattle.coord_facts.proofs.Unread.{evicted_left, next, started_left}
 use Rattle.coord_facts.specs.Flowing.{Flows}
 use Rattle.desk_facts.proofs.Rows.{evicted_desks, started_desks}
 use Rattle.doc_facts.proofs.Rows.{evicted_docs, started_docs}
+use Rattle.doc_facts.specs.Docs.{HasPlace}
 use Rattle.entry_facts.proofs.Rows.{evicted_entries, started_entries}
+use Rattle.fragment_orders.proofs.Rows.{evicted_fragments, started_fragments}
 use Rattle.frame_whole.proofs.FlowsAlike.{flows_if}
 use Rattle.frame_whole.proofs.FlowsEnds.{started_if}
+use Rattle.frame_whole.proofs.Queued.{queued_after}
+use Rattle.frame_whole.specs.Beside.{IsQueued}
 use Rattle.hang_facts.proofs.Rows.{left_hangs}
 use Rattle.home_facts.proofs.Rows as homing
 use Rattle.kept_facts.proofs.Rows as keeping
@@ -16,10 +20,9 @@ use Rattle.load_facts.proofs.Begun.{begun_loading}
 use Rattle.load_facts.proofs.Rows.{begun_other, evicted_loading}
 use Rattle.load_facts.specs.Loading.{Look, is_ongoing, look_of}
 use Rattle.load_whereabouts.proofs.Begun.{started_load, started_other}
-use Rattle.load_whereabouts.proofs.Begun as beginning
 use Rattle.load_whereabouts.proofs.Others.{started_load_once}
 use Rattle.load_whereabouts.proofs.Rows.{evicted_loads}
-use Rattle.load_whereabouts.specs.Whereabouts.{waits_to_fragment, ways_of}
+use Rattle.log_model.specs.Equal.{has_req}
 use Rattle.log_model.specs.Once.{loads}
 use Rattle.log_model.specs.Places.{is_load, is_traversal}
 use Rattle.log_model.specs.Seen.{Asked, Seen, request_in, request_of}
@@ -33,8 +36,8 @@ use Rattle.request_facts.proofs.KnownRows.{started_known}
 use Rattle.request_facts.proofs.Onces.{evicted_once, started_once}
 use Rattle.request_facts.specs.Whereabouts.{is_of_load}
 use Rattle.rest_facts.proofs.Kept.{left_kept}
-use Rattle.std.proofs.Common.{List, None, Option, Some, [], ap, arith, cond, false, refl, sym, true, ℕ, ◌∙◌, ◌∷◌, ◌≡◌}
-use Rattle.tab_ids.specs.declared.DocId.{DocId}
+use Rattle.shown_facts.proofs.Rows.{begun_load_shown, begun_other_shown, evicted_shown}
+use Rattle.std.proofs.Common.{List, None, Option, Some, [], ap, false, refl, subst, sym, true, ℕ, ◌∙◌, ◌∷◌, ◌≡◌}
 use Rattle.tab_ids.specs.declared.NavId.{NavId}
 use Rattle.tab_ids.specs.declared.ReqId.{ReqId}
 use Rattle.tab_ids.specs.declared.StateId.{StateId}
@@ -43,6 +46,9 @@ use Rattle.tab_whole.specs.Tab.{IsTab, at_hand}
 use Rattle.transit_facts.proofs.Rows.{left_ways}
 use Rattle.log_model.specs.declared.request.Request.TheVariants as requests
 use Rattle.log_model.specs.declared.row_kind.RowKind.TheVariants as rows
+
+some_same : {A : Type 0} {a b : A} → (let o : Option A = Some a in o) ≡ Some b → a ≡ b
+some_same e = cc
 
 -- a traversal is no load
 pub no_load : (what : Request) → is_traversal what ≡ true → is_load what ≡ false
@@ -53,11 +59,12 @@ no_load (requests.Reload nav) never = absurd cc
 
 -- ---- a traversal
 
--- the request is there, asks for a traversal, and has no outcome
+-- the request is there, asks for a traversal, has no outcome, and is in the queue
 pub record IsToGo (s : Seen) (req : ReqId) (q : Asked) : Type 0 where
   pub there : request_of s req ≡ Some q
   pub goes : is_traversal q.what ≡ true
   pub open_ : q.ending ≡ None
+  pub queued : has_req s.joined req ≡ true
 
 module _ (at : List ReqId) (hand : List Made) (s : Seen) (event : ℕ) (actor : Actor) (tab : IsTab None at hand s) (req : ReqId) (q : Asked) (goal : Step) (is : IsToGo s req q) where
   abbrev pub begun : Seen
@@ -73,12 +80,15 @@ module _ (at : List ReqId) (hand : List Made) (s : Seen) (event : ℕ) (actor : 
         hangs = left_hangs s event actor tab.hangs (rows.Started req (Some goal)) tt;
         docs = started_docs s event actor tab.docs req (Some goal);
         whose = left_kept s event actor tab.whose (rows.Started req (Some goal)) tt;
+        shown = begun_other_shown s event actor tab.shown req (Some goal) no_loads;
         homes = homing.left_rows s event actor tab.homes (rows.Started req (Some goal)) tt;
         kept = keeping.left_rows s event actor tab.kept (rows.Started req (Some goal)) tt;
         standing = started_standing s event actor tab.standing req (Some goal);
         movers = started_movers s event actor tab.movers req (Some goal);
         asked = begun_plain s event actor tab.asked req q goal is.there is.goes is.open_;
+        queued = runs_queued;
         loading = begun_other s event actor tab.loading req (Some goal) no_loads;
+        fragments = started_fragments s event actor tab.fragments req (Some goal);
         once = started_once s (at_hand at hand) event actor req (Some goal) tab.once;
         trips = started_other s event actor req (Some goal) (at_hand at hand) other tab.trips;
         known = started_known s event actor req (Some goal) tab.known;
@@ -94,13 +104,19 @@ module _ (at : List ReqId) (hand : List Made) (s : Seen) (event : ℕ) (actor : 
           let one : q ≡ p = cc in
           ap (λ (x : Asked). is_load x.what) (sym one) ∙ no_load q.what is.goes
 
+      -- it is in the queue, and runs from here on
+      runs_queued : IsQueued (Some req) begun
+      runs_queued r runs =
+          let one : req ≡ r = some_same runs in subst (λ (x : ReqId). has_req s.joined x ≡ true) one is.queued
+
 -- ---- a load
 
--- the request is a load of the navigable, of which nothing was made, and no other load of that is ongoing
+-- the request is a load of the navigable, which is there, no document was sent to a fragment for it, and no other load of that navigable is ongoing
 pub record IsToLoad (s : Seen) (req : ReqId) (q : Asked) (nav : NavId) (mode : Mode) (address : List ℕ) : Type 0 where
   pub there : request_of s req ≡ Some q
   pub what : q.what ≡ requests.Load nav mode address
-  pub unmade : q.made ≡ None
+  pub placed : HasPlace s.places nav
+  pub unsent : q.fragment ≡ None
   pub alone : (other : ReqId) (m : Look) → look_of s other ≡ Some m → is_ongoing m ≡ true → loads nav m.what ≡ true → ⊥
 
 module _ (run : Option ReqId) (req : ReqId) (at : List ReqId) (hand : List Made) (s : Seen) (event : ℕ) (actor : Actor) (tab : IsTab run (req ∷ at) hand s) (q : Asked) (nav : NavId) (mode : Mode) (address : List ℕ) (is : IsToLoad s req q nav mode address) where
@@ -110,18 +126,9 @@ module _ (run : Option ReqId) (req : ReqId) (at : List ReqId) (hand : List Made)
   its_load : is_load q.what ≡ true
   its_load = ap is_load is.what
 
-  -- no document was sent to a fragment for it
-  unsent : q.fragment ≡ None
-  unsent = by_fragment q.fragment refl
-    where
-      by_fragment : (o : Option DocId) → q.fragment ≡ o → q.fragment ≡ None
-      by_fragment None e = e
-      by_fragment (Some doc) e =
-          let here = beginning.at_hand s (at_hand at hand) req q is.there its_load tab.trips in
-          let waits : waits_to_fragment q ≡ true = rw here.0.unended (rw is.unmade (rw e refl)) in
-          let still : ways_of q ≡ 0 = here.0.still in
-          let one : (let n : ℕ = cond (waits_to_fragment q) 1 0 in n) ≡ 1 = rw waits refl in
-          absurd (omega (arith, still, one))
+  -- so nothing was made of it
+  unmade : q.made ≡ None
+  unmade = tab.fragments.unsent req q is.there its_load is.unsent
 
   pub load_begun_tab : IsTab run at hand load_begun
   load_begun_tab =
@@ -130,12 +137,15 @@ module _ (run : Option ReqId) (req : ReqId) (at : List ReqId) (hand : List Made)
         hangs = left_hangs s event actor tab.hangs (rows.Started req None) tt;
         docs = started_docs s event actor tab.docs req None;
         whose = left_kept s event actor tab.whose (rows.Started req None) tt;
+        shown = begun_load_shown s event actor tab.shown req None q nav mode address is.there is.what is.placed;
         homes = homing.left_rows s event actor tab.homes (rows.Started req None) tt;
         kept = keeping.left_rows s event actor tab.kept (rows.Started req None) tt;
         standing = started_standing s event actor tab.standing req None;
         movers = started_movers s event actor tab.movers req None;
-        asked = load_begun_plain run s event actor tab.asked req q is.there its_load unsent;
-        loading = begun_loading s event actor tab.loading req q nav mode address is.there is.what is.unmade is.alone;
+        asked = load_begun_plain run s event actor tab.asked req q is.there its_load is.unsent;
+        queued = queued_after run s event actor tab.queued (rows.Started req None) tt;
+        loading = begun_loading s event actor tab.loading req q nav mode address is.there is.what unmade is.alone;
+        fragments = started_fragments s event actor tab.fragments req None;
         once = started_load_once s (at_hand at hand) event actor req None (ap is_of_load is.there ∙ its_load) tab.once;
         trips = started_load s event actor req None (at_hand at hand) q is.there its_load tab.trips;
         known = started_known s event actor req None tab.known;
@@ -161,12 +171,15 @@ module _ (run : Option ReqId) (s : Seen) (event : ℕ) (actor : Actor) (tab : Is
         hangs = left_hangs s event actor tab.hangs (rows.Evicted state) tt;
         docs = evicted_docs s event actor tab.docs state;
         whose = left_kept s event actor tab.whose (rows.Evicted state) tt;
+        shown = evicted_shown s event actor tab.shown state;
         homes = homing.left_rows s event actor tab.homes (rows.Evicted state) tt;
         kept = keeping.left_rows s event actor tab.kept (rows.Evicted state) tt;
         standing = evicted_standing s event actor tab.standing state;
         movers = evicted_movers s event actor tab.movers state;
         asked = evicted_plain run s event actor tab.asked state;
+        queued = queued_after run s event actor tab.queued (rows.Evicted state) tt;
         loading = evicted_loading s event actor tab.loading state;
+        fragments = evicted_fragments s event actor tab.fragments state;
         once = evicted_once s [] event actor state tab.once;
         trips = evicted_loads s [] event actor tab.trips state;
         known = record { desks = tab.known.desks; joined = tab.known.joined; parked = tab.known.parked };

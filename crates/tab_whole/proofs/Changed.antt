@@ -5,6 +5,8 @@ use Rattle.desk_facts.proofs.Rows.{applied_desks}
 use Rattle.doc_facts.proofs.Rows.{applied_docs}
 use Rattle.entry_facts.proofs.Skips.{without_made}
 use Rattle.entry_facts.specs.Entries.{AreEntries}
+use Rattle.fragment_orders.proofs.Rows.{applied_fragments}
+use Rattle.frame_whole.specs.Beside.{IsQueued}
 use Rattle.frame_whole.specs.Untold.{FlowsIf}
 use Rattle.hang_facts.proofs.Rows.{applied_hangs}
 use Rattle.hang_facts.specs.Changing.{BringsState}
@@ -29,9 +31,10 @@ use Rattle.request_facts.specs.Whereabouts.{AreOnce, times_at}
 use Rattle.rest_facts.proofs.Kept.{applied_kept}
 use Rattle.rest_facts.specs.Owning.{BringsOwned}
 use Rattle.seen_laws.proofs.Sums.{over}
+use Rattle.shown_facts.proofs.Rows.{applied_shown}
 use Rattle.std.proofs.Common.{List, None, Option, Some, subst, sym, true, ℕ, ◌≡◌}
 use Rattle.tab_ids.specs.declared.ReqId.{ReqId}
-use Rattle.tab_whole.proofs.Where.{IsCarried, carried_off, hands_without}
+use Rattle.tab_whole.proofs.Where.{IsCarried, carried_off, carried_waits_not, hands_without}
 use Rattle.tab_whole.specs.Tab.{IsTab, at_hand}
 use Rattle.transit_facts.proofs.Applied.{applied_ways}
 
@@ -57,6 +60,7 @@ module _ (run next_run : Option ReqId) (loads : List ReqId) (hand : List Made) (
     pub homes : AreHomed changed
     pub standing : AreStanding changed
     pub asked : ArePlain next_run changed
+    pub queued : IsQueued next_run changed
     pub entries : AreEntries (without_made req hand) changed
     pub flows : FlowsIf (without_made req hand) changed
 
@@ -72,12 +76,15 @@ module _ (run next_run : Option ReqId) (loads : List ReqId) (hand : List Made) (
           hangs = applied_hangs s event actor req tab.sound tab.hangs change well.fit well.brings;
           docs = applied_docs s event actor tab.docs req change;
           whose = applied_kept s event actor tab.whose req change well.owned;
+          shown = applied_shown s event actor tab.shown req change;
           homes = well.homes;
           kept = keeping.applied_kept s event actor req change tab.kept;
           standing = well.standing;
           movers = applied_movers s event actor req change tab.movers well.unended;
           asked = well.asked;
+          queued = well.queued;
           loading = applied_loading s event actor tab.loading req change well.free;
+          fragments = applied_fragments s event actor tab.fragments req change (carried_waits_not run loads hand s tab req well.carried);
           once = subst (λ (l : List ReqId). AreOnce changed l) (sym (hands_without req loads hand)) (applied_once s (at_hand loads hand) event req actor change (λ other. off) tab.once);
           trips = subst (λ (l : List ReqId). AreLoadsOnce changed l) (sym (hands_without req loads hand)) (applied_loads s (at_hand loads hand) event req (λ load. off) tab.trips actor change);
           known = applied_known s event req off tab.known actor change;

@@ -16,7 +16,9 @@ use Rattle.each_facts.proofs.Eaches.{each_first}
 use Rattle.entry_facts.proofs.Stays.{its_number}
 use Rattle.entry_facts.proofs.Told.{told_entries}
 use Rattle.entry_facts.specs.Entries.{AreEntries}
+use Rattle.fragment_orders.proofs.Rows.{delivered_fragments}
 use Rattle.frame_whole.proofs.FlowsAlike.{flows_if}
+use Rattle.frame_whole.proofs.Queued.{queued_after}
 use Rattle.frame_whole.specs.Untold.{FlowsIf}
 use Rattle.hang_facts.proofs.Rows.{left_hangs}
 use Rattle.home_facts.proofs.Rows.{delivered_homed}
@@ -40,6 +42,7 @@ use Rattle.request_facts.proofs.Placings.{untold_once}
 use Rattle.request_facts.specs.Knowns.{AreKnown}
 use Rattle.request_facts.specs.Whereabouts.{AreOnce}
 use Rattle.rest_facts.proofs.Kept.{left_kept}
+use Rattle.shown_facts.proofs.Rows.{delivered_shown}
 use Rattle.std.proofs.Common.{Bool, List, None, Option, Some, [], ap, arith, refl, subst, sym, ℕ, ◌+◌, ◌∙◌, ◌∷◌, ◌≡◌}
 use Rattle.std.specs.Prelude.{drop, slice_get}
 use Rattle.tab_ids.specs.declared.DocId.{DocId}
@@ -86,12 +89,15 @@ module _ (run : Option ReqId) (s : Seen) (event : ℕ) (proc : ProcId) (tab : Is
           hangs = left_hangs s event actors.Coord tab.hangs (rows.Delivered proc) tt;
           docs = delivered_docs s event actors.Coord tab.docs tab.desks proc fine;
           whose = left_kept s event actors.Coord tab.whose (rows.Delivered proc) tt;
+          shown = delivered_shown s event actors.Coord tab.shown proc fine;
           homes = delivered_homed s event actors.Coord tab.homes proc fine;
           kept = delivered_kept s event actors.Coord tab.kept proc fine;
           standing = delivered_standing s event actors.Coord tab.standing proc fine;
           movers = delivered_movers s event actors.Coord tab.movers proc fine;
           asked = delivered_plain run s event actors.Coord tab.asked proc fine;
+          queued = queued_after run s event actors.Coord tab.queued (rows.Delivered proc) tt;
           loading = delivered_loading s event actors.Coord tab.loading proc fine;
+          fragments = delivered_fragments s event actors.Coord tab.fragments proc;
           once = once;
           trips = trips;
           known = known;

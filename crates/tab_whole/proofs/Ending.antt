@@ -1,4 +1,4 @@
--- All that holds of a tab between two rows holds after a request is refused or dropped by the coordinator or the user's event, wherever it was: in the queue, held back, at hand, or a load on its way.
+-- All that holds of a tab between two rows holds after a request is refused or dropped by the coordinator or the user's event, wherever it was: in the queue, held back, at hand, or an ongoing load.
 use Rattle.asked_facts.proofs.Rows.{dropped_plain, refused_plain}
 use Rattle.coord_facts.proofs.Unread.{dropped_left, next, refused_left}
 use Rattle.desk_facts.proofs.Rows.{denied_desks, dropped_desks}
@@ -6,7 +6,10 @@ use Rattle.desk_facts.specs.Own.{AreDesksIn}
 use Rattle.doc_facts.proofs.Rows.{dropped_docs, refused_docs}
 use Rattle.entry_facts.proofs.Ends.{IsToEnd, dropped_entries, refused_entries}
 use Rattle.entry_facts.proofs.Skips.{without_made}
+use Rattle.fragment_orders.proofs.Ends.{WaitsNot}
+use Rattle.fragment_orders.proofs.Rows.{dropped_fragments, refused_fragments}
 use Rattle.frame_whole.proofs.FlowsEnds.{dropped_if, refused_if}
+use Rattle.frame_whole.proofs.Queued.{queued_after}
 use Rattle.hang_facts.proofs.Rows.{left_hangs}
 use Rattle.home_facts.proofs.Rows as homing
 use Rattle.kept_facts.proofs.Rows as keeping
@@ -28,15 +31,16 @@ use Rattle.request_facts.specs.Knowns.{AreKnown}
 use Rattle.request_facts.specs.Whereabouts.{AreOnce, times_at}
 use Rattle.rest_facts.proofs.Kept.{left_kept}
 use Rattle.seen_laws.proofs.Sums.{over}
+use Rattle.shown_facts.proofs.Rows.{dropped_shown, refused_shown}
 use Rattle.std.proofs.Common.{List, Option, false, refl, subst, sym, ℕ, ◌≡◌}
 use Rattle.tab_ids.specs.declared.ReqId.{ReqId}
-use Rattle.tab_whole.proofs.Where.{IsCarried, carried_off, hands_without}
+use Rattle.tab_whole.proofs.Where.{IsCarried, carried_off, carried_waits_not, hands_without}
 use Rattle.tab_whole.specs.Tab.{IsTab, at_hand}
 use Rattle.transit_facts.proofs.Rows.{left_ways}
 use Rattle.log_model.specs.declared.row_kind.Actor.TheVariants as actors
 use Rattle.log_model.specs.declared.row_kind.RowKind.TheVariants as rows
 
--- the request may end: it isn't the running traversal; it is in the queue, held back, at hand, or a load on its way; and what was made of it, and is held back or at hand, is no entry of a document that is shown
+-- the request may end: it isn't the running traversal; it is in the queue, held back, at hand, or an ongoing load; and what was made of it, and is held back or at hand, is no entry of a document that is shown
 pub record MayEnd (run : Option ReqId) (loads : List ReqId) (hand : List Made) (s : Seen) (req : ReqId) : Type 0 where
   pub other : is_this run req ≡ false
   pub carried : IsCarried loads hand s req
@@ -52,6 +56,10 @@ module _ (run : Option ReqId) (loads : List ReqId) (hand : List Made) (s : Seen)
   -- it is at no desk
   off : over (times_at req) s.desks ≡ 0
   off = carried_off run loads hand s tab req end.carried
+
+  -- and doesn't wait for what is made of a fragment order
+  waits_not : WaitsNot s.requests req
+  waits_not = carried_waits_not run loads hand s tab req end.carried
 
   abbrev left_hand : List Made
   left_hand = without_made req hand
@@ -72,12 +80,15 @@ module _ (run : Option ReqId) (loads : List ReqId) (hand : List Made) (s : Seen)
         hangs = left_hangs s event actor tab.hangs (rows.Dropped req cause) tt;
         docs = dropped_docs s event actor tab.docs req cause;
         whose = left_kept s event actor tab.whose (rows.Dropped req cause) tt;
+        shown = dropped_shown s event actor tab.shown req cause;
         homes = homing.left_rows s event actor tab.homes (rows.Dropped req cause) tt;
         kept = keeping.left_rows s event actor tab.kept (rows.Dropped req cause) tt;
         standing = dropped_standing s event actor tab.standing req cause;
         movers = dropped_movers s event actor tab.movers req cause;
         asked = dropped_plain run s event actor tab.asked req cause end.other;
+        queued = queued_after run s event actor tab.queued (rows.Dropped req cause) end.other;
         loading = dropped_loading s event actor tab.loading req cause;
+        fragments = dropped_fragments s event actor tab.fragments req cause waits_not;
         once = once_left (next s event actor (rows.Dropped req cause)) (dropped_once s (at_hand loads hand) event req actor cause (λ other. off) tab.once);
         trips = trips_left (next s event actor (rows.Dropped req cause)) (dropped_loads s (at_hand loads hand) event req (λ load. off) tab.trips actor cause);
         known = dropped_known s event req off tab.known actor cause;
@@ -119,12 +130,15 @@ module _ (run : Option ReqId) (loads : List ReqId) (hand : List Made) (s : Seen)
         hangs = left_hangs s event actor tab.hangs (rows.Refused req reason) tt;
         docs = refused_docs s event actor tab.docs req reason;
         whose = left_kept s event actor tab.whose (rows.Refused req reason) tt;
+        shown = refused_shown s event actor tab.shown req reason;
         homes = homing.left_rows s event actor tab.homes (rows.Refused req reason) tt;
         kept = keeping.left_rows s event actor tab.kept (rows.Refused req reason) tt;
         standing = refused_standing s event actor tab.standing req reason;
         movers = refused_movers s event actor tab.movers req reason;
         asked = refused_plain run s event actor tab.asked req reason end.other;
+        queued = queued_after run s event actor tab.queued (rows.Refused req reason) end.other;
         loading = refused_loading s event actor tab.loading req reason;
+        fragments = refused_fragments s event actor tab.fragments req reason waits_not;
         once = once_left (next s event actor (rows.Refused req reason)) (refuses actor reason is).once;
         trips = trips_left (next s event actor (rows.Refused req reason)) (refuses actor reason is).trips;
         known = (refuses actor reason is).known;

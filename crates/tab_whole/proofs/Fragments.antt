@@ -1,11 +1,13 @@
 -- All that holds of a tab between two events holds after a process finishes the fragment order of a load, whose document runs and makes a new entry of it in the same event.
-use Rattle.asked_facts.proofs.Rows.{made_plain}
+use Rattle.asked_facts.proofs.Rows.{finished_plain, made_plain}
 use Rattle.coord_facts.proofs.Kept.{IsInHand}
 use Rattle.coord_facts.proofs.Unread.{next}
 use Rattle.coord_facts.specs.Flowing.{Flows}
-use Rattle.desk_facts.proofs.Rows.{fragment_desks}
+use Rattle.desk_facts.proofs.Rows.{finished_desks, fragment_desks}
 use Rattle.desk_facts.specs.Own as owning
 use Rattle.doc_facts.proofs.Rows.{made_docs}
+use Rattle.doc_facts.proofs.Works.{finished_docs}
+use Rattle.entry_facts.proofs.Finishes.{finished_entries}
 use Rattle.entry_facts.proofs.Grounds.{faced_by}
 use Rattle.entry_facts.proofs.Makes.{EndsUnmade, IsMadeNew, IsToMake, fragment_entries}
 use Rattle.entry_facts.proofs.Stays.{its_number}
@@ -13,11 +15,13 @@ use Rattle.fragment_facts.proofs.Knowns.{IsUnmadeLoad, unmade_unheld}
 use Rattle.fragment_facts.proofs.Makes.{fragment_flows}
 use Rattle.fragment_facts.proofs.Orders.{event_known, just_fragmented}
 use Rattle.fragment_facts.specs.Fragments.{IsJustFragmented, fragment_of}
+use Rattle.fragment_orders.proofs.Works.{IsWaiting, finished_made_fragments, in_hand_waits, waiting_load}
 use Rattle.frame_whole.proofs.FlowsAlike.{flows_if}
+use Rattle.frame_whole.proofs.Queued.{queued_after}
 use Rattle.hang_facts.proofs.Rows.{left_hangs}
 use Rattle.home_facts.proofs.Rows as homing
 use Rattle.kept_facts.proofs.Rows as keeping
-use Rattle.load_facts.proofs.Rows.{look_blind, made_loading}
+use Rattle.load_facts.proofs.Rows.{finished_loading, look_blind, made_loading}
 use Rattle.load_facts.specs.Loading.{is_ongoing, look}
 use Rattle.load_whereabouts.proofs.Answered.{finished_fragment, made_fragment_once}
 use Rattle.load_whereabouts.specs.Whereabouts.{waits_to_fragment}
@@ -29,22 +33,26 @@ use Rattle.log_model.specs.declared.job.Order.{Order}
 use Rattle.log_model.specs.declared.job.Task.{Task}
 use Rattle.log_model.specs.declared.made.Made.{Made}
 use Rattle.log_model.specs.declared.request.Mode.{Mode}
-use Rattle.mover_facts.proofs.Rows.{made_movers}
-use Rattle.place_facts.proofs.Rows.{made_standing}
+use Rattle.log_model.specs.declared.request.Request.TheVariants as requests
+use Rattle.log_model.specs.declared.request.Request.{Request}
+use Rattle.mover_facts.proofs.Rows.{finished_movers, made_movers}
+use Rattle.place_facts.proofs.Rows.{finished_standing, made_standing}
 use Rattle.request_facts.proofs.Cores.{finished_cores}
-use Rattle.request_facts.proofs.Onces.{load_alike}
+use Rattle.request_facts.proofs.Onces.{finished_once, load_alike}
 use Rattle.request_facts.proofs.Readers.{finished_reads}
 use Rattle.request_facts.specs.Whereabouts.{is_of_load}
 use Rattle.rest_facts.proofs.Kept.{left_kept}
-use Rattle.std.proofs.Common.{Bool, List, None, Option, Some, [], ap, false, refl, subst, sym, true, ℕ, ◌∙◌, ◌≡◌}
-use Rattle.std.specs.Prelude.{is_some, not, option_map}
+use Rattle.shown_facts.proofs.Rows.{finished_shown, made_shown}
+use Rattle.std.proofs.Common.{Bool, List, None, Option, Some, [], ap, false, refl, subst, sym, true, ℕ, ◌&&◌, ◌∙◌, ◌≡◌}
+use Rattle.std.specs.Prelude.{is_none, is_some, not, option_map}
 use Rattle.tab_ids.specs.declared.DocId.{DocId}
 use Rattle.tab_ids.specs.declared.NavId.{NavId}
 use Rattle.tab_ids.specs.declared.ProcId.{ProcId}
 use Rattle.tab_ids.specs.declared.ReqId.{ReqId}
 use Rattle.tab_whole.proofs.Joining.{joined_ways}
-use Rattle.tab_whole.proofs.Working.{finish_flows, finished_tab, in_hand_lives}
+use Rattle.tab_whole.proofs.Working.{finish_flows, in_hand_lives, unmade}
 use Rattle.tab_whole.specs.Tab.{IsTab}
+use Rattle.transit_facts.proofs.Rows.{finished_ways}
 use Rattle.transit_facts.specs.Orders.{IsOutcomeOf}
 use Rattle.log_model.specs.declared.job.Task.TheVariants as tasks
 use Rattle.log_model.specs.declared.outcome.Outcome.TheVariants as outcomes
@@ -54,20 +62,33 @@ use Rattle.log_model.specs.declared.row_kind.RowKind.TheVariants as rows
 some_same : {A : Type 0} {a b : A} → (let o : Option A = Some a in o) ≡ Some b → a ≡ b
 some_same e = cc
 
--- the order in hand sends its document, which runs with this view, to a fragment for a load that waits for it
+-- the order in hand sends its document, which runs with this view, to a fragment for a request
 pub record IsToFragment (s : Seen) (proc : ProcId) (order : Order) (req : ReqId) (mode : Mode) (address : List ℕ) (d : Document) (view : View) : Type 0 where
   pub in_hand : (desk_of s proc).in_hand ≡ Some order
   pub task : order.job.task ≡ tasks.DoFragment req mode address
   pub found : document_of s order.job.doc ≡ Some d
   pub has : d.view ≡ Some view
   pub runs : view.running ≡ true
-  -- the load has no outcome, nothing was made of it, and a document was sent to a fragment for it
-  pub q : Asked
-  pub nav : NavId
-  pub to : Mode
-  pub at : List ℕ
-  pub load : IsUnmadeLoad s req q nav to at
-  pub sent : is_some q.fragment ≡ true
+
+-- a load that waits has no outcome, nothing was made of it, and a document was sent for it
+record IsOpenSent (q : Asked) : Type 0 where
+  unended : q.ending ≡ None
+  unmade : q.made ≡ None
+  sent : is_some q.fragment ≡ true
+
+is_none_none : {A : Type 0} (o : Option A) → is_none o ≡ true → o ≡ None
+is_none_none None e = refl
+is_none_none (Some x) never = absurd cc
+
+open_sent : (q : Asked) → waits_to_fragment q ≡ true → IsOpenSent q
+open_sent q waits = by_tests (is_none q.ending) (is_none q.made) (is_some q.fragment) refl refl refl waits
+  where
+    by_tests : (a b c : Bool) → is_none q.ending ≡ a → is_none q.made ≡ b → is_some q.fragment ≡ c → ((a && b) && c) ≡ true → IsOpenSent q
+    by_tests true true true e m f is =
+        record { unended = is_none_none q.ending e; unmade = is_none_none q.made m; sent = f }
+    by_tests true true false e m f never = absurd cc
+    by_tests true false c e m f never = absurd cc
+    by_tests false b c e m f never = absurd cc
 
 -- what is made is new, and the document's
 fragment_new : (view : View) (mode : Mode) (address : List ℕ) → IsMadeNew view (fragment_of view mode address)
@@ -97,9 +118,6 @@ module _ (run : Option ReqId) (s : Seen) (event : ℕ) (proc : ProcId) (tab : Is
   abbrev pub fragment_made : Seen
   fragment_made = next (next s event (actors.Proc proc) (rows.Finished proc order.job.nr outcomes.Fragmented)) event (actors.Proc proc) (rows.Made proc (made_for view req (fragment_of view mode address)))
 
-  now : IsTab run [] [] finished
-  now = finished_tab run s event proc tab flows order outcomes.Fragmented is.in_hand its tt
-
   now_flows : Flows finished
   now_flows = finish_flows run s event proc tab flows order outcomes.Fragmented is.in_hand its tt
 
@@ -115,35 +133,61 @@ module _ (run : Option ReqId) (s : Seen) (event : ℕ) (proc : ProcId) (tab : Is
 
   -- ---- the load
 
-  what_load : is_load is.q.what ≡ true
-  what_load = ap is_load is.load.what
+  -- it waits for the order
+  waiting : IsWaiting s req
+  waiting = in_hand_waits s tab.fragments.once proc order req mode address is.in_hand is.task
 
-  waits : waits_to_fragment is.q ≡ true
-  waits = rw (is.load.unended, is.load.unmade, is.sent) refl
+  what_load : is_load waiting.q.what ≡ true
+  what_load = waiting_load s tab.fragments req waiting
+
+  rests : IsOpenSent waiting.q
+  rests = open_sent waiting.q waiting.waits
+
+  record IsItsLoad : Type 0 where
+    nav : NavId
+    to : Mode
+    at : List ℕ
+    load : IsUnmadeLoad s req waiting.q nav to at
+
+  its_load : IsItsLoad
+  its_load = by_what waiting.q.what refl what_load
+    where
+      by_what : (what : Request) → waiting.q.what ≡ what → is_load what ≡ true → IsItsLoad
+      by_what (requests.Load nav to at) e load =
+          record {
+            nav = nav;
+            to = to;
+            at = at;
+            load = record { asked = waiting.found; what = e; unmade = rests.unmade; unended = rests.unended };
+          }
+      by_what (requests.Go delta) e never = absurd cc
+      by_what (requests.Poke nav action) e never = absurd cc
+      by_what (requests.Reload nav) e never = absurd cc
 
   unparked : has_req s.parked req ≡ false
-  unparked = unmade_unheld s req is.q is.nav is.to is.at is.load tab.known
+  unparked =
+      unmade_unheld s req waiting.q its_load.nav its_load.to its_load.at its_load.load tab.known
 
   load_then : is_of_load (request_in finished.requests req) ≡ true
   load_then =
       load_alike (request_in finished.requests req) (request_in s.requests req) (finished_cores s (desk_of s proc).in_hand outcomes.Fragmented s.requests req)
-      ∙ ap is_of_load is.load.asked ∙ what_load
+      ∙ ap is_of_load waiting.found ∙ what_load
 
   -- it hasn't begun
-  idle : is.q.is_started ≡ false
-  idle = by_started is.q.is_started refl
+  idle : waiting.q.is_started ≡ false
+  idle = by_started waiting.q.is_started refl
     where
-      by_started : (b : Bool) → is.q.is_started ≡ b → is.q.is_started ≡ false
+      by_started : (b : Bool) → waiting.q.is_started ≡ b → waiting.q.is_started ≡ false
       by_started false e = e
       by_started true e =
-          let none : is_some is.q.fragment ≡ false = ap (λ (o : Option DocId). is_some o) ((tab.asked.each req is.q is.load.asked).begun e) in
-          let never : true ≡ false = sym is.sent ∙ none in absurd cc
+          let none : is_some waiting.q.fragment ≡ false = ap (λ (o : Option DocId). is_some o) ((tab.asked.each req waiting.q waiting.found).begun e) in
+          let never : true ≡ false = sym rests.sent ∙ none in absurd cc
 
   no_ongoing : (q : Asked) → request_of finished req ≡ Some q → is_ongoing (look q) ≡ false
   no_ongoing q there =
       let looks : option_map look (request_in finished.requests req) ≡ option_map look (request_in s.requests req) = finished_reads look look_blind s (desk_of s proc).in_hand outcomes.Fragmented s.requests req in
-      let both : Some (look is.q) ≡ Some (look q) = ap (λ (o : Option Asked). option_map look o) (sym is.load.asked) ∙ sym looks ∙ ap (λ (o : Option Asked). option_map look o) there in
-      let one : look is.q ≡ look q = some_same both in
+      let both : Some (look waiting.q) ≡ Some (look q) = ap (λ (o : Option Asked). option_map look o) (sym waiting.found) ∙ sym looks ∙ ap (λ (o : Option Asked). option_map look o) there in
+      let one : look waiting.q ≡ look q = some_same both in
       ap is_ongoing (sym one) ∙ rw idle refl
 
   -- ---- what is made
@@ -189,21 +233,24 @@ module _ (run : Option ReqId) (s : Seen) (event : ℕ) (proc : ProcId) (tab : Is
   pub fragment_made_tab : IsTab run [] [] fragment_made
   fragment_made_tab =
       record {
-        sound = now.sound;
-        hangs = left_hangs finished event (actors.Proc proc) now.hangs (rows.Made proc made) tt;
-        docs = made_docs finished event (actors.Proc proc) now.docs proc made;
-        whose = left_kept finished event (actors.Proc proc) now.whose (rows.Made proc made) tt;
-        homes = homing.left_rows finished event (actors.Proc proc) now.homes (rows.Made proc made) tt;
-        kept = keeping.left_rows finished event (actors.Proc proc) now.kept (rows.Made proc made) tt;
-        standing = made_standing finished event (actors.Proc proc) now.standing proc made;
-        movers = made_movers finished event (actors.Proc proc) now.movers proc made;
-        asked = made_plain run finished event (actors.Proc proc) now.asked proc made;
-        loading = made_loading finished event (actors.Proc proc) now.loading proc made no_ongoing;
-        once = made_fragment_once finished [] event (actors.Proc proc) proc made just.front order.job outcomes.Fragmented just.last just.follows load_then now.once;
-        trips = finished_fragment s event (actors.Proc proc) proc order.job.nr outcomes.Fragmented order is.in_hand [] (actors.Proc proc) made is.q is.load.asked what_load waits tab.trips;
-        known = event_known s event proc order req mode address is.task in_ d view is.found is.has number is.runs is.q is.nav is.to is.at is.load tab.known;
-        desks = fragment_desks finished event (actors.Proc proc) now.desks proc made order.job outcomes.Fragmented just.front made_in just.follows just.last (subst owning.IsFragmentTask (sym is.task) tt) (ap (λ (n : DocId). n.0) number);
-        ways = joined_ways finished event (actors.Proc proc) proc made just.follows now.ways;
-        entries = fragment_entries [] finished event (actors.Proc proc) now.entries proc made d view make just.follows ends;
+        sound = tab.sound;
+        hangs = left_hangs finished event (actors.Proc proc) (left_hangs s event (actors.Proc proc) tab.hangs (rows.Finished proc order.job.nr outcomes.Fragmented) tt) (rows.Made proc made) tt;
+        docs = made_docs finished event (actors.Proc proc) (finished_docs s event (actors.Proc proc) tab.docs tab.desks proc order outcomes.Fragmented is.in_hand tt) proc made;
+        whose = left_kept finished event (actors.Proc proc) (left_kept s event (actors.Proc proc) tab.whose (rows.Finished proc order.job.nr outcomes.Fragmented) tt) (rows.Made proc made) tt;
+        shown = made_shown finished event (actors.Proc proc) (finished_shown s event (actors.Proc proc) tab.shown proc order outcomes.Fragmented in_) proc made;
+        homes = homing.left_rows finished event (actors.Proc proc) (homing.left_rows s event (actors.Proc proc) tab.homes (rows.Finished proc order.job.nr outcomes.Fragmented) tt) (rows.Made proc made) tt;
+        kept = keeping.left_rows finished event (actors.Proc proc) (keeping.left_rows s event (actors.Proc proc) tab.kept (rows.Finished proc order.job.nr outcomes.Fragmented) tt) (rows.Made proc made) tt;
+        standing = made_standing finished event (actors.Proc proc) (finished_standing s event (actors.Proc proc) tab.standing proc order.job.nr outcomes.Fragmented) proc made;
+        movers = made_movers finished event (actors.Proc proc) (finished_movers s event (actors.Proc proc) tab.movers proc order.job.nr outcomes.Fragmented) proc made;
+        asked = made_plain run finished event (actors.Proc proc) (finished_plain run s event (actors.Proc proc) tab.asked proc order.job.nr outcomes.Fragmented) proc made;
+        queued = queued_after run finished event (actors.Proc proc) (queued_after run s event (actors.Proc proc) tab.queued (rows.Finished proc order.job.nr outcomes.Fragmented) tt) (rows.Made proc made) tt;
+        loading = made_loading finished event (actors.Proc proc) (finished_loading s event (actors.Proc proc) tab.loading proc order.job.nr outcomes.Fragmented) proc made no_ongoing;
+        fragments = finished_made_fragments s event (actors.Proc proc) proc order.job.nr outcomes.Fragmented order req mode address is.in_hand is.task tab.fragments (actors.Proc proc) made refl;
+        once = made_fragment_once finished [] event (actors.Proc proc) proc made just.front order.job outcomes.Fragmented just.last just.follows load_then (finished_once s [] event (actors.Proc proc) proc order.job.nr outcomes.Fragmented tab.once);
+        trips = finished_fragment s event (actors.Proc proc) proc order.job.nr outcomes.Fragmented order is.in_hand [] (actors.Proc proc) made waiting.q waiting.found what_load waiting.waits tab.trips;
+        known = event_known s event proc order req mode address is.task in_ d view is.found is.has number is.runs waiting.q its_load.nav its_load.to its_load.at its_load.load tab.known;
+        desks = fragment_desks finished event (actors.Proc proc) (finished_desks s event (actors.Proc proc) tab.desks proc order outcomes.Fragmented is.in_hand its) proc made order.job outcomes.Fragmented just.front made_in just.follows just.last (subst owning.IsFragmentTask (sym is.task) tt) (ap (λ (n : DocId). n.0) number);
+        ways = joined_ways finished event (actors.Proc proc) proc made just.follows (finished_ways s event (actors.Proc proc) tab.ways proc order outcomes.Fragmented is.in_hand its);
+        entries = fragment_entries [] finished event (actors.Proc proc) (finished_entries [] s event (actors.Proc proc) tab.entries proc order.job.nr outcomes.Fragmented (unmade run s event proc tab flows order outcomes.Fragmented is.in_hand its tt)) proc made d view make just.follows ends;
         flows = flows_if fragment_made fragment_made_flows;
       }

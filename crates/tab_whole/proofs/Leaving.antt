@@ -8,7 +8,9 @@ use Rattle.desk_facts.proofs.Orders as desk_orders
 use Rattle.doc_facts.proofs.Orders.{discarded_docs, frozen_docs}
 use Rattle.doc_facts.specs.Docs.{AreDocs}
 use Rattle.entry_facts.proofs.Orders.{TellsAlone, sent_entries}
+use Rattle.fragment_orders.proofs.Rows.{sent_other_fragments}
 use Rattle.frame_whole.proofs.FlowsGone.{discard_if}
+use Rattle.frame_whole.proofs.Queued.{queued_after}
 use Rattle.hang_facts.proofs.Hung.{places_distinct}
 use Rattle.hang_facts.proofs.Members as members
 use Rattle.hang_facts.proofs.Rows.{left_hangs}
@@ -49,6 +51,7 @@ use Rattle.transit_facts.proofs.Rows.{discarded_ways, frozen_ways}
 use Rattle.walk_facts.proofs.Placed.{each_found}
 use Rattle.log_model.specs.declared.job.Task.TheVariants as tasks
 use Rattle.log_model.specs.declared.row_kind.RowKind.TheVariants as rows
+use Rattle.shown_facts.proofs.Orders.{told_shown}
 
 module _ (run : Option ReqId) (loads : List ReqId) (hand : List Made) (s : Seen) (tab : IsTab run loads hand s) (job : Job) where
   -- all who fall asleep are moved by the order's reason, where each navigable that is awake on the document is
@@ -95,12 +98,15 @@ module _ (run : Option ReqId) (loads : List ReqId) (hand : List Made) (s : Seen)
           hangs = left_hangs s event actor tab.hangs (rows.Sent job) tt;
           docs = docs_frozen;
           whose = left_kept s event actor tab.whose (rows.Sent job) (subst (λ (t : Task). IsNoMaking t) (sym task) tt);
+          shown = told_shown s event actor tab.shown job (subst (λ (t : Task). load_docs.MakesNone t) (sym task) tt) (subst (λ (t : Task). load_docs.ShowsNone t) (sym task) tt);
           homes = frozen_homed s event actor job tab.sound tab.hangs tab.homes task;
           kept = told_kept s event actor tab.kept job (subst (λ (t : Task). kept_orders.ShowsNone t) (sym task) tt);
           standing = slept_standing s event actor tab.standing job tasks.Freeze task tt;
           movers = slept_movers s event actor tab.movers job tasks.Freeze task tt moves;
           asked = slept_plain run s event actor tab.asked job tasks.Freeze task tt;
+          queued = queued_after run s event actor tab.queued (rows.Sent job) tt;
           loading = told_loading s event actor tab.loading job (subst (λ (t : Task). load_docs.MakesNone t) (sym task) tt) (subst (λ (t : Task). load_docs.ShowsNone t) (sym task) tt);
+          fragments = sent_other_fragments s event actor tab.fragments job (subst (λ (t : Task). IsNoFragment t) (sym task) tt);
           once = sent_once s (at_hand loads hand) event actor job tab.once;
           trips = sent_loads s (at_hand loads hand) event actor tab.trips job (subst (λ (t : Task). IsNoFragment t) (sym task) tt);
           known = sent_known s event actor job tab.known;
@@ -135,12 +141,15 @@ module _ (run : Option ReqId) (loads : List ReqId) (hand : List Made) (s : Seen)
           hangs = left_hangs s event actor tab.hangs (rows.Sent job) tt;
           docs = discarded_docs s event actor tab.docs job task (λ x found. ap (λ (y : Document). y.is_ready) (some_same (sym found ∙ to.found)) ∙ to.ready);
           whose = left_kept s event actor tab.whose (rows.Sent job) (subst (λ (t : Task). IsNoMaking t) (sym task) tt);
+          shown = told_shown s event actor tab.shown job (subst (λ (t : Task). load_docs.MakesNone t) (sym task) tt) (subst (λ (t : Task). load_docs.ShowsNone t) (sym task) tt);
           homes = homes_left;
           kept = discarded_kept s event actor tab.kept job task;
           standing = slept_standing s event actor tab.standing job tasks.Discard task tt;
           movers = slept_movers s event actor tab.movers job tasks.Discard task tt moves;
           asked = slept_plain run s event actor tab.asked job tasks.Discard task tt;
+          queued = queued_after run s event actor tab.queued (rows.Sent job) tt;
           loading = told_loading s event actor tab.loading job (subst (λ (t : Task). load_docs.MakesNone t) (sym task) tt) (subst (λ (t : Task). load_docs.ShowsNone t) (sym task) tt);
+          fragments = sent_other_fragments s event actor tab.fragments job (subst (λ (t : Task). IsNoFragment t) (sym task) tt);
           once = sent_once s (at_hand loads hand) event actor job tab.once;
           trips = sent_loads s (at_hand loads hand) event actor tab.trips job (subst (λ (t : Task). IsNoFragment t) (sym task) tt);
           known = sent_known s event actor job tab.known;

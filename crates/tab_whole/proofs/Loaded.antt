@@ -10,6 +10,7 @@ use Rattle.entry_facts.proofs.Applied.{pushed_rows, replaced_rows}
 use Rattle.entry_facts.proofs.Changes.{load_pushed_entries, load_replaced_entries}
 use Rattle.entry_facts.proofs.Ends.{IsToEnd}
 use Rattle.entry_facts.proofs.Skips.{without_made}
+use Rattle.frame_whole.proofs.Queued.{queued_after}
 use Rattle.frame_whole.proofs.Soundly.{none_entry, sound_pushed, sound_replaced}
 use Rattle.frame_whole.specs.Untold.{FlowsIf}
 use Rattle.hang_facts.specs.Members.{Has}
@@ -23,6 +24,7 @@ use Rattle.load_facts.specs.Loading.{IsLoading, look}
 use Rattle.load_whereabouts.specs.Whereabouts.{times_on_way}
 use Rattle.log_model.specs.AfterPlaces.{given_entry, on_place, places_applied, places_given, with_taker}
 use Rattle.log_model.specs.AfterRequests.{without_req}
+use Rattle.log_model.specs.Equal.{holds}
 use Rattle.log_model.specs.History.{applied, fits, has_row}
 use Rattle.log_model.specs.Once.{next_entry_of}
 use Rattle.log_model.specs.Places.{is_load, is_ongoing_load, is_traversal}
@@ -157,6 +159,9 @@ module _ (run : Option ReqId) (loads : List ReqId) (hand : List Made) (s : Seen)
         unanswered true (Some y) c e = absurd cc
         unanswered false (Some y) c e = absurd cc
 
+    ongoing : holds is_ongoing_load (request_in s.requests req) ≡ true
+    ongoing = rw there going
+
     way : 0 < times_on_way (request_in s.requests req)
     way = (let one : 0 < times_on_way (request_in s.requests req) = rw there (rw going (omega arith)) in one)
 
@@ -194,7 +199,7 @@ module _ (run : Option ReqId) (loads : List ReqId) (hand : List Made) (s : Seen)
     load_pushed address memo fit =
         record {
           unended = unended;
-          carried = inr (inr (inr way));
+          carried = inr (inr (inr ongoing));
           fit = fit;
           sound = sound_pushed s.history nav (next_entry_of s) state address memo tab.sound fit (none_entry s.history.rows (next_entry_of s) (fresh run loads hand s tab)) (λ row has same. absurd (unheld row has (ap (λ (x : StateId). x.0) same)));
           brings = λ row has same. absurd (unheld row has same);
@@ -203,6 +208,7 @@ module _ (run : Option ReqId) (loads : List ReqId) (hand : List Made) (s : Seen)
           homes = homes event actor req push nav state places old_or_new;
           standing = standing.load_push_standing s event actor tab.standing req nav (next_entry_of s) state address memo (record { q = q; found = there; unmade = its.unmade }) (ungiven run loads hand s tab nav);
           asked = applied_plain run s event actor tab.asked req push other;
+          queued = queued_after run s event actor tab.queued (rows.Applied req push) other;
           entries = load_pushed_entries hand s event actor tab.entries req end (ap (λ (o : Option Asked). option_and_then (λ (x : Asked). x.made) o) there ∙ its.unmade) nav state address memo fit;
           flows = flows event actor req push nav state places old_or_new end (λ d apart. alone (takes_in push) d (all_pushed nav (next_entry_of s) (next_entry_of s) state address memo refl (d ∷ []) (apart, tt)))
               (pushed_rows s.history nav (next_entry_of s) state address memo (λ e. Unit {0}) tt fit).had;
@@ -221,7 +227,7 @@ module _ (run : Option ReqId) (loads : List ReqId) (hand : List Made) (s : Seen)
     load_replaced over address memo fit =
         record {
           unended = unended;
-          carried = inr (inr (inr way));
+          carried = inr (inr (inr ongoing));
           fit = fit;
           sound = sound_replaced s.history nav over (next_entry_of s) state address memo tab.sound fit (none_entry s.history.rows (next_entry_of s) (fresh run loads hand s tab)) (λ row has same. absurd (unheld row has (ap (λ (x : StateId). x.0) same)));
           brings = inr unheld;
@@ -230,6 +236,7 @@ module _ (run : Option ReqId) (loads : List ReqId) (hand : List Made) (s : Seen)
           homes = homes event actor req put nav state places old_or_new;
           standing = standing.load_replace_standing s event actor tab.standing req nav over (next_entry_of s) state address memo (record { q = q; found = there; unmade = its.unmade }) (ungiven run loads hand s tab nav);
           asked = applied_plain run s event actor tab.asked req put other;
+          queued = queued_after run s event actor tab.queued (rows.Applied req put) other;
           entries = load_replaced_entries hand s event actor tab.entries req end (ap (λ (o : Option Asked). option_and_then (λ (x : Asked). x.made) o) there ∙ its.unmade) nav state address memo over;
           flows = flows event actor req put nav state places old_or_new end (λ d apart. alone (takes_in put) d (all_replaced nav over (next_entry_of s) state address memo refl (d ∷ []) (apart, tt)))
               (replaced_rows s.history nav over (next_entry_of s) state address memo (λ e. Unit {0}) tt).had;

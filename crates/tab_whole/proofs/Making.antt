@@ -12,8 +12,10 @@ use Rattle.doc_facts.specs.Docs.{HasPlace}
 use Rattle.each_facts.specs.Items.{Each}
 use Rattle.entry_facts.proofs.Making.{making_entries}
 use Rattle.entry_facts.specs.Entries.{IsMadeIn, IsMadeThere, mades_of, waiting}
+use Rattle.fragment_orders.proofs.Rows.{sent_other_fragments}
 use Rattle.frame_whole.proofs.FlowsMaking.{IsNewTo, found_or, make_if}
-use Rattle.hang_facts.proofs.Forms.{IsPlaceOf, place_there}
+use Rattle.frame_whole.proofs.Queued.{queued_after}
+use Rattle.hang_facts.proofs.Forms.{IsPlaceOf, nav_is, place_there}
 use Rattle.hang_facts.proofs.Members.{has_any}
 use Rattle.hang_facts.proofs.Rows.{left_hangs}
 use Rattle.hang_facts.specs.Forms.{forms_of}
@@ -34,6 +36,7 @@ use Rattle.log_model.proofs.Refl.{nat_eq_refl}
 use Rattle.log_model.specs.AfterDocuments.{documents_sent, new_document}
 use Rattle.log_model.specs.AfterPlaces.{places_sent}
 use Rattle.log_model.specs.AfterRequests.{requests_sent}
+use Rattle.log_model.specs.Equal.{has_doc}
 use Rattle.log_model.specs.History.{is_of}
 use Rattle.log_model.specs.Once.{loads}
 use Rattle.log_model.specs.Places.{is_ongoing_load}
@@ -61,7 +64,10 @@ use Rattle.tab_whole.proofs.Sending.{lives_first, some_same}
 use Rattle.tab_whole.specs.Tab.{IsTab, at_hand}
 use Rattle.transit_facts.proofs.Rows.{making_ways}
 use Rattle.log_model.specs.declared.job.Task.TheVariants as tasks
+use Rattle.log_model.specs.declared.request.Request.{Request}
 use Rattle.log_model.specs.declared.row_kind.RowKind.TheVariants as rows
+use Rattle.shown_facts.proofs.Making.{making_shown}
+use Rattle.shown_facts.specs.Shown.{HasDocument}
 
 -- ---- nothing is of a number that no document has
 
@@ -166,19 +172,18 @@ pub record IsMakeOf (s : Seen) (job : Job) (state : StateId) : Type 0 where
   -- each other document of the state is discarded
   pub alone : (doc : DocId) (d : Document) → document_of s doc ≡ Some d → d.state ≡ state → d.is_discarded ≡ true
 
--- the request is an ongoing load of the navigable, which has a place, with the document state; no navigable was ever awake on a document of the order's number
-pub record IsLoadToMake (s : Seen) (job : Job) (req : ReqId) (q : Asked) (nav : NavId) (state : StateId) : Type 0 where
+-- the request is an ongoing load of the navigable, with the document state
+pub record IsLoadToMake (s : Seen) (req : ReqId) (q : Asked) (nav : NavId) (state : StateId) : Type 0 where
   pub found : request_of s req ≡ Some q
   pub ongoing : is_ongoing_load q ≡ true
   pub loads_it : loads nav q.what ≡ true
   pub own : q.state ≡ Some state
-  pub placed : HasPlace s.places nav
-  pub unshown : IsNeverShown s job.doc
 
--- the navigable of the document state has a place, and its entries are the navigable's
+-- the navigable of the document state has a place, and its entries and documents are the navigable's
 record IsStateOf (s : Seen) (nav : NavId) (state : StateId) : Type 0 where
   placed : HasPlace s.places nav
   owned : (row : Row) → Has s.history.rows row → row.state ≡ state → row.nav ≡ nav
+  docs : (doc : DocId) (d : Document) → document_of s doc ≡ Some d → d.state ≡ state → d.nav ≡ nav
 
 module _ (run : Option ReqId) (loads_ : List ReqId) (hand : List Made) (s : Seen) (event : ℕ) (actor : Actor) (tab : IsTab run loads_ hand s) (job : Job) where
   abbrev pub making : Seen
@@ -226,12 +231,15 @@ module _ (run : Option ReqId) (loads_ : List ReqId) (hand : List Made) (s : Seen
           hangs = left_hangs s event actor tab.hangs (rows.Sent job) tt;
           docs = making_docs s event actor tab.docs tab.desks tab.asked.died job nav state address initial task absent of.placed make.first make.alone;
           whose = making_kept s event actor tab.whose job nav state address initial task absent of.owned;
+          shown = making_shown s event actor tab.shown tab.desks job nav state address initial task absent (lives_first run loads_ hand s tab job make.first) of.docs;
           homes = make_homed s event actor tab.homes job nav state address initial task;
           kept = told_kept s event actor tab.kept job (subst (λ (t : Task). kept_orders.ShowsNone t) (sym task) tt);
           standing = making_standing s event actor tab.standing job nav state address initial task nowhere;
           movers = told_movers s event actor tab.movers job (tasks.Populate nav state address initial) task tt;
           asked = told_plain run s event actor tab.asked job (tasks.Populate nav state address initial) task tt;
+          queued = queued_after run s event actor tab.queued (rows.Sent job) tt;
           loading = loading;
+          fragments = sent_other_fragments s event actor tab.fragments job (subst (λ (t : Task). IsNoFragment t) (sym task) tt);
           once = sent_once s (at_hand loads_ hand) event actor job tab.once;
           trips = sent_loads s (at_hand loads_ hand) event actor tab.trips job (subst (λ (t : Task). IsNoFragment t) (sym task) tt);
           known = sent_known s event actor job tab.known;
@@ -262,6 +270,7 @@ module _ (run : Option ReqId) (loads_ : List ReqId) (hand : List Made) (s : Seen
         record {
           placed = record { place = place.place; found = ap (λ (n : NavId). place_in s.places n) (sym of) ∙ place.found };
           owned = owned;
+          docs = λ doc d found same. sym (tab.whose.whose doc d target found there (sym same)) ∙ of;
         }
 
     pub make_tab : IsTab run loads_ hand making
@@ -271,7 +280,7 @@ module _ (run : Option ReqId) (loads_ : List ReqId) (hand : List Made) (s : Seen
 
   -- ---- for an ongoing load
 
-  module _ (req : ReqId) (q : Asked) (nav : NavId) (state : StateId) (address : List ℕ) (initial : Bool) (task : job.task ≡ tasks.Populate nav state address initial) (make : IsMakeOf s job state) (load : IsLoadToMake s job req q nav state) where
+  module _ (req : ReqId) (q : Asked) (nav : NavId) (state : StateId) (address : List ℕ) (initial : Bool) (task : job.task ≡ tasks.Populate nav state address initial) (make : IsMakeOf s job state) (load : IsLoadToMake s req q nav state) where
     its_look : look_of s req ≡ Some (look q)
     its_look = rw load.found refl
 
@@ -281,6 +290,30 @@ module _ (run : Option ReqId) (loads_ : List ReqId) (hand : List Made) (s : Seen
     state_is : is.state ≡ state
     state_is = some_same (sym is.state_is ∙ load.own)
 
+    its_nav : is.nav ≡ nav
+    its_nav =
+        let both : (is.nav.0 == nav.0) ≡ true = ap (λ (w : Request). loads nav w) (sym is.what) ∙ load.loads_it in
+        nav_is is.nav nav both
+
+    -- no entry has the document state
+    state_of_load : IsStateOf s nav state
+    state_of_load =
+        record {
+          placed = subst (λ (n : NavId). HasPlace s.places n) its_nav (tab.shown.placed req (look q) is.nav is.mode is.address its_look load.ongoing is.what);
+          docs = λ doc d found same. is.whose doc d found (ap (λ (x : StateId). x.0) (same ∙ sym state_is)) ∙ its_nav;
+          owned = λ row has same. absurd (is.unheld row has (ap (λ (x : StateId). x.0) (same ∙ sym state_is)));
+        }
+
+    -- no navigable was ever awake on a document of the order's number
+    unshown : IsNeverShown s job.doc
+    unshown n place placed = by_test (has_doc place.ever_awake job.doc) refl
+      where
+        by_test : (b : Bool) → has_doc place.ever_awake job.doc ≡ b → has_doc place.ever_awake job.doc ≡ false
+        by_test false e = e
+        by_test true e =
+            let there : HasDocument s job.doc = tab.shown.there n place job.doc placed e in
+            absurd (gone nav state address initial task make state_of_load there.document there.found)
+
     -- another ongoing load with the document state is the same one
     its_own : (other : ReqId) (l : Look) → look_of s other ≡ Some l → is_ongoing l ≡ true → l.state ≡ Some state → loads nav l.what ≡ true
     its_own other l there on its =
@@ -288,17 +321,9 @@ module _ (run : Option ReqId) (loads_ : List ReqId) (hand : List Made) (s : Seen
         let same : look q ≡ l = some_same (sym its_look ∙ ap (λ (n : ℕ). look_of s (record { 0 = n })) (sym number) ∙ there) in
         ap (λ (x : Look). loads nav x.what) (sym same) ∙ load.loads_it
 
-    -- no entry has the document state
-    state_of_load : IsStateOf s nav state
-    state_of_load =
-        record {
-          placed = load.placed;
-          owned = λ row has same. absurd (is.unheld row has (ap (λ (x : StateId). x.0) (same ∙ sym state_is)));
-        }
-
     pub make_load_tab : IsTab run loads_ hand making
     make_load_tab =
         let new_number : document_of s job.doc ≡ None = absent nav state address initial task make state_of_load in
         let low : state.0 ≤ s.states = subst (λ (x : StateId). x.0 ≤ s.states) state_is is.numbered in
         making_tab nav state address initial task make state_of_load
-        (making_loading s event actor tab.loading job nav state address initial task (record { new = new_number; unshown = load.unshown; numbered = low; whose = its_own }))
+        (making_loading s event actor tab.loading job nav state address initial task (record { new = new_number; unshown = unshown; numbered = low; whose = its_own }))

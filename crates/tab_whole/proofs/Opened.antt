@@ -5,7 +5,9 @@ use Rattle.coord_facts.specs.Flowing.{Flows}
 use Rattle.desk_facts.proofs.Rows.{opened_desks}
 use Rattle.doc_facts.proofs.Making.{opened_docs}
 use Rattle.entry_facts.proofs.Opened.{opened_entries}
+use Rattle.fragment_orders.proofs.Rows.{opened_fragments}
 use Rattle.frame_whole.proofs.FlowsAlike.{flows_if}
+use Rattle.frame_whole.proofs.Queued.{queued_none}
 use Rattle.kept_facts.proofs.Rows.{opened_kept}
 use Rattle.load_facts.proofs.Begun.{opened_loading}
 use Rattle.load_whereabouts.proofs.Rows.{opened_loads}
@@ -16,6 +18,7 @@ use Rattle.place_facts.proofs.Rows.{opened_standing}
 use Rattle.request_facts.specs.Knowns.{AreKnownAt}
 use Rattle.rest_facts.proofs.Opened.{opened_composed}
 use Rattle.rest_facts.specs.Between.{IsComposed}
+use Rattle.shown_facts.proofs.Opened.{opened_shown}
 use Rattle.std.proofs.Common.{Bool, List, None, [], arith, cond, false, true, ℕ, ◌==◌, ◌≡◌, ◌≤◌}
 use Rattle.tab_ids.specs.declared.DocId.{DocId}
 use Rattle.tab_ids.specs.declared.EntryId.{EntryId}
@@ -62,12 +65,15 @@ module _ (event : ℕ) (actor : Actor) (entry : EntryId) (state : StateId) (doc 
         hangs = composed.hangs;
         docs = opened_docs event actor entry state doc proc address;
         whose = composed.kept;
+        shown = opened_shown event actor entry state doc proc None address;
         homes = composed.homes;
         kept = opened_kept event actor entry state doc proc None address;
         standing = opened_standing event actor entry state doc proc None address;
         movers = opened_movers event actor entry state doc proc None address;
         asked = opened_plain event actor entry state doc proc None address;
+        queued = queued_none opened_seen;
         loading = opened_loading event actor entry state doc proc None address state_low;
+        fragments = opened_fragments event actor entry state doc proc None address;
         once = composed.once;
         trips = opened_loads event actor entry state doc proc None address;
         known = record { desks = bare; joined = tt; parked = tt };

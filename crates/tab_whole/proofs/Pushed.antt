@@ -9,6 +9,7 @@ use Rattle.entry_facts.proofs.Skips.{without_made}
 use Rattle.entry_facts.proofs.Takes.{pushed_entries}
 use Rattle.entry_facts.specs.Entries.{IsItsOwn}
 use Rattle.frame_whole.proofs.Entries.{IsNewRow}
+use Rattle.frame_whole.proofs.Queued.{queued_after}
 use Rattle.frame_whole.proofs.Soundly.{none_entry, sound_pushed}
 use Rattle.hang_facts.proofs.Members.{Passing, any_has, has_any, has_more}
 use Rattle.hang_facts.specs.Members.{Has}
@@ -88,11 +89,12 @@ module _ (run : Option ReqId) (loads : List ReqId) (hand : List Made) (s : Seen)
         fit = up.fit;
         sound = sound_pushed s.history d.nav entry d.state address memo tab.sound up.fit (none_entry s.history.rows entry is.new) (λ row there same. tab.whose.whose made.doc d row up.found there same);
         brings = λ row there same. tab.whose.whose made.doc d row up.found there (ap (λ (n : ℕ). let x : StateId = record { 0 = n } in x) same);
-        owned = up.owned;
+        owned = λ doc x found. tab.shown.of_one made.doc doc d x up.found found;
         free = is.free;
         homes = pushed_homed s event actor req tab.homes d.nav entry d.state address memo is.gives_new;
         standing = given_push_standing s event actor tab.standing req d.nav entry d.state address memo is.gives;
         asked = applied_plain run s event actor tab.asked req change up.other;
+        queued = queued_after run s event actor tab.queued (rows.Applied req change) up.other;
         entries = pushed_entries hand (without_made req hand) s event actor tab.entries tab.flows.whose req made d entry memo address what is.take up.fit;
         flows = is.flows;
       })

@@ -1,13 +1,13 @@
--- All that holds of a tab between two rows holds after a request is refused or dropped of which nothing is held back or at hand: one that was accepted in the event, one in the queue, and a load on its way.
+-- All that holds of a tab between two rows holds after a request is refused or dropped of which nothing is held back or at hand: one that was accepted in the event, one in the queue, and an ongoing load.
 use Rattle.coord_facts.proofs.Unread.{next}
 use Rattle.coord_facts.proofs.Held.{without_same}
 use Rattle.each_facts.specs.Runs.{is_this}
 use Rattle.entry_facts.proofs.Skips.{without_made}
 use Rattle.frame_whole.proofs.Ending.{reqs_of}
 use Rattle.frame_whole.proofs.Refusing.{none_without, turn_joined}
-use Rattle.load_whereabouts.specs.Whereabouts.{times_on_way, waits_to_fragment, ways_of}
+use Rattle.load_whereabouts.specs.Whereabouts.{times_on_way, ways_of}
 use Rattle.log_model.specs.AfterRequests.{without_req}
-use Rattle.log_model.specs.Equal.{has_req}
+use Rattle.log_model.specs.Equal.{has_req, holds}
 use Rattle.log_model.specs.Places.{is_load, is_ongoing_load, is_traversal, is_under_way}
 use Rattle.log_model.specs.Queue.{begins_in_turn}
 use Rattle.log_model.specs.Seen.{Asked, Seen, request_in, request_of}
@@ -127,29 +127,26 @@ module _ (run : Option ReqId) (loads : List ReqId) (hand : List Made) (s : Seen)
   pub nowhere_tab : begins_in_turn s req ≡ true → (actor : Actor) (reason : Denial) → IsNoProcess actor → IsTab run loads hand (next s event actor (rows.Refused req reason))
   nowhere_tab turn = queued_refused_tab (turn_joined s req turn)
 
--- a load on its way: an ongoing one, or one whose fragment order was sent and of which nothing was made
-module _ (run : Option ReqId) (loads : List ReqId) (hand : List Made) (s : Seen) (event : ℕ) (tab : IsTab run loads hand s) (req : ReqId) (q : Asked) (found : request_of s req ≡ Some q) (load : is_load q.what ≡ true) where
+-- an ongoing load
+module _ (run : Option ReqId) (loads : List ReqId) (hand : List Made) (s : Seen) (event : ℕ) (tab : IsTab run loads hand s) (req : ReqId) (q : Asked) (found : request_of s req ≡ Some q) (load : is_load q.what ≡ true) (ongoing : is_ongoing_load q ≡ true) where
   its_load : is_of_load (request_in s.requests req) ≡ true
   its_load = ap is_of_load found ∙ load
 
   its_other : is_this run req ≡ false
   its_other = load_other run loads hand s tab req its_load
 
-  module _ (way : 0 < ways_of q) where
-    its_way : 0 < times_on_way (request_in s.requests req)
-    its_way = subst (λ (o : Option Asked). 0 < times_on_way o) (sym found) way
+  its_carried : IsCarried loads hand s req
+  its_carried = inr (inr (inr (ap (holds is_ongoing_load) found ∙ ongoing)))
 
-    pub way_refused_tab : (actor : Actor) (reason : Denial) → IsNoProcess actor → IsTab run loads hand (next s event actor (rows.Refused req reason))
-    way_refused_tab =
-        unheld_refused run loads hand s event tab req its_other (inr (inr (inr its_way))) (way_unheld run loads hand s tab req its_way)
+  its_way : 0 < times_on_way (request_in s.requests req)
+  its_way =
+      subst (λ (o : Option Asked). 0 < times_on_way o) (sym found) (let way : 0 < ways_of q = rw ongoing (omega arith) in way)
 
-    pub way_dropped_tab : (actor : Actor) (cause : Cause) → IsTab run loads hand (next s event actor (rows.Dropped req cause))
-    way_dropped_tab =
-        unheld_dropped run loads hand s event tab req its_other (inr (inr (inr its_way))) (way_unheld run loads hand s tab req its_way)
+  its_unheld : IsUnheld run loads hand s tab req
+  its_unheld = way_unheld run loads hand s tab req its_way
 
-  pub load_dropped_tab : is_ongoing_load q ≡ true → (actor : Actor) (cause : Cause) → IsTab run loads hand (next s event actor (rows.Dropped req cause))
-  load_dropped_tab ongoing = way_dropped_tab (rw ongoing (omega arith))
+  pub ongoing_refused_tab : (actor : Actor) (reason : Denial) → IsNoProcess actor → IsTab run loads hand (next s event actor (rows.Refused req reason))
+  ongoing_refused_tab = unheld_refused run loads hand s event tab req its_other its_carried its_unheld
 
-  -- its fragment order's document made nothing of it
-  pub missed_dropped_tab : waits_to_fragment q ≡ true → (actor : Actor) (cause : Cause) → IsTab run loads hand (next s event actor (rows.Dropped req cause))
-  missed_dropped_tab waits = way_dropped_tab (rw waits (omega arith))
+  pub load_dropped_tab : (actor : Actor) (cause : Cause) → IsTab run loads hand (next s event actor (rows.Dropped req cause))
+  load_dropped_tab = unheld_dropped run loads hand s event tab req its_other its_carried its_unheld

@@ -11,6 +11,7 @@ use Rattle.entry_facts.proofs.Stays.{under_of}
 use Rattle.entry_facts.proofs.Takes.{replaced_entries}
 use Rattle.entry_facts.specs.Entries.{IsItsOwn, mades_of, untold, waiting}
 use Rattle.frame_whole.proofs.Entries.{IsNewRow}
+use Rattle.frame_whole.proofs.Queued.{queued_after}
 use Rattle.frame_whole.proofs.Soundly.{none_entry, sound_replaced}
 use Rattle.hang_facts.proofs.Forms.{nav_is}
 use Rattle.hang_facts.proofs.Members.{IsOf, Passing, any_has, has_any, has_map, has_tidied}
@@ -156,11 +157,12 @@ module _ (run : Option ReqId) (loads : List ReqId) (hand : List Made) (s : Seen)
         fit = up.fit;
         sound = sound_replaced s.history d.nav over entry d.state address memo tab.sound up.fit (none_entry s.history.rows entry is.new) (λ row there same. tab.whose.whose made.doc d row up.found there same);
         brings = inl of_state;
-        owned = up.owned;
+        owned = λ doc x found. tab.shown.of_one made.doc doc d x up.found found;
         free = is.free;
         homes = replaced_homed s event actor req tab.homes d.nav over entry d.state address memo is.gives_new;
         standing = given_replace_standing s event actor tab.standing req d.nav over entry d.state address memo is.gives;
         asked = applied_plain run s event actor tab.asked req change up.other;
+        queued = queued_after run s event actor tab.queued (rows.Applied req change) up.other;
         entries = replaced_entries hand (without_made req hand) s event actor tab.entries tab.flows.whose req made d over entry memo address what is.take;
         flows = is.flows;
       })

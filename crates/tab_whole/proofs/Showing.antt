@@ -8,6 +8,8 @@ use Rattle.desk_facts.proofs.Orders as desk_orders
 use Rattle.doc_facts.proofs.Orders.{shown_docs}
 use Rattle.entry_facts.proofs.Shows.{IsToShow, shown_entries}
 use Rattle.entry_facts.specs.Entries.{waiting}
+use Rattle.fragment_orders.proofs.Rows.{sent_other_fragments}
+use Rattle.frame_whole.proofs.Queued.{queued_after}
 use Rattle.hang_facts.proofs.Members.{slice_has}
 use Rattle.hang_facts.proofs.Parts.{state_is}
 use Rattle.hang_facts.proofs.Rows.{left_hangs}
@@ -50,6 +52,7 @@ use Rattle.tab_whole.specs.Tab.{IsTab, at_hand}
 use Rattle.transit_facts.proofs.Rows.{shown_ways}
 use Rattle.log_model.specs.declared.job.Task.TheVariants as tasks
 use Rattle.log_model.specs.declared.row_kind.RowKind.TheVariants as rows
+use Rattle.shown_facts.proofs.Orders.{shown_shown}
 
 -- a document may be shown at an entry under an epoch
 pub record IsShowOf (s : Seen) (job : Job) (d : Document) (place : Place) (target : Row) (epoch : Epoch) : Type 0 where
@@ -67,8 +70,6 @@ pub record IsShowOf (s : Seen) (job : Job) (d : Document) (place : Place) (targe
   pub moved : nat_lt 1 epoch.0 ≡ true → IsMovedBy s job.why d.nav
   -- where it sleeps, the navigable above is awake on a document of the state on which it hangs
   pub up : place.status ≡ asleep → (parent : NavId) (others : List NavId) → place.above ≡ parent ∷ others → IsOnAwake s place parent
-  -- the orders on their way to the document lead to a view
-  pub viewed : is_some (pending_view d (desk_of s d.proc)) ≡ true
 
 module _ (run : Option ReqId) (loads : List ReqId) (hand : List Made) (s : Seen) (event : ℕ) (actor : Actor) (tab : IsTab run loads hand s) (job : Job) (d : Document) (place : Place) (target : Row) (epoch : Epoch) (long at : ℕ) (task : job.task ≡ tasks.Activate target.entry epoch long at target.memo target.address) (show : IsShowOf s job d place target epoch) where
   abbrev pub shown : Seen
@@ -93,7 +94,7 @@ module _ (run : Option ReqId) (loads : List ReqId) (hand : List Made) (s : Seen)
   some_view : (view : View) × (pending_view d (desk_of s job.proc) ≡ Some view)
   some_view =
       by_view (pending_view d (desk_of s job.proc)) refl
-      (ap (λ (p : ProcId). is_some (pending_view d (desk_of s p))) (sym show.home) ∙ show.viewed)
+      (ap (λ (p : ProcId). is_some (pending_view d (desk_of s p))) (sym show.home) ∙ tab.shown.viewed job.doc d show.found usable_parts.2)
     where
       by_view : (o : Option View) → pending_view d (desk_of s job.proc) ≡ o → is_some o ≡ true → (view : View) × (pending_view d (desk_of s job.proc) ≡ Some view)
       by_view None e some = absurd cc
@@ -178,12 +179,15 @@ module _ (run : Option ReqId) (loads : List ReqId) (hand : List Made) (s : Seen)
         hangs = left_hangs s event actor tab.hangs (rows.Sent job) tt;
         docs = shown_docs s event actor tab.docs job d show.found target.entry epoch long at target.memo target.address task;
         whose = left_kept s event actor tab.whose (rows.Sent job) (subst (λ (t : Task). IsNoMaking t) (sym task) tt);
+        shown = shown_shown s event actor tab.shown job d show.found target.entry epoch long at target.memo target.address task;
         homes = shown_homed s event actor job d target.entry epoch long at target.memo target.address task show.found tab.sound tab.hangs tab.homes place show.placed usable_parts.1 usable_parts.2 usable_parts.3 target show.there refl (sym usable_parts.0) on_awake;
         kept = shown_kept s event actor tab.kept job d target.entry epoch long at target.memo target.address task show.found usable_parts.1 place show.placed;
         standing = shown_standing s event actor tab.standing job d target.entry epoch long at target.memo target.address task to_stand;
         movers = shown_movers s event actor tab.movers job d target.entry epoch long at target.memo target.address task show.found moves;
         asked = shown_plain run s event actor tab.asked job target.entry epoch long at target.memo target.address task;
+        queued = queued_after run s event actor tab.queued (rows.Sent job) tt;
         loading = shown_loading s event actor tab.loading job d target.entry epoch long at target.memo target.address task show.found free;
+        fragments = sent_other_fragments s event actor tab.fragments job (subst (λ (t : Task). IsNoFragment t) (sym task) tt);
         once = sent_once s (at_hand loads hand) event actor job tab.once;
         trips = sent_loads s (at_hand loads hand) event actor tab.trips job (subst (λ (t : Task). IsNoFragment t) (sym task) tt);
         known = sent_known s event actor job tab.known;

@@ -25,7 +25,6 @@ use Rattle.load_facts.proofs.Changes.{IsOthersFree, document_free}
 use Rattle.log_model.proofs.Refl.{nat_eq_refl}
 use Rattle.log_model.specs.AfterDocuments.{view_finished}
 use Rattle.log_model.specs.AfterPlaces.{given_entry, on_place, with_taker}
-use Rattle.log_model.specs.Equal.{has_doc}
 use Rattle.log_model.specs.History.{applied, fits, has_row}
 use Rattle.log_model.specs.Seen.{Asked, Desk, Document, Place, Seen, awake, desk_of, document_of, place_in, place_of, request_of}
 use Rattle.log_model.specs.Views.{View}
@@ -40,7 +39,6 @@ use Rattle.log_model.specs.declared.row_kind.RowKind.TheVariants as rows
 use Rattle.place_facts.proofs.Changes.{IsToGive}
 use Rattle.place_facts.specs.Standing.{IsShownOnce, IsStanding}
 use Rattle.rest_facts.proofs.Stands.{get_of}
-use Rattle.rest_facts.specs.Owning.{BringsOwned}
 use Rattle.std.proofs.Common.{Bool, List, None, Option, Some, [], ap, arith, cond, false, fold, inl, inr, length, refl, subst, suc, sym, true, zero, ℕ, ◌&&◌, ◌<◌, ◌==◌, ◌∙◌, ◌∷◌, ◌≡◌, ◌≤◌, ◌⊎◌}
 use Rattle.std.proofs.lemmas.Bool.{eqb-true}
 use Rattle.std.specs.Prelude.{filter, if◌then◌else◌, is_some, option_and_then, slice_get}
@@ -68,12 +66,10 @@ pub record IsToTakeUp (run : Option ReqId) (loads : List ReqId) (hand : List Mad
   pub placed : place_of s d.nav ≡ Some place
   pub wakes : place.status ≡ awake made.doc
   pub under : (made.epoch.0 == place.epoch.0) ≡ true
-  pub shown : has_doc place.ever_awake made.doc ≡ true
   -- it waits first of all that the document made
   pub list : IsFirstOf (waiting s hand) made (waiting (next s event actor (rows.Applied req change)) (without_made req hand))
-  -- its change fits, and each document of the change's document state is the navigable's
+  -- its change fits
   pub fit : fits s.history change ≡ true
-  pub owned : BringsOwned s change
 
 -- the change brings a row of its new entry, which shows what the document shows then, and changes no other document
 pub record IsItsEntry (s : Seen) (made : Made) (d : Document) (change : Change) (entry : EntryId) (memo : Option (List ℕ)) (address : List ℕ) (f : Document → Document) : Type 0 where
@@ -406,7 +402,7 @@ module _ (run : Option ReqId) (loads : List ReqId) (hand : List Made) (s : Seen)
             of_state = λ row has navs same. absurd (fresh row has same);
           };
           gives_new = record { q = up.q; made = made; asked = up.there; makes = up.makes; fresh = fresh; own = own_state };
-          free = document_free s req made.doc d d.nav up.place tab.loading up.found up.placed up.shown;
+          free = document_free s req made.doc d d.nav up.place tab.loading up.found up.placed (tab.shown.ever d.nav up.place made.doc up.placed up.wakes);
           flows = taken_if hand rest s t made g taken_up tab.flows;
         }
       where

@@ -7,7 +7,9 @@ use Rattle.desk_facts.proofs.Orders as desk_orders
 use Rattle.doc_facts.proofs.Orders.{told_docs}
 use Rattle.doc_facts.proofs.Orders as doc_orders
 use Rattle.entry_facts.proofs.Orders.{TellsAlone, sent_entries}
+use Rattle.fragment_orders.proofs.Rows.{sent_other_fragments}
 use Rattle.frame_whole.proofs.FlowsTold.{update_if}
+use Rattle.frame_whole.proofs.Queued.{queued_after}
 use Rattle.hang_facts.proofs.Rows.{left_hangs}
 use Rattle.home_facts.proofs.Rows.{told_homed}
 use Rattle.kept_facts.proofs.Orders.{told_kept}
@@ -33,6 +35,7 @@ use Rattle.tab_whole.specs.Tab.{IsTab, at_hand}
 use Rattle.transit_facts.proofs.Rows.{told_ways}
 use Rattle.log_model.specs.declared.job.Task.TheVariants as tasks
 use Rattle.log_model.specs.declared.row_kind.RowKind.TheVariants as rows
+use Rattle.shown_facts.proofs.Orders.{told_shown}
 
 -- an order that tells a document that is made its length and index
 pub tell_tab : (run : Option ReqId) (loads : List ReqId) (hand : List Made) (s : Seen) (event : ℕ) (actor : Actor) → (tab : IsTab run loads hand s) → (job : Job) (long at : ℕ) (d : Document) → job.task ≡ tasks.Update long at → IsToMade s job d → IsTab run loads hand (next s event actor (rows.Sent job))
@@ -42,12 +45,15 @@ tell_tab run loads hand s event actor tab job long at d task to =
       hangs = left_hangs s event actor tab.hangs (rows.Sent job) tt;
       docs = told_docs s event actor tab.docs job (subst (λ (t : Task). doc_orders.OnlyTells s event actor tab.docs job t) (sym task) tt);
       whose = left_kept s event actor tab.whose (rows.Sent job) (subst (λ (t : Task). IsNoMaking t) (sym task) tt);
+      shown = told_shown s event actor tab.shown job (subst (λ (t : Task). load_docs.MakesNone t) (sym task) tt) (subst (λ (t : Task). load_docs.ShowsNone t) (sym task) tt);
       homes = told_homed s event actor tab.homes job (tasks.Update long at) task tt;
       kept = told_kept s event actor tab.kept job (subst (λ (t : Task). kept_orders.ShowsNone t) (sym task) tt);
       standing = told_standing s event actor tab.standing job (tasks.Update long at) task tt;
       movers = told_movers s event actor tab.movers job (tasks.Update long at) task tt;
       asked = told_plain run s event actor tab.asked job (tasks.Update long at) task tt;
+      queued = queued_after run s event actor tab.queued (rows.Sent job) tt;
       loading = told_loading s event actor tab.loading job (subst (λ (t : Task). load_docs.MakesNone t) (sym task) tt) (subst (λ (t : Task). load_docs.ShowsNone t) (sym task) tt);
+      fragments = sent_other_fragments s event actor tab.fragments job (subst (λ (t : Task). IsNoFragment t) (sym task) tt);
       once = sent_once s (at_hand loads hand) event actor job tab.once;
       trips = sent_loads s (at_hand loads hand) event actor tab.trips job (subst (λ (t : Task). IsNoFragment t) (sym task) tt);
       known = sent_known s event actor job tab.known;

@@ -7,6 +7,8 @@ use Rattle.desk_facts.proofs.Orders as desk_orders
 use Rattle.doc_facts.proofs.Orders.{told_docs}
 use Rattle.doc_facts.proofs.Orders as doc_orders
 use Rattle.entry_facts.proofs.Orders.{TellsAlone, sent_entries}
+use Rattle.fragment_orders.proofs.Works.{sent_fragments}
+use Rattle.frame_whole.proofs.Queued.{queued_after}
 use Rattle.hang_facts.proofs.Rows.{left_hangs}
 use Rattle.home_facts.proofs.Rows.{told_homed}
 use Rattle.kept_facts.proofs.Orders.{told_kept}
@@ -37,16 +39,24 @@ use Rattle.tab_whole.specs.Tab.{IsTab, at_hand}
 use Rattle.transit_facts.proofs.Rows.{told_ways}
 use Rattle.log_model.specs.declared.job.Task.TheVariants as tasks
 use Rattle.log_model.specs.declared.row_kind.RowKind.TheVariants as rows
+use Rattle.shown_facts.proofs.Orders.{told_shown}
 
--- the request is a load of which nothing was made
-pub record IsLoadUnmade (s : Seen) (req : ReqId) (q : Asked) : Type 0 where
+-- the request is a load for which no document was sent to a fragment yet
+pub record IsLoadUnsent (s : Seen) (req : ReqId) (q : Asked) : Type 0 where
   pub found : request_of s req ≡ Some q
   pub load : is_load q.what ≡ true
-  pub unmade : q.made ≡ None
+  pub unsent : q.fragment ≡ None
 
-module _ (run : Option ReqId) (loads : List ReqId) (hand : List Made) (s : Seen) (event : ℕ) (actor : Actor) (req : ReqId) (tab : IsTab run (req ∷ loads) hand s) (q : Asked) (of : IsLoadUnmade s req q) (job : Job) (mode : Mode) (address : List ℕ) (d : Document) (task : job.task ≡ tasks.DoFragment req mode address) (to : IsToMade s job d) where
+none_of : {A : Type 0} (o : Option A) → is_none o ≡ true → o ≡ None
+none_of None e = refl
+none_of (Some x) e = absurd cc
+
+module _ (run : Option ReqId) (loads : List ReqId) (hand : List Made) (s : Seen) (event : ℕ) (actor : Actor) (req : ReqId) (tab : IsTab run (req ∷ loads) hand s) (q : Asked) (of : IsLoadUnsent s req q) (job : Job) (mode : Mode) (address : List ℕ) (d : Document) (task : job.task ≡ tasks.DoFragment req mode address) (to : IsToMade s job d) where
   abbrev pub ordered : Seen
   ordered = next s event actor (rows.Sent job)
+
+  unended : q.ending ≡ None
+  unended = none_of q.ending (begun.at_hand s (at_hand loads hand) req q of.found of.load tab.trips).0.unended
 
   -- a load at hand hasn't begun
   unstarted : q.is_started ≡ false
@@ -67,14 +77,17 @@ module _ (run : Option ReqId) (loads : List ReqId) (hand : List Made) (s : Seen)
         hangs = left_hangs s event actor tab.hangs (rows.Sent job) tt;
         docs = told_docs s event actor tab.docs job (subst (λ (t : Task). doc_orders.OnlyTells s event actor tab.docs job t) (sym task) tt);
         whose = left_kept s event actor tab.whose (rows.Sent job) (subst (λ (t : Task). IsNoMaking t) (sym task) tt);
+        shown = told_shown s event actor tab.shown job (subst (λ (t : Task). load_docs.MakesNone t) (sym task) tt) (subst (λ (t : Task). load_docs.ShowsNone t) (sym task) tt);
         homes = told_homed s event actor tab.homes job (tasks.DoFragment req mode address) task tt;
         kept = told_kept s event actor tab.kept job (subst (λ (t : Task). kept_orders.ShowsNone t) (sym task) tt);
         standing = told_standing s event actor tab.standing job (tasks.DoFragment req mode address) task tt;
         movers = told_movers s event actor tab.movers job (tasks.DoFragment req mode address) task tt;
         asked = fragment_plain run s event actor tab.asked job req mode address q task of.found of.load unstarted;
+        queued = queued_after run s event actor tab.queued (rows.Sent job) tt;
         loading = told_loading s event actor tab.loading job (subst (λ (t : Task). load_docs.MakesNone t) (sym task) tt) (subst (λ (t : Task). load_docs.ShowsNone t) (sym task) tt);
+        fragments = sent_fragments s event actor job req mode address q task of.found of.load unended of.unsent tab.fragments;
         once = sent_fragment_once s (at_hand loads hand) event actor job req (rw of.found of.load) tab.once;
-        trips = sent_fragment s event actor job req mode address task (at_hand loads hand) q of.found of.load of.unmade tab.trips;
+        trips = sent_fragment s event actor job req mode address task (at_hand loads hand) q of.found of.load (tab.fragments.unsent req q of.found of.load of.unsent) tab.trips;
         known = sent_known s event actor job tab.known;
         desks = told_desks s event actor tab.desks job (subst (λ (t : Task). desk_orders.IsTold t) (sym task) tt) (ordered_home run (req ∷ loads) hand s tab job d to);
         ways = told_ways s event actor tab.ways job (tasks.DoFragment req mode address) task tt;

@@ -6,6 +6,7 @@ use Rattle.entry_facts.proofs.Applied.{removed_rows}
 use Rattle.entry_facts.proofs.Changes.{removed_entries, traversed_entries}
 use Rattle.entry_facts.proofs.Ends.{IsToEnd}
 use Rattle.entry_facts.proofs.Skips.{without_made}
+use Rattle.frame_whole.proofs.Queued.{queued_after, queued_none}
 use Rattle.frame_whole.proofs.Soundly.{sound_removed}
 use Rattle.frame_whole.proofs.Taking.{were_there}
 use Rattle.frame_whole.proofs.Traversals.{sound_at, traversed_if}
@@ -51,7 +52,7 @@ runs_open a q c runs = by_ending a q.ending c runs
 
 -- ---- the traversal that runs ends
 
-module _ (loads : List ReqId) (hand : List Made) (s : Seen) (event : ℕ) (actor : Actor) (req : ReqId) (tab : IsTab (Some req) loads hand s) (q : Asked) (goal : Step) (there : request_of s req ≡ Some q) (fit : fits s.history (changes.Traverse goal) ≡ true) (queued : has_req s.joined req ≡ true) where
+module _ (loads : List ReqId) (hand : List Made) (s : Seen) (event : ℕ) (actor : Actor) (req : ReqId) (tab : IsTab (Some req) loads hand s) (q : Asked) (goal : Step) (there : request_of s req ≡ Some q) (fit : fits s.history (changes.Traverse goal) ≡ true) where
   abbrev pub gone : Seen
   gone = next s event actor (rows.Applied req (changes.Traverse goal))
 
@@ -60,6 +61,9 @@ module _ (loads : List ReqId) (hand : List Made) (s : Seen) (event : ℕ) (actor
 
   unended : (x : Asked) → request_of s req ≡ Some x → x.ending ≡ None
   unended x at = (let both : Some q ≡ Some x = sym there ∙ at in let one : q ≡ x = cc in subst (λ (y : Asked). y.ending ≡ None) one (runs_open q.is_started q (is_traversal q.what) runs))
+
+  queued : has_req s.joined req ≡ true
+  queued = tab.queued req refl
 
   unheld : IsUnheld (Some req) loads hand s tab req
   unheld = joined_unheld (Some req) loads hand s tab req queued
@@ -78,6 +82,7 @@ module _ (loads : List ReqId) (hand : List Made) (s : Seen) (event : ℕ) (actor
         homes = traversed_homed s event actor req tab.homes goal;
         standing = traversed_standing s event actor tab.standing req goal;
         asked = ended_plain req s event actor tab.asked (changes.Traverse goal);
+        queued = queued_none gone;
         entries = traversed_entries hand s event actor tab.entries req (unheld_end (Some req) loads hand s tab req unheld) goal;
         flows = subst (λ (l : List Made). FlowsIf l gone) (sym (unheld_hand (Some req) loads hand s tab req unheld)) (traversed_if s event actor hand req goal unheld.parked tab.flows);
       })
@@ -119,6 +124,7 @@ module _ (run : Option ReqId) (loads : List ReqId) (hand : List Made) (s : Seen)
         homes = removed_homed s event actor req tab.homes nav;
         standing = removed_standing s event actor tab.standing req nav (record { q = q; found = there });
         asked = applied_plain run s event actor tab.asked req (changes.RemoveFrame nav) other;
+        queued = queued_after run s event actor tab.queued (rows.Applied req (changes.RemoveFrame nav)) other;
         entries = removed_entries hand s event actor tab.entries req end nav;
         flows = applied_if hand s event actor req (changes.RemoveFrame nav) refl end
             (λ doc d found. ap (λ (l : List Document). find (λ (x : Document). x.nr.0 == doc.0) l) (sym (map_itself s.documents)) ∙ found)

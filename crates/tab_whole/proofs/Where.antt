@@ -3,12 +3,13 @@ use Rattle.asked_facts.specs.Asking.{IsAskedPlainly}
 use Rattle.coord_facts.proofs.Held.{without_same}
 use Rattle.entry_facts.proofs.Ends.{IsToEnd}
 use Rattle.entry_facts.proofs.Skips.{without_made}
+use Rattle.fragment_orders.proofs.Ends.{WaitsNot}
 use Rattle.frame_whole.proofs.Ending.{reqs_of, reqs_without, some_times}
 use Rattle.frame_whole.proofs.Refusing.{none_without}
 use Rattle.hang_facts.specs.Members.{Has}
 use Rattle.load_whereabouts.specs.Whereabouts.{times_on_way, waits_to_fragment}
 use Rattle.log_model.specs.AfterRequests.{without_req}
-use Rattle.log_model.specs.Equal.{has_req}
+use Rattle.log_model.specs.Equal.{has_req, holds}
 use Rattle.log_model.specs.Places.{is_load, is_ongoing_load, is_under_way}
 use Rattle.log_model.specs.Seen.{Asked, Seen, request_in}
 use Rattle.log_model.specs.declared.made.Made.{Made}
@@ -16,17 +17,17 @@ use Rattle.request_facts.proofs.Endings.{due_small}
 use Rattle.request_facts.proofs.Times.{times_append, times_none}
 use Rattle.request_facts.specs.Whereabouts.{is_of_load, times, times_at, times_due, times_found}
 use Rattle.seen_laws.proofs.Sums.{over}
-use Rattle.std.proofs.Common.{Bool, List, None, Option, Some, [], ap, arith, false, inl, inr, refl, sym, true, ℕ, ◌&&◌, ◌+◌, ◌++◌, ◌<◌, ◌==◌, ◌||◌, ◌∙◌, ◌∷◌, ◌≡◌, ◌⊎◌}
+use Rattle.std.proofs.Common.{Bool, List, None, Option, Some, [], ap, arith, false, inl, inr, refl, sym, true, ℕ, ◌&&◌, ◌+◌, ◌++◌, ◌<◌, ◌==◌, ◌≤◌, ◌||◌, ◌∙◌, ◌∷◌, ◌≡◌, ◌⊎◌}
 use Rattle.std.proofs.lemmas.Bool.{eqb-true}
 use Rattle.std.proofs.lemmas.List.Elements.{filter-append}
-use Rattle.std.specs.Prelude.{is_none, is_some, not}
+use Rattle.std.specs.Prelude.{if◌then◌else◌, is_none, is_some, not}
 use Rattle.tab_ids.specs.declared.ReqId.{ReqId}
 use Rattle.tab_whole.specs.Tab.{IsTab, at_hand}
 
--- it is in the queue, held back, at hand, or a load on its way
+-- it is in the queue, held back, at hand, or an ongoing load
 abbrev pub IsCarried : List ReqId → List Made → Seen → ReqId → Type 0
 IsCarried loads hand s req =
-    (has_req s.joined req ≡ true) ⊎ ((has_req s.parked req ≡ true) ⊎ ((has_req (at_hand loads hand) req ≡ true) ⊎ (0 < times_on_way (request_in s.requests req))))
+    (has_req s.joined req ≡ true) ⊎ ((has_req s.parked req ≡ true) ⊎ ((has_req (at_hand loads hand) req ≡ true) ⊎ (holds is_ongoing_load (request_in s.requests req) ≡ true)))
 
 -- what is at hand once a request isn't
 pub hands_without : (req : ReqId) (loads : List ReqId) (hand : List Made) → at_hand (without_req req loads) (without_made req hand) ≡ without_req req (at_hand loads hand)
@@ -56,6 +57,29 @@ nothing_goes hand s req unparked none =
           let never : true ≡ false = sym parked ∙ ap (λ (x : ReqId). has_req s.parked x) one ∙ unparked in absurd cc;
       at_hand = λ made has same. absurd (none_at req hand made none has same);
     }
+
+-- an ongoing load is on its way, as that alone; and who isn't on its way doesn't wait
+on_way : (o : Option Asked) → holds is_ongoing_load o ≡ true → 0 < times_on_way o
+on_way None e = absurd cc
+on_way (Some q) e = (let one : 0 < times_on_way (Some q) = rw e (omega arith) in one)
+
+ongoing_no_wait : (o : Option Asked) → holds is_ongoing_load o ≡ true → times_on_way o < 2 → holds waits_to_fragment o ≡ false
+ongoing_no_wait None e few = refl
+ongoing_no_wait (Some q) e few = by_test (is_ongoing_load q) (waits_to_fragment q) e few
+  where
+    by_test : (a b : Bool) → a ≡ true → (if a then 1 else 0) + (if b then 1 else 0) < 2 → b ≡ false
+    by_test true true e low = absurd (omega (arith, low))
+    by_test true false e low = refl
+    by_test false b e low = absurd cc
+
+no_wait : (o : Option Asked) → times_on_way o ≡ 0 → holds waits_to_fragment o ≡ false
+no_wait None e = refl
+no_wait (Some q) e = by_test (is_ongoing_load q) (waits_to_fragment q) e
+  where
+    by_test : (a b : Bool) → (if a then 1 else 0) + (if b then 1 else 0) ≡ 0 → b ≡ false
+    by_test a false e = refl
+    by_test true true e = absurd (omega (arith, e))
+    by_test false true e = absurd (omega (arith, e))
 
 module _ (run : Option ReqId) (loads : List ReqId) (hand : List Made) (s : Seen) (tab : IsTab run loads hand s) (req : ReqId) where
   -- what is no load isn't on its way
@@ -97,7 +121,26 @@ module _ (run : Option ReqId) (loads : List ReqId) (hand : List Made) (s : Seen)
       let n : 0 < times req (at_hand loads hand) = some_times req (at_hand loads hand) held in
       let small : times_due (request_in s.requests req) < 2 = due_small (request_in s.requests req) in
       omega (arith, n, all_once, small)
-  carried_off (inr (inr (inr way))) = omega (arith, way, at_most_once)
+  carried_off (inr (inr (inr ongoing))) =
+      let way : 0 < times_on_way (request_in s.requests req) = on_way (request_in s.requests req) ongoing in
+      omega (arith, way, at_most_once)
+
+  -- and it doesn't wait for what is made of a fragment order
+  pub carried_waits_not : IsCarried loads hand s req → WaitsNot s.requests req
+  carried_waits_not carried = by_place carried
+    where
+      nowhere : 1 ≤ times req s.joined + (times req s.parked + (times req loads + times req (reqs_of hand))) → WaitsNot s.requests req
+      nowhere some = no_wait (request_in s.requests req) (omega (arith, some, at_most_once))
+
+      by_place : IsCarried loads hand s req → WaitsNot s.requests req
+      by_place (inl joined) = nowhere (let n : 0 < times req s.joined = some_times req s.joined joined in omega (arith, n))
+      by_place (inr (inl parked)) = nowhere (let n : 0 < times req s.parked = some_times req s.parked parked in omega (arith, n))
+      by_place (inr (inr (inl held))) =
+          let n : 0 < times req (at_hand loads hand) = some_times req (at_hand loads hand) held in
+          let parts : times req (at_hand loads hand) ≡ times req loads + times req (reqs_of hand) = times_append req loads (reqs_of hand) in
+          nowhere (omega (arith, n, parts))
+      by_place (inr (inr (inr ongoing))) =
+          ongoing_no_wait (request_in s.requests req) ongoing (let few : times_on_way (request_in s.requests req) < 2 = omega (arith, at_most_once) in few)
 
   -- it isn't held back, and nothing made of it is at hand
   pub record IsUnheld : Type 0 where

@@ -1,4 +1,4 @@
--- All that holds of a tab between two events holds after a process takes up a live order, or finishes one, whatever it is: it makes, shows, tells, freezes, discards, asks its document or sends it to a fragment.
+-- All that holds of a tab between two events holds after a process takes up a live order, or finishes one that makes, shows, tells, freezes, discards or asks its document; what is on its way leads on after one that sends it to a fragment, too.
 use Rattle.asked_facts.proofs.Rows.{finished_plain, taken_plain}
 use Rattle.coord_facts.proofs.Answered.{IsAnswer, answer_flows}
 use Rattle.coord_facts.proofs.Flowings.{finished_flows, taken_flows}
@@ -20,13 +20,16 @@ use Rattle.entry_facts.proofs.Docs.{IsOfUnmade, MakesUnmade}
 use Rattle.entry_facts.proofs.Finishes.{FinishesUnmade, finished_entries}
 use Rattle.entry_facts.proofs.Rows.{taken_entries}
 use Rattle.entry_facts.proofs.Stays.{its_number}
+use Rattle.fragment_orders.proofs.Rows.{finished_other_fragments, taken_fragments}
 use Rattle.frame_whole.proofs.FlowsAlike.{flows_if}
+use Rattle.frame_whole.proofs.Queued.{queued_after}
 use Rattle.hang_facts.proofs.Rows.{left_hangs}
 use Rattle.home_facts.proofs.Rows as homing
 use Rattle.home_facts.specs.Homes.{IsHomed}
 use Rattle.kept_facts.proofs.Rows as keeping
 use Rattle.load_facts.proofs.Rows.{finished_loading, taken_loading}
 use Rattle.load_whereabouts.proofs.Rows.{finished_loads, taken_loads}
+use Rattle.load_whereabouts.proofs.Trips.{IsNoFragment}
 use Rattle.log_model.proofs.Refl.{nat_eq_refl}
 use Rattle.log_model.specs.Seen.{Asked, Document, Place, Seen, awake, desk_of, document_of, place_of, request_in}
 use Rattle.log_model.specs.declared.job.Job.{Job}
@@ -40,6 +43,7 @@ use Rattle.request_facts.proofs.KnownRows.{finished_known, taken_known}
 use Rattle.request_facts.proofs.Onces.{finished_once, taken_once}
 use Rattle.request_facts.specs.Cores.{Core, core_of}
 use Rattle.rest_facts.proofs.Kept.{left_kept}
+use Rattle.shown_facts.proofs.Rows.{finished_shown, taken_shown}
 use Rattle.std.proofs.Common.{Bool, List, None, Option, Some, [], ap, arith, false, length, refl, subst, sym, true, ℕ, ◌++◌, ◌+◌, ◌==◌, ◌∙◌, ◌∷◌, ◌≡◌}
 use Rattle.std.specs.Prelude.{option_and_then, option_map, option_to_list, slice_get}
 use Rattle.tab_ids.specs.declared.Death.{Death}
@@ -89,12 +93,15 @@ module _ (run : Option ReqId) (s : Seen) (event : ℕ) (proc : ProcId) (tab : Is
           hangs = left_hangs s event (actors.Proc proc) tab.hangs (rows.Taken proc job.nr true dirty) tt;
           docs = taken_docs s event (actors.Proc proc) tab.docs proc job dirty free first;
           whose = left_kept s event (actors.Proc proc) tab.whose (rows.Taken proc job.nr true dirty) tt;
+          shown = taken_shown s event (actors.Proc proc) tab.shown proc job dirty free first;
           homes = homing.left_rows s event (actors.Proc proc) tab.homes (rows.Taken proc job.nr true dirty) tt;
           kept = keeping.left_rows s event (actors.Proc proc) tab.kept (rows.Taken proc job.nr true dirty) tt;
           standing = taken_standing s event (actors.Proc proc) tab.standing proc job.nr true dirty;
           movers = taken_movers s event (actors.Proc proc) tab.movers proc job.nr true dirty;
           asked = taken_plain run s event (actors.Proc proc) tab.asked proc job.nr true dirty;
+          queued = queued_after run s event (actors.Proc proc) tab.queued (rows.Taken proc job.nr true dirty) tt;
           loading = taken_loading s event (actors.Proc proc) tab.loading proc job.nr true dirty;
+          fragments = taken_fragments s event (actors.Proc proc) tab.fragments proc job dirty free first;
           once = taken_once s [] event (actors.Proc proc) proc job.nr true dirty tab.once;
           trips = taken_loads s [] event (actors.Proc proc) tab.trips proc job.nr true dirty;
           known = taken_known s event (actors.Proc proc) proc job.nr true dirty tab.known;
@@ -156,7 +163,7 @@ module _ (run : Option ReqId) (s : Seen) (event : ℕ) (proc : ProcId) (tab : Is
     unready (tasks.Ask slot cause) task d found = tt
     unready (tasks.DoFragment req mode address) task d found = tt
 
-    unmade : FinishesUnmade s proc
+    pub unmade : FinishesUnmade s proc
     unmade other is d found =
         let both : Some order ≡ Some other = sym in_hand ∙ is in
         let same : order ≡ other = cc in
@@ -194,19 +201,23 @@ module _ (run : Option ReqId) (s : Seen) (event : ℕ) (proc : ProcId) (tab : Is
     pub finish_flows : Flows finished
     finish_flows = by_task order.job.task outcome refl refl its
 
-    pub finished_tab : IsTab run [] [] finished
-    finished_tab =
+    -- where it sends no document to a fragment; what is made of one that does is made in the same event
+    pub finished_tab : IsNoFragment order.job.task → IsTab run [] [] finished
+    finished_tab other =
         record {
           sound = tab.sound;
           hangs = left_hangs s event (actors.Proc proc) tab.hangs (rows.Finished proc order.job.nr outcome) tt;
           docs = finished_docs s event (actors.Proc proc) tab.docs tab.desks proc order outcome in_hand bare;
           whose = left_kept s event (actors.Proc proc) tab.whose (rows.Finished proc order.job.nr outcome) tt;
+          shown = finished_shown s event (actors.Proc proc) tab.shown proc order outcome in_hand_lives;
           homes = homing.left_rows s event (actors.Proc proc) tab.homes (rows.Finished proc order.job.nr outcome) tt;
           kept = keeping.left_rows s event (actors.Proc proc) tab.kept (rows.Finished proc order.job.nr outcome) tt;
           standing = finished_standing s event (actors.Proc proc) tab.standing proc order.job.nr outcome;
           movers = finished_movers s event (actors.Proc proc) tab.movers proc order.job.nr outcome;
           asked = finished_plain run s event (actors.Proc proc) tab.asked proc order.job.nr outcome;
+          queued = queued_after run s event (actors.Proc proc) tab.queued (rows.Finished proc order.job.nr outcome) tt;
           loading = finished_loading s event (actors.Proc proc) tab.loading proc order.job.nr outcome;
+          fragments = finished_other_fragments s event (actors.Proc proc) tab.fragments proc order.job.nr outcome order in_hand other;
           once = finished_once s [] event (actors.Proc proc) proc order.job.nr outcome tab.once;
           trips = finished_loads s [] event (actors.Proc proc) tab.trips proc order.job.nr outcome;
           known = finished_known s event (actors.Proc proc) proc order.job.nr outcome tab.known;

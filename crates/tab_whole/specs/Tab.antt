@@ -9,6 +9,8 @@ use Rattle.asked_facts.specs.Asking.{ArePlain}
 use Rattle.desk_facts.specs.Own.{AreDesksIn}
 use Rattle.doc_facts.specs.Docs.{AreDocs}
 use Rattle.entry_facts.specs.Entries.{AreEntries}
+use Rattle.fragment_orders.specs.Waiting.{AreFragments}
+use Rattle.frame_whole.specs.Beside.{IsQueued}
 use Rattle.frame_whole.specs.Untold.{FlowsIf}
 use Rattle.hang_facts.specs.Hanging.{Hangs}
 use Rattle.home_facts.specs.Homes.{AreHomed}
@@ -20,6 +22,7 @@ use Rattle.place_facts.specs.Standing.{AreStanding}
 use Rattle.request_facts.specs.Knowns.{AreKnown}
 use Rattle.request_facts.specs.Whereabouts.{AreOnce}
 use Rattle.rest_facts.specs.Between.{AreKept}
+use Rattle.shown_facts.specs.Shown.{AreShown}
 use Rattle.transit_facts.specs.Waiting.{AreOnTheirWay}
 
 -- the requests at hand in the event: those that were accepted in it and have gone nowhere yet, which are loads and pokes that reach no document, and those of which a document made something that is to be taken up or dropped
@@ -31,17 +34,20 @@ pub record IsTab (run : Option ReqId) (loads : List ReqId) (hand : List Made) (s
   -- the history, and how navigables hang in it
   pub sound : IsSound s.history
   pub hangs : Hangs s
-  -- the documents: what each is, whose they are, those of awake navigables, and those that are kept
+  -- the documents: what each is, whose they are, which were ever shown, those of awake navigables, and those that are kept
   pub docs : AreDocs s
   pub whose : AreKept s
+  pub shown : AreShown s
   pub homes : AreHomed s
   pub kept : AreKeptDocs s
   -- the navigables: where each stands, and who moved it
   pub standing : AreStanding s
   pub movers : AreMovers s
-  -- the requests: what each is, the ongoing loads, where each request is, and what is known of it there
+  -- the requests: what each is, the traversal that runs, the ongoing loads, those that wait for a fragment order, where each request is, and what is known of it there
   pub asked : ArePlain run s
+  pub queued : IsQueued run s
   pub loading : AreLoading s
+  pub fragments : AreFragments s
   pub once : AreOnce s (at_hand loads hand)
   pub trips : AreLoadsOnce s (at_hand loads hand)
   pub known : AreKnown s

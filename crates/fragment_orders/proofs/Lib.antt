@@ -1,0 +1,5 @@
+pub mod Counts
+pub mod Fates
+pub mod Ends
+pub mod Rows
+pub mod Works

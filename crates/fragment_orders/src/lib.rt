@@ -1,0 +1,5 @@
+//! The fragment orders of loads, between two rows: definitions and lemmas alone.
+#![tactic(auto)]
+
+/// Holds the crate's place: all that it gives stands in its definitions and lemmas.
+pub fn nothing() {}
