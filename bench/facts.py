@@ -296,6 +296,9 @@ def try_kept(b, ends, keep):
         d = s.docs[doc]
         count('kept', d.pop_delivered is not None and not d.discarded and doc not in awake and s.last_act[d.nav].doc != doc, doc)
         count('kept as an event ends', not ends or (d.state in states and doc in b.frozen), doc)
+    for d in s.docs.values():
+        count('left', not ends or d.discarded or d.pop_delivered is None or d.state in states
+              or any(q.lstate == d.state for q in ongoing_loads(s)), d.nr)
     count('kept apart', len(set(s.kept)) == len(s.kept))
     count('kept few', len(s.kept) <= keep + (not ends))
 

@@ -6,6 +6,7 @@ pub mod Taken
 pub mod Still
 pub mod Stands
 pub mod Seated
+pub mod Ended
 pub mod Settled
 pub mod Opened
 pub mod Kept

@@ -1,19 +1,21 @@
--- Where nothing is in transit, each awake navigable is shown at the current step, and awake on its target there, with the pair that is due.
-use Rattle.std.proofs.Common.{◌≡◌, inl, inr, ℕ, zero, suc, ◌+◌, ◌-◌, ◌≤◌, Bool, true, false, cond, not, ◌&&◌, ◌||◌, ◌==◌, List, [], ◌∷◌, length, Option, Some, None, refl, sym, ap, ◌∙◌, subst, arith}
+-- Where nothing is in transit, no load is ongoing; and each awake navigable is shown at the current step, and awake on its target there, with the pair that is due.
+use Rattle.std.proofs.Common.{◌≡◌, ◌⊎◌, inl, inr, ℕ, zero, suc, ◌+◌, ◌-◌, ◌≤◌, Bool, true, false, cond, not, ◌&&◌, ◌||◌, ◌==◌, List, [], ◌∷◌, length, Option, Some, None, refl, sym, ap, ◌∙◌, subst, arith}
 use Rattle.std.specs.Prelude.{option_and_then}
 use Rattle.std.specs.List.{list_all, list_any}
 use Rattle.std.proofs.lemmas.Bool.{and_parts, and_from, eqb-true}
 use Rattle.tab_ids.specs.declared.DocId.{DocId}
 use Rattle.tab_ids.specs.declared.EntryId.{EntryId}
 use Rattle.tab_ids.specs.declared.NavId.{NavId}
+use Rattle.tab_ids.specs.declared.ReqId.{ReqId}
 use Rattle.tab_ids.specs.declared.StateId.{StateId}
 use Rattle.log_model.specs.declared.row.Row.{Row}
 use Rattle.log_model.specs.Equal.{holds, same_pair}
-use Rattle.log_model.specs.ActsAtOnce.{ends_told, is_told}
+use Rattle.log_model.specs.ActsAtOnce.{ends_told, is_told, is_ready_load, has_document}
 use Rattle.log_model.specs.History.{has_state, same_entry, target_entry, owner_of}
 use Rattle.log_model.specs.Logs.{is_still}
-use Rattle.log_model.specs.Places.{holder_of, targets_state, way_up, is_shown_within, is_shown, is_lost, is_lost_in, has_lost_document, way_of, is_given_target, has_arrived, is_standing, is_wanted, pair_at, due_pair}
-use Rattle.log_model.specs.Seen.{Seen, Document, Place, Status, awake, lost, asleep, document_of, place_of}
+use Rattle.log_model.specs.Orders.{is_being_made, is_usable}
+use Rattle.log_model.specs.Places.{is_ongoing_load, holder_of, targets_state, way_up, is_shown_within, is_shown, is_lost, is_lost_in, has_lost_document, way_of, is_given_target, has_arrived, is_standing, is_wanted, pair_at, due_pair}
+use Rattle.log_model.specs.Seen.{Seen, Document, Asked, Place, Status, awake, lost, asleep, document_of, place_of, request_in}
 use Rattle.log_model.proofs.Refl.{nat_eq_refl}
 use Rattle.coord_facts.specs.OnItsWay.{stands_in}
 use Rattle.hang_facts.specs.AsPlaces.{IsHung, IsChain}
@@ -21,14 +23,15 @@ use Rattle.hang_facts.specs.Forms.{forms_of, form_of, form_in}
 use Rattle.hang_facts.specs.Members.{Has}
 use Rattle.hang_facts.proofs.Depths.{depth}
 use Rattle.hang_facts.proofs.Hung.{hangs_as, is_hung, own_form, place_chain}
-use Rattle.hang_facts.proofs.Members.{find_has, any_has}
+use Rattle.hang_facts.proofs.Members.{find_has, any_has, has_any}
 use Rattle.hang_facts.proofs.Parts.{state_is}
 use Rattle.hang_facts.proofs.Targets.{IsTarget, target_has}
 use Rattle.home_facts.specs.Homes.{IsHomed, IsOnAwake}
 use Rattle.walk_facts.proofs.Placed.{found_nav}
 use Rattle.walk_facts.proofs.Upwards.{one_more}
-use Rattle.rest_facts.specs.Between.{IsComposed}
-use Rattle.rest_facts.proofs.Stands.{none_runs, stand_now}
+use Rattle.rest_facts.specs.Between.{IsOfLoad, HasLoadDocument, IsComposedWithLoads}
+use Rattle.rest_facts.proofs.Still.{none_making}
+use Rattle.rest_facts.proofs.Stands.{request_has, none_runs, stand_now, none_ready}
 
 pub all_has : {A : Type 0} (test : A → Bool) (xs : List A) → list_all test xs ≡ true → (x : A) → Has xs x → test x ≡ true
 all_has test [] all x there = absurd there
@@ -95,9 +98,47 @@ leads_up rows step nav parent owner target owned held at state =
     let targets : targets_state rows step parent owner ≡ true = rw at (subst (λ (x : StateId). (target.state.0 == x.0) ≡ true) state (nat_eq_refl target.state.0)) in
     rw owned (rw held (rw targets refl))
 
-module _ (s : Seen) (is : IsComposed s) (still : is_still s ≡ true) where
+module _ (s : Seen) (is : IsComposedWithLoads s) (still : is_still s ≡ true) where
   abbrev now : ℕ
   now = s.history.current
+
+  -- ---- no load is ongoing
+
+  module _ (req : ReqId) (q : Asked) (at : request_in s.requests req ≡ Some q) (going : is_ongoing_load q ≡ true) where
+    load : HasLoadDocument s q
+    load = is.plain.loading req q at going
+
+    unready : is_ready_load s q ≡ false
+    unready =
+        let not_ready : not (is_ready_load s q) ≡ true = all_has (λ (x : Asked). not (is_ready_load s x)) s.requests (none_ready s is still) q (request_has s.requests req q at) in
+        by_test (is_ready_load s q) not_ready
+      where
+        by_test : (b : Bool) → not b ≡ true → b ≡ false
+        by_test true e = cc
+        by_test false e = refl
+
+    -- with a usable document it would be ready
+    ready : is_usable load.d load.state ≡ true → is_ready_load s q ≡ true
+    ready usable =
+        let there = (find_has (λ (d : Document). d.nr.0 == load.doc.0) s.documents load.d load.found).0 in
+        let any : list_any (λ (d : Document). is_usable d load.state) s.documents ≡ true = has_any (λ (d : Document). is_usable d load.state) s.documents load.d there usable in
+        let has : has_document s q ≡ true = ap (λ (o : Option StateId). holds (λ (state : StateId). list_any (λ (d : Document). is_usable d state) s.documents) o) load.own ∙ any in
+        and_from (is_ongoing_load q) (has_document s q) going has
+
+    never : (is_usable load.d load.state ≡ true) ⊎ (is_being_made load.d ≡ true) → ⊥
+    never (inl usable) = (let no_ : true ≡ false = sym (ready usable) ∙ unready in cc)
+    never (inr making) = none_making s is still load.doc load.d load.found making
+
+    pub none_ongoing : ⊥
+    none_ongoing = never load.there
+
+  -- so a document that is made and not discarded is of a state with entries
+  pub has_entries : (doc : DocId) (d : Document) → document_of s doc ≡ Some d → d.is_ready ≡ true → d.is_discarded ≡ false → has_state d.state s.history.rows ≡ true
+  has_entries doc d found ready there = by_state (is.plain.swept doc d found ready there)
+    where
+      by_state : (has_state d.state s.history.rows ≡ true) ⊎ IsOfLoad s d → has_state d.state s.history.rows ≡ true
+      by_state (inl has) = has
+      by_state (inr load) = absurd (none_ongoing load.req load.q load.found load.ongoing)
 
   -- ---- nothing is lost
 
@@ -174,7 +215,7 @@ module _ (s : Seen) (is : IsComposed s) (still : is_still s ≡ true) where
   has_row : (nav : NavId) (place : Place) (doc : DocId) → place_of s nav ≡ Some place → place.status ≡ awake doc → HasRow place
   has_row nav place doc found wakes =
       let h : IsHomed s.documents place doc = is.homes.homed nav place doc found wakes in
-      let swept : has_state h.home.document.state s.history.rows ≡ true = is.plain.swept doc h.home.document h.home.found h.home.ready h.home.undiscarded in
+      let swept : has_state h.home.document.state s.history.rows ≡ true = has_entries doc h.home.document h.home.found h.home.ready h.home.undiscarded in
       let a = any_has (λ (row : Row). row.state.0 == h.home.document.state.0) s.history.rows swept in
       record { row = a.it; there = a.there; nav_is = is.kept.whose doc h.home.document a.it h.home.found a.there (state_is a.it.state h.home.document.state a.passes) ∙ h.home.nav_is }
 

@@ -1,15 +1,16 @@
 -- Quiet is settled: where nothing is in transit, each request has its outcome, and each shown navigable runs one document at its target, with the length and index of the current step; and no other document runs.
-use Rattle.std.proofs.Common.{◌≡◌, ℕ, suc, Bool, true, false, not, ◌&&◌, ◌||◌, ◌==◌, List, [], ◌∷◌, Option, Some, None, refl, sym, ap, ◌∙◌, subst}
+use Rattle.std.proofs.Common.{◌≡◌, inl, ℕ, suc, Bool, true, false, not, ◌&&◌, ◌||◌, ◌==◌, List, [], ◌∷◌, Option, Some, None, refl, sym, ap, ◌∙◌, subst}
 use Rattle.std.specs.Prelude.{find, slice_get}
 use Rattle.std.specs.List.{list_all}
 use Rattle.std.proofs.lemmas.Bool.{and_parts, eqb-true}
 use Rattle.tab_ids.specs.declared.DocId.{DocId}
 use Rattle.tab_ids.specs.declared.NavId.{NavId}
+use Rattle.tab_ids.specs.declared.ReqId.{ReqId}
 use Rattle.log_model.specs.Equal.{holds, implies}
 use Rattle.log_model.specs.Formed.{running_documents}
 use Rattle.log_model.specs.Logs.{is_still, is_quiet}
-use Rattle.log_model.specs.Places.{is_shown, is_lost, is_awake_on, is_given_target, pair_at}
-use Rattle.log_model.specs.Seen.{Seen, Document, Place, Status, awake, lost, asleep, document_of, desk_of, place_of}
+use Rattle.log_model.specs.Places.{is_load, is_under_way, is_shown, is_lost, is_awake_on, is_given_target, pair_at}
+use Rattle.log_model.specs.Seen.{Seen, Document, Asked, Place, Status, awake, lost, asleep, document_of, desk_of, place_of, request_in}
 use Rattle.log_model.specs.Settled.{is_below_lost, is_at_target, is_place_settled, is_document_settled, is_settled, is_settled_if_quiet}
 use Rattle.log_model.specs.Views.{View}
 use Rattle.log_model.proofs.Refl.{nat_eq_refl, same_entry_refl}
@@ -22,12 +23,14 @@ use Rattle.hang_facts.proofs.Members.{find_has, has_found, slice_has}
 use Rattle.hang_facts.proofs.Targets.{IsTarget, target_has}
 use Rattle.hang_facts.specs.Members.{Has}
 use Rattle.home_facts.specs.Homes.{IsHomed}
+use Rattle.request_facts.specs.Whereabouts.{is_of_load}
 use Rattle.walk_facts.proofs.Placed.{found_nav, each_found}
-use Rattle.rest_facts.specs.Between.{IsComposed}
+use Rattle.rest_facts.specs.Between.{IsComposed, IsPlainWithLoads, IsComposedWithLoads}
 use Rattle.rest_facts.specs.Resting.{will_run, is_resting, runs_in, is_swept, IsUnshown}
 use Rattle.rest_facts.proofs.Still.{idle_desks, none_making, found_itself}
-use Rattle.rest_facts.proofs.Stands.{get_of, none_passed, stand_now, all_ended}
-use Rattle.rest_facts.proofs.Seated.{IsSeated, unlost, sits, awake_shown, told_now}
+use Rattle.rest_facts.proofs.Stands.{get_of, none_passed, stand_now}
+use Rattle.rest_facts.proofs.Seated.{IsSeated, has_entries, unlost, sits, awake_shown, told_now}
+use Rattle.rest_facts.proofs.Ended.{all_ended}
 
 all_of : {A : Type 0} (test : A → Bool) (xs : List A) → ((i : ℕ) (x : A) → slice_get xs i ≡ Some x → test x ≡ true) → list_all test xs ≡ true
 all_of test [] each = refl
@@ -74,14 +77,14 @@ record IsShownBy (s : Seen) (d : Document) : Type 0 where
   placed : place_of s d.nav ≡ Some place
   wakes : place.status ≡ awake d.nr
 
-module _ (s : Seen) (is : IsComposed s) (still : is_still s ≡ true) where
+module _ (s : Seen) (is : IsComposedWithLoads s) (still : is_still s ≡ true) where
   -- ---- what runs is shown
 
   swept : (doc : DocId) (d : Document) → document_of s doc ≡ Some d → is_swept s d ≡ true
   swept doc d found = by_discarded d.is_discarded refl
     where
       by_ready : (b : Bool) → d.is_ready ≡ b → d.is_discarded ≡ false → is_swept s d ≡ true
-      by_ready true ready there = either d.is_discarded (is.plain.swept doc d found ready there)
+      by_ready true ready there = either d.is_discarded (has_entries s is still doc d found ready there)
       by_ready false unready there = absurd (none_making s is still doc d found (rw unready (rw (is.plain.unknown doc d found) refl)))
 
       by_discarded : (b : Bool) → d.is_discarded ≡ b → is_swept s d ≡ true
@@ -189,9 +192,48 @@ module _ (s : Seen) (is : IsComposed s) (still : is_still s ≡ true) where
       both (both (both (all_ended s is still) (stand_now s is still)) (all_of (is_place_settled s) s.places place_settled)) (all_of (is_document_settled s) s.documents document_settled)
 
 -- so it is where nothing is in transit and no prompt is up
-pub quiet_settles : (s : Seen) → IsComposed s → is_settled_if_quiet s ≡ true
-quiet_settles s is = by_quiet (is_quiet s) refl
+pub loads_settle : (s : Seen) → IsComposedWithLoads s → is_settled_if_quiet s ≡ true
+loads_settle s is = by_quiet (is_quiet s) refl
   where
     by_quiet : (b : Bool) → is_quiet s ≡ b → is_settled_if_quiet s ≡ true
     by_quiet true e = rw e (still_settles s is (and_parts (is_still s) _ e).0)
     by_quiet false e = rw e refl
+
+-- ---- a tab without loads is one with loads
+
+module _ (s : Seen) (is : IsComposed s) where
+  no_load : (req : ReqId) (q : Asked) → request_in s.requests req ≡ Some q → is_load q.what ≡ true → ⊥
+  no_load req q at load = (let no_ : false ≡ true = sym (is.plain.no_loads req) ∙ ap is_of_load at ∙ load in cc)
+
+  plain_loads : IsPlainWithLoads s
+  plain_loads =
+      record {
+        alive = is.plain.alive;
+        unknown = is.plain.unknown;
+        unlost = is.plain.unlost;
+        swept = λ doc d found ready there. inl (is.plain.swept doc d found ready there);
+        loading = λ req q at going. absurd (no_load req q at (and_parts (is_under_way q) (is_load q.what) going).1);
+        trips = λ req q at load unended nowhere. absurd (no_load req q at load);
+        steps = is.plain.steps;
+        unparked = is.plain.unparked;
+      }
+
+pub composed_loads : (s : Seen) → IsComposed s → IsComposedWithLoads s
+composed_loads s is =
+    record {
+      sound = is.sound;
+      hangs = is.hangs;
+      homes = is.homes;
+      kept = is.kept;
+      served = is.served;
+      ways = is.ways;
+      rests = is.rests;
+      flows = is.flows;
+      once = is.once;
+      told = is.told;
+      stepped = is.stepped;
+      plain = plain_loads s is;
+    }
+
+pub quiet_settles : (s : Seen) → IsComposed s → is_settled_if_quiet s ≡ true
+quiet_settles s is = loads_settle s (composed_loads s is)

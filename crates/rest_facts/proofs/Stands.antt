@@ -1,4 +1,4 @@
--- Where nothing is in transit, all stand at the current step, no traversal runs or waits, and each request has ended.
+-- Where nothing is in transit, all stand at the current step, no traversal runs or waits, and no load is ready.
 use Rattle.std.proofs.Common.{◌≡◌, ◌⊎◌, inl, inr, ℕ, suc, ◌+◌, ◌-◌, Bool, true, false, cond, not, ◌&&◌, ◌||◌, ◌==◌, List, [], ◌∷◌, length, Option, Some, None, refl, sym, ap, ◌∙◌, arith}
 use Rattle.std.specs.Prelude.{is_some, slice_get}
 use Rattle.std.specs.List.{list_all}
@@ -7,7 +7,6 @@ use Rattle.std.proofs.lemmas.Bool.{and_parts, and_from}
 use Rattle.std.proofs.lemmas.Bool.Decides.{nat_tests}
 use Rattle.tab_ids.specs.declared.ReqId.{ReqId}
 use Rattle.tab_ids.specs.declared.Step.{Step}
-use Rattle.log_model.specs.declared.outcome.Ending.{Ending}
 use Rattle.log_model.specs.ActsAtOnce.{has_reason_to_run, has_no_step_waiting, is_ready_load, ends_stepped}
 use Rattle.log_model.specs.Equal.{implies}
 use Rattle.log_model.specs.History.{used_step_at}
@@ -17,15 +16,14 @@ use Rattle.log_model.specs.Queue.{is_step_under_way, is_queue_free}
 use Rattle.log_model.specs.Seen.{Seen, Asked, Place, request_in}
 use Rattle.coord_facts.specs.OnItsWay.{IsHeldUp, EachOnItsWay}
 use Rattle.coord_facts.proofs.OnItsWays.{all_stand_here}
-use Rattle.request_facts.specs.Whereabouts.{times_found, times_due}
 use Rattle.hang_facts.specs.Members.{Has}
 use Rattle.hang_facts.proofs.Members.{slice_has, find_has, has_found}
 use Rattle.hang_facts.proofs.Hung.{places_distinct}
 use Rattle.walk_facts.specs.Serving.{Waits}
 use Rattle.walk_facts.proofs.OnWays.{each_on_its_way}
 use Rattle.walk_facts.proofs.Placed.{each_found}
-use Rattle.rest_facts.specs.Between.{IsComposed}
-use Rattle.rest_facts.proofs.Still.{empty_of, none_over, none_waits}
+use Rattle.rest_facts.specs.Between.{IsComposedWithLoads}
+use Rattle.rest_facts.proofs.Still.{empty_of, none_waits}
 
 implied : (a b : Bool) → implies a b ≡ true → a ≡ true → b ≡ true
 implied true b e is = e
@@ -46,12 +44,19 @@ numbered asked i q at =
 pub all_requests : (asked : List Asked) (test : Asked → Bool) → ((req : ReqId) (q : Asked) → request_in asked req ≡ Some q → test q ≡ true) → list_all test asked ≡ true
 all_requests asked test each = all_by_number asked test (λ i q at. each (record { 0 = i + 1 }) q (numbered asked i q at))
 
+pub request_has : (asked : List Asked) (req : ReqId) (q : Asked) → request_in asked req ≡ Some q → Has asked q
+request_has asked req q at = by_test (req.0 == 0) at
+  where
+    by_test : (b : Bool) → cond b None (slice_get asked (req.0 - 1)) ≡ Some q → Has asked q
+    by_test true h = cc
+    by_test false h = slice_has asked (req.0 - 1) q h
+
 pub get_of : {A : Type 0} (l : List A) (q : A) → Has l q → (i : ℕ) × (slice_get l i ≡ Some q)
 get_of [] q there = absurd there
 get_of (x ∷ l) q (inl same) = (0, ap (λ y. Some y) same)
 get_of (x ∷ l) q (inr more) = let m = get_of l q more in (suc m.0, m.1)
 
-module _ (s : Seen) (is : IsComposed s) (still : is_still s ≡ true) where
+module _ (s : Seen) (is : IsComposedWithLoads s) (still : is_still s ≡ true) where
   on_its_way : EachOnItsWay s.history.rows s.places (aim_of s) (Waits s.history.rows s.documents (aim_of s))
   on_its_way = each_on_its_way s is.sound is.hangs (aim_of s) (λ nav place found. (is.served.each nav).serve place found)
 
@@ -98,15 +103,8 @@ module _ (s : Seen) (is : IsComposed s) (still : is_still s ≡ true) where
       let its = is.plain.steps req q at going in
       let begun = (and_parts (is_under_way q) (is_traversal q.what || is_reload q.what) going).0 in
       let test : (is_under_way q && is_traversal q.what && has_passed s q) ≡ true = and_from (is_under_way q && is_traversal q.what) (has_passed s q) (and_from (is_under_way q) (is_traversal q.what) begun its.0) its.1 in
-      let found = has_found (λ (x : Asked). is_under_way x && is_traversal x.what && has_passed s x) s.requests q (there_of s.requests req q at) test in
+      let found = has_found (λ (x : Asked). is_under_way x && is_traversal x.what && has_passed s x) s.requests q (request_has s.requests req q at) test in
       let no_ : None ≡ Some found.0 = sym none_passed ∙ found.1 in cc
-    where
-      there_of : (asked : List Asked) (r : ReqId) (x : Asked) → request_in asked r ≡ Some x → Has asked x
-      there_of asked r x e = by_test (r.0 == 0) e
-        where
-          by_test : (b : Bool) → cond b None (slice_get asked (r.0 - 1)) ≡ Some x → Has asked x
-          by_test true h = cc
-          by_test false h = slice_has asked (r.0 - 1) x h
 
   pub none_runs : running_traversal s ≡ None
   none_runs = by_found (running_traversal s) refl
@@ -137,22 +135,12 @@ module _ (s : Seen) (is : IsComposed s) (still : is_still s ≡ true) where
       by_test true never = absurd (never refl)
       by_test false never = refl
 
+  waiting_parts : ((length s.joined == 0) ≡ true) × (list_all (λ (q : Asked). not (is_ready_load s q)) s.requests ≡ true)
+  waiting_parts =
+      and_parts (length s.joined == 0) (list_all (λ (q : Asked). not (is_ready_load s q)) s.requests) (implied (is_queue_free s) (has_no_step_waiting s) steps_parts.1 free)
+
   pub none_joined : s.joined ≡ []
-  none_joined =
-      let waiting : has_no_step_waiting s ≡ true = implied (is_queue_free s) (has_no_step_waiting s) steps_parts.1 free in
-      empty_of s.joined (and_parts (length s.joined == 0) (list_all (λ (q : Asked). not (is_ready_load s q)) s.requests) waiting).0
+  none_joined = empty_of s.joined waiting_parts.0
 
-  -- ---- each request has ended
-
-  pub all_ended : list_all (λ (q : Asked). is_some q.ending) s.requests ≡ true
-  all_ended = all_requests s.requests (λ (q : Asked). is_some q.ending) ended
-    where
-      ended_of : (q : Asked) → times_due (Some q) ≡ 0 → (o : Option Ending) → q.ending ≡ o → is_some q.ending ≡ true
-      ended_of q none (Some ending) e = rw e refl
-      ended_of q none None e = (let one : times_due (Some q) ≡ 1 = rw e refl in let never : 0 ≡ 1 = sym none ∙ one in let bad : ⊥ = omega (arith, never) in absurd bad)
-
-      ended : (req : ReqId) (q : Asked) → request_in s.requests req ≡ Some q → is_some q.ending ≡ true
-      ended req q at =
-          let nowhere : times_found req s.desks s.joined s.parked [] ≡ 0 = rw (none_over req s.desks still) (rw none_joined (rw (is.plain.unparked none_passed) refl)) in
-          let due : times_due (request_in s.requests req) ≡ 0 = sym (is.once req (is.plain.no_loads req)) ∙ nowhere in
-          ended_of q (sym (ap times_due at) ∙ due) q.ending refl
+  pub none_ready : list_all (λ (q : Asked). not (is_ready_load s q)) s.requests ≡ true
+  none_ready = waiting_parts.1

@@ -23,7 +23,7 @@ use Rattle.home_facts.specs.Homes.{IsHomed}
 use Rattle.walk_facts.specs.Serving.{Waits}
 use Rattle.transit_facts.specs.Orders.{IsOutstanding}
 use Rattle.transit_facts.specs.Waiting.{Comes, IsOnItsMaking}
-use Rattle.rest_facts.specs.Between.{IsComposed}
+use Rattle.rest_facts.specs.Between.{IsOrdered, IsComposedWithLoads}
 
 pub empty_of : {A : Type 0} (l : List A) → (length l == 0) ≡ true → l ≡ []
 empty_of [] e = refl
@@ -60,6 +60,14 @@ idle_each (desk ∷ desks) still proc =
     by_test true here others = here
     by_test false here others = others
 
+-- each of them is idle
+idle_there : (desks : List Desk) (desk : Desk) → list_all is_idle desks ≡ true → Has desks desk → is_idle desk ≡ true
+idle_there [] desk still there = absurd there
+idle_there (d ∷ desks) desk still (inl same) =
+    subst (λ (x : Desk). is_idle x ≡ true) same (and_parts (is_idle d) (list_all is_idle desks) still).0
+idle_there (d ∷ desks) desk still (inr more) =
+    idle_there desks desk (and_parts (is_idle d) (list_all is_idle desks) still).1 more
+
 -- and no request is at any
 pub none_over : (req : ReqId) (desks : List Desk) → list_all is_idle desks ≡ true → over (times_at req) desks ≡ 0
 none_over req [] still = refl
@@ -70,10 +78,14 @@ none_over req (desk ∷ desks) still =
     let nothing : 0 + over (times_at req) desks ≡ 0 = omega (arith, others) in
     rw here.input (rw here.idle.reports nothing)
 
+-- no order is there
+no_orders : (desk : Desk) → IsIdleDesk desk → orders_of_desk desk ≡ []
+no_orders desk idle = rw (idle.hand, idle.mail) refl
+
 -- nothing is outstanding there
 pub none_outstanding : (P : Job → Type 0) (desk : Desk) → IsIdleDesk desk → IsOutstanding P desk → ⊥
 none_outstanding P desk idle (inl h) =
-    (let none : orders_of_desk desk ≡ [] = rw (idle.hand, idle.mail) refl in let there : Has [] h.it = subst (λ (l : List Job). Has l h.it) none h.there in there)
+    (let there : Has [] h.it = subst (λ (l : List Job). Has l h.it) (no_orders desk idle) h.there in there)
 none_outstanding P desk idle (inr h) = (let there : Has [] h.it = subst (λ l. Has l h.it) idle.reports h.there in there)
 
 -- a document with a number of its own is found by it
@@ -89,9 +101,15 @@ found_itself (x ∷ documents) d apart (inr more) = by_test (x.nr.0 == d.nr.0) r
         let none : find (λ (y : Document). y.nr.0 == d.nr.0) documents ≡ None = subst (λ (n : ℕ). find (λ (y : Document). y.nr.0 == n) documents ≡ None) number apart.0 in
         let no_ : None ≡ Some d = sym none ∙ rest in cc
 
-module _ (s : Seen) (is : IsComposed s) (still : is_still s ≡ true) where
+module _ (s : Seen) (is : IsComposedWithLoads s) (still : is_still s ≡ true) where
   pub idle_desks : (proc : ProcId) → IsIdleDesk (desk_of s proc)
   idle_desks proc = idle_each s.desks still proc
+
+  -- no order is on its way
+  pub none_ordered : IsOrdered s → ⊥
+  none_ordered o =
+      let idle : IsIdleDesk o.desk = (empty_desk o.desk (idle_there s.desks o.desk still o.there)).idle in
+      let none : Has [] o.job = subst (λ (l : List Job). Has l o.job) (no_orders o.desk idle) o.ordered in none
 
   -- each awake navigable has arrived
   pub none_comes : (nav : NavId) (place : Place) (doc : DocId) → place_of s nav ≡ Some place → place.status ≡ awake doc → place.is_delivered ≡ false → ⊥
