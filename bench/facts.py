@@ -95,6 +95,8 @@ def try_rests(s):
             count('swept', d.state in states, d.nr)
         if d.nr not in shown and (d.discarded or d.state in states):
             count('rests', not will_run(s, d), d.nr)
+        if d.nr not in shown and not is_dead(d):
+            count('all rest', not will_run(s, d), d.nr)
         count('whose', all(row.nav == d.nav for row in s.H.rows if row.state == d.state), d.nr)
 
 

@@ -1,0 +1,5 @@
+pub mod Again
+pub mod Shown
+pub mod Rows
+pub mod Lefts
+pub mod Orders

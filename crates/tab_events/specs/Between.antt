@@ -1,0 +1,55 @@
+-- All that holds between two events of a tab with frames, loads and documents that are left or kept, in which nobody died and nobody is asked.
+-- HTML Standard, "apply the history step", "ongoing navigation" and "Documents kept for traversal"; the form is this project's own.
+use Rattle.std.specs.Prelude.{◌≡◌, ◌⊎◌, ◌≤◌, ℕ, true, false, [], length, Option, Some}
+use Rattle.tab_ids.specs.declared.DocId.{DocId}
+use Rattle.tab_ids.specs.declared.ReqId.{ReqId}
+use Rattle.log_model.specs.ActsAtOnce.{ends_stepped, ends_told}
+use Rattle.log_model.specs.Equal.{has_doc}
+use Rattle.log_model.specs.History.{has_state}
+use Rattle.log_model.specs.Places.{is_ongoing_load}
+use Rattle.log_model.specs.Seen.{Seen, Asked, Document, document_of, request_in}
+use Rattle.coord_facts.specs.Flowing.{Flows}
+use Rattle.frame_tab.specs.Asking.{NoneHeld}
+use Rattle.frame_whole.specs.Tab.{AreAwakeWithRows}
+use Rattle.load_ends.specs.Standing.{LoadsStand}
+use Rattle.rest_facts.specs.Between.{HasLoadDocument, IsOfLoad}
+use Rattle.rest_rows.specs.Moving.{AllRest}
+use Rattle.tab_whole.specs.Tab.{IsTab}
+use Rattle.walk_facts.specs.Serving.{AreServed}
+
+-- a document that is made and not discarded is of a state with entries, or of an ongoing load
+abbrev pub AreSwept : Seen → Type 0
+AreSwept s =
+    (doc : DocId) (d : Document) → document_of s doc ≡ Some d → d.is_ready ≡ true → d.is_discarded ≡ false → (has_state d.state s.history.rows ≡ true) ⊎ IsOfLoad s d
+
+-- each ongoing load has a document that is there or being made
+abbrev pub LoadsHaveDocuments : Seen → Type 0
+LoadsHaveDocuments s =
+    (req : ReqId) (q : Asked) → request_in s.requests req ≡ Some q → is_ongoing_load q ≡ true → HasLoadDocument s q
+
+-- each kept document is frozen, and its state has entries
+abbrev pub KeptAreFrozen : Seen → Type 0
+KeptAreFrozen s =
+    (doc : DocId) (d : Document) → has_doc s.kept doc ≡ true → document_of s doc ≡ Some d → (d.is_frozen ≡ true) × (has_state d.state s.history.rows ≡ true)
+
+-- with this traversal running, and at most so many documents kept
+pub record IsBetween (keep : ℕ) (run : Option ReqId) (s : Seen) : Type 0 where
+  -- what holds between two rows, with nothing at hand
+  pub tab : IsTab run [] [] s
+  -- what is on its way leads on in full; each visited navigable is served, and each awake one was told
+  pub flows : Flows s
+  pub served : AreServed s
+  pub told : ends_told s ≡ true
+  -- no step is put off, and nothing is held back but for a traversal
+  pub stepped : ends_stepped s ≡ true
+  pub held : NoneHeld run s
+  -- who is awake has an entry; what isn't shown rests, and is gone where it is of no entry and no load
+  pub rows_ : AreAwakeWithRows s
+  pub rests : AllRest s
+  pub swept : AreSwept s
+  -- ongoing loads stand, and have their documents
+  pub stands : LoadsStand s
+  pub loading : LoadsHaveDocuments s
+  -- the kept documents
+  pub frozen : KeptAreFrozen s
+  pub few : length s.kept ≤ keep
