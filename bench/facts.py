@@ -348,6 +348,23 @@ def waits_to_fragment(q):
     return q.outcome is None and q.made is None and q.frag_job is not None
 
 
+def try_lasting(b):
+    """What lasts: who runs was shown, what was made has an epoch, pokes are of their documents' navigables, and so on."""
+    s, bare = b.s, {r.nav for r in b.s.H.rows}
+    for d in s.docs.values():
+        v = s.views.get(d.nr)
+        count('run shown', v is None or not v.running or v.epoch >= 1, d.nr)
+    for q in s.reqs.values():
+        count('made shown', q.made is None or q.made.epoch >= 1, q.nr)
+        count('pokes its own', q.doc is None or (q.doc in s.docs and s.docs[q.doc].nav == q.nav), q.nr)
+        count('unmoved yet', not q.trav or q.started is not None or not s.moved.get(q.nr), q.nr)
+        count('moved are there', all(n in s.place for n in s.moved.get(q.nr, ())), q.nr)
+    for n in s.place:
+        count('taken bare', n not in s.taken_last or n not in bare, n)
+    for job in b.jobs():
+        count('names its state', job.task.kind != MAKES or s.docs[job.doc].state == job.task.state, job.nr)
+
+
 def try_fragments(s):
     """But for the load whose order was just finished, of which the next row tells what was made."""
     sent = [s.jobs[j].task.req for p in s.procs.values() for j in [*p.mail, *([] if p.hand is None else [p.hand])]
@@ -421,6 +438,7 @@ def try_loads(log, keep):
         try_load_desks(b)
         if ends or log[i + 1].kind != 'made':
             try_fragments(b.s)
+        try_lasting(b)
 
 
 for profile in PROFILES:

@@ -1,0 +1,5 @@
+pub mod Parts
+pub mod Moved
+pub mod Orders
+pub mod Applied
+pub mod Rows
