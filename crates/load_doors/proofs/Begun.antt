@@ -1,0 +1,164 @@
+-- A load begins, and the coordinator goes on working; and whether it is to replace the given entry.
+use Rattle.frame_rows.proofs.LawfulLaws.{lawful_more_owing}
+use Rattle.frame_rows.specs.Lawful.{AreLawful}
+use Rattle.load_doors.specs.Loading.{IsToBegin, begun_load}
+use Rattle.load_rows.proofs.Begins.{begin_load_owing}
+use Rattle.load_table.specs.Loads.{KeepsOthers, begun, ongoing_load}
+use Rattle.load_table.specs.declared.load.Load.{Load}
+use Rattle.load_ties.proofs.Begins.{begins_tied, begun_own}
+use Rattle.load_ties.specs.Tying.{HasLoad, TiesLoads, made_for}
+use Rattle.log_model.proofs.Refl.{nat_eq_refl}
+use Rattle.log_model.specs.After.{after}
+use Rattle.log_model.specs.AfterRequests.{load_replaces, on_request, request_begun}
+use Rattle.log_model.specs.Once.{loads}
+use Rattle.log_model.specs.Places.{is_load, is_ongoing_load}
+use Rattle.log_model.specs.Seen.{Asked, Seen, request_in, request_of}
+use Rattle.log_model.specs.declared.request.Request.{Request}
+use Rattle.log_model.specs.declared.row_kind.RowKind.{RowKind}
+use Rattle.request_facts.proofs.LookUps.{on_itself}
+use Rattle.request_facts.proofs.Readers.{SameReads}
+use Rattle.coord_facts.proofs.Held.{on_else}
+use Rattle.seen_laws.proofs.InEvents.{led_here}
+use Rattle.seen_laws.specs.InEvent.{InEvent, here_of, now_of, row_of}
+use Rattle.std.proofs.Common.{Bool, List, None, Option, Some, [], ap, arith, false, refl, subst, sym, true, ℕ, ◌++◌, ◌+◌, ◌==◌, ◌∙◌, ◌∷◌, ◌≡◌}
+use Rattle.std.proofs.lemmas.Bool.Decides.{nat_tests}
+use Rattle.std.specs.Prelude.{option_map}
+use Rattle.tab_doors.proofs.Ahead.{lawful_none, none_lawful}
+use Rattle.tab_doors.proofs.EndLaws.{left_holds}
+use Rattle.tab_doors.proofs.Requests.{moved_read, moved_same, runs_same}
+use Rattle.tab_doors.proofs.Works.{started_held, work_more}
+use Rattle.tab_doors.specs.Look.{look_of, moved_by}
+use Rattle.tab_doors.specs.Ties.{Holds}
+use Rattle.tab_doors.specs.Working.{HasGoal, IsAtWork}
+use Rattle.tab_doors.specs.declared.tables.Tables.{Tables}
+use Rattle.tab_ids.specs.declared.NavId.{NavId}
+use Rattle.tab_ids.specs.declared.ReqId.{ReqId}
+use Rattle.tab_ids.specs.declared.StateId.{StateId}
+use Rattle.tab_ids.specs.declared.Step.{Step}
+use Rattle.each_facts.specs.Runs.{is_run, is_this}
+use Rattle.log_model.specs.declared.row_kind.RowKind.TheVariants as rows
+
+-- ---- what is read of requests, but for the one that begins
+
+-- a request that begins is read as before, where the one that does is
+begun_reads : {B : Type 0} (read : Asked → B) (s : Seen) (req : ReqId) (goal : Option Step) (q : Asked) → request_of s req ≡ Some q → read (request_begun s (record q { is_started = true; goal = goal })) ≡ read q → SameReads read s.requests (on_request req (request_begun s) (on_request req (λ (x : Asked). record x { is_started = true; goal = goal }) s.requests))
+begun_reads {B} read s req goal q there same r = by_test (r.0 == req.0) refl
+  where
+    begin : Asked → Asked
+    begin x = record x { is_started = true; goal = goal }
+
+    own : request_in (on_request req (request_begun s) (on_request req begin s.requests)) req ≡ Some (request_begun s (begin q))
+    own =
+        on_itself (on_request req begin s.requests) req (request_begun s)
+        ∙ ap (λ (o : Option Asked). option_map (request_begun s) o) (on_itself s.requests req begin ∙ ap (λ (o : Option Asked). option_map begin o) there)
+
+    by_test : (b : Bool) → (r.0 == req.0) ≡ b → option_map read (request_in (on_request req (request_begun s) (on_request req begin s.requests)) r) ≡ option_map read (request_in s.requests r)
+    by_test true is =
+        let it : req ≡ r = ap (λ (n : ℕ). let x : ReqId = record { 0 = n } in x) (grind (arith, nat_tests, is)) in
+        subst (λ (x : ReqId). option_map read (request_in (on_request req (request_begun s) (on_request req begin s.requests)) x) ≡ option_map read (request_in s.requests x)) it
+        (ap (λ (o : Option Asked). option_map read o) own ∙ (ap (λ (b : B). Some b) same ∙ sym (ap (λ (o : Option Asked). option_map read o) there)))
+    by_test false is =
+        ap (λ (o : Option Asked). option_map read o) (on_else (on_request req begin s.requests) req (request_begun s) r is ∙ on_else s.requests req begin r is)
+
+-- ---- the row
+
+module _ (e : InEvent) (out : List RowKind) (t : Tables) (req : ReqId) (nav : NavId) (replace : Bool) (address : List ℕ) (next : List Load) (work : IsAtWork e out t) (its : IsToBegin e out t.loads req nav replace address) (loads_ : next ≡ begun (begun_load req nav replace address (t.states + 1)) t.loads) (others : KeepsOthers nav t.loads next) where
+  abbrev s : Seen
+  s = now_of e out
+
+  abbrev then_begun : Seen
+  then_begun = after s (row_of e (rows.Started req None))
+
+  abbrev pub with_begun : Tables
+  with_begun = record t { loads = next; states = t.states + 1 }
+
+  abbrev load : Load
+  load = begun_load req nav replace address (t.states + 1)
+
+  there : request_of s req ≡ Some its.q
+  unfolding now_of
+  there = its.due.at
+
+  same_states : t.states ≡ s.states
+  same_states = work.holds.states
+
+  begin_lawful : AreLawful e (out ++ rows.Started req None ∷ [])
+  unfolding now_of
+  begin_lawful =
+      lawful_more_owing e out (rows.Started req None) (λ r. refl) (started_held e out req None) (none_lawful e out work.lawful) (λ later both. begin_load_owing (here_of e out) e.event e.actor req nav its.mode address its.q (led_here e out work.own) its.due later (both.0.0 req (nat_eq_refl req.0), both.1))
+
+  same_reads : {B : Type 0} (read : Asked → B) → read (request_begun s (record its.q { is_started = true; goal = None })) ≡ read its.q → SameReads read s.requests then_begun.requests
+  same_reads read same = begun_reads read s req None its.q there same
+
+  is_a_load : is_load its.q.what ≡ true
+  is_a_load = ap is_load its.due.what
+
+  runs_none : is_run (request_begun s (record its.q { is_started = true; goal = None })) ≡ is_run its.q
+  runs_none = rw its.due.what (rw its.due.open_ (rw its.due.unstarted refl))
+
+  own : ongoing_load nav next ≡ Some load
+  own = ap (λ (l : List Load). ongoing_load nav l) loads_ ∙ begun_own load t.loads
+
+  ties : TiesLoads then_begun next
+  ties =
+      begins_tied s e.event e.actor t.loads next work.loads load its.q its.mode there its.due.what its.due.unstarted its.due.open_ (ap (λ (n : ℕ). n + 1) same_states) (its.handling ∙ ap (λ (w : Request). load_replaces s w) (sym its.due.what)) refl
+      (subst (λ (n : ℕ). made_for s.documents (let x : StateId = record { 0 = n + 1 } in x) ≡ None) (sym same_states) its.unmade) alone own others
+    where
+      alone : (r : ReqId) (other : Asked) → request_of s r ≡ Some other → is_ongoing_load other ≡ true → loads nav other.what ≡ true → ⊥
+      alone r other at on of =
+          let has : HasLoad t.loads nav r = work.loads.all r other nav at on of in
+          let never : None ≡ Some has.load = sym its.none_ ∙ has.at in cc
+
+  pub begin_load_work : IsAtWork e (out ++ rows.Started req None ∷ []) with_begun
+  begin_load_work =
+      work_more e out (rows.Started req None) None t with_begun work
+      (record {
+        navs = record { navs = as_before.navs.navs; order = as_before.navs.order };
+        documents = as_before.documents;
+        whose = as_before.whose;
+        shown = as_before.shown;
+        last = as_before.last;
+        history = as_before.history;
+        numbered = as_before.numbered;
+        states = ap (λ (n : ℕ). n + 1) same_states ∙ sym next_state;
+        entries = as_before.entries;
+        sent = as_before.sent;
+      })
+      (runs_same s.requests then_begun.requests t.running (same_reads is_run runs_none) work.runs)
+      goal_then
+      work.few
+      work.initial
+      ties
+      work.kept
+      (lawful_none e (out ++ rows.Started req None ∷ []) begin_lawful)
+    where
+      next_state : then_begun.states ≡ s.states + 1
+      next_state = rw there (rw is_a_load refl)
+
+      moved : moved_by then_begun.requests t.running ≡ moved_by s.requests t.running
+      moved = moved_same s.requests then_begun.requests t.running (same_reads moved_read refl)
+
+      -- all that the tables tell is as it was, but for how many document states were numbered
+      as_before : Holds (let x = look_of then_begun t.running in record x { states = s.states }) t
+      as_before = left_holds (look_of s t.running) (let x = look_of then_begun t.running in record x { states = s.states }) t refl refl refl moved refl refl refl work.holds
+
+      -- no traversal that runs is this request
+      never : (r : ReqId) → t.running ≡ Some r → (r.0 == req.0) ≡ true → ⊥
+      never r is same =
+          let it : r ≡ req = ap (λ (n : ℕ). let x : ReqId = record { 0 = n } in x) (grind (arith, nat_tests, same)) in
+          let only : is_run its.q ≡ is_this t.running req = work.runs.only req its.q there in
+          let runs_ : is_this t.running req ≡ true = ap (λ (o : Option ReqId). is_this o req) is ∙ same in
+          let none : is_run its.q ≡ false = rw its.due.unstarted refl in
+          let no_ : false ≡ true = sym none ∙ only ∙ runs_ in
+          cc
+
+      goal_then : HasGoal then_begun.requests t.running t.goal
+      goal_then r q is at = by_test (r.0 == req.0) refl
+        where
+          found : request_in then_begun.requests r ≡ Some q
+          found = at
+
+          by_test : (b : Bool) → (r.0 == req.0) ≡ b → q.goal ≡ Some t.goal
+          by_test false apart =
+              work.goal r q is (sym (on_else (on_request req (λ (x : Asked). record x { is_started = true; goal = None }) s.requests) req (request_begun s) r apart ∙ on_else s.requests req (λ (x : Asked). record x { is_started = true; goal = None }) r apart) ∙ found)
+          by_test true same = absurd (never r is same)

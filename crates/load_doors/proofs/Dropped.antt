@@ -1,0 +1,97 @@
+-- A load is dropped, and the coordinator goes on working.
+use Rattle.each_facts.specs.Runs.{is_this}
+use Rattle.frame_rows.proofs.LawfulLaws.{ends_other, lawful_more_owing}
+use Rattle.frame_rows.specs.Lawful.{AreLawful}
+use Rattle.load_doors.specs.Loading.{IsOpenHere}
+use Rattle.load_table.specs.Loads.{KeepsOthers, cancelled, ongoing_load}
+use Rattle.load_table.specs.declared.load.Load.{Load}
+use Rattle.load_ties.proofs.Ends.{cancelled_none, dropped_ended, load_ends, other_ends}
+use Rattle.load_ties.specs.Tying.{HasLoad, TiesLoads}
+use Rattle.log_model.specs.After.{after, ended}
+use Rattle.log_model.specs.Seen.{Seen}
+use Rattle.log_model.specs.declared.outcome.Cause.{Cause}
+use Rattle.log_model.specs.declared.row_kind.RowKind.{RowKind}
+use Rattle.request_facts.proofs.Readers.{on_read}
+use Rattle.seen_laws.proofs.InEvents.{led_here}
+use Rattle.seen_laws.proofs.Owings.{drop_may}
+use Rattle.seen_laws.specs.InEvent.{InEvent, here_of, now_of, row_of}
+use Rattle.std.proofs.Common.{List, None, Some, [], ap, false, refl, ◌++◌, ◌∙◌, ◌∷◌, ◌≡◌}
+use Rattle.tab_doors.proofs.Ahead.{lawful_none, none_lawful}
+use Rattle.tab_doors.proofs.EndLaws.{left_holds}
+use Rattle.tab_doors.proofs.Requests.{ended_moved, moved_same, runs_ended_apart}
+use Rattle.tab_doors.proofs.TurnWorks.{destroy_lawful}
+use Rattle.tab_doors.proofs.Works.{goal_read, goal_same, work_more}
+use Rattle.tab_doors.specs.Dues.{IsDestroyDue}
+use Rattle.tab_doors.specs.Keeping.{IsNoLoad}
+use Rattle.tab_doors.specs.Look.{look_of, moved_by}
+use Rattle.tab_doors.specs.Ties.{Holds}
+use Rattle.tab_doors.specs.Working.{IsAtWork, look_now}
+use Rattle.tab_doors.specs.declared.tables.Tables.{Tables}
+use Rattle.tab_ids.specs.declared.NavId.{NavId}
+use Rattle.tab_ids.specs.declared.ReqId.{ReqId}
+use Rattle.log_model.specs.declared.outcome.Cause.TheVariants as drops
+use Rattle.log_model.specs.declared.outcome.Ending.TheVariants as endings
+use Rattle.log_model.specs.declared.row_kind.RowKind.TheVariants as rows
+
+module _ (e : InEvent) (out : List RowKind) (t : Tables) (req : ReqId) (work : IsAtWork e out t) (apart : is_this t.running req ≡ false) where
+  abbrev then_dropped : Cause → Seen
+  then_dropped cause = after (now_of e out) (row_of e (rows.Dropped req cause))
+
+  abbrev pub with_loads : List Load → Tables
+  with_loads next = record t { loads = next }
+
+  -- the event's end owes the cause
+  drop_owing : (by : ReqId) → IsOpenHere e out req → AreLawful e (out ++ rows.Dropped req (drops.By by) ∷ [])
+  unfolding now_of
+  drop_owing by here =
+      lawful_more_owing e out (rows.Dropped req (drops.By by)) (λ r. refl) (ends_other e out (rows.Dropped req (drops.By by)) req (refl, λ s. refl) here.unheld here.unparked) (none_lawful e out work.lawful) (λ later both. drop_may (here_of e out) e.event e.actor req by here.asked (led_here e out work.own) here.at (rw here.open_ refl) here.unparked later both.1)
+
+  dropped_work : (cause : Cause) (next : List Load) → AreLawful e (out ++ rows.Dropped req cause ∷ []) → TiesLoads (then_dropped cause) next → IsAtWork e (out ++ rows.Dropped req cause ∷ []) (with_loads next)
+  dropped_work cause next lawful loads =
+      work_more e out (rows.Dropped req cause) None t (with_loads next) work
+      (on_tables (left_holds (look_now e out t.running) (look_of (then_dropped cause) t.running) t refl refl refl moved refl refl refl work.holds))
+      (runs_ended_apart (now_of e out).requests t.running req (endings.Dropped cause) apart work.runs)
+      (goal_same (now_of e out).requests (ended (now_of e out).requests req (endings.Dropped cause)) t.running t.goal (on_read goal_read (now_of e out).requests req (λ q. record q { ending = Some (endings.Dropped cause) }) (λ q. refl)) work.goal)
+      work.few
+      work.initial
+      loads
+      work.kept
+      (lawful_none e (out ++ rows.Dropped req cause ∷ []) lawful)
+    where
+      moved : moved_by (then_dropped cause).requests t.running ≡ moved_by (now_of e out).requests t.running
+      moved = moved_same (now_of e out).requests (ended (now_of e out).requests req (endings.Dropped cause)) t.running (ended_moved (now_of e out) e.event e.actor req (endings.Dropped cause))
+
+      on_tables : Holds (look_of (then_dropped cause) t.running) t → Holds (look_of (then_dropped cause) t.running) (with_loads next)
+      on_tables holds =
+          record {
+            navs = holds.navs;
+            documents = holds.documents;
+            whose = holds.whose;
+            shown = holds.shown;
+            last = holds.last;
+            history = holds.history;
+            numbered = holds.numbered;
+            states = holds.states;
+            entries = holds.entries;
+            sent = holds.sent;
+          }
+
+  -- it is no ongoing load
+  pub drop_new_work : (by : ReqId) → IsOpenHere e out req → IsNoLoad (now_of e out) req → IsAtWork e (out ++ rows.Dropped req (drops.By by) ∷ []) t
+  drop_new_work by here none =
+      dropped_work (drops.By by) t.loads (drop_owing by here) (other_ends (now_of e out) (then_dropped (drops.By by)) req (dropped_ended (now_of e out) e.event e.actor req (drops.By by)) t.loads work.loads none)
+
+  -- it is the load of a navigable
+  module _ (nav : NavId) (next : List Load) (its : HasLoad t.loads nav req) (loads : next ≡ cancelled nav t.loads) (others : KeepsOthers nav t.loads next) where
+    gone : ongoing_load nav next ≡ None
+    gone = ap (λ (l : List Load). ongoing_load nav l) loads ∙ cancelled_none nav t.loads
+
+    ties_then : (cause : Cause) → TiesLoads (then_dropped cause) next
+    ties_then cause =
+        load_ends (now_of e out) (then_dropped cause) req (dropped_ended (now_of e out) e.event e.actor req cause) t.loads work.loads nav its.load its.at its.req_is next gone others
+
+    pub drop_load_work : (by : ReqId) → IsOpenHere e out req → IsAtWork e (out ++ rows.Dropped req (drops.By by) ∷ []) (with_loads next)
+    drop_load_work by here = dropped_work (drops.By by) next (drop_owing by here) (ties_then (drops.By by))
+
+    pub destroy_load_work : (by : ReqId) → IsDestroyDue e out req by → IsAtWork e (out ++ rows.Dropped req (drops.Destroyed by) ∷ []) (with_loads next)
+    destroy_load_work by due = dropped_work (drops.Destroyed by) next (destroy_lawful e out t req work apart by due) (ties_then (drops.Destroyed by))

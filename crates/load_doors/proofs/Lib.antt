@@ -1,0 +1,7 @@
+pub mod Made
+pub mod Dropped
+pub mod FragmentOrders
+pub mod Begun
+pub mod Handling
+pub mod Applied
+pub mod Refused

@@ -1,0 +1,70 @@
+-- The document of a load is sent for, and the coordinator goes on working.
+use Rattle.frame_rows.proofs.LawfulLaws.{lawful_plain}
+use Rattle.frame_rows.specs.Lawful.{AreLawful}
+use Rattle.kept_facts.specs.Keeping.{AreKeptDocs}
+use Rattle.load_rows.proofs.LoadMakes.{make_load_may, make_load_quiet}
+use Rattle.load_rows.specs.LoadMaking.{IsMakeOfLoadDue}
+use Rattle.load_table.specs.Loads.{KeepsOthers, in_phase, is_of, moved_on, ongoing_load}
+use Rattle.load_table.specs.declared.load.Load.{Load}
+use Rattle.load_ties.proofs.Makes.{moved_own, own_made}
+use Rattle.log_model.specs.After.{after}
+use Rattle.log_model.specs.Seen.{Seen, desk_of}
+use Rattle.log_model.specs.declared.header.Header.{Header}
+use Rattle.log_model.specs.declared.job.Job.{Job}
+use Rattle.log_model.specs.declared.job.Why.{Why}
+use Rattle.log_model.specs.declared.row_kind.RowKind.{RowKind}
+use Rattle.nav_tree.specs.Tree.{is_state}
+use Rattle.seen_laws.proofs.InEvents.{led_here}
+use Rattle.seen_laws.specs.InEvent.{InEvent, here_of, now_of, row_of}
+use Rattle.std.proofs.Common.{List, None, Option, Some, [], ap, false, map, refl, subst, sym, ℕ, ◌++◌, ◌∙◌, ◌∷◌, ◌≡◌}
+use Rattle.std.specs.Map.{lookup}
+use Rattle.std.specs.Prelude.{option_map}
+use Rattle.tab_doors.proofs.Ahead.{lawful_none, none_lawful}
+use Rattle.tab_doors.proofs.Initial.{initial_same}
+use Rattle.tab_doors.proofs.Making.{MakesOne, make_holds}
+use Rattle.tab_doors.proofs.Works.{few_made, header_here, kept_made, sent_held, work_more}
+use Rattle.tab_doors.specs.Keeping.{IsUnmadeLoad}
+use Rattle.tab_doors.specs.Look.{look_of, sight, sight_in}
+use Rattle.tab_doors.specs.Orders.{next_order}
+use Rattle.tab_doors.specs.Ties.{Holds, IsRunning}
+use Rattle.tab_doors.specs.Working.{HasGoal, IsAtWork}
+use Rattle.tab_doors.specs.declared.tables.Tables.{Tables}
+use Rattle.tab_ids.specs.declared.DocId.{DocId}
+use Rattle.tab_ids.specs.declared.NavId.{NavId}
+use Rattle.tab_ids.specs.declared.ProcId.{ProcId}
+use Rattle.tab_ids.specs.declared.ReqId.{ReqId}
+use Rattle.tab_ids.specs.declared.StateId.{StateId}
+use Rattle.tab_ids.specs.declared.Step.{Step}
+use Rattle.load_table.specs.declared.phase.Phase.TheVariants as phases
+use Rattle.log_model.specs.declared.job.Task.TheVariants as tasks
+use Rattle.log_model.specs.declared.row_kind.RowKind.TheVariants as rows
+
+module _ (e : InEvent) (out : List RowKind) (t u : Tables) (proc : ProcId) (doc : DocId) (why : Why) (nav : NavId) (state : StateId) (address : List ℕ) (work : IsAtWork e out t) where
+  abbrev pub load_make : Job
+  load_make = next_order (now_of e out).jobs proc doc why (tasks.Populate nav state address false)
+
+  abbrev then_made : Seen
+  then_made = after (now_of e out) (row_of e (rows.Sent load_make))
+
+  load_make_lawful : IsMakeOfLoadDue e.header (now_of e out) load_make nav state address → (desk_of (now_of e out) proc).known ≡ 0 → AreLawful e (out ++ rows.Sent load_make ∷ [])
+  unfolding now_of
+  load_make_lawful due known =
+      lawful_plain e out (rows.Sent load_make) (make_load_quiet e load_make nav state address refl) (sent_held e out load_make) (none_lawful e out work.lawful) (make_load_may (here_of e out) e.event e.actor load_make nav state address (led_here e out work.own) (record { number = refl; incarnation = sym known }) (subst (λ (hd : Header). IsMakeOfLoadDue hd (now_of e out) load_make nav state address) (sym (header_here e out)) due))
+
+  pub load_make_work : IsMakeOfLoadDue e.header (now_of e out) load_make nav state address → (desk_of (now_of e out) proc).known ≡ 0 → sight_in (map sight (now_of e out).documents) doc ≡ None → lookup (is_state state) t.making.entries ≡ None → IsUnmadeLoad (now_of e out) t.loads nav state → AreKeptDocs (now_of e out) → MakesOne nav state proc doc t u → u.running ≡ t.running → u.goal ≡ t.goal → u.initial.entries ≡ t.initial.entries → u.loads ≡ moved_on (is_of nav) (phases.Populating doc) t.loads → KeepsOthers nav t.loads u.loads → IsAtWork e (out ++ rows.Sent load_make ∷ []) u
+  load_make_work due known unknown unmade its kept_docs one running goal initial loads others =
+      work_more e out (rows.Sent load_make) None t u work
+      (subst (λ (r : Option ReqId). Holds (look_of then_made r) u) (sym running) (make_holds (now_of e out) t.running e.event e.actor proc doc why nav state address false t work.holds unknown unmade u one))
+      (subst (λ (r : Option ReqId). IsRunning (now_of e out).requests r) (sym running) work.runs)
+      (subst (λ (r : Option ReqId). HasGoal (now_of e out).requests r u.goal) (sym running) (subst (λ (g : Step). HasGoal (now_of e out).requests t.running g) (sym goal) work.goal))
+      (few_made e out t load_make nav state work)
+      (initial_same (now_of e out).initial_states t.initial.entries u.initial.entries initial work.initial)
+      (own_made (now_of e out) e.event e.actor t.loads work.loads load_make nav state address false refl its.load its.at its.state_is its.unmade u.loads own others its.alone)
+      (kept_made e out t u load_make nav state work kept_docs one.kept)
+      (lawful_none e (out ++ rows.Sent load_make ∷ []) (load_make_lawful due known))
+    where
+      own : ongoing_load nav u.loads ≡ Some (in_phase (phases.Populating doc) its.load)
+      own =
+          ap (λ (l : List Load). ongoing_load nav l) loads
+          ∙ moved_own nav (phases.Populating doc) t.loads
+          ∙ ap (λ (o : Option Load). option_map (in_phase (phases.Populating doc)) o) its.at

@@ -1,0 +1,100 @@
+-- A document is told something, or is to be made, and the coordinator goes on working.
+use Rattle.tab_doors.proofs.Ahead.{lawful_none, none_lawful}
+use Rattle.tab_doors.proofs.Initial.{initial_same}
+use Rattle.tab_doors.proofs.Keeping.{unloaded_apart}
+use Rattle.tab_doors.proofs.Making.{MakesOne, make_holds}
+use Rattle.tab_doors.proofs.Telling.{SendsOne, tell_holds}
+use Rattle.tab_doors.proofs.Whose.{proc_found}
+use Rattle.tab_doors.proofs.Works.{few_made, few_sent, goal_on, header_here, kept_made, kept_on, loads_sent, numbered, runs_on, sent_held, work_more}
+use Rattle.tab_doors.specs.Look.{look_of, sight, sight_in}
+use Rattle.tab_doors.specs.Orders.{IsThere, next_order, order_to, proc_at}
+use Rattle.tab_doors.specs.Ties.{Holds, IsAwakeIn}
+use Rattle.tab_doors.specs.Working.{IsAtWork}
+use Rattle.tab_doors.specs.declared.tables.Tables.{Tables}
+use Rattle.frame_rows.proofs.LawfulLaws.{lawful_plain}
+use Rattle.frame_rows.proofs.Makes.{make_may, make_quiet}
+use Rattle.frame_rows.specs.Lawful.{AreLawful}
+use Rattle.frame_rows.specs.Making.{IsMakeDue}
+use Rattle.kept_facts.specs.Keeping.{AreKeptDocs}
+use Rattle.load_table.specs.declared.load.Load.{Load}
+use Rattle.load_ties.proofs.Makes.{other_made}
+use Rattle.load_ties.specs.Tying.{TiesLoads}
+use Rattle.log_model.specs.After.{after}
+use Rattle.log_model.specs.AfterDocuments.{addressed}
+use Rattle.log_model.specs.Orders.{ongoing_load as load_in_log}
+use Rattle.log_model.specs.Seen.{Seen, desk_of}
+use Rattle.log_model.specs.declared.header.Header.{Header}
+use Rattle.log_model.specs.declared.job.Job.{Job}
+use Rattle.log_model.specs.declared.job.Why.{Why}
+use Rattle.log_model.specs.declared.row_kind.RowKind.{RowKind}
+use Rattle.nav_tree.specs.Tree.{is_state, with_nav}
+use Rattle.nav_tree.specs.declared.nav.Nav.{Nav}
+use Rattle.seen_laws.proofs.InEvents.{led_here, order_quiet}
+use Rattle.seen_laws.proofs.Sendings.{update_may}
+use Rattle.seen_laws.specs.InEvent.{InEvent, here_of, now_of, row_of}
+use Rattle.seen_laws.specs.Sending.{IsUpdateDue}
+use Rattle.std.proofs.Common.{Bool, List, None, Option, Some, [], map, refl, subst, sym, ℕ, ◌++◌, ◌∷◌, ◌≡◌}
+use Rattle.std.proofs.lemmas.List.{length-map}
+use Rattle.std.specs.Map.{lookup}
+use Rattle.tab_ids.specs.declared.DocId.{DocId}
+use Rattle.tab_ids.specs.declared.NavId.{NavId}
+use Rattle.tab_ids.specs.declared.ProcId.{ProcId}
+use Rattle.tab_ids.specs.declared.ReqId.{ReqId}
+use Rattle.tab_ids.specs.declared.StateId.{StateId}
+use Rattle.log_model.specs.declared.job.Task.TheVariants as tasks
+use Rattle.log_model.specs.declared.row_kind.RowKind.TheVariants as rows
+
+-- ---- a document is told length and index
+
+module _ (e : InEvent) (out : List RowKind) (t u : Tables) (nav : NavId) (doc : DocId) (why : Why) (long at : ℕ) (work : IsAtWork e out t) (awake_ : IsAwakeIn t.tree nav doc) (there : IsThere (now_of e out) doc) where
+  abbrev pub update : Job
+  update = order_to (now_of e out) doc why (tasks.Update long at)
+
+  abbrev then_told : Seen
+  then_told = after (now_of e out) (row_of e (rows.Sent update))
+
+  same_proc : proc_at (now_of e out) doc ≡ there.document.proc
+  same_proc = proc_found (now_of e out) doc there.document there.found
+
+  update_lawful : IsUpdateDue (now_of e out) update (long, at) → AreLawful e (out ++ rows.Sent update ∷ [])
+  unfolding now_of
+  update_lawful due =
+      lawful_plain e out (rows.Sent update) (order_quiet e update (tasks.Update long at) refl tt) (sent_held e out update) (none_lawful e out work.lawful) (update_may (here_of e out) e.event e.actor update there.document long at refl (led_here e out work.own) (numbered (here_of e out).now (proc_at (now_of e out) doc) doc why (tasks.Update long at) (rw same_proc there.known)) (record { found = there.found; proc = sym same_proc; alive = there.alive }) due)
+
+  pub tell_work : IsUpdateDue (now_of e out) update (long, at) → u.tree ≡ with_nav (λ (n : Nav). record n { told = Some (long, at) }) nav t.tree → SendsOne t u t.shown.entries t.last.entries → u.running ≡ t.running → u.goal ≡ t.goal → u.kept ≡ t.kept → IsAtWork e (out ++ rows.Sent update ∷ []) u
+  tell_work due tree one running goal kept =
+      work_more e out (rows.Sent update) None t u work
+      (subst (λ (r : Option ReqId). Holds (look_of then_told r) u) (sym running) (tell_holds (now_of e out) t.running e.event e.actor (proc_at (now_of e out) doc) doc why (long, at) nav awake_.node t awake_.there awake_.wakes work.holds u tree one))
+      (runs_on (now_of e out).requests then_told.requests t u (λ r. refl) running work.runs)
+      (goal_on (now_of e out).requests then_told.requests t u (λ r. refl) running goal work.goal)
+      (few_sent (now_of e out).documents _ (now_of e out).jobs (length-map (now_of e out).documents _) work.few)
+      (initial_same (now_of e out).initial_states t.initial.entries u.initial.entries one.initial work.initial)
+      (loads_sent e out t u update tt work one.loads)
+      (kept_on (now_of e out) doc (addressed (tasks.Update long at)) (λ d. refl) (λ d. refl) None t.kept u.kept work.kept kept)
+      (lawful_none e (out ++ rows.Sent update ∷ []) (update_lawful due))
+
+-- ---- a document is to be made
+
+module _ (e : InEvent) (out : List RowKind) (t u : Tables) (proc : ProcId) (doc : DocId) (why : Why) (nav : NavId) (state : StateId) (address : List ℕ) (initial : Bool) (work : IsAtWork e out t) where
+  abbrev pub make : Job
+  make = next_order (now_of e out).jobs proc doc why (tasks.Populate nav state address initial)
+
+  abbrev then_made : Seen
+  then_made = after (now_of e out) (row_of e (rows.Sent make))
+
+  make_lawful : IsMakeDue e.header (now_of e out) make nav state address initial → (desk_of (now_of e out) proc).known ≡ 0 → AreLawful e (out ++ rows.Sent make ∷ [])
+  unfolding now_of
+  make_lawful due known =
+      lawful_plain e out (rows.Sent make) (make_quiet e make nav state address initial refl) (sent_held e out make) (none_lawful e out work.lawful) (make_may (here_of e out) e.event e.actor make nav state address initial (led_here e out work.own) (record { number = refl; incarnation = sym known }) (subst (λ (hd : Header). IsMakeDue hd (now_of e out) make nav state address initial) (sym (header_here e out)) due))
+
+  pub make_work : IsMakeDue e.header (now_of e out) make nav state address initial → (desk_of (now_of e out) proc).known ≡ 0 → sight_in (map sight (now_of e out).documents) doc ≡ None → lookup (is_state state) t.making.entries ≡ None → load_in_log (now_of e out) state ≡ None → AreKeptDocs (now_of e out) → MakesOne nav state proc doc t u → u.running ≡ t.running → u.goal ≡ t.goal → u.loads ≡ t.loads → IsAtWork e (out ++ rows.Sent make ∷ []) u
+  make_work due known unknown unmade unloaded kept_docs one running goal loads =
+      work_more e out (rows.Sent make) None t u work
+      (subst (λ (r : Option ReqId). Holds (look_of then_made r) u) (sym running) (make_holds (now_of e out) t.running e.event e.actor proc doc why nav state address initial t work.holds unknown unmade u one))
+      (runs_on (now_of e out).requests then_made.requests t u (λ r. refl) running work.runs)
+      (goal_on (now_of e out).requests then_made.requests t u (λ r. refl) running goal work.goal)
+      (few_made e out t make nav state work)
+      (initial_same (now_of e out).initial_states t.initial.entries u.initial.entries one.initial work.initial)
+      (subst (λ (l : List Load). TiesLoads then_made l) (sym loads) (other_made (now_of e out) e.event e.actor t.loads work.loads make nav state address initial refl (unloaded_apart (now_of e out) t.loads work.loads state unloaded)))
+      (kept_made e out t u make nav state work kept_docs one.kept)
+      (lawful_none e (out ++ rows.Sent make ∷ []) (make_lawful due known))

@@ -1,0 +1,218 @@
+-- A traversal begins, or a request is refused or dropped, and the coordinator goes on working.
+use Rattle.tab_doors.specs.Working as working  -- keep
+use Rattle.seen_laws.proofs.Startings.{IsWorker}  -- keep
+use Rattle.tab_doors.proofs.Ahead.{lawful_none, none_lawful}
+use Rattle.tab_doors.proofs.EndLaws.{left_holds}
+use Rattle.tab_doors.proofs.Keeping.{no_load_at}
+use Rattle.tab_doors.proofs.Requests.{ended_moved, moved_same, runs_ended_apart}
+use Rattle.tab_doors.proofs.Works.{done_here, goal_read, goal_same, start_here, started_held, work_more}
+use Rattle.tab_doors.specs.Dues.{IsBeginDue, IsDenyDue, IsDestroyDue, IsDropDue, IsNowhere}
+use Rattle.tab_doors.specs.Keeping.{IsNoLoad}
+use Rattle.tab_doors.specs.Look.{look_of, moved_by, sight}
+use Rattle.tab_doors.specs.Ties.{AreInitial, Holds, IsRunning}
+use Rattle.tab_doors.specs.Working.{HasGoal, IsAtWork, look_now}
+use Rattle.tab_doors.specs.declared.tables.Tables.{Tables}
+use Rattle.frame_rows.proofs.LawfulLaws.{lawful_more, lawful_plain}
+use Rattle.frame_rows.proofs.Takes.{denied_may, destroyed_may, moved_may}
+use Rattle.frame_rows.proofs.Turns.{IsTraversalBy, begin_may, nowhere_may, traversal_by}
+use Rattle.frame_rows.specs.Lawful.{AreLawful}
+use Rattle.kept_facts.specs.Keeping.{kept_states}
+use Rattle.load_ties.proofs.Ends.{HasEnded, dropped_ended, other_ends, refused_ended}
+use Rattle.load_ties.proofs.Rows.{begun_tied}
+use Rattle.log_model.proofs.Refl.{nat_eq_refl}
+use Rattle.log_model.specs.After.{after, ended, states_after}
+use Rattle.log_model.specs.AfterRequests.{on_request, request_begun}
+use Rattle.log_model.specs.Causes.{denial_at_acceptance, takes_report}
+use Rattle.log_model.specs.Places.{is_load, is_traversal}
+use Rattle.log_model.specs.Points.{own_row}
+use Rattle.log_model.specs.Seen.{Asked, Document, Seen, request_in}
+use Rattle.log_model.specs.declared.outcome.Denial.{Denial}
+use Rattle.log_model.specs.declared.outcome.Ending.{Ending}
+use Rattle.log_model.specs.declared.request.Request.{Request}
+use Rattle.log_model.specs.declared.row_kind.Actor.{Actor}
+use Rattle.log_model.specs.declared.row_kind.LogRow.{LogRow}
+use Rattle.log_model.specs.declared.row_kind.RowKind.{RowKind}
+use Rattle.each_facts.proofs.Courses.{runs_begun}
+use Rattle.each_facts.specs.Runs.{EachAsked, is_run, is_this}
+use Rattle.request_facts.proofs.LookUps.{on_itself}
+use Rattle.request_facts.proofs.Readers.{on_read}
+use Rattle.seen_laws.proofs.InEvents.{led_here}
+use Rattle.seen_laws.specs.Blocks.{point_at}
+use Rattle.seen_laws.specs.InEvent.{InEvent, here_of, now_of, row_of}
+use Rattle.std.proofs.Common.{List, None, Option, Some, [], ap, false, inl, inr, length, map, refl, subst, sym, true, ℕ, ℤ, ◌++◌, ◌+◌, ◌∙◌, ◌∷◌, ◌≡◌, ◌≤◌, ◌⊎◌}
+use Rattle.std.specs.Prelude.{nat_lt, option_map}
+use Rattle.tab_ids.specs.declared.ReqId.{ReqId}
+use Rattle.tab_ids.specs.declared.StateId.{StateId}
+use Rattle.tab_ids.specs.declared.Step.{Step}
+use Rattle.log_model.specs.declared.action.Action.TheVariants as actions
+use Rattle.log_model.specs.declared.outcome.Cause.TheVariants as drops
+use Rattle.log_model.specs.declared.outcome.Denial.TheVariants as denials
+use Rattle.log_model.specs.declared.outcome.Ending.TheVariants as endings
+use Rattle.log_model.specs.declared.request.Request.TheVariants as requests
+use Rattle.log_model.specs.declared.row_kind.Actor.TheVariants as actors
+use Rattle.log_model.specs.declared.row_kind.RowKind.TheVariants as rows
+
+-- ---- a request ends of which the tables tell nothing
+
+module _ (e : InEvent) (out : List RowKind) (t : Tables) (req : ReqId) (kind : RowKind) (ending : Ending) (work : IsAtWork e out t) (apart : is_this t.running req ≡ false) where
+  abbrev then_ : Seen
+  then_ = after (now_of e out) (row_of e kind)
+
+  pub ended_work : then_.requests ≡ ended (now_of e out).requests req ending → then_.documents ≡ (now_of e out).documents → then_.places ≡ (now_of e out).places → then_.history ≡ (now_of e out).history → then_.jobs ≡ (now_of e out).jobs → then_.states ≡ (now_of e out).states → then_.entries ≡ (now_of e out).entries → then_.initial_states ≡ (now_of e out).initial_states → kept_states then_ ≡ kept_states (now_of e out) → HasEnded (now_of e out) then_ req → IsNoLoad (now_of e out) req → AreLawful e (out ++ kind ∷ []) → IsAtWork e (out ++ kind ∷ []) t
+  ended_work requests_ documents places history jobs states entries initial kept ended_ no_load lawful =
+      work_more e out kind None t t work
+      (left_holds (look_now e out t.running) (look_of then_ t.running) t (ap (λ (l : List Document). map sight l) documents) places history moved jobs states entries work.holds)
+      (subst (λ (l : List Asked). IsRunning l t.running) (sym requests_) (runs_ended_apart (now_of e out).requests t.running req ending apart work.runs))
+      (subst (λ (l : List Asked). HasGoal l t.running t.goal) (sym requests_) (goal_same (now_of e out).requests (ended (now_of e out).requests req ending) t.running t.goal (on_read goal_read (now_of e out).requests req (λ q. record q { ending = Some ending }) (λ q. refl)) work.goal))
+      (subst (λ (l : List Document). length l ≤ then_.jobs + 1) (sym documents) (subst (λ (n : ℕ). length (now_of e out).documents ≤ n + 1) (sym jobs) work.few))
+      (subst (λ (l : List StateId). AreInitial l t.initial.entries) (sym initial) work.initial)
+      (other_ends (now_of e out) then_ req ended_ t.loads work.loads no_load)
+      (work.kept ∙ sym kept)
+      (lawful_none e (out ++ kind ∷ []) lawful)
+    where
+      moved : moved_by then_.requests t.running ≡ moved_by (now_of e out).requests t.running
+      moved = ap (λ (l : List Asked). moved_by l t.running) requests_ ∙ moved_same (now_of e out).requests (ended (now_of e out).requests req ending) t.running (ended_moved (now_of e out) e.event e.actor req ending)
+
+-- ---- a traversal that leads nowhere
+
+module _ (e : InEvent) (out : List RowKind) (t : Tables) (req : ReqId) (work : IsAtWork e out t) (apart : is_this t.running req ≡ false) where
+  worker_as : (actor : Actor) → working.IsWorker actor → IsWorker actor
+  worker_as actors.Ui is = tt
+  worker_as actors.Coord is = tt
+  worker_as _ is = elim is [ ]
+
+  nowhere_lawful : IsNowhere e out req → AreLawful e (out ++ rows.Refused req denials.NoStep ∷ [])
+  unfolding now_of
+  nowhere_lawful due =
+      lawful_plain e out (rows.Refused req denials.NoStep) (λ r. refl) due.held (none_lawful e out work.lawful) (nowhere_may (here_of e out) e.event e.actor req due.delta due.asked (worker_as e.actor work.worker) (led_here e out work.own) due.at due.asks due.open_ (early_here due.early) due.nowhere due.turn due.unparked)
+    where
+      start_is : (here_of e out).start ≡ e.start
+      start_is = start_here e out
+
+      early_here : (denial_at_acceptance e.start due.asked.what ≡ None ⊎ (nat_lt (length e.start.requests) due.asked.nr.0 ≡ false)) → denial_at_acceptance (here_of e out).start due.asked.what ≡ None ⊎ (nat_lt (length (here_of e out).start.requests) due.asked.nr.0 ≡ false)
+      early_here early = subst (λ (s : Seen). denial_at_acceptance s due.asked.what ≡ None ⊎ (nat_lt (length s.requests) due.asked.nr.0 ≡ false)) (sym start_is) early
+
+  goes_no_load : (what : Request) {delta : ℤ} → IsTraversalBy delta what → is_load what ≡ false
+  goes_no_load what (inl is) = rw is refl
+  goes_no_load what {delta} (inr poke) = let is : what ≡ requests.Poke poke.0 (actions.Go delta) = poke.1 in rw is refl
+
+  pub nowhere_work : IsNowhere e out req → IsAtWork e (out ++ rows.Refused req denials.NoStep ∷ []) t
+  nowhere_work due =
+      ended_work e out t req (rows.Refused req denials.NoStep) (endings.Refused denials.NoStep) work apart refl refl refl refl refl refl refl refl refl (refused_ended (now_of e out) e.event e.actor req denials.NoStep) (no_load_at (now_of e out) req due.asked due.at (goes_no_load due.asked.what (traversal_by due.asked.what due.delta due.asks))) (nowhere_lawful due)
+
+  -- ---- what is refused as its report is taken
+
+  deny_lawful : (reason : Denial) → IsDenyDue e out req reason → AreLawful e (out ++ rows.Refused req reason ∷ [])
+  unfolding now_of
+  deny_lawful reason due =
+      lawful_plain e out (rows.Refused req reason) (λ r. refl) due.held (none_lawful e out work.lawful) (denied_may (here_of e out) e.event e.actor (led_here e out work.own) due.by_coord req reason due.asked due.made due.poked due.unstarted (λ later. own_takes later) (subst (λ (s : Seen). nat_lt (length s.requests) due.asked.nr.0 ≡ false) (sym (start_here e out)) due.before) due.is due.free)
+    where
+      own_takes : (later : List LogRow) → takes_report (own_row (point_at (here_of e out) later) (record { event = e.event; actor = e.actor; row = rows.Refused req reason })) ≡ true
+      own_takes later = subst (λ (l : List LogRow). takes_report (own_row (record { start = (here_of e out).start; now = (here_of e out).now; done = l; later = later }) (record { event = e.event; actor = e.actor; row = rows.Refused req reason })) ≡ true) (sym (done_here e out)) due.takes
+
+  pub deny_work : (reason : Denial) → IsDenyDue e out req reason → IsAtWork e (out ++ rows.Refused req reason ∷ []) t
+  deny_work reason due =
+      ended_work e out t req (rows.Refused req reason) (endings.Refused reason) work apart refl refl refl refl refl refl refl refl refl (refused_ended (now_of e out) e.event e.actor req reason) (no_load_at (now_of e out) req due.asked due.poked.at (ap is_load due.poked.what)) (deny_lawful reason due)
+
+  -- ---- what is dropped
+
+  pub destroy_lawful : (by : ReqId) → IsDestroyDue e out req by → AreLawful e (out ++ rows.Dropped req (drops.Destroyed by) ∷ [])
+  unfolding now_of
+  destroy_lawful by due =
+      lawful_plain e out (rows.Dropped req (drops.Destroyed by)) (λ r. refl) due.held (none_lawful e out work.lawful) (destroyed_may (here_of e out) e.event e.actor (led_here e out work.own) req by due.asked due.at due.open_ due.is due.free)
+
+  pub destroy_work : (by : ReqId) → IsDestroyDue e out req by → IsNoLoad (now_of e out) req → IsAtWork e (out ++ rows.Dropped req (drops.Destroyed by) ∷ []) t
+  destroy_work by due no_load =
+      ended_work e out t req (rows.Dropped req (drops.Destroyed by)) (endings.Dropped (drops.Destroyed by)) work apart refl refl refl refl refl refl refl refl refl (dropped_ended (now_of e out) e.event e.actor req (drops.Destroyed by)) no_load (destroy_lawful by due)
+
+  pub drop_lawful : (by : ReqId) → IsDropDue e out req by → AreLawful e (out ++ rows.Dropped req (drops.By by) ∷ [])
+  unfolding now_of
+  drop_lawful by due =
+      lawful_plain e out (rows.Dropped req (drops.By by)) (λ r. refl) due.held (none_lawful e out work.lawful) (moved_may (here_of e out) e.event e.actor (led_here e out work.own) req by due.asked due.mover due.at due.open_ due.found due.moved due.free)
+
+  pub drop_work : (by : ReqId) → IsDropDue e out req by → IsNoLoad (now_of e out) req → IsAtWork e (out ++ rows.Dropped req (drops.By by) ∷ []) t
+  drop_work by due no_load =
+      ended_work e out t req (rows.Dropped req (drops.By by)) (endings.Dropped (drops.By by)) work apart refl refl refl refl refl refl refl refl refl (dropped_ended (now_of e out) e.event e.actor req (drops.By by)) no_load (drop_lawful by due)
+
+-- ---- a traversal begins
+
+module _ (e : InEvent) (out : List RowKind) (t : Tables) (req : ReqId) (goal : Step) (work : IsAtWork e out t) (none : t.running ≡ None) (due : IsBeginDue (now_of e out) req goal) where
+  abbrev begun_ : Seen
+  begun_ = after (now_of e out) (row_of e (rows.Started req (Some goal)))
+
+  abbrev u : Tables
+  u = record t { running = Some req; goal = goal }
+
+  abbrev begin_ : Asked → Asked
+  begin_ q = record q { is_started = true; goal = Some goal }
+
+  found : request_in begun_.requests req ≡ Some (request_begun (now_of e out) (begin_ due.asked))
+  found =
+      on_itself (on_request req begin_ (now_of e out).requests) req (request_begun (now_of e out))
+      ∙ ap (λ (o : Option Asked). option_map (request_begun (now_of e out)) o) (on_itself (now_of e out).requests req begin_ ∙ ap (λ (o : Option Asked). option_map begin_ o) due.at)
+
+  moved : moved_by begun_.requests (Some req) ≡ moved_by (now_of e out).requests t.running
+  moved = rw found (due.unmoved ∙ sym (ap (λ (r : Option ReqId). moved_by (now_of e out).requests r) none))
+
+  no_load : (what : Request) → IsTraversalBy due.delta what → is_load what ≡ false
+  no_load what (inl is) = rw is refl
+  no_load what (inr poke) = let is : what ≡ requests.Poke poke.0 (actions.Go due.delta) = poke.1 in rw is refl
+
+  is_step : (what : Request) → IsTraversalBy due.delta what → is_traversal what ≡ true
+  is_step what (inl is) = rw is refl
+  is_step what (inr poke) = let is : what ≡ requests.Poke poke.0 (actions.Go due.delta) = poke.1 in rw is refl
+
+  its : IsTraversalBy due.delta due.asked.what
+  its = traversal_by due.asked.what due.delta due.asks
+
+  states_same : states_after (now_of e out) (rows.Started req (Some goal)) ≡ (now_of e out).states
+  states_same = rw due.at (rw (no_load due.asked.what its) refl)
+
+  it_is : (q : Asked) → request_in (now_of e out).requests req ≡ Some q → due.asked ≡ q
+  it_is q at = let both_ : Some due.asked ≡ Some q = sym due.at ∙ at in cc
+
+  runs : IsRunning begun_.requests (Some req)
+  runs =
+      record {
+        only = runs_begun (now_of e out) req (Some goal) (λ q at. subst (λ (x : Asked). is_traversal x.what ≡ true) (it_is q at) (is_step due.asked.what its)) (λ q at. subst (λ (x : Asked). x.ending ≡ None) (it_is q at) due.open_) (subst (λ (r : Option ReqId). EachAsked (λ x q. is_run q ≡ is_this r x) (now_of e out).requests) none work.runs.only);
+        there = λ r is. let same : req ≡ r = cc in (request_begun (now_of e out) (begin_ due.asked), ap (λ (x : ReqId). request_in begun_.requests x) (sym same) ∙ found);
+      }
+
+  goal_then : HasGoal begun_.requests (Some req) goal
+  goal_then r q is at =
+      let same : req ≡ r = cc in
+      let both_ : Some (request_begun (now_of e out) (begin_ due.asked)) ≡ Some q = sym found ∙ ap (λ (x : ReqId). request_in begun_.requests x) same ∙ at in
+      let one : request_begun (now_of e out) (begin_ due.asked) ≡ q = cc in
+      ap (λ (x : Asked). x.goal) (sym one)
+
+  begin_lawful : AreLawful e (out ++ rows.Started req (Some goal) ∷ [])
+  unfolding now_of
+  begin_lawful =
+      lawful_more e out (rows.Started req (Some goal)) (λ r. refl) (started_held e out req (Some goal)) (none_lawful e out work.lawful) (λ later asks. begin_may (here_of e out) e.event e.actor req goal.0 due.delta due.asked (led_here e out work.own) due.at due.asks due.unstarted due.open_ due.there due.turn due.unasked later (asks.0 req (nat_eq_refl req.0)))
+
+  pub begin_work : IsAtWork e (out ++ rows.Started req (Some goal) ∷ []) u
+  begin_work =
+      work_more e out (rows.Started req (Some goal)) None t u work
+      (on_tables (left_holds (look_now e out t.running) (look_of begun_ (Some req)) t refl refl refl moved refl states_same refl work.holds))
+      runs
+      goal_then
+      work.few
+      work.initial
+      (begun_tied (now_of e out) e.event e.actor t.loads work.loads req (Some goal) (λ q at. subst (λ (x : Asked). is_load x.what ≡ false) (it_is q at) (no_load due.asked.what its)))
+      work.kept
+      (lawful_none e (out ++ rows.Started req (Some goal) ∷ []) begin_lawful)
+    where
+      on_tables : Holds (look_of begun_ (Some req)) t → Holds (look_of begun_ (Some req)) u
+      on_tables holds =
+          record {
+            navs = holds.navs;
+            documents = holds.documents;
+            whose = holds.whose;
+            shown = holds.shown;
+            last = holds.last;
+            history = holds.history;
+            numbered = holds.numbered;
+            states = holds.states;
+            entries = holds.entries;
+            sent = holds.sent;
+          }

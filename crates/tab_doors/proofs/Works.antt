@@ -1,0 +1,220 @@
+-- One row more that the coordinator puts out: what makes it go on working, and what orders leave of loads and of kept documents.
+use Rattle.seen_laws.specs.InEvent.{first_of}  -- keep
+use Rattle.each_facts.proofs.Courses.{was_asked}  -- keep
+use Rattle.tab_doors.proofs.Keeping.{states_on, states_shown}
+use Rattle.tab_doors.proofs.Requests.{runs_same}
+use Rattle.tab_doors.proofs.Whose.{proc_known, proc_same}
+use Rattle.tab_doors.specs.Keeping.{HasRoom, Leaves, LeavesFor, LetsGo, Move, kept_in, kept_once_shown, with_left}
+use Rattle.tab_doors.specs.Look.{look_of}
+use Rattle.tab_doors.specs.Orders.{next_order, numbered_order, order_to, proc_at}
+use Rattle.tab_doors.specs.Ties.{AreInitial, Holds, IsRunning, proc_in}
+use Rattle.tab_doors.specs.Working.{AreLawfulFor, HasGoal, IsAtWork, IsAtWorkFor}
+use Rattle.tab_doors.specs.declared.tables.Tables.{Tables}
+use Rattle.frame_rows.proofs.LawfulLaws.{keeps_held}
+use Rattle.frame_rows.specs.Lawful.{KeepsHeld}
+use Rattle.home_facts.proofs.Again.{all_more}
+use Rattle.kept_facts.proofs.States.{AreOfOwnStates, states_again, states_without}
+use Rattle.kept_facts.specs.Keeping.{AreKeptDocs, kept_states, state_in}
+use Rattle.load_table.specs.declared.load.Load.{Load}
+use Rattle.load_ties.proofs.Rows.{KeepsThem, sent_tied}
+use Rattle.load_ties.specs.Tying.{TiesLoads}
+use Rattle.log_model.specs.After.{after}
+use Rattle.log_model.specs.AfterDocuments.{new_document, on_document}
+use Rattle.log_model.specs.AfterPlaces.{without_doc}
+use Rattle.log_model.specs.Seen.{Asked, Document, Seen, desk_of, document_of as document_in_log}
+use Rattle.log_model.specs.declared.job.Job.{Job}
+use Rattle.log_model.specs.declared.job.Task.{Task}
+use Rattle.log_model.specs.declared.job.Why.{Why}
+use Rattle.log_model.specs.declared.row_kind.LogRow.{LogRow}
+use Rattle.log_model.specs.declared.row_kind.RowKind.{RowKind}
+use Rattle.each_facts.specs.Runs.{is_run}
+use Rattle.page_cache.specs.Kept.{Kept, without}
+use Rattle.request_facts.proofs.Readers.{SameReads}
+use Rattle.seen_laws.proofs.InEvents.{now_more}
+use Rattle.seen_laws.specs.Blocks.{Here, on_row, on_rows}
+use Rattle.seen_laws.specs.InEvent.{InEvent, here_of, now_of, row_of}
+use Rattle.seen_laws.specs.Sending.{IsNumbered}
+use Rattle.std.proofs.Common.{List, None, Option, Some, [], ap, append-nil, append_assoc, arith, length, length-append, map, refl, subst, sym, ℕ, ◌++◌, ◌+◌, ◌∙◌, ◌∷◌, ◌≡◌, ◌≤◌}
+use Rattle.std.specs.Option.{IsSome}
+use Rattle.std.specs.Prelude.{filter_map}
+use Rattle.tab_ids.specs.declared.DocId.{DocId}
+use Rattle.tab_ids.specs.declared.NavId.{NavId}
+use Rattle.tab_ids.specs.declared.ProcId.{ProcId}
+use Rattle.tab_ids.specs.declared.ReqId.{ReqId}
+use Rattle.tab_ids.specs.declared.StateId.{StateId}
+use Rattle.tab_ids.specs.declared.Step.{Step}
+use Rattle.log_model.specs.declared.row_kind.RowKind.TheVariants as rows
+
+-- ---- the whole
+
+-- the move that had begun, if one had, and the one that has begun once the row is put out
+module _ {from : Option Move} (e : InEvent) (out : List RowKind) (kind : RowKind) (move : Option Move) (t u : Tables) (work : IsAtWorkFor from e out t) where
+  abbrev pub then_ : Seen
+  then_ = after (now_of e out) (row_of e kind)
+
+  pub work_more : Holds (look_of then_ u.running) u → IsRunning then_.requests u.running → HasGoal then_.requests u.running u.goal → length then_.documents ≤ then_.jobs + 1 → AreInitial then_.initial_states u.initial.entries → TiesLoads then_ u.loads → u.kept.states ≡ kept_in move u.kept.keep (kept_states then_) → AreLawfulFor move e (out ++ kind ∷ []) → IsAtWorkFor move e (out ++ kind ∷ []) u
+  work_more holds runs goal few initial loads kept lawful =
+      record {
+        own = work.own;
+        worker = work.worker;
+        holds = subst (λ (s : Seen). Holds (look_of s u.running) u) (sym (now_more e out kind)) holds;
+        runs = subst (λ (s : Seen). IsRunning s.requests u.running) (sym (now_more e out kind)) runs;
+        goal = subst (λ (s : Seen). HasGoal s.requests u.running u.goal) (sym (now_more e out kind)) goal;
+        few = subst (λ (s : Seen). length s.documents ≤ s.jobs + 1) (sym (now_more e out kind)) few;
+        initial = subst (λ (s : Seen). AreInitial s.initial_states u.initial.entries) (sym (now_more e out kind)) initial;
+        loads = subst (λ (s : Seen). TiesLoads s u.loads) (sym (now_more e out kind)) loads;
+        kept = subst (λ (s : Seen). u.kept.states ≡ kept_in move u.kept.keep (kept_states s)) (sym (now_more e out kind)) kept;
+        lawful = lawful;
+      }
+
+-- the rows are these
+pub next_for : (move : Option Move) (e : InEvent) (new then_out : List RowKind) (u : Tables) → new ≡ then_out → IsAtWorkFor move e then_out u → IsAtWorkFor move e new u
+next_for move e new then_out u is work = subst (λ (o : List RowKind). IsAtWorkFor move e o u) (sym is) work
+
+pub next_work : (e : InEvent) (new then_out : List RowKind) (u : Tables) → new ≡ then_out → IsAtWork e then_out u → IsAtWork e new u
+next_work e new then_out u is work = next_for None e new then_out u is work
+
+-- ---- where the event stands
+
+-- the point of the event is that of its rows
+pub here_now : (e : InEvent) (out : List RowKind) → (here_of e out).now ≡ now_of e out
+unfolding now_of
+here_now e out = refl
+
+-- its settings are those of the event
+on_header : (h : Here) (more : List LogRow) → (on_rows h more).header ≡ h.header
+on_header h [] = refl
+on_header h (row ∷ more) = on_header (on_row h row) more
+
+pub header_here : (e : InEvent) (out : List RowKind) → (here_of e out).header ≡ e.header
+header_here e out = on_header (first_of e) (map (row_of e) out)
+
+-- it began where the event did
+on_start : (h : Here) (more : List LogRow) → (on_rows h more).start ≡ h.start
+on_start h [] = refl
+on_start h (row ∷ more) = on_start (on_row h row) more
+
+pub start_here : (e : InEvent) (out : List RowKind) → (here_of e out).start ≡ e.start
+start_here e out = on_start (first_of e) (map (row_of e) out)
+
+-- and its rows are the own one and those put out
+on_done : (h : Here) (more : List LogRow) → (on_rows h more).done ≡ h.done ++ more
+on_done h [] = sym (append-nil h.done)
+on_done h (row ∷ more) = on_done (on_row h row) more ∙ append_assoc h.done (row ∷ []) more
+
+pub done_here : (e : InEvent) (out : List RowKind) → (here_of e out).done ≡ row_of e e.own ∷ map (row_of e) out
+done_here e out = on_done (first_of e) (map (row_of e) out)
+
+-- an order keeps what is held back
+pub sent_held : (e : InEvent) (out : List RowKind) (job : Job) → KeepsHeld e out (rows.Sent job)
+sent_held e out job = keeps_held e out (rows.Sent job) refl refl
+
+pub started_held : (e : InEvent) (out : List RowKind) (req : ReqId) (goal : Option Step) → KeepsHeld e out (rows.Started req goal)
+started_held e out req goal = keeps_held e out (rows.Started req goal) refl refl
+
+-- ---- where the traversal that runs leads
+
+-- read from the requests
+abbrev pub goal_read : Asked → Option Step
+goal_read q = q.goal
+
+pub goal_same : (asked next_ : List Asked) (run : Option ReqId) (goal : Step) → SameReads goal_read asked next_ → HasGoal asked run goal → HasGoal next_ run goal
+goal_same asked next_ run goal same has req q is at =
+    let was = was_asked goal_read asked next_ same req q at in
+    sym was.2 ∙ has req was.0 is was.1
+
+pub goal_of_none : (asked : List Asked) (goal : Step) → HasGoal asked None goal
+goal_of_none asked goal req q is at = cc
+
+-- the tables have the same traversal, and the same goal of it
+pub runs_on : (asked next_ : List Asked) (t u : Tables) → SameReads is_run asked next_ → u.running ≡ t.running → IsRunning asked t.running → IsRunning next_ u.running
+runs_on asked next_ t u same running runs =
+    subst (λ (r : Option ReqId). IsRunning next_ r) (sym running) (runs_same asked next_ t.running same runs)
+
+pub goal_on : (asked next_ : List Asked) (t u : Tables) → SameReads goal_read asked next_ → u.running ≡ t.running → u.goal ≡ t.goal → HasGoal asked t.running t.goal → HasGoal next_ u.running u.goal
+goal_on asked next_ t u same running goal has =
+    subst (λ (r : Option ReqId). HasGoal next_ r u.goal) (sym running) (subst (λ (g : Step). HasGoal next_ t.running g) (sym goal) (goal_same asked next_ t.running t.goal same has))
+
+-- ---- an order
+
+-- it has the next number, and the incarnation that is known
+pub numbered : (s : Seen) (proc : ProcId) (doc : DocId) (why : Why) (task : Task) → (desk_of s proc).known ≡ 0 → IsNumbered s (next_order s.jobs proc doc why task)
+numbered s proc doc why task known = record { number = refl; incarnation = sym known }
+
+-- the order that was counted and put out is the next one
+pub order_is : {move : Option Move} (e : InEvent) (out new : List RowKind) (t : Tables) (job : Job) (proc : ProcId) (doc : DocId) (why : Why) (task : Task) → IsAtWorkFor move e out t → new ≡ out ++ rows.Sent job ∷ [] → job ≡ numbered_order (length t.sent.items) proc doc why task → new ≡ out ++ rows.Sent (next_order (now_of e out).jobs proc doc why task) ∷ []
+order_is e out new t job proc doc why task work is counted =
+    is ∙ ap (λ (j : Job). out ++ rows.Sent j ∷ []) (counted ∙ ap (λ (n : ℕ). numbered_order n proc doc why task) work.holds.sent)
+
+-- the process to which it goes
+module _ {move : Option Move} (e : InEvent) (out : List RowKind) (t : Tables) (doc : DocId) (d : Document) (work : IsAtWorkFor move e out t) (found : document_in_log (now_of e out) doc ≡ Some d) where
+  pub has_proc : IsSome (proc_in t.whose.entries doc)
+  has_proc = proc_known (now_of e out) t.whose.entries work.holds.whose doc d found
+
+  -- the order that was counted for the process that the table has is the next one to the document
+  pub order_there : (new : List RowKind) (job : Job) (proc : ProcId) (why : Why) (task : Task) → proc_in t.whose.entries doc ≡ Some proc → new ≡ out ++ rows.Sent job ∷ [] → job ≡ numbered_order (length t.sent.items) proc doc why task → new ≡ out ++ rows.Sent (order_to (now_of e out) doc why task) ∷ []
+  order_there new job proc why task has is counted =
+      order_is e out new t job (proc_at (now_of e out) doc) doc why task work is (counted ∙ ap (λ (p : ProcId). numbered_order (length t.sent.items) p doc why task) (proc_same (now_of e out) t.whose.entries work.holds.whose doc d found proc has))
+
+-- ---- how many documents were made
+
+-- an order that makes none
+pub few_sent : (documents next_ : List Document) (jobs : ℕ) → length next_ ≡ length documents → length documents ≤ jobs + 1 → length next_ ≤ (jobs + 1) + 1
+few_sent documents next_ jobs same few = omega (arith, same, few)
+
+-- one that makes one more
+pub few_made : {move : Option Move} (e : InEvent) (out : List RowKind) (t : Tables) (job : Job) (nav : NavId) (state : StateId) → IsAtWorkFor move e out t → length ((now_of e out).documents ++ new_document (now_of e out) job nav state ∷ []) ≤ ((now_of e out).jobs + 1) + 1
+few_made e out t job nav state work =
+    let was : length (now_of e out).documents ≤ (now_of e out).jobs + 1 = work.few in
+    let more : length ((now_of e out).documents ++ new_document (now_of e out) job nav state ∷ []) ≡ length (now_of e out).documents + 1 = length-append (now_of e out).documents (new_document (now_of e out) job nav state ∷ []) in
+    omega (arith, was, more)
+
+-- ---- loads
+
+-- an order that makes no document and discards none leaves them
+pub loads_sent : {move : Option Move} (e : InEvent) (out : List RowKind) (t u : Tables) (job : Job) → KeepsThem job.task → IsAtWorkFor move e out t → u.loads ≡ t.loads → TiesLoads (after (now_of e out) (row_of e (rows.Sent job))) u.loads
+loads_sent e out t u job keeps work same =
+    subst (λ (l : List Load). TiesLoads (after (now_of e out) (row_of e (rows.Sent job))) l) (sym same) (sent_tied (now_of e out) e.event e.actor t.loads work.loads job keeps)
+
+-- ---- kept documents
+
+-- an order that makes a document leaves them
+pub kept_made : (e : InEvent) (out : List RowKind) (t u : Tables) (job : Job) (nav : NavId) (state : StateId) → IsAtWork e out t → AreKeptDocs (now_of e out) → u.kept ≡ t.kept → u.kept.states ≡ filter_map (state_in ((now_of e out).documents ++ new_document (now_of e out) job nav state ∷ [])) (now_of e out).kept
+kept_made e out t u job nav state work kept_docs same =
+    ap (λ (k : Kept). k.states) same
+    ∙ work.kept
+    ∙ sym (states_again (now_of e out).documents ((now_of e out).documents ++ new_document (now_of e out) job nav state ∷ []) (now_of e out).kept (all_more (now_of e out).documents (new_document (now_of e out) job nav state)) (λ other has. let is = kept_docs.each other has in (is.d, is.found)))
+
+module _ (s : Seen) (doc : DocId) (f : Document → Document) (number : (d : Document) → (f d).nr ≡ d.nr) (same : (d : Document) → (f d).state ≡ d.state) where
+  -- one that only changes a document leaves them
+  pub kept_on : (move : Option Move) (old new : Kept) → old.states ≡ kept_in move old.keep (kept_states s) → new ≡ old → new.states ≡ kept_in move new.keep (filter_map (state_in (on_document doc f s.documents)) s.kept)
+  kept_on move old new was is =
+      subst (λ (k : Kept). k.states ≡ kept_in move k.keep (filter_map (state_in (on_document doc f s.documents)) s.kept)) (sym is) (was ∙ ap (λ (l : List StateId). kept_in move old.keep l) (sym (states_on doc f s.documents s.kept number same)))
+
+  module _ (state : StateId) (own : AreOfOwnStates s.documents s.kept doc state) where
+    -- without this one they are the states without its own
+    less : (docs : List DocId) → docs ≡ without_doc doc s.kept → without state (kept_states s) ≡ filter_map (state_in (on_document doc f s.documents)) docs
+    less docs takes =
+        sym (states_without s.documents s.kept doc state own)
+        ∙ ap (λ (l : List DocId). filter_map (state_in s.documents) l) (sym takes)
+        ∙ sym (states_on doc f s.documents docs number same)
+
+    -- one is kept no longer, of which the cache has let go
+    pub kept_gone : (move : Option Move) (old new : Kept) → old.states ≡ kept_in move old.keep (kept_states s) → LetsGo move old.keep (kept_states s) state → new ≡ record old { states = without state old.states } → new.states ≡ kept_in move new.keep (filter_map (state_in (on_document doc f s.documents)) (without_doc doc s.kept))
+    kept_gone move old new was lets is =
+        subst (λ (k : Kept). k.states ≡ kept_in move k.keep (filter_map (state_in (on_document doc f s.documents)) (without_doc doc s.kept))) (sym is) (ap (λ (l : List StateId). without state l) was ∙ lets ∙ ap (λ (l : List StateId). kept_in move old.keep l) (less (without_doc doc s.kept) refl))
+
+    -- one is shown, for which its navigable leaves one that is kept then, or none
+    left_shown : (left : Option StateId) (keep : ℕ) (states : List StateId) → states ≡ with_left left keep (kept_states s) → Leaves s doc left → HasRoom left keep (kept_states s) state → without state states ≡ filter_map (state_in (on_document doc f s.documents)) (kept_once_shown s doc)
+    left_shown None keep states was leaves room = ap (λ (l : List StateId). without state l) was ∙ less (kept_once_shown s doc) leaves
+    left_shown (Some left) keep states was leaves room =
+        ap (λ (l : List StateId). without state l) was
+        ∙ room
+        ∙ states_shown s doc state left own leaves
+        ∙ sym (states_on doc f s.documents (kept_once_shown s doc) number same)
+
+    pub kept_shown : (move : Option Move) (old new : Kept) → old.states ≡ kept_in move old.keep (kept_states s) → LeavesFor move s doc state old.keep → new ≡ record old { states = without state old.states } → new.states ≡ filter_map (state_in (on_document doc f s.documents)) (kept_once_shown s doc)
+    kept_shown None old new was leaves is =
+        ap (λ (k : Kept). k.states) is ∙ left_shown None old.keep old.states was leaves tt
+    kept_shown (Some move) old new was leaves is =
+        ap (λ (k : Kept). k.states) is ∙ left_shown move.left old.keep old.states was leaves.1 leaves.2

@@ -1,0 +1,4 @@
+use Rattle.tab_doors.proofs.tables.Tables.remove_frame.Given as goal
+
+abbrev pub ghost-change : goal.ghost-change
+ghost-change g a = g.e

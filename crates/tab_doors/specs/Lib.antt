@@ -1,0 +1,9 @@
+pub mod Look
+pub mod Ties
+pub mod Sleeping
+pub mod Keeping
+pub mod Orders
+pub mod Ending
+pub mod Dues
+pub mod Working
+pub mod Noting

@@ -1,0 +1,106 @@
+-- A coordinator that works in an event: its tables stand for what the log has come to, and the rows so far pass.
+-- This project's own.
+use Rattle.tab_doors.specs.Look.{Look, look_of}
+use Rattle.tab_doors.specs.Keeping.{Move, kept_in}
+use Rattle.tab_doors.specs.Ties.{AreInitial, Holds, IsRunning}
+use Rattle.tab_doors.specs.declared.tables.Tables.{Tables}
+use Rattle.frame_rows.specs.Lawful.{IsRestOf}
+use Rattle.kept_facts.specs.Keeping.{kept_states}
+use Rattle.load_ties.specs.Tying.{TiesLoads}
+use Rattle.log_model.specs.Seen.{Asked, request_in}
+use Rattle.log_model.specs.declared.job.Job.{Job}
+use Rattle.log_model.specs.declared.job.Task.{Task}
+use Rattle.log_model.specs.declared.row_kind.Actor.{Actor}
+use Rattle.log_model.specs.declared.row_kind.LogRow.{LogRow}
+use Rattle.log_model.specs.declared.row_kind.RowKind.{RowKind}
+use Rattle.seen_laws.specs.Blocks.{MayLog}
+use Rattle.seen_laws.specs.InEvent.{InEvent, here_of, now_of, row_of, start_of}
+use Rattle.seen_laws.specs.Sending.{leads}
+use Rattle.std.specs.Prelude.{List, None, Option, Some, [], length, map, true, ◌+◌, ◌∷◌, ◌≡◌, ◌≤◌}
+use Rattle.tab_ids.specs.declared.DocId.{DocId}
+use Rattle.tab_ids.specs.declared.ReqId.{ReqId}
+use Rattle.tab_ids.specs.declared.Step.{Step}
+use Rattle.log_model.specs.declared.job.Task.TheVariants as tasks
+use Rattle.log_model.specs.declared.row_kind.Actor.TheVariants as actors
+use Rattle.log_model.specs.declared.row_kind.RowKind.TheVariants as rows
+
+-- what the log has come to, as the tables tell of it
+abbrev pub look_now : InEvent → List RowKind → Option ReqId → Look
+look_now e out run = look_of (now_of e out) run
+
+-- the user or the coordinator acts
+abbrev pub IsWorker : Actor → Type 0
+IsWorker actors.Ui = Unit {0}
+IsWorker actors.Coord = Unit {0}
+IsWorker _ = ⊥
+
+-- the traversal that runs leads to this step
+abbrev pub HasGoal : List Asked → Option ReqId → Step → Type 0
+HasGoal asked run goal = (req : ReqId) (q : Asked) → run ≡ Some req → request_in asked req ≡ Some q → q.goal ≡ Some goal
+
+-- ---- what is still to come in a move
+
+-- the document that a row shows, if it is an order that shows one
+abbrev pub shown_by : RowKind → Option DocId
+shown_by (rows.Sent job) = by_task job.doc job.task
+  where
+    by_task : DocId → Task → Option DocId
+    by_task doc (tasks.Activate entry epoch length index memo address) = Some doc
+    by_task doc _ = None
+shown_by _ = None
+
+-- that of the first of these rows that shows one
+abbrev pub next_shown : List LogRow → Option DocId
+next_shown [] = None
+next_shown (row ∷ later) = first (shown_by row.row) (next_shown later)
+  where
+    first : Option DocId → Option DocId → Option DocId
+    first (Some doc) later = Some doc
+    first None later = later
+
+-- where a move to a document has begun, the next document that is shown is that one
+abbrev pub IsAhead : Option Move → List LogRow → Type 0
+IsAhead None later = Unit {0}
+IsAhead (Some move) later = next_shown later ≡ Some move.doc
+
+-- the own row and those put out so far pass each test, whatever comes later, as long as it has what is ahead
+unfoldable pub AreLawfulFor : Option Move → InEvent → List RowKind → Type 0
+AreLawfulFor move e out = MayLog (start_of e) (row_of e e.own ∷ map (row_of e) out) (λ later. IsRestOf e out later × IsAhead move later)
+
+-- the order may be sent here, as long as what comes later has what is ahead
+abbrev pub MaySend : Option Move → InEvent → List RowKind → Job → Type 0
+MaySend move e out job = MayLog (here_of e out) (row_of e (rows.Sent job) ∷ []) (IsAhead move)
+
+-- ---- all of it, where a move has begun, or none has
+
+pub record IsAtWorkFor (move : Option Move) (e : InEvent) (out : List RowKind) (t : Tables) : Type 0 where
+  pub own : leads e.own ≡ true
+  pub worker : IsWorker e.actor
+  pub holds : Holds (look_now e out t.running) t
+  pub runs : IsRunning (now_of e out).requests t.running
+  pub goal : HasGoal (now_of e out).requests t.running t.goal
+  -- each document but the first was made by an order
+  pub few : length (now_of e out).documents ≤ (now_of e out).jobs + 1
+  pub initial : AreInitial (now_of e out).initial_states t.initial.entries
+  pub loads : TiesLoads (now_of e out) t.loads
+  pub kept : t.kept.states ≡ kept_in move t.kept.keep (kept_states (now_of e out))
+  pub lawful : AreLawfulFor move e out
+
+-- where none has
+abbrev pub IsAtWork : InEvent → List RowKind → Tables → Type 0
+IsAtWork e out t = IsAtWorkFor None e out t
+
+-- ---- what a door leaves as it was
+
+-- the store, the traversal that runs, what is initial, and how many documents may be kept are as they were
+pub record KeepsStore (t u : Tables) : Type 0 where
+  pub store : u.store ≡ t.store
+  pub running : u.running ≡ t.running
+  pub goal : u.goal ≡ t.goal
+  pub keep : u.kept.keep ≡ t.kept.keep
+
+-- the traversal that runs is as it was, and how many documents may be kept
+pub record KeepsRun (t u : Tables) : Type 0 where
+  pub running : u.running ≡ t.running
+  pub goal : u.goal ≡ t.goal
+  pub keep : u.kept.keep ≡ t.kept.keep

@@ -1,0 +1,6 @@
+pub mod Counts
+pub mod HeldUp
+pub mod Epochs
+pub mod Steps
+pub mod Rows
+pub mod Changes

@@ -1,0 +1,190 @@
+-- Documents below one that was left are frozen, one after the other.
+use Rattle.log_model.specs.After.{after}
+use Rattle.log_model.specs.AfterDocuments.{addressed}
+use Rattle.log_model.specs.AfterPlaces.{put_to_sleep, sleepers_with, without_doc}
+use Rattle.log_model.specs.Checks.{may_go_on}
+use Rattle.log_model.specs.Equal.{has_doc}
+use Rattle.log_model.specs.History.{has_nav}
+use Rattle.log_model.specs.Places.{is_asleep, is_awake_on, is_below, is_traversal}
+use Rattle.log_model.specs.Seen.{Asked, Document, Place, Seen, desk_of, document_of, request_of}
+use Rattle.log_model.specs.declared.job.Why.{Why}
+use Rattle.log_model.specs.declared.row_kind.RowKind.{RowKind}
+use Rattle.nav_tree.proofs.Lists.{drop-slice_get, take-slice_get}
+use Rattle.rest_rows.specs.Left.{left_below, shown_by}
+use Rattle.seen_laws.proofs.InEvents.{now_more}
+use Rattle.seen_laws.proofs.Keyed.{find_on_other}
+use Rattle.seen_laws.specs.InEvent.{InEvent, now_of, row_of}
+use Rattle.std.proofs.Common.{Bool, List, None, Option, Some, [], ap, inl, arith, drop, false, map, refl, subst, sym, take, true, ℕ, ◌++◌, ◌+◌, ◌==◌, ◌||◌, ◌∙◌, ◌∷◌, ◌≡◌}
+use Rattle.std.proofs.lemmas.Bool.Decides.{nat_tests}
+use Rattle.std.proofs.lemmas.List.Sums.{fold-append}
+use Rattle.std.specs.Option.{option_map_or}
+use Rattle.std.specs.Prelude.{filter, find, not, option_map, slice_get, ◌&&◌}
+use Rattle.tab_doors.proofs.ShowWorks.{served_same}
+use Rattle.tab_doors.specs.Keeping.{Move}
+use Rattle.tab_doors.specs.Orders.{IsThere, order_to, proc_at}
+use Rattle.tab_doors.specs.Working.{KeepsStore, MaySend}
+use Rattle.tab_doors.specs.declared.tables.Tables.{Tables}
+use Rattle.tab_ids.specs.declared.DocId.{DocId}
+use Rattle.tab_ids.specs.declared.NavId.{NavId}
+use Rattle.tab_ids.specs.declared.ReqId.{ReqId}
+use Rattle.tab_passes.proofs.Freezable.{freeze_ahead}
+use Rattle.tab_passes.proofs.Goings.{for_passed, goes_on, is_passed_for}
+use Rattle.tab_passes.specs.Causes.{MayCause, show_why}
+use Rattle.tab_passes.specs.Leaving.{AreLeftBelow, InFreezing, IsFreezing, IsLeaving, IsLeftBelow, IsNewFor, IsToFreeze, MayLeave, left_then, without_all}
+use Rattle.log_model.specs.declared.job.Task.TheVariants as tasks
+use Rattle.log_model.specs.declared.row_kind.RowKind.TheVariants as rows
+
+-- ---- nobody falls asleep with such a document
+
+shown_none : (places : List Place) → shown_by [] places ≡ []
+shown_none [] = refl
+shown_none (p ∷ places) = shown_none places
+
+below_none : (s : Seen) (doc : DocId) → sleepers_with s doc ≡ [] → left_below s doc ≡ []
+below_none s doc none = ap (λ (navs : List NavId). without_doc doc (shown_by navs s.places)) none ∙ ap (λ (l : List DocId). without_doc doc l) (shown_none s.places)
+
+slept_none : (why : Why) (places : List Place) → put_to_sleep [] why places ≡ places
+slept_none why [] = refl
+slept_none why (p ∷ places) = ap (λ (l : List Place). p ∷ l) (slept_none why places)
+
+-- whether a request has begun, and whether it is a traversal
+abbrev began_and : Asked → Bool × Bool
+began_and q = (q.is_started, is_traversal q.what)
+
+module _ (e : InEvent) (s : Seen) (doc : DocId) (why : Why) (none : sleepers_with s doc ≡ []) where
+  abbrev frozen : Seen
+  frozen = after s (row_of e (rows.Sent (order_to s doc why tasks.Freeze)))
+
+  places_same : frozen.places ≡ s.places
+  places_same = ap (λ (navs : List NavId). put_to_sleep navs why s.places) none ∙ slept_none why s.places
+
+  found_still : (x : DocId) (d : Document) → document_of s x ≡ Some d → (doc.0 == x.0) ≡ false → document_of frozen x ≡ Some d
+  found_still x d found apart = find_on_other (λ (y : Document). y.nr.0) (addressed tasks.Freeze) doc.0 x.0 s.documents (λ y. refl) apart ∙ found
+
+  sleepers_still : (x : DocId) → sleepers_with frozen x ≡ sleepers_with s x
+  sleepers_still x =
+      ap (λ (ps : List Place). option_map_or (λ (place : Place). place.nav ∷ map (λ (p : Place). p.nav) (filter (λ (p : Place). is_below place.nav p && not (is_asleep p)) ps)) (find (is_awake_on x) ps) []) places_same
+
+  left_still : (move : Move) (nav : NavId) (x : DocId) → IsLeftBelow e s move nav x → (doc.0 == x.0) ≡ false → IsLeftBelow e frozen move nav x
+  left_still move nav x its apart =
+      record {
+        its = record {
+          document = its.its.document;
+          found = found_still x its.its.document its.its.found apart;
+          ready = its.its.ready;
+          alive = its.its.alive;
+          unfrozen = its.its.unfrozen;
+          unhandled = its.its.unhandled;
+          place = its.its.place;
+          was_awake = its.its.was_awake;
+          below = its.its.below;
+        };
+        apart = its.apart;
+        nobody = sleepers_still x ∙ its.nobody;
+      }
+
+  all_still : (move : Move) (nav : NavId) (docs : List DocId) → has_doc docs doc ≡ false → AreLeftBelow e s move nav docs → AreLeftBelow e frozen move nav docs
+  all_still move nav [] none_ are = tt
+  all_still move nav (x ∷ docs) none_ are = by_test (x.0 == doc.0) refl none_ (λ rest. all_still move nav docs rest are.2)
+    where
+      turned : (x.0 == doc.0) ≡ false → (doc.0 == x.0) ≡ false
+      turned is = grind (arith, nat_tests, is)
+
+      by_test : (b : Bool) → (x.0 == doc.0) ≡ b → (b || has_doc docs doc) ≡ false → (has_doc docs doc ≡ false → AreLeftBelow e frozen move nav docs) → AreLeftBelow e frozen move nav (x ∷ docs)
+      by_test true is rest more = absurd cc
+      by_test false is rest more = (left_still move nav x are.0 (turned is), are.1, more rest)
+
+  new_still : (move : Move) (nav : NavId) → IsNewFor e s move nav → (doc.0 == move.doc.0) ≡ false → IsNewFor e frozen move nav
+  new_still move nav new apart = record { document = new.document; found = found_still move.doc new.document new.found apart; nav_is = new.nav_is; other = new.other }
+
+  -- a request is there as before, but for whom it has moved
+  began_still : (req : ReqId) → option_map began_and (request_of frozen req) ≡ option_map began_and (request_of s req)
+  began_still req = served_same began_and s (order_to s doc why tasks.Freeze) tasks.Freeze why (λ q. refl) req
+
+  -- what may be caused still may be, where each request that is there may go on
+  causes_still : (cause : Why) → ((req : ReqId) (q : Asked) → request_of frozen req ≡ Some q → may_go_on frozen req ≡ true) → MayCause s cause → MayCause frozen cause
+  causes_still cause each may req is =
+      record {
+        goes = by_there (request_of frozen req) refl (request_of s req) refl (began_still req) (may req is).goes;
+        begun = λ q there traverses. by_was q there traverses (request_of s req) refl (sym (ap (λ (o : Option Asked). option_map began_and o) there) ∙ began_still req);
+      }
+    where
+      by_there : (o : Option Asked) → request_of frozen req ≡ o → (was : Option Asked) → request_of s req ≡ was → option_map began_and (request_of frozen req) ≡ option_map began_and (request_of s req) → may_go_on s req ≡ true → may_go_on frozen req ≡ true
+      by_there (Some q) there was is_was same goes = each req q there
+      by_there None there None is_was same goes = let never : may_go_on s req ≡ false = rw is_was refl in absurd cc
+      by_there None there (Some q) is_was same goes =
+          let one : option_map began_and None ≡ Some (began_and q) = sym (ap (λ (o : Option Asked). option_map began_and o) there) ∙ same ∙ ap (λ (o : Option Asked). option_map began_and o) is_was in
+          absurd cc
+
+      by_was : (q : Asked) → request_of frozen req ≡ Some q → is_traversal q.what ≡ true → (o : Option Asked) → request_of s req ≡ o → Some (began_and q) ≡ option_map began_and (request_of s req) → q.is_started ≡ true
+      by_was q there traverses None at same =
+          let one : Some (began_and q) ≡ None = same ∙ ap (λ (o : Option Asked). option_map began_and o) at in
+          absurd cc
+      by_was q there traverses (Some x) at same =
+          let one : Some (began_and q) ≡ Some (began_and x) = same ∙ ap (λ (o : Option Asked). option_map began_and o) at in
+          let pair : began_and q ≡ began_and x = cc in
+          let started : q.is_started ≡ x.is_started = ap (λ (y : Bool × Bool). y.0) pair in
+          let kind : is_traversal q.what ≡ is_traversal x.what = ap (λ (y : Bool × Bool). y.1) pair in
+          started ∙ (may req is).begun x at (sym kind ∙ traverses)
+
+-- ---- one of them
+
+module _ (l : InFreezing) (why : Why) (left docs : List DocId) (doc : DocId) (out : List RowKind) (t : Tables) (so : IsFreezing l why left (doc ∷ docs) out t) where
+  abbrev s : Seen
+  s = now_of l.pass.event out
+
+  its : IsToFreeze l.pass.event s l.nav doc
+  its = so.each.0.its
+
+  known_none : (desk_of s its.document.proc).known ≡ 0
+  known_none = (so.leaving.going.tab.asked.died its.document.proc).0
+
+  pub freeze_leaves : MayLeave s doc why
+  freeze_leaves =
+      record {
+        document = its.document;
+        found = its.found;
+        ready = its.ready;
+        moves = λ other has. absurd (none_has other has);
+        begun = inl so.each.0.nobody;
+      }
+    where
+      none_has : (other : NavId) → has_nav (sleepers_with s doc) other ≡ true → ⊥
+      none_has other has = let never : false ≡ true = sym (ap (λ (navs : List NavId). has_nav navs other) so.each.0.nobody) ∙ has in cc
+
+  pub freeze_there : IsThere s doc
+  freeze_there = record { document = its.document; found = its.found; alive = its.alive; known = known_none }
+
+  pub freeze_may_go : MaySend (Some l.move) l.pass.event out (order_to s doc why tasks.Freeze)
+  freeze_may_go =
+      freeze_ahead l.pass.event out l.move t l.nav doc why so.leaving.work its (so.leaving.going.tab.asked.died (proc_at s doc)).0
+      (is_passed_for s t.running so.leaving.going.tab.asked tasks.Freeze why so.may)
+      (for_passed s t.running so.leaving.going.tab.asked (order_to s doc why tasks.Freeze) l.cause so.for_run)
+      so.new
+
+  pub freezing_more : (u : Tables) (new : List RowKind) → new ≡ out ++ rows.Sent (order_to s doc why tasks.Freeze) ∷ [] → KeepsStore t u → IsLeaving l.pass (Some l.move) (left_then s doc left) new u → IsFreezing l why (without_doc doc left) docs new u
+  freezing_more u new is keeps leaving =
+      record {
+        leaving = leaving_now;
+        for_run = so.for_run ∙ ap (λ (o : Option ReqId). show_why o l.cause) (sym keeps.running);
+        may = subst (λ (x : Seen). MayCause x why) now_is (causes_still l.pass.event s doc why so.each.0.nobody why (subst (λ (x : Seen). (req : ReqId) (q : Asked) → request_of x req ≡ Some q → may_go_on x req ≡ true) (sym now_is) (goes_on (now_of l.pass.event new) u.running leaving.going.tab.asked)) so.may);
+        new = subst (λ (x : Seen). IsNewFor l.pass.event x l.move l.nav) now_is (new_still l.pass.event s doc why so.each.0.nobody l.move l.nav so.new so.each.0.apart);
+        each = subst (λ (x : Seen). AreLeftBelow l.pass.event x l.move l.nav docs) now_is (all_still l.pass.event s doc why so.each.0.nobody l.move l.nav docs so.each.1 so.each.2);
+      }
+    where
+      now_is : after s (row_of l.pass.event (rows.Sent (order_to s doc why tasks.Freeze))) ≡ now_of l.pass.event new
+      now_is = sym (ap (λ (x : List RowKind). now_of l.pass.event x) is ∙ now_more l.pass.event out (rows.Sent (order_to s doc why tasks.Freeze)))
+
+      leaving_now : IsLeaving l.pass (Some l.move) (without_doc doc left) new u
+      leaving_now = subst (λ (x : List DocId). IsLeaving l.pass (Some l.move) (x ++ without_doc doc left) new u) (below_none s doc so.each.0.nobody) leaving
+
+-- ---- so many of them
+
+pub freezing_next : (l : InFreezing) (why : Why) (left docs : List DocId) (i : ℕ) (doc : DocId) (out : List RowKind) (t : Tables) → slice_get docs i ≡ Some doc → IsFreezing l why (without_all (take i docs) left) (drop i docs) out t → IsFreezing l why (without_all (take i docs) left) (doc ∷ drop (i + 1) docs) out t
+freezing_next l why left docs i doc out t at so = subst (λ (x : List DocId). IsFreezing l why (without_all (take i docs) left) x out t) (drop-slice_get docs i doc at) so
+
+pub frozen_next : (l : InFreezing) (why : Why) (left docs : List DocId) (i : ℕ) (doc : DocId) (out : List RowKind) (t : Tables) → slice_get docs i ≡ Some doc → IsFreezing l why (without_doc doc (without_all (take i docs) left)) (drop (i + 1) docs) out t → IsFreezing l why (without_all (take (i + 1) docs) left) (drop (i + 1) docs) out t
+frozen_next l why left docs i doc out t at so = subst (λ (x : List DocId). IsFreezing l why x (drop (i + 1) docs) out t) one so
+  where
+    one : without_doc doc (without_all (take i docs) left) ≡ without_all (take (i + 1) docs) left
+    one = sym (ap (λ (x : List DocId). without_all x left) (take-slice_get docs i doc at) ∙ fold-append (λ (x : List DocId) (d : DocId). without_doc d x) left (take i docs) (doc ∷ []))

@@ -1,0 +1,15 @@
+pub mod Aims
+pub mod Onlies
+pub mod Stand
+pub mod Tellings
+pub mod Untold
+pub mod Tells
+pub mod Passings
+pub mod Leavings
+pub mod Sleeps
+pub mod Sleepers
+pub mod Lefts
+pub mod Aheads
+pub mod Freezable
+pub mod Goings
+pub mod Freezings

@@ -1,0 +1,5 @@
+pub mod Passing
+pub mod Telling
+pub mod Causes
+pub mod Leaving
+pub mod Sleepers

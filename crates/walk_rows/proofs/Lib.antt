@@ -1,0 +1,9 @@
+pub mod Sleeping
+pub mod Leaves
+pub mod Wakes
+pub mod Sinces
+pub mod Passed
+pub mod Moves
+pub mod Moved
+pub mod Needs
+pub mod Walks
