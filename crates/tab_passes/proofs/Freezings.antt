@@ -5,7 +5,7 @@ use Rattle.log_model.specs.AfterPlaces.{put_to_sleep, sleepers_with, without_doc
 use Rattle.log_model.specs.Checks.{may_go_on}
 use Rattle.log_model.specs.Equal.{has_doc}
 use Rattle.log_model.specs.History.{has_nav}
-use Rattle.log_model.specs.Places.{is_asleep, is_awake_on, is_below, is_traversal}
+use Rattle.log_model.specs.Places.{is_asleep, is_awake_on, is_below}
 use Rattle.log_model.specs.Seen.{Asked, Document, Place, Seen, desk_of, document_of, request_of}
 use Rattle.log_model.specs.declared.job.Why.{Why}
 use Rattle.log_model.specs.declared.row_kind.RowKind.{RowKind}
@@ -14,12 +14,11 @@ use Rattle.rest_rows.specs.Left.{left_below, shown_by}
 use Rattle.seen_laws.proofs.InEvents.{now_more}
 use Rattle.seen_laws.proofs.Keyed.{find_on_other}
 use Rattle.seen_laws.specs.InEvent.{InEvent, now_of, row_of}
-use Rattle.std.proofs.Common.{Bool, List, None, Option, Some, [], ap, inl, arith, drop, false, map, refl, subst, sym, take, true, ℕ, ◌++◌, ◌+◌, ◌==◌, ◌||◌, ◌∙◌, ◌∷◌, ◌≡◌}
+use Rattle.std.proofs.Common.{Bool, List, Option, Some, [], ap, inl, arith, drop, false, map, refl, subst, sym, take, true, ℕ, ◌++◌, ◌+◌, ◌==◌, ◌||◌, ◌∙◌, ◌∷◌, ◌≡◌}
 use Rattle.std.proofs.lemmas.Bool.Decides.{nat_tests}
 use Rattle.std.proofs.lemmas.List.Sums.{fold-append}
 use Rattle.std.specs.Option.{option_map_or}
-use Rattle.std.specs.Prelude.{filter, find, not, option_map, slice_get, ◌&&◌}
-use Rattle.tab_doors.proofs.ShowWorks.{served_same}
+use Rattle.std.specs.Prelude.{filter, find, not, slice_get, ◌&&◌}
 use Rattle.tab_doors.specs.Keeping.{Move}
 use Rattle.tab_doors.specs.Orders.{IsThere, order_to, proc_at}
 use Rattle.tab_doors.specs.Working.{KeepsStore, MaySend}
@@ -29,8 +28,10 @@ use Rattle.tab_ids.specs.declared.NavId.{NavId}
 use Rattle.tab_ids.specs.declared.ReqId.{ReqId}
 use Rattle.tab_passes.proofs.Freezable.{freeze_ahead}
 use Rattle.tab_passes.proofs.Goings.{for_passed, goes_on, is_passed_for}
+use Rattle.tab_passes.proofs.Serveds.{served_causes}
+use Rattle.tab_passes.proofs.Stills.{still_frozen}
 use Rattle.tab_passes.specs.Causes.{MayCause, show_why}
-use Rattle.tab_passes.specs.Leaving.{AreLeftBelow, InFreezing, IsFreezing, IsLeaving, IsLeftBelow, IsNewFor, IsToFreeze, MayLeave, left_then, without_all}
+use Rattle.tab_passes.specs.Leaving.{AreLeftBelow, InFreezing, IsFreezing, IsLeaving, IsLeftBelow, IsNewFor, IsStill, IsToFreeze, MayLeave, left_then, without_all}
 use Rattle.log_model.specs.declared.job.Task.TheVariants as tasks
 use Rattle.log_model.specs.declared.row_kind.RowKind.TheVariants as rows
 
@@ -40,92 +41,62 @@ shown_none : (places : List Place) → shown_by [] places ≡ []
 shown_none [] = refl
 shown_none (p ∷ places) = shown_none places
 
-below_none : (s : Seen) (doc : DocId) → sleepers_with s doc ≡ [] → left_below s doc ≡ []
+pub below_none : (s : Seen) (doc : DocId) → sleepers_with s doc ≡ [] → left_below s doc ≡ []
 below_none s doc none = ap (λ (navs : List NavId). without_doc doc (shown_by navs s.places)) none ∙ ap (λ (l : List DocId). without_doc doc l) (shown_none s.places)
 
 slept_none : (why : Why) (places : List Place) → put_to_sleep [] why places ≡ places
 slept_none why [] = refl
 slept_none why (p ∷ places) = ap (λ (l : List Place). p ∷ l) (slept_none why places)
 
--- whether a request has begun, and whether it is a traversal
-abbrev began_and : Asked → Bool × Bool
-began_and q = (q.is_started, is_traversal q.what)
-
-module _ (e : InEvent) (s : Seen) (doc : DocId) (why : Why) (none : sleepers_with s doc ≡ []) where
-  abbrev frozen : Seen
+module _ (e : InEvent) (s : Seen) (doc : DocId) (why : Why) where
+  abbrev pub frozen : Seen
   frozen = after s (row_of e (rows.Sent (order_to s doc why tasks.Freeze)))
 
-  places_same : frozen.places ≡ s.places
-  places_same = ap (λ (navs : List NavId). put_to_sleep navs why s.places) none ∙ slept_none why s.places
-
-  found_still : (x : DocId) (d : Document) → document_of s x ≡ Some d → (doc.0 == x.0) ≡ false → document_of frozen x ≡ Some d
+  -- another document stays as it was
+  pub found_still : (x : DocId) (d : Document) → document_of s x ≡ Some d → (doc.0 == x.0) ≡ false → document_of frozen x ≡ Some d
   found_still x d found apart = find_on_other (λ (y : Document). y.nr.0) (addressed tasks.Freeze) doc.0 x.0 s.documents (λ y. refl) apart ∙ found
 
-  sleepers_still : (x : DocId) → sleepers_with frozen x ≡ sleepers_with s x
-  sleepers_still x =
-      ap (λ (ps : List Place). option_map_or (λ (place : Place). place.nav ∷ map (λ (p : Place). p.nav) (filter (λ (p : Place). is_below place.nav p && not (is_asleep p)) ps)) (find (is_awake_on x) ps) []) places_same
-
-  left_still : (move : Move) (nav : NavId) (x : DocId) → IsLeftBelow e s move nav x → (doc.0 == x.0) ≡ false → IsLeftBelow e frozen move nav x
-  left_still move nav x its apart =
-      record {
-        its = record {
-          document = its.its.document;
-          found = found_still x its.its.document its.its.found apart;
-          ready = its.its.ready;
-          alive = its.its.alive;
-          unfrozen = its.its.unfrozen;
-          unhandled = its.its.unhandled;
-          place = its.its.place;
-          was_awake = its.its.was_awake;
-          below = its.its.below;
-        };
-        apart = its.apart;
-        nobody = sleepers_still x ∙ its.nobody;
-      }
-
-  all_still : (move : Move) (nav : NavId) (docs : List DocId) → has_doc docs doc ≡ false → AreLeftBelow e s move nav docs → AreLeftBelow e frozen move nav docs
-  all_still move nav [] none_ are = tt
-  all_still move nav (x ∷ docs) none_ are = by_test (x.0 == doc.0) refl none_ (λ rest. all_still move nav docs rest are.2)
-    where
-      turned : (x.0 == doc.0) ≡ false → (doc.0 == x.0) ≡ false
-      turned is = grind (arith, nat_tests, is)
-
-      by_test : (b : Bool) → (x.0 == doc.0) ≡ b → (b || has_doc docs doc) ≡ false → (has_doc docs doc ≡ false → AreLeftBelow e frozen move nav docs) → AreLeftBelow e frozen move nav (x ∷ docs)
-      by_test true is rest more = absurd cc
-      by_test false is rest more = (left_still move nav x are.0 (turned is), are.1, more rest)
-
-  new_still : (move : Move) (nav : NavId) → IsNewFor e s move nav → (doc.0 == move.doc.0) ≡ false → IsNewFor e frozen move nav
+  -- so does the one that the move shows
+  pub new_still : (move : Move) (nav : NavId) → IsNewFor e s move nav → (doc.0 == move.doc.0) ≡ false → IsNewFor e frozen move nav
   new_still move nav new apart = record { document = new.document; found = found_still move.doc new.document new.found apart; nav_is = new.nav_is; other = new.other }
 
-  -- a request is there as before, but for whom it has moved
-  began_still : (req : ReqId) → option_map began_and (request_of frozen req) ≡ option_map began_and (request_of s req)
-  began_still req = served_same began_and s (order_to s doc why tasks.Freeze) tasks.Freeze why (λ q. refl) req
+  -- where nobody falls asleep
+  module _ (none : sleepers_with s doc ≡ []) where
+    places_same : frozen.places ≡ s.places
+    places_same = ap (λ (navs : List NavId). put_to_sleep navs why s.places) none ∙ slept_none why s.places
 
-  -- what may be caused still may be, where each request that is there may go on
-  causes_still : (cause : Why) → ((req : ReqId) (q : Asked) → request_of frozen req ≡ Some q → may_go_on frozen req ≡ true) → MayCause s cause → MayCause frozen cause
-  causes_still cause each may req is =
-      record {
-        goes = by_there (request_of frozen req) refl (request_of s req) refl (began_still req) (may req is).goes;
-        begun = λ q there traverses. by_was q there traverses (request_of s req) refl (sym (ap (λ (o : Option Asked). option_map began_and o) there) ∙ began_still req);
-      }
-    where
-      by_there : (o : Option Asked) → request_of frozen req ≡ o → (was : Option Asked) → request_of s req ≡ was → option_map began_and (request_of frozen req) ≡ option_map began_and (request_of s req) → may_go_on s req ≡ true → may_go_on frozen req ≡ true
-      by_there (Some q) there was is_was same goes = each req q there
-      by_there None there None is_was same goes = let never : may_go_on s req ≡ false = rw is_was refl in absurd cc
-      by_there None there (Some q) is_was same goes =
-          let one : option_map began_and None ≡ Some (began_and q) = sym (ap (λ (o : Option Asked). option_map began_and o) there) ∙ same ∙ ap (λ (o : Option Asked). option_map began_and o) is_was in
-          absurd cc
+    sleepers_still : (x : DocId) → sleepers_with frozen x ≡ sleepers_with s x
+    sleepers_still x =
+        ap (λ (ps : List Place). option_map_or (λ (place : Place). place.nav ∷ map (λ (p : Place). p.nav) (filter (λ (p : Place). is_below place.nav p && not (is_asleep p)) ps)) (find (is_awake_on x) ps) []) places_same
 
-      by_was : (q : Asked) → request_of frozen req ≡ Some q → is_traversal q.what ≡ true → (o : Option Asked) → request_of s req ≡ o → Some (began_and q) ≡ option_map began_and (request_of s req) → q.is_started ≡ true
-      by_was q there traverses None at same =
-          let one : Some (began_and q) ≡ None = same ∙ ap (λ (o : Option Asked). option_map began_and o) at in
-          absurd cc
-      by_was q there traverses (Some x) at same =
-          let one : Some (began_and q) ≡ Some (began_and x) = same ∙ ap (λ (o : Option Asked). option_map began_and o) at in
-          let pair : began_and q ≡ began_and x = cc in
-          let started : q.is_started ≡ x.is_started = ap (λ (y : Bool × Bool). y.0) pair in
-          let kind : is_traversal q.what ≡ is_traversal x.what = ap (λ (y : Bool × Bool). y.1) pair in
-          started ∙ (may req is).begun x at (sym kind ∙ traverses)
+    left_still : (move : Move) (nav : NavId) (x : DocId) → IsLeftBelow e s move nav x → (doc.0 == x.0) ≡ false → IsLeftBelow e frozen move nav x
+    left_still move nav x its apart =
+        record {
+          its = record {
+            document = its.its.document;
+            found = found_still x its.its.document its.its.found apart;
+            ready = its.its.ready;
+            alive = its.its.alive;
+            unfrozen = its.its.unfrozen;
+            unhandled = its.its.unhandled;
+            place = its.its.place;
+            was_awake = its.its.was_awake;
+            below = its.its.below;
+          };
+          apart = its.apart;
+          nobody = sleepers_still x ∙ its.nobody;
+        }
+
+    all_still : (move : Move) (nav : NavId) (docs : List DocId) → has_doc docs doc ≡ false → AreLeftBelow e s move nav docs → AreLeftBelow e frozen move nav docs
+    all_still move nav [] none_ are = tt
+    all_still move nav (x ∷ docs) none_ are = by_test (x.0 == doc.0) refl none_ (λ rest. all_still move nav docs rest are.2)
+      where
+        turned : (x.0 == doc.0) ≡ false → (doc.0 == x.0) ≡ false
+        turned is = grind (arith, nat_tests, is)
+
+        by_test : (b : Bool) → (x.0 == doc.0) ≡ b → (b || has_doc docs doc) ≡ false → (has_doc docs doc ≡ false → AreLeftBelow e frozen move nav docs) → AreLeftBelow e frozen move nav (x ∷ docs)
+        by_test true is rest more = absurd cc
+        by_test false is rest more = (left_still move nav x are.0 (turned is), are.1, more rest)
 
 -- ---- one of them
 
@@ -167,8 +138,8 @@ module _ (l : InFreezing) (why : Why) (left docs : List DocId) (doc : DocId) (ou
       record {
         leaving = leaving_now;
         for_run = so.for_run ∙ ap (λ (o : Option ReqId). show_why o l.cause) (sym keeps.running);
-        may = subst (λ (x : Seen). MayCause x why) now_is (causes_still l.pass.event s doc why so.each.0.nobody why (subst (λ (x : Seen). (req : ReqId) (q : Asked) → request_of x req ≡ Some q → may_go_on x req ≡ true) (sym now_is) (goes_on (now_of l.pass.event new) u.running leaving.going.tab.asked)) so.may);
-        new = subst (λ (x : Seen). IsNewFor l.pass.event x l.move l.nav) now_is (new_still l.pass.event s doc why so.each.0.nobody l.move l.nav so.new so.each.0.apart);
+        may = subst (λ (x : Seen). MayCause x why) now_is (served_causes s l.pass.event (order_to s doc why tasks.Freeze) why (subst (λ (x : Seen). (req : ReqId) (q : Asked) → request_of x req ≡ Some q → may_go_on x req ≡ true) (sym now_is) (goes_on (now_of l.pass.event new) u.running leaving.going.tab.asked)) so.may);
+        new = subst (λ (x : Seen). IsNewFor l.pass.event x l.move l.nav) now_is (new_still l.pass.event s doc why l.move l.nav so.new so.each.0.apart);
         each = subst (λ (x : Seen). AreLeftBelow l.pass.event x l.move l.nav docs) now_is (all_still l.pass.event s doc why so.each.0.nobody l.move l.nav docs so.each.1 so.each.2);
       }
     where
@@ -177,6 +148,10 @@ module _ (l : InFreezing) (why : Why) (left docs : List DocId) (doc : DocId) (ou
 
       leaving_now : IsLeaving l.pass (Some l.move) (without_doc doc left) new u
       leaving_now = subst (λ (x : List DocId). IsLeaving l.pass (Some l.move) (x ++ without_doc doc left) new u) (below_none s doc so.each.0.nobody) leaving
+
+  pub freezing_still : (new : List RowKind) → new ≡ out ++ rows.Sent (order_to s doc why tasks.Freeze) ∷ [] → IsStill (doc ∷ []) s (now_of l.pass.event new)
+  freezing_still new is =
+      subst (λ (x : Seen). IsStill (doc ∷ []) s x) (sym (ap (λ (x : List RowKind). now_of l.pass.event x) is ∙ now_more l.pass.event out (rows.Sent (order_to s doc why tasks.Freeze)))) (still_frozen l.pass.event s doc why so.each.0.nobody)
 
 -- ---- so many of them
 

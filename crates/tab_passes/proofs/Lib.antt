@@ -1,5 +1,6 @@
 pub mod Aims
 pub mod Onlies
+pub mod Keeps
 pub mod Stand
 pub mod Tellings
 pub mod Untold
@@ -13,3 +14,10 @@ pub mod Aheads
 pub mod Freezable
 pub mod Goings
 pub mod Freezings
+pub mod Belows
+pub mod Frozen
+pub mod Unders
+pub mod Stills
+pub mod Serveds
+pub mod Fews
+pub mod Lives

@@ -72,18 +72,19 @@ above_is tree (a ∷ above) zero nav are low = absurd (omega (arith, low))
 above_is tree (a ∷ above) (suc n) nav are low = rw are.0 (ap (λ (l : List ℕ). a.0 ∷ l) (above_is tree above n a are.1 (omega (arith, low))))
 
 module _ (s : Seen) (run : Option ReqId) (t : Tables) (holds_ : Holds (look_of s run) t) (sound : IsSound s.history) (hangs : Hangs s) where
-  stand : StandFor s.history.rows s.places t.tree
+  pub stand : StandFor s.history.rows s.places t.tree
   stand = stands s run t holds_ sound hangs
 
-  at_own : (place : Place) → Has s.places place → place_in s.places place.nav ≡ Some place
+  pub at_own : (place : Place) → Has s.places place → place_in s.places place.nav ≡ Some place
   at_own place there = let at = get_of s.places place there in each_found s.places (places_distinct s sound hangs) at.0 place at.1
 
-  record Its (place : Place) : Type 0 where
-    node : Node
-    there : node_of place.nav t.tree ≡ Some node
-    status : status_of node.nav.status ≡ place.status
+  -- what the table keeps of a place
+  pub record Its (place : Place) : Type 0 where
+    pub node : Node
+    pub there : node_of place.nav t.tree ≡ Some node
+    pub status : status_of node.nav.status ≡ place.status
 
-  its : (place : Place) → Has s.places place → Its place
+  pub its : (place : Place) → Has s.places place → Its place
   its place there = let h = its_node (look_of s run) t.tree place.nav place holds_.navs (at_own place there) in record { node = h.node; there = h.there; status = h.tied.status }
 
   wakes_same : (doc : DocId) (place : Place) → Has s.places place → wakes_on t.tree doc place.nav ≡ is_awake_on doc place
@@ -102,7 +103,7 @@ module _ (s : Seen) (run : Option ReqId) (t : Tables) (holds_ : Holds (look_of s
       by_status kept.Lost e = rw (sym e) refl
       by_status kept.Asleep e = rw (sym e) refl
 
-  below_same : (top : NavId) (place : Place) → Has s.places place → is_below_in t.tree top place.nav ≡ is_below top place
+  pub below_same : (top : NavId) (place : Place) → Has s.places place → is_below_in t.tree top place.nav ≡ is_below top place
   below_same top place there =
       let at = get_of s.places place there in
       ap (λ (l : List ℕ). list_any (λ (n : ℕ). n == top.0) l) (above_is t.tree place.above (length t.tree.navs) place.nav (stand.held.above at.0 place at.1) (stand.held.depth at.0 place at.1))

@@ -86,7 +86,7 @@ module _ (s : Seen) (run : Option ReqId) (t : Tables) (holds : Holds (look_of s 
   at_own : (i : ℕ) (place : Place) → slice_get s.places i ≡ Some place → place_in s.places place.nav ≡ Some place
   at_own i place at = each_found s.places (places_distinct s sound hangs) i place at
 
-  depth_is : (nav : NavId) (place : Place) → place_in s.places nav ≡ Some place → length place.above ≤ length t.tree.navs
+  pub depth_is : (nav : NavId) (place : Place) → place_in s.places nav ≡ Some place → length place.above ≤ length t.tree.navs
   depth_is nav place at =
       let few : length place.above ≤ length (map (λ (p : Place). p.nav) s.places) = fewer_navs place.above (map (λ (p : Place). p.nav) s.places) (ways_differ (forms_of s.places) place.above (hangs.woven.linked nav (form_of place) (form_there s.places nav place at))) (chain_named s.places place.above (place_chain s sound hangs nav place at)) in
       let long : length (map (λ (p : Place). p.nav) s.places) ≡ length s.places = length-map s.places (λ (p : Place). p.nav) in

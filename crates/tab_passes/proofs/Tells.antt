@@ -1,6 +1,7 @@
 -- One turn after the other, all of the walk are told.
 use Rattle.tab_doors.specs.declared.tables.Tables.{Tables}  -- keep
 use Rattle.tab_doors.specs.Working.{KeepsStore}  -- keep
+use Rattle.tab_passes.proofs.Keeps.{kept_none, kept_then}
 use Rattle.tab_passes.specs.Telling.{IsTelling}  -- keep
 use Rattle.apply_plan.specs.Order.{walk_of}  -- keep
 use Rattle.hang_facts.proofs.Hung.{places_distinct}  -- keep
@@ -29,12 +30,6 @@ pub walk_names : (p : InPass) (out : List RowKind) (t : Tables) → IsPassing p 
 walk_names p out t pass walk is nav place at =
     let the_walk : walk ≡ map (λ (q : Place). q.nav) (log.walk_of (now_of p.event out).places) = is ∙ walk_is (now_of p.event out).places t.tree (stand_for p out t pass).held in
     subst (λ (l : List NavId). has_nav l nav ≡ true) (sym the_walk) ((is_walk (now_of p.event out) pass.going.tab.sound pass.going.tab.hangs).all nav place at)
-
-kept_none : (t : Tables) → KeepsStore t t
-kept_none t = record { store = refl; running = refl; goal = refl; keep = refl }
-
-kept_then : (t u v : Tables) → KeepsStore t u → KeepsStore u v → KeepsStore t v
-kept_then t u v first then_ = record { store = then_.store ∙ first.store; running = then_.running ∙ first.running; goal = then_.goal ∙ first.goal; keep = then_.keep ∙ first.keep }
 
 pub tell_begins : (p : InPass) (why : Why) (t : Tables) (out : List RowKind) (walk : List NavId) → IsPassing p out t → walk ≡ walk_of t.tree → IsTelling p why t out t out walk 0
 tell_begins p why t out walk passing is =

@@ -1,6 +1,7 @@
 -- A coordinator in an event of a tab with loads while documents are left: those that ran below one that was frozen or discarded are still to be.
 -- HTML Standard, "apply the history step" and "Documents kept for traversal"; that what is left is frozen or discarded by orders is this project's own.
 use Rattle.hang_facts.specs.Members.{Has}
+use Rattle.kept_facts.specs.Keeping.{kept_states}
 use Rattle.load_table.specs.Loads.{ongoing_load}
 use Rattle.load_table.specs.declared.load.Load.{Load}
 use Rattle.log_model.specs.Equal.{has_doc, holds}
@@ -9,6 +10,7 @@ use Rattle.log_model.specs.Places.{is_awake_on, shower_of, way_of}
 use Rattle.log_model.specs.Seen.{Document, Place, Seen, document_of, place_of}
 use Rattle.log_model.specs.AfterPlaces.{sleepers_with, without_doc}
 use Rattle.log_model.specs.declared.row_kind.RowKind.{RowKind}
+use Rattle.log_model.specs.declared.job.Job.{Job}
 use Rattle.log_model.specs.declared.job.Why.{Why}
 use Rattle.last_facts.proofs.Moved.{MayMove}
 use Rattle.mover_facts.proofs.Orders.{MovesEach}
@@ -28,7 +30,10 @@ use Rattle.tab_ids.specs.declared.DocId.{DocId}
 use Rattle.tab_ids.specs.declared.NavId.{NavId}
 use Rattle.tab_ids.specs.declared.StateId.{StateId}
 use Rattle.tab_passes.specs.Causes.{MayCause, show_why}
-use Rattle.tab_passes.specs.Passing.{InPass}
+use Rattle.tab_passes.specs.Passing.{HasOnly, InPass}
+use Rattle.walk_facts.specs.Walking.{LeavesOthers}
+use Rattle.log_model.specs.declared.job.Task.TheVariants as tasks
+use Rattle.log_model.specs.declared.row_kind.RowKind.TheVariants as rows
 
 -- with the move that has begun, if one has, and these documents still to be frozen or discarded
 pub record IsLeaving (p : InPass) (move : Option Move) (docs : List DocId) (out : List RowKind) (t : Tables) : Type 0 where
@@ -135,3 +140,23 @@ pub record IsTurnAt (n : InTurn) (docs : List DocId) (i : ℕ) : Type 0 where
   pub low : i < length docs
   pub left : n.next.left ≡ without_all (take i docs) n.first
   pub rest : n.next.docs ≡ drop (i + 1) docs
+
+-- the row is an order, for this, that freezes one of these documents
+pub record IsFreezeOf (why : Why) (docs : List DocId) (row : RowKind) : Type 0 where
+  pub job : Job
+  pub is : row ≡ rows.Sent job
+  pub why_is : job.why ≡ why
+  pub freezes : job.task ≡ tasks.Freeze
+  pub among : has_doc docs job.doc ≡ true
+
+-- nothing but such orders was put out
+abbrev pub HasOnlyFrozen : Why → List DocId → List RowKind → List RowKind → Type 0
+HasOnlyFrozen why docs was out = HasOnly (IsFreezeOf why docs) was out
+
+-- rows that freeze these documents, on which nobody is awake: the places and the kept documents stay, and so does each other document
+pub record IsStill (docs : List DocId) (s t : Seen) : Type 0 where
+  pub places : t.places ≡ s.places
+  pub leaves : (nav : NavId) → LeavesOthers s t nav
+  pub kept : t.kept ≡ s.kept
+  pub states : kept_states t ≡ kept_states s
+  pub documents : (doc : DocId) → has_doc docs doc ≡ false → document_of t doc ≡ document_of s doc

@@ -1,14 +1,14 @@
 -- Who falls asleep with a document that is left, as the tables tell.
 -- HTML Standard, "apply the history step"; "asleep" is this project's own.
 use Rattle.apply_plan.specs.Needs.{is_asleep}  -- keep
-use Rattle.apply_plan.specs.Order.{made_in, rest}
+use Rattle.apply_plan.specs.Order.{made_in, rest, walk_of}
 use Rattle.log_model.specs.Equal.{holds}
 use Rattle.nav_tree.specs.Tree.{Tree, nav_of}
 use Rattle.nav_tree.specs.declared.nav.Nav.{Nav}
 use Rattle.tab_passes.specs.Telling.{awake_on}
 use Rattle.std.specs.List.{list_any}
 use Rattle.std.specs.Option.{option_map_or}
-use Rattle.std.specs.Prelude.{Bool, List, [], filter, find, length, not, ℕ, ◌&&◌, ◌==◌, ◌∷◌}
+use Rattle.std.specs.Prelude.{Bool, List, None, Option, [], filter, filter_map, find, if◌then◌else◌, length, not, option_and_then, ℕ, ◌&&◌, ◌==◌, ◌∷◌}
 use Rattle.tab_ids.specs.declared.DocId.{DocId}
 use Rattle.tab_ids.specs.declared.NavId.{NavId}
 
@@ -27,3 +27,17 @@ falls_below tree top nav = is_below_in tree top nav && not (holds (λ (n : Nav).
 -- who falls asleep with the document: who is awake on it, and who is below that one
 abbrev pub sleepers_in : Tree → DocId → List NavId
 sleepers_in tree doc = option_map_or (λ (nav : NavId). nav ∷ filter (falls_below tree nav) (made_in tree)) (find (wakes_on tree doc) (made_in tree)) []
+
+-- ---- the documents below
+
+-- the document that the navigable is awake on
+abbrev pub doc_on : Tree → NavId → Option DocId
+doc_on tree nav = option_and_then (λ (n : Nav). awake_on n.status) (nav_of nav tree)
+
+-- the same, where it is below this one
+abbrev pub doc_below : Tree → NavId → NavId → Option DocId
+doc_below tree top nav = if is_below_in tree top nav then doc_on tree nav else None
+
+-- of all that are below it, in the order of the walk
+abbrev pub docs_below : Tree → NavId → List DocId
+docs_below tree top = filter_map (doc_below tree top) (walk_of tree)

@@ -12,17 +12,17 @@ ghost use Rattle.tab_doors.specs.Working.{KeepsStore, MaySend};
 ghost use Rattle.page_cache.specs.Kept.{left_first};
 ghost use Rattle.tab_passes.specs.Passing.{InPass, IsPassing};
 ghost use Rattle.log_model.specs.AfterPlaces.{without_doc};
-ghost use Rattle.tab_passes.specs.Leaving.{InLeaving, InNext, InTurn, IsFreezing, IsFreezingAt, IsGoneAt, IsLeaving, IsTurnAt, MayLeave, left_then, without_all};
+ghost use Rattle.tab_passes.specs.Leaving.{HasOnlyFrozen, InLeaving, InNext, InTurn, IsFreezing, IsFreezingAt, IsGoneAt, IsLeaving, IsStill, IsTurnAt, MayLeave, left_then, without_all};
 
 use crate::sleeping::sleepers;
 use address::OutOfMemory;
-use log_model::{Out, Why};
+use log_model::{Docs, Out, Why};
 use std::alloc::Global;
 use tab_doors::Tables;
 use tab_ids::{DocId, StateId};
 
 /// A move to a document begins, for which its navigable leaves the document of a state: that one is kept from then on. Where too many are, the state that is kept longest is let go, and returned.
-pub(crate) fn begin_move(
+pub fn begin_move(
     tables: &mut Tables,
     out: &Out,
     doc: DocId,
@@ -40,7 +40,7 @@ pub(crate) fn begin_move(
 }
 
 /// A document is frozen as it is left; who is awake on it falls asleep, with those below.
-pub(crate) fn freeze(
+pub fn freeze(
     alloc: Global,
     tables: &mut Tables,
     out: &mut Out,
@@ -72,6 +72,8 @@ fn freeze_next(
     ghost n: { InNext }
     requires freezing { IsFreezing n.freezing why n.left (doc ∷ n.docs) out.old tables.old }
     ensures freezing { OnOk result (IsFreezing n.freezing why (without_doc doc n.left) n.docs out.new tables.new) }
+    ensures only { OnOk result (HasOnlyFrozen why (doc ∷ []) out.old out.new) }
+    ensures still { OnOk result (IsStill (doc ∷ []) (now_of n.freezing.pass.event out.old) (now_of n.freezing.pass.event out.new)) }
     ensures kept { OnOk result (KeepsStore tables.old tables.new) }
 {
     freeze(alloc, tables, out, doc, why)?;
@@ -83,7 +85,7 @@ fn freeze_at(
     alloc: Global,
     tables: &mut Tables,
     out: &mut Out,
-    docs: &[DocId],
+    docs: &Docs,
     i: usize,
     why: Why,
 ) -> Result<(), OutOfMemory>
@@ -91,23 +93,27 @@ fn freeze_at(
     requires turn { IsTurnAt n docs.now i }
     requires freezing { IsFreezingAt n.next.freezing why n.first docs.now i out.old tables.old }
     ensures freezing { OnOk result (IsFreezingAt n.next.freezing why n.first docs.now (i + 1) out.new tables.new) }
+    ensures only { OnOk result (HasOnlyFrozen why docs.now out.old out.new) }
+    ensures still { OnOk result (IsStill docs.now (now_of n.next.freezing.pass.event out.old) (now_of n.next.freezing.pass.event out.new)) }
     ensures kept { OnOk result (KeepsStore tables.old tables.new) }
 {
-    freeze_next(alloc, tables, out, docs[i], why)?;
+    freeze_next(alloc, tables, out, *docs.at(i), why)?;
     Ok(())
 }
 
 /// Documents below one that was left are frozen, one after the other; nobody is awake on them any more.
-pub(crate) fn freeze_each(
+pub fn freeze_each(
     alloc: Global,
     tables: &mut Tables,
     out: &mut Out,
-    docs: &[DocId],
+    docs: &Docs,
     why: Why,
 ) -> Result<(), OutOfMemory>
     ghost n: { InNext }
     requires freezing { IsFreezing n.freezing why n.left docs.now out.old tables.old }
     ensures freezing { OnOk result (IsFreezing n.freezing why (without_all docs.now n.left) [] out.new tables.new) }
+    ensures only { OnOk result (HasOnlyFrozen why docs.now out.old out.new) }
+    ensures still { OnOk result (IsStill docs.now (now_of n.freezing.pass.event out.old) (now_of n.freezing.pass.event out.new)) }
     ensures kept { OnOk result (KeepsStore tables.old tables.new) }
 {
     for i in 0..docs.len() {
@@ -117,7 +123,7 @@ pub(crate) fn freeze_each(
 }
 
 /// The document of a state is discarded; who is awake on it falls asleep, with those below.
-pub(crate) fn discard(
+pub fn discard(
     alloc: Global,
     tables: &mut Tables,
     out: &mut Out,

@@ -19,7 +19,7 @@ pub fn aim(tables: &Tables) -> Step
 }
 
 /// The length and index at a step.
-pub(crate) fn pair_at(tables: &Tables, step: Step) -> (u32, u32)
+pub fn pair_at(tables: &Tables, step: Step) -> (u32, u32)
     ensures { (result.0, result.1) ≡ pair_in (history_held tables.now.store).rows step.0 }
 {
     tables.store.length_index(step)

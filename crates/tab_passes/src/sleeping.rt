@@ -43,7 +43,7 @@ fn parent_of(tree: &NavTree, nav: NavId) -> Option<NavId>
 }
 
 /// Whether one of those above the navigable is this one.
-fn is_below(tree: &NavTree, top: NavId, nav: NavId) -> bool
+pub(crate) fn is_below(tree: &NavTree, top: NavId, nav: NavId) -> bool
     ensures { result ≡ is_below_in tree.now top nav }
 {
     let mut at = nav;

@@ -82,9 +82,9 @@ one_fails {A} test (y ∷ ys) x (inl same) is =
     and_left (test y) (list_all test ys) (ap test same ∙ is)
 one_fails test (y ∷ ys) x (inr more) is = and_right (test y) (list_all test ys) (one_fails test ys x more is)
 
--- one that is visited in need is to stand and doesn't, so not all stand
-pub need_not_all_stand : (s : Seen) (nav : NavId) (place : Place) → place_of s nav ≡ Some place → IsVisitedInNeed s place → all_stand s (aim_of s) ≡ false
-need_not_all_stand s nav place at visited =
+-- one that the walk visits is to stand, so where it doesn't, not all stand
+pub visited_not_all_stand : (s : Seen) (nav : NavId) (place : Place) → place_of s nav ≡ Some place → is_shown s.history.rows (aim_of s) place.nav ≡ true → list_any (is_stopping s.history.rows (aim_of s) s.places) place.above ≡ false → stands s (aim_of s) nav ≡ false → all_stand s (aim_of s) ≡ false
+visited_not_all_stand s nav place at shown reached stands_not =
     one_fails stands_if_wanted s.places place (find_has (λ (p : Place). p.nav.0 == nav.0) s.places place at).0 (rw wanted off)
   where
     stands_if_wanted : Place → Bool
@@ -92,11 +92,16 @@ need_not_all_stand s nav place at visited =
 
     wanted : is_wanted s.history.rows s.places (aim_of s) place ≡ true
     wanted =
-        let none : list_any (is_lost_in s.places) place.above ≡ false = none_lost s.history.rows (aim_of s) s.places place.above visited.reached in
-        and_from (is_shown s.history.rows (aim_of s) place.nav) (not (list_any (is_lost_in s.places) place.above)) visited.shown (rw none refl)
+        let none : list_any (is_lost_in s.places) place.above ≡ false = none_lost s.history.rows (aim_of s) s.places place.above reached in
+        and_from (is_shown s.history.rows (aim_of s) place.nav) (not (list_any (is_lost_in s.places) place.above)) shown (rw none refl)
 
     off : stands s (aim_of s) place.nav ≡ false
-    off = ap (stands s (aim_of s)) (found_nav s.places nav place at) ∙ need_stands_not s nav place at visited
+    off = ap (stands s (aim_of s)) (found_nav s.places nav place at) ∙ stands_not
+
+-- as one doesn't that needs something
+pub need_not_all_stand : (s : Seen) (nav : NavId) (place : Place) → place_of s nav ≡ Some place → IsVisitedInNeed s place → all_stand s (aim_of s) ≡ false
+need_not_all_stand s nav place at visited =
+    visited_not_all_stand s nav place at visited.shown visited.reached (need_stands_not s nav place at visited)
 
 -- ---- where all stand, all stood before
 

@@ -26,7 +26,7 @@ use Rattle.walk_rows.specs.Since.{IsVisitedInNeed, MovesVisited}
 -- ---- who stops the walk
 
 -- those above stay, so they stop it as before
-stopping_same : (s t : Seen) (step : ℕ) (above : List NavId) → t.history ≡ s.history → ((nav : NavId) → has_nav above nav ≡ true → place_of t nav ≡ place_of s nav) → list_any (is_stopping t.history.rows step t.places) above ≡ list_any (is_stopping s.history.rows step s.places) above
+pub stopping_same : (s t : Seen) (step : ℕ) (above : List NavId) → t.history ≡ s.history → ((nav : NavId) → has_nav above nav ≡ true → place_of t nav ≡ place_of s nav) → list_any (is_stopping t.history.rows step t.places) above ≡ list_any (is_stopping s.history.rows step s.places) above
 stopping_same s t step [] history same = refl
 stopping_same s t step (nav ∷ above) history same =
     ap (λ (b : Bool). b || list_any (is_stopping t.history.rows step t.places) above) here
@@ -41,7 +41,7 @@ stopping_same s t step (nav ∷ above) history same =
         ∙ ap (λ (o : Option Place). not (holds (is_in_place s.history.rows step) o)) (same nav own)
 
 -- who is above one that is apart is apart
-above_apart : (s : Seen) (nav : NavId) (above : List NavId) → IsChain s.places above → has_nav above nav ≡ false → (other : NavId) → has_nav above other ≡ true → IsApart s nav other
+pub above_apart : (s : Seen) (nav : NavId) (above : List NavId) → IsChain s.places above → has_nav above nav ≡ false → (other : NavId) → has_nav above other ≡ true → IsApart s nav other
 above_apart s nav [] chain none other has = absurd cc
 above_apart s nav (first ∷ above) chain none other has =
     by_first (first.0 == other.0) refl (above_apart s nav above chain.1 parts.1 other) has

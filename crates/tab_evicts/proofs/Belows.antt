@@ -1,0 +1,366 @@
+-- A document that hangs below a discarded one may be discarded, since nobody is awake on it.
+use Rattle.doc_facts.specs.Docs.{HasPlace}
+use Rattle.hang_facts.proofs.Hung.{places_distinct}
+use Rattle.hang_facts.proofs.Members.{find_has, has_any}
+use Rattle.hang_facts.proofs.Parts.{state_is}
+use Rattle.kept_facts.specs.Keeping.{kept_states}
+use Rattle.leave_rows.proofs.Evicts.{below_discard_may}
+use Rattle.leave_rows.specs.Evicting.{IsBelowDue}
+use Rattle.load_facts.specs.Loading.{IsLoading, look, look_of}
+use Rattle.load_table.specs.Loads.{ongoing_load}
+use Rattle.load_table.specs.declared.load.Load.{Load}
+use Rattle.load_ties.specs.Tying.{IsLoadTied}
+use Rattle.log_model.proofs.Refl.{nat_eq_refl}
+use Rattle.log_model.specs.AfterPlaces.{sleepers_with}
+use Rattle.log_model.specs.Equal.{holds}
+use Rattle.log_model.specs.Once.{loads}
+use Rattle.log_model.specs.Orders.{is_below_gone}
+use Rattle.log_model.specs.Places.{hangs_on, is_document_below}
+use Rattle.log_model.specs.Seen.{Asked, Document, Place, Seen, awake, desk_of, document_of, place_in, place_of}
+use Rattle.log_model.specs.declared.job.Why.{Why}
+use Rattle.log_model.specs.declared.request.Request.{Request}
+use Rattle.log_model.specs.declared.row_kind.RowKind.{RowKind}
+use Rattle.nav_tree.specs.Tree.{state_of}
+use Rattle.page_cache.specs.Kept.{left_first, without}
+use Rattle.seen_laws.proofs.InEvents.{led_here}
+use Rattle.seen_laws.proofs.Keyed.{find_has as seen_number}
+use Rattle.seen_laws.specs.InEvent.{InEvent, here_of, now_of}
+use Rattle.frame_rows.specs.Discarding.{SettlesNone}
+use Rattle.seen_laws.specs.InEvent.{row_of}
+use Rattle.std.proofs.Common.{Bool, List, None, Option, Some, [], ap, arith, false, length, map, not, refl, subst, sym, true, ℕ, ◌&&◌, ◌++◌, ◌==◌, ◌||◌, ◌∙◌, ◌∷◌, ◌≡◌, ◌≤◌}
+use Rattle.std.proofs.lemmas.Bool.Decides.{nat_tests}
+use Rattle.std.specs.Prelude.{if◌then◌else◌, option_and_then, option_map}
+use Rattle.tab_doors.proofs.Sights.{seen_of, sight_of}
+use Rattle.tab_doors.proofs.Works.{numbered}
+use Rattle.tab_doors.specs.Keeping.{LetsGo, Move, with_left}
+use Rattle.tab_doors.specs.Look.{Sight, is_live_for, sight}
+use Rattle.tab_doors.specs.Orders.{order_to, proc_at}
+use Rattle.tab_doors.specs.Ties.{birth_of, nav_in}
+use Rattle.tab_doors.specs.Working.{IsAtWorkFor, KeepsStore, MaySend}
+use Rattle.tab_doors.specs.declared.tables.Tables.{Tables}
+use Rattle.tab_doors.specs.declared.birth.Birth.{Birth}
+use Rattle.tab_evicts.proofs.Cuts.{fitting_fits, fitting_leaves}
+use Rattle.tab_evicts.proofs.Hangings.{hangs_same}
+use Rattle.left_facts.specs.Left.{WereShown}
+use Rattle.tab_evicts.proofs.Quiets.{IsQuiet, gone_seen, gone_leaving, gone_looks, gone_may, gone_now, gone_other, gone_places, gone_states, gone_stays, gone_were, one_document, one_of_state, quiet_discards, quiet_settles}
+use Rattle.tab_evicts.specs.Evicting.{IsBeside, InEvicting, IsEvicting, IsGoneFor, NoLoadBelow, NoneBelow, StaysPlaced, below_in, hangs_in}
+use Rattle.tab_ids.specs.declared.DocId.{DocId}
+use Rattle.tab_ids.specs.declared.NavId.{NavId}
+use Rattle.tab_ids.specs.declared.StateId.{StateId}
+use Rattle.tab_passes.proofs.Lives.{live_parts, there_for}
+use Rattle.tab_passes.proofs.Stand.{depth_is}
+use Rattle.tab_passes.specs.Leaving.{IsLeaving, left_then}
+use Rattle.tab_passes.specs.Passing.{InPass}
+use Rattle.walk_facts.proofs.Placed.{found_nav}
+use Rattle.walk_rows.proofs.Sleeping.{no_shower, nobody_awake}
+use Rattle.log_model.specs.declared.job.Task.TheVariants as tasks
+use Rattle.log_model.specs.declared.row_kind.RowKind.TheVariants as rows
+
+-- such an order may be sent
+below_ahead : (e : InEvent) (out : List RowKind) (move : Move) (t : Tables) (doc : DocId) (why : Why) (d : Document) → IsAtWorkFor (Some move) e out t → IsBelowDue (now_of e out) (order_to (now_of e out) doc why tasks.Discard) d → (desk_of (now_of e out) (proc_at (now_of e out) doc)).known ≡ 0 → SettlesNone (now_of e out) (row_of e (rows.Sent (order_to (now_of e out) doc why tasks.Discard))) → MaySend (Some move) e out (order_to (now_of e out) doc why tasks.Discard)
+unfolding now_of
+below_ahead e out move t doc why d work due known settles later ahead =
+    below_discard_may (here_of e out) e.event e.actor (order_to (here_of e out).now doc why tasks.Discard) d (led_here e out work.own) (numbered (here_of e out).now (proc_at (here_of e out).now doc) doc why tasks.Discard known) due settles later tt
+
+-- ---- a document below
+
+-- the document is there for the state, and its navigable is below the one that is gone
+record IsBelow (s : Seen) (t : Tables) (gone : StateId) (doc : DocId) (its : StateId) : Type 0 where
+  document : Document
+  found : document_of s doc ≡ Some document
+  its_state : document.state ≡ its
+  ready : document.is_ready ≡ true
+  undiscarded : document.is_discarded ≡ false
+  unknown : document.is_known_dead ≡ false
+  place : Place
+  placed : place_of s document.nav ≡ Some place
+  below : hangs_on gone place ≡ true
+
+module _ (m : InEvicting) (gone : StateId) (why : Why) (out : List RowKind) (t : Tables) (so : IsEvicting m gone why out t) where
+  abbrev p : InPass
+  p = m.pass
+
+  abbrev move : Move
+  move = m.move
+
+  abbrev state : StateId
+  state = m.state
+
+  abbrev s : Seen
+  s = now_of p.event out
+
+  -- what the tables tell is so
+  is_below : (doc : DocId) (its : StateId) → below_in t gone doc ≡ Some its → IsBelow s t gone doc its
+  is_below doc its is = by_nav (nav_in t.whose.entries doc) refl is
+    where
+      by_there : (nav : NavId) → nav_in t.whose.entries doc ≡ Some nav → hangs_in t.tree gone nav ≡ true → state_of doc t.tree ≡ Some its → IsBelow s t gone doc its
+      by_there nav at hangs lives =
+          let there = there_for (map sight s.documents) t so.leaving.work.holds.documents doc its lives in
+          let seen = seen_of s doc there.document there.found in
+          let parts = live_parts its seen.document (ap (λ (y : Sight). is_live_for its y) seen.is ∙ there.lives) in
+          let has : HasPlace s.places seen.document.nav = (so.leaving.going.tab.docs.each doc seen.document seen.found).placed in
+          record {
+            document = seen.document;
+            found = seen.found;
+            its_state = parts.0;
+            ready = parts.1;
+            undiscarded = parts.2;
+            unknown = parts.3;
+            place = has.place;
+            placed = has.found;
+            below = sym (same seen.document.nav has.place has.found) ∙ ap (λ (n : NavId). hangs_in t.tree gone n) (sym (nav_is seen.document seen.found)) ∙ hangs;
+          }
+        where
+          nav_is : (d : Document) → document_of s doc ≡ Some d → nav ≡ d.nav
+          nav_is d found =
+              let both : Some nav ≡ Some d.nav = sym at ∙ ap (λ (o : Option Birth). option_map (λ (b : Birth). b.nav) o) (so.leaving.work.holds.whose doc ∙ ap (λ (o : Option Sight). option_map birth_of o) (sight_of s doc d found)) in
+              cc
+
+          same : (n : NavId) (place : Place) → place_of s n ≡ Some place → hangs_in t.tree gone n ≡ hangs_on gone place
+          same n place placed =
+              hangs_same s t.running t so.leaving.work.holds.navs so.were.owned gone n place so.leaving.going.tab.sound so.leaving.going.tab.hangs placed (depth_is s t.running t so.leaving.work.holds so.leaving.going.tab.sound so.leaving.going.tab.hangs n place placed)
+
+      by_test : (nav : NavId) → nav_in t.whose.entries doc ≡ Some nav → (b : Bool) → hangs_in t.tree gone nav ≡ b → (let o : Option StateId = if b then state_of doc t.tree else None in o) ≡ Some its → IsBelow s t gone doc its
+      by_test nav at true hangs h = by_there nav at hangs h
+      by_test nav at false hangs h = absurd cc
+
+      by_nav : (o : Option NavId) → nav_in t.whose.entries doc ≡ o → option_and_then (λ (nav : NavId). if hangs_in t.tree gone nav then state_of doc t.tree else None) o ≡ Some its → IsBelow s t gone doc its
+      by_nav None at h = absurd cc
+      by_nav (Some nav) at h = by_test nav at (hangs_in t.tree gone nav) refl h
+
+  module _ (doc : DocId) (its : StateId) (b : IsBelow s t gone doc its) where
+    -- nobody is awake on it
+    nobody : sleepers_with s doc ≡ []
+    nobody = nobody_awake s doc (no_shower s doc (places_distinct s so.leaving.going.tab.sound so.leaving.going.tab.hangs) never)
+      where
+        never : (nav : NavId) (place : Place) → place_of s nav ≡ Some place → place.status ≡ awake doc → ⊥
+        never nav place placed wakes =
+            let home = (so.leaving.going.tab.homes.homed nav place doc placed wakes).home in
+            let same : b.document ≡ home.document = one_document s doc b.document home.document b.found home.found in
+            let navs : b.document.nav ≡ nav = ap (λ (d : Document). d.nav) same ∙ home.nav_is ∙ found_nav s.places nav place placed in
+            let both : Some b.place ≡ Some place = sym b.placed ∙ ap (λ (n : NavId). place_of s n) navs ∙ placed in
+            let here : b.place ≡ place = cc in
+            let no_ : true ≡ false = sym b.below ∙ ap (λ (q : Place). hangs_on gone q) here ∙ so.none nav place doc placed wakes in
+            cc
+
+    -- no load has its state
+    unloaded : (nav : NavId) (load : Load) → ongoing_load nav t.loads ≡ Some load → (its.0 == load.state.0) ≡ false
+    unloaded nav load at = by_test (its.0 == load.state.0) refl
+      where
+        tied : IsLoadTied s load
+        tied = so.leaving.work.loads.there nav load at
+
+        its_look : look_of s load.req ≡ Some (look tied.q)
+        its_look = ap (λ (o : Option Asked). option_map look o) tied.found
+
+        loading : IsLoading s (look tied.q)
+        loading = so.leaving.going.tab.loading.each load.req (look tied.q) its_look tied.ongoing
+
+        its_own : loads loading.nav tied.q.what ≡ true
+        its_own = ap (λ (w : Request). loads loading.nav w) loading.what ∙ nat_eq_refl loading.nav.0
+
+        by_test : (c : Bool) → (its.0 == load.state.0) ≡ c → (its.0 == load.state.0) ≡ false
+        by_test false is = is
+        by_test true is =
+            let states : Some load.state ≡ Some loading.state = sym tied.state ∙ loading.state_is in
+            let one : load.state ≡ loading.state = cc in
+            let number : b.document.state.0 ≡ loading.state.0 = ap (λ (x : StateId). x.0) (b.its_state ∙ state_is its load.state is ∙ one) in
+            let navs : b.document.nav ≡ loading.nav = loading.whose doc b.document b.found number in
+            let outside : hangs_on gone b.place ≡ false = so.loads load.req (look tied.q) loading.nav b.place its_look tied.ongoing its_own (ap (λ (n : NavId). place_of s n) (sym navs) ∙ b.placed) in
+            let no_ : true ≡ false = sym b.below ∙ outside in
+            absurd cc
+
+    quiet : below_in t gone doc ≡ Some its → IsQuiet s t doc its
+    quiet is = by_nav (nav_in t.whose.entries doc) refl is
+      where
+        by_lives : state_of doc t.tree ≡ Some its → IsQuiet s t doc its
+        by_lives lives =
+            record {
+              document = b.document;
+              found = b.found;
+              its_state = b.its_state;
+              ready = b.ready;
+              undiscarded = b.undiscarded;
+              unknown = b.unknown;
+              listed = (there_for (map sight s.documents) t so.leaving.work.holds.documents doc its lives).its;
+              nobody = nobody;
+              unloaded = unloaded;
+            }
+
+        by_test : (c : Bool) → (let o : Option StateId = if c then state_of doc t.tree else None in o) ≡ Some its → IsQuiet s t doc its
+        by_test true h = by_lives h
+        by_test false h = absurd cc
+
+        by_nav : (o : Option NavId) → nav_in t.whose.entries doc ≡ o → option_and_then (λ (nav : NavId). if hangs_in t.tree gone nav then state_of doc t.tree else None) o ≡ Some its → IsQuiet s t doc its
+        by_nav None at h = absurd cc
+        by_nav (Some nav) at h = by_test (hangs_in t.tree gone nav) h
+
+  -- ---- it is discarded
+
+  module _ (doc : DocId) (its : StateId) (is : below_in t gone doc ≡ Some its) where
+    b : IsBelow s t gone doc its
+    b = is_below doc its is
+
+    pub its_quiet : IsQuiet s t doc its
+    its_quiet = quiet doc its b is
+
+    -- it is another one than any that is elsewhere
+    elsewhere : (other : DocId) (d : Document) (nav : NavId) (place : Place) → document_of s other ≡ Some d → d.nav ≡ nav → place_of s nav ≡ Some place → hangs_on gone place ≡ false → (doc.0 == other.0) ≡ false
+    elsewhere other d nav place there navs placed outside = by_test (doc.0 == other.0) refl
+      where
+        by_test : (c : Bool) → (doc.0 == other.0) ≡ c → (doc.0 == other.0) ≡ false
+        by_test false e = e
+        by_test true e =
+            let number : doc.0 ≡ other.0 = grind (arith, nat_tests, e) in
+            let one : doc ≡ other = ap (λ (n : ℕ). let x : DocId = record { 0 = n } in x) number in
+            let same : b.document ≡ d = one_document s other b.document d (ap (λ (x : DocId). document_of s x) (sym one) ∙ b.found) there in
+            let own : b.document.nav ≡ nav = ap (λ (x : Document). x.nav) same ∙ navs in
+            let both : Some b.place ≡ Some place = sym b.placed ∙ ap (λ (n : NavId). place_of s n) own ∙ placed in
+            let here : b.place ≡ place = cc in
+            let no_ : true ≡ false = sym b.below ∙ ap (λ (q : Place). hangs_on gone q) here ∙ outside in
+            absurd cc
+
+    -- and than the one that is gone
+    apart_gone : (doc.0 == so.gone_for.doc.0) ≡ false
+    apart_gone = by_test (doc.0 == so.gone_for.doc.0) refl
+      where
+        by_test : (c : Bool) → (doc.0 == so.gone_for.doc.0) ≡ c → (doc.0 == so.gone_for.doc.0) ≡ false
+        by_test false e = e
+        by_test true e =
+            let number : doc.0 ≡ so.gone_for.doc.0 = grind (arith, nat_tests, e) in
+            let one : doc ≡ so.gone_for.doc = ap (λ (n : ℕ). let x : DocId = record { 0 = n } in x) number in
+            let same : b.document ≡ so.gone_for.document = one_document s so.gone_for.doc b.document so.gone_for.document (ap (λ (x : DocId). document_of s x) (sym one) ∙ b.found) so.gone_for.found in
+            let no_ : false ≡ true = sym b.undiscarded ∙ ap (λ (d : Document). d.is_discarded) same ∙ so.gone_for.discarded in
+            absurd cc
+
+    -- its state isn't the one that is left
+    apart_left : (its.0 == state.0) ≡ false
+    apart_left = by_test (its.0 == state.0) refl
+      where
+        by_test : (c : Bool) → (its.0 == state.0) ≡ c → (its.0 == state.0) ≡ false
+        by_test false e = e
+        by_test true e =
+            let states : b.document.state ≡ so.beside.old.state = b.its_state ∙ state_is its state e ∙ sym so.beside.its_state in
+            let one : doc ≡ m.left = one_of_state s so.leaving.going.tab.docs doc m.left b.document so.beside.old b.found so.beside.found states b.undiscarded so.beside.undiscarded in
+            let apart : (doc.0 == m.left.0) ≡ false = elsewhere m.left so.beside.old so.beside.nav so.beside.place so.beside.found so.beside.its_nav so.beside.placed so.beside.outside in
+            let no_ : true ≡ false = sym (ap (λ (x : DocId). x.0 == m.left.0) one ∙ nat_eq_refl m.left.0) ∙ apart in
+            absurd cc
+
+    below_gone : is_below_gone s b.document ≡ true
+    below_gone =
+        has_any (λ (other : Document). not (other.nr.0 == b.document.nr.0) && (other.is_discarded || other.is_known_dead) && is_document_below s other.state b.document) s.documents so.gone_for.document
+        (find_has (λ (x : Document). x.nr.0 == so.gone_for.doc.0) s.documents so.gone_for.document so.gone_for.found).0 passes
+      where
+        numbers : (so.gone_for.document.nr.0 == b.document.nr.0) ≡ false
+        numbers =
+            let first : so.gone_for.document.nr.0 ≡ so.gone_for.doc.0 = seen_number (λ (x : Document). x.nr.0) so.gone_for.doc.0 s.documents so.gone_for.document so.gone_for.found in
+            let second : b.document.nr.0 ≡ doc.0 = seen_number (λ (x : Document). x.nr.0) doc.0 s.documents b.document b.found in
+            let apart = apart_gone in
+            grind (arith, nat_tests, first, second, apart)
+
+        hangs : is_document_below s so.gone_for.document.state b.document ≡ true
+        hangs =
+            ap (λ (x : StateId). is_document_below s x b.document) so.gone_for.its_state
+            ∙ ap (λ (o : Option Place). holds (hangs_on gone) o) b.placed
+            ∙ b.below
+
+        by_parts : (n gone_ dead hang : Bool) → n ≡ false → gone_ ≡ true → hang ≡ true → (not n && (gone_ || dead) && hang) ≡ true
+        by_parts false true dead true e f g = refl
+        by_parts true gone_ dead hang e f g = absurd cc
+        by_parts false false dead hang e f g = absurd cc
+        by_parts false true dead false e f g = absurd cc
+
+        passes : (not (so.gone_for.document.nr.0 == b.document.nr.0) && (so.gone_for.document.is_discarded || so.gone_for.document.is_known_dead) && is_document_below s so.gone_for.document.state b.document) ≡ true
+        passes = by_parts (so.gone_for.document.nr.0 == b.document.nr.0) so.gone_for.document.is_discarded so.gone_for.document.is_known_dead (is_document_below s so.gone_for.document.state b.document) numbers so.gone_for.discarded hangs
+
+    pub below_sends : MaySend (Some move) p.event out (order_to s doc why tasks.Discard)
+    below_sends =
+        below_ahead p.event out move t doc why its_quiet.document so.leaving.work
+        (record {
+          discards = quiet_discards p move out t so.leaving why so.may doc its its_quiet;
+          below = ap (λ (d : Document). is_below_gone s d) (one_document s doc its_quiet.document b.document its_quiet.found b.found) ∙ below_gone;
+        })
+        (so.leaving.going.tab.asked.died (proc_at s doc)).0
+        (quiet_settles p move out t so.leaving why so.may doc its its_quiet (row_of p.event (rows.Sent (order_to s doc why tasks.Discard))))
+
+    pub below_lets : LetsGo (Some move) t.kept.keep (kept_states s) its
+    below_lets =
+        subst (λ (o : Option StateId). without its (with_left o t.kept.keep (kept_states s)) ≡ with_left o t.kept.keep (without its (kept_states s))) (sym so.noted)
+        (fitting_leaves t.kept.keep state its (kept_states s) so.room apart_left)
+
+    -- ---- what it leaves
+
+    pub below_done : (new : List RowKind) (u : Tables) → new ≡ out ++ rows.Sent (order_to s doc why tasks.Discard) ∷ [] → KeepsStore t u → IsLeaving p (Some move) (left_then s doc []) new u → IsEvicting m gone why new u
+    below_done new u made keeps leaving_ =
+        record {
+          leaving = leaving;
+          noted = so.noted;
+          may = gone_may p move out t so.leaving why so.may doc its its_quiet new u made leaving;
+          were = subst (λ (x : Seen). WereShown x) now_is (gone_were p move out t so.leaving why so.may doc its its_quiet so.were);
+          loads = subst (λ (x : Seen). NoLoadBelow x gone) now_is loads_then;
+          gone_for = subst (λ (x : Seen). IsGoneFor x gone) now_is gone_then;
+          none = subst (λ (x : Seen). NoneBelow x gone) now_is none_then;
+          beside = subst (λ (x : Seen). IsBeside x gone m) now_is beside_then;
+          room = room_then;
+        }
+      where
+        leaving : IsLeaving p (Some move) [] new u
+        leaving = gone_leaving p move out t so.leaving why so.may doc its its_quiet new u made leaving_
+
+        then_ : Seen
+        then_ = gone_seen p move out t so.leaving why so.may doc its its_quiet
+
+        now_is : then_ ≡ now_of p.event new
+        now_is = gone_now p move out t so.leaving why so.may doc its its_quiet new u made
+
+        places : then_.places ≡ s.places
+        places = gone_places p move out t so.leaving why so.may doc its its_quiet
+
+        placed_was : (nav : NavId) (place : Place) → place_of then_ nav ≡ Some place → place_of s nav ≡ Some place
+        placed_was nav place at = ap (λ (l : List Place). place_in l nav) (sym places) ∙ at
+
+        other : (x : DocId) → (doc.0 == x.0) ≡ false → document_of then_ x ≡ document_of s x
+        other x apart = gone_other p move out t so.leaving why so.may doc its its_quiet x apart
+
+        loads_then : NoLoadBelow then_ gone
+        loads_then req l nav place at ongoing own placed =
+            so.loads req l nav place (sym (gone_looks p move out t so.leaving why so.may doc its its_quiet req) ∙ at) ongoing own (placed_was nav place placed)
+
+        gone_then : IsGoneFor then_ gone
+        gone_then =
+            record {
+              doc = so.gone_for.doc;
+              document = so.gone_for.document;
+              found = other so.gone_for.doc apart_gone ∙ so.gone_for.found;
+              discarded = so.gone_for.discarded;
+              its_state = so.gone_for.its_state;
+            }
+
+        none_then : NoneBelow then_ gone
+        none_then nav place x placed wakes = so.none nav place x (placed_was nav place placed) wakes
+
+        beside_then : IsBeside then_ gone m
+        beside_then =
+            record {
+              nav = so.beside.nav;
+              place = so.beside.place;
+              placed = ap (λ (l : List Place). place_in l so.beside.nav) places ∙ so.beside.placed;
+              outside = so.beside.outside;
+              old = so.beside.old;
+              found = other m.left (elsewhere m.left so.beside.old so.beside.nav so.beside.place so.beside.found so.beside.its_nav so.beside.placed so.beside.outside) ∙ so.beside.found;
+              its_nav = so.beside.its_nav;
+              its_state = so.beside.its_state;
+              undiscarded = so.beside.undiscarded;
+              new_found = other move.doc (elsewhere move.doc m.new so.beside.nav so.beside.place so.beside.new_found so.beside.new_nav so.beside.placed so.beside.outside) ∙ so.beside.new_found;
+              new_nav = so.beside.new_nav;
+            }
+
+        room_then : length (left_first state (kept_states (now_of p.event new))) ≤ u.kept.keep
+        room_then =
+            subst (λ (n : ℕ). length (left_first state (kept_states (now_of p.event new))) ≤ n) (sym keeps.keep)
+            (subst (λ (x : Seen). length (left_first state (kept_states x)) ≤ t.kept.keep) now_is
+            (subst (λ (l : List StateId). length (left_first state l) ≤ t.kept.keep) (sym (gone_states p move out t so.leaving why so.may doc its its_quiet)) (fitting_fits t.kept.keep state its (kept_states s) so.room apart_left)))
+
+    pub below_stays : (new : List RowKind) (u : Tables) → new ≡ out ++ rows.Sent (order_to s doc why tasks.Discard) ∷ [] → StaysPlaced s (now_of p.event new)
+    below_stays new u made =
+        subst (λ (x : Seen). StaysPlaced s x) (gone_now p move out t so.leaving why so.may doc its its_quiet new u made) (gone_stays p move out t so.leaving why so.may doc its its_quiet)

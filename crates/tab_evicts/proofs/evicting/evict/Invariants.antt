@@ -1,0 +1,8 @@
+use Rattle.std.proofs.Common.{Some, []}
+use Rattle.tab_evicts.proofs.evicting.evict.Given as goal
+
+abbrev pub ghost-discard : goal.ghost-discard
+ghost-discard g a = record { pass = g.m.pass; move = Some g.m.move; docs = [] }
+
+abbrev pub ghost-discard_below : goal.ghost-discard_below
+ghost-discard_below g a = g.m

@@ -1,0 +1,10 @@
+pub mod Fews
+pub mod Ups
+pub mod Sleeps
+pub mod Leaves
+pub mod Frees
+pub mod Showings
+pub mod Needing
+pub mod Procs
+pub mod Makings
+pub mod Lasts

@@ -1,0 +1,4 @@
+pub mod Moving
+pub mod Showing
+pub mod Making
+pub mod Leaving
