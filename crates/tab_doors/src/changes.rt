@@ -232,6 +232,7 @@ impl Tables {
         ensures work { OnOk result (IsAtWork e out.new self.new) }
         ensures out { OnOk result (out.new ≡ out.old ++ rows.Applied req (changes.Traverse goal) ∷ []) }
         ensures ended { OnOk result (self.new.running ≡ None) }
+        ensures keep { OnOk result (self.new.kept.keep ≡ self.old.kept.keep) }
     {
         let change = Change::Traverse { goal };
         make_change(&mut self.store, out, &change)?;

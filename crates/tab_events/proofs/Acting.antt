@@ -1,7 +1,7 @@
 -- What holds between two events holds after a document makes something of the first poke of its process, and after the process refuses that poke.
 use Rattle.coord_facts.proofs.Held.{on_else, without_same}
 use Rattle.log_model.specs.Places.{is_load, is_ongoing_load, is_under_way}
-use Rattle.log_model.specs.Seen.{Asked, Document, Seen, desk_of, request_in}
+use Rattle.log_model.specs.Seen.{Asked, Desk, Document, Seen, desk_of, request_in}
 use Rattle.log_model.specs.Views.{View, made_for}
 use Rattle.log_model.specs.declared.made.What.{What}
 use Rattle.log_model.specs.declared.outcome.Denial.{Denial}
@@ -11,7 +11,8 @@ use Rattle.request_facts.proofs.LookUps.{on_itself}
 use Rattle.request_facts.specs.Cores.{Core, core, core_of}
 use Rattle.request_facts.specs.Knowns.{IsPoke}
 use Rattle.rest_rows.proofs.Rows.{made_rests, refused_rests}
-use Rattle.std.proofs.Common.{Bool, None, Option, Some, [], ap, false, refl, sym, true, ℕ, ◌&&◌, ◌∙◌, ◌≡◌}
+use Rattle.tab_events.proofs.Ordered.{orders_on}
+use Rattle.std.proofs.Common.{Bool, None, drop, Option, Some, [], ap, false, refl, sym, true, ℕ, ◌&&◌, ◌∙◌, ◌≡◌}
 use Rattle.std.proofs.lemmas.List.{map-id}
 use Rattle.std.specs.Prelude.{option_map, slice_get}
 use Rattle.tab_events.proofs.Left.{between_left, keeps_all}
@@ -80,6 +81,6 @@ module _ (keep : ℕ) (run : Option ReqId) (s : Seen) (proc : ProcId) (is : IsBe
     pub refused_between : IsBetween keep run refused
     refused_between =
         between_left keep run s refused is (unmade_tab run s proc is.tab is.flows poke first event reason)
-        (record { g = λ x. x; keeps = keeps_all; documents = sym (map-id s.documents); asked = asked; history = refl; places = refl; kept = refl; joined = without_same s.joined poke.req (unjoined run s proc is.tab is.flows poke first); parked = without_same s.parked poke.req (unparked run s proc is.tab is.flows poke first) })
+        (record { g = λ x. x; keeps = keeps_all; documents = sym (map-id s.documents); asked = asked; history = refl; places = refl; kept = refl; joined = without_same s.joined poke.req (unjoined run s proc is.tab is.flows poke first); parked = without_same s.parked poke.req (unparked run s proc is.tab is.flows poke first); orders = orders_on proc (λ (desk : Desk). record desk { input = drop 1 desk.input }) s.desks (λ desk has. has) })
         (unmade_flows run s proc is.tab is.flows poke first event reason)
         (refused_rests s event (actors.Proc proc) [] is.rests poke.req reason)

@@ -29,7 +29,7 @@ use Rattle.std.specs.List.{list_all, list_any}
 use Rattle.std.specs.Option.{option_map_or}
 use Rattle.std.specs.Prelude.{find, is_none, is_some, map, option_and_then, option_map, slice_get}
 use Rattle.tab_events.proofs.Requests.{AreLeft, IsSo, lean, left_then}
-use Rattle.tab_events.specs.Between.{AreSwept, IsBetween, KeptAreFrozen, LoadsHaveDocuments}
+use Rattle.tab_events.specs.Between.{AreSwept, IsBetween, KeptAreFrozen, LoadsHaveDocuments, orders_go}
 use Rattle.tab_ids.specs.declared.DocId.{DocId}
 use Rattle.tab_ids.specs.declared.NavId.{NavId}
 use Rattle.tab_ids.specs.declared.ReqId.{ReqId}
@@ -205,6 +205,7 @@ pub record IsLeft (run : Option ReqId) (s t : Seen) : Type 0 where
   pub kept : t.kept ≡ s.kept
   pub joined : t.joined ≡ s.joined
   pub parked : t.parked ≡ s.parked
+  pub orders : orders_go s ≡ true → orders_go t ≡ true
 
 -- two rows, each of which leaves it
 pub left_twice : (run : Option ReqId) (a b c : Seen) → IsLeft run a b → IsLeft run b c → IsLeft run a c
@@ -219,6 +220,7 @@ left_twice run a b c one two =
       kept = two.kept ∙ one.kept;
       joined = two.joined ∙ one.joined;
       parked = two.parked ∙ one.parked;
+      orders = λ go. two.orders (one.orders go);
     }
 
 module _ (keep : ℕ) (run : Option ReqId) (s t : Seen) (is : IsBetween keep run s) (tab : IsTab run [] [] t) (left : IsLeft run s t) where
@@ -367,8 +369,8 @@ module _ (keep : ℕ) (run : Option ReqId) (s t : Seen) (is : IsBetween keep run
 
   -- ---- ongoing loads
 
-  swept : AreSwept t
-  swept doc d found ready there = by_case (is.swept doc w.before w.there (sym (left.keeps.ready w.before) ∙ ap (λ (x : Document). x.is_ready) w.is ∙ ready) (sym (left.keeps.discarded w.before) ∙ ap (λ (x : Document). x.is_discarded) w.is ∙ there))
+  swept_still : AreSwept s → AreSwept t
+  swept_still swept doc d found ready there = by_case (swept doc w.before w.there (sym (left.keeps.ready w.before) ∙ ap (λ (x : Document). x.is_ready) w.is ∙ ready) (sym (left.keeps.discarded w.before) ∙ ap (λ (x : Document). x.is_discarded) w.is ∙ there))
     where
       w : WasOf s left.g doc d
       w = before doc d found
@@ -388,6 +390,13 @@ module _ (keep : ℕ) (run : Option ReqId) (s t : Seen) (is : IsBetween keep run
             ongoing = ap is_ongoing_load so.same ∙ of.ongoing;
             own = ap (λ (x : Asked). x.state) so.same ∙ of.own ∙ ap (λ (n : StateId). Some n) state;
           })
+
+  swept : AreSwept t ⊎ (orders_go t ≡ true)
+  swept = by_either is.swept
+    where
+      by_either : AreSwept s ⊎ (orders_go s ≡ true) → AreSwept t ⊎ (orders_go t ≡ true)
+      by_either (inl all) = inl (swept_still all)
+      by_either (inr go) = inr (left.orders go)
 
   -- whether a navigable is reached is read of history, places and aim
   reached_same : (nav : NavId) → is_reached t nav ≡ is_reached s nav

@@ -1,4 +1,5 @@
 pub mod Requests
+pub mod Ordered
 pub mod Left
 pub mod Rows
 pub mod Opened

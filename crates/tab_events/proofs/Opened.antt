@@ -6,7 +6,7 @@ use Rattle.log_model.specs.declared.row_kind.Actor.{Actor}
 use Rattle.rest_facts.proofs.Opened.{opened_composed}
 use Rattle.rest_facts.specs.Between.{IsComposed}
 use Rattle.rest_rows.proofs.Rows.{opened_rests}
-use Rattle.std.proofs.Common.{Bool, List, None, Option, Some, arith, cond, false, inl, refl, subst, true, ℕ, ◌==◌, ◌-◌, ◌≡◌}
+use Rattle.std.proofs.Common.{Bool, List, None, Option, Some, arith, cond, false, inl, refl, subst, true, ℕ, ◌==◌, ◌≡◌}
 use Rattle.tab_events.specs.Between.{IsBetween}
 use Rattle.tab_ids.specs.declared.DocId.{DocId}
 use Rattle.tab_ids.specs.declared.EntryId.{EntryId}
@@ -52,7 +52,7 @@ module _ (keep : ℕ) (event : ℕ) (actor : Actor) (entry : EntryId) (state : S
         held = λ none. refl;
         rows_ = λ n p other found wakes. subst (λ (x : Place). has_row x.nav tab.history.rows ≡ true) (only_place n p found) refl;
         rests = opened_rests event actor entry state doc proc None address;
-        swept = λ other d found ready there. inl (composed.plain.swept other d found ready there);
+        swept = inl (λ other d found ready there. inl (composed.plain.swept other d found ready there));
         stands = refl;
         loading = λ req q there ongoing. absurd (no_request req q there);
         frozen = λ other d has found. absurd cc;

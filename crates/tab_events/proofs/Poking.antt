@@ -14,13 +14,15 @@ use Rattle.request_facts.proofs.Times.{times_none}
 use Rattle.request_facts.specs.Whereabouts.{times_found}
 use Rattle.rest_rows.proofs.Rows.{accepted_rests, refused_rests}
 use Rattle.rest_rows.specs.Moving.{AllRest}
+use Rattle.std.specs.List.{list_any}
+use Rattle.tab_events.proofs.Ordered.{poked_orders, unrefused}
 use Rattle.std.proofs.Common.{None, Option, Some, [], ap, arith, false, length, refl, sym, ℕ, ◌+◌, ◌==◌, ◌∙◌, ◌∷◌, ◌≡◌}
 use Rattle.std.proofs.lemmas.Bool.Decides.{nat_tests}
 use Rattle.std.proofs.lemmas.List.{map-id}
 use Rattle.std.specs.Prelude.{option_map}
 use Rattle.tab_events.proofs.Left.{between_left, keeps_all}
 use Rattle.tab_events.proofs.Requests.{AreLeft, others_left}
-use Rattle.tab_events.specs.Between.{IsBetween}
+use Rattle.tab_events.specs.Between.{IsBetween, has_order}
 use Rattle.tab_ids.specs.declared.DocId.{DocId}
 use Rattle.tab_ids.specs.declared.NavId.{NavId}
 use Rattle.tab_ids.specs.declared.ReqId.{ReqId}
@@ -64,7 +66,7 @@ module _ (keep : ℕ) (run : Option ReqId) (s : Seen) (event : ℕ) (actor : Act
     pub poked_between : IsBetween keep run then
     poked_between =
         between_left keep run s then is tab
-        (record { g = λ x. x; keeps = keeps_all; documents = sym (map-id s.documents); asked = asked; history = refl; places = refl; kept = refl; joined = refl; parked = refl })
+        (record { g = λ x. x; keeps = keeps_all; documents = sym (map-id s.documents); asked = asked; history = refl; places = refl; kept = refl; joined = refl; parked = refl; orders = λ go. poked_orders s req doc d found action go })
         (poked_flows run s event actor is.tab is.flows req nr nav action fine doc d found)
         (accepted_rests s event actor [] is.rests req (Some doc) (requests.Poke nav action))
 
@@ -118,6 +120,6 @@ module _ (keep : ℕ) (run : Option ReqId) (s : Seen) (event : ℕ) (actor : Act
     pub stray_between : IsBetween keep run away
     stray_between =
         between_left keep run s away is (stray_tab run s event actor is.tab is.flows req nr nav action fine reason by)
-        (record { g = λ x. x; keeps = keeps_all; documents = sym (map-id s.documents); asked = asked_away; history = refl; places = refl; kept = refl; joined = without_same s.joined req unjoined; parked = without_same s.parked req unparked })
+        (record { g = λ x. x; keeps = keeps_all; documents = sym (map-id s.documents); asked = asked_away; history = refl; places = refl; kept = refl; joined = without_same s.joined req unjoined; parked = without_same s.parked req unparked; orders = λ go. ap (list_any has_order) (unrefused s.desks actor by) ∙ go })
         (stray_flows run s event actor is.tab is.flows req nr nav action fine reason)
         (refused_rests first event actor [] rests_first req reason)

@@ -10,13 +10,14 @@ use Rattle.log_model.specs.declared.made.Made.{Made}
 use Rattle.log_model.specs.declared.outcome.Outcome.{Outcome}
 use Rattle.log_model.specs.declared.row_kind.Actor.{Actor}
 use Rattle.request_facts.proofs.Readers.{on_read}
+use Rattle.log_model.specs.After.{desk_finished, desks_made, follows_finished}
 use Rattle.std.proofs.Common.{List, Option, Some, ap, cond, refl, ℕ, ◌==◌, ◌∙◌, ◌≡◌}
 use Rattle.std.specs.Prelude.{map, option_map}
+use Rattle.tab_events.proofs.Ordered.{finished_order, made_order, orders_on}
 use Rattle.tab_events.proofs.Left.{IsLeft, KeepsRead, keeps_both, keeps_if, map_twice}
 use Rattle.tab_events.proofs.Requests.{finished_lean, lean, same_left}
 use Rattle.tab_ids.specs.declared.ProcId.{ProcId}
 use Rattle.tab_ids.specs.declared.ReqId.{ReqId}
-use Rattle.tab_whole.proofs.Working.{finished}
 use Rattle.log_model.specs.declared.outcome.Outcome.TheVariants as outcomes
 use Rattle.log_model.specs.declared.row_kind.RowKind.TheVariants as rows
 
@@ -65,6 +66,7 @@ finished_left run s event actor proc order outcome in_hand =
       kept = refl;
       joined = refl;
       parked = refl;
+      orders = orders_on proc (desk_finished outcome) s.desks (finished_order outcome);
     }
 
 -- a document makes something
@@ -80,4 +82,5 @@ made_left run s event actor proc made =
       kept = refl;
       joined = refl;
       parked = refl;
+      orders = orders_on proc (desks_made (follows_finished s (record { event = event; actor = actor; row = rows.Made proc made })) made) s.desks (made_order (follows_finished s (record { event = event; actor = actor; row = rows.Made proc made })) made);
     }

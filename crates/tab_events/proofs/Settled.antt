@@ -14,6 +14,7 @@ use Rattle.load_whereabouts.specs.Whereabouts.{waits_to_fragment}
 use Rattle.log_model.specs.Places.{has_passed, has_passed_with, is_gone, is_load, is_ongoing_load, is_reload, is_traversal, is_under_way, passed_traversal}
 use Rattle.log_model.specs.Queue.{is_step_under_way}
 use Rattle.log_model.specs.Seen.{Asked, Desk, Document, Seen, document_of, request_in}
+use Rattle.log_model.specs.Logs.{is_prompt_up, is_quiet, is_still}
 use Rattle.log_model.specs.Settled.{is_settled_if_quiet}
 use Rattle.log_model.specs.declared.job.Job.{Job}
 use Rattle.log_model.specs.declared.request.Request.{Request}
@@ -24,8 +25,10 @@ use Rattle.rest_facts.proofs.Settled.{loads_settle}
 use Rattle.rest_rows.proofs.Again.{rests_each}
 use Rattle.rest_facts.specs.Between.{IsComposedWithLoads, IsOrdered, IsPlainWithLoads}
 use Rattle.seen_laws.proofs.Sums.{over}
-use Rattle.std.proofs.Common.{Bool, List, None, Option, Some, [], ap, arith, inl, inr, false, refl, suc, sym, true, zero, ℕ, ◌&&◌, ◌<◌, ◌∙◌, ◌∷◌, ◌≡◌, ◌⊎◌, ◌||◌}
-use Rattle.tab_events.specs.Between.{IsBetween}
+use Rattle.std.specs.List.{list_all}
+use Rattle.std.proofs.Common.{Bool, List, None, Option, Some, [], ap, arith, inl, inr, false, not, refl, suc, sym, true, zero, ℕ, ◌&&◌, ◌<◌, ◌∙◌, ◌∷◌, ◌≡◌, ◌⊎◌, ◌||◌}
+use Rattle.tab_events.proofs.Ordered.{not_still}
+use Rattle.tab_events.specs.Between.{AreSwept, IsBetween, orders_go}
 use Rattle.tab_ids.specs.declared.DocId.{DocId}
 use Rattle.tab_ids.specs.declared.ReqId.{ReqId}
 
@@ -106,21 +109,21 @@ module _ (keep : ℕ) (run : Option ReqId) (s : Seen) (is : IsBetween keep run s
           let found = has_found (λ (q : Asked). is_under_way q && is_traversal q.what && has_passed_with (is_gone s) q) s.requests there.q (asked_has s.requests req there.q there.found) passes in
           let never : None ≡ Some found.0 = sym none ∙ found.1 in absurd cc
 
-  pub between_plain : IsPlainWithLoads s
-  between_plain =
+  between_plain : AreSwept s → IsPlainWithLoads s
+  between_plain swept =
       record {
         alive = λ doc d found. (live doc d found).lives;
         unknown = λ doc d found. (live doc d found).unknown;
         unlost = λ nav place found. (is.tab.standing nav place found).unlost;
-        swept = is.swept;
+        swept = swept;
         loading = is.loading;
         trips = trips;
         steps = stepping;
         unparked = unparked;
       }
 
-  pub between_composed : IsComposedWithLoads s
-  between_composed =
+  between_composed : AreSwept s → IsComposedWithLoads s
+  between_composed swept =
       record {
         sound = is.tab.sound;
         hangs = is.tab.hangs;
@@ -133,8 +136,23 @@ module _ (keep : ℕ) (run : Option ReqId) (s : Seen) (is : IsBetween keep run s
         once = is.tab.once;
         told = is.told;
         stepped = is.stepped;
-        plain = between_plain;
+        plain = between_plain swept;
       }
 
+  -- it isn't quiet where an order is on its way
+  unquiet : orders_go s ≡ true → is_settled_if_quiet s ≡ true
+  unquiet go = by_quiet (is_quiet s) refl
+    where
+      by_quiet : (b : Bool) → is_quiet s ≡ b → is_settled_if_quiet s ≡ true
+      by_quiet false is = rw is refl
+      by_quiet true is =
+          let still : is_still s ≡ true = (and_parts (is_still s) (list_all (λ (q : Asked). not (is_prompt_up q)) s.requests) is).0 in
+          let never : true ≡ false = sym still ∙ not_still s.desks go in
+          absurd cc
+
   pub between_settled : is_settled_if_quiet s ≡ true
-  between_settled = loads_settle s between_composed
+  between_settled = by_swept is.swept
+    where
+      by_swept : AreSwept s ⊎ (orders_go s ≡ true) → is_settled_if_quiet s ≡ true
+      by_swept (inl swept) = loads_settle s (between_composed swept)
+      by_swept (inr go) = unquiet go

@@ -13,6 +13,7 @@ use Rattle.log_model.specs.declared.made.Made.{Made}
 use Rattle.log_model.specs.declared.outcome.Outcome.{Outcome}
 use Rattle.log_model.specs.declared.request.Mode.{Mode}
 use Rattle.rest_rows.proofs.Rows.{finished_rests, made_rests, taken_rests}
+use Rattle.tab_events.proofs.Ordered.{taken_orders}
 use Rattle.std.proofs.Common.{[], Bool, List, None, Option, Some, refl, subst, sym, ℕ, ◌≡◌}
 use Rattle.std.proofs.lemmas.List.{map-id}
 use Rattle.std.specs.Prelude.{slice_get}
@@ -38,7 +39,7 @@ module _ (keep : ℕ) (run : Option ReqId) (s : Seen) (event : ℕ) (proc : Proc
     pub taken_between : IsBetween keep run took
     taken_between =
         between_left keep run s took is (taken_tab run s event proc is.tab is.flows job dirty free first)
-        (record { g = λ x. x; keeps = keeps_all; documents = sym (map-id s.documents); asked = same_left run s.requests took.requests (λ r. refl); history = refl; places = refl; kept = refl; joined = refl; parked = refl })
+        (record { g = λ x. x; keeps = keeps_all; documents = sym (map-id s.documents); asked = same_left run s.requests took.requests (λ r. refl); history = refl; places = refl; kept = refl; joined = refl; parked = refl; orders = λ go. taken_orders proc dirty s.desks job first })
         (took_flows run s event proc is.tab is.flows job dirty free first)
         (taken_rests s event (actors.Proc proc) [] is.rests proc job dirty free first)
 

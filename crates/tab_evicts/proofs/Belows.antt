@@ -1,34 +1,24 @@
 -- A document that hangs below a discarded one may be discarded, since nobody is awake on it.
 use Rattle.doc_facts.specs.Docs.{HasPlace}
 use Rattle.hang_facts.proofs.Hung.{places_distinct}
-use Rattle.hang_facts.proofs.Members.{find_has, has_any}
 use Rattle.hang_facts.proofs.Parts.{state_is}
 use Rattle.kept_facts.specs.Keeping.{kept_states}
 use Rattle.leave_rows.proofs.Evicts.{below_discard_may}
 use Rattle.leave_rows.specs.Evicting.{IsBelowDue}
-use Rattle.load_facts.specs.Loading.{IsLoading, look, look_of}
-use Rattle.load_table.specs.Loads.{ongoing_load}
-use Rattle.load_table.specs.declared.load.Load.{Load}
-use Rattle.load_ties.specs.Tying.{IsLoadTied}
 use Rattle.log_model.proofs.Refl.{nat_eq_refl}
 use Rattle.log_model.specs.AfterPlaces.{sleepers_with}
-use Rattle.log_model.specs.Equal.{holds}
-use Rattle.log_model.specs.Once.{loads}
 use Rattle.log_model.specs.Orders.{is_below_gone}
-use Rattle.log_model.specs.Places.{hangs_on, is_document_below}
-use Rattle.log_model.specs.Seen.{Asked, Document, Place, Seen, awake, desk_of, document_of, place_in, place_of}
+use Rattle.log_model.specs.Places.{hangs_on}
+use Rattle.log_model.specs.Seen.{Document, Place, Seen, awake, desk_of, document_of, place_in, place_of}
 use Rattle.log_model.specs.declared.job.Why.{Why}
-use Rattle.log_model.specs.declared.request.Request.{Request}
 use Rattle.log_model.specs.declared.row_kind.RowKind.{RowKind}
 use Rattle.nav_tree.specs.Tree.{state_of}
 use Rattle.page_cache.specs.Kept.{left_first, without}
 use Rattle.seen_laws.proofs.InEvents.{led_here}
-use Rattle.seen_laws.proofs.Keyed.{find_has as seen_number}
 use Rattle.seen_laws.specs.InEvent.{InEvent, here_of, now_of}
 use Rattle.frame_rows.specs.Discarding.{SettlesNone}
 use Rattle.seen_laws.specs.InEvent.{row_of}
-use Rattle.std.proofs.Common.{Bool, List, None, Option, Some, [], ap, arith, false, length, map, not, refl, subst, sym, true, ℕ, ◌&&◌, ◌++◌, ◌==◌, ◌||◌, ◌∙◌, ◌∷◌, ◌≡◌, ◌≤◌}
-use Rattle.std.proofs.lemmas.Bool.Decides.{nat_tests}
+use Rattle.std.proofs.Common.{Bool, List, None, Option, Some, [], ap, false, length, map, refl, subst, sym, true, ℕ, ◌++◌, ◌==◌, ◌∙◌, ◌∷◌, ◌≡◌, ◌≤◌}
 use Rattle.std.specs.Prelude.{if◌then◌else◌, option_and_then, option_map}
 use Rattle.tab_doors.proofs.Sights.{seen_of, sight_of}
 use Rattle.tab_doors.proofs.Works.{numbered}
@@ -41,6 +31,8 @@ use Rattle.tab_doors.specs.declared.tables.Tables.{Tables}
 use Rattle.tab_doors.specs.declared.birth.Birth.{Birth}
 use Rattle.tab_evicts.proofs.Cuts.{fitting_fits, fitting_leaves}
 use Rattle.tab_evicts.proofs.Hangings.{hangs_same}
+use Rattle.tab_evicts.proofs.Theres.{there_apart, there_elsewhere, there_gone, there_unloaded}
+use Rattle.tab_evicts.specs.Evicting.{IsThereBelow}
 use Rattle.left_facts.specs.Left.{WereShown}
 use Rattle.tab_evicts.proofs.Quiets.{IsQuiet, gone_seen, gone_leaving, gone_looks, gone_may, gone_now, gone_other, gone_places, gone_states, gone_stays, gone_were, one_document, one_of_state, quiet_discards, quiet_settles}
 use Rattle.tab_evicts.specs.Evicting.{IsBeside, InEvicting, IsEvicting, IsGoneFor, NoLoadBelow, NoneBelow, StaysPlaced, below_in, hangs_in}
@@ -57,7 +49,7 @@ use Rattle.log_model.specs.declared.job.Task.TheVariants as tasks
 use Rattle.log_model.specs.declared.row_kind.RowKind.TheVariants as rows
 
 -- such an order may be sent
-below_ahead : (e : InEvent) (out : List RowKind) (move : Move) (t : Tables) (doc : DocId) (why : Why) (d : Document) → IsAtWorkFor (Some move) e out t → IsBelowDue (now_of e out) (order_to (now_of e out) doc why tasks.Discard) d → (desk_of (now_of e out) (proc_at (now_of e out) doc)).known ≡ 0 → SettlesNone (now_of e out) (row_of e (rows.Sent (order_to (now_of e out) doc why tasks.Discard))) → MaySend (Some move) e out (order_to (now_of e out) doc why tasks.Discard)
+pub below_ahead : (e : InEvent) (out : List RowKind) (move : Move) (t : Tables) (doc : DocId) (why : Why) (d : Document) → IsAtWorkFor (Some move) e out t → IsBelowDue (now_of e out) (order_to (now_of e out) doc why tasks.Discard) d → (desk_of (now_of e out) (proc_at (now_of e out) doc)).known ≡ 0 → SettlesNone (now_of e out) (row_of e (rows.Sent (order_to (now_of e out) doc why tasks.Discard))) → MaySend (Some move) e out (order_to (now_of e out) doc why tasks.Discard)
 unfolding now_of
 below_ahead e out move t doc why d work due known settles later ahead =
     below_discard_may (here_of e out) e.event e.actor (order_to (here_of e out).now doc why tasks.Discard) d (led_here e out work.own) (numbered (here_of e out).now (proc_at (here_of e out).now doc) doc why tasks.Discard known) due settles later tt
@@ -129,6 +121,9 @@ module _ (m : InEvicting) (gone : StateId) (why : Why) (out : List RowKind) (t :
       by_nav (Some nav) at h = by_test nav at (hangs_in t.tree gone nav) refl h
 
   module _ (doc : DocId) (its : StateId) (b : IsBelow s t gone doc its) where
+    abbrev it : IsThereBelow s gone doc
+    it = record { document = b.document; found = b.found; ready = b.ready; undiscarded = b.undiscarded; unknown = b.unknown; place = b.place; placed = b.placed; below = b.below }
+
     -- nobody is awake on it
     nobody : sleepers_with s doc ≡ []
     nobody = nobody_awake s doc (no_shower s doc (places_distinct s so.leaving.going.tab.sound so.leaving.going.tab.hangs) never)
@@ -142,33 +137,6 @@ module _ (m : InEvicting) (gone : StateId) (why : Why) (out : List RowKind) (t :
             let here : b.place ≡ place = cc in
             let no_ : true ≡ false = sym b.below ∙ ap (λ (q : Place). hangs_on gone q) here ∙ so.none nav place doc placed wakes in
             cc
-
-    -- no load has its state
-    unloaded : (nav : NavId) (load : Load) → ongoing_load nav t.loads ≡ Some load → (its.0 == load.state.0) ≡ false
-    unloaded nav load at = by_test (its.0 == load.state.0) refl
-      where
-        tied : IsLoadTied s load
-        tied = so.leaving.work.loads.there nav load at
-
-        its_look : look_of s load.req ≡ Some (look tied.q)
-        its_look = ap (λ (o : Option Asked). option_map look o) tied.found
-
-        loading : IsLoading s (look tied.q)
-        loading = so.leaving.going.tab.loading.each load.req (look tied.q) its_look tied.ongoing
-
-        its_own : loads loading.nav tied.q.what ≡ true
-        its_own = ap (λ (w : Request). loads loading.nav w) loading.what ∙ nat_eq_refl loading.nav.0
-
-        by_test : (c : Bool) → (its.0 == load.state.0) ≡ c → (its.0 == load.state.0) ≡ false
-        by_test false is = is
-        by_test true is =
-            let states : Some load.state ≡ Some loading.state = sym tied.state ∙ loading.state_is in
-            let one : load.state ≡ loading.state = cc in
-            let number : b.document.state.0 ≡ loading.state.0 = ap (λ (x : StateId). x.0) (b.its_state ∙ state_is its load.state is ∙ one) in
-            let navs : b.document.nav ≡ loading.nav = loading.whose doc b.document b.found number in
-            let outside : hangs_on gone b.place ≡ false = so.loads load.req (look tied.q) loading.nav b.place its_look tied.ongoing its_own (ap (λ (n : NavId). place_of s n) (sym navs) ∙ b.placed) in
-            let no_ : true ≡ false = sym b.below ∙ outside in
-            absurd cc
 
     quiet : below_in t gone doc ≡ Some its → IsQuiet s t doc its
     quiet is = by_nav (nav_in t.whose.entries doc) refl is
@@ -184,7 +152,7 @@ module _ (m : InEvicting) (gone : StateId) (why : Why) (out : List RowKind) (t :
               unknown = b.unknown;
               listed = (there_for (map sight s.documents) t so.leaving.work.holds.documents doc its lives).its;
               nobody = nobody;
-              unloaded = unloaded;
+              unloaded = there_unloaded s gone doc it t so.leaving.work.loads so.leaving.going.tab.loading so.loads its b.its_state;
             }
 
         by_test : (c : Bool) → (let o : Option StateId = if c then state_of doc t.tree else None in o) ≡ Some its → IsQuiet s t doc its
@@ -204,34 +172,14 @@ module _ (m : InEvicting) (gone : StateId) (why : Why) (out : List RowKind) (t :
     pub its_quiet : IsQuiet s t doc its
     its_quiet = quiet doc its b is
 
-    -- it is another one than any that is elsewhere
-    elsewhere : (other : DocId) (d : Document) (nav : NavId) (place : Place) → document_of s other ≡ Some d → d.nav ≡ nav → place_of s nav ≡ Some place → hangs_on gone place ≡ false → (doc.0 == other.0) ≡ false
-    elsewhere other d nav place there navs placed outside = by_test (doc.0 == other.0) refl
-      where
-        by_test : (c : Bool) → (doc.0 == other.0) ≡ c → (doc.0 == other.0) ≡ false
-        by_test false e = e
-        by_test true e =
-            let number : doc.0 ≡ other.0 = grind (arith, nat_tests, e) in
-            let one : doc ≡ other = ap (λ (n : ℕ). let x : DocId = record { 0 = n } in x) number in
-            let same : b.document ≡ d = one_document s other b.document d (ap (λ (x : DocId). document_of s x) (sym one) ∙ b.found) there in
-            let own : b.document.nav ≡ nav = ap (λ (x : Document). x.nav) same ∙ navs in
-            let both : Some b.place ≡ Some place = sym b.placed ∙ ap (λ (n : NavId). place_of s n) own ∙ placed in
-            let here : b.place ≡ place = cc in
-            let no_ : true ≡ false = sym b.below ∙ ap (λ (q : Place). hangs_on gone q) here ∙ outside in
-            absurd cc
+    abbrev its_there : IsThereBelow s gone doc
+    its_there = it doc its b
 
-    -- and than the one that is gone
     apart_gone : (doc.0 == so.gone_for.doc.0) ≡ false
-    apart_gone = by_test (doc.0 == so.gone_for.doc.0) refl
-      where
-        by_test : (c : Bool) → (doc.0 == so.gone_for.doc.0) ≡ c → (doc.0 == so.gone_for.doc.0) ≡ false
-        by_test false e = e
-        by_test true e =
-            let number : doc.0 ≡ so.gone_for.doc.0 = grind (arith, nat_tests, e) in
-            let one : doc ≡ so.gone_for.doc = ap (λ (n : ℕ). let x : DocId = record { 0 = n } in x) number in
-            let same : b.document ≡ so.gone_for.document = one_document s so.gone_for.doc b.document so.gone_for.document (ap (λ (x : DocId). document_of s x) (sym one) ∙ b.found) so.gone_for.found in
-            let no_ : false ≡ true = sym b.undiscarded ∙ ap (λ (d : Document). d.is_discarded) same ∙ so.gone_for.discarded in
-            absurd cc
+    apart_gone = there_apart s gone doc its_there so.gone_for
+
+    below_gone : is_below_gone s b.document ≡ true
+    below_gone = there_gone s gone doc its_there so.gone_for
 
     -- its state isn't the one that is left
     apart_left : (its.0 == state.0) ≡ false
@@ -242,36 +190,9 @@ module _ (m : InEvicting) (gone : StateId) (why : Why) (out : List RowKind) (t :
         by_test true e =
             let states : b.document.state ≡ so.beside.old.state = b.its_state ∙ state_is its state e ∙ sym so.beside.its_state in
             let one : doc ≡ m.left = one_of_state s so.leaving.going.tab.docs doc m.left b.document so.beside.old b.found so.beside.found states b.undiscarded so.beside.undiscarded in
-            let apart : (doc.0 == m.left.0) ≡ false = elsewhere m.left so.beside.old so.beside.nav so.beside.place so.beside.found so.beside.its_nav so.beside.placed so.beside.outside in
+            let apart : (doc.0 == m.left.0) ≡ false = there_elsewhere s gone doc its_there m.left so.beside.old so.beside.nav so.beside.place so.beside.found so.beside.its_nav so.beside.placed so.beside.outside in
             let no_ : true ≡ false = sym (ap (λ (x : DocId). x.0 == m.left.0) one ∙ nat_eq_refl m.left.0) ∙ apart in
             absurd cc
-
-    below_gone : is_below_gone s b.document ≡ true
-    below_gone =
-        has_any (λ (other : Document). not (other.nr.0 == b.document.nr.0) && (other.is_discarded || other.is_known_dead) && is_document_below s other.state b.document) s.documents so.gone_for.document
-        (find_has (λ (x : Document). x.nr.0 == so.gone_for.doc.0) s.documents so.gone_for.document so.gone_for.found).0 passes
-      where
-        numbers : (so.gone_for.document.nr.0 == b.document.nr.0) ≡ false
-        numbers =
-            let first : so.gone_for.document.nr.0 ≡ so.gone_for.doc.0 = seen_number (λ (x : Document). x.nr.0) so.gone_for.doc.0 s.documents so.gone_for.document so.gone_for.found in
-            let second : b.document.nr.0 ≡ doc.0 = seen_number (λ (x : Document). x.nr.0) doc.0 s.documents b.document b.found in
-            let apart = apart_gone in
-            grind (arith, nat_tests, first, second, apart)
-
-        hangs : is_document_below s so.gone_for.document.state b.document ≡ true
-        hangs =
-            ap (λ (x : StateId). is_document_below s x b.document) so.gone_for.its_state
-            ∙ ap (λ (o : Option Place). holds (hangs_on gone) o) b.placed
-            ∙ b.below
-
-        by_parts : (n gone_ dead hang : Bool) → n ≡ false → gone_ ≡ true → hang ≡ true → (not n && (gone_ || dead) && hang) ≡ true
-        by_parts false true dead true e f g = refl
-        by_parts true gone_ dead hang e f g = absurd cc
-        by_parts false false dead hang e f g = absurd cc
-        by_parts false true dead false e f g = absurd cc
-
-        passes : (not (so.gone_for.document.nr.0 == b.document.nr.0) && (so.gone_for.document.is_discarded || so.gone_for.document.is_known_dead) && is_document_below s so.gone_for.document.state b.document) ≡ true
-        passes = by_parts (so.gone_for.document.nr.0 == b.document.nr.0) so.gone_for.document.is_discarded so.gone_for.document.is_known_dead (is_document_below s so.gone_for.document.state b.document) numbers so.gone_for.discarded hangs
 
     pub below_sends : MaySend (Some move) p.event out (order_to s doc why tasks.Discard)
     below_sends =
@@ -347,11 +268,11 @@ module _ (m : InEvicting) (gone : StateId) (why : Why) (out : List RowKind) (t :
               placed = ap (λ (l : List Place). place_in l so.beside.nav) places ∙ so.beside.placed;
               outside = so.beside.outside;
               old = so.beside.old;
-              found = other m.left (elsewhere m.left so.beside.old so.beside.nav so.beside.place so.beside.found so.beside.its_nav so.beside.placed so.beside.outside) ∙ so.beside.found;
+              found = other m.left (there_elsewhere s gone doc its_there m.left so.beside.old so.beside.nav so.beside.place so.beside.found so.beside.its_nav so.beside.placed so.beside.outside) ∙ so.beside.found;
               its_nav = so.beside.its_nav;
               its_state = so.beside.its_state;
               undiscarded = so.beside.undiscarded;
-              new_found = other move.doc (elsewhere move.doc m.new so.beside.nav so.beside.place so.beside.new_found so.beside.new_nav so.beside.placed so.beside.outside) ∙ so.beside.new_found;
+              new_found = other move.doc (there_elsewhere s gone doc its_there move.doc m.new so.beside.nav so.beside.place so.beside.new_found so.beside.new_nav so.beside.placed so.beside.outside) ∙ so.beside.new_found;
               new_nav = so.beside.new_nav;
             }
 

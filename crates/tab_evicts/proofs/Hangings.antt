@@ -26,7 +26,8 @@ use Rattle.tab_ids.specs.declared.DocId.{DocId}
 use Rattle.tab_ids.specs.declared.NavId.{NavId}
 use Rattle.tab_ids.specs.declared.ReqId.{ReqId}
 use Rattle.tab_ids.specs.declared.StateId.{StateId}
-use Rattle.tab_evicts.specs.Evicting.{hangs_in, hangs_up, owner_in}
+use Rattle.tab_evicts.proofs.Climbs.{within}
+use Rattle.tab_evicts.specs.Evicting.{hangs_in, owner_in}
 use Rattle.tab_whole.specs.Tab.{IsTab}
 use Rattle.walk_facts.proofs.Placed.{found_nav}
 
@@ -43,8 +44,9 @@ module _ (s : Seen) (run : Option ReqId) (t : Tables) (held : AreHeld (look_of s
   parent_is nav place at = let h = its nav place at in rw h.there h.tied.parent
 
   -- by so many above it as there are
-  hangs_above : (above : List NavId) (nav : NavId) (place : Place) (n : ℕ) → place_of s nav ≡ Some place → place.above ≡ above → IsChain s.places above → length above ≤ n → hangs_up (suc n) t.tree state nav ≡ hangs_on state place
-  hangs_above [] nav place n at is chain low =
+  hangs_above : (above : List NavId) (nav : NavId) (place : Place) (n : ℕ) → place_of s nav ≡ Some place → place.above ≡ above → IsChain s.places above → length above ≤ n → within n t.tree state nav ≡ hangs_on state place
+  hangs_above [] nav place zero at is chain low = rw (owner_is nav place at) (rw (owned.top nav place at is) refl)
+  hangs_above [] nav place (suc n) at is chain low =
       rw (owner_is nav place at, parent_is nav place at) (rw (is, owned.top nav place at is) refl)
   hangs_above (parent ∷ others) nav place zero at is chain low = absurd (omega (arith, low))
   hangs_above (parent ∷ others) nav place (suc n) at is chain low =

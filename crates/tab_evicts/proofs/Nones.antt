@@ -21,13 +21,14 @@ use Rattle.std.specs.List.{sum_by}
 use Rattle.std.specs.Prelude.{find, if◌then◌else◌, option_and_then, option_map, slice_get}
 use Rattle.tab_doors.proofs.Sights.{sight_of}
 use Rattle.tab_doors.specs.Keeping.{Move}
-use Rattle.tab_doors.specs.Look.{is_live_for, sight}
+use Rattle.tab_doors.specs.Look.{sight}
 use Rattle.tab_doors.specs.Orders.{order_to}
 use Rattle.tab_doors.specs.Ties.{AreListed, birth_of, nav_in}
 use Rattle.tab_doors.specs.declared.birth.Birth.{Birth}
 use Rattle.tab_doors.specs.declared.tables.Tables.{Tables}
 use Rattle.tab_evicts.proofs.Hangings.{hangs_same}
 use Rattle.tab_evicts.proofs.Quiets.{IsQuiet, gone_now, gone_other, gone_places, gone_seen}
+use Rattle.tab_evicts.proofs.Theres.{there_lives}
 use Rattle.tab_evicts.specs.Evicting.{InEvicting, IsEvicting, IsNotBelow, IsThereBelow, NoMoreBelow, NoneOfBelow, NoneThereBelow, below_in, hangs_in}
 use Rattle.tab_ids.specs.declared.DocId.{DocId}
 use Rattle.tab_ids.specs.declared.NavId.{NavId}
@@ -117,12 +118,9 @@ module _ (m : InEvicting) (gone : StateId) (why : Why) (out : List RowKind) (t :
   abbrev s : Seen
   s = now_of m.pass.event out
 
-  lives : is_live_for it.document.state (sight it.document) ≡ true
-  lives = rw (nat_eq_refl it.document.state.0) (rw it.ready (rw it.undiscarded (rw it.unknown refl)))
-
   -- the tables have it
   pub below_known : below_in t gone doc ≡ None → ⊥
-  below_known none = has_state_in (map sight s.documents) t so.leaving.work.holds.documents doc (sight it.document) (sight_of s doc it.document it.found) it.document.state lives (sym is ∙ none)
+  below_known none = has_state_in (map sight s.documents) t so.leaving.work.holds.documents doc (sight it.document) (sight_of s doc it.document it.found) it.document.state (there_lives s gone doc it) (sym is ∙ none)
     where
       nav_is : nav_in t.whose.entries doc ≡ Some it.document.nav
       nav_is =
@@ -189,9 +187,6 @@ module _ (p : InPass) (move : Move) (out : List RowKind) (t : Tables) (leaving :
 pub there_listed : (s : Seen) (t : Tables) → AreListed (map sight s.documents) t.tree t.making.entries → (gone : StateId) (doc : DocId) → IsThereBelow s gone doc → Has (docs_of t.tree) doc
 there_listed s t listed gone doc it = by_state (state_of doc t.tree) refl
   where
-    lives_ : is_live_for it.document.state (sight it.document) ≡ true
-    lives_ = rw (nat_eq_refl it.document.state.0) (rw it.ready (rw it.undiscarded (rw it.unknown refl)))
-
     by_place : (o : Option (StateId × live_place.Place)) → find (is_placed doc) t.tree.places ≡ o → (x : StateId) → option_map (λ (e : StateId × live_place.Place). e.0) o ≡ Some x → Has (docs_of t.tree) doc
     by_place None at x is = absurd cc
     by_place (Some e) at x is =
@@ -199,7 +194,7 @@ there_listed s t listed gone doc it = by_state (state_of doc t.tree) refl
         subst (λ (d : DocId). Has (docs_of t.tree) d) (doc_same e.1.doc doc its.1) (into_map (λ (y : StateId × live_place.Place). y.1.doc) t.tree.places e its.0)
 
     by_state : (o : Option StateId) → state_of doc t.tree ≡ o → Has (docs_of t.tree) doc
-    by_state None none = absurd (has_state_in (map sight s.documents) t listed doc (sight it.document) (sight_of s doc it.document it.found) it.document.state lives_ none)
+    by_state None none = absurd (has_state_in (map sight s.documents) t listed doc (sight it.document) (sight_of s doc it.document it.found) it.document.state (there_lives s gone doc it) none)
     by_state (Some x) is = by_place (find (is_placed doc) t.tree.places) refl x is
 
 -- each that was there is among those that were listed

@@ -1,6 +1,6 @@
 -- The document of a state that is kept no longer is discarded, with all that are there below it.
 -- HTML Standard, "Documents kept for traversal" and "destroy a document"; how many are kept, and that those below go with one, is this project's own.
-use Rattle.apply_plan.specs.Order.{parent_in}
+use Rattle.apply_plan.specs.Order.{rest}
 use Rattle.home_facts.specs.Homes.{IsOnAwake}
 use Rattle.kept_facts.specs.Keeping.{kept_states}
 use Rattle.left_facts.specs.Left.{WereShown}
@@ -17,7 +17,8 @@ use Rattle.nav_tree.specs.Tree.{Tree, nav_of, state_of}
 use Rattle.nav_tree.specs.declared.nav.Nav.{Nav}
 use Rattle.page_cache.specs.Kept.{left_first}
 use Rattle.seen_laws.specs.InEvent.{now_of}
-use Rattle.std.specs.Prelude.{Bool, List, None, Option, Some, [], drop, false, if◌then◌else◌, length, option_and_then, suc, true, zero, ℕ, ◌==◌, ◌||◌, ◌∷◌, ◌≡◌, ◌≤◌}
+use Rattle.std.specs.List.{list_any}
+use Rattle.std.specs.Prelude.{Bool, List, None, Option, Some, [], drop, false, if◌then◌else◌, length, option_and_then, true, ℕ, ◌==◌, ◌∷◌, ◌≡◌, ◌≤◌}
 use Rattle.tab_doors.specs.Keeping.{Move}
 use Rattle.tab_doors.specs.Ties.{nav_in}
 use Rattle.tab_doors.specs.declared.tables.Tables.{Tables}
@@ -42,14 +43,13 @@ owner_in tree nav = option_and_then (λ (n : Nav). n.owner) (nav_of nav tree)
 abbrev pub is_owned_by : Tree → StateId → NavId → Bool
 is_owned_by tree state nav = holds (λ (owner : StateId). owner.0 == state.0) (owner_in tree nav)
 
--- the navigable, or one of those above it, at most so many ways up, hangs on the document state
-abbrev pub hangs_up : ℕ → Tree → StateId → NavId → Bool
-hangs_up zero tree state nav = false
-hangs_up (suc n) tree state nav = is_owned_by tree state nav || holds (hangs_up n tree state) (parent_in tree nav)
+-- one of the navigables of these numbers hangs on the document state
+abbrev pub any_owned_by : Tree → StateId → List ℕ → Bool
+any_owned_by tree state navs = list_any (λ (n : ℕ). is_owned_by tree state (record { 0 = n })) navs
 
--- at any
+-- the navigable, or one of those above it, does
 abbrev pub hangs_in : Tree → StateId → NavId → Bool
-hangs_in tree state nav = hangs_up (suc (length tree.navs)) tree state nav
+hangs_in tree state nav = any_owned_by tree state (nav.0 ∷ rest (length tree.navs) tree nav)
 
 -- the state of a document that is there, where its navigable hangs so
 abbrev pub below_in : Tables → StateId → DocId → Option StateId

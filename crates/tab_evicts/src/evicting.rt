@@ -16,7 +16,7 @@ use tab_ids::{DocId, StateId};
 use tab_passes::discard;
 
 /// The document that is there for a document state.
-fn doc_there(tree: &NavTree, state: StateId) -> DocId
+pub fn doc_there(tree: &NavTree, state: StateId) -> DocId
     requires { IsSome (document_of state tree.now) }
     ensures { option_map (λ place. place.doc) (document_of state tree.now) ≡ Some result }
 {

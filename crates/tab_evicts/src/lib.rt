@@ -5,4 +5,4 @@ mod below;
 mod evicting;
 
 pub use below::discard_below;
-pub use evicting::evict;
+pub use evicting::{doc_there, evict};

@@ -1,33 +1,27 @@
 -- A document that was left is frozen: all at or below its navigable are asleep, and each document below is to be frozen.
-use Rattle.hang_facts.proofs.Forms.{nav_is}
 use Rattle.hang_facts.proofs.Hung.{places_distinct}
-use Rattle.hang_facts.proofs.Members.{has_filter, has_found}
 use Rattle.hang_facts.specs.AsPlaces.{AreDistinct}
-use Rattle.hang_facts.specs.Members.{Has}
 use Rattle.home_facts.specs.Homes.{AreHomed, IsAtHome}
 use Rattle.log_model.proofs.Refl.{nat_eq_refl}
 use Rattle.log_model.specs.After.{after}
 use Rattle.log_model.specs.AfterDocuments.{addressed}
-use Rattle.log_model.specs.AfterPlaces.{sleepers_with, without_doc, woken_below}
+use Rattle.log_model.specs.AfterPlaces.{sleepers_with, woken_below}
 use Rattle.log_model.specs.Checks.{may_go_on}
 use Rattle.log_model.specs.Equal.{has_doc}
 use Rattle.log_model.specs.History.{has_nav}
-use Rattle.log_model.specs.Places.{awake_document, is_below}
-use Rattle.log_model.specs.Seen.{Asked, Document, Place, Seen, Status, asleep, awake, lost, place_in, place_of, request_of}
-use Rattle.log_model.specs.Walk.{walk_of}
+use Rattle.log_model.specs.Places.{is_below}
+use Rattle.log_model.specs.Seen.{Asked, Document, Place, Seen, asleep, awake, place_in, place_of, request_of}
 use Rattle.log_model.specs.declared.job.Job.{Job}
 use Rattle.log_model.specs.declared.job.Why.{Why}
 use Rattle.log_model.specs.declared.row_kind.RowKind.{RowKind}
-use Rattle.rest_rows.proofs.Again.{doc_same, rest_more, turned}
-use Rattle.rest_rows.specs.Left.{left_below, shown_by}
+use Rattle.rest_rows.proofs.Again.{rest_more}
 use Rattle.seen_laws.proofs.InEvents.{now_more}
 use Rattle.seen_laws.proofs.Keyed.{find_on_other}
 use Rattle.seen_laws.specs.InEvent.{InEvent, now_of, row_of}
-use Rattle.std.proofs.Common.{Bool, List, None, Option, Some, [], ap, append-nil, arith, cond, false, filter_map, inl, inr, not, refl, subst, sym, true, ◌++◌, ◌==◌, ◌||◌, ◌∙◌, ◌∷◌, ◌≡◌}
-use Rattle.std.proofs.lemmas.Bool.Decides.{nat_tests}
+use Rattle.std.proofs.Common.{Bool, List, Option, Some, [], ap, cond, false, inl, inr, refl, subst, sym, true, ◌++◌, ◌==◌, ◌||◌, ◌∙◌, ◌∷◌, ◌≡◌}
 use Rattle.std.proofs.lemmas.Bool.{or_parts}
 use Rattle.std.specs.Option.{option_map_or}
-use Rattle.std.specs.Prelude.{if◌then◌else◌, option_map}
+use Rattle.std.specs.Prelude.{option_map}
 use Rattle.tab_doors.proofs.Keeping.{states_on}
 use Rattle.tab_doors.specs.Orders.{order_to}
 use Rattle.tab_doors.specs.Working.{KeepsStore}
@@ -35,7 +29,8 @@ use Rattle.tab_doors.specs.declared.tables.Tables.{Tables}
 use Rattle.tab_ids.specs.declared.DocId.{DocId}
 use Rattle.tab_ids.specs.declared.NavId.{NavId}
 use Rattle.tab_ids.specs.declared.ReqId.{ReqId}
-use Rattle.tab_moves.proofs.Leaves.{differs, distinct, docs_apart, home_of, its_home, showed, to_freeze, under}
+use Rattle.tab_moves.proofs.Leaves.{distinct, showed, under}
+use Rattle.tab_moves.proofs.Shown.{AreEach, IsShown, all_left, apart_left, apart_new, each_below, freezes, home}
 use Rattle.tab_moves.proofs.Sleeps.{WasSlept, was_slept}
 use Rattle.tab_moves.specs.Moving.{AllAsleep, HasLeft, InMoving, IsAtOrBelow, IsToLeave}
 use Rattle.tab_passes.proofs.Freezings.{found_still, new_still}
@@ -43,12 +38,9 @@ use Rattle.tab_passes.proofs.Frozen.{freezes_it, frozen_more}
 use Rattle.tab_passes.proofs.Goings.{goes_on}
 use Rattle.tab_passes.proofs.Onlies.{only_one, only_then}
 use Rattle.tab_passes.proofs.Serveds.{served_causes}
-use Rattle.tab_passes.proofs.Sleepers.{at_own}
-use Rattle.tab_passes.proofs.Unders.{ShownBelow, below_has, below_is, has_docs, has_filter_map, shows_below, shows_parts, walked_there}
 use Rattle.tab_passes.specs.Causes.{MayCause, show_why}
 use Rattle.tab_passes.specs.Leaving.{AreLeftBelow, HasOnlyFrozen, IsFreezeOf, IsFreezing, IsLeaving, IsLeftBelow, IsNewFor, IsStill, IsToFreeze, left_then, without_all}
 use Rattle.tab_passes.specs.Sleepers.{docs_below}
-use Rattle.walk_facts.proofs.Order.{walk_once}
 use Rattle.walk_facts.proofs.Placed.{found_nav}
 use Rattle.walk_facts.proofs.Sleepers.{slept}
 use Rattle.walk_facts.specs.Walking.{LeavesOthers}
@@ -57,34 +49,6 @@ use Rattle.walk_rows.proofs.Sinces.{ShowsThen}
 use Rattle.walk_rows.proofs.Sleeping.{IsUnder, no_shower, nobody_awake, place_sleeps, slept_under}
 use Rattle.log_model.specs.declared.job.Task.TheVariants as tasks
 use Rattle.log_model.specs.declared.row_kind.RowKind.TheVariants as rows
-
--- ---- lists without some documents
-
-without_has : (doc : DocId) (docs : List DocId) (x : DocId) → has_doc (without_doc doc docs) x ≡ true → (has_doc docs x ≡ true) × ((doc.0 == x.0) ≡ false)
-without_has doc [] x has = absurd cc
-without_has doc (d ∷ docs) x has = by_test (d.0 == doc.0) refl has (without_has doc docs x)
-  where
-    by_head : (d.0 == doc.0) ≡ false → (c : Bool) → (d.0 == x.0) ≡ c → (c || has_doc (without_doc doc docs) x) ≡ true → (has_doc (without_doc doc docs) x ≡ true → (has_doc docs x ≡ true) × ((doc.0 == x.0) ≡ false)) → ((c || has_doc docs x) ≡ true) × ((doc.0 == x.0) ≡ false)
-    by_head other true same h more = (refl, grind (arith, nat_tests, other, same))
-    by_head other false same h more = more h
-
-    skip : (c : Bool) → has_doc docs x ≡ true → (c || has_doc docs x) ≡ true
-    skip true h = refl
-    skip false h = h
-
-    by_test : (b : Bool) → (d.0 == doc.0) ≡ b → has_doc (let l : List DocId = cond (not b) (d ∷ without_doc doc docs) (without_doc doc docs) in l) x ≡ true → (has_doc (without_doc doc docs) x ≡ true → (has_doc docs x ≡ true) × ((doc.0 == x.0) ≡ false)) → (has_doc (d ∷ docs) x ≡ true) × ((doc.0 == x.0) ≡ false)
-    by_test true is h more = (skip (d.0 == x.0) (more h).0, (more h).1)
-    by_test false is h more = by_head is (d.0 == x.0) refl h more
-
-without_all_has : (docs left : List DocId) (x : DocId) → has_doc (without_all docs left) x ≡ true → (has_doc left x ≡ true) × (has_doc docs x ≡ false)
-without_all_has [] left x has = (has, refl)
-without_all_has (d ∷ docs) left x has =
-    let rest = without_all_has docs (without_doc d left) x has in
-    let own = without_has d left x rest.0 in
-    (own.0, rw own.1 rest.1)
-
-docs_turned : (a b : DocId) → (a.0 == b.0) ≡ false → (b.0 == a.0) ≡ false
-docs_turned a b is = turned a b is
 
 module _ (m : InMoving) (nav : NavId) (doc : DocId) (why : Why) (out : List RowKind) (t : Tables) (leaving : IsLeaving m.pass (Some m.move) [] out t) (to : IsToLeave m t.running (now_of m.pass.event out) nav doc why) (then_out : List RowKind) (u : Tables) (is : then_out ≡ out ++ rows.Sent (order_to (now_of m.pass.event out) doc why tasks.Freeze) ∷ []) (keeps : KeepsStore t u) (then_ : IsLeaving m.pass (Some m.move) (left_then (now_of m.pass.event out) doc []) then_out u) where
   abbrev e : InEvent
@@ -123,35 +87,21 @@ module _ (m : InMoving) (nav : NavId) (doc : DocId) (why : Why) (out : List RowK
 
   -- ---- each document below
 
-  abbrev IsShown : DocId → Type 0
-  IsShown x = ShownBelow s t.running t leaving.work.holds leaving.going.tab.sound leaving.going.tab.hangs nav x
-
   homes : AreHomed frozen
   homes = subst (λ (x : Seen). AreHomed x) (sym now_is) then_.going.tab.homes
 
   distinct_then : AreDistinct frozen.places
   distinct_then = subst (λ (x : Seen). AreDistinct x.places) (sym now_is) (places_distinct (now_of e then_out) then_.going.tab.sound then_.going.tab.hangs)
 
-  module _ (x : DocId) (its : IsShown x) where
-    home : IsAtHome s.documents its.place.nav x
-    home = home_of m nav doc why out t leaving to its.place.nav its.place x its.placed its.wakes
+  module _ (x : DocId) (its : IsShown m nav doc why out t leaving to x) where
+    abbrev its_home_ : IsAtHome s.documents its.place.nav x
+    its_home_ = home m nav doc why out t leaving to x its
 
-    freezes : IsToFreeze e s nav x
-    freezes = to_freeze m nav doc why out t leaving to its.place.nav its.place x (inr its.below) its.placed its.wakes
+    freezes_ : IsToFreeze e s nav x
+    freezes_ = freezes m nav doc why out t leaving to x its
 
-    another : (its.place.nav.0 == nav.0) ≡ false
-    another = differs m nav doc why out t leaving to its.place its.placed its.below
-
-    apart_left : (doc.0 == x.0) ≡ false
-    apart_left =
-        docs_turned x doc
-        (docs_apart m nav doc why out t leaving to x doc home.document (its_home m nav doc why out t leaving to).document home.found (its_home m nav doc why out t leaving to).found
-        (ap (λ (n : NavId). n.0 == (its_home m nav doc why out t leaving to).document.nav.0) home.nav_is ∙ ap (λ (n : NavId). its.place.nav.0 == n.0) (its_home m nav doc why out t leaving to).nav_is ∙ another))
-
-    apart_new : (x.0 == m.move.doc.0) ≡ false
-    apart_new =
-        docs_apart m nav doc why out t leaving to x m.move.doc home.document to.new.document home.found to.new.found
-        (ap (λ (n : NavId). n.0 == to.new.document.nav.0) home.nav_is ∙ ap (λ (n : NavId). its.place.nav.0 == n.0) to.new.nav_is ∙ another)
+    apart_ : (doc.0 == x.0) ≡ false
+    apart_ = apart_left m nav doc why out t leaving to x its
 
     -- nobody is awake on it any more
     never : (n : NavId) (p : Place) → place_of frozen n ≡ Some p → p.status ≡ awake x → ⊥
@@ -165,9 +115,9 @@ module _ (m : InMoving) (nav : NavId) (doc : DocId) (why : Why) (out : List RowK
 
         own : n ≡ its.place.nav
         own =
-            let both : Some then_home.document ≡ Some home.document = sym then_home.found ∙ found_still e s doc why x home.document home.found apart_left in
-            let same : then_home.document ≡ home.document = cc in
-            sym (found_nav frozen.places n p placed) ∙ sym then_home.nav_is ∙ ap (λ (d : Document). d.nav) same ∙ home.nav_is
+            let both : Some then_home.document ≡ Some its_home_.document = sym then_home.found ∙ found_still e s doc why x its_home_.document its_home_.found apart_ in
+            let same : then_home.document ≡ its_home_.document = cc in
+            sym (found_nav frozen.places n p placed) ∙ sym then_home.nav_is ∙ ap (λ (d : Document). d.nav) same ∙ its_home_.nav_is
 
         here : place_of frozen its.place.nav ≡ Some p
         here = ap (place_of frozen) (sym own) ∙ placed
@@ -183,69 +133,26 @@ module _ (m : InMoving) (nav : NavId) (doc : DocId) (why : Why) (out : List RowK
     left_ =
         record {
           its = record {
-            document = freezes.document;
-            found = found_still e s doc why x freezes.document freezes.found apart_left;
-            ready = freezes.ready;
-            alive = freezes.alive;
-            unfrozen = freezes.unfrozen;
-            unhandled = freezes.unhandled;
-            place = freezes.place;
-            was_awake = freezes.was_awake;
-            below = freezes.below;
+            document = freezes_.document;
+            found = found_still e s doc why x freezes_.document freezes_.found apart_;
+            ready = freezes_.ready;
+            alive = freezes_.alive;
+            unfrozen = freezes_.unfrozen;
+            unhandled = freezes_.unhandled;
+            place = freezes_.place;
+            was_awake = freezes_.was_awake;
+            below = freezes_.below;
           };
-          apart = apart_new;
+          apart = apart_new m nav doc why out t leaving to x its;
           nobody = nobody_awake frozen x (no_shower frozen x distinct_then never);
         }
 
   -- ---- all of them
 
-  -- the navigable of a place shows it
-  abbrev shown_at : (p : Place) (x : DocId) → Has s.places p → shows_below nav p ≡ Some x → IsShown x
-  shown_at p x there shows_ =
-      record { place = p; there = there; placed = at_own s t.running t leaving.work.holds leaving.going.tab.sound leaving.going.tab.hangs p there; below = (shows_parts nav p x shows_).0; wakes = (shows_parts nav p x shows_).1 }
-
-  -- two navigables don't show one document
-  one_nav : (x : DocId) (one two : IsShown x) → two.place.nav ≡ one.place.nav
-  one_nav x one two =
-      let first = home x one in
-      let second = home x two in
-      let both : Some first.document ≡ Some second.document = sym first.found ∙ second.found in
-      let same : first.document ≡ second.document = cc in
-      sym second.nav_is ∙ ap (λ (d : Document). d.nav) (sym same) ∙ first.nav_is
-
-  -- one that shows it isn't among others
-  alone : (l : List Place) (p q : Place) → place_in l p.nav ≡ None → Has l q → q.nav ≡ p.nav → ⊥
-  alone l p q gone there navs =
-      let named : (q.nav.0 == p.nav.0) ≡ true = ap (λ (n : NavId). n.0 == p.nav.0) navs ∙ nat_eq_refl p.nav.0 in
-      let found = has_found (λ (r : Place). r.nav.0 == p.nav.0) l q there named in
-      let no_ : None ≡ Some found.0 = sym gone ∙ found.1 in
-      cc
-
-  never_again : (p : Place) (x : DocId) (l : List Place) → (one : IsShown x) → one.place ≡ p → place_in l p.nav ≡ None → ((q : Place) → Has l q → Has s.places q) → (d : DocId) → d ≡ x → (q : Place) → Has l q → shows_below nav q ≡ Some d → ⊥
-  never_again p x l one is gone all d number q there shows_ =
-      alone l p q gone there (one_nav x one (shown_at q x (all q there) (shows_ ∙ ap (λ (y : DocId). Some y) number)) ∙ ap (λ (r : Place). r.nav) is)
-
-  none_again : (p : Place) (x : DocId) (l : List Place) → Has s.places p → shows_below nav p ≡ Some x → place_in l p.nav ≡ None → ((q : Place) → Has l q → Has s.places q) → has_doc (filter_map (shows_below nav) l) x ≡ false
-  none_again p x l there shows_ gone all = by_test (has_doc (filter_map (shows_below nav) l) x) refl
-    where
-      by_test : (b : Bool) → has_doc (filter_map (shows_below nav) l) x ≡ b → has_doc (filter_map (shows_below nav) l) x ≡ false
-      by_test false e_ = e_
-      by_test true e_ =
-          let found = has_docs (filter_map (shows_below nav) l) x e_ in
-          let other = has_filter_map (shows_below nav) l found.it found.there in
-          absurd (never_again p x l (shown_at p x there shows_) refl gone all found.it (doc_same found.it x found.passes) other.it other.there other.is)
-
-  each_below : (l : List Place) → AreDistinct l → ((p : Place) → Has l p → Has s.places p) → AreLeftBelow e frozen m.move nav (filter_map (shows_below nav) l)
-  each_below [] apart all = tt
-  each_below (p ∷ l) apart all = by_shown (shows_below nav p) refl (each_below l apart.1 (λ q there. all q (inr there)))
-    where
-      by_shown : (o : Option DocId) → shows_below nav p ≡ o → AreLeftBelow e frozen m.move nav (filter_map (shows_below nav) l) → AreLeftBelow e frozen m.move nav (filter_map (shows_below nav) (p ∷ l))
-      by_shown None none rest = rw none rest
-      by_shown (Some x) shows_ rest =
-          rw shows_ (left_ x (shown_at p x (all p (inl refl)) shows_), none_again p x l (all p (inl refl)) shows_ apart.0 (λ q there. all q (inr there)), rest)
-
-  walked : (p : Place) → Has (walk_of s.places) p → Has s.places p
-  walked p there = walked_there s t.running t leaving.work.holds leaving.going.tab.sound leaving.going.tab.hangs p there
+  -- in the words of the list
+  left_each : (l : List DocId) → AreEach (IsLeftBelow e frozen m.move nav) l → AreLeftBelow e frozen m.move nav l
+  left_each [] are = tt
+  left_each (x ∷ l) are = (are.0, are.1, left_each l are.2)
 
   pub freezing : (docs : List DocId) → docs ≡ docs_below t.tree nav → IsFreezing (record { pass = m.pass; move = m.move; nav = nav; cause = m.cause }) why (left_then s doc []) docs then_out u
   freezing docs are =
@@ -254,7 +161,7 @@ module _ (m : InMoving) (nav : NavId) (doc : DocId) (why : Why) (out : List RowK
         for_run = to.for_run ∙ ap (λ (o : Option ReqId). show_why o m.cause) (sym keeps.running);
         may = subst (λ (x : Seen). MayCause x why) now_is (served_causes s e freeze why (subst (λ (x : Seen). (req : ReqId) (q : Asked) → request_of x req ≡ Some q → may_go_on x req ≡ true) (sym now_is) (goes_on (now_of e then_out) u.running then_.going.tab.asked)) to.may);
         new = subst (λ (x : Seen). IsNewFor e x m.move nav) now_is (new_still e s doc why m.move nav to.new to.apart);
-        each = subst (λ (x : Seen). AreLeftBelow e x m.move nav docs) now_is (subst (λ (l : List DocId). AreLeftBelow e frozen m.move nav l) (sym (are ∙ below_is s t.running t leaving.work.holds leaving.going.tab.sound leaving.going.tab.hangs nav)) (each_below (walk_of s.places) (walk_once s.places (distinct m nav doc why out t leaving to)) walked));
+        each = subst (λ (x : Seen). AreLeftBelow e x m.move nav docs) now_is (subst (λ (l : List DocId). AreLeftBelow e frozen m.move nav l) (sym are) (left_each (docs_below t.tree nav) (each_below m nav doc why out t leaving to (IsLeftBelow e frozen m.move nav) left_)));
       }
 
   -- under the names of a call
@@ -264,50 +171,6 @@ module _ (m : InMoving) (nav : NavId) (doc : DocId) (why : Why) (out : List RowK
       (subst (λ (l : List DocId). IsFreezing (record { pass = m.pass; move = m.move; nav = nav; cause = m.cause }) why l docs then_out u) (sym is_left) (freezing docs are))
 
   -- ---- what is left then
-
-  -- all that is still to be frozen is among those below
-  left_listed : (x : DocId) → has_doc (left_below s doc) x ≡ true → has_doc (docs_below t.tree nav) x ≡ true
-  left_listed x has =
-      let found = has_docs (left_below s doc) x has in
-      let parts = has_filter (λ (d : DocId). not (d.0 == doc.0)) (shown_by (sleepers_with s doc) s.places) found.it found.there in
-      let one = has_filter_map (λ (p : Place). if has_nav (sleepers_with s doc) p.nav then awake_document p else None) s.places found.it parts.0 in
-      by_parts found.it parts.1 one.it one.there (doc_same found.it x found.passes) (if_parts one.it found.it one.is)
-    where
-      -- it falls asleep, and is awake on the document
-      if_parts : (p : Place) (d : DocId) → (let o : Option DocId = if has_nav (sleepers_with s doc) p.nav then awake_document p else None in o) ≡ Some d → (has_nav (sleepers_with s doc) p.nav ≡ true) × (p.status ≡ awake d)
-      if_parts p d is_ = by_test (has_nav (sleepers_with s doc) p.nav) p.status is_
-        where
-          by_test : (b : Bool) (st : Status) → (let o : Option DocId = cond b (awake_document (record p { status = st })) None in o) ≡ Some d → (b ≡ true) × (st ≡ awake d)
-          by_test true (awake y) h = (refl, let same : y ≡ d = cc in ap (λ (z : DocId). awake z) same)
-          by_test true asleep h = cc
-          by_test true lost h = cc
-          by_test false st h = cc
-
-      by_parts : (d : DocId) → not (d.0 == doc.0) ≡ true → (p : Place) → Has s.places p → d ≡ x → (has_nav (sleepers_with s doc) p.nav ≡ true) × (p.status ≡ awake d) → has_doc (docs_below t.tree nav) x ≡ true
-      by_parts d other p there number parts = by_under (under m nav doc why out t leaving to p.nav parts.0)
-        where
-          placed : place_of s p.nav ≡ Some p
-          placed = at_own s t.running t leaving.work.holds leaving.going.tab.sound leaving.going.tab.hangs p there
-
-          by_under : IsUnder s nav p.nav → has_doc (docs_below t.tree nav) x ≡ true
-          by_under (inl same) =
-              let own : p.nav ≡ nav = nav_is p.nav nav same in
-              let both : Some p ≡ Some to.place = sym placed ∙ ap (place_of s) own ∙ to.placed in
-              let one : p ≡ to.place = cc in
-              let docs_ : awake d ≡ awake doc = sym parts.1 ∙ ap (λ (q : Place). q.status) one ∙ to.wakes in
-              let doc_is : d ≡ doc = cc in
-              let no_ : false ≡ true = sym (ap (λ (z : DocId). not (z.0 == doc.0)) doc_is ∙ ap not (nat_eq_refl doc.0)) ∙ other in
-              absurd cc
-          by_under (inr below) =
-              ap (λ (z : DocId). has_doc (docs_below t.tree nav) z) (sym number) ∙ below_has s t.running t leaving.work.holds leaving.going.tab.sound leaving.going.tab.hangs nav p d there (below p placed) parts.1
-
-  -- so nothing is once they are frozen
-  pub all_left : (docs : List DocId) → docs ≡ docs_below t.tree nav → (x : DocId) → has_doc (without_all docs (left_then s doc [])) x ≡ true → ⊥
-  all_left docs are x has =
-      let parts = without_all_has docs (left_then s doc []) x has in
-      let listed : has_doc docs x ≡ true = ap (λ (l : List DocId). has_doc l x) are ∙ left_listed x (ap (λ (l : List DocId). has_doc l x) (sym (append-nil (left_below s doc))) ∙ parts.0) in
-      let never_ : false ≡ true = sym parts.1 ∙ listed in
-      cc
 
   -- ---- the navigable has left
 
@@ -352,7 +215,7 @@ module _ (m : InMoving) (nav : NavId) (doc : DocId) (why : Why) (out : List RowK
         work = so.work;
         going = so.going;
         owed = so.owed;
-        rests = rest_more (now_of e last_out) (without_all docs left) [] (λ x has. absurd (all_left docs are x (subst (λ (l : List DocId). has_doc (without_all docs l) x ≡ true) is_left has))) so.rests;
+        rests = rest_more (now_of e last_out) (without_all docs left) [] (λ x has. absurd (all_left m nav doc why out t leaving to docs are x (subst (λ (l : List DocId). has_doc (without_all docs l) x ≡ true) is_left has))) so.rests;
       }
 
   pub has_left_as : (docs : List DocId) (last_seen : Seen) → docs ≡ docs_below t.tree nav → IsStill docs (now_of e then_out) last_seen → HasLeft (doc ∷ docs_below t.tree nav) why s last_seen nav

@@ -2,6 +2,7 @@ pub mod Fews
 pub mod Ups
 pub mod Sleeps
 pub mod Leaves
+pub mod Shown
 pub mod Frees
 pub mod Showings
 pub mod Needing

@@ -8,4 +8,4 @@ mod showing;
 
 pub use leaving::freeze_left;
 pub use making::make_target;
-pub use showing::{show_target, show_why};
+pub use showing::{row_there, show_target, show_why};

@@ -30,7 +30,7 @@ pub fn show_why(running: Option<ReqId>, cause: Why) -> Why
 }
 
 /// The row of an entry that has one.
-pub(crate) fn row_there(store: &StepIndex, entry: EntryId) -> &Row
+pub fn row_there(store: &StepIndex, entry: EntryId) -> &Row
     requires { IsSome (row_of entry (history_held store.now).rows) }
     ensures { row_of entry (history_held store.now).rows ≡ Some result.now }
 {

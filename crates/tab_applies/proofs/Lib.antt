@@ -1,0 +1,4 @@
+pub mod Cleared
+pub mod Sees
+pub mod Dues
+pub mod Dones

@@ -1,0 +1,13 @@
+pub mod Loads
+pub mod Endings
+pub mod Sortings
+pub mod Climbs
+pub mod Unsettled
+pub mod Drops
+pub mod Causes
+pub mod Spans
+pub mod Turns
+pub mod Bares
+pub mod Ones
+pub mod Loops
+pub mod ForCallers

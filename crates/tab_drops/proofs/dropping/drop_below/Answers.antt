@@ -1,0 +1,30 @@
+use Rattle.std.proofs.Common.{List, ap, arith, length, ◌∙◌, ◌≤◌}
+use Rattle.std.specs.Prelude.{slice_get}
+use Rattle.tab_drops.proofs.Loops.{below_asks, below_end, below_next, below_only}
+use Rattle.tab_drops.proofs.Spans.{drops_begin}
+use Rattle.tab_drops.proofs.Turns.{loads_own}
+use Rattle.tab_drops.proofs.dropping.drop_below.Goals as goal
+use Rattle.tab_ids.specs.declared.NavId.{NavId}
+
+pub loading-requires : goal.loading-requires
+loading-requires g c = loads_own _ c.args.tables.now.loads c.requires.0.work.loads
+
+pub loop-i-init : goal.loop-i-init
+loop-i-init g c = drops_begin g.p _ _ c.args.tables.now c.args.out.now _ c.requires.0
+
+pub drop_if_below-requires : goal.drop_if_below-requires
+drop_if_below-requires g c =
+    below_asks g.p c.args.out.now c.args.tables.now c.requires.0 c.navs.inside.items.items _ c.navs.view_is c.in_ok-navs.ensures c.loop-i.i c.loop-i.tables c.loop-i.out c.args.nav c.args.by c.loop-i.invariant c.requires.1.0 c.requires.1.1.0 c.requires.1.1.1
+
+pub loop-i-preserved : goal.loop-i-preserved
+loop-i-preserved g c =
+    below_next g.p c.args.out.now c.args.tables.now c.requires.0 c.navs.inside.items.items _ c.navs.view_is c.in_ok-navs.ensures c.loop-i.i c.loop-i.tables c.loop-i.out c.args.nav c.args.by c.loop-i.invariant _ _ _ (ap (λ (l : List NavId). slice_get l c.loop-i.i) c.navs.view_is ∙ c.at.ensures) c.in_ok-drop_if_below.ensures.turn c.in_ok-drop_if_below.ensures.passing c.in_ok-drop_if_below.ensures.kept
+
+pub returns-clause-only : goal.returns-clause-only
+returns-clause-only g c = below_only g.p c.args.out.now c.args.tables.now c.requires.0 c.navs.inside.items.items _ c.navs.view_is c.in_ok-navs.ensures c.loop-i.i c.loop-i.tables c.loop-i.out c.args.nav c.args.by c.loop-i.invariant
+
+pub returns-clause-gone : goal.returns-clause-gone
+returns-clause-gone g c =
+    let long : length c.navs.inside.items.items ≤ c.loop-i.i =
+    (let same = ap (λ (l : List NavId). length l) c.navs.view_is in let ends = c.len-i-end.ensures in let past = c.loop-i-test.false in omega (arith, same, ends, past)) in
+    below_end g.p c.args.out.now c.args.tables.now c.requires.0 c.navs.inside.items.items _ c.navs.view_is c.in_ok-navs.ensures c.loop-i.i c.loop-i.tables c.loop-i.out c.args.nav c.args.by c.loop-i.invariant long

@@ -1,0 +1,4 @@
+pub mod Dropping
+pub mod Turns
+pub mod Listing
+pub mod Ways

@@ -1,0 +1,5 @@
+pub mod Reached
+pub mod Below
+pub mod Orders
+pub mod Turns
+pub mod Rounds

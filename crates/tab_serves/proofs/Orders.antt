@@ -1,0 +1,201 @@
+-- What the orders of a walk keep, one after the other.
+use Rattle.hang_facts.specs.Members.{Has}
+use Rattle.left_facts.proofs.Rows.{were_shown}
+use Rattle.left_facts.specs.Left.{WereShown}
+use Rattle.load_facts.specs.Loading.{look}
+use Rattle.log_model.specs.After.{after}
+use Rattle.log_model.specs.AfterPlaces.{activated, on_place, places_sent, put_to_sleep, sleepers_below, sleepers_with}
+use Rattle.log_model.specs.AfterRequests.{request_served, requests_sent}
+use Rattle.log_model.specs.History.{has_nav}
+use Rattle.log_model.specs.Places.{all_stand, aim_of}
+use Rattle.log_model.specs.Seen.{Asked, Document, Place, Seen, asleep, document_of, place_of}
+use Rattle.log_model.specs.declared.job.Job.{Job}
+use Rattle.log_model.specs.declared.job.Task.{Task}
+use Rattle.log_model.specs.declared.job.Why.{Why}
+use Rattle.log_model.specs.declared.row_kind.RowKind.{RowKind}
+use Rattle.mover_facts.proofs.Places.{any_behind, same_ways, sleep_ways, ways_both, ways_if, ways_mapped}
+use Rattle.mover_facts.proofs.Stays.{KeepWays}
+use Rattle.mover_facts.specs.Movers.{IsMovedBy}
+use Rattle.owed_facts.proofs.Requests.{AsksNone, sent_asks, still_unasked}
+use Rattle.owed_facts.specs.Owed.{AreUnasked}
+use Rattle.seen_laws.proofs.InEvents.{now_more}
+use Rattle.seen_laws.specs.InEvent.{InEvent, now_of, row_of}
+use Rattle.std.proofs.Common.{Bool, List, None, Option, Some, [], ap, append-nil, append_assoc, cond, false, inl, inr, map, refl, subst, sym, true, ◌++◌, ◌==◌, ◌∙◌, ◌∷◌, ◌≡◌}
+use Rattle.std.specs.Option.{option_map_or}
+use Rattle.std.specs.Prelude.{is_some, option_map}
+use Rattle.tab_ids.specs.declared.NavId.{NavId}
+use Rattle.tab_ids.specs.declared.ReqId.{ReqId}
+use Rattle.tab_serves.specs.Serving.{HasOnlyServed, IsOfWalk, IsServeFor, ParentsShown}
+use Rattle.walk_facts.proofs.Aims.{blur, on_served_blur}
+use Rattle.walk_facts.proofs.Sleepers.{becomes, place_becomes, shown_on, sleepers_of, slept, slept_same, shown_same}
+use Rattle.walk_rows.proofs.Moved.{sent_moved}
+use Rattle.walk_rows.proofs.Needs.{sent_stood}
+use Rattle.walk_rows.proofs.Sleeping.{place_sleeps}
+use Rattle.log_model.specs.declared.job.Task.TheVariants as tasks
+use Rattle.log_model.specs.declared.row_kind.RowKind.TheVariants as rows
+
+-- ---- one after the other
+
+-- what each such order keeps
+abbrev pub KeptByEach : (Seen → Type 0) → Type 0
+KeptByEach P = (s : Seen) (e : InEvent) (job : Job) → IsOfWalk job.task → P s → P (after s (row_of e (rows.Sent job)))
+
+over_rows : (P : Seen → Type 0) → KeptByEach P → (run : Option ReqId) (cause : Why) (e : InEvent) (out more : List RowKind) → ((row : RowKind) → Has more row → IsServeFor run cause row) → P (now_of e out) → P (now_of e (out ++ more))
+over_rows P step run cause e out [] each so = subst (λ (l : List RowKind). P (now_of e l)) (sym (append-nil out)) so
+over_rows P step run cause e out (row ∷ more) each so =
+    subst (λ (l : List RowKind). P (now_of e l)) (append_assoc out (row ∷ []) more)
+    (over_rows P step run cause e (out ++ row ∷ []) more (λ other there. each other (inr there)) (subst (λ (x : Seen). P x) (sym (now_more e out row)) one))
+  where
+    its : IsServeFor run cause row
+    its = each row (inl refl)
+
+    one : P (after (now_of e out) (row_of e row))
+    one =
+        subst (λ (k : RowKind). P (after (now_of e out) (row_of e k))) (sym its.is) (step (now_of e out) e its.job its.serves so)
+
+-- all of them keep it
+pub over_served : (P : Seen → Type 0) → KeptByEach P → (run : Option ReqId) (cause : Why) (e : InEvent) (was out : List RowKind) → HasOnlyServed run cause was out → P (now_of e was) → P (now_of e out)
+over_served P step run cause e was out only so =
+    subst (λ (l : List RowKind). P (now_of e l)) (sym only.is) (over_rows P step run cause e was only.more only.each so)
+
+-- ---- one order
+
+asks_none : (task : Task) → IsOfWalk task → AsksNone task
+asks_none (tasks.Activate entry epoch length index memo address) is = tt
+asks_none (tasks.Populate nav state address initial) is = tt
+asks_none tasks.Freeze is = tt
+asks_none tasks.Discard is = tt
+asks_none _ is = absurd is
+
+-- what is read of the requests
+look_blur : (asked : List Asked) → map look asked ≡ map look (map blur asked)
+look_blur [] = refl
+look_blur (q ∷ asked) = ap (λ (l : List _). look q ∷ l) (look_blur asked)
+
+sent_blur : (s : Seen) (job : Job) (task : Task) → IsOfWalk task → map blur (requests_sent s job task s.requests) ≡ map blur s.requests
+sent_blur s job (tasks.Populate nav state address initial) is = refl
+sent_blur s job tasks.Freeze is = on_served_blur job.why (request_served s job tasks.Freeze) s.requests (λ q. refl)
+sent_blur s job tasks.Discard is = on_served_blur job.why (request_served s job tasks.Discard) s.requests (λ q. refl)
+sent_blur s job (tasks.Activate entry epoch length index memo address) is =
+    on_served_blur job.why (request_served s job (tasks.Activate entry epoch length index memo address)) s.requests (λ q. by_document q (document_of s job.doc) refl)
+  where
+    by_document : (q : Asked) (o : Option Document) → document_of s job.doc ≡ o → blur (request_served s job (tasks.Activate entry epoch length index memo address) q) ≡ blur q
+    by_document q None at = rw at refl
+    by_document q (Some d) at = rw at refl
+sent_blur s job _ is = absurd is
+
+sent_looks : (s : Seen) (e : InEvent) (job : Job) → IsOfWalk job.task → map look (after s (row_of e (rows.Sent job))).requests ≡ map look s.requests
+sent_looks s e job is =
+    look_blur (requests_sent s job job.task s.requests) ∙ ap (map look) (sent_blur s job job.task is) ∙ sym (look_blur s.requests)
+
+-- each place hangs as before, and was given what it was
+sent_ways : (s : Seen) (job : Job) (task : Task) → IsOfWalk task → KeepWays s.places (places_sent s job task)
+sent_ways s job (tasks.Activate entry epoch length index memo address) is = by_document (document_of s job.doc)
+  where
+    by_document : (o : Option Document) → KeepWays s.places (option_map_or (λ (d : Document). on_place d.nav (activated job entry epoch d) (put_to_sleep (option_map_or (sleepers_below s job.doc) (place_of s d.nav) []) job.why s.places)) o s.places)
+    by_document None = same_ways s.places
+    by_document (Some d) =
+        let asleep_ : List Place = put_to_sleep (option_map_or (sleepers_below s job.doc) (place_of s d.nav) []) job.why s.places in
+        ways_both s.places asleep_ _ (sleep_ways (option_map_or (sleepers_below s job.doc) (place_of s d.nav) []) job.why s.places)
+        (ways_mapped (λ (p : Place). cond (p.nav.0 == d.nav.0) (activated job entry epoch d p) p) asleep_ (ways_if (λ (p : Place). p.nav.0 == d.nav.0) (activated job entry epoch d) (record { nav = λ p. refl; above = λ p. refl; given = λ p test any. any_behind test entry p.ever_given any })))
+sent_ways s job tasks.Freeze is = sleep_ways (sleepers_with s job.doc) job.why s.places
+sent_ways s job tasks.Discard is = sleep_ways (sleepers_with s job.doc) job.why s.places
+sent_ways s job (tasks.Populate nav state address initial) is = same_ways s.places
+sent_ways s job _ is = absurd is
+
+-- each navigable above another was shown a document, where each place is changed so
+parents_changed : (s t : Seen) (g : Place → Place) → ((nav : NavId) → place_of t nav ≡ option_map g (place_of s nav)) → ((p : Place) → (g p).above ≡ p.above) → ((p : Place) → is_some p.last ≡ true → is_some (g p).last ≡ true) → ParentsShown s → ParentsShown t
+parents_changed s t g changed ways shown are nav above place up placed has there = by_old (place_of s nav) refl (place_of s above) refl
+  where
+    by_old : (o : Option Place) → place_of s nav ≡ o → (u : Option Place) → place_of s above ≡ u → is_some up.last ≡ true
+    by_old None at u up_at =
+        let never : None ≡ Some place = sym (changed nav ∙ ap (option_map g) at) ∙ placed in absurd cc
+    by_old (Some old) at None up_at =
+        let never : None ≡ Some up = sym (changed above ∙ ap (option_map g) up_at) ∙ there in absurd cc
+    by_old (Some old) at (Some old_up) up_at =
+        let both : Some (g old) ≡ Some place = sym (changed nav ∙ ap (option_map g) at) ∙ placed in
+        let same : g old ≡ place = cc in
+        let both_up : Some (g old_up) ≡ Some up = sym (changed above ∙ ap (option_map g) up_at) ∙ there in
+        let same_up : g old_up ≡ up = cc in
+        let had : has_nav old.above above ≡ true = ap (λ (l : List NavId). has_nav l above) (sym (ways old) ∙ ap (λ (p : Place). p.above) same) ∙ has in
+        ap (λ (p : Place). is_some p.last) (sym same_up) ∙ shown old_up (are nav above old old_up at had up_at)
+
+slept_last : (navs : List NavId) (why : Why) (p : Place) → is_some p.last ≡ true → is_some (slept navs why p).last ≡ true
+slept_last navs why p is = by_test (has_nav navs p.nav)
+  where
+    by_test : (b : Bool) → is_some (let q : Place = cond b (record p { status = asleep; why = why }) p in q).last ≡ true
+    by_test true = is
+    by_test false = is
+
+sent_parents : (s : Seen) (e : InEvent) (job : Job) (task : Task) → job.task ≡ task → IsOfWalk task → ParentsShown s → ParentsShown (after s (row_of e (rows.Sent job)))
+sent_parents s e job (tasks.Populate nav state address initial) at is are =
+    parents_changed s (after s (row_of e (rows.Sent job))) (λ p. p) (λ n. rw at (itself (place_of s n))) (λ p. refl) (λ p shown. shown) are
+  where
+    itself : (o : Option Place) → o ≡ option_map (λ p. p) o
+    itself None = refl
+    itself (Some p) = refl
+sent_parents s e job tasks.Freeze at is are =
+    parents_changed s (after s (row_of e (rows.Sent job))) (slept (sleepers_with s job.doc) job.why) (place_sleeps s e.event e.actor job tasks.Freeze at tt) (λ p. (slept_same (sleepers_with s job.doc) job.why p).1) (slept_last (sleepers_with s job.doc) job.why) are
+sent_parents s e job tasks.Discard at is are =
+    parents_changed s (after s (row_of e (rows.Sent job))) (slept (sleepers_with s job.doc) job.why) (place_sleeps s e.event e.actor job tasks.Discard at tt) (λ p. (slept_same (sleepers_with s job.doc) job.why p).1) (slept_last (sleepers_with s job.doc) job.why) are
+sent_parents s e job (tasks.Activate entry epoch length index memo address) at is are = by_document (document_of s job.doc) refl
+  where
+    t : Seen
+    t = after s (row_of e (rows.Sent job))
+
+    by_document : (o : Option Document) → document_of s job.doc ≡ o → ParentsShown t
+    by_document None none =
+        parents_changed s t (λ p. p) (λ n. rw at (rw none (itself (place_of s n)))) (λ p. refl) (λ p shown. shown) are
+      where
+        itself : (o : Option Place) → o ≡ option_map (λ p. p) o
+        itself None = refl
+        itself (Some p) = refl
+    by_document (Some d) found =
+        parents_changed s t (becomes s e.event e.actor job d entry epoch length index memo address at found) (place_becomes s e.event e.actor job d entry epoch length index memo address at found)
+        (λ p. (shown_same d.nav job entry epoch d (slept (sleepers_of s job.doc d.nav) job.why p)).1 ∙ (slept_same (sleepers_of s job.doc d.nav) job.why p).1)
+        (λ p shown. shown_last (slept (sleepers_of s job.doc d.nav) job.why p) (slept_last (sleepers_of s job.doc d.nav) job.why p shown))
+        are
+      where
+        shown_last : (p : Place) → is_some p.last ≡ true → is_some (shown_on d.nav job entry epoch d p).last ≡ true
+        shown_last p is_ = by_test (p.nav.0 == d.nav.0)
+          where
+            by_test : (b : Bool) → is_some (let q : Place = cond b (activated job entry epoch d p) p in q).last ≡ true
+            by_test true = refl
+            by_test false = is_
+sent_parents s e job _ at is are = absurd is
+
+-- ---- all of them
+
+module _ (run : Option ReqId) (cause : Why) (e : InEvent) (was out : List RowKind) (only : HasOnlyServed run cause was out) where
+  abbrev s : Seen
+  s = now_of e was
+
+  abbrev t : Seen
+  t = now_of e out
+
+  pub moved_over : (why : Why) (nav : NavId) → IsMovedBy s why nav → IsMovedBy t why nav
+  moved_over why nav =
+      over_served (λ (x : Seen). IsMovedBy x why nav) (λ x event job is by. sent_moved x event.event event.actor why nav by job (asks_none job.task is)) run cause e was out only
+
+  pub were_over : WereShown s → WereShown t
+  were_over =
+      over_served WereShown (λ x event job is were. were_shown x event.event event.actor were (rows.Sent job) tt) run cause e was out only
+
+  pub looks_over : map look t.requests ≡ map look s.requests
+  looks_over =
+      over_served (λ (x : Seen). map look x.requests ≡ map look s.requests) (λ x event job is same. sent_looks x event job is ∙ same) run cause e was out only refl
+
+  pub ways_over : (places : List Place) → KeepWays places s.places → KeepWays places t.places
+  ways_over places =
+      over_served (λ (x : Seen). KeepWays places x.places) (λ x event job is ways. ways_both places x.places _ ways (sent_ways x job job.task is)) run cause e was out only
+
+  pub parents_over : ParentsShown s → ParentsShown t
+  parents_over = over_served ParentsShown (λ x event job is are. sent_parents x event job job.task refl is are) run cause e was out only
+
+  -- where all stand then, all stood before
+  pub stood_over : AreUnasked s → all_stand t (aim_of t) ≡ true → all_stand s (aim_of s) ≡ true
+  stood_over unasked =
+      (over_served (λ (x : Seen). AreUnasked x × (all_stand x (aim_of x) ≡ true → all_stand s (aim_of s) ≡ true)) (λ x event job is so. (
+        still_unasked x (after x (row_of event (rows.Sent job))) (sent_asks x job job.task x.requests (asks_none job.task is)) so.0,
+        λ all. so.1 (sent_stood x event.event event.actor job so.0 (asks_none job.task is) all),
+      )) run cause e was out only (unasked, λ all. all)).1

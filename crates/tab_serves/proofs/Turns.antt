@@ -1,0 +1,292 @@
+-- A turn of the walk: what it asks of the move, and what goes on after it.
+use Rattle.apply_plan.specs.Needs.{need_of}
+use Rattle.apply_plan.specs.declared.need.Need.{Need}
+use Rattle.hang_facts.proofs.Forms.{nav_is}
+use Rattle.rest_facts.proofs.Stands.{get_of}
+use Rattle.hang_facts.proofs.Members.{find_has}
+use Rattle.log_model.proofs.Refl.{nat_eq_refl}
+use Rattle.log_model.specs.History.{has_nav}
+use Rattle.log_model.specs.Places.{aim_of, is_below, is_shown}
+use Rattle.log_model.specs.Seen.{Place, Seen, place_of}
+use Rattle.log_model.specs.declared.job.Why.{Why}
+use Rattle.log_model.specs.declared.row_kind.RowKind.{RowKind}
+use Rattle.mover_facts.specs.Movers.{IsMovedBy}
+use Rattle.nav_tree.specs.Tree.{document_of}
+use Rattle.owed_facts.specs.Owed.{AreUnasked}
+use Rattle.plan_laws.proofs.NeedLaws.{needs_is}
+use Rattle.seen_laws.specs.InEvent.{InEvent, now_of}
+use Rattle.std.proofs.Common.{Bool, List, None, Option, Some, [], ap, arith, false, inl, inr, not, refl, subst, suc, sym, take, true, zero, ℕ, ◌&&◌, ◌+◌, ◌<◌, ◌==◌, ◌||◌, ◌∙◌, ◌∷◌, ◌≡◌, ◌≤◌}
+use Rattle.std.specs.List.{list_any}
+use Rattle.std.specs.Prelude.{if◌then◌else◌, is_some, option_map, slice_get}
+use Rattle.tab_doors.specs.Working.{KeepsStore}
+use Rattle.tab_doors.specs.declared.tables.Tables.{Tables}
+use Rattle.tab_ids.specs.declared.EntryId.{EntryId}
+use Rattle.tab_ids.specs.declared.NavId.{NavId}
+use Rattle.tab_ids.specs.declared.ReqId.{ReqId}
+use Rattle.tab_moves.proofs.Needing.{IsNeeding, need_here, needs_it}
+use Rattle.tab_moves.specs.Moving.{IsAtOrBelow}
+use Rattle.tab_moves.specs.Showing.{IsTurn, need_in}
+use Rattle.tab_passes.proofs.Stand.{stand_for}
+use Rattle.tab_passes.specs.Causes.{show_why}
+use Rattle.tab_passes.specs.Passing.{IsPassing}
+use Rattle.tab_serves.proofs.Below.{kept_loads, left_loads}
+use Rattle.tab_serves.proofs.Orders.{looks_over, moved_over, parents_over, stood_over, ways_over, were_over}
+use Rattle.tab_serves.proofs.Reached.{loads_stand_still, reached_still}
+use Rattle.tab_serves.specs.Serving.{HasOnlyServed, HasWalked, InWalk, IsWalking, LeavesLog}
+use Rattle.tab_walk.specs.Moving.{MayMoveTo}
+use Rattle.walk_facts.proofs.Leaving.{one_more, walk_stays}
+use Rattle.walk_facts.proofs.Placed.{found_nav}
+use Rattle.walk_facts.specs.Serving.{IsServedAt, is_needing, is_stopping}
+use Rattle.walk_facts.specs.Walking.{IsApart}
+use Rattle.walk_rows.proofs.Leaves.{leaves_none}
+use Rattle.walk_rows.proofs.Needs.{need_not_all_stand}
+use Rattle.walk_rows.proofs.Sinces.{since_more}
+use Rattle.walk_rows.proofs.Walks.{below_moved, later_here, later_kept, later_more}
+use Rattle.walk_rows.specs.Later.{MovesLater}
+use Rattle.walk_rows.specs.Since.{AwakeSince, IsVisitedInNeed, WasAwake}
+use Rattle.apply_plan.specs.declared.need.Need.TheVariants as needs
+
+-- ---- the first ones of a list
+
+-- what is among them is one of them
+pub taken : (n : ℕ) (navs : List NavId) (x : NavId) → has_nav (take n navs) x ≡ true → (k : ℕ) × (k < n) × (slice_get navs k ≡ Some x)
+taken zero navs x has = absurd cc
+taken (suc n) [] x has = absurd cc
+taken (suc n) (nav ∷ navs) x has = by_test (nav.0 == x.0) refl has (taken n navs x)
+  where
+    by_test : (b : Bool) → (nav.0 == x.0) ≡ b → (b || has_nav (take n navs) x) ≡ true → (has_nav (take n navs) x ≡ true → (k : ℕ) × (k < n) × (slice_get navs k ≡ Some x)) → (k : ℕ) × (k < suc n) × (slice_get (nav ∷ navs) k ≡ Some x)
+    by_test true same h rest = (0, omega arith, ap (λ (m : NavId). Some m) (nav_is nav x same))
+    by_test false apart h rest =
+        let more = rest h in let low = more.1 in (suc more.0, omega (arith, low), more.2)
+
+-- the next one is among one more
+own_taken : (n : ℕ) (navs : List NavId) (nav : NavId) → slice_get navs n ≡ Some nav → has_nav (take (suc n) navs) nav ≡ true
+own_taken n [] nav here = absurd cc
+own_taken zero (first ∷ navs) nav here =
+    let same : first ≡ nav = cc in
+    ap (λ (m : NavId). m.0 == nav.0 || has_nav (take zero navs) nav) same ∙ ap (λ (b : Bool). b || has_nav (take zero navs) nav) (nat_eq_refl nav.0)
+own_taken (suc n) (first ∷ navs) nav here = by_test (first.0 == nav.0) (own_taken n navs nav here)
+  where
+    by_test : (b : Bool) → has_nav (take (suc n) navs) nav ≡ true → (b || has_nav (take (suc n) navs) nav) ≡ true
+    by_test true h = refl
+    by_test false h = h
+
+-- and each that was before
+more_taken : (n : ℕ) (navs : List NavId) (x : NavId) → has_nav (take n navs) x ≡ true → has_nav (take (suc n) navs) x ≡ true
+more_taken zero navs x has = absurd cc
+more_taken (suc n) [] x has = absurd cc
+more_taken (suc n) (first ∷ navs) x has = by_test (first.0 == x.0) has (more_taken n navs x)
+  where
+    by_test : (b : Bool) → (b || has_nav (take n navs) x) ≡ true → (has_nav (take n navs) x ≡ true → has_nav (take (suc n) navs) x ≡ true) → (b || has_nav (take (suc n) navs) x) ≡ true
+    by_test true h rest = refl
+    by_test false h rest = rest h
+
+plus_one : (n : ℕ) → n + 1 ≡ suc n
+plus_one n = omega arith
+
+module _ (w : InWalk) (n : ℕ) (out : List RowKind) (t : Tables) (walking : IsWalking w n out t) (nav : NavId) (here : slice_get w.navs n ≡ Some nav) where
+  abbrev e : InEvent
+  e = w.pass.event
+
+  abbrev s : Seen
+  s = now_of e out
+
+  abbrev passing : IsPassing w.pass out t
+  passing = walking.passing
+
+  -- ---- it needs nothing
+
+  idle_served : need_in t nav ≡ None → IsServedAt s nav
+  idle_served none = record { serve = λ p placed shown reached needs_ row at. absurd (never p placed shown reached needs_) }
+    where
+      never : (p : Place) → place_of s nav ≡ Some p → is_shown s.history.rows (aim_of s) p.nav ≡ true → list_any (is_stopping s.history.rows (aim_of s) s.places) p.above ≡ false → is_needing s.history.rows (aim_of s) p ≡ true → ⊥
+      never p placed shown reached needs_ =
+          let index = get_of s.places p (find_has (λ (x : Place). x.nav.0 == nav.0) s.places p placed).0 in
+          let law = needs_is s.history.rows (aim_of s) s.places t.tree (stand_for w.pass out t passing) index.0 p index.1 in
+          let navs : p.nav ≡ nav = found_nav s.places nav p placed in
+          let nothing : is_some (need_of s.history.rows (aim_of s) t.tree p.nav) ≡ false = ap (λ (m : NavId). is_some (need_of s.history.rows (aim_of s) t.tree m)) navs ∙ ap (λ (o : Option Need). is_some o) (sym (need_here w.pass out t passing nav) ∙ none) in
+          let both_ : (is_needing s.history.rows (aim_of s) p && (is_shown s.history.rows (aim_of s) p.nav && not (list_any (is_stopping s.history.rows (aim_of s) s.places) p.above))) ≡ true = rw needs_ (rw shown (rw reached refl)) in
+          let no_ : true ≡ false = sym both_ ∙ sym law ∙ nothing in
+          absurd cc
+
+  pub idle_walking : need_in t nav ≡ None → IsWalking w (n + 1) out t
+  idle_walking none =
+      record {
+        passing = passing;
+        walked = walking.walked;
+        may = walking.may;
+        unwoken = subst (λ (m : ℕ). AwakeSince e.start (take m w.navs) s) (sym (plus_one n)) (since_more e.start s (take n w.navs) walking.unwoken (take (suc n) w.navs) (more_taken n w.navs));
+        moves = later_more s (show_why t.running w.cause) w.navs n walking.moves;
+        header = walking.header;
+        order = walking.order;
+        served = one_more s s passing.going.tab.sound passing.going.tab.hangs w.navs n nav here walking.order (leaves_none s nav) (idle_served none) walking.served;
+      }
+
+  pub idle_left : LeavesLog s s
+  idle_left = record { history = refl; aim = refl; parked = refl; looks = refl; causes = λ why may. may }
+
+  -- ---- it needs something
+
+  -- what it needs is of itself
+  pub move_own : (other : NavId) (entry : EntryId) → need_in t nav ≡ Some (needs.Move other entry) → need_in t nav ≡ Some (needs.Move nav entry)
+  move_own other entry is =
+      let its = needs_it w.pass out t passing nav (needs.Move other entry) is in
+      let own : other ≡ nav = by_there (is_some (document_of its.needing.target.state t.tree)) its.needing.target.entry its.is in
+      is ∙ ap (λ (m : NavId). Some (needs.Move m entry)) own
+    where
+      by_there : (b : Bool) (target : EntryId) → needs.Move other entry ≡ (if b then needs.Move nav target else needs.Populate nav target) → other ≡ nav
+      by_there true target same = cc
+      by_there false target same = absurd cc
+
+  pub make_own : (other : NavId) (entry : EntryId) → need_in t nav ≡ Some (needs.Populate other entry) → need_in t nav ≡ Some (needs.Populate nav entry)
+  make_own other entry is =
+      let its = needs_it w.pass out t passing nav (needs.Populate other entry) is in
+      let own : other ≡ nav = by_there (is_some (document_of its.needing.target.state t.tree)) its.needing.target.entry its.is in
+      is ∙ ap (λ (m : NavId). Some (needs.Populate m entry)) own
+    where
+      by_there : (b : Bool) (target : EntryId) → needs.Populate other entry ≡ (if b then needs.Move nav target else needs.Populate nav target) → other ≡ nav
+      by_there true target same = absurd cc
+      by_there false target same = cc
+
+  module _ (need : Need) (is : need_in t nav ≡ Some need) where
+    needing : IsNeeding w.pass out t passing nav
+    needing = (needs_it w.pass out t passing nav need is).needing
+
+    visited : IsVisitedInNeed s needing.place
+    visited =
+        record {
+          shown = ap (λ (m : NavId). is_shown s.history.rows (aim_of s) m) needing.nav_is ∙ needing.shown;
+          reached = needing.reached;
+          needs = needing.needs;
+        }
+
+    moved_here : 1 ≤ needing.place.epoch.0 → IsMovedBy s (show_why t.running w.cause) nav
+    moved_here =
+        later_here s (show_why t.running w.cause) w.navs n nav needing.place walking.order here walking.moves needing.placed visited
+
+    -- none at or below it was served before
+    not_before : (other : NavId) (place : Place) → IsAtOrBelow nav other place → place_of s other ≡ Some place → has_nav (take n w.navs) other ≡ false
+    not_before other place at_or placed = by_test (has_nav (take n w.navs) other) refl
+      where
+        never : IsApart s nav other → IsAtOrBelow nav other place → ⊥
+        never apart (inl same) = let no_ : true ≡ false = sym same ∙ apart.differs in cc
+        never apart (inr below) = let no_ : true ≡ false = sym below ∙ apart.beside place placed in cc
+
+        by_test : (b : Bool) → has_nav (take n w.navs) other ≡ b → has_nav (take n w.navs) other ≡ false
+        by_test false is_ = is_
+        by_test true is_ =
+            let found = taken n w.navs other is_ in
+            absurd (never (walking.order.apart found.0 n other nav found.1 found.2 here) at_or)
+
+    -- it may be moved
+    pub may_move : (cause : Why) → w.cause ≡ cause → MayMoveTo w.pass t.running t.kept.keep s nav cause
+    may_move cause same =
+        subst (λ (c : Why). MayMoveTo w.pass t.running t.kept.keep s nav c) same (record {
+          may = walking.may;
+          movable = record {
+            since = walking.walked.since;
+            awake_since = λ other place doc at_or placed wakes. walking.unwoken other place doc (not_before other place at_or placed) placed wakes;
+            moved = λ place placed shown. moved_here (let both : Some place ≡ Some needing.place = sym placed ∙ needing.placed in let one : place ≡ needing.place = cc in subst (λ (p : Place). 1 ≤ p.epoch.0) one shown);
+          };
+          were = walking.walked.were;
+          loads = kept_loads t.running w.pass.loads w.pass.hand s passing.going.tab walking.walked.were.owned walking.walked.loads;
+          left_loads = λ place left d placed last found undiscarded. left_loads t.running w.pass.loads w.pass.hand s passing.going.tab walking.walked.were.owned walking.walked.loads nav needing.place needing.placed visited left d (let both : Some place ≡ Some needing.place = sym placed ∙ needing.placed in let one : place ≡ needing.place = cc in ap (λ (p : Place). p.last) (sym one) ∙ last) found undiscarded;
+          header = walking.header;
+        })
+
+    -- ---- after it
+
+    module _ (u : Tables) (new : List RowKind) (then_ : IsPassing w.pass new u) (turn : IsTurn s (now_of e new) nav) (wakes : AwakeSince s (nav ∷ []) (now_of e new)) (only : HasOnlyServed t.running w.cause out new) (kept : KeepsStore t u) where
+      abbrev x : Seen
+      x = now_of e new
+
+      abbrev why : Why
+      why = show_why t.running w.cause
+
+      unasked : AreUnasked s
+      unasked req q at = (passing.going.tab.asked.each req q at).unasked
+
+      unwoken_then : AwakeSince e.start (take (suc n) w.navs) x
+      unwoken_then other place doc out_ placed on =
+          walking.unwoken other was.place doc before was.placed was.wakes
+        where
+          apart : (b : Bool) → (nav.0 == other.0) ≡ b → (nav.0 == other.0) ≡ false
+          apart false is_ = is_
+          apart true is_ =
+              let same : nav ≡ other = nav_is nav other is_ in
+              let among : has_nav (take (suc n) w.navs) other ≡ true = subst (λ (m : NavId). has_nav (take (suc n) w.navs) m ≡ true) same (own_taken n w.navs nav here) in
+              let never : true ≡ false = sym among ∙ out_ in absurd cc
+
+          was : WasAwake s other doc
+          was = wakes other place doc (rw (apart (nav.0 == other.0) refl) refl) placed on
+
+          before : has_nav (take n w.navs) other ≡ false
+          before = by_test (has_nav (take n w.navs) other) refl
+            where
+              by_test : (b : Bool) → has_nav (take n w.navs) other ≡ b → has_nav (take n w.navs) other ≡ false
+              by_test false is_ = is_
+              by_test true is_ =
+                  let never : true ≡ false = sym (more_taken n w.navs other is_) ∙ out_ in absurd cc
+
+      -- one below it hung below it before
+      shown_above : (other : NavId) (place : Place) → place_of x other ≡ Some place → is_below nav place ≡ true → is_some needing.place.last ≡ true
+      shown_above other place placed below = by_old (place_of s other) refl (turn.others.ways other)
+        where
+          by_old : (o : Option Place) → place_of s other ≡ o → option_map (λ (p : Place). p.above) (place_of x other) ≡ option_map (λ (p : Place). p.above) o → is_some needing.place.last ≡ true
+          by_old None at ways =
+              let never : Some place.above ≡ None = sym (ap (λ (o : Option Place). option_map (λ (p : Place). p.above) o) placed) ∙ ways in absurd cc
+          by_old (Some old) at ways =
+              let both : Some place.above ≡ Some old.above = sym (ap (λ (o : Option Place). option_map (λ (p : Place). p.above) o) placed) ∙ ways in
+              let same : place.above ≡ old.above = cc in
+              walking.walked.parents other nav old needing.place at (ap (λ (l : List NavId). has_nav l nav) (sym same) ∙ below) needing.placed
+
+      -- so it was shown a document before
+      raised : is_some needing.place.last ≡ true → 1 ≤ needing.place.epoch.0
+      raised last = by_epoch needing.place.epoch.0 refl
+        where
+          by_epoch : (k : ℕ) → needing.place.epoch.0 ≡ k → 1 ≤ needing.place.epoch.0
+          by_epoch zero is_ =
+              let none : needing.place.last ≡ None = (needing.standing.told.0 is_).last in
+              let never : true ≡ false = sym last ∙ ap is_some none in absurd cc
+          by_epoch (suc k) is_ = omega (arith, is_)
+
+      moved_below : (other : NavId) (place : Place) → place_of x other ≡ Some place → is_below nav place ≡ true → IsVisitedInNeed x place → 1 ≤ place.epoch.0 → IsMovedBy x why other
+      moved_below other place placed below visited_ shown =
+          below_moved x why nav then_.going.tab.sound then_.going.tab.hangs (moved_over t.running w.cause e out new only why nav (moved_here (raised (shown_above other place placed below)))) other place placed below
+
+      walked_then : HasWalked e x
+      walked_then =
+          record {
+            since = record {
+              distinct = walking.walked.since.distinct;
+              homed = walking.walked.since.homed;
+              ways = ways_over t.running w.cause e out new only e.start.places walking.walked.since.ways;
+            };
+            unwoken = λ all. absurd (let never : true ≡ false = sym (stood_over t.running w.cause e out new only unasked all) ∙ need_not_all_stand s nav needing.place needing.placed visited in cc);
+            were = were_over t.running w.cause e out new only walking.walked.were;
+            parents = parents_over t.running w.cause e out new only walking.walked.parents;
+            loads = loads_stand_still s x (looks_over t.running w.cause e out new only) (reached_still s x nav needing.place passing.going.tab.sound passing.going.tab.hangs turn.others needing.placed visited) walking.walked.loads;
+          }
+
+      pub turn_walking : IsWalking w (n + 1) new u
+      turn_walking =
+          record {
+            passing = then_;
+            walked = walked_then;
+            may = turn.causes w.cause walking.may;
+            unwoken = subst (λ (m : ℕ). AwakeSince e.start (take m w.navs) x) (sym (plus_one n)) unwoken_then;
+            moves = subst (λ (r : Option ReqId). MovesLater x (show_why r w.cause) w.navs (n + 1)) (sym kept.running) (later_kept s x why w.navs n nav passing.going.tab.sound passing.going.tab.hangs here turn.others (moved_over t.running w.cause e out new only why) moved_below walking.moves);
+            header = kept.keep ∙ walking.header;
+            order = walk_stays s x w.navs nav turn.others walking.order;
+            served = one_more s x passing.going.tab.sound passing.going.tab.hangs w.navs n nav here walking.order turn.others turn.own walking.served;
+          }
+
+      pub turn_left : LeavesLog s x
+      turn_left =
+          record {
+            history = turn.others.history;
+            aim = turn.others.aim;
+            parked = turn.parked;
+            looks = looks_over t.running w.cause e out new only;
+            causes = turn.causes;
+          }

@@ -1,0 +1,113 @@
+-- What the walk of a coordinator of a tab with loads asks for, and what it leaves.
+-- HTML Standard, "apply the history step"; orders and reasons are this project's own.
+use Rattle.left_facts.specs.Left.{WereShown}
+use Rattle.load_ends.specs.Standing.{LoadsStand}
+use Rattle.load_facts.specs.Loading.{look}
+use Rattle.log_model.specs.History.{has_nav}
+use Rattle.log_model.specs.Places.{aim_of, all_stand}
+use Rattle.log_model.specs.Seen.{Place, Seen, place_of}
+use Rattle.log_model.specs.declared.job.Job.{Job}
+use Rattle.log_model.specs.declared.job.Task.{Task}
+use Rattle.log_model.specs.declared.job.Why.{Why}
+use Rattle.log_model.specs.declared.row_kind.RowKind.{RowKind}
+use Rattle.seen_laws.specs.InEvent.{InEvent, now_of}
+use Rattle.std.specs.Prelude.{List, Option, Some, [], is_some, map, take, true, ℕ, ◌≡◌, ◌⊎◌}
+use Rattle.tab_doors.specs.Working.{KeepsStore}
+use Rattle.tab_doors.specs.declared.tables.Tables.{Tables}
+use Rattle.tab_ids.specs.declared.NavId.{NavId}
+use Rattle.tab_ids.specs.declared.ReqId.{ReqId}
+use Rattle.tab_moves.specs.Moving.{IsSince}
+use Rattle.tab_passes.specs.Causes.{MayCause, show_why}
+use Rattle.tab_passes.specs.Passing.{HasOnly, InPass, IsPassing}
+use Rattle.walk_facts.specs.Walking.{AreServedUpTo, IsWalk}
+use Rattle.walk_rows.specs.Later.{MovesLater}
+use Rattle.walk_rows.specs.Since.{AwakeSince, MovesVisited}
+use Rattle.log_model.specs.declared.job.Task.TheVariants as tasks
+use Rattle.log_model.specs.declared.row_kind.RowKind.TheVariants as rows
+
+-- each navigable above another one was shown a document: that one's document added the other, or one above it
+abbrev pub ParentsShown : Seen → Type 0
+ParentsShown s =
+    (nav above : NavId) (place up : Place) → place_of s nav ≡ Some place → has_nav place.above above ≡ true → place_of s above ≡ Some up → is_some up.last ≡ true
+
+-- ---- what the walk asks for
+
+-- orders may be for the cause; who is awake was so as the event began; who is visited in need was moved by the reason, unless it was never shown a document; ongoing loads stand
+pub record MayWalk (e : InEvent) (run : Option ReqId) (keep : ℕ) (cause : Why) (s : Seen) : Type 0 where
+  pub may : MayCause s cause
+  pub since : IsSince e.start s
+  pub unwoken : AwakeSince e.start [] s
+  pub moves : MovesVisited s (show_why run cause)
+  pub were : WereShown s
+  pub parents : ParentsShown s
+  pub loads : LoadsStand s
+  pub header : keep ≡ e.header.keep
+
+-- ---- what it puts out
+
+-- the order shows a document, has one made, or freezes or discards one
+abbrev pub IsOfWalk : Task → Type 0
+IsOfWalk (tasks.Activate entry epoch length index memo address) = Unit {0}
+IsOfWalk (tasks.Populate nav state address initial) = Unit {0}
+IsOfWalk tasks.Freeze = Unit {0}
+IsOfWalk tasks.Discard = Unit {0}
+IsOfWalk _ = ⊥
+
+-- the row is such an order: for the traversal that runs, where one does, or for the cause
+pub record IsServeFor (run : Option ReqId) (cause : Why) (row : RowKind) : Type 0 where
+  pub job : Job
+  pub is : row ≡ rows.Sent job
+  pub serves : IsOfWalk job.task
+  pub why_is : (job.why ≡ show_why run cause) ⊎ (job.why ≡ cause)
+
+-- nothing but such orders was put out
+abbrev pub HasOnlyServed : Option ReqId → Why → List RowKind → List RowKind → Type 0
+HasOnlyServed run cause was out = HasOnly (IsServeFor run cause) was out
+
+-- ---- what it leaves
+
+-- the history and its aim, what is held back, what is read of the requests, and for what orders may be sent
+pub record LeavesLog (s t : Seen) : Type 0 where
+  pub history : t.history ≡ s.history
+  pub aim : aim_of t ≡ aim_of s
+  pub parked : t.parked ≡ s.parked
+  pub looks : map look t.requests ≡ map look s.requests
+  pub causes : (why : Why) → MayCause s why → MayCause t why
+
+-- what it asked of the log is so still; but where not all stand, some may have been woken
+pub record HasWalked (e : InEvent) (s : Seen) : Type 0 where
+  pub since : IsSince e.start s
+  pub unwoken : all_stand s (aim_of s) ≡ true → AwakeSince e.start [] s
+  pub were : WereShown s
+  pub parents : ParentsShown s
+  pub loads : LoadsStand s
+
+-- ---- one turn after the other
+
+-- a walk over these navigables, for a cause
+pub record InWalk : Type 0 where
+  pub pass : InPass
+  pub cause : Why
+  pub navs : List NavId
+
+abbrev pub walk_by : InPass → Why → List NavId → InWalk
+walk_by p cause navs = record { pass = p; cause = cause; navs = navs }
+
+-- so many of them were served
+pub record IsWalking (w : InWalk) (n : ℕ) (out : List RowKind) (t : Tables) : Type 0 where
+  pub passing : IsPassing w.pass out t
+  pub walked : HasWalked w.pass.event (now_of w.pass.event out)
+  pub may : MayCause (now_of w.pass.event out) w.cause
+  -- of the others, who is awake was so as the event began; and who is visited in need was moved by the reason, unless it was never shown a document
+  pub unwoken : AwakeSince w.pass.event.start (take n w.navs) (now_of w.pass.event out)
+  pub moves : MovesLater (now_of w.pass.event out) (show_why t.running w.cause) w.navs n
+  pub header : t.kept.keep ≡ w.pass.event.header.keep
+  pub order : IsWalk (now_of w.pass.event out) w.navs
+  pub served : AreServedUpTo (now_of w.pass.event out) w.navs n
+
+-- of a walk that began with these tables and rows, so many were served
+pub record IsServing (w : InWalk) (t : Tables) (was : List RowKind) (u : Tables) (out : List RowKind) (n : ℕ) : Type 0 where
+  pub walking : IsWalking w n out u
+  pub left : LeavesLog (now_of w.pass.event was) (now_of w.pass.event out)
+  pub only : HasOnlyServed t.running w.cause was out
+  pub kept : KeepsStore t u

@@ -1,0 +1,12 @@
+pub mod Lists
+pub mod Loads
+pub mod Bares
+pub mod Unders
+pub mod Founds
+pub mod Sends
+pub mod Gones
+pub mod Courses
+pub mod Steps
+pub mod Swepts
+pub mod Listings
+pub mod ForCallers

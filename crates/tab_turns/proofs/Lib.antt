@@ -1,0 +1,5 @@
+pub mod Standings
+pub mod Firsts
+pub mod Turned
+pub mod Ends
+pub mod Begins

@@ -1,0 +1,222 @@
+-- Where none may be kept, the document that is left may be discarded.
+use Rattle.hang_facts.proofs.Hung.{places_distinct}
+use Rattle.hang_facts.proofs.Members.{has_map}
+use Rattle.hang_facts.proofs.Parts.{state_is}
+use Rattle.hang_facts.specs.Members.{Has}
+use Rattle.kept_facts.proofs.States.{AreOfOwnStates, sole_states}
+use Rattle.kept_facts.specs.Keeping.{IsMadeFor, state_in}
+use Rattle.leave_rows.proofs.Leaves.{none_kept}
+use Rattle.leave_rows.specs.Leaving.{IsDiscardOf, IsLeaveDue, IsTooMany}
+use Rattle.load_facts.specs.Loading.{IsLoading, look, look_of}
+use Rattle.load_table.specs.Loads.{ongoing_load}
+use Rattle.load_table.specs.declared.load.Load.{Load}
+use Rattle.load_ties.specs.Tying.{IsLoadTied}
+use Rattle.log_model.proofs.Refl.{nat_eq_refl}
+use Rattle.log_model.specs.AfterPlaces.{sleepers_with}
+use Rattle.log_model.specs.Equal.{has_doc}
+use Rattle.log_model.specs.History.{has_nav}
+use Rattle.log_model.specs.Seen.{Asked, Document, Place, Seen, asleep, awake, desk_of, document_of, place_of}
+use Rattle.log_model.specs.declared.header.Header.{Header}
+use Rattle.log_model.specs.declared.job.Why.{Why}
+use Rattle.log_model.specs.declared.row_kind.RowKind.{RowKind}
+use Rattle.nav_tree.specs.Tree.{document_of as document_at}
+use Rattle.nav_tree.specs.declared.place.Place as live_place
+use Rattle.frame_rows.specs.Discarding.{SettlesNone}
+use Rattle.leave_rows.proofs.Unasked.{all_answered}
+use Rattle.log_model.specs.Places.{all_asked}
+use Rattle.rest_facts.proofs.Stands.{all_requests}
+use Rattle.rest_facts.proofs.Still.{found_itself}
+use Rattle.seen_laws.proofs.InEvents.{led_here}
+use Rattle.seen_laws.proofs.Keyed.{find_has as seen_number}
+use Rattle.seen_laws.specs.InEvent.{InEvent, here_of, now_of, row_of}
+use Rattle.std.proofs.Common.{Bool, List, Option, Some, [], ap, arith, false, filter_map, inl, map, not, refl, subst, sym, true, ℕ, ◌&&◌, ◌||◌, ◌==◌, ◌∙◌, ◌≡◌}
+use Rattle.std.proofs.lemmas.Bool.Decides.{nat_tests}
+use Rattle.std.specs.Prelude.{find, option_map}
+use Rattle.tab_doors.proofs.Sights.{sight_of}
+use Rattle.tab_doors.proofs.Whose.{proc_found}
+use Rattle.tab_doors.proofs.Works.{header_here, numbered}
+use Rattle.tab_doors.specs.Keeping.{Move}
+use Rattle.tab_doors.specs.Look.{Sight, is_live_for, sight}
+use Rattle.tab_doors.specs.Orders.{order_to, proc_at}
+use Rattle.tab_doors.specs.Working.{IsAtWorkFor, MaySend}
+use Rattle.tab_doors.specs.declared.tables.Tables.{Tables}
+use Rattle.tab_evicts.proofs.Quiets.{for_one, one_document}
+use Rattle.tab_ids.specs.declared.DocId.{DocId}
+use Rattle.tab_ids.specs.declared.NavId.{NavId}
+use Rattle.tab_ids.specs.declared.StateId.{StateId}
+use Rattle.tab_moves.proofs.Leaves.{may_leave}
+use Rattle.tab_passes.proofs.Aheads.{left_sends}
+use Rattle.tab_passes.proofs.Goings.{show_causes}
+use Rattle.tab_passes.proofs.Lives.{listed_at}
+use Rattle.tab_passes.specs.Causes.{MayCause}
+use Rattle.tab_passes.specs.Leaving.{IsGoneAt, IsLeaving, MayLeave}
+use Rattle.tab_walk.proofs.Offs.{asleep_off, to_leave}
+use Rattle.tab_walk.specs.Cutting.{MayCut, cut_of}
+use Rattle.tab_walk.specs.Moving.{HasSetOff, InMove, IsBound, MaySetOff, is_up_in}
+use Rattle.walk_facts.proofs.Placed.{found_nav}
+use Rattle.walk_rows.proofs.Sleeping.{no_shower, nobody_awake}
+use Rattle.log_model.specs.declared.job.Task.TheVariants as tasks
+use Rattle.log_model.specs.declared.row_kind.RowKind.TheVariants as rows
+
+neither : (a b : Bool) → a ≡ false → b ≡ false → (a || b) ≡ false
+neither false false e f = refl
+neither true b e f = absurd cc
+neither false true e f = absurd cc
+
+-- such an order may be sent
+cut_ahead : (e : InEvent) (out : List RowKind) (move : Move) (t : Tables) (doc : DocId) (why : Why) (d new : Document) → IsAtWorkFor (Some move) e out t → document_of (now_of e out) move.doc ≡ Some new → IsLeaveDue (now_of e out) (order_to (now_of e out) doc why tasks.Discard) d → (desk_of (now_of e out) (proc_at (now_of e out) doc)).known ≡ 0 → SettlesNone (now_of e out) (row_of e (rows.Sent (order_to (now_of e out) doc why tasks.Discard))) → e.header.keep ≡ 0 → (now_of e out).kept ≡ [] → new.nav ≡ d.nav → (move.doc.0 == d.nr.0) ≡ false → MaySend (Some move) e out (order_to (now_of e out) doc why tasks.Discard)
+unfolding now_of
+cut_ahead e out move t doc why d new work found due known settles none kept same apart =
+    left_sends (here_of e out) e.event e.actor (order_to (here_of e out).now doc why tasks.Discard) move (led_here e out work.own) (numbered (here_of e out).now (proc_at (here_of e out).now doc) doc why tasks.Discard known) new found d due settles
+    (subst (λ (h : Header). IsTooMany h (here_of e out).now d) (sym (header_here e out)) (none_kept e.header (here_of e out).now d none kept))
+    same
+    apart
+
+module _ (m : InMove) (out : List RowKind) (t : Tables) (leaving : IsLeaving m.pass (Some (cut_of m)) [] out t) (why : Why) (may : MayCut m t.running (now_of m.pass.event out) m.nav m.left m.state why) where
+  abbrev s : Seen
+  s = now_of m.pass.event out
+
+  abbrev bound : IsBound m t.running s
+  bound = may.bound
+
+  pub off : MaySetOff m t.running s m.nav m.left why
+  off =
+      record {
+        its = refl;
+        its_left = refl;
+        for_run = may.for_run;
+        bound = may.bound;
+        movable = may.movable;
+        were = may.were;
+        loads = λ gone has. absurd (subst (λ (l : List DocId). Has (filter_map (state_in s.documents) l) gone) may.kept has);
+      }
+
+  made : IsMadeFor s.documents m.nav m.left
+  made = leaving.going.tab.kept.lasts m.nav bound.place m.left bound.placed bound.last
+
+  ready : bound.old.is_ready ≡ true
+  ready = ap (λ (d : Document). d.is_ready) (one_document s m.left bound.old made.d bound.old_found made.found) ∙ made.ready
+
+  pub cut_cause : MayCause s why
+  cut_cause = subst (λ (w : Why). MayCause s w) (sym may.for_run) (show_causes s t.running leaving.going.tab.asked m.cause bound.may)
+
+  -- where the navigable is asleep, nobody is awake on it
+  pub cut_nobody : bound.place.status ≡ asleep → sleepers_with s m.left ≡ []
+  cut_nobody sleeps = nobody_awake s m.left (no_shower s m.left (places_distinct s leaving.going.tab.sound leaving.going.tab.hangs) never)
+    where
+      never : (nav : NavId) (place : Place) → place_of s nav ≡ Some place → place.status ≡ awake m.left → ⊥
+      never nav place placed wakes =
+          let home = (leaving.going.tab.homes.homed nav place m.left placed wakes).home in
+          let same : bound.old ≡ home.document = one_document s m.left bound.old home.document bound.old_found home.found in
+          let navs : m.nav ≡ nav = sym bound.old_nav ∙ ap (λ (d : Document). d.nav) same ∙ home.nav_is ∙ found_nav s.places nav place placed in
+          let both : Some bound.place ≡ Some place = sym bound.placed ∙ ap (λ (n : NavId). place_of s n) navs ∙ placed in
+          let here : bound.place ≡ place = cc in
+          let no_ : asleep ≡ awake m.left = sym sleeps ∙ ap (λ (p : Place). p.status) here ∙ wakes in
+          cc
+
+  pub cut_leaves : MayLeave s m.left why
+  cut_leaves = by_up (is_up_in t.tree m.nav) refl
+    where
+      by_up : (b : Bool) → is_up_in t.tree m.nav ≡ b → MayLeave s m.left why
+      by_up true up =
+          may_leave (record { pass = m.pass; move = cut_of m; cause = m.cause }) m.nav m.left why out t leaving (to_leave m out t leaving m.left why off up)
+      by_up false down =
+          let gone : HasSetOff m t.running s = asleep_off m out t leaving m.left why off down in
+          let nobody : sleepers_with s m.left ≡ [] = cut_nobody (gone.sleeps m.nav bound.place (inl (nat_eq_refl m.nav.0)) bound.placed) in
+          record {
+            document = bound.old;
+            found = bound.old_found;
+            ready = ready;
+            moves = λ other has. absurd (let never : false ≡ true = sym (ap (λ (navs : List NavId). has_nav navs other) nobody) ∙ has in cc);
+            begun = inl nobody;
+          }
+
+  old_nr : bound.old.nr ≡ m.left
+  old_nr = ap (λ (n : ℕ). let x : DocId = record { 0 = n } in x) (seen_number (λ (x : Document). x.nr.0) m.left.0 s.documents bound.old bound.old_found)
+
+  discards : IsDiscardOf s (order_to s m.left why tasks.Discard) bound.old
+  discards =
+      record {
+        task = refl;
+        to = record { found = bound.old_found; proc = sym (proc_found s m.left bound.old bound.old_found); alive = neither bound.old.is_discarded bound.old.is_known_dead bound.undiscarded bound.unknown };
+        unhandled = (leaving.going.tab.docs.each m.left bound.old bound.old_found).live.slot;
+        for_one = for_one s why cut_cause;
+      }
+
+  pub cut_sends : MaySend (Some (cut_of m)) m.pass.event out (order_to s m.left why tasks.Discard)
+  cut_sends =
+      cut_ahead m.pass.event out (cut_of m) t m.left why bound.old bound.new leaving.work bound.new_found
+      (record { discards = discards; place = bound.place; placed = ap (λ (n : NavId). place_of s n) bound.old_nav ∙ bound.placed; last = bound.last ∙ ap (λ (d : DocId). Some d) (sym old_nr) })
+      (leaving.going.tab.asked.died (proc_at s m.left)).0
+      (all_answered s (row_of m.pass.event (rows.Sent (order_to s m.left why tasks.Discard))) (all_requests s.requests (all_asked s) (λ req q at. rw ((leaving.going.tab.asked.each req q at).unasked) refl)))
+      may.none
+      may.kept
+      (bound.new_nav ∙ sym bound.old_nav)
+      apart
+    where
+      apart : (m.doc.0 == bound.old.nr.0) ≡ false
+      apart =
+          let number : bound.old.nr.0 ≡ m.left.0 = ap (λ (d : DocId). d.0) old_nr in
+          let differs = bound.apart in
+          grind (arith, nat_tests, number, differs)
+
+  unloaded : (nav : NavId) (load : Load) → ongoing_load nav t.loads ≡ Some load → (m.state.0 == load.state.0) ≡ false
+  unloaded nav load at = by_test (m.state.0 == load.state.0) refl
+    where
+      tied : IsLoadTied s load
+      tied = leaving.work.loads.there nav load at
+
+      its_look : look_of s load.req ≡ Some (look tied.q)
+      its_look = ap (λ (o : Option Asked). option_map look o) tied.found
+
+      loading : IsLoading s (look tied.q)
+      loading = leaving.going.tab.loading.each load.req (look tied.q) its_look tied.ongoing
+
+      ever : has_doc bound.place.ever_awake m.left ≡ true
+      ever = may.were.lasts m.nav bound.place m.left bound.placed bound.last
+
+      by_test : (c : Bool) → (m.state.0 == load.state.0) ≡ c → (m.state.0 == load.state.0) ≡ false
+      by_test false is = is
+      by_test true is =
+          let states : Some load.state ≡ Some loading.state = sym tied.state ∙ loading.state_is in
+          let one : load.state ≡ loading.state = cc in
+          let number : bound.old.state.0 ≡ loading.state.0 = ap (λ (x : StateId). x.0) (bound.old_state ∙ state_is m.state load.state is ∙ one) in
+          let never : has_doc bound.place.ever_awake m.left ≡ false = loading.unshown m.left bound.old bound.old_found number m.nav bound.place bound.placed in
+          let no_ : true ≡ false = sym ever ∙ never in
+          absurd cc
+
+  pub cut_gone : IsGoneAt s t.tree t.loads m.left m.state
+  cut_gone =
+      record { document = bound.old; found = bound.old_found; its_state = own; ready = ready; its = listed; unloaded = unloaded }
+    where
+      own : (x : Sight) → Has (map sight s.documents) x → (x.nr.0 == m.left.0) ≡ true → x.state ≡ m.state
+      own x there same =
+          let of_ = has_map sight s.documents x there in
+          let first : of_.it.nr.0 ≡ x.nr.0 = ap (λ (y : Sight). y.nr.0) of_.is in
+          let second : x.nr.0 ≡ m.left.0 = grind (arith, nat_tests, same) in
+          let at : document_of s m.left ≡ Some of_.it = subst (λ (n : ℕ). find (λ (y : Document). y.nr.0 == n) s.documents ≡ Some of_.it) (first ∙ second) (found_itself s.documents of_.it leaving.going.tab.whose.numbered of_.there) in
+          let one : of_.it ≡ bound.old = one_document s m.left of_.it bound.old at bound.old_found in
+          ap (λ (y : Sight). y.state) (sym of_.is) ∙ ap (λ (y : Document). y.state) one ∙ bound.old_state
+
+      all_four : (a b c d : Bool) → a ≡ true → b ≡ true → c ≡ false → d ≡ false → (a && b && not c && not d) ≡ true
+      all_four true true false false e f g h = refl
+      all_four false b c d e f g h = absurd cc
+      all_four true false c d e f g h = absurd cc
+      all_four true true true d e f g h = absurd cc
+      all_four true true false true e f g h = absurd cc
+
+      lives : is_live_for m.state (sight bound.old) ≡ true
+      lives =
+          all_four (bound.old.state.0 == m.state.0) bound.old.is_ready bound.old.is_discarded bound.old.is_known_dead (ap (λ (x : StateId). x.0 == m.state.0) bound.old_state ∙ nat_eq_refl m.state.0) ready bound.undiscarded bound.unknown
+
+      listed : option_map (λ (q : live_place.Place). q.doc) (document_at m.state t.tree) ≡ Some m.left
+      listed = listed_at (map sight s.documents) t leaving.work.holds.documents m.left (sight bound.old) (sight_of s m.left bound.old bound.old_found) m.state lives
+
+  pub cut_own : AreOfOwnStates s.documents s.kept m.left m.state
+  cut_own =
+      subst (λ (x : StateId). AreOfOwnStates s.documents s.kept m.left x) bound.old_state
+      (sole_states s m.left bound.old leaving.going.tab.kept (record {
+        found = bound.old_found;
+        only = λ other o there same undiscarded.
+            ap (λ (n : DocId). n.0) (leaving.going.tab.docs.sole other m.left o bound.old there bound.old_found (ap (λ (n : ℕ). let x : StateId = record { 0 = n } in x) same) undiscarded bound.undiscarded);
+      }))

@@ -1,0 +1,207 @@
+-- What the walk finds of a navigable that is to be moved: its target's document, and what it leaves for it.
+use Rattle.hang_facts.proofs.Targets.{IsTarget, target_has}
+use Rattle.kept_facts.specs.Keeping.{IsMadeFor}
+use Rattle.log_model.specs.AfterPlaces.{kept_leaving}
+use Rattle.log_model.specs.History.{row_of}
+use Rattle.log_model.specs.Orders.{is_usable}
+use Rattle.log_model.specs.Places.{aim_of, is_shown}
+use Rattle.log_model.specs.Seen.{Document, Place, Seen, document_of, place_of}
+use Rattle.log_model.specs.declared.job.Why.{Why}
+use Rattle.log_model.specs.declared.row.Row.{Row}
+use Rattle.log_model.specs.declared.row_kind.RowKind.{RowKind}
+use Rattle.nav_tree.specs.Tree.{document_of as document_at}
+use Rattle.nav_tree.specs.declared.place.Place as live_place
+use Rattle.seen_laws.specs.InEvent.{now_of}
+use Rattle.std.proofs.Common.{subst, List, None, Option, Some, ap, map, refl, sym, true, ℕ, ◌∙◌, ◌≡◌, ◌≤◌}
+use Rattle.std.specs.Prelude.{IsSome, if◌then◌else◌, is_some, option_and_then, option_map}
+use Rattle.step_index.specs.Held.{history_held}
+use Rattle.tab_doors.proofs.Sights.{IsSeen, seen_of}
+use Rattle.tab_doors.specs.Look.{Sight, is_live_for, sight}
+use Rattle.tab_doors.specs.Ties.{IsListed}
+use Rattle.tab_doors.specs.declared.tables.Tables.{Tables}
+use Rattle.tab_ids.specs.declared.DocId.{DocId}
+use Rattle.tab_ids.specs.declared.EntryId.{EntryId}
+use Rattle.tab_ids.specs.declared.NavId.{NavId}
+use Rattle.tab_ids.specs.declared.StateId.{StateId}
+use Rattle.tab_moves.proofs.Lasts.{LeavesNothing, left_none, left_some}
+use Rattle.tab_moves.proofs.Needing.{IsNeeding, NeedsIt, needs_it}
+use Rattle.tab_moves.specs.Leaving.{IsLeftFor, left_in}
+use Rattle.tab_moves.specs.Showing.{IsToShow, need_in}
+use Rattle.tab_passes.proofs.Lives.{live_parts}
+use Rattle.tab_passes.specs.Passing.{InPass, IsPassing}
+use Rattle.tab_evicts.specs.Evicting.{NoLoadBelow}
+use Rattle.tab_walk.specs.Cutting.{MayCutFrom}
+use Rattle.tab_walk.specs.Moving.{IsBound, MayMoveFrom, MayMoveTo, in_move}
+use Rattle.walk_rows.specs.Since.{IsVisitedInNeed}
+use Rattle.apply_plan.specs.declared.need.Need.TheVariants as needs
+
+module _ (p : InPass) (out : List RowKind) (t : Tables) (pass : IsPassing p out t) (nav : NavId) (entry : EntryId) (is : need_in t nav ≡ Some (needs.Move nav entry)) where
+  abbrev s : Seen
+  s = now_of p.event out
+
+  -- its target's document is there
+  record IsMovingDue : Type 0 where
+    needing : IsNeeding p out t pass nav
+    entry_is : needing.target.entry ≡ entry
+    there : is_some (document_at needing.target.state t.tree) ≡ true
+
+  due : IsMovingDue
+  due = by_place (document_at its.needing.target.state t.tree) refl its.is
+    where
+      its : NeedsIt p out t pass nav (needs.Move nav entry)
+      its = needs_it p out t pass nav (needs.Move nav entry) is
+
+      by_place : (o : Option live_place.Place) → document_at its.needing.target.state t.tree ≡ o → needs.Move nav entry ≡ (if is_some o then needs.Move nav its.needing.target.entry else needs.Populate nav its.needing.target.entry) → IsMovingDue
+      by_place None at h = absurd cc
+      by_place (Some q) at h =
+          record { needing = its.needing; entry_is = (let r : entry ≡ its.needing.target.entry = cc in sym r); there = ap (λ (o : Option live_place.Place). is_some o) at }
+
+  abbrev target : Row
+  target = due.needing.target
+
+  its_target : IsTarget s.history.rows nav (aim_of s) target
+  its_target = target_has s.history.rows nav (aim_of s) target due.needing.at
+
+  row_found : row_of entry (history_held t.store).rows ≡ Some target
+  row_found = ap (λ (x : EntryId). row_of x (history_held t.store).rows) (sym due.entry_is) ∙ due.needing.row_is
+
+  pub row_there : IsSome (row_of entry (history_held t.store).rows)
+  row_there = ap (λ (o : Option Row). is_some o) row_found
+
+  module _ (row : Row) (at : row_of entry (history_held t.store).rows ≡ Some row) where
+    same : row ≡ target
+    same = let both : Some row ≡ Some target = sym at ∙ row_found in cc
+
+    pub doc_there : IsSome (document_at row.state t.tree)
+    doc_there = ap (λ (r : Row). is_some (document_at r.state t.tree)) same ∙ due.there
+
+    module _ (doc : DocId) (placed : option_map (λ (q : live_place.Place). q.doc) (document_at row.state t.tree) ≡ Some doc) where
+      -- the document, in the log
+      record IsNew : Type 0 where
+        document : Document
+        found : document_of s doc ≡ Some document
+        nav_is : document.nav ≡ nav
+        usable : is_usable document target.state ≡ true
+
+      new : IsNew
+      new = by_listed (option_map (λ (q : live_place.Place). q.doc) (document_at target.state t.tree)) (pass.work.holds.documents.live target.state) (ap (λ (r : Row). option_map (λ (q : live_place.Place). q.doc) (document_at r.state t.tree)) (sym same) ∙ placed)
+        where
+          by_listed : (o : Option DocId) → IsListed (is_live_for target.state) (map sight s.documents) o → o ≡ Some doc → IsNew
+          by_listed None none none_is = absurd cc
+          by_listed (Some x) one doc_is =
+              let named : x ≡ doc = cc in
+              let seen : IsSeen s x one.document = seen_of s x one.document one.found in
+              let usable_ : is_live_for target.state (sight seen.document) ≡ true = ap (λ (y : Sight). is_live_for target.state y) seen.is ∙ one.passes in
+              let parts = live_parts target.state seen.document usable_ in
+              record {
+                document = seen.document;
+                found = ap (λ (d : DocId). document_of s d) (sym named) ∙ seen.found;
+                nav_is = sym (pass.going.tab.whose.whose x seen.document target seen.found its_target.there (sym parts.0)) ∙ its_target.nav_is;
+                usable = usable_;
+              }
+
+      visited : IsVisitedInNeed s due.needing.place
+      visited =
+          record { shown = ap (λ (n : NavId). is_shown s.history.rows (aim_of s) n) due.needing.nav_is ∙ due.needing.shown; reached = due.needing.reached; needs = due.needing.needs }
+
+      -- ---- it leaves one
+
+      bound_from : (keep : ℕ) (cause : Why) → MayMoveTo p t.running keep s nav cause → (left : DocId) (old : StateId) → left_in t nav doc ≡ Some (left, old) → IsBound (in_move p nav cause doc entry left old) t.running s
+      bound_from keep cause may left old leaves =
+          record {
+            place = due.needing.place;
+            placed = due.needing.placed;
+            visited = visited;
+            target = target;
+            at = due.needing.at;
+            entry_is = due.entry_is;
+            last = ap (λ (q : Place). q.last) (sym here) ∙ it.last;
+            apart = it.apart;
+            old = it.document;
+            old_found = it.found;
+            old_nav = old_nav;
+            old_state = it.state_is;
+            undiscarded = it.undiscarded;
+            unknown = it.unknown;
+            new = new.document;
+            new_found = new.found;
+            new_nav = new.nav_is;
+            usable = new.usable;
+            may = may.may;
+            moved = may.movable.moved due.needing.place due.needing.placed;
+          }
+        where
+          it : IsLeftFor s nav doc left old
+          it = left_some p out t pass nav due.needing.place due.needing.placed doc left old leaves
+
+          here : it.place ≡ due.needing.place
+          here = let both : Some it.place ≡ Some due.needing.place = sym it.placed ∙ due.needing.placed in cc
+
+          old_nav : it.document.nav ≡ nav
+          old_nav =
+              let made : IsMadeFor s.documents nav left = pass.going.tab.kept.lasts nav it.place left it.placed it.last in
+              let both : Some made.d ≡ Some it.document = sym made.found ∙ it.found in
+              let one : made.d ≡ it.document = cc in
+              ap (λ (d : Document). d.nav) (sym one) ∙ ap (λ (n : ℕ). let x : NavId = record { 0 = n } in x) made.nav_is
+
+      pub found_from : (run_keep : ℕ) (cause : Why) → MayMoveTo p t.running run_keep s nav cause → 1 ≤ run_keep → (left : DocId) (old : StateId) → left_in t nav doc ≡ Some (left, old) → MayMoveFrom (in_move p nav cause doc entry left old) t.running run_keep s row.state
+      found_from keep cause may some left old leaves =
+          record {
+            bound = bound_from keep cause may left old leaves;
+            is_state = ap (λ (r : Row). r.state) (at_target ∙ sym same);
+            movable = may.movable;
+            were = may.were;
+            loads = may.loads;
+            header = may.header;
+            some = some;
+          }
+        where
+          at_target : (bound_from keep cause may left old leaves).target ≡ target
+          at_target = let both : Some (bound_from keep cause may left old leaves).target ≡ Some target = sym (bound_from keep cause may left old leaves).at ∙ due.needing.at in cc
+
+      -- ---- it leaves none
+
+      pub found_none : (cause : Why) → MayMoveTo p t.running t.kept.keep s nav cause → left_in t nav doc ≡ None → IsToShow None t.running t.kept.keep s nav doc entry cause
+      found_none cause may leaves =
+          record {
+            wanted = record {
+              place = due.needing.place;
+              placed = due.needing.placed;
+              visited = visited;
+              target = target;
+              at = due.needing.at;
+              entry_is = due.entry_is;
+              document = new.document;
+              found = new.found;
+              nav_is = new.nav_is;
+              usable = new.usable;
+            };
+            may = may.may;
+            moved = may.movable.moved due.needing.place due.needing.placed;
+            own = it.own;
+            nobody = it.nobody;
+            leaves =
+                ap (λ (o : Option Document). kept_leaving s doc (option_and_then (λ (d : Document). option_and_then (λ (place : Place). place.last) (place_of s d.nav)) o)) new.found
+                ∙ ap (λ (n : NavId). kept_leaving s doc (option_and_then (λ (place : Place). place.last) (place_of s n))) new.nav_is
+                ∙ ap (λ (o : Option Place). kept_leaving s doc (option_and_then (λ (place : Place). place.last) o)) due.needing.placed
+                ∙ it.kept;
+            few = pass.few;
+          }
+        where
+          it : LeavesNothing p out t pass nav due.needing.place due.needing.placed doc
+          it = left_none p out t pass nav due.needing.place due.needing.placed doc leaves
+
+      -- it leaves one, and none may be kept
+      pub found_cut : (keep : ℕ) (cause : Why) → MayMoveTo p t.running keep s nav cause → keep ≡ 0 → (left : DocId) (old : StateId) → left_in t nav doc ≡ Some (left, old) → MayCutFrom (in_move p nav cause doc entry left old) t.running keep s
+      found_cut keep cause may none left old leaves =
+          record {
+            bound = bound_from keep cause may left old leaves;
+            movable = may.movable;
+            were = may.were;
+            loads = subst (λ (x : StateId). NoLoadBelow s x) it.state_is (may.left_loads it.place left it.document it.placed it.last it.found it.undiscarded);
+            header = may.header;
+            none = none;
+          }
+        where
+          it : IsLeftFor s nav doc left old
+          it = left_some p out t pass nav due.needing.place due.needing.placed doc left old leaves

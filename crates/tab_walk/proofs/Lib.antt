@@ -1,0 +1,15 @@
+pub mod Overs
+pub mod Puts
+pub mod Binds
+pub mod Offs
+pub mod Rooms
+pub mod Froms
+pub mod Finds
+pub mod Cuts
+pub mod Cutoffs
+pub mod Thens
+pub mod Downs
+pub mod Ends
+pub mod Shows
+pub mod Named
+pub mod Readies

@@ -1,0 +1,171 @@
+-- What holds over orders that freeze or discard documents, one after the other.
+use Rattle.hang_facts.specs.Members.{Has}
+use Rattle.left_facts.proofs.Rows.{were_shown}
+use Rattle.left_facts.specs.Left.{WereShown}
+use Rattle.load_facts.proofs.Rows.{look_blind}
+use Rattle.load_facts.specs.Loading.{look, look_of}
+use Rattle.log_model.specs.After.{after}
+use Rattle.log_model.specs.AfterDocuments.{addressed, documents_sent}
+use Rattle.log_model.specs.AfterPlaces.{sleepers_with}
+use Rattle.log_model.specs.Checks.{may_go_on}
+use Rattle.log_model.specs.History.{has_nav}
+use Rattle.log_model.specs.Places.{is_traversal}
+use Rattle.log_model.specs.Seen.{Asked, Document, Place, Seen, asleep, request_of}
+use Rattle.log_model.specs.declared.job.Job.{Job}
+use Rattle.log_model.specs.declared.job.Task.{Task}
+use Rattle.log_model.specs.declared.job.Why.{Why}
+use Rattle.log_model.specs.declared.row_kind.RowKind.{RowKind}
+use Rattle.mover_facts.proofs.Orders.{PutsToSleep}
+use Rattle.mover_facts.specs.Movers.{IsMovedBy}
+use Rattle.owed_facts.proofs.Requests.{AsksNone}
+use Rattle.request_facts.proofs.Readers.{sent_reads}
+use Rattle.seen_laws.proofs.InEvents.{now_more}
+use Rattle.seen_laws.specs.InEvent.{InEvent, now_of, row_of}
+use Rattle.std.proofs.Common.{List, Option, Some, [], ap, append-nil, append_assoc, cond, false, inl, inr, map, refl, subst, sym, true, Bool, None, ◌==◌, ◌++◌, ◌∙◌, ◌∷◌, ◌≡◌}
+use Rattle.std.specs.List.{list_any}
+use Rattle.std.specs.Prelude.{option_map}
+use Rattle.tab_doors.proofs.Sights.{sights_same, unseen_at}
+use Rattle.tab_doors.specs.Look.{sight}
+use Rattle.tab_evicts.specs.Evicting.{HasOnlyDiscarded, NoLoadBelow}
+use Rattle.tab_ids.specs.declared.DocId.{DocId}
+use Rattle.tab_ids.specs.declared.NavId.{NavId}
+use Rattle.tab_ids.specs.declared.ReqId.{ReqId}
+use Rattle.tab_ids.specs.declared.StateId.{StateId}
+use Rattle.tab_moves.proofs.Sleeps.{WasSlept, was_slept}
+use Rattle.tab_passes.proofs.Onlies.{only_as}
+use Rattle.tab_passes.specs.Leaving.{HasOnlyFrozen, IsFreezeOf}
+use Rattle.tab_passes.specs.Causes.{MayCause}
+use Rattle.tab_passes.specs.Passing.{HasOnly}
+use Rattle.walk_facts.proofs.Sleepers.{slept}
+use Rattle.walk_rows.proofs.Moved.{sent_moved}
+use Rattle.log_model.specs.declared.job.Task.TheVariants as tasks
+use Rattle.log_model.specs.declared.row_kind.RowKind.TheVariants as rows
+
+-- the row is an order that freezes or discards a document
+pub record IsQuietRow (row : RowKind) : Type 0 where
+  pub job : Job
+  pub is : row ≡ rows.Sent job
+  pub puts : PutsToSleep job.task
+
+pub frozen_quiet : (why : Why) (docs : List DocId) (was out : List RowKind) → HasOnlyFrozen why docs was out → HasOnly IsQuietRow was out
+frozen_quiet why docs was out only =
+    only_as _ IsQuietRow was out (λ row it. record { job = it.job; is = it.is; puts = subst (λ (k : Task). PutsToSleep k) (sym it.freezes) tt }) only
+
+pub discarded_quiet : (why : Why) (was out : List RowKind) → HasOnlyDiscarded why was out → HasOnly IsQuietRow was out
+discarded_quiet why was out only =
+    only_as _ IsQuietRow was out (λ row it. record { job = it.job; is = it.is; puts = subst (λ (k : Task). PutsToSleep k) (sym it.discards) tt }) only
+
+-- what each keeps is kept over all
+pub over_rows : (P : Seen → Type 0) → ((s : Seen) (event : InEvent) (job : Job) → PutsToSleep job.task → P s → P (after s (row_of event (rows.Sent job)))) → (e : InEvent) (out more : List RowKind) → ((row : RowKind) → Has more row → IsQuietRow row) → P (now_of e out) → P (now_of e (out ++ more))
+over_rows P step e out [] each so = subst (λ (l : List RowKind). P (now_of e l)) (sym (append-nil out)) so
+over_rows P step e out (row ∷ more) each so =
+    subst (λ (l : List RowKind). P (now_of e l)) (append_assoc out (row ∷ []) more)
+    (over_rows P step e (out ++ row ∷ []) more (λ other there. each other (inr there)) (subst (λ (x : Seen). P x) (sym (now_more e out row)) one))
+  where
+    its : IsQuietRow row
+    its = each row (inl refl)
+
+    one : P (after (now_of e out) (row_of e row))
+    one = subst (λ (k : RowKind). P (after (now_of e out) (row_of e k))) (sym its.is) (step (now_of e out) e its.job its.puts so)
+
+pub over_only : (P : Seen → Type 0) → ((s : Seen) (event : InEvent) (job : Job) → PutsToSleep job.task → P s → P (after s (row_of event (rows.Sent job)))) → (e : InEvent) (was out : List RowKind) → HasOnly IsQuietRow was out → P (now_of e was) → P (now_of e out)
+over_only P step e was out only so = subst (λ (l : List RowKind). P (now_of e l)) (sym only.is) (over_rows P step e was only.more only.each so)
+
+-- ---- what they keep
+
+asks_none : (task : Task) → PutsToSleep task → AsksNone task
+asks_none tasks.Freeze is = tt
+asks_none tasks.Discard is = tt
+asks_none _ is = absurd is
+
+module _ (e : InEvent) (was out : List RowKind) (only : HasOnly IsQuietRow was out) where
+  -- whom a reason moved it has still
+  pub moved_over : (why : Why) (nav : NavId) → IsMovedBy (now_of e was) why nav → IsMovedBy (now_of e out) why nav
+  moved_over why nav =
+      over_only (λ (s : Seen). IsMovedBy s why nav) (λ s event job puts by. sent_moved s event.event event.actor why nav by job (asks_none job.task puts)) e was out only
+
+  pub were_over : WereShown (now_of e was) → WereShown (now_of e out)
+  were_over = over_only WereShown (λ s event job puts were. were_shown s event.event event.actor were (rows.Sent job) tt) e was out only
+
+  -- what is read of a request
+  pub looks_over : (req : ReqId) → look_of (now_of e out) req ≡ look_of (now_of e was) req
+  looks_over req =
+      over_only (λ (s : Seen). look_of s req ≡ look_of (now_of e was) req) (λ s event job puts same. sent_reads look look_blind s job job.task s.requests req ∙ same) e was out only refl
+
+  pub parked_over : (now_of e out).parked ≡ (now_of e was).parked
+  parked_over = over_only (λ (s : Seen). s.parked ≡ (now_of e was).parked) (λ s event job puts same. same) e was out only refl
+
+  -- on what a navigable hangs
+  pub loads_over : (gone : StateId) → NoLoadBelow (now_of e was) gone → NoLoadBelow (now_of e out) gone
+  loads_over gone =
+      over_only (λ (s : Seen). NoLoadBelow s gone) each e was out only
+    where
+      owners_same : (navs : List NavId) (why : Why) (old : Place) → (slept navs why old).owners ≡ old.owners
+      owners_same navs why old = by_test (has_nav navs old.nav)
+        where
+          by_test : (b : Bool) → (let p : Place = cond b (record old { status = asleep; why = why }) old in p.owners) ≡ old.owners
+          by_test true = refl
+          by_test false = refl
+
+      each : (s : Seen) (event : InEvent) (job : Job) → PutsToSleep job.task → NoLoadBelow s gone → NoLoadBelow (after s (row_of event (rows.Sent job))) gone
+      each s event job puts none req l nav place at ongoing own placed =
+          let was : WasSlept s job nav place = was_slept event s job job.task refl puts nav place placed in
+          let owners : place.owners ≡ was.old.owners = ap (λ (p : Place). p.owners) (sym was.is) ∙ owners_same (sleepers_with s job.doc) job.why was.old in
+          ap (λ (l_ : List StateId). list_any (λ (owner : StateId). owner.0 == gone.0) l_) owners
+          ∙ none req l nav was.old (sym (sent_reads look look_blind s job job.task s.requests req) ∙ at) ongoing own was.found
+
+  -- what an order may be for, where each request that is there may go on
+  pub causes_over : ((req : ReqId) (q : Asked) → request_of (now_of e out) req ≡ Some q → may_go_on (now_of e out) req ≡ true) → (cause : Why) → MayCause (now_of e was) cause → MayCause (now_of e out) cause
+  causes_over each cause may req is =
+      record {
+        goes = by_there (request_of (now_of e out) req) refl (request_of (now_of e was) req) refl same (may req is).goes;
+        begun = λ q there traverses. by_was q there traverses (request_of (now_of e was) req) refl (sym (ap (λ (o : Option Asked). option_map began_and o) there) ∙ same);
+      }
+    where
+      -- whether it has begun, and whether it is a traversal
+      began_and : Asked → Bool × Bool
+      began_and q = (q.is_started, is_traversal q.what)
+
+      same : option_map began_and (request_of (now_of e out) req) ≡ option_map began_and (request_of (now_of e was) req)
+      same =
+          over_only (λ (s : Seen). option_map began_and (request_of s req) ≡ option_map began_and (request_of (now_of e was) req))
+          (λ s event job puts so. sent_reads began_and (record { moves = λ q activated moved. refl; asks = λ q asks. refl; fragments = λ q doc. refl; misses = λ q is. refl }) s job job.task s.requests req ∙ so) e was out only refl
+
+      by_there : (o : Option Asked) → request_of (now_of e out) req ≡ o → (old : Option Asked) → request_of (now_of e was) req ≡ old → option_map began_and (request_of (now_of e out) req) ≡ option_map began_and (request_of (now_of e was) req) → may_go_on (now_of e was) req ≡ true → may_go_on (now_of e out) req ≡ true
+      by_there (Some q) there old is_was same_ goes = each req q there
+      by_there None there None is_was same_ goes = let never : may_go_on (now_of e was) req ≡ false = rw is_was refl in absurd cc
+      by_there None there (Some q) is_was same_ goes =
+          let one : option_map began_and None ≡ Some (began_and q) = sym (ap (λ (o : Option Asked). option_map began_and o) there) ∙ same_ ∙ ap (λ (o : Option Asked). option_map began_and o) is_was in
+          absurd cc
+
+      by_was : (q : Asked) → request_of (now_of e out) req ≡ Some q → is_traversal q.what ≡ true → (o : Option Asked) → request_of (now_of e was) req ≡ o → Some (began_and q) ≡ option_map began_and (request_of (now_of e was) req) → q.is_started ≡ true
+      by_was q there traverses None at same_ =
+          let one : Some (began_and q) ≡ None = same_ ∙ ap (λ (o : Option Asked). option_map began_and o) at in
+          absurd cc
+      by_was q there traverses (Some x) at same_ =
+          let one : Some (began_and q) ≡ Some (began_and x) = same_ ∙ ap (λ (o : Option Asked). option_map began_and o) at in
+          let pair : began_and q ≡ began_and x = cc in
+          let started : q.is_started ≡ x.is_started = ap (λ (y : Bool × Bool). y.0) pair in
+          let kind : is_traversal q.what ≡ is_traversal x.what = ap (λ (y : Bool × Bool). y.1) pair in
+          started ∙ (may req is).begun x at (sym kind ∙ traverses)
+
+-- what is seen of documents stays over those that freeze
+pub sights_over : (why : Why) (docs : List DocId) (e : InEvent) (was out : List RowKind) → HasOnlyFrozen why docs was out → map sight (now_of e out).documents ≡ map sight (now_of e was).documents
+sights_over why docs e was out only = subst (λ (l : List RowKind). map sight (now_of e l).documents ≡ map sight (now_of e was).documents) (sym only.is) (over only.more was only.each refl)
+  where
+    over : (more : List RowKind) (mid : List RowKind) → ((row : RowKind) → Has more row → IsFreezeOf why docs row) → map sight (now_of e mid).documents ≡ map sight (now_of e was).documents → map sight (now_of e (mid ++ more)).documents ≡ map sight (now_of e was).documents
+    over [] mid each so = subst (λ (l : List RowKind). map sight (now_of e l).documents ≡ map sight (now_of e was).documents) (sym (append-nil mid)) so
+    over (row ∷ more) mid each so =
+        subst (λ (l : List RowKind). map sight (now_of e l).documents ≡ map sight (now_of e was).documents) (append_assoc mid (row ∷ []) more)
+        (over more (mid ++ row ∷ []) (λ other there. each other (inr there)) (subst (λ (x : Seen). map sight x.documents ≡ map sight (now_of e was).documents) (sym (now_more e mid row)) one))
+      where
+        its : IsFreezeOf why docs row
+        its = each row (inl refl)
+
+        frozen : map sight (after (now_of e mid) (row_of e (rows.Sent its.job))).documents ≡ map sight (now_of e mid).documents
+        frozen =
+            ap (λ (k : Task). map sight (documents_sent (now_of e mid) its.job k)) its.freezes
+            ∙ sights_same (λ (d : Document). cond (d.nr.0 == its.job.doc.0) (addressed tasks.Freeze d) d) (unseen_at its.job.doc (addressed tasks.Freeze) (λ d. refl)) (now_of e mid).documents
+
+        one : map sight (after (now_of e mid) (row_of e row)).documents ≡ map sight (now_of e was).documents
+        one = subst (λ (k : RowKind). map sight (after (now_of e mid) (row_of e k)).documents ≡ map sight (now_of e was).documents) (sym its.is) (frozen ∙ so)

@@ -1,0 +1,29 @@
+use Rattle.std.proofs.Common.{Option, ap, refl, sym}
+use Rattle.tab_ids.specs.declared.ReqId.{ReqId}
+use Rattle.tab_passes.specs.Causes.{show_why}
+use Rattle.tab_walk.proofs.Froms.{part_named, part_turn}
+use Rattle.tab_walk.proofs.Puts.{moved_for, woken_as}
+use Rattle.tab_walk.proofs.Readies.{cut_begun, cut_new, cut_ready}
+use Rattle.tab_walk.proofs.moving.cut_from.Goals as goal
+use Rattle.tab_walk.specs.Moving.{InMove}
+
+pub cut_left-requires : goal.cut_left-requires
+cut_left-requires g c = (
+  cut_begun g.m c.args.out.now c.args.tables.now c.requires.1.0 c.args.nav c.args.cause c.args.doc c.args.entry c.args.left c.args.old c.requires.0 c.requires.1.1,
+  (
+    cut_ready g.m c.args.out.now c.args.tables.now c.requires.1.0 c.args.nav c.args.cause c.args.doc c.args.entry c.args.left c.args.old c.requires.0 c.requires.1.1 _ c.show_why-why.ensures,
+    (refl, cut_new g.m c.args.out.now c.args.tables.now c.requires.1.0 c.args.nav c.args.cause c.args.doc c.args.entry c.args.left c.args.old c.requires.0 c.requires.1.1),
+  ),
+)
+
+pub returns-clause-turn : goal.returns-clause-turn
+returns-clause-turn g c =
+    part_turn _ _ _ c.args.nav (part_named _ _ (sym (ap (λ (x : InMove). x.nav) c.requires.0)) _ _ c.in_ok-cut_left.ensures.part) c.in_ok-show_target.ensures.turn
+
+pub returns-clause-only : goal.returns-clause-only
+returns-clause-only g c =
+    moved_for _ _ _ _ _ _ _ _ _ _ _ c.show_why-why.ensures (ap (λ (r : Option ReqId). show_why r c.args.cause) c.in_ok-cut_left.ensures.kept.running) c.in_ok-cut_left.ensures.left c.in_ok-show_target.ensures.shown
+
+pub returns-clause-wakes : goal.returns-clause-wakes
+returns-clause-wakes g c =
+    woken_as g.m c.args.nav c.args.doc c.args.entry (ap (λ (x : InMove). x.nav) c.requires.0) (ap (λ (x : InMove). x.doc) c.requires.0) (ap (λ (x : InMove). x.entry) c.requires.0) g.m.pass.event _ _ _ _ _ _ _ _ _ c.in_ok-cut_left.ensures.left c.in_ok-cut_left.ensures.shows c.in_ok-show_target.ensures.shown

@@ -1,0 +1,41 @@
+use Rattle.kept_facts.specs.Keeping.{kept_states}
+use Rattle.page_cache.specs.Kept.{left_first}
+use Rattle.seen_laws.specs.InEvent.{now_of}
+use Rattle.std.proofs.Common.{List, Option, ap, drop, sym, ◌∙◌}
+use Rattle.tab_ids.specs.declared.ReqId.{ReqId}
+use Rattle.tab_ids.specs.declared.StateId.{StateId}
+use Rattle.tab_passes.specs.Causes.{show_why}
+use Rattle.tab_walk.proofs.Froms.{part_named, part_turn, room_ready}
+use Rattle.tab_walk.proofs.Offs.{part_then}
+use Rattle.tab_walk.proofs.Puts.{left_then_left, moved_for, woken_as}
+use Rattle.tab_walk.proofs.moving.move_from.Goals as goal
+use Rattle.tab_walk.specs.Moving.{InMove}
+
+pub make_room-requires : goal.make_room-requires
+make_room-requires g c = (
+  c.in_ok-set_off.ensures.leaving,
+  room_ready g.m c.args.tables.now.running _ c.args.tables.now.kept.keep _ (now_of g.m.pass.event c.args.out.now) _ c.args.state _ _ c.args.cause c.args.nav _ c.requires.1.1 c.in_ok-set_off.ensures.off
+      (ap (λ (x : InMove). x.nav) c.requires.0)
+      c.in_ok-set_off.ensures.part
+      c.in_ok-set_off.ensures.states
+      (c.in_ok-set_off.ensures.kept.keep ∙ c.in_ok-gone.ensures.kept.keep)
+      c.show_why-why.ensures
+      c.in_ok-set_off.ensures.kept.running
+      (ap (λ (x : InMove). x.cause) c.requires.0)
+      (c.in_ok-gone.ensures.gone ∙ ap (λ (l : List StateId). drop c.args.tables.now.kept.keep (left_first c.args.old l)) c.requires.1.0.work.kept ∙ ap (λ (x : InMove). drop c.args.tables.now.kept.keep (left_first x.state (kept_states (now_of g.m.pass.event c.args.out.now)))) c.requires.0),
+)
+
+pub returns-clause-turn : goal.returns-clause-turn
+returns-clause-turn g c =
+    part_turn _ _ _ c.args.nav
+    (part_then _ _ _ c.args.nav c.in_ok-set_off.ensures.part (part_named _ _ (sym (ap (λ (x : InMove). x.nav) c.requires.0)) _ _ c.in_ok-make_room.ensures.part))
+    c.in_ok-show_target.ensures.turn
+
+pub returns-clause-only : goal.returns-clause-only
+returns-clause-only g c =
+    moved_for _ _ _ _ _ _ _ _ _ _ _ (c.show_why-why.ensures ∙ ap (λ (r : Option ReqId). show_why r c.args.cause) c.in_ok-gone.ensures.kept.running) (ap (λ (r : Option ReqId). show_why r c.args.cause) (c.in_ok-make_room.ensures.kept.running ∙ c.in_ok-set_off.ensures.kept.running ∙ c.in_ok-gone.ensures.kept.running))
+    (left_then_left _ _ _ _ c.in_ok-set_off.ensures.left c.in_ok-make_room.ensures.left) c.in_ok-show_target.ensures.shown
+
+pub returns-clause-wakes : goal.returns-clause-wakes
+returns-clause-wakes g c =
+    woken_as g.m c.args.nav c.args.doc c.args.entry (ap (λ (x : InMove). x.nav) c.requires.0) (ap (λ (x : InMove). x.doc) c.requires.0) (ap (λ (x : InMove). x.entry) c.requires.0) g.m.pass.event _ _ _ _ _ _ _ _ _ (left_then_left _ _ _ _ c.in_ok-set_off.ensures.left c.in_ok-make_room.ensures.left) c.in_ok-make_room.ensures.shows c.in_ok-show_target.ensures.shown
