@@ -56,7 +56,7 @@ use Rattle.std.proofs.Common.{if◌then◌else◌, inl, inr, map, ◌<◌, ◌^�
 use Rattle.std.specs.List.{list_all, list_any}
 use Rattle.std.specs.Prelude.{is_none, nat_lt, option_and_then, option_map}
 use Rattle.std.proofs.lemmas.Bool.Decides.{nat_tests}
-use Rattle.tab_applies.proofs.Cleared.{shown_left}
+use Rattle.shown_ways.proofs.Cleared.{shown_left}
 use Rattle.tab_applies.proofs.Sees.{sees}
 use Rattle.tab_doors.proofs.Sights.{seen_of}
 use Rattle.tab_doors.specs.Dues.{SeesRows}

@@ -1,4 +1,3 @@
-pub mod Cleared
 pub mod Sees
 pub mod Dues
 pub mod Dones

@@ -79,7 +79,7 @@ module _ (p : InPass) (out : List RowKind) (t : Tables) (pass : IsPassing p out 
       let room : length s.requests + 2 < 4294967296 = pass.going.room in
       omega (arith, step, few, room)
 
-  bare_is : (nav : NavId) → has_none (history_held t.store).rows nav ≡ not (has_row nav s.history.rows)
+  pub bare_is : (nav : NavId) → has_none (history_held t.store).rows nav ≡ not (has_row nav s.history.rows)
   bare_is nav = ap not (held_begins t.store s.history pass.work.holds.history nav ∙ sym (row_any s.history.rows nav low_steps))
 
   -- ---- what the tables tell

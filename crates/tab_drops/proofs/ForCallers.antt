@@ -1,4 +1,4 @@
--- What callers can give: that no ongoing load was held back as the event began, and that each has a place where all stand.
+-- What callers can give: that no ongoing load was held back as the event began, that the navigable of each has a place, and that it stands, has no entry or is in need where all stand.
 use Rattle.load_ends.specs.Standing.{LoadsStand, is_reached}
 use Rattle.coord_facts.proofs.Unread.{next}
 use Rattle.log_model.specs.After.{changed, has_stood_after, has_stood_now, is_new_step}
@@ -11,23 +11,26 @@ use Rattle.request_facts.proofs.LookUps.{on_itself}
 use Rattle.walk_rows.proofs.Needs.{need_not_all_stand}
 use Rattle.walk_rows.specs.Since.{IsVisitedInNeed}
 use Rattle.log_model.specs.Equal.{holds}
-use Rattle.log_model.specs.Places.{aim_of, all_stand, is_below_known_lost, is_load, is_ongoing_load, is_placed, is_reload, way_to}
+use Rattle.log_model.specs.Places.{aim_of, all_stand, is_load, is_ongoing_load, is_reload}
 use Rattle.log_model.specs.Points.{nav_of_request}
 use Rattle.log_model.specs.Seen.{Asked, Place, Seen, place_of, request_of}
 use Rattle.hang_facts.specs.Members.{Has}
 use Rattle.rest_facts.proofs.Stands.{request_has}
 use Rattle.seen_laws.specs.InEvent.{now_of}
-use Rattle.std.proofs.Common.{Bool, List, None, Option, Some, [], ap, false, inl, inr, not, refl, sym, true, ◌||◌, ◌∙◌, ◌∷◌, ◌≡◌, ℕ}
+use Rattle.std.proofs.Common.{Bool, List, Option, Some, [], ap, false, inl, inr, not, refl, sym, true, ◌||◌, ◌∙◌, ◌∷◌, ◌≡◌, ◌⊎◌, ℕ}
 use Rattle.std.proofs.lemmas.Bool.{and_parts, or_right}
 use Rattle.std.specs.List.{list_all}
 use Rattle.std.specs.Prelude.{option_map}
 use Rattle.tab_doors.specs.declared.tables.Tables.{Tables}
 use Rattle.tab_drops.proofs.Drops.{unheld}
-use Rattle.tab_drops.proofs.Loads.{IsAskedFor, asked_for}
-use Rattle.tab_drops.specs.Dropping.{ArePlaced, AreUnheld, IsLoadApplied}
+use Rattle.tab_drops.proofs.Loads.{IsAskedFor, IsNavLoad, asked_for, nav_load}
+use Rattle.tab_drops.specs.Dropping.{ArePlaced, AreUnheld, IsBare, IsLoadApplied, IsLoadOf, IsUnsettled, StandOrBare, StandOrMove}
 use Rattle.tab_ids.specs.declared.NavId.{NavId}
 use Rattle.tab_ids.specs.declared.ReqId.{ReqId}
 use Rattle.tab_passes.specs.Passing.{InPass, IsPassing}
+use Rattle.tab_whole.specs.Tab.{IsTab}
+use Rattle.doc_facts.specs.Docs.{HasPlace}
+use Rattle.log_model.specs.declared.made.Made.{Made}
 use Rattle.log_model.specs.declared.outcome.Ending.TheVariants as endings
 use Rattle.log_model.specs.declared.row_kind.RowKind.TheVariants as rows
 pub use Rattle.tab_drops.proofs.Spans.{unheld_on}
@@ -43,23 +46,39 @@ all_has test [] x all there = absurd there
 all_has test (y ∷ xs) x all (inl same) = ap test (sym same) ∙ (and_parts (test y) (list_all test xs) all).0
 all_has test (y ∷ xs) x all (inr more) = all_has test xs x (and_parts (test y) (list_all test xs) all).1 more
 
--- where the navigable of each ongoing load stands, it has a place
-pub stand_placed : (s : Seen) → LoadsStand s → ArePlaced s
-stand_placed s stand req nav load = by_place (place_of s nav) refl (and_parts (list_all (is_placed s (aim_of s)) (way_to s nav)) (holds (λ (place : Place). not (is_below_known_lost s place)) (place_of s nav)) reached).1
+-- where all ongoing loads stand, the navigable of each does, with all above it
+pub stand_reached : (s : Seen) → LoadsStand s → (req : ReqId) (nav : NavId) → IsLoadOf s req nav → is_reached s nav ≡ true
+stand_reached s stand req nav load = sym value ∙ one
   where
     its : IsAskedFor s req nav
     its = asked_for s req nav load
 
-    reached : is_reached s nav ≡ true
-    reached =
-        let one = all_has (λ (q : Asked). not (is_ongoing_load q) || holds (λ (n : NavId). is_reached s n) (nav_of_request q.what)) s.requests its.q stand (request_has s.requests req its.q its.at) in
-        let value : (not (is_ongoing_load its.q) || holds (λ (n : NavId). is_reached s n) (nav_of_request its.q.what)) ≡ is_reached s nav =
-        ap (λ (b : Bool). not b || holds (λ (n : NavId). is_reached s n) (nav_of_request its.q.what)) its.ongoing ∙ ap (λ (w : Request). holds (λ (n : NavId). is_reached s n) (nav_of_request w)) its.what in
-        sym value ∙ one
+    one : (not (is_ongoing_load its.q) || holds (λ (n : NavId). is_reached s n) (nav_of_request its.q.what)) ≡ true
+    one =
+        all_has (λ (q : Asked). not (is_ongoing_load q) || holds (λ (n : NavId). is_reached s n) (nav_of_request q.what)) s.requests its.q stand (request_has s.requests req its.q its.at)
 
-    by_place : (o : Option Place) → place_of s nav ≡ o → holds (λ (place : Place). not (is_below_known_lost s place)) o ≡ true → (place : Place) × (place_of s nav ≡ Some place)
-    by_place None at h = absurd cc
-    by_place (Some place) at h = (place, at)
+    value : (not (is_ongoing_load its.q) || holds (λ (n : NavId). is_reached s n) (nav_of_request its.q.what)) ≡ is_reached s nav
+    value =
+        ap (λ (b : Bool). not b || holds (λ (n : NavId). is_reached s n) (nav_of_request its.q.what)) its.ongoing
+        ∙ ap (λ (w : Request). holds (λ (n : NavId). is_reached s n) (nav_of_request w)) its.what
+
+-- so each stands, or has no entry, or is in need
+pub stand_bare : (s : Seen) → LoadsStand s → StandOrBare s
+stand_bare s stand req nav load = inl (stand_reached s stand req nav load)
+
+pub bare_move : (s : Seen) → StandOrBare s → StandOrMove s
+bare_move s stand req nav load = by_case (stand req nav load)
+  where
+    by_case : (is_reached s nav ≡ true) ⊎ IsBare s nav → (is_reached s nav ≡ true) ⊎ (IsUnsettled s nav ⊎ IsBare s nav)
+    by_case (inl reached) = inl reached
+    by_case (inr bare) = inr (inr bare)
+
+-- the navigable of each ongoing load has a place
+pub tab_placed : (run : Option ReqId) (loads : List ReqId) (hand : List Made) (s : Seen) → IsTab run loads hand s → ArePlaced s
+tab_placed run loads hand s tab req nav load =
+    let its : IsNavLoad nav load.look.what = nav_load nav load.look.what load.loads_it in
+    let place : HasPlace s.places nav = tab.shown.placed req load.look nav its.mode its.address load.at load.ongoing its.is in
+    (place.place, place.found)
 
 -- ---- right after a load was applied
 

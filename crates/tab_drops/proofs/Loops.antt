@@ -7,9 +7,9 @@ use Rattle.std.specs.Prelude.{slice_get}
 use Rattle.tab_doors.specs.Working.{KeepsStore}
 use Rattle.tab_doors.specs.declared.tables.Tables.{Tables}
 use Rattle.tab_drops.proofs.Spans.{drops_end, drops_next, drops_only, unheld_on}
-use Rattle.tab_drops.proofs.Turns.{applied_on, bare_back, bare_on, below_back, below_drop_back, below_on, destroyed_back, entries_then, moved_drop_back, placed_on, stand_then, unsettled_back, unsettled_on}
+use Rattle.tab_drops.proofs.Turns.{applied_on, bare_back, bare_on, below_back, below_drop_back, below_on, destroyed_back, entries_then, all_stand_then, moved_drop_back, placed_on, stand_then, unsettled_back, unsettled_on}
 use Rattle.load_ends.specs.Standing.{LoadsStand}
-use Rattle.tab_drops.specs.Dropping.{ArePlaced, AreUnheld, EndsLoads, HasOnlyDestroyed, HasOnlyDroppedBy, HaveEntries, IsBare, IsBelowNav, IsDestroyedLoad, IsDroppedFor, IsLoadApplied, IsUnsettled, StandsOrMoves}
+use Rattle.tab_drops.specs.Dropping.{ArePlaced, AreUnheld, EndsLoads, HasOnlyDestroyed, HasOnlyDroppedBy, HaveEntries, IsBare, IsBelowNav, IsDestroyedLoad, IsDroppedFor, IsLoadApplied, IsUnsettled, StandOrBare, StandOrMove}
 use Rattle.tab_drops.specs.Listing.{AreListed}
 use Rattle.tab_drops.specs.Turns.{IsDropping, IsTurnAt}
 use Rattle.tab_ids.specs.declared.NavId.{NavId}
@@ -44,7 +44,7 @@ module _ (p : InPass) (was : List RowKind) (t : Tables) (begins : IsPassing p wa
       moved_end past =
           drops_end p (IsDroppedFor s0 by (IsUnsettled s0)) (IsUnsettled s0) t was navs begins listed n u out is (λ req nav load away. (away.place, away.placed)) past
 
-      pub moved_stand : length navs ≤ n → StandsOrMoves s0 → LoadsStand s
+      pub moved_stand : length navs ≤ n → StandOrMove s0 → StandOrBare s
       moved_stand past stands = stand_then s0 s is.left stands (moved_end past)
 
     -- ---- for a load that was applied
@@ -84,3 +84,6 @@ module _ (p : InPass) (was : List RowKind) (t : Tables) (begins : IsPassing p wa
 
       pub bare_entries : ArePlaced s0 → length navs ≤ n → HaveEntries s
       bare_entries placed past = entries_then s0 s is.left (bare_end placed past)
+
+      pub bare_stand : ArePlaced s0 → length navs ≤ n → StandOrBare s0 → LoadsStand s
+      bare_stand placed past stands = all_stand_then s0 s is.left stands (bare_end placed past)

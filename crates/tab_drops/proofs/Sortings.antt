@@ -176,7 +176,7 @@ ascend (x ∷ entries) (suc i) (suc j) a b sorted low at there =
 -- ---- the list
 
 -- who has a node is in the tree
-lookup_has : (es : List (NavId × Node)) (nav : NavId) (node : Node) → lookup (is_nav nav) es ≡ Some node → Has (map (λ (e : NavId × Node). e.0) es) nav
+pub lookup_has : (es : List (NavId × Node)) (nav : NavId) (node : Node) → lookup (is_nav nav) es ≡ Some node → Has (map (λ (e : NavId × Node). e.0) es) nav
 lookup_has [] nav node is = absurd cc
 lookup_has (e ∷ es) nav node is = by_test (is_nav nav e.0) refl is (lookup_has es nav node)
   where

@@ -29,7 +29,7 @@ use Rattle.tab_doors.specs.declared.tables.Tables.{Tables}
 use Rattle.tab_drops.proofs.Drops.{ended_then, leaves_none, leaves_then_dropped, other_request, then_}
 use Rattle.tab_drops.proofs.Loads.{load_back, load_held, load_now, open_of, sole_load, sole_nav}
 use Rattle.tab_drops.proofs.Spans.{drops_none, drops_one}
-use Rattle.tab_drops.specs.Dropping.{ArePlaced, Drop, EndsLoads, HaveEntries, IsBare, IsBelowNav, IsDestroyedLoad, IsDroppedFor, IsLoadApplied, IsLoadOf, IsUnsettled, LeavesAll, StandsOrMoves}
+use Rattle.tab_drops.specs.Dropping.{ArePlaced, Drop, EndsLoads, HaveEntries, IsBare, IsBelowNav, IsDestroyedLoad, IsDroppedFor, IsLoadApplied, IsLoadOf, IsUnsettled, LeavesAll, StandOrBare, StandOrMove}
 use Rattle.tab_drops.specs.Listing.{AreOwn}
 use Rattle.tab_drops.specs.Turns.{GivesWay, IsAnyNav, IsTurnAt}
 use Rattle.tab_ids.specs.declared.NavId.{NavId}
@@ -148,7 +148,7 @@ module _ (p : InPass) (out : List RowKind) (t : Tables) (pass : IsPassing p out 
 
 -- ---- as of an earlier row
 
-visited_same : (s t : Seen) → t.places ≡ s.places → t.history ≡ s.history → aim_of t ≡ aim_of s → (place : Place) → IsVisitedInNeed s place → IsVisitedInNeed t place
+pub visited_same : (s t : Seen) → t.places ≡ s.places → t.history ≡ s.history → aim_of t ≡ aim_of s → (place : Place) → IsVisitedInNeed s place → IsVisitedInNeed t place
 visited_same s t places history aim place need =
     record {
       shown = ap (λ (h : History). is_shown h.rows (aim_of t) place.nav) history ∙ ap (λ (n : ℕ). is_shown s.history.rows n place.nav) aim ∙ need.shown;
@@ -167,6 +167,15 @@ unsettled_same s t places history aim nav away =
       there = ap (λ (l : List Place). place_in l away.mover) places ∙ away.there;
       need = visited_same s t places history aim away.own away.need;
     }
+
+abbrev reached_in : History → List Place → ℕ → NavId → Bool
+reached_in history places step nav =
+    list_all (λ (n : NavId). is_shown history.rows step n && holds (is_standing history.rows step) (place_in places n)) (option_map_or way_of (place_in places nav) (nav ∷ []))
+    && holds (λ (place : Place). not (list_any (is_lost_in places) place.above)) (place_in places nav)
+
+pub reached_same : (s t : Seen) → t.places ≡ s.places → t.history ≡ s.history → aim_of t ≡ aim_of s → (nav : NavId) → is_reached s nav ≡ true → is_reached t nav ≡ true
+reached_same s t places history aim nav is =
+    ap (λ (h : History). reached_in h t.places (aim_of t) nav) history ∙ ap (λ (l : List Place). reached_in s.history l (aim_of t) nav) places ∙ ap (λ (n : ℕ). reached_in s.history s.places n nav) aim ∙ is
 
 module _ (s t : Seen) (left : LeavesAll s t) where
   pub unsettled_on : (nav : NavId) → IsUnsettled s nav → IsUnsettled t nav
@@ -236,19 +245,13 @@ module _ (s t : Seen) (left : LeavesAll s t) where
           absurd cc
 
   -- where the navigables of loads are reached, they are so still
-  abbrev reached_in : History → List Place → ℕ → NavId → Bool
-  reached_in history places step nav =
-      list_all (λ (n : NavId). is_shown history.rows step n && holds (is_standing history.rows step) (place_in places n)) (option_map_or way_of (place_in places nav) (nav ∷ []))
-      && holds (λ (place : Place). not (list_any (is_lost_in places) place.above)) (place_in places nav)
-
   pub reached_on : (nav : NavId) → is_reached s nav ≡ true → is_reached t nav ≡ true
-  reached_on nav is =
-      ap (λ (h : History). reached_in h t.places (aim_of t) nav) left.history ∙ ap (λ (l : List Place). reached_in s.history l (aim_of t) nav) left.places ∙ ap (λ (n : ℕ). reached_in s.history s.places n nav) left.aim ∙ is
+  reached_on = reached_same s t left.places left.history left.aim
 
 -- ---- in the end
 
 -- a test that each navigable of an ongoing load passes
-each_stands : (t : Seen) → ((req : ReqId) (nav : NavId) → IsLoadOf t req nav → is_reached t nav ≡ true) → LoadsStand t
+pub each_stands : (t : Seen) → ((req : ReqId) (nav : NavId) → IsLoadOf t req nav → is_reached t nav ≡ true) → LoadsStand t
 each_stands t each =
     all_requests t.requests (λ (q : Asked). not (is_ongoing_load q) || holds (λ (nav : NavId). is_reached t nav) (nav_of_request q.what)) (λ req q at. by_test req q at (is_ongoing_load q) refl)
   where
@@ -264,15 +267,22 @@ each_stands t each =
     by_test req q at true ongoing = by_what req q at ongoing q.what refl (and_parts (is_under_way q) (is_load q.what) ongoing).1
 
 -- after those that are away have ended
-pub stand_then : (s t : Seen) → LeavesAll s t → StandsOrMoves s → EndsLoads (IsUnsettled s) s t → LoadsStand t
-stand_then s t left stands ends = each_stands t each
+pub stand_then : (s t : Seen) → LeavesAll s t → StandOrMove s → EndsLoads (IsUnsettled s) s t → StandOrBare t
+stand_then s t left stands ends req nav load = by_case (stands req nav (load_back s t req nav left load))
   where
-    by_case : (req : ReqId) (nav : NavId) → IsLoadOf t req nav → (is_reached s nav ≡ true) ⊎ IsUnsettled s nav → is_reached t nav ≡ true
-    by_case req nav load (inl reached) = reached_on s t left nav reached
-    by_case req nav load (inr away) = absurd (ends.ended req nav load away)
+    by_case : (is_reached s nav ≡ true) ⊎ (IsUnsettled s nav ⊎ IsBare s nav) → (is_reached t nav ≡ true) ⊎ IsBare t nav
+    by_case (inl reached) = inl (reached_on s t left nav reached)
+    by_case (inr (inl away)) = absurd (ends.ended req nav load away)
+    by_case (inr (inr bare)) = inr (bare_on s t left nav bare)
 
-    each : (req : ReqId) (nav : NavId) → IsLoadOf t req nav → is_reached t nav ≡ true
-    each req nav load = by_case req nav load (stands req nav (load_back s t req nav left load))
+-- and those of navigables without an entry
+pub all_stand_then : (s t : Seen) → LeavesAll s t → StandOrBare s → EndsLoads (IsBare s) s t → LoadsStand t
+all_stand_then s t left stands ends =
+    each_stands t (λ req nav load. by_case req nav load (stands req nav (load_back s t req nav left load)))
+  where
+    by_case : (req : ReqId) (nav : NavId) → IsLoadOf t req nav → (is_reached s nav ≡ true) ⊎ IsBare s nav → is_reached t nav ≡ true
+    by_case req nav load (inl reached) = reached_on s t left nav reached
+    by_case req nav load (inr bare) = absurd (ends.ended req nav load bare)
 
 -- each navigable of a load has an entry, where none without one has a load
 pub entries_then : (s t : Seen) → LeavesAll s t → EndsLoads (IsBare s) s t → HaveEntries t

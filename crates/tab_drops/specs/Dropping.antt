@@ -43,9 +43,21 @@ pub record IsUnsettled (s : Seen) (nav : NavId) : Type 0 where
   pub there : place_of s mover ≡ Some own
   pub need : IsVisitedInNeed s own
 
--- the navigable of each ongoing load is shown and stands at the aim, with all above it, or it or one above is in need, as it is where a traversal has just begun
-abbrev pub StandsOrMoves : Seen → Type 0
-StandsOrMoves s = (req : ReqId) (nav : NavId) → IsLoadOf s req nav → (is_reached s nav ≡ true) ⊎ IsUnsettled s nav
+-- the navigable has no entry
+abbrev pub IsBare : Seen → NavId → Type 0
+IsBare s nav = has_row nav s.history.rows ≡ false
+
+-- the navigable of each ongoing load is shown and stands at the aim, with all above it, or is such a one
+abbrev pub StandOr : (NavId → Type 0) → Seen → Type 0
+StandOr Other s = (req : ReqId) (nav : NavId) → IsLoadOf s req nav → (is_reached s nav ≡ true) ⊎ Other nav
+
+-- or it has no entry, as where a change has just taken the last ones
+abbrev pub StandOrBare : Seen → Type 0
+StandOrBare s = StandOr (IsBare s) s
+
+-- or it, or one above it, is in need, as where a traversal has just begun
+abbrev pub StandOrMove : Seen → Type 0
+StandOrMove s = StandOr (λ (nav : NavId). IsUnsettled s nav ⊎ IsBare s nav) s
 
 -- no ongoing load was held back as the event began
 abbrev pub AreUnheld : InEvent → Seen → Type 0
@@ -69,10 +81,6 @@ pub record IsLoadApplied (s : Seen) (nav : NavId) (by : ReqId) : Type 0 where
   pub place : Place
   pub placed : place_of s nav ≡ Some place
   pub need : IsVisitedInNeed s place
-
--- the navigable has no entry
-abbrev pub IsBare : Seen → NavId → Type 0
-IsBare s nav = has_row nav s.history.rows ≡ false
 
 -- the navigable of each ongoing load has a place
 abbrev pub ArePlaced : Seen → Type 0

@@ -1,8 +1,9 @@
 //! Loads of navigables that lost their entries are dropped.
 ghost use Rattle.std.specs.Prelude.{◌≡◌, OnOk};
+ghost use Rattle.load_ends.specs.Standing.{LoadsStand};
 ghost use Rattle.seen_laws.specs.InEvent.{now_of};
 ghost use Rattle.tab_doors.specs.Working.{KeepsStore};
-ghost use Rattle.tab_drops.specs.Dropping.{ArePlaced, AreUnheld, EndsLoads, HasOnlyDestroyed, HaveEntries, IsBare, IsDestroyedLoad, LeavesAll};
+ghost use Rattle.tab_drops.specs.Dropping.{ArePlaced, AreUnheld, EndsLoads, HasOnlyDestroyed, HaveEntries, IsBare, IsDestroyedLoad, LeavesAll, StandOrBare};
 ghost use Rattle.tab_drops.specs.Turns.{IsTurnAt};
 ghost use Rattle.tab_drops.specs.Ways.{bare_load_in};
 ghost use Rattle.tab_passes.specs.Passing.{InPass, IsPassing};
@@ -55,6 +56,7 @@ pub fn destroy_loads(alloc: Global, tables: &mut Tables, out: &mut Out) -> Resul
     ensures passing { OnOk result (IsPassing p out.new tables.new) }
     ensures gone { OnOk result (EndsLoads (IsBare (now_of p.event out.old)) (now_of p.event out.old) (now_of p.event out.new)) }
     ensures entries { OnOk result (HaveEntries (now_of p.event out.new)) }
+    ensures loads { OnOk result (StandOrBare (now_of p.event out.old) → LoadsStand (now_of p.event out.new)) }
     ensures only { OnOk result (HasOnlyDestroyed (now_of p.event out.old) out.old out.new) }
     ensures left { OnOk result (LeavesAll (now_of p.event out.old) (now_of p.event out.new)) }
     ensures kept { OnOk result (KeepsStore tables.old tables.new) }

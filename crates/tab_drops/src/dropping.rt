@@ -1,10 +1,9 @@
 //! Loads are dropped for another request: the traversal that runs, or a load that was applied.
 ghost use Rattle.std.specs.Prelude.{◌≡◌, None, OnOk, Some, option_map};
-ghost use Rattle.load_ends.specs.Standing.{LoadsStand};
 ghost use Rattle.load_table.specs.Loads.{ongoing_load};
 ghost use Rattle.seen_laws.specs.InEvent.{now_of};
 ghost use Rattle.tab_doors.specs.Working.{KeepsStore};
-ghost use Rattle.tab_drops.specs.Dropping.{AreUnheld, EndsLoads, HasOnlyDroppedBy, IsBelowNav, IsDroppedFor, IsLoadApplied, IsUnsettled, LeavesAll, StandsOrMoves};
+ghost use Rattle.tab_drops.specs.Dropping.{AreUnheld, EndsLoads, HasOnlyDroppedBy, IsBelowNav, IsDroppedFor, IsLoadApplied, IsUnsettled, LeavesAll, StandOrBare, StandOrMove};
 ghost use Rattle.tab_drops.specs.Turns.{GivesWay, IsAnyNav, IsFor, IsTurnAt};
 ghost use Rattle.tab_passes.specs.Passing.{InPass, IsPassing};
 
@@ -76,9 +75,9 @@ pub fn drop_moved(
     requires passing { IsPassing p out.old tables.old }
     requires held { AreUnheld p.event (now_of p.event out.old) }
     requires runs { tables.old.running ≡ Some by }
-    requires loads { StandsOrMoves (now_of p.event out.old) }
+    requires loads { StandOrMove (now_of p.event out.old) }
     ensures passing { OnOk result (IsPassing p out.new tables.new) }
-    ensures loads { OnOk result (LoadsStand (now_of p.event out.new)) }
+    ensures loads { OnOk result (StandOrBare (now_of p.event out.new)) }
     ensures gone { OnOk result (EndsLoads (IsUnsettled (now_of p.event out.old)) (now_of p.event out.old) (now_of p.event out.new)) }
     ensures only { OnOk result (HasOnlyDroppedBy (now_of p.event out.old) by (IsUnsettled (now_of p.event out.old)) out.old out.new) }
     ensures left { OnOk result (LeavesAll (now_of p.event out.old) (now_of p.event out.new)) }

@@ -8,3 +8,4 @@ mod ways;
 
 pub use destroying::destroy_loads;
 pub use dropping::{drop_below, drop_moved};
+pub use ways::is_bare;

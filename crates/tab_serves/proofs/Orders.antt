@@ -25,6 +25,8 @@ use Rattle.std.specs.Option.{option_map_or}
 use Rattle.std.specs.Prelude.{is_some, option_map}
 use Rattle.tab_ids.specs.declared.NavId.{NavId}
 use Rattle.tab_ids.specs.declared.ReqId.{ReqId}
+use Rattle.tab_passes.proofs.Onlies.{only_as}
+use Rattle.tab_passes.specs.Passing.{HasOnly}
 use Rattle.tab_serves.specs.Serving.{HasOnlyServed, IsOfWalk, IsServeFor, ParentsShown}
 use Rattle.walk_facts.proofs.Aims.{blur, on_served_blur}
 use Rattle.walk_facts.proofs.Sleepers.{becomes, place_becomes, shown_on, sleepers_of, slept, slept_same, shown_same}
@@ -36,27 +38,37 @@ use Rattle.log_model.specs.declared.row_kind.RowKind.TheVariants as rows
 
 -- ---- one after the other
 
--- what each such order keeps
-abbrev pub KeptByEach : (Seen → Type 0) → Type 0
-KeptByEach P = (s : Seen) (e : InEvent) (job : Job) → IsOfWalk job.task → P s → P (after s (row_of e (rows.Sent job)))
+-- the row is such an order
+pub record IsOrderOf (Is : Task → Type 0) (row : RowKind) : Type 0 where
+  pub job : Job
+  pub is : row ≡ rows.Sent job
+  pub task : Is job.task
 
-over_rows : (P : Seen → Type 0) → KeptByEach P → (run : Option ReqId) (cause : Why) (e : InEvent) (out more : List RowKind) → ((row : RowKind) → Has more row → IsServeFor run cause row) → P (now_of e out) → P (now_of e (out ++ more))
-over_rows P step run cause e out [] each so = subst (λ (l : List RowKind). P (now_of e l)) (sym (append-nil out)) so
-over_rows P step run cause e out (row ∷ more) each so =
+-- what each such order keeps
+abbrev pub KeptByEach : (Task → Type 0) → (Seen → Type 0) → Type 0
+KeptByEach Is P = (s : Seen) (e : InEvent) (job : Job) → Is job.task → P s → P (after s (row_of e (rows.Sent job)))
+
+over_rows : (Is : Task → Type 0) (P : Seen → Type 0) → KeptByEach Is P → (e : InEvent) (out more : List RowKind) → ((row : RowKind) → Has more row → IsOrderOf Is row) → P (now_of e out) → P (now_of e (out ++ more))
+over_rows Is P step e out [] each so = subst (λ (l : List RowKind). P (now_of e l)) (sym (append-nil out)) so
+over_rows Is P step e out (row ∷ more) each so =
     subst (λ (l : List RowKind). P (now_of e l)) (append_assoc out (row ∷ []) more)
-    (over_rows P step run cause e (out ++ row ∷ []) more (λ other there. each other (inr there)) (subst (λ (x : Seen). P x) (sym (now_more e out row)) one))
+    (over_rows Is P step e (out ++ row ∷ []) more (λ other there. each other (inr there)) (subst (λ (x : Seen). P x) (sym (now_more e out row)) one))
   where
-    its : IsServeFor run cause row
+    its : IsOrderOf Is row
     its = each row (inl refl)
 
     one : P (after (now_of e out) (row_of e row))
-    one =
-        subst (λ (k : RowKind). P (after (now_of e out) (row_of e k))) (sym its.is) (step (now_of e out) e its.job its.serves so)
+    one = subst (λ (k : RowKind). P (after (now_of e out) (row_of e k))) (sym its.is) (step (now_of e out) e its.job its.task so)
 
 -- all of them keep it
-pub over_served : (P : Seen → Type 0) → KeptByEach P → (run : Option ReqId) (cause : Why) (e : InEvent) (was out : List RowKind) → HasOnlyServed run cause was out → P (now_of e was) → P (now_of e out)
-over_served P step run cause e was out only so =
-    subst (λ (l : List RowKind). P (now_of e l)) (sym only.is) (over_rows P step run cause e was only.more only.each so)
+pub over_orders : (Is : Task → Type 0) (P : Seen → Type 0) → KeptByEach Is P → (e : InEvent) (was out : List RowKind) → HasOnly (IsOrderOf Is) was out → P (now_of e was) → P (now_of e out)
+over_orders Is P step e was out only so =
+    subst (λ (l : List RowKind). P (now_of e l)) (sym only.is) (over_rows Is P step e was only.more only.each so)
+
+-- those of a walk
+pub walk_orders : (run : Option ReqId) (cause : Why) (was out : List RowKind) → HasOnlyServed run cause was out → HasOnly (IsOrderOf IsOfWalk) was out
+walk_orders run cause was out only =
+    only_as (IsServeFor run cause) (IsOrderOf IsOfWalk) was out (λ row it. record { job = it.job; is = it.is; task = it.serves }) only
 
 -- ---- one order
 
@@ -103,22 +115,39 @@ sent_ways s job tasks.Discard is = sleep_ways (sleepers_with s job.doc) job.why 
 sent_ways s job (tasks.Populate nav state address initial) is = same_ways s.places
 sent_ways s job _ is = absurd is
 
--- each navigable above another was shown a document, where each place is changed so
-parents_changed : (s t : Seen) (g : Place → Place) → ((nav : NavId) → place_of t nav ≡ option_map g (place_of s nav)) → ((p : Place) → (g p).above ≡ p.above) → ((p : Place) → is_some p.last ≡ true → is_some (g p).last ≡ true) → ParentsShown s → ParentsShown t
-parents_changed s t g changed ways shown are nav above place up placed has there = by_old (place_of s nav) refl (place_of s above) refl
+-- each place is changed so: it hangs where it did, it was shown a document if it had been, and who took its entries stays
+pub record IsChanged (s t : Seen) : Type 0 where
+  pub g : Place → Place
+  pub places : (nav : NavId) → place_of t nav ≡ option_map g (place_of s nav)
+  pub ways : (p : Place) → (g p).above ≡ p.above
+  pub shown : (p : Place) → is_some p.last ≡ true → is_some (g p).last ≡ true
+  pub taken : (p : Place) → (g p).taken_by ≡ p.taken_by
+
+-- so each navigable above another was shown a document
+parents_changed : (s t : Seen) → IsChanged s t → ParentsShown s → ParentsShown t
+parents_changed s t it are nav above place up placed has there =
+    by_old (place_of s nav) refl (place_of s above) refl
   where
     by_old : (o : Option Place) → place_of s nav ≡ o → (u : Option Place) → place_of s above ≡ u → is_some up.last ≡ true
     by_old None at u up_at =
-        let never : None ≡ Some place = sym (changed nav ∙ ap (option_map g) at) ∙ placed in absurd cc
+        let never : None ≡ Some place = sym (it.places nav ∙ ap (option_map it.g) at) ∙ placed in absurd cc
     by_old (Some old) at None up_at =
-        let never : None ≡ Some up = sym (changed above ∙ ap (option_map g) up_at) ∙ there in absurd cc
+        let never : None ≡ Some up = sym (it.places above ∙ ap (option_map it.g) up_at) ∙ there in absurd cc
     by_old (Some old) at (Some old_up) up_at =
-        let both : Some (g old) ≡ Some place = sym (changed nav ∙ ap (option_map g) at) ∙ placed in
-        let same : g old ≡ place = cc in
-        let both_up : Some (g old_up) ≡ Some up = sym (changed above ∙ ap (option_map g) up_at) ∙ there in
-        let same_up : g old_up ≡ up = cc in
-        let had : has_nav old.above above ≡ true = ap (λ (l : List NavId). has_nav l above) (sym (ways old) ∙ ap (λ (p : Place). p.above) same) ∙ has in
-        ap (λ (p : Place). is_some p.last) (sym same_up) ∙ shown old_up (are nav above old old_up at had up_at)
+        let both : Some (it.g old) ≡ Some place = sym (it.places nav ∙ ap (option_map it.g) at) ∙ placed in
+        let same : it.g old ≡ place = cc in
+        let both_up : Some (it.g old_up) ≡ Some up = sym (it.places above ∙ ap (option_map it.g) up_at) ∙ there in
+        let same_up : it.g old_up ≡ up = cc in
+        let had : has_nav old.above above ≡ true = ap (λ (l : List NavId). has_nav l above) (sym (it.ways old) ∙ ap (λ (p : Place). p.above) same) ∙ has in
+        ap (λ (p : Place). is_some p.last) (sym same_up) ∙ it.shown old_up (are nav above old old_up at had up_at)
+
+-- and who took the entries of each is as before
+taken_changed : (s t : Seen) → IsChanged s t → (nav : NavId) → option_map (λ (p : Place). p.taken_by) (place_of t nav) ≡ option_map (λ (p : Place). p.taken_by) (place_of s nav)
+taken_changed s t it nav = ap (option_map (λ (p : Place). p.taken_by)) (it.places nav) ∙ by_old (place_of s nav)
+  where
+    by_old : (o : Option Place) → option_map (λ (p : Place). p.taken_by) (option_map it.g o) ≡ option_map (λ (p : Place). p.taken_by) o
+    by_old None = refl
+    by_old (Some p) = ap (λ (by : Option ReqId). Some by) (it.taken p)
 
 slept_last : (navs : List NavId) (why : Why) (p : Place) → is_some p.last ≡ true → is_some (slept navs why p).last ≡ true
 slept_last navs why p is = by_test (has_nav navs p.nav)
@@ -127,34 +156,56 @@ slept_last navs why p is = by_test (has_nav navs p.nav)
     by_test true = is
     by_test false = is
 
-sent_parents : (s : Seen) (e : InEvent) (job : Job) (task : Task) → job.task ≡ task → IsOfWalk task → ParentsShown s → ParentsShown (after s (row_of e (rows.Sent job)))
-sent_parents s e job (tasks.Populate nav state address initial) at is are =
-    parents_changed s (after s (row_of e (rows.Sent job))) (λ p. p) (λ n. rw at (itself (place_of s n))) (λ p. refl) (λ p shown. shown) are
+slept_taken : (navs : List NavId) (why : Why) (p : Place) → (slept navs why p).taken_by ≡ p.taken_by
+slept_taken navs why p = by_test (has_nav navs p.nav)
+  where
+    by_test : (b : Bool) → (let q : Place = cond b (record p { status = asleep; why = why }) p in q).taken_by ≡ p.taken_by
+    by_test true = refl
+    by_test false = refl
+
+unchanged : (s t : Seen) → ((nav : NavId) → place_of t nav ≡ place_of s nav) → IsChanged s t
+unchanged s t same =
+    record { g = λ p. p; places = λ nav. same nav ∙ itself (place_of s nav); ways = λ p. refl; shown = λ p is. is; taken = λ p. refl }
   where
     itself : (o : Option Place) → o ≡ option_map (λ p. p) o
     itself None = refl
     itself (Some p) = refl
-sent_parents s e job tasks.Freeze at is are =
-    parents_changed s (after s (row_of e (rows.Sent job))) (slept (sleepers_with s job.doc) job.why) (place_sleeps s e.event e.actor job tasks.Freeze at tt) (λ p. (slept_same (sleepers_with s job.doc) job.why p).1) (slept_last (sleepers_with s job.doc) job.why) are
-sent_parents s e job tasks.Discard at is are =
-    parents_changed s (after s (row_of e (rows.Sent job))) (slept (sleepers_with s job.doc) job.why) (place_sleeps s e.event e.actor job tasks.Discard at tt) (λ p. (slept_same (sleepers_with s job.doc) job.why p).1) (slept_last (sleepers_with s job.doc) job.why) are
-sent_parents s e job (tasks.Activate entry epoch length index memo address) at is are = by_document (document_of s job.doc) refl
+
+sent_changed : (s : Seen) (e : InEvent) (job : Job) (task : Task) → job.task ≡ task → IsOfWalk task → IsChanged s (after s (row_of e (rows.Sent job)))
+sent_changed s e job (tasks.Populate nav state address initial) at is =
+    unchanged s (after s (row_of e (rows.Sent job))) (λ n. rw at refl)
+sent_changed s e job tasks.Freeze at is =
+    record {
+      g = slept (sleepers_with s job.doc) job.why;
+      places = place_sleeps s e.event e.actor job tasks.Freeze at tt;
+      ways = λ p. (slept_same (sleepers_with s job.doc) job.why p).1;
+      shown = slept_last (sleepers_with s job.doc) job.why;
+      taken = slept_taken (sleepers_with s job.doc) job.why;
+    }
+sent_changed s e job tasks.Discard at is =
+    record {
+      g = slept (sleepers_with s job.doc) job.why;
+      places = place_sleeps s e.event e.actor job tasks.Discard at tt;
+      ways = λ p. (slept_same (sleepers_with s job.doc) job.why p).1;
+      shown = slept_last (sleepers_with s job.doc) job.why;
+      taken = slept_taken (sleepers_with s job.doc) job.why;
+    }
+sent_changed s e job (tasks.Activate entry epoch length index memo address) at is =
+    by_document (document_of s job.doc) refl
   where
     t : Seen
     t = after s (row_of e (rows.Sent job))
 
-    by_document : (o : Option Document) → document_of s job.doc ≡ o → ParentsShown t
-    by_document None none =
-        parents_changed s t (λ p. p) (λ n. rw at (rw none (itself (place_of s n)))) (λ p. refl) (λ p shown. shown) are
-      where
-        itself : (o : Option Place) → o ≡ option_map (λ p. p) o
-        itself None = refl
-        itself (Some p) = refl
+    by_document : (o : Option Document) → document_of s job.doc ≡ o → IsChanged s t
+    by_document None none = unchanged s t (λ n. rw at (rw none refl))
     by_document (Some d) found =
-        parents_changed s t (becomes s e.event e.actor job d entry epoch length index memo address at found) (place_becomes s e.event e.actor job d entry epoch length index memo address at found)
-        (λ p. (shown_same d.nav job entry epoch d (slept (sleepers_of s job.doc d.nav) job.why p)).1 ∙ (slept_same (sleepers_of s job.doc d.nav) job.why p).1)
-        (λ p shown. shown_last (slept (sleepers_of s job.doc d.nav) job.why p) (slept_last (sleepers_of s job.doc d.nav) job.why p shown))
-        are
+        record {
+          g = becomes s e.event e.actor job d entry epoch length index memo address at found;
+          places = place_becomes s e.event e.actor job d entry epoch length index memo address at found;
+          ways = λ p. (shown_same d.nav job entry epoch d (slept (sleepers_of s job.doc d.nav) job.why p)).1 ∙ (slept_same (sleepers_of s job.doc d.nav) job.why p).1;
+          shown = λ p shown. shown_last (slept (sleepers_of s job.doc d.nav) job.why p) (slept_last (sleepers_of s job.doc d.nav) job.why p shown);
+          taken = λ p. shown_taken (slept (sleepers_of s job.doc d.nav) job.why p) ∙ slept_taken (sleepers_of s job.doc d.nav) job.why p;
+        }
       where
         shown_last : (p : Place) → is_some p.last ≡ true → is_some (shown_on d.nav job entry epoch d p).last ≡ true
         shown_last p is_ = by_test (p.nav.0 == d.nav.0)
@@ -162,11 +213,18 @@ sent_parents s e job (tasks.Activate entry epoch length index memo address) at i
             by_test : (b : Bool) → is_some (let q : Place = cond b (activated job entry epoch d p) p in q).last ≡ true
             by_test true = refl
             by_test false = is_
-sent_parents s e job _ at is are = absurd is
+
+        shown_taken : (p : Place) → (shown_on d.nav job entry epoch d p).taken_by ≡ p.taken_by
+        shown_taken p = by_test (p.nav.0 == d.nav.0)
+          where
+            by_test : (b : Bool) → (let q : Place = cond b (activated job entry epoch d p) p in q).taken_by ≡ p.taken_by
+            by_test true = refl
+            by_test false = refl
+sent_changed s e job _ at is = absurd is
 
 -- ---- all of them
 
-module _ (run : Option ReqId) (cause : Why) (e : InEvent) (was out : List RowKind) (only : HasOnlyServed run cause was out) where
+module _ (e : InEvent) (was out : List RowKind) (only : HasOnly (IsOrderOf IsOfWalk) was out) where
   abbrev s : Seen
   s = now_of e was
 
@@ -175,27 +233,33 @@ module _ (run : Option ReqId) (cause : Why) (e : InEvent) (was out : List RowKin
 
   pub moved_over : (why : Why) (nav : NavId) → IsMovedBy s why nav → IsMovedBy t why nav
   moved_over why nav =
-      over_served (λ (x : Seen). IsMovedBy x why nav) (λ x event job is by. sent_moved x event.event event.actor why nav by job (asks_none job.task is)) run cause e was out only
+      over_orders IsOfWalk (λ (x : Seen). IsMovedBy x why nav) (λ x event job is by. sent_moved x event.event event.actor why nav by job (asks_none job.task is)) e was out only
 
   pub were_over : WereShown s → WereShown t
   were_over =
-      over_served WereShown (λ x event job is were. were_shown x event.event event.actor were (rows.Sent job) tt) run cause e was out only
+      over_orders IsOfWalk WereShown (λ x event job is were. were_shown x event.event event.actor were (rows.Sent job) tt) e was out only
 
   pub looks_over : map look t.requests ≡ map look s.requests
   looks_over =
-      over_served (λ (x : Seen). map look x.requests ≡ map look s.requests) (λ x event job is same. sent_looks x event job is ∙ same) run cause e was out only refl
+      over_orders IsOfWalk (λ (x : Seen). map look x.requests ≡ map look s.requests) (λ x event job is same. sent_looks x event job is ∙ same) e was out only refl
 
   pub ways_over : (places : List Place) → KeepWays places s.places → KeepWays places t.places
   ways_over places =
-      over_served (λ (x : Seen). KeepWays places x.places) (λ x event job is ways. ways_both places x.places _ ways (sent_ways x job job.task is)) run cause e was out only
+      over_orders IsOfWalk (λ (x : Seen). KeepWays places x.places) (λ x event job is ways. ways_both places x.places _ ways (sent_ways x job job.task is)) e was out only
 
   pub parents_over : ParentsShown s → ParentsShown t
-  parents_over = over_served ParentsShown (λ x event job is are. sent_parents x event job job.task refl is are) run cause e was out only
+  parents_over =
+      over_orders IsOfWalk ParentsShown (λ x event job is are. parents_changed x (after x (row_of event (rows.Sent job))) (sent_changed x event job job.task refl is) are) e was out only
+
+  -- who took the entries of each
+  pub taken_over : (nav : NavId) → option_map (λ (p : Place). p.taken_by) (place_of t nav) ≡ option_map (λ (p : Place). p.taken_by) (place_of s nav)
+  taken_over nav =
+      over_orders IsOfWalk (λ (x : Seen). option_map (λ (p : Place). p.taken_by) (place_of x nav) ≡ option_map (λ (p : Place). p.taken_by) (place_of s nav)) (λ x event job is same. taken_changed x (after x (row_of event (rows.Sent job))) (sent_changed x event job job.task refl is) nav ∙ same) e was out only refl
 
   -- where all stand then, all stood before
   pub stood_over : AreUnasked s → all_stand t (aim_of t) ≡ true → all_stand s (aim_of s) ≡ true
   stood_over unasked =
-      (over_served (λ (x : Seen). AreUnasked x × (all_stand x (aim_of x) ≡ true → all_stand s (aim_of s) ≡ true)) (λ x event job is so. (
+      (over_orders IsOfWalk (λ (x : Seen). AreUnasked x × (all_stand x (aim_of x) ≡ true → all_stand s (aim_of s) ≡ true)) (λ x event job is so. (
         still_unasked x (after x (row_of event (rows.Sent job))) (sent_asks x job job.task x.requests (asks_none job.task is)) so.0,
         λ all. so.1 (sent_stood x event.event event.actor job so.0 (asks_none job.task is) all),
-      )) run cause e was out only (unasked, λ all. all)).1
+      )) e was out only (unasked, λ all. all)).1

@@ -89,6 +89,33 @@ need_off s x place at visited nav its = by_test (has_nav (nav ∷ its.place.abov
         let never : true ≡ false = sym stand ∙ need_stands_not s x place at visited in
         absurd cc
 
+-- it is so still where it, and those above it, are where they were
+module _ (s t : Seen) (history : t.history ≡ s.history) (aim : aim_of t ≡ aim_of s) (nav : NavId) (its : IsReachedAt s nav) (stays : (n : NavId) → has_nav (nav ∷ its.place.above) n ≡ true → place_of t n ≡ place_of s n) where
+  placed_still : (n : NavId) → has_nav (nav ∷ its.place.above) n ≡ true → is_placed t (aim_of t) n ≡ is_placed s (aim_of s) n
+  placed_still n has =
+      ap (λ (h : History). is_shown h.rows (aim_of t) n && holds (is_standing h.rows (aim_of t)) (place_of t n)) history
+      ∙ ap (λ (step : ℕ). is_shown s.history.rows step n && holds (is_standing s.history.rows step) (place_of t n)) aim
+      ∙ ap (λ (o : Option Place). is_shown s.history.rows (aim_of s) n && holds (is_standing s.history.rows (aim_of s)) o) (stays n has)
+
+  pub reached_where : is_reached t nav ≡ true
+  reached_where =
+      let there : place_of t nav ≡ Some its.place = stays nav (own_has nav its.place.above) ∙ its.placed in
+      let way : way_to t nav ≡ nav ∷ its.place.above = ap (λ (o : Option Place). option_map_or way_of o (nav ∷ [])) there ∙ ap (λ (n : NavId). n ∷ its.place.above) (found_nav s.places nav its.place its.placed) in
+      let all : list_all (is_placed t (aim_of t)) (way_to t nav) ≡ true = ap (list_all (is_placed t (aim_of t))) way ∙ all_alike (is_placed t (aim_of t)) (λ (n : NavId). true) (nav ∷ its.place.above) (λ n has. placed_still n has ∙ its.each n has) ∙ all_true (nav ∷ its.place.above) in
+      let unlost : is_below_known_lost t its.place ≡ false = any_alike (is_known_lost t) (is_known_lost s) its.place.above (λ n has. lost_same n (stays n (more_has nav n its.place.above has))) ∙ its.kept in
+      let holds_ : holds (λ (p : Place). not (is_below_known_lost t p)) (place_of t nav) ≡ true = ap (holds (λ (p : Place). not (is_below_known_lost t p))) there ∙ ap not unlost in
+      both (list_all (is_placed t (aim_of t)) (way_to t nav)) (holds (λ (p : Place). not (is_below_known_lost t p)) (place_of t nav)) all holds_
+    where
+      all_true : (navs : List NavId) → list_all (λ (n : NavId). true) navs ≡ true
+      all_true [] = refl
+      all_true (n ∷ navs) = all_true navs
+
+      lost_same : (n : NavId) → place_of t n ≡ place_of s n → is_known_lost t n ≡ is_known_lost s n
+      lost_same n same = rw same refl
+
+      both : (a b : Bool) → a ≡ true → b ≡ true → (a && b) ≡ true
+      both a b h k = rw (h, k) refl
+
 module _ (s t : Seen) (x : NavId) (place : Place) (sound : IsSound s.history) (hangs : Hangs s) (leaves : LeavesOthers s t x) (at : place_of s x ≡ Some place) (visited : IsVisitedInNeed s place) where
   module _ (nav : NavId) (its : IsReachedAt s nav) where
     parts : ((nav.0 == x.0) ≡ false) × (has_nav its.place.above x ≡ false)
@@ -114,30 +141,8 @@ module _ (s t : Seen) (x : NavId) (place : Place) (sound : IsSound s.history) (h
         by_test false apart h =
             leaves.others n (above_apart s x its.place.above (place_chain s sound hangs nav its.place its.placed) parts.1 n h)
 
-    placed_still : (n : NavId) → has_nav (nav ∷ its.place.above) n ≡ true → is_placed t (aim_of t) n ≡ is_placed s (aim_of s) n
-    placed_still n has =
-        ap (λ (h : History). is_shown h.rows (aim_of t) n && holds (is_standing h.rows (aim_of t)) (place_of t n)) leaves.history
-        ∙ ap (λ (step : ℕ). is_shown s.history.rows step n && holds (is_standing s.history.rows step) (place_of t n)) leaves.aim
-        ∙ ap (λ (o : Option Place). is_shown s.history.rows (aim_of s) n && holds (is_standing s.history.rows (aim_of s)) o) (stays_at n has)
-
     reached_then : is_reached t nav ≡ true
-    reached_then =
-        let there : place_of t nav ≡ Some its.place = stays_at nav (own_has nav its.place.above) ∙ its.placed in
-        let way : way_to t nav ≡ nav ∷ its.place.above = ap (λ (o : Option Place). option_map_or way_of o (nav ∷ [])) there ∙ ap (λ (n : NavId). n ∷ its.place.above) (found_nav s.places nav its.place its.placed) in
-        let all : list_all (is_placed t (aim_of t)) (way_to t nav) ≡ true = ap (list_all (is_placed t (aim_of t))) way ∙ all_alike (is_placed t (aim_of t)) (λ (n : NavId). true) (nav ∷ its.place.above) (λ n has. placed_still n has ∙ its.each n has) ∙ all_true (nav ∷ its.place.above) in
-        let unlost : is_below_known_lost t its.place ≡ false = any_alike (is_known_lost t) (is_known_lost s) its.place.above (λ n has. lost_same n (stays_at n (more_has nav n its.place.above has))) ∙ its.kept in
-        let holds_ : holds (λ (p : Place). not (is_below_known_lost t p)) (place_of t nav) ≡ true = ap (holds (λ (p : Place). not (is_below_known_lost t p))) there ∙ ap not unlost in
-        both (list_all (is_placed t (aim_of t)) (way_to t nav)) (holds (λ (p : Place). not (is_below_known_lost t p)) (place_of t nav)) all holds_
-      where
-        all_true : (navs : List NavId) → list_all (λ (n : NavId). true) navs ≡ true
-        all_true [] = refl
-        all_true (n ∷ navs) = all_true navs
-
-        lost_same : (n : NavId) → place_of t n ≡ place_of s n → is_known_lost t n ≡ is_known_lost s n
-        lost_same n same = rw same refl
-
-        both : (a b : Bool) → a ≡ true → b ≡ true → (a && b) ≡ true
-        both a b h k = rw (h, k) refl
+    reached_then = reached_where s t leaves.history leaves.aim nav its stays_at
 
   pub reached_still : (nav : NavId) → is_reached s nav ≡ true → is_reached t nav ≡ true
   reached_still nav is = reached_then nav (reached_at s nav is)

@@ -80,6 +80,7 @@ left_then s t u first then_ =
       parked = then_.parked ∙ first.parked;
       looks = then_.looks ∙ first.looks;
       causes = λ why may. then_.causes why (first.causes why may);
+      rows_ = λ are. then_.rows_ (first.rows_ are);
     }
 
 -- ---- the walk
@@ -107,7 +108,7 @@ module _ (p : InPass) (cause : Why) (navs : List NavId) where
           order = walk_here p out t passing navs is;
           served = record { each = λ k nav low at. absurd (omega (arith, low)) };
         };
-        left = record { history = refl; aim = refl; parked = refl; looks = refl; causes = λ why so. so };
+        left = record { history = refl; aim = refl; parked = refl; looks = refl; causes = λ why so. so; rows_ = λ are. are };
         only = only_none (IsServeFor t.running cause) out;
         kept = kept_none t;
       }

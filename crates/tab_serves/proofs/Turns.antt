@@ -3,9 +3,11 @@ use Rattle.apply_plan.specs.Needs.{need_of}
 use Rattle.apply_plan.specs.declared.need.Need.{Need}
 use Rattle.hang_facts.proofs.Forms.{nav_is}
 use Rattle.rest_facts.proofs.Stands.{get_of}
-use Rattle.hang_facts.proofs.Members.{find_has}
+use Rattle.frame_whole.specs.Tab.{AreAwakeWithRows}
+use Rattle.hang_facts.proofs.Members.{find_has, has_any}
+use Rattle.hang_facts.proofs.Targets.{target_has}
 use Rattle.log_model.proofs.Refl.{nat_eq_refl}
-use Rattle.log_model.specs.History.{has_nav}
+use Rattle.log_model.specs.History.{History, has_nav, has_row, is_of}
 use Rattle.log_model.specs.Places.{aim_of, is_below, is_shown}
 use Rattle.log_model.specs.Seen.{Place, Seen, place_of}
 use Rattle.log_model.specs.declared.job.Why.{Why}
@@ -28,11 +30,11 @@ use Rattle.tab_moves.specs.Moving.{IsAtOrBelow}
 use Rattle.tab_moves.specs.Showing.{IsTurn, need_in}
 use Rattle.tab_passes.proofs.Stand.{stand_for}
 use Rattle.tab_passes.specs.Causes.{show_why}
-use Rattle.tab_passes.specs.Passing.{IsPassing}
+use Rattle.tab_passes.specs.Passing.{HasOnly, IsPassing}
 use Rattle.tab_serves.proofs.Below.{kept_loads, left_loads}
-use Rattle.tab_serves.proofs.Orders.{looks_over, moved_over, parents_over, stood_over, ways_over, were_over}
+use Rattle.tab_serves.proofs.Orders.{IsOrderOf, looks_over, moved_over, parents_over, stood_over, walk_orders, ways_over, were_over}
 use Rattle.tab_serves.proofs.Reached.{loads_stand_still, reached_still}
-use Rattle.tab_serves.specs.Serving.{HasOnlyServed, HasWalked, InWalk, IsWalking, LeavesLog}
+use Rattle.tab_serves.specs.Serving.{HasOnlyServed, HasWalked, InWalk, IsOfWalk, IsWalking, LeavesLog}
 use Rattle.tab_walk.specs.Moving.{MayMoveTo}
 use Rattle.walk_facts.proofs.Leaving.{one_more, walk_stays}
 use Rattle.walk_facts.proofs.Placed.{found_nav}
@@ -123,7 +125,7 @@ module _ (w : InWalk) (n : ℕ) (out : List RowKind) (t : Tables) (walking : IsW
       }
 
   pub idle_left : LeavesLog s s
-  idle_left = record { history = refl; aim = refl; parked = refl; looks = refl; causes = λ why may. may }
+  idle_left = record { history = refl; aim = refl; parked = refl; looks = refl; causes = λ why may. may; rows_ = λ are. are }
 
   -- ---- it needs something
 
@@ -203,6 +205,9 @@ module _ (w : InWalk) (n : ℕ) (out : List RowKind) (t : Tables) (walking : IsW
       abbrev why : Why
       why = show_why t.running w.cause
 
+      orders : HasOnly (IsOrderOf IsOfWalk) out new
+      orders = walk_orders t.running w.cause out new only
+
       unasked : AreUnasked s
       unasked req q at = (passing.going.tab.asked.each req q at).unasked
 
@@ -252,7 +257,29 @@ module _ (w : InWalk) (n : ℕ) (out : List RowKind) (t : Tables) (walking : IsW
 
       moved_below : (other : NavId) (place : Place) → place_of x other ≡ Some place → is_below nav place ≡ true → IsVisitedInNeed x place → 1 ≤ place.epoch.0 → IsMovedBy x why other
       moved_below other place placed below visited_ shown =
-          below_moved x why nav then_.going.tab.sound then_.going.tab.hangs (moved_over t.running w.cause e out new only why nav (moved_here (raised (shown_above other place placed below)))) other place placed below
+          below_moved x why nav then_.going.tab.sound then_.going.tab.hangs (moved_over e out new orders why nav (moved_here (raised (shown_above other place placed below)))) other place placed below
+
+      -- who is awake has an entry: it was awake on the same document before, or has its target
+      own_row : has_row nav x.history.rows ≡ true
+      own_row =
+          let its = target_has s.history.rows nav (aim_of s) needing.target needing.at in
+          ap (λ (h : History). has_row nav h.rows) turn.others.history
+          ∙ has_any (is_of nav) s.history.rows needing.target its.there (ap (λ (m : NavId). m.0 == nav.0) its.nav_is ∙ nat_eq_refl nav.0)
+
+      rows_then : AreAwakeWithRows s → AreAwakeWithRows x
+      rows_then are other place doc placed on = by_nav (nav.0 == other.0) refl
+        where
+          own : place.nav ≡ other
+          own = found_nav x.places other place placed
+
+          by_nav : (b : Bool) → (nav.0 == other.0) ≡ b → has_row place.nav x.history.rows ≡ true
+          by_nav true same =
+              subst (λ (m : NavId). has_row m x.history.rows ≡ true) (nav_is nav other same ∙ sym own) own_row
+          by_nav false apart =
+              let was : WasAwake s other doc = wakes other place doc (rw apart refl) placed on in
+              ap (λ (h : History). has_row place.nav h.rows) turn.others.history
+              ∙ ap (λ (m : NavId). has_row m s.history.rows) (own ∙ sym (found_nav s.places other was.place was.placed))
+              ∙ are other was.place doc was.placed was.wakes
 
       walked_then : HasWalked e x
       walked_then =
@@ -260,12 +287,12 @@ module _ (w : InWalk) (n : ℕ) (out : List RowKind) (t : Tables) (walking : IsW
             since = record {
               distinct = walking.walked.since.distinct;
               homed = walking.walked.since.homed;
-              ways = ways_over t.running w.cause e out new only e.start.places walking.walked.since.ways;
+              ways = ways_over e out new orders e.start.places walking.walked.since.ways;
             };
-            unwoken = λ all. absurd (let never : true ≡ false = sym (stood_over t.running w.cause e out new only unasked all) ∙ need_not_all_stand s nav needing.place needing.placed visited in cc);
-            were = were_over t.running w.cause e out new only walking.walked.were;
-            parents = parents_over t.running w.cause e out new only walking.walked.parents;
-            loads = loads_stand_still s x (looks_over t.running w.cause e out new only) (reached_still s x nav needing.place passing.going.tab.sound passing.going.tab.hangs turn.others needing.placed visited) walking.walked.loads;
+            unwoken = λ all. absurd (let never : true ≡ false = sym (stood_over e out new orders unasked all) ∙ need_not_all_stand s nav needing.place needing.placed visited in cc);
+            were = were_over e out new orders walking.walked.were;
+            parents = parents_over e out new orders walking.walked.parents;
+            loads = loads_stand_still s x (looks_over e out new orders) (reached_still s x nav needing.place passing.going.tab.sound passing.going.tab.hangs turn.others needing.placed visited) walking.walked.loads;
           }
 
       pub turn_walking : IsWalking w (n + 1) new u
@@ -275,7 +302,7 @@ module _ (w : InWalk) (n : ℕ) (out : List RowKind) (t : Tables) (walking : IsW
             walked = walked_then;
             may = turn.causes w.cause walking.may;
             unwoken = subst (λ (m : ℕ). AwakeSince e.start (take m w.navs) x) (sym (plus_one n)) unwoken_then;
-            moves = subst (λ (r : Option ReqId). MovesLater x (show_why r w.cause) w.navs (n + 1)) (sym kept.running) (later_kept s x why w.navs n nav passing.going.tab.sound passing.going.tab.hangs here turn.others (moved_over t.running w.cause e out new only why) moved_below walking.moves);
+            moves = subst (λ (r : Option ReqId). MovesLater x (show_why r w.cause) w.navs (n + 1)) (sym kept.running) (later_kept s x why w.navs n nav passing.going.tab.sound passing.going.tab.hangs here turn.others (moved_over e out new orders why) moved_below walking.moves);
             header = kept.keep ∙ walking.header;
             order = walk_stays s x w.navs nav turn.others walking.order;
             served = one_more s x passing.going.tab.sound passing.going.tab.hangs w.navs n nav here walking.order turn.others turn.own walking.served;
@@ -287,6 +314,7 @@ module _ (w : InWalk) (n : ℕ) (out : List RowKind) (t : Tables) (walking : IsW
             history = turn.others.history;
             aim = turn.others.aim;
             parked = turn.parked;
-            looks = looks_over t.running w.cause e out new only;
+            looks = looks_over e out new orders;
             causes = turn.causes;
+            rows_ = rows_then;
           }

@@ -163,7 +163,7 @@ module _ (run : Option ReqId) (loads : List ReqId) (hand : List Made) (s t : See
           )
 
   -- one that needed nothing isn't on a stray document
-  needed : (nav : NavId) (old : Place) → place_of s nav ≡ Some old → is_needing s.history.rows (aim_of s) old ≡ false → (on : IsOnStray s nav) → (nav.0 == on.over.0) ≡ true → ⊥
+  pub needed : (nav : NavId) (old : Place) → place_of s nav ≡ Some old → is_needing s.history.rows (aim_of s) old ≡ false → (on : IsOnStray s nav) → (nav.0 == on.over.0) ≡ true → ⊥
   needed nav old there none on same = by_given (is_given_target s.history.rows (aim_of s) old) refl
     where
       here : old ≡ on.own

@@ -1,6 +1,6 @@
 use Rattle.std.proofs.Common.{List, ap, arith, length, ◌∙◌, ◌≤◌}
 use Rattle.std.specs.Prelude.{slice_get}
-use Rattle.tab_drops.proofs.Loops.{bare_asks, bare_end, bare_entries, bare_next, bare_only}
+use Rattle.tab_drops.proofs.Loops.{bare_asks, bare_end, bare_entries, bare_next, bare_only, bare_stand}
 use Rattle.tab_drops.proofs.Spans.{drops_begin}
 use Rattle.tab_drops.proofs.Turns.{loads_own}
 use Rattle.tab_drops.proofs.destroying.destroy_loads.Goals as goal
@@ -34,3 +34,9 @@ returns-clause-entries g c =
     let long : length c.navs.inside.items.items ≤ c.loop-i.i =
     (let same = ap (λ (l : List NavId). length l) c.navs.view_is in let ends = c.len-i-end.ensures in let past = c.loop-i-test.false in omega (arith, same, ends, past)) in
     bare_entries g.p c.args.out.now c.args.tables.now c.requires.0 c.navs.inside.items.items _ c.navs.view_is c.in_ok-navs.ensures c.loop-i.i c.loop-i.tables c.loop-i.out c.loop-i.invariant c.requires.1.1 long
+
+pub returns-clause-loads : goal.returns-clause-loads
+returns-clause-loads g c =
+    let long : length c.navs.inside.items.items ≤ c.loop-i.i =
+    (let same = ap (λ (l : List NavId). length l) c.navs.view_is in let ends = c.len-i-end.ensures in let past = c.loop-i-test.false in omega (arith, same, ends, past)) in
+    bare_stand g.p c.args.out.now c.args.tables.now c.requires.0 c.navs.inside.items.items _ c.navs.view_is c.in_ok-navs.ensures c.loop-i.i c.loop-i.tables c.loop-i.out c.loop-i.invariant c.requires.1.1 long

@@ -1,0 +1,4 @@
+pub mod Ways
+pub mod Keeps
+pub mod Cleared
+pub mod Changes

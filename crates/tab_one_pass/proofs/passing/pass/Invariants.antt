@@ -1,0 +1,13 @@
+use Rattle.tab_one_pass.proofs.passing.pass.Given as goal
+
+abbrev pub ghost-give_way : goal.ghost-give_way
+ghost-give_way g a = g.p
+
+abbrev pub ghost-clear_out : goal.ghost-clear_out
+ghost-clear_out g a = g.p
+
+abbrev pub ghost-serve_all : goal.ghost-serve_all
+ghost-serve_all g a = g.p
+
+abbrev pub ghost-tell_all : goal.ghost-tell_all
+ghost-tell_all g a = g.p

@@ -1,0 +1,115 @@
+-- What one pass over a tab with loads asks of the log, what it puts out, and what it leaves, so that another one may follow.
+-- HTML Standard, "apply the history step" and "destroy a document"; that all this goes by passes is this project's own.
+use Rattle.frame_whole.specs.Tab.{AreAwakeWithRows}
+use Rattle.left_facts.specs.Left.{WereShown}
+use Rattle.load_facts.specs.Loading.{Look, is_ongoing, look_of}
+use Rattle.log_model.specs.History.{has_row}
+use Rattle.log_model.specs.Orders.{ongoing_load}
+use Rattle.log_model.specs.Places.{aim_of}
+use Rattle.log_model.specs.Seen.{Document, Place, Seen, document_of, place_of}
+use Rattle.log_model.specs.declared.job.Why.{Why}
+use Rattle.log_model.specs.declared.row_kind.RowKind.{RowKind}
+use Rattle.nav_tree.specs.Tree.{is_state}
+use Rattle.seen_laws.specs.InEvent.{InEvent, now_of}
+use Rattle.std.specs.Map.{lookup}
+use Rattle.std.specs.Prelude.{List, None, Option, Some, [], false, is_some, true, ℕ, ◌≡◌}
+use Rattle.tab_drops.specs.Dropping.{AreUnheld, HasOnlyDestroyed, HasOnlyDroppedBy, IsUnsettled, StandOrBare, StandOrMove}
+use Rattle.tab_ids.specs.declared.DocId.{DocId}
+use Rattle.tab_ids.specs.declared.NavId.{NavId}
+use Rattle.tab_ids.specs.declared.ReqId.{ReqId}
+use Rattle.tab_ids.specs.declared.StateId.{StateId}
+use Rattle.tab_moves.specs.Moving.{IsSince}
+use Rattle.tab_passes.specs.Causes.{MayCause, MayServe, show_why}
+use Rattle.tab_passes.specs.Telling.{HasOnlyTold}
+use Rattle.tab_serves.specs.Serving.{HasOnlyServed, HasWalked, ParentsShown}
+use Rattle.tab_sweeps.specs.Sweeping.{HasOnlySwept, IsStray}
+use Rattle.walk_rows.specs.Since.{AwakeSince, MovesVisited}
+
+-- ---- what a pass asks for
+
+-- each request that took the last entries of a navigable may be what an order is for
+abbrev pub TakersServe : Seen → Type 0
+TakersServe s =
+    (nav : NavId) (place : Place) (req : ReqId) → place_of s nav ≡ Some place → place.taken_by ≡ Some req → MayServe s req
+
+-- the navigable of each ongoing load stands with those above it, or has no entry; or, where a traversal runs, it or one above it is in need
+abbrev pub MayStand : Option ReqId → Seen → Type 0
+MayStand None s = StandOrBare s
+MayStand (Some req) s = StandOrMove s
+
+-- what goes on until the walk: orders may be for the cause; who is awake was so as the event began; who is visited in need was moved by the reason, unless it was never shown a document; no ongoing load was held back as the event began
+pub record IsOpen (e : InEvent) (run : Option ReqId) (cause : Why) (s : Seen) : Type 0 where
+  pub may : MayCause s cause
+  pub since : IsSince e.start s
+  pub unwoken : AwakeSince e.start [] s
+  pub moves : MovesVisited s (show_why run cause)
+  pub were : WereShown s
+  pub parents : ParentsShown s
+  pub held : AreUnheld e s
+  pub takers : TakersServe s
+
+-- all of it
+pub record MayPass (e : InEvent) (run : Option ReqId) (keep : ℕ) (cause : Why) (s : Seen) : Type 0 where
+  pub open_ : IsOpen e run cause s
+  pub loads : MayStand run s
+  pub header : keep ≡ e.header.keep
+
+-- ---- stray documents that are left
+
+-- a request is noted for the state of the document, for which an order to it may be sent; and its navigable has no entry
+pub record IsLeftStray (s : Seen) (blame : List (StateId × ReqId)) (doc : DocId) (state : StateId) : Type 0 where
+  pub req : ReqId
+  pub noted : lookup (is_state state) blame ≡ Some req
+  pub may : MayServe s req
+  pub bare : (d : Document) → document_of s doc ≡ Some d → has_row d.nav s.history.rows ≡ false
+
+-- so it is of each stray one
+abbrev pub AreLeftStrays : Seen → List (StateId × ReqId) → Type 0
+AreLeftStrays s blame = (doc : DocId) (state : StateId) → IsStray s doc state → IsLeftStray s blame doc state
+
+-- each document that is stray then is of a load that was ongoing before
+abbrev pub WereLoaded : Seen → Seen → Type 0
+WereLoaded s t = (doc : DocId) (state : StateId) → IsStray t doc state → is_some (ongoing_load s state) ≡ true
+
+-- ---- what it puts out
+
+-- where a traversal runs, ongoing loads gave way to it
+abbrev pub HasGivenWay : Seen → Option ReqId → List RowKind → List RowKind → Type 0
+HasGivenWay s None was out = out ≡ was
+HasGivenWay s (Some by) was out = HasOnlyDroppedBy s by (IsUnsettled s) was out
+
+-- stray documents were discarded, each for the request that was noted for its state, then loads of navigables without an entry dropped
+pub record HasClearedOut (e : InEvent) (blame : List (StateId × ReqId)) (was out : List RowKind) : Type 0 where
+  pub swept : List RowKind
+  pub sweeps : HasOnlySwept (now_of e was) blame was swept
+  pub destroys : HasOnlyDestroyed (now_of e swept) swept out
+
+-- all of it, in this order; then come the orders of the walk, and last those that tell length and index
+pub record HasPutOut (e : InEvent) (run : Option ReqId) (cause tells : Why) (was out : List RowKind) : Type 0 where
+  pub given : List RowKind
+  pub gives : HasGivenWay (now_of e was) run was given
+  pub blame : List (StateId × ReqId)
+  pub cleared : List RowKind
+  pub clears : HasClearedOut e blame given cleared
+  pub served : List RowKind
+  pub serves : HasOnlyServed run cause cleared served
+  pub told : HasOnlyTold tells served out
+
+-- ---- what it leaves
+
+-- what it asked of the log is so still, with all ongoing loads standing; but where not all stand, some may have been woken
+pub record HasPassed (e : InEvent) (s : Seen) : Type 0 where
+  pub walked : HasWalked e s
+  pub held : AreUnheld e s
+  pub takers : TakersServe s
+  pub rows_ : AreAwakeWithRows s
+
+-- the history and its aim, what is held back and what has joined; only ongoing loads ended; and orders may be for whom they might be
+pub record LeavesPass (s t : Seen) : Type 0 where
+  pub history : t.history ≡ s.history
+  pub aim : aim_of t ≡ aim_of s
+  pub parked : t.parked ≡ s.parked
+  pub joined : t.joined ≡ s.joined
+  pub loads : (req : ReqId) (l : Look) → look_of t req ≡ Some l → is_ongoing l ≡ true → look_of s req ≡ Some l
+  pub others : (req : ReqId) (l : Look) → look_of s req ≡ Some l → is_ongoing l ≡ false → look_of t req ≡ Some l
+  pub causes : (why : Why) → MayCause s why → MayCause t why

@@ -1,0 +1,7 @@
+//! One pass of a coordinator over a tab with loads: loads give way, stray documents are discarded, each navigable that needs it is shown its target, and who is awake is told length and index.
+#![tactic(auto)]
+
+mod noting;
+mod passing;
+
+pub use passing::pass;
