@@ -3,7 +3,7 @@ use Rattle.frame_tab.proofs.Aims.{others_pushed, own_pushed}
 use Rattle.frame_tab.proofs.Stating.{puts_nav, puts_owner}
 use Rattle.frame_tab.proofs.Swaps.{replace_keeps}
 use Rattle.hang_facts.proofs.Hung.{hangs_as, own_form, place_chain}
-use Rattle.hang_facts.proofs.Members.{has_any, into_map, into_tidied}
+use Rattle.hang_facts.proofs.Members.{IsOf, has_any, has_map, has_tidied, into_map, into_tidied}
 use Rattle.hang_facts.proofs.Targets.{IsTarget, some_is, target_has}
 use Rattle.hang_facts.specs.AsPlaces.{IsChain}
 use Rattle.hang_facts.specs.Forms.{Form, form_in, form_of, forms_of}
@@ -11,7 +11,9 @@ use Rattle.hang_facts.specs.Hanging.{Hangs, IsPlaced}
 use Rattle.hang_facts.specs.Members.{Has}
 use Rattle.log_model.proofs.Refl.{nat_eq_refl}
 use Rattle.log_model.specs.History.{History, applied, cleared, has_nav, has_row, has_state, is_of, owner_of, replaced_row, same_entry, target_entry}
-use Rattle.log_model.specs.Places.{is_shown}
+use Rattle.log_model.specs.AfterPlaces.{given_entry}
+use Rattle.log_model.specs.Equal.{holds}
+use Rattle.log_model.specs.Places.{is_given_target, is_shown}
 use Rattle.log_model.specs.Seen.{Document, Place, Seen, place_of}
 use Rattle.log_model.specs.Soundness.{IsSound, hangs_on, is_owned_by}
 use Rattle.log_model.specs.declared.row.Row.{Row}
@@ -77,6 +79,9 @@ module _ (s t : Seen) (sound : IsSound s.history) (hangs : Hangs s) (nav : NavId
     abbrev put : Row
     put = record { owner = None; nav = nav; entry = entry; step = record { 0 = 0 }; state = state; address = address; memo = memo }
 
+    abbrev replaced : History
+    replaced = applied s.history (changes.Replace nav over entry state address memo)
+
     abbrev swapped : List Row
     swapped = map (replaced_row over put) s.history.rows
 
@@ -108,6 +113,31 @@ module _ (s t : Seen) (sound : IsSound s.history) (hangs : Hangs s) (nav : NavId
             hung = hung;
             targets = λ other apart has. ap (λ (h : History). target_entry h.rows other h.current) is ∙ (replace_keeps s forms sound hangs.rows like over entry memo address place own given).others other apart (ap (λ (h : History). has_row other h.rows) (sym is) ∙ has);
           }
+
+      -- the new entry is the navigable's target, where it was to show the one that goes
+      pub replace_own : is_given_target s.history.rows s.history.current place ≡ true → has_row nav t.history.rows ≡ true → holds (λ (row : Row). same_entry row.entry entry) (target_entry t.history.rows nav t.history.current) ≡ true
+      replace_own was has =
+          ap (λ (h : History). holds (λ (row : Row). same_entry row.entry entry) (target_entry h.rows nav h.current)) is
+          ∙ sym (by_own (place.nav.0 == nav.0) (ap (λ (m : NavId). m.0 == nav.0) own ∙ nat_eq_refl nav.0))
+          ∙ (replace_keeps s forms sound hangs.rows like over entry memo address place own given).own was (ap (λ (h : History). has_row nav h.rows) (sym is) ∙ has)
+        where
+          by_own : (b : Bool) → b ≡ true → is_given_target replaced.rows replaced.current (let q : Place = cond b (given_entry entry place) place in q) ≡ holds (λ (row : Row). same_entry row.entry entry) (target_entry replaced.rows nav replaced.current)
+          by_own true h =
+              ap (λ (m : NavId). holds (λ (row : Row). same_entry row.entry entry) (target_entry replaced.rows m replaced.current)) own
+          by_own false h = absurd cc
+
+    -- the new entry is of the document state
+    pub replace_new : (row : Row) → Has t.history.rows row → row.entry ≡ entry → ((r : Row) → Has s.history.rows r → r.entry ≡ entry → ⊥) → row.state ≡ state
+    replace_new row there own unused =
+        by_test (same_entry was.it.entry over && is_of nav was.it) was.is
+      where
+        was : IsOf (replaced_row over put) s.history.rows row
+        was =
+            has_map (replaced_row over put) s.history.rows row (has_tidied swapped row (subst (λ (h : History). Has h.rows row) is there)).0
+
+        by_test : (b : Bool) → (let x : Row = cond b (record put { owner = was.it.owner; step = was.it.step }) was.it in x) ≡ row → row.state ≡ state
+        by_test true e = sym (ap (λ (r : Row). r.state) e)
+        by_test false e = absurd (unused was.it was.there (ap (λ (r : Row). r.entry) e ∙ own))
 
     -- a row of another one is left as it is
     other_row : (row : Row) → (row.nav.0 == nav.0) ≡ false → replaced_row over put row ≡ row

@@ -67,6 +67,12 @@ module _ (s : Seen) (sound : IsSound s.history) (hangs : Hangs s) (nav : NavId) 
       by_own false apart h =
           chain_more s.places place.above (place_chain s sound hangs nav place found) x own h at n up
 
+  -- who is above has a place
+  pub way_there : (x : NavId) → has_nav place.above x ≡ true → (own : Place) × (place_of s x ≡ Some own)
+  way_there x has =
+      let its : IsThere s.places x = chain_there s.places place.above (place_chain s sound hangs nav place found) x has in
+      (its.place, its.found)
+
 -- each on the way to a shown one is shown
 on_way : (s : Seen) → IsSound s.history → Hangs s → (step : ℕ) (above : List NavId) (nav : NavId) (place : Place) → place_of s nav ≡ Some place → place.above ≡ above → IsChain s.places above → is_shown s.history.rows step nav ≡ true → (x : NavId) → has_nav (nav ∷ above) x ≡ true → is_shown s.history.rows step x ≡ true
 on_way s sound hangs step [] nav place found is chain shown x has = by_own (nav.0 == x.0) refl has

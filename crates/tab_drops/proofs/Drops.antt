@@ -3,6 +3,7 @@ use Rattle.coord_facts.proofs.Held.{on_else, without_same}
 use Rattle.coord_facts.proofs.Unread.{next}
 use Rattle.each_facts.specs.Runs.{is_this}
 use Rattle.entry_facts.proofs.Skips.{without_made}
+use Rattle.frame_facts.specs.Lasting.{wish}
 use Rattle.last_facts.proofs.Rows.{dropped_lasting}
 use Rattle.load_doors.specs.Loading.{IsOpenHere}
 use Rattle.load_facts.specs.Loading.{Look, is_ongoing, look, look_of}
@@ -19,6 +20,7 @@ use Rattle.owed_facts.proofs.Requests.{req_same}
 use Rattle.owed_facts.proofs.Rows.{IsIdle, dropped_lasts, dropped_stays, load_idle, reckoned_now}
 use Rattle.owed_facts.specs.Owed.{IsLoose, IsOwed}
 use Rattle.request_facts.proofs.LookUps.{on_itself}
+use Rattle.request_facts.proofs.Readers.{on_read, reads_then}
 use Rattle.request_facts.proofs.Times.{times_none}
 use Rattle.rest_rows.proofs.Rows.{dropped_rests}
 use Rattle.rest_rows.specs.Moving.{AllRest}
@@ -59,6 +61,7 @@ leaves_none s =
       stood = λ is. is;
       loads = λ req l at ongoing. at;
       others = λ req q at other. at;
+      wishes = λ r. refl;
       orders = λ why may. may;
       movers = λ why nav by. by;
     }
@@ -78,6 +81,7 @@ leaves_then s t u one two =
       stood = λ is. two.stood (one.stood is);
       loads = λ req l at ongoing. one.loads req l (two.loads req l at ongoing) ongoing;
       others = λ req q at other. two.others req q (one.others req q at other) other;
+      wishes = reads_then wish s.requests t.requests u.requests one.wishes two.wishes;
       orders = λ why may. two.orders why (one.orders why may);
       movers = λ why nav by. two.movers why nav (one.movers why nav by);
     }
@@ -205,6 +209,7 @@ module _ (p : InPass) (out : List RowKind) (t : Tables) (pass : IsPassing p out 
         stood = (dropped_stays s p.event.event p.event.actor req (reckoned_now p.event out) idle cause).unsettled;
         loads = λ r l at ongoing. by_number r l at ongoing (r.0 == req.0) refl;
         others = λ r q at other. by_other r q at other (r.0 == req.0) refl;
+        wishes = on_read wish s.requests req (λ (q : Asked). record q { ending = Some (endings.Dropped cause) }) (λ q. refl);
         orders = λ why may r is. serves cause r (may r is);
         movers = λ why n by. dropped_moved s p.event.event p.event.actor why n by req cause;
       }

@@ -1,5 +1,6 @@
 -- Ongoing loads that give way: to the traversal that runs, where it moves their navigables, to a load that was applied above them, and to a change that took the last entries of their navigables.
 -- HTML Standard, "navigate" and "Navigables" ("ongoing navigation"), "apply the history step" and "destroy a child navigable"; the moments and their order are this project's own.
+use Rattle.frame_facts.specs.Lasting.{wish}
 use Rattle.frame_rows.specs.Lawful.{held_at_first}
 use Rattle.hang_facts.specs.Members.{Has}
 use Rattle.load_ends.specs.Standing.{is_reached}
@@ -15,6 +16,7 @@ use Rattle.log_model.specs.declared.job.Why.{Why}
 use Rattle.log_model.specs.declared.outcome.Cause.{Cause}
 use Rattle.log_model.specs.declared.row_kind.RowKind.{RowKind}
 use Rattle.mover_facts.specs.Movers.{IsMovedBy}
+use Rattle.request_facts.proofs.Readers.{SameReads}
 use Rattle.seen_laws.specs.InEvent.{InEvent}
 use Rattle.std.specs.Prelude.{List, Some, [], false, map, true, ◌++◌, ◌<◌, ◌∷◌, ◌≡◌, ◌⊎◌}
 use Rattle.tab_ids.specs.declared.NavId.{NavId}
@@ -146,7 +148,7 @@ pub record EndsLoads (Gone : NavId → Type 0) (s t : Seen) : Type 0 where
   pub ended : (req : ReqId) (nav : NavId) → IsLoadOf t req nav → Gone nav → ⊥
   pub others : (req : ReqId) (nav : NavId) → IsLoadOf s req nav → (Gone nav → ⊥) → request_of t req ≡ request_of s req
 
--- only ongoing loads end: each other request, and all else, is as it was; so what may be a cause may be so still, and who was moved by a request is so still
+-- only ongoing loads end: each other request, what each asks, and all else, is as it was; so what may be a cause may be so still, and who was moved by a request is so still
 pub record LeavesAll (s t : Seen) : Type 0 where
   pub places : t.places ≡ s.places
   pub documents : t.documents ≡ s.documents
@@ -159,5 +161,6 @@ pub record LeavesAll (s t : Seen) : Type 0 where
   pub stood : s.has_stood ≡ false → t.has_stood ≡ false
   pub loads : (req : ReqId) (l : Look) → look_of t req ≡ Some l → is_ongoing l ≡ true → look_of s req ≡ Some l
   pub others : (req : ReqId) (q : Asked) → request_of s req ≡ Some q → is_ongoing_load q ≡ false → request_of t req ≡ Some q
+  pub wishes : SameReads wish s.requests t.requests
   pub orders : (why : Why) → MayCause s why → MayCause t why
   pub movers : (why : Why) (nav : NavId) → IsMovedBy s why nav → IsMovedBy t why nav

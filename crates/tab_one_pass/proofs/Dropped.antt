@@ -35,7 +35,7 @@ use Rattle.tab_ids.specs.declared.DocId.{DocId}
 use Rattle.tab_ids.specs.declared.NavId.{NavId}
 use Rattle.tab_ids.specs.declared.ReqId.{ReqId}
 use Rattle.tab_ids.specs.declared.StateId.{StateId}
-use Rattle.tab_one_pass.specs.Noting.{AreNoted, IsNoted, IsToNote, noted_for, noting_in}
+use Rattle.tab_one_pass.specs.Noting.{AreNoted, IsNotedBy, IsToNote, noted_for, noting_in}
 use Rattle.tab_one_pass.specs.Passing.{AreLeftStrays, IsLeftStray, TakersServe}
 use Rattle.tab_passes.specs.Causes.{MayServe}
 use Rattle.tab_passes.specs.Passing.{InPass, IsPassing}
@@ -132,8 +132,8 @@ module _ (p : InPass) (was : List RowKind) (t : Tables) (pass : IsPassing p was 
   -- nothing is noted for a state without an ongoing load
   unnoted : (by : Option ReqId) (state : StateId) → ongoing_load s state ≡ None → (req : ReqId) → IsToNote t by (made_in t.tree) state req → ⊥
   unnoted by state none req its =
-      let it : IsNoting t by its.nav state req = noting_is t by its.nav state req its.is in
-      let apart : (state.0 == it.load.state.0) ≡ false = table_unloaded s t.loads pass.work.loads state none its.nav it.load it.at in
+      let it : IsNoting t by its.it state req = noting_is t by its.it state req its.is in
+      let apart : (state.0 == it.load.state.0) ≡ false = table_unloaded s t.loads pass.work.loads state none its.it it.load it.at in
       let same : (state.0 == it.load.state.0) ≡ true = ap (λ (x : StateId). state.0 == x.0) it.state_is ∙ nat_eq_refl state.0 in
       let never : true ≡ false = sym same ∙ apart in
       cc
@@ -200,17 +200,17 @@ module _ (p : InPass) (was : List RowKind) (t : Tables) (pass : IsPassing p was 
           its : IsItsLoad stray.document
           its = its_load doc stray.document q found here
 
-          one : IsNoted t (Some by) (made_in t.tree) noted state
+          one : IsNotedBy (noting_in t (Some by)) (made_in t.tree) noted state
           one =
               are.own state by (record {
-                nav = its.nav;
+                it = its.nav;
                 there = its.there;
                 is = noting_of t (Some by) its.nav its.load by its.at refl ∙ ap (λ (st : StateId). let pair : StateId × ReqId = (st, by) in Some pair) (its.state_is ∙ stray.its_state);
               })
 
           by_is : by ≡ one.req
           by_is =
-              let it : IsNoting t (Some by) one.its.nav state one.req = noting_is t (Some by) one.its.nav state one.req one.its.is in
+              let it : IsNoting t (Some by) one.its.it state one.req = noting_is t (Some by) one.its.it state one.req one.its.is in
               let same : Some by ≡ Some one.req = it.noted in cc
 
       pub moved_blamed : AreBlamed x noted
@@ -267,27 +267,27 @@ module _ (p : InPass) (was : List RowKind) (t : Tables) (pass : IsPassing p was 
             let taken : node.node.destroyed_by ≡ Some taker.0 = node.tied.destroyed_by ∙ taker.1 in
             rw bare_ (rw node.there taken)
 
-        one : IsNoted t None (made_in t.tree) noted state
+        one : IsNotedBy (noting_in t None) (made_in t.tree) noted state
         one =
             are.own state taker.0 (record {
-              nav = its.nav;
+              it = its.nav;
               there = its.there;
               is = noting_of t None its.nav its.load taker.0 its.at noted_now ∙ ap (λ (st : StateId). let pair : StateId × ReqId = (st, taker.0) in Some pair) (its.state_is ∙ stray.its_state);
             })
 
         -- whoever is noted took the entries of a navigable
         serves : MayServe x one.req
-        serves = by_node (has_none (history_held t.store).rows one.its.nav) refl (node_of one.its.nav t.tree) refl it.noted
+        serves = by_node (has_none (history_held t.store).rows one.its.it) refl (node_of one.its.it t.tree) refl it.noted
           where
-            it : IsNoting t None one.its.nav state one.req
-            it = noting_is t None one.its.nav state one.req one.its.is
+            it : IsNoting t None one.its.it state one.req
+            it = noting_is t None one.its.it state one.req one.its.is
 
-            by_node : (b : Bool) → has_none (history_held t.store).rows one.its.nav ≡ b → (o : Option Node) → node_of one.its.nav t.tree ≡ o → (let r : Option ReqId = if b then (option_and_then (λ (node : Node). node.destroyed_by) o) else None in r) ≡ Some one.req → MayServe x one.req
+            by_node : (b : Bool) → has_none (history_held t.store).rows one.its.it ≡ b → (o : Option Node) → node_of one.its.it t.tree ≡ o → (let r : Option ReqId = if b then (option_and_then (λ (node : Node). node.destroyed_by) o) else None in r) ≡ Some one.req → MayServe x one.req
             by_node false bare_ o there h = absurd cc
             by_node true bare_ None there h = absurd cc
             by_node true bare_ (Some node) there h =
-                let place = its_place (tables.look_of s t.running) t.tree one.its.nav node pass.work.holds.navs there in
-                takers one.its.nav place.place one.req (place_was one.its.nav ∙ place.at) (sym place.tied.destroyed_by ∙ h)
+                let place = its_place (tables.look_of s t.running) t.tree one.its.it node pass.work.holds.navs there in
+                takers one.its.it place.place one.req (place_was one.its.it ∙ place.at) (sym place.tied.destroyed_by ∙ h)
 
         nav_bare : has_row stray.document.nav s.history.rows ≡ false
         nav_bare =

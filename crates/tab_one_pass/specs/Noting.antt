@@ -4,14 +4,16 @@ use Rattle.hang_facts.specs.Members.{Has}
 use Rattle.indexmap.specs.IndexMap.{insert_entry}
 use Rattle.load_table.specs.Loads.{ongoing_load}
 use Rattle.load_table.specs.declared.load.Load.{Load}
-use Rattle.nav_tree.specs.Tree.{is_state, node_of}
+use Rattle.log_model.specs.History.{has_state}
+use Rattle.nav_tree.specs.Tree.{docs_of, is_state, node_of, state_of}
 use Rattle.nav_tree.specs.declared.node.Node.{Node}
 use Rattle.std.specs.Map.{lookup}
 use Rattle.std.specs.Option.{option_map_or}
-use Rattle.std.specs.Prelude.{List, None, Option, Some, if◌then◌else◌, option_and_then, option_map, ◌≡◌}
+use Rattle.std.specs.Prelude.{List, None, Option, Some, false, if◌then◌else◌, option_and_then, option_map, ◌≡◌}
 use Rattle.step_index.specs.Held.{history_held}
 use Rattle.tab_doors.specs.Dues.{has_none}
 use Rattle.tab_doors.specs.declared.tables.Tables.{Tables}
+use Rattle.tab_ids.specs.declared.DocId.{DocId}
 use Rattle.tab_ids.specs.declared.NavId.{NavId}
 use Rattle.tab_ids.specs.declared.ReqId.{ReqId}
 use Rattle.tab_ids.specs.declared.StateId.{StateId}
@@ -40,19 +42,42 @@ with_noting noting noted = option_map_or (λ (one : StateId × ReqId). insert_en
 
 -- ---- what was noted
 
--- the request is to be noted under the document state, for the load of one of these navigables
-pub record IsToNote (t : Tables) (by : Option ReqId) (navs : List NavId) (state : StateId) (req : ReqId) : Type 0 where
-  pub nav : NavId
-  pub there : Has navs nav
-  pub is : noting_in t by nav ≡ Some (state, req)
+-- the request is to be noted under the document state, for one of these
+pub record IsToNoteBy {A : Type 0} (noting : A → Option (StateId × ReqId)) (xs : List A) (state : StateId) (req : ReqId) : Type 0 where
+  pub it : A
+  pub there : Has xs it
+  pub is : noting it ≡ Some (state, req)
 
 -- one that is to be noted under the document state is
-pub record IsNoted (t : Tables) (by : Option ReqId) (navs : List NavId) (noted : List (StateId × ReqId)) (state : StateId) : Type 0 where
+pub record IsNotedBy {A : Type 0} (noting : A → Option (StateId × ReqId)) (xs : List A) (noted : List (StateId × ReqId)) (state : StateId) : Type 0 where
   pub req : ReqId
   pub found : lookup (is_state state) noted ≡ Some req
-  pub its : IsToNote t by navs state req
+  pub its : IsToNoteBy noting xs state req
 
 -- so it is wherever one is to be; and what was noted under each other document state stays
-pub record AreNoted (t : Tables) (by : Option ReqId) (navs : List NavId) (was noted : List (StateId × ReqId)) : Type 0 where
-  pub own : (state : StateId) (req : ReqId) → IsToNote t by navs state req → IsNoted t by navs noted state
-  pub others : (state : StateId) → ((req : ReqId) → IsToNote t by navs state req → ⊥) → lookup (is_state state) noted ≡ lookup (is_state state) was
+pub record AreNotedBy {A : Type 0} (noting : A → Option (StateId × ReqId)) (xs : List A) (was noted : List (StateId × ReqId)) : Type 0 where
+  pub own : (state : StateId) (req : ReqId) → IsToNoteBy noting xs state req → IsNotedBy noting xs noted state
+  pub others : (state : StateId) → ((req : ReqId) → IsToNoteBy noting xs state req → ⊥) → lookup (is_state state) noted ≡ lookup (is_state state) was
+
+-- of the loads of these navigables
+abbrev pub IsToNote : Tables → Option ReqId → List NavId → StateId → ReqId → Type 0
+IsToNote t by navs state req = IsToNoteBy (noting_in t by) navs state req
+
+abbrev pub AreNoted : Tables → Option ReqId → List NavId → List (StateId × ReqId) → List (StateId × ReqId) → Type 0
+AreNoted t by navs was noted = AreNotedBy (noting_in t by) navs was noted
+
+-- ---- documents of entries
+
+-- the document state for which the document is there, if it has an entry
+abbrev pub entered_in : Tables → DocId → Option StateId
+entered_in t doc =
+    option_and_then (λ (state : StateId). if has_state state (history_held t.store).rows then Some state else None) (state_of doc t.tree)
+
+-- that with this request
+abbrev pub entry_noting : Tables → ReqId → DocId → Option (StateId × ReqId)
+entry_noting t req doc = option_map {U = StateId × ReqId} (λ (state : StateId). (state, req)) (entered_in t doc)
+
+-- the request is noted under each document state that has entries, for which a document is there; and what was noted under each state without an entry stays
+pub record EntriesAreNoted (t : Tables) (req : ReqId) (was noted : List (StateId × ReqId)) : Type 0 where
+  pub own : (doc : DocId) (state : StateId) → Has (docs_of t.tree) doc → entered_in t doc ≡ Some state → lookup (is_state state) noted ≡ Some req
+  pub others : (state : StateId) → has_state state (history_held t.store).rows ≡ false → lookup (is_state state) noted ≡ lookup (is_state state) was

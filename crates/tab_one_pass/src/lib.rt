@@ -4,4 +4,5 @@
 mod noting;
 mod passing;
 
+pub use noting::{note_entries, note_loads};
 pub use passing::pass;

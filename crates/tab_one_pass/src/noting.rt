@@ -2,14 +2,15 @@
 ghost use Rattle.std.specs.Prelude.{◌≡◌, OnOk, option_map};
 ghost use Rattle.apply_plan.specs.Order.{made_in};
 ghost use Rattle.load_table.specs.Loads.{ongoing_load};
-ghost use Rattle.tab_one_pass.specs.Noting.{AreNoted, noted_for, noting_in, taker_in, with_noting};
+ghost use Rattle.tab_one_pass.specs.Noting.{AreNoted, EntriesAreNoted, entered_in, entry_noting, noted_for, noting_in, taker_in, with_noting};
 
 use address::OutOfMemory;
+use entry_store::Store;
 use indexmap::IndexMap;
 use load_table::LoadTable;
 use tab_doors::Tables;
 use tab_drops::is_bare;
-use tab_ids::{NavId, ReqId, StateId};
+use tab_ids::{DocId, NavId, ReqId, StateId};
 
 /// The document state of a navigable's ongoing load.
 fn load_state(loads: &LoadTable, nav: NavId) -> Option<StateId>
@@ -70,7 +71,7 @@ fn note(
 }
 
 /// Notes, under the document state of each ongoing load, the request for which the load is to give way: this one, or, where none is given, that which took the last entries of its navigable, if it did.
-pub(crate) fn note_loads(
+pub fn note_loads(
     tables: &Tables,
     blame: &mut IndexMap<StateId, ReqId>,
     by: Option<ReqId>,
@@ -79,6 +80,51 @@ pub(crate) fn note_loads(
 {
     for i in 0..tables.tree.len() {
         note(tables, blame, by, tables.tree.at(i))?;
+    }
+    Ok(())
+}
+
+/// The document state for which a document is there, if it has an entry.
+fn entered(tables: &Tables, doc: DocId) -> Option<StateId>
+    ensures { result ≡ entered_in tables.now doc }
+{
+    let state = tables.tree.state_of(doc)?;
+    if tables.store.has_state(state) {
+        Some(state)
+    } else {
+        None
+    }
+}
+
+/// Notes the request under that state, if there is one.
+fn note_entry(
+    tables: &Tables,
+    blame: &mut IndexMap<StateId, ReqId>,
+    req: ReqId,
+    doc: DocId,
+) -> Result<(), OutOfMemory>
+    ensures { OnOk result (blame.new.entries ≡ with_noting (entry_noting tables.now req doc) blame.old.entries) }
+{
+    match entered(tables, doc) {
+        Some(state) => {
+            blame.insert(state, req)?;
+        }
+        None => {}
+    }
+    Ok(())
+}
+
+/// Notes the request, which is about to change the history, under each document state that has entries and for which a document is there: whichever has none after the change, its document is discarded for the request.
+pub fn note_entries(
+    tables: &Tables,
+    blame: &mut IndexMap<StateId, ReqId>,
+    req: ReqId,
+) -> Result<(), OutOfMemory>
+    ensures { OnOk result (EntriesAreNoted tables.now req blame.old.entries blame.new.entries) }
+{
+    let all = tables.tree.docs()?;
+    for i in 0..all.len() {
+        note_entry(tables, blame, req, *all.at(i))?;
     }
     Ok(())
 }

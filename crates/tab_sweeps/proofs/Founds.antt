@@ -50,7 +50,7 @@ module _ (p : InPass) (move : Option Move) {left : List DocId} (out : List RowKi
   abbrev s : Seen
   s = now_of p.event out
 
-  held : (state : StateId) → has_state state (history_held t.store).rows ≡ has_state state s.history.rows
+  pub held : (state : StateId) → has_state state (history_held t.store).rows ≡ has_state state s.history.rows
   held state = state_held state (history_held t.store) s.history leaving.work.holds.history
 
   nav_known : (doc : DocId) (d : Document) → document_of s doc ≡ Some d → nav_in t.whose.entries doc ≡ Some d.nav
@@ -72,25 +72,39 @@ module _ (p : InPass) (move : Option Move) {left : List DocId} (out : List RowKi
       let parts = live_parts state seen.document (ap (λ (y : Sight). is_live_for state y) seen.is ∙ there.lives) in
       record { document = seen.document; found = seen.found; its_state = parts.0; ready = parts.1; undiscarded = parts.2 }
 
+  -- one that is made and there is the one for its state
+  here_lives : (doc : DocId) (state : StateId) (it : IsHere doc state) → is_live_for state (sight it.document) ≡ true
+  here_lives doc state it =
+      rw (ap (λ (x : StateId). x.0 == state.0) it.its_state ∙ nat_eq_refl state.0) (rw it.ready (rw it.undiscarded (rw (leaving.going.tab.docs.each doc it.document it.found).live.unknown refl)))
+
+  pub listed_here : (doc : DocId) (state : StateId) → IsHere doc state → state_of doc t.tree ≡ Some state
+  listed_here doc state it = by_state (state_of doc t.tree) refl
+    where
+      lives : is_live_for state (sight it.document) ≡ true
+      lives = here_lives doc state it
+
+      by_state : (o : Option StateId) → state_of doc t.tree ≡ o → state_of doc t.tree ≡ Some state
+      by_state None none =
+          absurd (has_state_in (map sight s.documents) t leaving.work.holds.documents doc (sight it.document) (sight_of s doc it.document it.found) state lives none)
+      by_state (Some x) is =
+          let its = here_for doc x is in
+          let two : Some its.document ≡ Some it.document = sym its.found ∙ it.found in
+          let one : its.document ≡ it.document = cc in
+          let same : x ≡ state = sym its.its_state ∙ ap (λ (d : Document). d.state) one ∙ it.its_state in
+          is ∙ ap (λ (y : StateId). Some y) same
+
   -- ---- a stray one
 
   module _ (doc : DocId) (state : StateId) (stray : IsStray s doc state) where
+    abbrev is_here : IsHere doc state
+    is_here =
+        record { document = stray.document; found = stray.found; its_state = stray.its_state; ready = stray.ready; undiscarded = stray.undiscarded }
+
     pub stray_lives : is_live_for state (sight stray.document) ≡ true
-    stray_lives =
-        rw (ap (λ (x : StateId). x.0 == state.0) stray.its_state ∙ nat_eq_refl state.0) (rw stray.ready (rw stray.undiscarded (rw (leaving.going.tab.docs.each doc stray.document stray.found).live.unknown refl)))
+    stray_lives = here_lives doc state is_here
 
     pub stray_listed : state_of doc t.tree ≡ Some state
-    stray_listed = by_state (state_of doc t.tree) refl
-      where
-        by_state : (o : Option StateId) → state_of doc t.tree ≡ o → state_of doc t.tree ≡ Some state
-        by_state None none =
-            absurd (has_state_in (map sight s.documents) t leaving.work.holds.documents doc (sight stray.document) (sight_of s doc stray.document stray.found) state stray_lives none)
-        by_state (Some x) is =
-            let its = here_for doc x is in
-            let two : Some its.document ≡ Some stray.document = sym its.found ∙ stray.found in
-            let one : its.document ≡ stray.document = cc in
-            let same : x ≡ state = sym its.its_state ∙ ap (λ (d : Document). d.state) one ∙ stray.its_state in
-            is ∙ ap (λ (y : StateId). Some y) same
+    stray_listed = listed_here doc state is_here
 
     pub stray_known : stray_in t doc ≡ Some state
     stray_known =
@@ -157,7 +171,7 @@ module _ (p : InPass) (move : Option Move) {left : List DocId} (out : List RowKi
       parts = live_parts e.0 seen.document (ap (λ (y : Sight). is_live_for e.0 y) seen.is ∙ one.passes)
 
   -- one that is there is in the table
-  in_table : (doc : DocId) (state : StateId) → state_of doc t.tree ≡ Some state → Has (docs_of t.tree) doc
+  pub in_table : (doc : DocId) (state : StateId) → state_of doc t.tree ≡ Some state → Has (docs_of t.tree) doc
   in_table doc state is = by_place (find (is_placed doc) t.tree.places) refl is
     where
       by_place : (o : Option (StateId × live_place.Place)) → find (is_placed doc) t.tree.places ≡ o → option_map (λ (e : StateId × live_place.Place). e.0) o ≡ Some state → Has (docs_of t.tree) doc
