@@ -27,7 +27,11 @@ use Rattle.tab_drops.proofs.Loads.{IsAskedFor, asked_for, load_now, open_of, sol
 use Rattle.tab_drops.proofs.ForCallers.{load_applied, stand_reached}
 use Rattle.asked_facts.specs.Asking.{ArePlain}
 use Rattle.coord_facts.proofs.Applied.{AreDocuments, all_pushed, all_replaced, push_places, replace_places}
-use Rattle.coord_facts.proofs.Held.{on_else}
+use Rattle.coord_facts.proofs.Held.{on_else, without_same}
+use Rattle.load_facts.specs.Loading.{IsLoading, Look, is_ongoing}
+use Rattle.load_whereabouts.specs.Whereabouts.{times_on_way}
+use Rattle.request_facts.proofs.Times.{times_none}
+use Rattle.tab_whole.proofs.Where.{at_most_once}
 use Rattle.coord_facts.proofs.Unread.{next}
 use Rattle.hang_facts.proofs.Forms.{nav_is}
 use Rattle.hang_facts.proofs.Hung.{has_begun, not_above_itself}
@@ -57,7 +61,7 @@ use Rattle.seen_laws.specs.InEvent.{InEvent, now_of}
 use Rattle.shown_ways.proofs.Changes.{push_keeps, push_left, push_own, replace_left, replace_new, replace_own, replace_targets}
 use Rattle.shown_ways.proofs.Keeps.{shown_on_way, shown_then, shown_was, way_more, way_there}
 use Rattle.shown_ways.specs.Ways.{KeepsTargets, hanging}
-use Rattle.std.proofs.Common.{Bool, List, None, Option, Some, [], ap, arith, cond, false, if◌then◌else◌, map, not, refl, subst, sym, true, ℕ, ◌&&◌, ◌+◌, ◌==◌, ◌||◌, ◌∙◌, ◌∷◌, ◌≡◌, ◌≤◌, inl, inr, ◌⊎◌}
+use Rattle.std.proofs.Common.{Bool, List, None, Option, Some, [], ap, arith, cond, false, if◌then◌else◌, map, not, refl, subst, sym, true, ℕ, ◌&&◌, ◌+◌, ◌==◌, ◌||◌, ◌∙◌, ◌∷◌, ◌≡◌, ◌≤◌, ◌<◌, inl, inr, ◌⊎◌}
 use Rattle.std.proofs.lemmas.Bool.{and_parts}
 use Rattle.std.specs.List.{list_any}
 use Rattle.std.specs.Prelude.{is_some, option_map}
@@ -572,6 +576,7 @@ module _ (p : InPass) (out : List RowKind) (t : Tables) (passing : IsPassing p o
   record WasLoad (r : ReqId) (m : NavId) : Type 0 where
     before : IsLoadOf s r m
     other : (m.0 == load.nav.0) ≡ false
+    unlike : (r.0 == load.req.0) ≡ false
 
   was_load : (r : ReqId) (m : NavId) → IsLoadOf n r m → WasLoad r m
   was_load r m its = by_req (r.0 == load.req.0) refl
@@ -590,7 +595,7 @@ module _ (p : InPass) (out : List RowKind) (t : Tables) (passing : IsPassing p o
 
       by_req : (b : Bool) → (r.0 == load.req.0) ≡ b → WasLoad r m
       by_req true same = absurd (ended same)
-      by_req false apart = record { before = before; other = by_nav (m.0 == load.nav.0) refl }
+      by_req false apart = record { before = before; other = by_nav (m.0 == load.nav.0) refl; unlike = apart }
         where
           before : IsLoadOf s r m
           before = record { look = its.look; at = sym (other_look r apart) ∙ its.at; ongoing = its.ongoing; loads_it = its.loads_it }
@@ -605,6 +610,39 @@ module _ (p : InPass) (out : List RowKind) (t : Tables) (passing : IsPassing p o
               let own_ : IsLoadOf s load.req m = load_now s load.req m q asked_at (tie p out t passing nav load at idle may).ongoing (ap (λ (w : Request). loads_nav m w) its_what ∙ ap (λ (x : NavId). nav.0 == x.0) same ∙ nat_eq_refl nav.0) in
               let never : true ≡ false = sym (ap (λ (x : ReqId). r.0 == x.0) (sym (mine_ own_)) ∙ nat_eq_refl r.0) ∙ apart in
               absurd cc
+
+  -- so each ongoing one was
+  pub look_was : (r : ReqId) (l : Look) → look_of n r ≡ Some l → is_ongoing l ≡ true → look_of s r ≡ Some l
+  look_was r l found on = same (was_load r its.nav its_load).before
+    where
+      its : IsLoading n l
+      its = tab_n.loading.each r l found on
+
+      its_load : IsLoadOf n r its.nav
+      its_load =
+          record { look = l; at = found; ongoing = on; loads_it = ap (λ (w : Request). loads_nav its.nav w) its.what ∙ nat_eq_refl its.nav.0 }
+
+      same : IsLoadOf s r its.nav → look_of s r ≡ Some l
+      same before = other_then (r.0 == load.req.0) refl before
+        where
+          other_then : (b : Bool) → (r.0 == load.req.0) ≡ b → IsLoadOf s r its.nav → look_of s r ≡ Some l
+          other_then false apart b = sym (other_look r apart) ∙ found
+          other_then true is b =
+              let its_apart : (r.0 == load.req.0) ≡ false = (was_load r its.nav its_load).unlike in
+              let never : true ≡ false = sym is ∙ its_apart in
+              absurd cc
+
+  -- the same have joined, which are no loads
+  pub joined_same : n.joined ≡ s.joined
+  joined_same =
+      ap (λ (x : Seen). x.joined) now_is ∙ without_same s.joined load.req unjoined
+    where
+      way : 0 < times_on_way (request_of s load.req)
+      way =
+          (let going_ = (tie p out t passing nav load at idle may).ongoing in let one : 0 < times_on_way (request_of s load.req) = rw asked_at (rw going_ (omega arith)) in one)
+
+      unjoined : has_req s.joined load.req ≡ false
+      unjoined = (let few = at_most_once None p.loads p.hand s tab_s load.req in times_none load.req s.joined (omega (arith, way, few)))
 
   -- ---- ongoing loads
 

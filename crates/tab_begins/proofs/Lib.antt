@@ -6,3 +6,4 @@ pub mod Afters
 pub mod Strays
 pub mod Takes
 pub mod Traverses
+pub mod Turnings

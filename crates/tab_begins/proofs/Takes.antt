@@ -9,9 +9,9 @@ use Rattle.seen_laws.specs.InEvent.{now_of}
 use Rattle.std.proofs.Common.{List, None, Option, Some, ap, refl, subst, sym, inl, inr, ◌∙◌, ◌≡◌, ◌⊎◌, true}
 use Rattle.tab_applies.proofs.Dues.{own_nav}
 use Rattle.tab_applies.specs.Applying.{HasApplied, MayApply}
-use Rattle.tab_begins.proofs.Afters.{applied_last, joined_then, wishes_then, loads_then, open_then}
+use Rattle.tab_begins.proofs.Afters.{applied_last, documents_same, joined_same, joined_then, look_was, wishes_then, loads_then, open_then}
 use Rattle.tab_begins.proofs.Strays.{blamed_then}
-use Rattle.tab_begins.specs.Taking.{HasTaken, MayTake, NoneBelow}
+use Rattle.tab_begins.specs.Taking.{HasTaken, KeepsQueue, MayTake, NoneBelow}
 use Rattle.tab_doors.specs.Working.{KeepsRun, KeepsStore}
 use Rattle.tab_doors.specs.declared.tables.Tables.{Tables}
 use Rattle.tab_drops.proofs.Turns.{below_back, reached_same}
@@ -25,6 +25,8 @@ use Rattle.tab_one_pass.specs.Noting.{AreNoted, EntriesAreNoted}
 use Rattle.tab_one_pass.specs.Passing.{IsOpen}
 use Rattle.tab_passes.specs.Causes.{MayServe}
 use Rattle.tab_passes.specs.Passing.{InPass, IsPassing}
+use Rattle.frame_facts.specs.Lasting.{wish}
+use Rattle.request_facts.proofs.Readers.{reads_then}
 use Rattle.log_model.specs.Equal.{has_req}
 use Rattle.tab_sweeps.specs.Sweeping.{AreBlamed}
 use Rattle.tab_turns.proofs.Turned.{turning_on}
@@ -85,6 +87,15 @@ module _ (p : InPass) (out : List RowKind) (t : Tables) (passing : IsPassing p o
       taken_turning turning =
           turning_on p.event mid new (inl left.parked) left.wishes (λ r has. ap (λ (l : List ReqId). has_req l r) (sym left.joined) ∙ has)
           (turning_on p.event out mid (inl it.parked) (wishes_then p out t passing nav load at idle may.may mid m mid_pass it) (joined_then p out t passing nav load at idle may.may mid m mid_pass it) turning)
+
+      pub taken_queue : KeepsQueue s x
+      taken_queue =
+          record {
+            joined = left.joined ∙ joined_same p out t passing nav load at idle may.may mid m mid_pass it;
+            wishes = reads_then wish s.requests y.requests x.requests (wishes_then p out t passing nav load at idle may.may mid m mid_pass it) left.wishes;
+            documents = left.documents ∙ documents_same p out t passing nav load at idle may.may mid m mid_pass it;
+            loads = λ r l found on. look_was p out t passing nav load at idle may.may mid m mid_pass it r l (left.loads r l found on) on;
+          }
 
       pub taken_gone : NoneBelow x nav
       taken_gone r n its below = ends.ended r n its (below_back y x left nav n below)

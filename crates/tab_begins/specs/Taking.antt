@@ -1,13 +1,16 @@
 -- The turns of a ready load and of a traversal: what they ask of the log, what they put out, and that a pass may follow.
 -- HTML Standard, "finalize a cross-document navigation", "navigate" and "traverse the history by a delta"; that a load waits in the queue until all stand is this project's own.
+use Rattle.frame_facts.specs.Lasting.{wish}
 use Rattle.load_doors.specs.Applying.{new_entry}
+use Rattle.load_facts.specs.Loading.{Look, is_ongoing, look_of}
 use Rattle.load_table.specs.declared.load.Load.{Load}
 use Rattle.log_model.specs.Seen.{Place, Seen, place_of}
 use Rattle.log_model.specs.declared.job.Why.{Why}
 use Rattle.log_model.specs.declared.row_kind.RowKind.{RowKind}
 use Rattle.navigate_core.specs.Navigations.{change_for}
+use Rattle.request_facts.proofs.Readers.{SameReads}
 use Rattle.seen_laws.specs.InEvent.{InEvent, now_of}
-use Rattle.std.specs.Prelude.{List, None, Option, Some, [], ◌++◌, ◌∷◌, ◌≡◌}
+use Rattle.std.specs.Prelude.{List, None, Option, Some, [], true, ◌++◌, ◌∷◌, ◌≡◌}
 use Rattle.tab_applies.specs.Applying.{MayApply}
 use Rattle.tab_doors.specs.declared.tables.Tables.{Tables}
 use Rattle.tab_drops.specs.Dropping.{HasOnlyDroppedBy, IsBelowNav, IsLoadOf, StandOrMove}
@@ -39,6 +42,13 @@ pub record HasTaken (e : InEvent) (t : Tables) (nav : NavId) (load : Load) (was 
   pub applied : List RowKind
   pub is : applied ≡ was ++ rows.Applied load.req (change_for load over (new_entry t)) ∷ []
   pub drops : HasOnlyDroppedBy (now_of e applied) load.req (IsBelowNav (now_of e applied) nav) applied out
+
+-- the same requests have joined, each asks what it asked, documents are as they were, and each ongoing load was so
+pub record KeepsQueue (s t : Seen) : Type 0 where
+  pub joined : t.joined ≡ s.joined
+  pub wishes : SameReads wish s.requests t.requests
+  pub documents : t.documents ≡ s.documents
+  pub loads : (req : ReqId) (l : Look) → look_of t req ≡ Some l → is_ongoing l ≡ true → look_of s req ≡ Some l
 
 -- ---- a traversal
 

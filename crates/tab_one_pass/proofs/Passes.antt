@@ -1,4 +1,6 @@
 -- One part of a pass after the other: what it leaves, and what goes on.
+use Rattle.frame_facts.specs.Lasting.{Wish, wish}
+use Rattle.request_facts.proofs.Readers.{reads_then}
 use Rattle.tab_sweeps.proofs.Loads.{loaded_never, unloaded_by}
 use Rattle.asked_facts.specs.Asking.{ArePlain}
 use Rattle.frame_whole.specs.Tab.{AreAwakeWithRows}
@@ -39,9 +41,18 @@ use Rattle.log_model.specs.declared.row_kind.RowKind.TheVariants as rows
 
 -- ---- what is left
 
+-- what a request asks, read off its wish or its look
+wish_what : (o : Option Asked) → option_map (λ (w : Wish). w.what) (option_map wish o) ≡ option_map (λ (q : Asked). q.what) o
+wish_what None = refl
+wish_what (Some q) = refl
+
+look_what : (o : Option Asked) → option_map (λ (l : Look). l.what) (option_map look o) ≡ option_map (λ (q : Asked). q.what) o
+look_what None = refl
+look_what (Some q) = refl
+
 pub left_none : (s : Seen) → LeavesPass s s
 left_none s =
-    record { history = refl; aim = refl; parked = refl; joined = refl; loads = λ req l at on. at; others = λ req l at off. at; causes = λ why may. may }
+    record { history = refl; aim = refl; parked = refl; joined = refl; loads = λ req l at on. at; others = λ req l at off. at; whats = λ r. refl; causes = λ why may. may }
 
 pub left_then : (s t u : Seen) → LeavesPass s t → LeavesPass t u → LeavesPass s u
 left_then s t u one two =
@@ -52,6 +63,7 @@ left_then s t u one two =
       joined = two.joined ∙ one.joined;
       loads = λ req l at on. one.loads req l (two.loads req l at on) on;
       others = λ req l at off. two.others req l (one.others req l at off) off;
+      whats = reads_then (λ (q : Asked). q.what) s.requests t.requests u.requests one.whats two.whats;
       causes = λ why may. two.causes why (one.causes why may);
     }
 
@@ -65,6 +77,7 @@ left_drops s t left =
       joined = left.joined;
       loads = left.loads;
       others = λ req l at off. by_found req l off (request_of s req) refl at;
+      whats = λ r. sym (wish_what (request_in t.requests r)) ∙ ap (option_map (λ (w : Wish). w.what)) (left.wishes r) ∙ wish_what (request_in s.requests r);
       causes = left.orders;
     }
   where
@@ -106,6 +119,7 @@ left_orders e was out only history aim parked causes =
       joined = joined_same e was out only;
       loads = λ req l at on. sym (looks_same e was out only req) ∙ at;
       others = λ req l at off. looks_same e was out only req ∙ at;
+      whats = λ r. sym (look_what (request_in (now_of e out).requests r)) ∙ ap (option_map (λ (l : Look). l.what)) (looks_same e was out only r) ∙ look_what (request_in (now_of e was).requests r);
       causes = causes;
     }
 

@@ -6,10 +6,11 @@ use Rattle.load_facts.specs.Loading.{Look, is_ongoing, look_of}
 use Rattle.log_model.specs.History.{has_row}
 use Rattle.log_model.specs.Orders.{ongoing_load}
 use Rattle.log_model.specs.Places.{aim_of}
-use Rattle.log_model.specs.Seen.{Document, Place, Seen, document_of, place_of}
+use Rattle.log_model.specs.Seen.{Asked, Document, Place, Seen, document_of, place_of}
 use Rattle.log_model.specs.declared.job.Why.{Why}
 use Rattle.log_model.specs.declared.row_kind.RowKind.{RowKind}
 use Rattle.nav_tree.specs.Tree.{is_state}
+use Rattle.request_facts.proofs.Readers.{SameReads}
 use Rattle.seen_laws.specs.InEvent.{InEvent, now_of}
 use Rattle.std.specs.Map.{lookup}
 use Rattle.std.specs.Prelude.{List, None, Option, Some, [], false, is_some, true, ℕ, ◌≡◌}
@@ -104,7 +105,7 @@ pub record HasPassed (e : InEvent) (s : Seen) : Type 0 where
   pub takers : TakersServe s
   pub rows_ : AreAwakeWithRows s
 
--- the history and its aim, what is held back and what has joined; only ongoing loads ended; and orders may be for whom they might be
+-- the history and its aim, what is held back and what has joined, and what each request asks; only ongoing loads ended; and orders may be for whom they might be
 pub record LeavesPass (s t : Seen) : Type 0 where
   pub history : t.history ≡ s.history
   pub aim : aim_of t ≡ aim_of s
@@ -112,4 +113,5 @@ pub record LeavesPass (s t : Seen) : Type 0 where
   pub joined : t.joined ≡ s.joined
   pub loads : (req : ReqId) (l : Look) → look_of t req ≡ Some l → is_ongoing l ≡ true → look_of s req ≡ Some l
   pub others : (req : ReqId) (l : Look) → look_of s req ≡ Some l → is_ongoing l ≡ false → look_of t req ≡ Some l
+  pub whats : SameReads (λ (q : Asked). q.what) s.requests t.requests
   pub causes : (why : Why) → MayCause s why → MayCause t why
