@@ -632,6 +632,14 @@ module _ (p : InPass) (out : List RowKind) (t : Tables) (passing : IsPassing p o
               let never : true ≡ false = sym is ∙ its_apart in
               absurd cc
 
+  -- its own has ended
+  pub over_then : (l : Look) → look_of n load.req ≡ Some l → is_ongoing l ≡ true → ⊥
+  over_then l found on =
+      let its : IsLoading n l = tab_n.loading.each load.req l found on in
+      let its_load : IsLoadOf n load.req its.nav = record { look = l; at = found; ongoing = on; loads_it = ap (λ (w : Request). loads_nav its.nav w) its.what ∙ nat_eq_refl its.nav.0 } in
+      let never : true ≡ false = sym (nat_eq_refl load.req.0) ∙ (was_load load.req its.nav its_load).unlike in
+      cc
+
   -- the same have joined, which are no loads
   pub joined_same : n.joined ≡ s.joined
   joined_same =

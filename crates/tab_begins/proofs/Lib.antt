@@ -7,3 +7,5 @@ pub mod Strays
 pub mod Takes
 pub mod Traverses
 pub mod Turnings
+pub mod Readies
+pub mod Queues

@@ -1,17 +1,18 @@
 -- The turn of a ready load: it is applied, then the loads below give way, and another pass may follow.
 use Rattle.apply_plan.specs.Order.{made_in}
 use Rattle.load_ends.specs.Standing.{is_reached}
+use Rattle.load_facts.specs.Loading.{is_ongoing, look_of}
 use Rattle.load_table.specs.Loads.{ongoing_load as load_in}
 use Rattle.load_table.specs.declared.load.Load.{Load}
 use Rattle.log_model.specs.Seen.{Seen}
 use Rattle.log_model.specs.declared.row_kind.RowKind.{RowKind}
 use Rattle.seen_laws.specs.InEvent.{now_of}
-use Rattle.std.proofs.Common.{List, None, Option, Some, ap, refl, subst, sym, inl, inr, ◌∙◌, ◌≡◌, ◌⊎◌, true}
+use Rattle.std.proofs.Common.{Bool, List, None, Option, Some, ap, refl, subst, sym, inl, inr, ◌∙◌, ◌≡◌, ◌⊎◌, false, true}
 use Rattle.tab_applies.proofs.Dues.{own_nav}
 use Rattle.tab_applies.specs.Applying.{HasApplied, MayApply}
-use Rattle.tab_begins.proofs.Afters.{applied_last, documents_same, joined_same, joined_then, look_was, wishes_then, loads_then, open_then}
+use Rattle.tab_begins.proofs.Afters.{applied_last, documents_same, joined_same, joined_then, look_was, over_then, wishes_then, loads_then, open_then}
 use Rattle.tab_begins.proofs.Strays.{blamed_then}
-use Rattle.tab_begins.specs.Taking.{HasTaken, KeepsQueue, MayTake, NoneBelow}
+use Rattle.tab_begins.specs.Taking.{HasTaken, IsOver, KeepsQueue, MayTake, NoneBelow}
 use Rattle.tab_doors.specs.Working.{KeepsRun, KeepsStore}
 use Rattle.tab_doors.specs.declared.tables.Tables.{Tables}
 use Rattle.tab_drops.proofs.Turns.{below_back, reached_same}
@@ -87,6 +88,14 @@ module _ (p : InPass) (out : List RowKind) (t : Tables) (passing : IsPassing p o
       taken_turning turning =
           turning_on p.event mid new (inl left.parked) left.wishes (λ r has. ap (λ (l : List ReqId). has_req l r) (sym left.joined) ∙ has)
           (turning_on p.event out mid (inl it.parked) (wishes_then p out t passing nav load at idle may.may mid m mid_pass it) (joined_then p out t passing nav load at idle may.may mid m mid_pass it) turning)
+
+      pub taken_over : IsOver x req
+      taken_over l found = by_test (is_ongoing l) refl
+        where
+          by_test : (b : Bool) → is_ongoing l ≡ b → b ≡ false
+          by_test false off = refl
+          by_test true on =
+              absurd (over_then p out t passing nav load at idle may.may mid m mid_pass it l (ap (λ (r : ReqId). look_of y r) named ∙ left.loads req l found on) on)
 
       pub taken_queue : KeepsQueue s x
       taken_queue =

@@ -10,7 +10,7 @@ use Rattle.log_model.specs.declared.row_kind.RowKind.{RowKind}
 use Rattle.navigate_core.specs.Navigations.{change_for}
 use Rattle.request_facts.proofs.Readers.{SameReads}
 use Rattle.seen_laws.specs.InEvent.{InEvent, now_of}
-use Rattle.std.specs.Prelude.{List, None, Option, Some, [], true, ◌++◌, ◌∷◌, ◌≡◌}
+use Rattle.std.specs.Prelude.{List, None, Option, Some, [], false, true, ◌++◌, ◌∷◌, ◌≡◌}
 use Rattle.tab_applies.specs.Applying.{MayApply}
 use Rattle.tab_doors.specs.declared.tables.Tables.{Tables}
 use Rattle.tab_drops.specs.Dropping.{HasOnlyDroppedBy, IsBelowNav, IsLoadOf, StandOrMove}
@@ -49,6 +49,10 @@ pub record KeepsQueue (s t : Seen) : Type 0 where
   pub wishes : SameReads wish s.requests t.requests
   pub documents : t.documents ≡ s.documents
   pub loads : (req : ReqId) (l : Look) → look_of t req ≡ Some l → is_ongoing l ≡ true → look_of s req ≡ Some l
+
+-- the request is no ongoing load
+abbrev pub IsOver : Seen → ReqId → Type 0
+IsOver s req = (l : Look) → look_of s req ≡ Some l → is_ongoing l ≡ false
 
 -- ---- a traversal
 

@@ -4,7 +4,7 @@ ghost use Rattle.load_table.specs.Loads.{ongoing_load};
 ghost use Rattle.log_model.specs.declared.job.Why.TheVariants.{Req};
 ghost use Rattle.seen_laws.specs.InEvent.{now_of};
 ghost use Rattle.tab_applies.specs.Applying.{InReady};
-ghost use Rattle.tab_begins.specs.Taking.{HasTaken, KeepsQueue, MayTake, NoneBelow};
+ghost use Rattle.tab_begins.specs.Taking.{HasTaken, IsOver, KeepsQueue, MayTake, NoneBelow};
 ghost use Rattle.tab_doors.specs.Working.{KeepsRun};
 ghost use Rattle.tab_drops.specs.Dropping.{StandOrBare};
 ghost use Rattle.tab_one_pass.specs.Passing.{IsOpen};
@@ -41,6 +41,7 @@ pub fn take_load(
     ensures passing { OnOk result (IsPassing r.pass out.new tables.new) }
     ensures turning { OnOk result (IsTurning r.pass.event out.new) }
     ensures taken { OnOk result (HasTaken r.pass.event tables.old nav r.load out.old out.new) }
+    ensures over { OnOk result (IsOver (now_of r.pass.event out.new) req) }
     ensures queue { OnOk result (KeepsQueue (now_of r.pass.event out.old) (now_of r.pass.event out.new)) }
     ensures gone { OnOk result (NoneBelow (now_of r.pass.event out.new) nav) }
     ensures open_ { OnOk result (IsOpen r.pass.event tables.new.running (Req req) (now_of r.pass.event out.new)) }

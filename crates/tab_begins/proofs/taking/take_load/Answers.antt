@@ -1,4 +1,4 @@
-use Rattle.tab_begins.proofs.Takes.{apply_asks, drop_asks, has_taken, taken_blamed, taken_gone, taken_kept, taken_loads, taken_open, taken_queue, taken_turning}
+use Rattle.tab_begins.proofs.Takes.{apply_asks, drop_asks, has_taken, taken_blamed, taken_gone, taken_kept, taken_loads, taken_open, taken_over, taken_queue, taken_turning}
 use Rattle.tab_begins.proofs.taking.take_load.Goals as goal
 
 pub apply_ready-requires : goal.apply_ready-requires
@@ -15,6 +15,10 @@ returns-clause-turning g c =
 pub returns-clause-taken : goal.returns-clause-taken
 returns-clause-taken g c =
     has_taken g.r.pass _ _ c.requires.0 _ g.r.load c.requires.1.1.0 c.requires.1.1.1.1.0 _ c.requires.1.1.1.1.1 _ c.requires.1.1.1.0 _ c.in_ok-note_entries.ensures _ _ c.in_ok-apply_ready.ensures.passing c.in_ok-apply_ready.ensures.applied _ _ c.in_ok-drop_below.ensures.gone c.in_ok-drop_below.ensures.left c.in_ok-drop_below.ensures.kept c.in_ok-drop_below.ensures.only
+
+pub returns-clause-over : goal.returns-clause-over
+returns-clause-over g c =
+    taken_over g.r.pass _ _ c.requires.0 _ g.r.load c.requires.1.1.0 c.requires.1.1.1.1.0 _ c.requires.1.1.1.1.1 _ c.requires.1.1.1.0 _ c.in_ok-note_entries.ensures _ _ c.in_ok-apply_ready.ensures.passing c.in_ok-apply_ready.ensures.applied _ _ c.in_ok-drop_below.ensures.gone c.in_ok-drop_below.ensures.left c.in_ok-drop_below.ensures.kept
 
 pub returns-clause-queue : goal.returns-clause-queue
 returns-clause-queue g c =
