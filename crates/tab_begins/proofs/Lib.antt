@@ -9,3 +9,4 @@ pub mod Traverses
 pub mod Turnings
 pub mod Readies
 pub mod Queues
+pub mod Turns

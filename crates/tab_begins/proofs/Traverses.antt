@@ -15,7 +15,7 @@ use Rattle.std.proofs.Common.{Bool, List, None, Option, Some, [], ap, false, ref
 use Rattle.std.proofs.lemmas.Bool.{and_parts}
 use Rattle.std.specs.Prelude.{is_none, option_map}
 use Rattle.tab_begins.proofs.Begins.{loads_move, open_then, passed_on, rows_on, strays_on}
-use Rattle.tab_begins.specs.Taking.{GoesOn, HasBegun, KeepsStrays}
+use Rattle.tab_begins.specs.Taking.{AreOldLoads, GoesOn, HasBegun, KeepsStrays}
 use Rattle.tab_doors.specs.declared.tables.Tables.{Tables}
 use Rattle.tab_ids.specs.declared.ReqId.{ReqId}
 use Rattle.tab_ids.specs.declared.Step.{Step}
@@ -162,6 +162,9 @@ module _ (p : InPass) (out : List RowKind) (t : Tables) (passing : IsPassing p o
   pub goes_on : GoesOn e u.running n
   unfolding turn
   goes_on = turn.goes
+
+  pub old_loads : AreOldLoads s n
+  old_loads = loads turn.other
 
   pub keeps_strays : KeepsStrays s n
   keeps_strays = strays turn.other

@@ -43,12 +43,16 @@ pub record HasTaken (e : InEvent) (t : Tables) (nav : NavId) (load : Load) (was 
   pub is : applied ≡ was ++ rows.Applied load.req (change_for load over (new_entry t)) ∷ []
   pub drops : HasOnlyDroppedBy (now_of e applied) load.req (IsBelowNav (now_of e applied) nav) applied out
 
+-- each ongoing load was so
+abbrev pub AreOldLoads : Seen → Seen → Type 0
+AreOldLoads s t = (req : ReqId) (l : Look) → look_of t req ≡ Some l → is_ongoing l ≡ true → look_of s req ≡ Some l
+
 -- the same requests have joined, each asks what it asked, documents are as they were, and each ongoing load was so
 pub record KeepsQueue (s t : Seen) : Type 0 where
   pub joined : t.joined ≡ s.joined
   pub wishes : SameReads wish s.requests t.requests
   pub documents : t.documents ≡ s.documents
-  pub loads : (req : ReqId) (l : Look) → look_of t req ≡ Some l → is_ongoing l ≡ true → look_of s req ≡ Some l
+  pub loads : AreOldLoads s t
 
 -- the request is no ongoing load
 abbrev pub IsOver : Seen → ReqId → Type 0

@@ -2,7 +2,7 @@
 ghost use Rattle.std.specs.Prelude.{◌≡◌, [], None, OnOk, true};
 ghost use Rattle.log_model.specs.Places.{all_stand};
 ghost use Rattle.seen_laws.specs.InEvent.{now_of};
-ghost use Rattle.tab_begins.specs.Taking.{GoesOn, KeepsStrays};
+ghost use Rattle.tab_begins.specs.Taking.{AreOldLoads, GoesOn, KeepsStrays};
 ghost use Rattle.tab_one_pass.specs.Passing.{HasPassed};
 ghost use Rattle.tab_passes.specs.Passing.{InPass, IsPassing};
 ghost use Rattle.tab_turns.specs.Beginning.{HasGone, IsFirst};
@@ -33,6 +33,7 @@ pub fn take_traversal(
     ensures turning { OnOk result (IsTurning p.event out.new) }
     ensures gone { OnOk result (HasGone p.event out.old out.new tables.old tables.new req delta) }
     ensures goes { OnOk result (GoesOn p.event tables.new.running (now_of p.event out.new)) }
+    ensures loads { OnOk result (AreOldLoads (now_of p.event out.old) (now_of p.event out.new)) }
     ensures strays { OnOk result (KeepsStrays (now_of p.event out.old) (now_of p.event out.new)) }
 {
     begin_traversal(tables, out, req, delta)?;

@@ -2,7 +2,7 @@ use mir.Syntax.{w32}
 use mir.Val.{SFits}
 use Rattle.std.proofs.Common.{rules, subst, ℤ}
 use Rattle.std.proofs.lemmas.Int.{to_z-of_z}
-use Rattle.tab_begins.proofs.Traverses.{goes_on, keeps_strays}
+use Rattle.tab_begins.proofs.Traverses.{goes_on, keeps_strays, old_loads}
 use Rattle.tab_begins.proofs.traversing.take_traversal.Goals as goal
 use Rattle.tab_turns.specs.Beginning.{HasGone}
 
@@ -10,6 +10,11 @@ pub returns-clause-goes : goal.returns-clause-goes
 returns-clause-goes g c =
     let fits : SFits w32 c.args.delta = search rules in
     goes_on g.p _ _ c.requires.0 c.requires.1.1.0 _ _ c.requires.1.1.1.0 c.requires.1.1.1.1.0 c.requires.1.1.1.1.1.1 _ _ c.in_ok-begin_traversal.ensures.passing (subst (λ (d : ℤ). HasGone g.p.event c.args.out.now c.begin_traversal.new.out c.args.tables.now c.begin_traversal.new.tables c.args.req d) (to_z-of_z w32 c.args.delta fits) c.in_ok-begin_traversal.ensures.gone)
+
+pub returns-clause-loads : goal.returns-clause-loads
+returns-clause-loads g c =
+    let fits : SFits w32 c.args.delta = search rules in
+    old_loads g.p _ _ c.requires.0 c.requires.1.1.0 _ _ c.requires.1.1.1.0 c.requires.1.1.1.1.0 c.requires.1.1.1.1.1.1 _ _ c.in_ok-begin_traversal.ensures.passing (subst (λ (d : ℤ). HasGone g.p.event c.args.out.now c.begin_traversal.new.out c.args.tables.now c.begin_traversal.new.tables c.args.req d) (to_z-of_z w32 c.args.delta fits) c.in_ok-begin_traversal.ensures.gone)
 
 pub returns-clause-strays : goal.returns-clause-strays
 returns-clause-strays g c =

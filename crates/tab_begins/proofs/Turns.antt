@@ -1,0 +1,177 @@
+-- A step of the queue has its turn: what its kind asks, and what is so then.
+use Rattle.load_facts.specs.Loading.{look}
+use Rattle.load_table.specs.Loads.{ongoing_load}
+use Rattle.load_table.specs.declared.load.Load.{Load}
+use Rattle.load_table.specs.declared.phase.Phase.{Phase}
+use Rattle.load_ties.specs.Tying.{HasLoad, IsLoadTied}
+use Rattle.log_model.proofs.Refl.{nat_eq_refl}
+use Rattle.log_model.specs.ActsAtOnce.{has_document, is_ready_load}
+use Rattle.log_model.specs.Equal.{holds}
+use Rattle.log_model.specs.History.{has_nav}
+use Rattle.log_model.specs.Once.{loads}
+use Rattle.log_model.specs.Places.{all_stand, is_ongoing_load}
+use Rattle.owed_facts.proofs.Requests.{req_same}
+use Rattle.std.proofs.lemmas.Bool.{and_parts}
+use Rattle.std.specs.Option.{option_map_or}
+use Rattle.std.specs.Prelude.{option_map}
+use Rattle.tab_applies.specs.Applying.{MayApply}
+use Rattle.tab_begins.proofs.Readies.{ready_phase}
+use Rattle.tab_doors.specs.Working.{KeepsRun}
+use Rattle.tab_drops.proofs.ForCallers.{stand_reached}
+use Rattle.tab_drops.proofs.Turns.{tied_load}
+use Rattle.tab_drops.specs.Dropping.{IsLoadOf}
+use Rattle.tab_ids.specs.declared.DocId.{DocId}
+use Rattle.tab_serves.proofs.Reached.{IsReachedAt, reached_at}
+use Rattle.tab_whole.specs.Tab.{IsTab}
+use Rattle.load_table.specs.declared.phase.Phase.TheVariants as phases
+use Rattle.log_model.specs.Seen.{Asked, Seen, request_of}
+use Rattle.log_model.specs.declared.row_kind.RowKind.{RowKind}
+use Rattle.move_queue.specs.declared.queue_step.QueueStep.{QueueStep}
+use Rattle.move_queue.specs.declared.queue_step.QueueStep.TheVariants.{Ready, Reload, Traverse}
+use Rattle.seen_laws.specs.InEvent.{now_of}
+use Rattle.std.proofs.Common.{Bool, List, None, Option, Some, [], ap, false, filter, inl, refl, subst, sym, true, ℤ, ◌&&◌, ◌==◌, ◌||◌, ◌∙◌, ◌∷◌, ◌≡◌}
+use Rattle.tab_begins.proofs.Queues.{ahead, queue_passed, queue_traversed}
+use Rattle.tab_begins.specs.Queueing.{HasQueue, IsAfterTurns, IsAtRest, is_ready_in, is_there, is_traverse, load_in}
+use Rattle.tab_begins.specs.Taking.{AreOldLoads, GoesOn, IsOver, KeepsQueue, KeepsStrays, MayTake}
+use Rattle.tab_doors.specs.declared.tables.Tables.{Tables}
+use Rattle.tab_ids.specs.declared.NavId.{NavId}
+use Rattle.tab_ids.specs.declared.ReqId.{ReqId}
+use Rattle.tab_ids.specs.declared.StateId.{StateId}
+use Rattle.tab_one_pass.specs.Passing.{HasPassed, IsOpen, MayStand}
+use Rattle.tab_passes.proofs.Goings.{show_causes}
+use Rattle.tab_passes.specs.Causes.{MayCause, show_why}
+use Rattle.tab_passes.specs.Passing.{InPass, IsPassing}
+use Rattle.tab_turns.specs.Beginning.{HasGone, IsFirst}
+use Rattle.tab_turns.specs.Turning.{IsTurning}
+use Rattle.log_model.specs.declared.job.Why.TheVariants as whys
+
+module _ (p : InPass) (out : List RowKind) (t : Tables) (passing : IsPassing p out t) (turning : IsTurning p.event out) (stand : all_stand (now_of p.event out) (now_of p.event out).history.current ≡ true) (none : (now_of p.event out).parked ≡ []) (blame : List (StateId × ReqId)) (rests : IsAtRest p.event t.running blame (now_of p.event out)) (step : QueueStep) (rest : List QueueStep) (queue : HasQueue (now_of p.event out) None (step ∷ rest)) where
+  abbrev s : Seen
+  s = now_of p.event out
+
+  as_step : (x : QueueStep) → step ≡ x → HasQueue s None (x ∷ rest)
+  as_step x is = subst (λ (y : QueueStep). HasQueue s None (y ∷ rest)) is queue
+
+  -- a reload isn't in it
+  pub no_reload : (req : ReqId) (nav : NavId) → step ≡ Reload req nav → ⊥
+  no_reload req nav is = (as_step (Reload req nav) is).steps (Reload req nav) (inl refl)
+
+  -- ---- a traversal
+
+  module _ (req : ReqId) (delta : ℤ) (is : step ≡ Traverse req delta) (given : ℤ) (same : given ≡ delta) where
+    pub its_queue : HasQueue s None (Traverse req delta ∷ rest)
+    its_queue = as_step (Traverse req delta) is
+
+    pub traverse_asks : IsPassing p out t × (IsTurning p.event out × ((t.running ≡ None) × (IsFirst s req given × ((all_stand s s.history.current ≡ true) × ((s.parked ≡ []) × HasPassed p.event s)))))
+    traverse_asks =
+        let first : IsFirst s req given = subst (λ (d : ℤ). IsFirst s req d) (sym same) (ahead s req delta (filter is_traverse rest) its_queue.traversals).0 in
+        (passing, (turning, (rests.idle, (first, (stand, (none, rests.passed))))))
+
+    pub traverse_queue : (more : List RowKind) (u : Tables) → HasGone p.event out more t u req given → AreOldLoads s (now_of p.event more) → HasQueue (now_of p.event more) u.running rest
+    traverse_queue more u gone were =
+        queue_traversed p.event out more t u req delta (subst (λ (d : ℤ). HasGone p.event out more t u req d) same gone) p.loads p.hand (subst (λ (r : Option ReqId). IsTab r p.loads p.hand s) rests.idle passing.going.tab) rests.idle were rest its_queue
+
+  -- after it, where one runs a pass may follow
+  module _ (more : List RowKind) (u : Tables) (then_ : IsPassing p more u) (goes : GoesOn p.event u.running (now_of p.event more)) (strays : KeepsStrays (now_of p.event out) (now_of p.event more)) where
+    abbrev n : Seen
+    n = now_of p.event more
+
+    by_run : (run : Option ReqId) → u.running ≡ run → GoesOn p.event run n → IsAfterTurns p.event u.running blame n run
+    by_run None idle_ passed = record { idle = idle_; passed = passed; strays = strays.left blame rests.strays }
+    by_run (Some req) ran begun =
+        record {
+          open_ = subst (λ (r : Option ReqId). IsOpen p.event r (whys.Req req) n) (sym ran) (begun.open_ (whys.Req req) its);
+          loads = subst (λ (r : Option ReqId). MayStand r n) (sym ran) begun.loads;
+          blamed = strays.blamed blame rests.strays;
+        }
+      where
+        its : MayCause n (whys.Req req)
+        its = subst (λ (r : Option ReqId). MayCause n (show_why r whys.Start)) ran (show_causes n u.running then_.going.tab.asked whys.Start (λ r never. absurd cc))
+
+    pub after_traversal : IsAfterTurns p.event u.running blame n u.running
+    after_traversal = by_run u.running refl goes
+
+  -- ---- a load's step
+
+  module _ (req : ReqId) (nav : NavId) (is : step ≡ Ready req nav) where
+    load_queue : HasQueue s None (Ready req nav ∷ rest)
+    load_queue = as_step (Ready req nav) is
+
+    -- the table's load
+    record IsItsLoad : Type 0 where
+      load : Load
+      at : ongoing_load nav t.loads ≡ Some load
+      req_is : load.req ≡ req
+      doc : DocId
+      ready : load.phase ≡ phases.Ready doc
+
+    its_load : is_ready_in t.loads nav req ≡ true → IsItsLoad
+    its_load ready = by_load (ongoing_load nav t.loads) refl ready
+      where
+        by_phase : (load : Load) → ongoing_load nav t.loads ≡ Some load → (load.req.0 == req.0) ≡ true → (phase : Phase) → load.phase ≡ phase → is_there phase ≡ true → IsItsLoad
+        by_phase load at same (phases.Ready doc) phase h = record { load = load; at = at; req_is = req_same load.req req same; doc = doc; ready = phase }
+        by_phase load at same phases.Asking phase h = absurd cc
+        by_phase load at same (phases.Populating doc) phase h = absurd cc
+
+        by_load : (o : Option Load) → ongoing_load nav t.loads ≡ o → holds (λ (load : Load). load.req.0 == req.0 && is_there load.phase) o ≡ true → IsItsLoad
+        by_load None at h = absurd cc
+        by_load (Some load) at h =
+            let both = and_parts (load.req.0 == req.0) (is_there load.phase) h in
+            by_phase load at both.0 load.phase refl both.1
+
+    module _ (ready : is_ready_in t.loads nav req ≡ true) where
+      abbrev chosen : Load
+      chosen = load_in t.loads nav req
+
+      is_chosen : (its : IsItsLoad) → chosen ≡ its.load
+      is_chosen its = ap (λ (o : Option Load). option_map_or (λ (load : Load). load) o (record { req = req; nav = nav; address = []; replace = false; state = record { 0 = 0 }; phase = phases.Asking })) its.at
+
+      asks_of : IsItsLoad → IsPassing p out t × (IsTurning p.event out × ((ongoing_load nav t.loads ≡ Some chosen) × ((chosen.req ≡ req) × ((t.running ≡ None) × MayTake p.event blame nav chosen s))))
+      asks_of its =
+          (passing, (turning, (its.at ∙ ap (λ (l : Load). Some l) (sym same), (ap (λ (l : Load). l.req) same ∙ its.req_is, (rests.idle, record { may = subst (λ (l : Load). MayApply p.event s nav l) (sym same) may; passed = rests.passed; strays = rests.strays })))))
+        where
+          same : chosen ≡ its.load
+          same = is_chosen its
+
+          of_it : IsLoadOf s its.load.req nav
+          of_it = tied_load s t.loads nav its.load passing.work.loads its.at
+
+          reached : IsReachedAt s nav
+          reached = reached_at s nav (stand_reached s rests.passed.walked.loads its.load.req nav of_it)
+
+          may : MayApply p.event s nav its.load
+          may =
+              record {
+                doc = its.doc;
+                ready = its.ready;
+                placed = reached.each nav (ap (λ (b : Bool). b || has_nav reached.place.above nav) (nat_eq_refl nav.0));
+                stand = stand;
+                unheld = rests.passed.held its.load.req nav of_it;
+              }
+
+      pub load_asks : IsPassing p out t × (IsTurning p.event out × ((ongoing_load nav t.loads ≡ Some chosen) × ((chosen.req ≡ req) × ((t.running ≡ None) × MayTake p.event blame nav chosen s))))
+      load_asks = asks_of (its_load ready)
+
+    pub taken_queue_then : (more : List RowKind) (u : Tables) → KeepsQueue s (now_of p.event more) → IsOver (now_of p.event more) req → KeepsRun t u → HasQueue (now_of p.event more) u.running rest
+    taken_queue_then more u kept over keeps =
+        subst (λ (r : Option ReqId). HasQueue (now_of p.event more) r rest) (sym (keeps.running ∙ rests.idle))
+        (queue_passed s (now_of p.event more) kept req nav rest (λ q at ready its. absurd (let never : true ≡ false = sym (and_parts (is_ongoing_load q) (has_document (now_of p.event more) q) ready).0 ∙ over (look q) (ap (option_map look) at) in cc)) load_queue)
+
+    pub stale_queue : is_ready_in t.loads nav req ≡ false → HasQueue s t.running rest
+    stale_queue off =
+        subst (λ (r : Option ReqId). HasQueue s r rest) (sym rests.idle)
+        (queue_passed s s (record { joined = refl; wishes = λ r. refl; documents = refl; loads = λ r l at on. at }) req nav rest unready load_queue)
+      where
+        by_has : (q : Asked) → request_of s req ≡ Some q → is_ready_load s q ≡ true → HasLoad t.loads nav req → ⊥
+        by_has q at ready has =
+            let tied : IsLoadTied s has.load = passing.work.loads.there nav has.load has.at in
+            let two : Some tied.q ≡ Some q = sym tied.found ∙ ap (λ (r : ReqId). request_of s r) has.req_is ∙ at in
+            let one : tied.q ≡ q = cc in
+            let phase = ready_phase s passing.going.tab.docs passing.going.tab.whose has.load tied (ap (is_ready_load s) one ∙ ready) in
+            let same : (has.load.req.0 == req.0) ≡ true = ap (λ (r : ReqId). r.0 == req.0) has.req_is ∙ nat_eq_refl req.0 in
+            let on : is_ready_in t.loads nav req ≡ true = ap (λ (o : Option Load). holds (λ (load : Load). load.req.0 == req.0 && is_there load.phase) o) has.at ∙ rw same (ap is_there phase) in
+            let never : true ≡ false = sym on ∙ off in
+            cc
+
+        unready : (q : Asked) → request_of s req ≡ Some q → is_ready_load s q ≡ true → loads nav q.what ≡ true → ⊥
+        unready q at ready its = by_has q at ready (passing.work.loads.all req q nav at (and_parts (is_ongoing_load q) (has_document s q) ready).0 its)
