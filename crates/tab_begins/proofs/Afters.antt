@@ -3,7 +3,12 @@ use Rattle.frame_facts.specs.Lasting.{wish}
 use Rattle.request_facts.proofs.Readers.{SameReads, on_read, reads_then}
 use Rattle.log_model.specs.Equal.{has_req}
 use Rattle.tab_turns.proofs.Turned.{still_joined}
-use Rattle.tab_begins.proofs.Standings.{all_of, in_place, lost_none, met_none, none_of, stand_each, third}
+use Rattle.calm_facts.proofs.Around.{usable_found}
+use Rattle.calm_facts.proofs.Awakes.{calm_stood, lost_none, stand_each}
+use Rattle.calm_facts.proofs.Changes.{changed_but, push_childless, replace_childless}
+use Rattle.calm_facts.proofs.Sames.{IsUsableAt, SameSights, Sight, sight_of}
+use Rattle.calm_facts.specs.Calm.{HasUsable, IsCalmAround}
+use Rattle.tab_begins.proofs.Standings.{all_of, in_place, met_none, none_of, third}
 use Rattle.tab_ids.specs.declared.DocId.{DocId}
 use Rattle.tab_serves.specs.Serving.{ParentsShown}
 use Rattle.left_facts.specs.Left.{WereShown}
@@ -11,11 +16,16 @@ use Rattle.left_facts.proofs.Rows.{were_shown}
 use Rattle.tab_one_pass.specs.Passing.{HasPassed, IsOpen, TakersServe}
 use Rattle.mover_facts.proofs.Places.{ways_both, ways_mapped}
 use Rattle.mover_facts.proofs.Stays.{KeepWays}
+use Rattle.place_facts.proofs.Changes.{IsOldOrNew, pushed_rows, replaced_rows}
+use Rattle.place_facts.specs.Standing.{IsShownOnce, IsStanding, IsUnshownYet}
+use Rattle.tab_begins.specs.Taking.{GivenAreOwn}
 use Rattle.tab_passes.proofs.Goings.{goes_on}
 use Rattle.tab_passes.specs.Causes.{MayCause, MayServe}
 use Rattle.tab_serves.proofs.Reached.{IsReachedAt, reached_at}
 use Rattle.log_model.specs.declared.request.Request.{Request}
 use Rattle.owed_facts.proofs.Requests.{req_same}
+use Rattle.std.specs.Prelude.{nat_lt}
+use Rattle.entry_facts.specs.Entries.{AreEntries, EachEntry, IsNumbered}
 use Rattle.std.specs.Option.{option_map_or}
 use Rattle.walk_rows.proofs.Moved.{changed_moves}
 use Rattle.mover_facts.specs.Movers.{IsMovedBy}
@@ -48,7 +58,7 @@ use Rattle.load_table.specs.declared.load.Load.{Load}
 use Rattle.log_model.proofs.Refl.{nat_eq_refl}
 use Rattle.log_model.specs.AfterPlaces.{places_applied, with_taker}
 use Rattle.log_model.specs.Equal.{holds}
-use Rattle.log_model.specs.History.{applied, cleared, has_nav, has_row, has_state, owner_of, same_entry, target_entry}
+use Rattle.log_model.specs.History.{History, applied, cleared, has_nav, has_row, has_state, owner_of, same_entry, target_entry}
 use Rattle.log_model.specs.Places.{aim_of, all_stand, has_arrived, is_asleep, is_given_target, is_lost_in, is_placed, is_shown, is_standing, stands, is_load, way_of, way_to, is_traversal}
 use Rattle.log_model.specs.Seen.{Asked, Document, Place, Seen, place_in, place_of, request_of}
 use Rattle.log_model.specs.declared.change.Change.{Change}
@@ -65,7 +75,11 @@ use Rattle.std.proofs.Common.{Bool, List, None, Option, Some, [], ap, arith, con
 use Rattle.std.proofs.lemmas.Bool.{and_parts}
 use Rattle.std.specs.List.{list_any}
 use Rattle.std.specs.Prelude.{is_some, option_map}
-use Rattle.tab_applies.proofs.Dues.{IsGivenAt, aim_now, given, loading, next_is, own_nav, tab, tie, open_, what_is}
+use Rattle.load_doors.specs.Applying.{IsApplyDue}
+use Rattle.log_model.specs.Orders.{is_usable}
+use Rattle.tab_ids.specs.declared.DocId.{DocId}
+use Rattle.frame_whole.specs.Tab.{AreAwakeWithRows}
+use Rattle.tab_applies.proofs.Dues.{IsGivenAt, aim_now, apply_due, given, loading, next_is, own_nav, tab, tie, open_, what_is}
 use Rattle.tab_applies.specs.Applying.{HasApplied, MayApply}
 use Rattle.tab_doors.specs.declared.tables.Tables.{Tables}
 use Rattle.tab_ids.specs.declared.EntryId.{EntryId}
@@ -446,12 +460,16 @@ module _ (p : InPass) (out : List RowKind) (t : Tables) (passing : IsPassing p o
           let same : here.target.entry ≡ new_entry t = sym over_target ∙ sym (entry_same new_target.row.entry it.over is) ∙ new_target.is_new in
           absurd (fresh None p.loads p.hand s tab_s here.target its.there (same ∙ next_is p out t passing nav load at idle may))
 
+  my_shown_then : is_shown n.history.rows n.history.current load.nav ≡ true
+  my_shown_then =
+      shown_then s n tab_s.sound tab_s.hangs tab_n.sound tab_n.hangs load.nav keeps load.nav here.place my_found my_beside left (ap (λ (o : Option Row). is_some o) new_target.row_at) my_shown
+
   pub need_then : IsVisitedInNeed n mine
   need_then =
       record {
         shown = ap (λ (step : ℕ). is_shown n.history.rows step mine.nav) aim_then
             ∙ ap (λ (m : NavId). is_shown n.history.rows n.history.current m) (found_nav n.places load.nav mine my_place)
-            ∙ shown_then s n tab_s.sound tab_s.hangs tab_n.sound tab_n.hangs load.nav keeps load.nav here.place my_found my_beside left (ap (λ (o : Option Row). is_some o) new_target.row_at) my_shown;
+            ∙ my_shown_then;
         reached = ap (λ (step : ℕ). list_any (is_stopping n.history.rows step n.places) mine.above) aim_then
             ∙ ap (list_any (is_stopping n.history.rows n.history.current n.places)) my_above
             ∙ none_of (is_stopping n.history.rows n.history.current n.places) here.place.above above_free;
@@ -459,6 +477,65 @@ module _ (p : InPass) (out : List RowKind) (t : Tables) (passing : IsPassing p o
             ∙ ap (λ (b : Bool). is_asleep mine || mine.is_unmet || not b) ungiven
             ∙ third (is_asleep mine) mine.is_unmet;
       }
+
+  -- ---- the tab is calm but for it and those below it
+
+  sights : SameSights s n
+  sights m = ap (option_map sight_of) (place_then m) ∙ by_old (place_of s m)
+    where
+      by_old : (o : Option Place) → option_map sight_of (option_map taker o) ≡ option_map sight_of o
+      by_old None = refl
+      by_old (Some old) = ap (λ (x : Sight). Some x) (taker_same sight_of (λ q. refl) old)
+
+  -- no entry had the load's document state
+  unheld : (row : Row) → Has s.history.rows row → row.state.0 ≡ load.state.0 → ⊥
+  unheld row has same =
+      its.unheld row has (same ∙ ap (λ (x : StateId). x.0) (sym state_is))
+    where
+      its : IsLoading s (look (tie p out t passing nav load at idle may).q)
+      its = loading p out t passing nav load at idle may
+
+      state_is : its.state ≡ load.state
+      state_is =
+          let both : Some its.state ≡ Some load.state = sym its.state_is ∙ (tie p out t passing nav load at idle may).state in cc
+
+  childless_put : (b : Bool) → load.replace ≡ b → (row : Row) → Has n.history.rows row → row.owner ≡ Some load.state → ⊥
+  childless_put true is row has =
+      replace_childless s.history tab_s.sound load.state unheld load.nav (new_entry t) load.address None it.over row (subst (λ (h : History). Has h.rows row) (history_put true is) has)
+  childless_put false is row has =
+      push_childless s.history tab_s.sound load.state unheld load.nav (new_entry t) load.address None row (subst (λ (h : History). Has h.rows row) (history_put false is) has)
+
+  -- its document is there
+  usable_here : HasUsable n load.state
+  unfolding here
+  usable_here =
+      ap (λ (l : List Document). list_any (λ (d : Document). is_usable d load.state) l) documents_same
+      ∙ ap (λ (o : Option StateId). holds (λ (state : StateId). list_any (λ (d : Document). is_usable d state) s.documents) o) (sym (ap (λ (x : Asked). x.state) same ∙ (tie p out t passing nav load at idle may).state))
+      ∙ due.due.ready
+    where
+      due : IsApplyDue e out load.req nav change
+      due = apply_due p out t passing nav load at idle may it.over over_given
+
+      same : due.asked ≡ (tie p out t passing nav load at idle may).q
+      same =
+          let both : Some due.asked ≡ Some (tie p out t passing nav load at idle may).q = sym due.due.at ∙ (tie p out t passing nav load at idle may).found in cc
+
+  pub around_then : AreAwakeWithRows s → IsCalmAround n load.nav
+  around_then with_rows =
+      record {
+        but = changed_but s n tab_s.sound tab_s.hangs tab_n.sound tab_n.hangs load.nav keeps left sights (calm_stood s tab_s.sound tab_s.hangs tab_s.homes tab_s.standing with_rows may.stand);
+        target = new_target.row;
+        to = new_target.row_at;
+        shown = my_shown_then;
+        doc = there.0;
+        document = there.1.d;
+        found = there.1.found;
+        usable = ap (λ (x : StateId). is_usable there.1.d x) new_target.state_is ∙ there.1.usable;
+        childless = λ row has owner. childless_put load.replace refl row has (owner ∙ ap (λ (x : StateId). Some x) new_target.state_is);
+      }
+    where
+      there : (doc : DocId) × IsUsableAt n doc load.state
+      there = usable_found n tab_n.whose load.state usable_here
 
   -- ---- the request
 
@@ -795,3 +872,45 @@ module _ (p : InPass) (out : List RowKind) (t : Tables) (passing : IsPassing p o
           by_test false at_ =
               let before : MayServe s req = passed.takers m was.old req was.found (reads false at_) in
               it.causes (whys.Req req) (λ r same. (let one : req ≡ r = cc in subst (λ (x : ReqId). MayServe s x) one before)) req refl
+
+  -- ---- each navigable was given entries of its own
+
+  -- what it was given was numbered, and the new entry wasn't yet
+  not_new : (m : NavId) (place : Place) → place_of s m ≡ Some place → place.given ≡ Some (new_entry t) → ⊥
+  not_new m place found is = by_epoch (nat_lt 0 place.epoch.0) refl
+    where
+      once : IsStanding s place
+      once = tab_s.standing m place found
+
+      by_epoch : (b : Bool) → nat_lt 0 place.epoch.0 ≡ b → ⊥
+      by_epoch true later =
+          let shown : IsShownOnce place = once.told.1 (grind (arith, nat_tests, later)) in
+          let same : Some (new_entry t) ≡ Some shown.entry = sym is ∙ shown.given in
+          let one : new_entry t ≡ shown.entry = cc in
+          let low = (tab_s.entries.entries.given m place shown.entry found shown.ever).own (ap (λ (x : EntryId). x.maker) (sym one)) in
+          let held : t.entries ≡ s.entries = passing.work.holds.entries in
+          let nr : shown.entry.nr ≡ t.entries + 1 = ap (λ (x : EntryId). x.nr) (sym one) in
+          omega (arith, low, held, nr)
+      by_epoch false none =
+          let unshown : IsUnshownYet place = once.told.0 (grind (arith, nat_tests, none)) in
+          let never : None ≡ Some (new_entry t) = sym unshown.given ∙ is in cc
+
+  pub gave_then : GivenAreOwn s → GivenAreOwn n
+  gave_then gave m place row found has given =
+      by_row (old_or_new load.replace refl)
+    where
+      was : WasAt m place
+      was = was_at m place found
+
+      given_was : was.old.given ≡ Some row.entry
+      given_was = sym (taker_same (λ (q : Place). q.given) (λ q. refl) was.old) ∙ ap (λ (q : Place). q.given) was.is ∙ given
+
+      old_or_new : (b : Bool) → load.replace ≡ b → IsOldOrNew s.history.rows load.nav (new_entry t) load.state row
+      old_or_new true is =
+          replaced_rows s load.nav it.over (new_entry t) load.state load.address None row (subst (λ (h : History). Has h.rows row) (history_put true is) has)
+      old_or_new false is =
+          pushed_rows s load.nav (new_entry t) load.state load.address None row (subst (λ (h : History). Has h.rows row) (history_put false is) has)
+
+      by_row : IsOldOrNew s.history.rows load.nav (new_entry t) load.state row → row.nav ≡ m
+      by_row (inl old) = gave m was.old row was.found old given_was
+      by_row (inr new) = absurd (not_new m was.old was.found (given_was ∙ ap (λ (x : EntryId). Some x) new.1))

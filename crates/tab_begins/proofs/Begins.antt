@@ -15,16 +15,16 @@ use Rattle.log_model.specs.declared.job.Why.{Why}
 use Rattle.log_model.specs.declared.row.Row.{Row}
 use Rattle.mover_facts.proofs.Stays.{KeepWays}
 use Rattle.rest_facts.specs.Between.{IsOfLoad}
-use Rattle.std.proofs.Common.{Bool, List, None, Option, Some, [], ap, false, inl, inr, not, refl, subst, sym, true, ◌&&◌, ◌||◌, ◌∙◌, ◌∷◌, ◌≡◌, ◌⊎◌}
+use Rattle.std.proofs.Common.{Bool, List, None, Option, Some, [], ap, false, inl, inr, not, refl, subst, sym, true, ℕ, ◌&&◌, ◌||◌, ◌∙◌, ◌∷◌, ◌≡◌, ◌⊎◌}
 use Rattle.std.proofs.lemmas.Bool.{and_parts}
-use Rattle.std.specs.List.{list_any}
+use Rattle.std.specs.List.{list_all, list_any}
 use Rattle.std.specs.Option.{option_map_or}
 use Rattle.std.specs.Prelude.{option_map}
-use Rattle.tab_begins.proofs.Awakes.{awake_shown}
+use Rattle.calm_facts.proofs.Awakes.{awake_shown, lost_none, stand_each}
 use Rattle.tab_begins.proofs.Downs.{AllPlaced, IsInNeed, down}
-use Rattle.tab_begins.proofs.Standings.{all_of, in_place, lost_none, stand_each}
+use Rattle.tab_begins.proofs.Standings.{all_of, in_place}
 use Rattle.tab_drops.proofs.ForCallers.{stand_reached}
-use Rattle.tab_drops.proofs.Turns.{each_stands, reached_same}
+use Rattle.tab_drops.proofs.Turns.{each_stands}
 use Rattle.tab_drops.specs.Dropping.{AreUnheld, IsBare, IsLoadOf, IsUnsettled, StandOrMove}
 use Rattle.tab_ids.specs.declared.DocId.{DocId}
 use Rattle.tab_ids.specs.declared.NavId.{NavId}
@@ -45,6 +45,16 @@ use Rattle.walk_rows.proofs.Moved.{run_moves}
 use Rattle.walk_rows.proofs.Sinces.{places_since}
 use Rattle.walk_rows.specs.Since.{MovesVisited}
 use Rattle.log_model.specs.declared.job.Why.TheVariants as whys
+
+-- who is reached is so, where places, entries and the aim are as they were
+abbrev reached_by : List Row → List Place → ℕ → NavId → Bool
+reached_by rows places step nav =
+    list_all (λ (n : NavId). is_shown rows step n && holds (is_standing rows step) (place_in places n)) (option_map_or way_of (place_in places nav) (nav ∷ []))
+    && holds (λ (place : Place). not (list_any (is_lost_in places) place.above)) (place_in places nav)
+
+reached_rows : (s n : Seen) → n.places ≡ s.places → n.history.rows ≡ s.history.rows → aim_of n ≡ aim_of s → (nav : NavId) → is_reached s nav ≡ true → is_reached n nav ≡ true
+reached_rows s n places rows aim nav is =
+    ap (λ (l : List Row). reached_by l n.places (aim_of n) nav) rows ∙ ap (λ (l : List Place). reached_by s.history.rows l (aim_of n) nav) places ∙ ap (λ (k : ℕ). reached_by s.history.rows s.places k nav) aim ∙ is
 
 -- places, documents and entries are as they were, and each ongoing load was one
 module _ (p : InPass) (s n : Seen) (alone : LeavesAlone s n) (loads : (req : ReqId) (l : Look) → look_of n req ≡ Some l → is_ongoing l ≡ true → look_of s req ≡ Some l) (still : (req : ReqId) (l : Look) → look_of s req ≡ Some l → is_ongoing l ≡ true → look_of n req ≡ Some l) (passed : HasPassed p.event s) where
@@ -117,15 +127,15 @@ module _ (p : InPass) (s n : Seen) (alone : LeavesAlone s n) (loads : (req : Req
 
   -- ---- where the aim is as it was, it has passed still
 
-  pub passed_on : n.history ≡ s.history → aim_of n ≡ aim_of s → (all_stand n (aim_of n) ≡ true → all_stand s (aim_of s) ≡ true) → HasPassed p.event n
-  passed_on history aim stand =
+  pub passed_on : aim_of n ≡ aim_of s → (all_stand n (aim_of n) ≡ true → all_stand s (aim_of s) ≡ true) → HasPassed p.event n
+  passed_on aim stand =
       record {
         walked = record {
           since = record { distinct = passed.walked.since.distinct; homed = passed.walked.since.homed; ways = ways_on };
           unwoken = λ all. places_since p.event.start s [] (passed.walked.unwoken (stand all)) n alone.places;
           were = were_on;
           parents = parents_on;
-          loads = each_stands n (λ req nav its. reached_same s n alone.places history aim nav (stand_reached s passed.walked.loads req nav (load_was req nav its)));
+          loads = each_stands n (λ req nav its. reached_rows s n alone.places alone.rows_ aim nav (stand_reached s passed.walked.loads req nav (load_was req nav its)));
         };
         held = held_on;
         takers = takers_then;
@@ -139,7 +149,7 @@ module _ (p : InPass) (s n : Seen) (alone : LeavesAlone s n) (loads : (req : Req
     arrived : (nav : NavId) (place : Place) (doc : DocId) → place_of n nav ≡ Some place → place.status ≡ awake doc → has_arrived place ≡ true
     arrived nav place doc at wakes =
         let was : place_of s nav ≡ Some place = sym (place_same nav) ∙ at in
-        let shown : is_shown s.history.rows s.history.current nav ≡ true = awake_shown None p.loads p.hand s tab passed.rows_ s.history.current stand nav place doc was wakes in
+        let shown : is_shown s.history.rows s.history.current nav ≡ true = awake_shown s tab.sound tab.hangs tab.homes tab.standing passed.rows_ s.history.current stand nav place doc was wakes in
         let stands : is_standing s.history.rows s.history.current place ≡ true = stand_each s tab.standing s.history.current stand nav place was shown in
         (and_parts (is_given_target s.history.rows s.history.current place && not place.is_unmet) (has_arrived place) stands).1
 

@@ -12,7 +12,7 @@ use Rattle.log_model.specs.Seen.{Place, Seen, awake, lost, place_of}
 use Rattle.log_model.specs.declared.made.Made.{Made}
 use Rattle.std.proofs.Common.{Bool, List, None, Option, Some, [], ap, false, inl, inr, not, refl, sym, true, ◌&&◌, ◌==◌, ◌||◌, ◌∙◌, ◌∷◌, ◌≡◌, ◌⊎◌}
 use Rattle.std.proofs.lemmas.Bool.{and_parts}
-use Rattle.tab_begins.proofs.Awakes.{child, given_row, top_shown}
+use Rattle.calm_facts.proofs.Awakes.{child, given_standing, top_shown}
 use Rattle.tab_begins.proofs.Standings.{in_place, none_of}
 use Rattle.tab_ids.specs.declared.DocId.{DocId}
 use Rattle.tab_ids.specs.declared.NavId.{NavId}
@@ -117,7 +117,7 @@ module _ (run : Option ReqId) (loads : List ReqId) (hand : List Made) (s : Seen)
 
   down_from : (above : List NavId) (nav : NavId) (place : Place) (doc : DocId) → place_of s nav ≡ Some place → place.status ≡ awake doc → place.above ≡ above → IsChain s.places above → AllPlaced (nav ∷ place.above) ⊎ IsInNeed (nav ∷ place.above)
   down_from [] nav place doc found wakes is chain =
-      next nav place doc found wakes (top_shown run loads hand s tab with_rows (aim_of s) nav place found is) (λ x has. let never : true ≡ false = sym has ∙ ap (λ (l : List NavId). has_nav l x) is in absurd cc)
+      next nav place doc found wakes (top_shown s tab.sound tab.hangs tab.homes with_rows (aim_of s) nav place found is) (λ x has. let never : true ≡ false = sym has ∙ ap (λ (l : List NavId). has_nav l x) is in absurd cc)
   down_from (parent ∷ others) nav place doc found wakes is chain =
       by_above (down_from others parent on.above on.doc on.there on.wakes rest chain.1)
     where
@@ -137,7 +137,7 @@ module _ (run : Option ReqId) (loads : List ReqId) (hand : List Made) (s : Seen)
       by_above (inr it) =
           inr (record { mover = it.mover; on_way = later nav it.mover place.above (ap (λ (l : List NavId). has_nav l it.mover) (sym lists) ∙ it.on_way); own = it.own; there = it.there; need = it.need })
       by_above (inl all) =
-          next nav place doc found wakes (child run loads hand s tab with_rows (aim_of s) nav place doc parent others found wakes is on rest (given_row s (aim_of s) on.above stand) both.0) (λ x has. all x (ap (λ (l : List NavId). has_nav l x) lists ∙ has))
+          next nav place doc found wakes (child s tab.sound tab.hangs tab.homes with_rows (aim_of s) nav place doc parent others found wakes is on rest (given_standing s (aim_of s) on.above stand) both.0) (λ x has. all x (ap (λ (l : List NavId). has_nav l x) lists ∙ has))
         where
           both : (is_shown s.history.rows (aim_of s) parent ≡ true) × (holds (is_standing s.history.rows (aim_of s)) (place_of s parent) ≡ true)
           both =

@@ -1,5 +1,4 @@
 pub mod Standings
-pub mod Awakes
 pub mod Downs
 pub mod Begins
 pub mod Afters
@@ -10,3 +9,5 @@ pub mod Turnings
 pub mod Readies
 pub mod Queues
 pub mod Turns
+pub mod Nexts
+pub mod Stood

@@ -1,47 +1,14 @@
 -- Where all stand, who is shown stands; and tests of several navigables.
-use Rattle.hang_facts.proofs.Members.{find_has}
 use Rattle.log_model.proofs.Refl.{nat_eq_refl}
-use Rattle.log_model.specs.Equal.{holds}
 use Rattle.log_model.specs.History.{has_nav}
-use Rattle.log_model.specs.Places.{all_stand, has_arrived, is_asleep, is_awake, is_given_target, is_lost_in, is_shown, is_standing, is_wanted}
-use Rattle.log_model.specs.Seen.{Place, Seen, Status, asleep, awake, lost, place_in, place_of}
+use Rattle.log_model.specs.Places.{has_arrived, is_asleep, is_awake, is_given_target, is_standing}
+use Rattle.log_model.specs.Seen.{Place, Status, asleep, awake, lost}
 use Rattle.log_model.specs.declared.row.Row.{Row}
-use Rattle.place_facts.specs.Standing.{IsStanding}
-use Rattle.rest_facts.proofs.Seated.{all_has}
-use Rattle.std.proofs.Common.{Bool, List, None, Option, Some, [], ap, false, if◌then◌else◌, not, refl, sym, true, ℕ, ◌&&◌, ◌==◌, ◌||◌, ◌∙◌, ◌∷◌, ◌≡◌}
+use Rattle.std.proofs.Common.{Bool, List, [], ap, false, not, refl, true, ℕ, ◌&&◌, ◌==◌, ◌||◌, ◌∷◌, ◌≡◌}
 use Rattle.std.proofs.lemmas.Bool.{and_parts}
 use Rattle.std.specs.List.{list_all, list_any}
 use Rattle.tab_ids.specs.declared.NavId.{NavId}
-use Rattle.walk_facts.proofs.Placed.{found_nav}
 use Rattle.walk_facts.specs.Serving.{is_in_place, is_needing}
-
--- nobody is known lost
-pub lost_none : (s : Seen) → ((nav : NavId) (place : Place) → place_of s nav ≡ Some place → IsStanding s place) → (above : List NavId) → list_any (is_lost_in s.places) above ≡ false
-lost_none s standing [] = refl
-lost_none s standing (nav ∷ above) = rw (by_place (place_of s nav) refl) (lost_none s standing above)
-  where
-    by_place : (o : Option Place) → place_of s nav ≡ o → is_lost_in s.places nav ≡ false
-    by_place None at = rw at refl
-    by_place (Some place) at = by_status place.status refl
-      where
-        by_status : (status : Status) → place.status ≡ status → is_lost_in s.places nav ≡ false
-        by_status (awake doc) is = rw at (rw is refl)
-        by_status lost is = absurd ((standing nav place at).unlost is)
-        by_status asleep is = rw at (rw is refl)
-
--- who is shown stands
-pub stand_each : (s : Seen) → ((nav : NavId) (place : Place) → place_of s nav ≡ Some place → IsStanding s place) → (step : ℕ) → all_stand s step ≡ true → (nav : NavId) (place : Place) → place_of s nav ≡ Some place → is_shown s.history.rows step nav ≡ true → is_standing s.history.rows step place ≡ true
-stand_each s standing step all nav place found shown =
-    sym (ap (λ (o : Option Place). holds (is_standing s.history.rows step) o) own)
-    ∙ sym (ap (λ (b : Bool). if b then holds (is_standing s.history.rows step) (place_in s.places place.nav) else true) wanted)
-    ∙ all_has (λ (p : Place). if is_wanted s.history.rows s.places step p then holds (is_standing s.history.rows step) (place_in s.places p.nav) else true) s.places all place (find_has (λ (p : Place). p.nav.0 == nav.0) s.places place found).0
-  where
-    own : place_of s place.nav ≡ Some place
-    own = ap (λ (n : NavId). place_of s n) (found_nav s.places nav place found) ∙ found
-
-    wanted : is_wanted s.history.rows s.places step place ≡ true
-    wanted =
-        rw (ap (λ (n : NavId). is_shown s.history.rows step n) (found_nav s.places nav place found) ∙ shown) (rw (lost_none s standing place.above) refl)
 
 -- one that stands is awake on its target
 pub in_place : (rows_ : List Row) (step : ℕ) (place : Place) → (place.status ≡ lost → ⊥) → is_standing rows_ step place ≡ true → is_in_place rows_ step place ≡ true

@@ -27,7 +27,8 @@ use Rattle.step_index.specs.Held.{history_held}
 use Rattle.tab_applies.proofs.Dues.{tie}
 use Rattle.tab_applies.specs.Applying.{HasApplied, MayApply}
 use Rattle.tab_begins.proofs.Afters.{documents_same, hung, moves_at, other_look, same_target, serves, state_entered, tab_n, tab_s, way_is}
-use Rattle.tab_begins.proofs.Awakes.{IsGivenRow, awake_given, awake_shown}
+use Rattle.calm_facts.proofs.Awakes.{awake_given, awake_shown}
+use Rattle.calm_facts.proofs.Calms.{IsGivenRow}
 use Rattle.tab_doors.specs.declared.tables.Tables.{Tables}
 use Rattle.tab_ids.specs.declared.DocId.{DocId}
 use Rattle.tab_ids.specs.declared.NavId.{NavId}
@@ -99,10 +100,10 @@ module _ (p : InPass) (out : List RowKind) (t : Tables) (passing : IsPassing p o
           let never : true ≡ false = sym entered ∙ stray.bare in cc
         where
           shown : is_shown s.history.rows now m ≡ true
-          shown = awake_shown None p.loads p.hand s whole with_rows now may.stand m was.old doc was.there was.wakes
+          shown = awake_shown s whole.sound whole.hangs whole.homes whole.standing with_rows now may.stand m was.old doc was.there was.wakes
 
           given : IsGivenRow s now was.old
-          given = awake_given None p.loads p.hand s whole with_rows now may.stand m was.old was.there shown
+          given = awake_given s whole.sound whole.hangs whole.homes whole.standing with_rows now may.stand m was.old was.there shown
 
           target : IsTarget s.history.rows was.old.nav now given.row
           target = target_has s.history.rows was.old.nav now given.row given.at

@@ -10,9 +10,14 @@ use Rattle.seen_laws.specs.InEvent.{now_of}
 use Rattle.std.proofs.Common.{Bool, List, None, Option, Some, ap, refl, subst, sym, inl, inr, ◌∙◌, ◌≡◌, ◌⊎◌, false, true}
 use Rattle.tab_applies.proofs.Dues.{own_nav}
 use Rattle.tab_applies.specs.Applying.{HasApplied, MayApply}
-use Rattle.tab_begins.proofs.Afters.{applied_last, documents_same, joined_same, joined_then, look_was, over_then, wishes_then, loads_then, open_then}
+use Rattle.calm_facts.specs.Calm.{IsCalmAround}
+use Rattle.tab_one_pass.proofs.Calms.{drops_calm}
+use Rattle.tab_begins.proofs.Afters.{aim_then, applied_last, around_then, documents_same, gave_then, joined_same, joined_then, look_was, over_then, wishes_then, loads_then, open_then}
 use Rattle.tab_begins.proofs.Strays.{blamed_then}
-use Rattle.tab_begins.specs.Taking.{HasTaken, IsOver, KeepsQueue, MayTake, NoneBelow}
+use Rattle.hang_facts.specs.Members.{Has}
+use Rattle.log_model.specs.History.{History}
+use Rattle.log_model.specs.Seen.{Place, place_in}
+use Rattle.tab_begins.specs.Taking.{HasTaken, IsOver, KeepsMade, KeepsQueue, MayTake, NoneBelow}
 use Rattle.tab_doors.specs.Working.{KeepsRun, KeepsStore}
 use Rattle.tab_doors.specs.declared.tables.Tables.{Tables}
 use Rattle.tab_drops.proofs.Turns.{below_back, reached_same}
@@ -101,6 +106,7 @@ module _ (p : InPass) (out : List RowKind) (t : Tables) (passing : IsPassing p o
       taken_queue =
           record {
             joined = left.joined ∙ joined_same p out t passing nav load at idle may.may mid m mid_pass it;
+            parked = left.parked ∙ it.parked;
             wishes = reads_then wish s.requests y.requests x.requests (wishes_then p out t passing nav load at idle may.may mid m mid_pass it) left.wishes;
             documents = left.documents ∙ documents_same p out t passing nav load at idle may.may mid m mid_pass it;
             loads = λ r l found on. look_was p out t passing nav load at idle may.may mid m mid_pass it r l (left.loads r l found on) on;
@@ -119,6 +125,12 @@ module _ (p : InPass) (out : List RowKind) (t : Tables) (passing : IsPassing p o
           by_case (inl reached) = inl (reached_same y x left.places left.history left.aim n reached)
           by_case (inr below) = absurd (ends.ended r n its below)
 
+      -- the tab is calm but for the load's navigable and those below it
+      pub taken_around : IsCalmAround x nav
+      taken_around =
+          (drops_calm y x left).around (aim_then p out t passing nav load at idle may.may mid m mid_pass it) nav
+          (subst (λ (o : NavId). IsCalmAround y o) own (around_then p out t passing nav load at idle may.may mid m mid_pass it may.passed.rows_))
+
       pub taken_kept : KeepsRun t u
       taken_kept =
           record { running = kept.running ∙ it.keeps.running; goal = kept.goal ∙ it.keeps.goal; keep = kept.keep ∙ it.keeps.keep }
@@ -133,4 +145,13 @@ module _ (p : InPass) (out : List RowKind) (t : Tables) (passing : IsPassing p o
             applied = mid;
             is = it.out;
             drops = subst (λ (r : ReqId). HasOnlyDroppedBy y r (IsBelowNav y nav) mid new) (sym named) drops;
+          }
+
+      -- what was made, and by whom, is as it was
+      pub taken_made : KeepsMade s x
+      taken_made =
+          record {
+            wishes = reads_then wish s.requests y.requests x.requests (wishes_then p out t passing nav load at idle may.may mid m mid_pass it) left.wishes;
+            documents = left.documents ∙ documents_same p out t passing nav load at idle may.may mid m mid_pass it;
+            gave = λ gave m_ place row found has given. gave_then p out t passing nav load at idle may.may mid m mid_pass it gave m_ place row (ap (λ (l : List Place). place_in l m_) (sym left.places) ∙ found) (subst (λ (h : History). Has h.rows row) left.history has) given;
           }

@@ -112,7 +112,7 @@ module _ (p : InPass) (out : List RowKind) (t : Tables) (passing : IsPassing p o
 
     goes_refused : u.running ≡ None → GoesOn e u.running n
     goes_refused none =
-        subst (λ (r : Option ReqId). GoesOn e r n) (sym none) (passed_on p s n gone.alone loads still passed gone.history aim_same (λ all. ap (all_stand s) aim_was ∙ stand))
+        subst (λ (r : Option ReqId). GoesOn e r n) (sym none) (passed_on p s n gone.alone loads still passed aim_same (λ all. ap (all_stand s) aim_was ∙ stand))
       where
         tab_n : IsTab None p.loads p.hand n
         tab_n = subst (λ (r : Option ReqId). IsTab r p.loads p.hand n) none then_.going.tab

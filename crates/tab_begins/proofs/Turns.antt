@@ -7,9 +7,9 @@ use Rattle.load_ties.specs.Tying.{HasLoad, IsLoadTied}
 use Rattle.log_model.proofs.Refl.{nat_eq_refl}
 use Rattle.log_model.specs.ActsAtOnce.{has_document, is_ready_load}
 use Rattle.log_model.specs.Equal.{holds}
-use Rattle.log_model.specs.History.{has_nav}
-use Rattle.log_model.specs.Once.{loads}
-use Rattle.log_model.specs.Places.{all_stand, is_ongoing_load}
+use Rattle.log_model.specs.History.{History, has_nav}
+use Rattle.log_model.specs.Once.{loads, step_at_delta}
+use Rattle.log_model.specs.Places.{all_stand, all_stand_in, is_ongoing_load}
 use Rattle.owed_facts.proofs.Requests.{req_same}
 use Rattle.std.proofs.lemmas.Bool.{and_parts}
 use Rattle.std.specs.Option.{option_map_or}
@@ -24,15 +24,19 @@ use Rattle.tab_ids.specs.declared.DocId.{DocId}
 use Rattle.tab_serves.proofs.Reached.{IsReachedAt, reached_at}
 use Rattle.tab_whole.specs.Tab.{IsTab}
 use Rattle.load_table.specs.declared.phase.Phase.TheVariants as phases
-use Rattle.log_model.specs.Seen.{Asked, Seen, request_of}
+use Rattle.hang_facts.specs.Members.{Has}
+use Rattle.log_model.specs.Seen.{Asked, Place, Seen, place_in, request_of}
 use Rattle.log_model.specs.declared.row_kind.RowKind.{RowKind}
 use Rattle.move_queue.specs.declared.queue_step.QueueStep.{QueueStep}
 use Rattle.move_queue.specs.declared.queue_step.QueueStep.TheVariants.{Ready, Reload, Traverse}
 use Rattle.seen_laws.specs.InEvent.{now_of}
-use Rattle.std.proofs.Common.{Bool, List, None, Option, Some, [], ap, false, filter, inl, refl, subst, sym, true, ℤ, ◌&&◌, ◌==◌, ◌||◌, ◌∙◌, ◌∷◌, ◌≡◌}
+use Rattle.std.proofs.Common.{Bool, List, None, Option, Some, [], ap, false, filter, inl, refl, subst, sym, true, ℕ, ℤ, ◌&&◌, ◌==◌, ◌||◌, ◌∙◌, ◌∷◌, ◌≡◌}
 use Rattle.tab_begins.proofs.Queues.{ahead, queue_passed, queue_traversed}
-use Rattle.tab_begins.specs.Queueing.{HasQueue, IsAfterTurns, IsAtRest, is_ready_in, is_there, is_traverse, load_in}
-use Rattle.tab_begins.specs.Taking.{AreOldLoads, GoesOn, IsOver, KeepsQueue, KeepsStrays, MayTake}
+use Rattle.calm_facts.specs.Calm.{AreRooted}
+use Rattle.calm_facts.proofs.Awakes.{calm_stood}
+use Rattle.tab_begins.proofs.Stood.{calm_begun}
+use Rattle.tab_begins.specs.Queueing.{HasQueue, IsAtRest, IsCalmFor, IsPassedOver, MayFollow, UnmovedAreHere, is_ready_in, is_there, is_traverse, load_in}
+use Rattle.tab_begins.specs.Taking.{AreOldLoads, GoesOn, HasBegun, IsOver, KeepsMade, KeepsQueue, KeepsStrays, MayTake}
 use Rattle.tab_doors.specs.declared.tables.Tables.{Tables}
 use Rattle.tab_ids.specs.declared.NavId.{NavId}
 use Rattle.tab_ids.specs.declared.ReqId.{ReqId}
@@ -41,13 +45,20 @@ use Rattle.tab_one_pass.specs.Passing.{HasPassed, IsOpen, MayStand}
 use Rattle.tab_passes.proofs.Goings.{show_causes}
 use Rattle.tab_passes.specs.Causes.{MayCause, show_why}
 use Rattle.tab_passes.specs.Passing.{InPass, IsPassing}
-use Rattle.tab_turns.specs.Beginning.{HasGone, IsFirst}
+use Rattle.tab_turns.specs.Beginning.{HasGone, IsFirst, WentTo}
 use Rattle.tab_turns.specs.Turning.{IsTurning}
 use Rattle.log_model.specs.declared.job.Why.TheVariants as whys
+
+-- nothing was done
+pub made_same : (s : Seen) → KeepsMade s s
+made_same s = record { wishes = λ req. refl; documents = refl; gave = λ gave. gave }
 
 module _ (p : InPass) (out : List RowKind) (t : Tables) (passing : IsPassing p out t) (turning : IsTurning p.event out) (stand : all_stand (now_of p.event out) (now_of p.event out).history.current ≡ true) (none : (now_of p.event out).parked ≡ []) (blame : List (StateId × ReqId)) (rests : IsAtRest p.event t.running blame (now_of p.event out)) (step : QueueStep) (rest : List QueueStep) (queue : HasQueue (now_of p.event out) None (step ∷ rest)) where
   abbrev s : Seen
   s = now_of p.event out
+
+  abbrev tab : IsTab t.running p.loads p.hand s
+  tab = passing.going.tab
 
   as_step : (x : QueueStep) → step ≡ x → HasQueue s None (x ∷ rest)
   as_step x is = subst (λ (y : QueueStep). HasQueue s None (y ∷ rest)) is queue
@@ -72,24 +83,62 @@ module _ (p : InPass) (out : List RowKind) (t : Tables) (passing : IsPassing p o
         queue_traversed p.event out more t u req delta (subst (λ (d : ℤ). HasGone p.event out more t u req d) same gone) p.loads p.hand (subst (λ (r : Option ReqId). IsTab r p.loads p.hand s) rests.idle passing.going.tab) rests.idle were rest its_queue
 
   -- after it, where one runs a pass may follow
-  module _ (more : List RowKind) (u : Tables) (then_ : IsPassing p more u) (goes : GoesOn p.event u.running (now_of p.event more)) (strays : KeepsStrays (now_of p.event out) (now_of p.event more)) where
+  module _ (more : List RowKind) (u : Tables) (then_ : IsPassing p more u) (goes : GoesOn p.event u.running (now_of p.event more)) (calm : UnmovedAreHere (now_of p.event more) × AreRooted (now_of p.event more)) (strays : KeepsStrays (now_of p.event out) (now_of p.event more)) where
     abbrev n : Seen
     n = now_of p.event more
 
-    by_run : (run : Option ReqId) → u.running ≡ run → GoesOn p.event run n → IsAfterTurns p.event u.running blame n run
-    by_run None idle_ passed = record { idle = idle_; passed = passed; strays = strays.left blame rests.strays }
-    by_run (Some req) ran begun =
+    -- it was refused
+    pub after_refused : u.running ≡ None → IsAtRest p.event u.running blame n
+    after_refused idle_ =
+        record { idle = idle_; passed = subst (λ (r : Option ReqId). GoesOn p.event r n) idle_ goes; strays = strays.left blame rests.strays }
+
+    -- it has begun
+    pub after_begun : (req : ReqId) → u.running ≡ Some req → MayFollow p.event u.running blame req n
+    after_begun req ran =
         record {
           open_ = subst (λ (r : Option ReqId). IsOpen p.event r (whys.Req req) n) (sym ran) (begun.open_ (whys.Req req) its);
           loads = subst (λ (r : Option ReqId). MayStand r n) (sym ran) begun.loads;
           blamed = strays.blamed blame rests.strays;
+          calm = subst (λ (r : Option ReqId). IsCalmFor r n) (sym ran) calm;
         }
       where
+        begun : HasBegun p.event req n
+        begun = subst (λ (r : Option ReqId). GoesOn p.event r n) ran goes
+
         its : MayCause n (whys.Req req)
         its = subst (λ (r : Option ReqId). MayCause n (show_why r whys.Start)) ran (show_causes n u.running then_.going.tab.asked whys.Start (λ r never. absurd cc))
 
-    pub after_traversal : IsAfterTurns p.event u.running blame n u.running
-    after_traversal = by_run u.running refl goes
+  -- as it begins, nobody was moved by it
+  pub traverse_calm : (more : List RowKind) (u : Tables) (req : ReqId) (delta : ℤ) → HasGone p.event out more t u req delta → UnmovedAreHere (now_of p.event more) × AreRooted (now_of p.event more)
+  traverse_calm more u req delta gone =
+      calm_begun s (now_of p.event more) gone.alone.places gone.history (calm_stood s tab.sound tab.hangs tab.homes tab.standing rests.passed.rows_ stand)
+
+  -- all stand still, and for whom orders may be
+  pub traverse_over : (more : List RowKind) (u : Tables) (req : ReqId) (delta : ℤ) → HasGone p.event out more t u req delta → IsPassedOver s (now_of p.event more)
+  traverse_over more u req delta gone = record { stand = stand_then; causes = gone.alone.causes }
+    where
+      n : Seen
+      n = now_of p.event more
+
+      stand_then : all_stand n n.history.current ≡ true
+      stand_then =
+          ap (λ (h : History). all_stand_in h.rows n.places h.current) gone.history ∙ ap (λ (l : List Place). all_stand_in s.history.rows l s.history.current) gone.alone.places ∙ stand
+
+  -- what was made, and by whom, is as it was
+  pub traverse_made : (more : List RowKind) (u : Tables) (req : ReqId) (delta : ℤ) → HasGone p.event out more t u req delta → KeepsMade s (now_of p.event more)
+  traverse_made more u req delta gone =
+      record {
+        wishes = gone.alone.wishes;
+        documents = gone.alone.documents;
+        gave = λ gave nav place row found has given. gave nav place row (ap (λ (l : List Place). place_in l nav) (sym gone.alone.places) ∙ found) (subst (λ (h : History). Has h.rows row) gone.history has) given;
+      }
+
+  pub traverse_keep : (more : List RowKind) (u : Tables) (req : ReqId) (delta : ℤ) → HasGone p.event out more t u req delta → u.kept.keep ≡ t.kept.keep
+  traverse_keep more u req delta gone = by_step (step_at_delta s delta) gone.went
+    where
+      by_step : (o : Option ℕ) → WentTo out more t u req o → u.kept.keep ≡ t.kept.keep
+      by_step None went = ap (λ (x : Tables). x.kept.keep) went.1
+      by_step (Some step_) went = ap (λ (x : Tables). x.kept.keep) went.1
 
   -- ---- a load's step
 
@@ -160,7 +209,7 @@ module _ (p : InPass) (out : List RowKind) (t : Tables) (passing : IsPassing p o
     pub stale_queue : is_ready_in t.loads nav req ≡ false → HasQueue s t.running rest
     stale_queue off =
         subst (λ (r : Option ReqId). HasQueue s r rest) (sym rests.idle)
-        (queue_passed s s (record { joined = refl; wishes = λ r. refl; documents = refl; loads = λ r l at on. at }) req nav rest unready load_queue)
+        (queue_passed s s (record { joined = refl; parked = refl; wishes = λ r. refl; documents = refl; loads = λ r l at on. at }) req nav rest unready load_queue)
       where
         by_has : (q : Asked) → request_of s req ≡ Some q → is_ready_load s q ≡ true → HasLoad t.loads nav req → ⊥
         by_has q at ready has =

@@ -1,5 +1,6 @@
 -- The queue of a tab with loads: the traversals that joined, in order, and a step for each ready load; and what is so once steps have had their turns.
 -- HTML Standard, "session history traversal queue" and "traverse the history by a delta"; that ready loads wait in it is this project's own.
+use Rattle.calm_facts.specs.Calm.{AreRooted, IsCalmAround, IsHere}
 use Rattle.hang_facts.specs.Members.{Has}
 use Rattle.load_table.specs.Loads.{ongoing_load}
 use Rattle.load_table.specs.declared.load.Load.{Load}
@@ -7,17 +8,26 @@ use Rattle.load_table.specs.declared.phase.Phase.{Phase}
 use Rattle.log_model.specs.ActsAtOnce.{is_ready_load}
 use Rattle.log_model.specs.Equal.{holds}
 use Rattle.log_model.specs.Once.{delta_of, loads}
-use Rattle.log_model.specs.Seen.{Asked, Seen, request_in, request_of}
+use Rattle.log_model.specs.History.{has_row}
+use Rattle.log_model.specs.Places.{all_stand, is_moved}
+use Rattle.log_model.specs.Seen.{Asked, Place, Seen, awake, place_of, request_in, request_of}
 use Rattle.move_queue.specs.declared.queue_step.QueueStep.{QueueStep}
 use Rattle.move_queue.specs.declared.queue_step.QueueStep.TheVariants.{Ready, Reload, Traverse}
-use Rattle.seen_laws.specs.InEvent.{InEvent}
-use Rattle.std.specs.Prelude.{Bool, List, None, Option, Some, [], false, filter, option_and_then, true, ℤ, ◌&&◌, ◌==◌, ◌∷◌, ◌≡◌}
+use Rattle.request_facts.proofs.Readers.{SameReads}
+use Rattle.seen_laws.specs.InEvent.{InEvent, now_of}
+use Rattle.std.specs.Prelude.{Bool, List, None, Option, Some, [], false, filter, if◌then◌else◌, length, option_and_then, true, ℤ, ◌&&◌, ◌<◌, ◌==◌, ◌∷◌, ◌≡◌, ◌⊎◌}
+use Rattle.tab_begins.specs.declared.turn.Turn.{Turn}
+use Rattle.tab_begins.specs.declared.turn.Turn.TheVariants.{Rests, Refused, Went}
+use Rattle.log_model.specs.declared.job.Why.{Why}
+use Rattle.log_model.specs.declared.row_kind.RowKind.{RowKind}
+use Rattle.tab_passes.specs.Causes.{MayCause}
+use Rattle.tab_doors.specs.declared.tables.Tables.{Tables}
+use Rattle.tab_ids.specs.declared.DocId.{DocId}
 use Rattle.tab_ids.specs.declared.NavId.{NavId}
 use Rattle.tab_ids.specs.declared.ReqId.{ReqId}
 use Rattle.tab_ids.specs.declared.StateId.{StateId}
 use Rattle.std.specs.Option.{option_map_or}
 use Rattle.tab_one_pass.specs.Passing.{AreLeftStrays, HasPassed, IsOpen, MayStand}
-use Rattle.tab_passes.specs.Passing.{InPass}
 use Rattle.tab_sweeps.specs.Sweeping.{AreBlamed}
 use Rattle.load_table.specs.declared.phase.Phase.TheVariants as phases
 use Rattle.log_model.specs.declared.job.Why.TheVariants as whys
@@ -71,13 +81,39 @@ pub record HasQueue (s : Seen) (run : Option ReqId) (waiting : List QueueStep) :
   pub ready : AwaitTurns s waiting
   pub steps : (step : QueueStep) → Has waiting step → IsOfTab step
 
+-- ---- what leaves it
+
+-- the request is a load of the navigable that is ready
+pub record IsReadyLoadOf (s : Seen) (req : ReqId) (nav : NavId) : Type 0 where
+  pub q : Asked
+  pub at : request_of s req ≡ Some q
+  pub ready : is_ready_load s q ≡ true
+  pub its : loads nav q.what ≡ true
+
+-- the same requests have joined, each asks what it asked, and each load that is ready then was so
+pub record LeavesQueue (s t : Seen) : Type 0 where
+  pub joined : t.joined ≡ s.joined
+  pub whats : SameReads (λ (q : Asked). q.what) s.requests t.requests
+  pub ready : (req : ReqId) (nav : NavId) → IsReadyLoadOf t req nav → IsReadyLoadOf s req nav
+
 -- ---- once steps have had their turns
+
+-- who is awake, has an entry and wasn't moved by the traversal that runs, is where it is to be at the current step
+abbrev pub UnmovedAreHere : Seen → Type 0
+UnmovedAreHere s =
+    (nav : NavId) (place : Place) (doc : DocId) → place_of s nav ≡ Some place → place.status ≡ awake doc → has_row nav s.history.rows ≡ true → is_moved s nav ≡ false → IsHere s place
+
+-- how calm the tab is then: but for a load's navigable and those below, or for whom the traversal has moved
+abbrev pub IsCalmFor : Option ReqId → Seen → Type 0
+IsCalmFor None s = (at : NavId) × IsCalmAround s at
+IsCalmFor (Some run) s = UnmovedAreHere s × AreRooted s
 
 -- a pass may follow, for the request that has begun or was applied
 pub record MayFollow (e : InEvent) (run : Option ReqId) (blame : List (StateId × ReqId)) (req : ReqId) (s : Seen) : Type 0 where
   pub open_ : IsOpen e run (whys.Req req) s
   pub loads : MayStand run s
   pub blamed : AreBlamed s blame
+  pub calm : IsCalmFor run s
 
 -- no traversal runs, and all is as after a pass
 pub record IsAtRest (e : InEvent) (run : Option ReqId) (blame : List (StateId × ReqId)) (s : Seen) : Type 0 where
@@ -85,10 +121,10 @@ pub record IsAtRest (e : InEvent) (run : Option ReqId) (blame : List (StateId ×
   pub passed : HasPassed e s
   pub strays : AreLeftStrays s blame
 
--- one of both
-abbrev pub IsAfterTurns : InEvent → Option ReqId → List (StateId × ReqId) → Seen → Option ReqId → Type 0
-IsAfterTurns e run blame s None = IsAtRest e run blame s
-IsAfterTurns e run blame s (Some req) = MayFollow e run blame req s
+-- all stand at the current step, and orders may be for whom they might before
+pub record IsPassedOver (s n : Seen) : Type 0 where
+  pub stand : all_stand n n.history.current ≡ true
+  pub causes : (why : Why) → MayCause s why → MayCause n why
 
 -- ---- as the table tells
 
@@ -106,9 +142,33 @@ abbrev pub load_in : List Load → NavId → ReqId → Load
 load_in table nav req =
     option_map_or (λ (load : Load). load) (ongoing_load nav table) (record { req = req; nav = nav; address = []; replace = false; state = record { 0 = 0 }; phase = phases.Asking })
 
--- ---- one step
+-- the step's turn is due: that of a load is where it is ready, any other's always
+abbrev pub is_due_in : List Load → QueueStep → Bool
+is_due_in table (Ready req nav) = is_ready_in table nav req
+is_due_in table (Traverse req delta) = true
+is_due_in table (Reload req nav) = true
 
--- a step has its turn in a pass, with others behind it
-pub record InTurn : Type 0 where
-  pub pass : InPass
-  pub rest : List QueueStep
+-- the steps from the first one on that is due
+abbrev pub from_due : List Load → List QueueStep → List QueueStep
+from_due table [] = []
+from_due table (step ∷ steps) = if is_due_in table step then step ∷ steps else from_due table steps
+
+-- ---- whose turn is next
+
+-- nothing was done: not all stand at the current step, or no step waits
+pub record HasRested (e : InEvent) (t u : Tables) (was blame : List (StateId × ReqId)) (old new : List RowKind) (waiting : List QueueStep) : Type 0 where
+  pub out : new ≡ old
+  pub tables : u ≡ t
+  pub noted : blame ≡ was
+  pub why : (all_stand (now_of e old) (now_of e old).history.current ≡ false) ⊎ (waiting ≡ [])
+
+-- what the turn came to: nothing was done; or a traversal was refused, and all is as after a pass; or a request has begun or was applied, so that a pass may follow for it
+abbrev pub CameTo : InEvent → Tables → Tables → List (StateId × ReqId) → List (StateId × ReqId) → List RowKind → List RowKind → List QueueStep → Turn → Type 0
+CameTo e t u was blame old new waiting Rests = HasRested e t u was blame old new waiting
+CameTo e t u was blame old new waiting Refused = IsAtRest e u.running blame (now_of e new) × IsPassedOver (now_of e old) (now_of e new)
+CameTo e t u was blame old new waiting (Went req) = MayFollow e u.running blame req (now_of e new)
+
+-- where a step had its turn, fewer wait
+abbrev pub FewerWait : List QueueStep → List QueueStep → Turn → Type 0
+FewerWait old new Rests = Unit {0}
+FewerWait old new _ = length new < length old

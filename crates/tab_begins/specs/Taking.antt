@@ -1,11 +1,13 @@
 -- The turns of a ready load and of a traversal: what they ask of the log, what they put out, and that a pass may follow.
 -- HTML Standard, "finalize a cross-document navigation", "navigate" and "traverse the history by a delta"; that a load waits in the queue until all stand is this project's own.
 use Rattle.frame_facts.specs.Lasting.{wish}
+use Rattle.hang_facts.specs.Members.{Has}
 use Rattle.load_doors.specs.Applying.{new_entry}
 use Rattle.load_facts.specs.Loading.{Look, is_ongoing, look_of}
 use Rattle.load_table.specs.declared.load.Load.{Load}
 use Rattle.log_model.specs.Seen.{Place, Seen, place_of}
 use Rattle.log_model.specs.declared.job.Why.{Why}
+use Rattle.log_model.specs.declared.row.Row.{Row}
 use Rattle.log_model.specs.declared.row_kind.RowKind.{RowKind}
 use Rattle.navigate_core.specs.Navigations.{change_for}
 use Rattle.request_facts.proofs.Readers.{SameReads}
@@ -47,9 +49,21 @@ pub record HasTaken (e : InEvent) (t : Tables) (nav : NavId) (load : Load) (was 
 abbrev pub AreOldLoads : Seen → Seen → Type 0
 AreOldLoads s t = (req : ReqId) (l : Look) → look_of t req ≡ Some l → is_ongoing l ≡ true → look_of s req ≡ Some l
 
--- the same requests have joined, each asks what it asked, documents are as they were, and each ongoing load was so
+-- an entry that a navigable was given is its own, while the history has it
+abbrev pub GivenAreOwn : Seen → Type 0
+GivenAreOwn s =
+    (nav : NavId) (place : Place) (row : Row) → place_of s nav ≡ Some place → Has s.history.rows row → place.given ≡ Some row.entry → row.nav ≡ nav
+
+-- each request asks what it asked, and what was made of it is; documents are as they were; and each navigable was given entries of its own, if that was so
+pub record KeepsMade (s t : Seen) : Type 0 where
+  pub wishes : SameReads wish s.requests t.requests
+  pub documents : t.documents ≡ s.documents
+  pub gave : GivenAreOwn s → GivenAreOwn t
+
+-- the same requests have joined, what is held back is, each asks what it asked, documents are as they were, and each ongoing load was so
 pub record KeepsQueue (s t : Seen) : Type 0 where
   pub joined : t.joined ≡ s.joined
+  pub parked : t.parked ≡ s.parked
   pub wishes : SameReads wish s.requests t.requests
   pub documents : t.documents ≡ s.documents
   pub loads : AreOldLoads s t

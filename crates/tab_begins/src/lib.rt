@@ -1,10 +1,12 @@
 //! Whose turn it is in a tab with loads: a ready load is applied, or the traversal that joined first begins; and a pass may follow.
 #![tactic(auto)]
 
-mod queueing;
+mod nexting;
 mod taking;
 mod traversing;
+mod turn;
 
-pub use queueing::take_step;
+pub use nexting::begin_next;
 pub use taking::take_load;
 pub use traversing::take_traversal;
+pub use turn::Turn;

@@ -1,10 +1,11 @@
 //! A ready load has its turn, and the loads below give way to it.
 ghost use Rattle.std.specs.Prelude.{◌≡◌, None, OnOk, Some};
+ghost use Rattle.calm_facts.specs.Calm.{IsCalmAround};
 ghost use Rattle.load_table.specs.Loads.{ongoing_load};
 ghost use Rattle.log_model.specs.declared.job.Why.TheVariants.{Req};
 ghost use Rattle.seen_laws.specs.InEvent.{now_of};
 ghost use Rattle.tab_applies.specs.Applying.{InReady};
-ghost use Rattle.tab_begins.specs.Taking.{HasTaken, IsOver, KeepsQueue, MayTake, NoneBelow};
+ghost use Rattle.tab_begins.specs.Taking.{HasTaken, IsOver, KeepsMade, KeepsQueue, MayTake, NoneBelow};
 ghost use Rattle.tab_doors.specs.Working.{KeepsRun};
 ghost use Rattle.tab_drops.specs.Dropping.{StandOrBare};
 ghost use Rattle.tab_one_pass.specs.Passing.{IsOpen};
@@ -47,6 +48,8 @@ pub fn take_load(
     ensures open_ { OnOk result (IsOpen r.pass.event tables.new.running (Req req) (now_of r.pass.event out.new)) }
     ensures loads { OnOk result (StandOrBare (now_of r.pass.event out.new)) }
     ensures blamed { OnOk result (AreBlamed (now_of r.pass.event out.new) blame.new.entries) }
+    ensures made { OnOk result (KeepsMade (now_of r.pass.event out.old) (now_of r.pass.event out.new)) }
+    ensures around { OnOk result (IsCalmAround (now_of r.pass.event out.new) nav) }
     ensures kept { OnOk result (KeepsRun tables.old tables.new) }
 {
     note_entries(tables, blame, req)?;

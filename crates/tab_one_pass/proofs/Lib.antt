@@ -3,6 +3,7 @@ pub mod Notings
 pub mod Dropped
 pub mod Opens
 pub mod Stands
+pub mod Calms
 pub mod Passes
 pub mod Gives
 pub mod Wholes

@@ -3,12 +3,14 @@ use Rattle.frame_facts.specs.Lasting.{Wish, wish}
 use Rattle.request_facts.proofs.Readers.{reads_then}
 use Rattle.tab_sweeps.proofs.Loads.{loaded_never, unloaded_by}
 use Rattle.asked_facts.specs.Asking.{ArePlain}
+use Rattle.calm_facts.proofs.Sames.{keeps_none, keeps_then}
+use Rattle.calm_facts.specs.Calm.{KeepsCalm}
 use Rattle.frame_whole.specs.Tab.{AreAwakeWithRows}
 use Rattle.load_ends.specs.Standing.{LoadsStand, is_reached}
 use Rattle.load_facts.specs.Loading.{Look, is_ongoing, look, look_of}
 use Rattle.log_model.specs.Checks.{may_go_on}
 use Rattle.log_model.specs.History.{History, has_row}
-use Rattle.log_model.specs.Orders.{ongoing_load}
+use Rattle.log_model.specs.Orders.{is_usable, ongoing_load}
 use Rattle.log_model.specs.Places.{aim_of, all_stand, all_stand_in, is_ongoing_load}
 use Rattle.log_model.specs.Seen.{Asked, Document, Place, Seen, awake, document_of, place_of, request_in, request_of}
 use Rattle.log_model.specs.declared.job.Why.{Why}
@@ -16,14 +18,16 @@ use Rattle.log_model.specs.declared.row_kind.RowKind.{RowKind}
 use Rattle.mover_facts.proofs.Stays.{KeepWays}
 use Rattle.seen_laws.specs.InEvent.{InEvent, now_of}
 use Rattle.std.proofs.Common.{List, None, Option, Some, [], ap, false, map, refl, subst, sym, true, ℕ, ◌∙◌, ◌≡◌}
+use Rattle.std.specs.List.{list_any}
 use Rattle.std.specs.Prelude.{is_some, option_map}
 use Rattle.tab_drops.specs.Dropping.{LeavesAll}
 use Rattle.tab_ids.specs.declared.DocId.{DocId}
 use Rattle.tab_ids.specs.declared.NavId.{NavId}
 use Rattle.tab_ids.specs.declared.ReqId.{ReqId}
 use Rattle.tab_ids.specs.declared.StateId.{StateId}
+use Rattle.tab_one_pass.proofs.Calms.{drops_calm, told_calm}
 use Rattle.tab_one_pass.proofs.Opens.{place_same, serve_on, takers_on}
-use Rattle.tab_one_pass.proofs.Sents.{IsAnyTask, WasStray, joined_same, looks_same, strays_over, were_same}
+use Rattle.tab_one_pass.proofs.Sents.{IsAnyTask, WasStray, joined_same, looks_same, strays_over, usable_before, were_same}
 use Rattle.tab_one_pass.specs.Passing.{AreLeftStrays, HasPassed, IsLeftStray, IsOpen, LeavesPass}
 use Rattle.tab_passes.proofs.Goings.{goes_on}
 use Rattle.tab_passes.proofs.Onlies.{only_as}
@@ -52,7 +56,7 @@ look_what (Some q) = refl
 
 pub left_none : (s : Seen) → LeavesPass s s
 left_none s =
-    record { history = refl; aim = refl; parked = refl; joined = refl; loads = λ req l at on. at; others = λ req l at off. at; whats = λ r. refl; causes = λ why may. may }
+    record { history = refl; aim = refl; parked = refl; joined = refl; loads = λ req l at on. at; others = λ req l at off. at; whats = λ r. refl; causes = λ why may. may; ready = λ state some. some; calms = keeps_none s }
 
 pub left_then : (s t u : Seen) → LeavesPass s t → LeavesPass t u → LeavesPass s u
 left_then s t u one two =
@@ -65,6 +69,8 @@ left_then s t u one two =
       others = λ req l at off. two.others req l (one.others req l at off) off;
       whats = reads_then (λ (q : Asked). q.what) s.requests t.requests u.requests one.whats two.whats;
       causes = λ why may. two.causes why (one.causes why may);
+      ready = λ state some. one.ready state (two.ready state some);
+      calms = keeps_then s t u one.history one.aim one.calms two.calms;
     }
 
 -- where loads gave way
@@ -79,6 +85,8 @@ left_drops s t left =
       others = λ req l at off. by_found req l off (request_of s req) refl at;
       whats = λ r. sym (wish_what (request_in t.requests r)) ∙ ap (option_map (λ (w : Wish). w.what)) (left.wishes r) ∙ wish_what (request_in s.requests r);
       causes = left.orders;
+      ready = λ state some. ap (λ (l : List Document). list_any (λ (d : Document). is_usable d state) l) (sym left.documents) ∙ some;
+      calms = drops_calm s t left;
     }
   where
     by_found : (req : ReqId) (l : Look) → is_ongoing l ≡ false → (o : Option Asked) → request_of s req ≡ o → option_map look o ≡ Some l → look_of t req ≡ Some l
@@ -110,8 +118,8 @@ loaded_before s t left state some = by_load (ongoing_load s state) refl
         absurd cc
 
 -- where orders were sent
-pub left_orders : (e : InEvent) (was out : List RowKind) → HasOnly (IsOrderOf IsAnyTask) was out → (now_of e out).history ≡ (now_of e was).history → aim_of (now_of e out) ≡ aim_of (now_of e was) → (now_of e out).parked ≡ (now_of e was).parked → ((why : Why) → MayCause (now_of e was) why → MayCause (now_of e out) why) → LeavesPass (now_of e was) (now_of e out)
-left_orders e was out only history aim parked causes =
+pub left_orders : (e : InEvent) (was out : List RowKind) → HasOnly (IsOrderOf IsAnyTask) was out → (now_of e out).history ≡ (now_of e was).history → aim_of (now_of e out) ≡ aim_of (now_of e was) → (now_of e out).parked ≡ (now_of e was).parked → ((why : Why) → MayCause (now_of e was) why → MayCause (now_of e out) why) → KeepsCalm (now_of e was) (now_of e out) → LeavesPass (now_of e was) (now_of e out)
+left_orders e was out only history aim parked causes calms =
     record {
       history = history;
       aim = aim;
@@ -121,6 +129,8 @@ left_orders e was out only history aim parked causes =
       others = λ req l at off. looks_same e was out only req ∙ at;
       whats = λ r. sym (look_what (request_in (now_of e out).requests r)) ∙ ap (option_map (λ (l : Look). l.what)) (looks_same e was out only r) ∙ look_what (request_in (now_of e was).requests r);
       causes = causes;
+      ready = λ state. usable_before e was out only state;
+      calms = calms;
     }
 
 -- ---- orders
@@ -244,7 +254,8 @@ module _ (e : InEvent) (run : Option ReqId) (why : Why) (was out : List RowKind)
       }
 
   pub told_left : LeavesPass s t
-  told_left = left_orders e was out orders more.history more.aim more.parked told_causes
+  told_left =
+      left_orders e was out orders more.history more.aim more.parked told_causes (told_calm e why was out only more)
 
 -- ---- those who need it are served
 
@@ -262,13 +273,14 @@ module _ (e : InEvent) (run : Option ReqId) (cause : Why) (was out : List RowKin
       }
 
   pub walked_left : LeavesPass (now_of e was) (now_of e out)
-  walked_left = left_orders e was out walked_orders left.history left.aim left.parked left.causes
+  walked_left =
+      left_orders e was out walked_orders left.history left.aim left.parked left.causes left.calms
 
   pub walked_strays : (blame : List (StateId × ReqId)) → AreLeftStrays (now_of e was) blame → AreLeftStrays (now_of e out) blame
   walked_strays blame = strays_left e was out blame walked_orders left.history left.causes
 
 -- ---- documents were discarded
 
-pub swept_left : (e : InEvent) (was out : List RowKind) → HasOnly (IsOrderOf IsOfWalk) was out → IsSweptTurn (now_of e was) (now_of e out) → LeavesPass (now_of e was) (now_of e out)
-swept_left e was out only turn =
-    left_orders e was out (any_orders was out only) turn.history turn.aim turn.parked turn.causes
+pub swept_left : (e : InEvent) (was out : List RowKind) → HasOnly (IsOrderOf IsOfWalk) was out → IsSweptTurn (now_of e was) (now_of e out) → KeepsCalm (now_of e was) (now_of e out) → LeavesPass (now_of e was) (now_of e out)
+swept_left e was out only turn calms =
+    left_orders e was out (any_orders was out only) turn.history turn.aim turn.parked turn.causes calms

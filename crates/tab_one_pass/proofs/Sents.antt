@@ -1,4 +1,6 @@
 -- No order makes a document stray, and what is read of the requests is as before.
+use Rattle.calm_facts.proofs.Sents.{usable_was}
+use Rattle.calm_facts.specs.Calm.{HasUsable}
 use Rattle.load_facts.proofs.Rows.{look_blind}
 use Rattle.load_facts.specs.Loading.{look, look_of}
 use Rattle.home_facts.specs.Homes.{document_in}
@@ -167,3 +169,8 @@ module _ (e : InEvent) (was out : List RowKind) (only : HasOnly (IsOrderOf IsAny
 
   pub were_same : WereShown (now_of e was) → WereShown (now_of e out)
   were_same = over_orders IsAnyTask WereShown (λ x event job is were. were_shown x event.event event.actor were (rows.Sent job) tt) e was out only
+
+-- a document that is usable then was so
+pub usable_before : (e : InEvent) (was out : List RowKind) → HasOnly (IsOrderOf IsAnyTask) was out → (state : StateId) → HasUsable (now_of e out) state → HasUsable (now_of e was) state
+usable_before e was out only state =
+    over_orders IsAnyTask (λ (x : Seen). HasUsable x state → HasUsable (now_of e was) state) (λ x event job any before some. before (usable_was x event.event event.actor job state some)) e was out only (λ some. some)

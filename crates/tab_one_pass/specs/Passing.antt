@@ -1,5 +1,6 @@
 -- What one pass over a tab with loads asks of the log, what it puts out, and what it leaves, so that another one may follow.
 -- HTML Standard, "apply the history step" and "destroy a document"; that all this goes by passes is this project's own.
+use Rattle.calm_facts.specs.Calm.{AreRooted, CalmUnless, HasUsable, IsCalm, IsCalmAround, IsCalmYet, KeepsCalm}
 use Rattle.frame_whole.specs.Tab.{AreAwakeWithRows}
 use Rattle.left_facts.specs.Left.{WereShown}
 use Rattle.load_facts.specs.Loading.{Look, is_ongoing, look_of}
@@ -105,7 +106,7 @@ pub record HasPassed (e : InEvent) (s : Seen) : Type 0 where
   pub takers : TakersServe s
   pub rows_ : AreAwakeWithRows s
 
--- the history and its aim, what is held back and what has joined, and what each request asks; only ongoing loads ended; and orders may be for whom they might be
+-- the history and its aim, what is held back and what has joined, and what each request asks; only ongoing loads ended; orders may be for whom they might be; no document was made usable; and the tab is as calm as it was
 pub record LeavesPass (s t : Seen) : Type 0 where
   pub history : t.history ≡ s.history
   pub aim : aim_of t ≡ aim_of s
@@ -115,3 +116,11 @@ pub record LeavesPass (s t : Seen) : Type 0 where
   pub others : (req : ReqId) (l : Look) → look_of s req ≡ Some l → is_ongoing l ≡ false → look_of t req ≡ Some l
   pub whats : SameReads (λ (q : Asked). q.what) s.requests t.requests
   pub causes : (why : Why) → MayCause s why → MayCause t why
+  pub ready : (state : StateId) → HasUsable t state → HasUsable s state
+  pub calms : KeepsCalm s t
+
+-- where no traversal runs, the tab is calm, if it was so but for navigables without an entry, or around one of which a load was just applied; and whatever runs, who is awake is rooted, if they were
+pub record LeavesCalm (run : Option ReqId) (s t : Seen) : Type 0 where
+  pub yet : CalmUnless IsCalmYet run s → CalmUnless IsCalm run t
+  pub around : (at : NavId) → CalmUnless (λ (x : Seen). IsCalmAround x at) run s → CalmUnless IsCalm run t
+  pub rooted : AreRooted s → AreRooted t

@@ -6,7 +6,7 @@ ghost use Rattle.log_model.specs.ActsAtOnce.{ends_told};
 ghost use Rattle.seen_laws.specs.InEvent.{now_of};
 ghost use Rattle.tab_doors.specs.Working.{KeepsStore};
 ghost use Rattle.tab_drops.specs.Dropping.{StandOrBare};
-ghost use Rattle.tab_one_pass.specs.Passing.{AreLeftStrays, HasClearedOut, HasGivenWay, HasPassed, HasPutOut, IsOpen, LeavesPass, MayPass, MayStand, WereLoaded};
+ghost use Rattle.tab_one_pass.specs.Passing.{AreLeftStrays, HasClearedOut, HasGivenWay, HasPassed, HasPutOut, IsOpen, LeavesCalm, LeavesPass, MayPass, MayStand, WereLoaded};
 ghost use Rattle.tab_passes.specs.Passing.{InPass, IsPassing};
 ghost use Rattle.tab_sweeps.specs.Sweeping.{AreBlamed};
 ghost use Rattle.walk_facts.specs.Serving.{AreServed};
@@ -106,6 +106,7 @@ pub fn pass(
     ensures loaded { OnOk result (WereLoaded (now_of p.event out.old) (now_of p.event out.new)) }
     ensures passed { OnOk result (HasPassed p.event (now_of p.event out.new)) }
     ensures left { OnOk result (LeavesPass (now_of p.event out.old) (now_of p.event out.new)) }
+    ensures calm { OnOk result (LeavesCalm tables.old.running (now_of p.event out.old) (now_of p.event out.new)) }
     ensures only { OnOk result (HasPutOut p.event tables.old.running cause tells out.old out.new) }
     ensures kept { OnOk result (KeepsStore tables.old tables.new) }
 {

@@ -3,3 +3,4 @@ pub mod Below
 pub mod Orders
 pub mod Turns
 pub mod Rounds
+pub mod Calms

@@ -1,5 +1,6 @@
 -- One turn after the other, all of the walk are served.
 use Rattle.apply_plan.specs.Order.{walk_of}
+use Rattle.calm_facts.proofs.Sames.{keeps_none, keeps_then}
 use Rattle.log_model.specs.Seen.{Place}
 use Rattle.log_model.specs.Walk as log
 use Rattle.log_model.specs.declared.header.Header.{Header}
@@ -81,6 +82,7 @@ left_then s t u first then_ =
       looks = then_.looks ∙ first.looks;
       causes = λ why may. then_.causes why (first.causes why may);
       rows_ = λ are. then_.rows_ (first.rows_ are);
+      calms = keeps_then s t u first.history first.aim first.calms then_.calms;
     }
 
 -- ---- the walk
@@ -108,7 +110,7 @@ module _ (p : InPass) (cause : Why) (navs : List NavId) where
           order = walk_here p out t passing navs is;
           served = record { each = λ k nav low at. absurd (omega (arith, low)) };
         };
-        left = record { history = refl; aim = refl; parked = refl; looks = refl; causes = λ why so. so; rows_ = λ are. are };
+        left = record { history = refl; aim = refl; parked = refl; looks = refl; causes = λ why so. so; rows_ = λ are. are; calms = keeps_none (now_of p.event out) };
         only = only_none (IsServeFor t.running cause) out;
         kept = kept_none t;
       }

@@ -1,6 +1,8 @@
 -- A turn of the walk: what it asks of the move, and what goes on after it.
 use Rattle.apply_plan.specs.Needs.{need_of}
 use Rattle.apply_plan.specs.declared.need.Need.{Need}
+use Rattle.calm_facts.proofs.Sames.{keeps_none}
+use Rattle.calm_facts.proofs.Turns.{IsCalmTurn, turn_keeps}
 use Rattle.hang_facts.proofs.Forms.{nav_is}
 use Rattle.rest_facts.proofs.Stands.{get_of}
 use Rattle.frame_whole.specs.Tab.{AreAwakeWithRows}
@@ -10,6 +12,7 @@ use Rattle.log_model.proofs.Refl.{nat_eq_refl}
 use Rattle.log_model.specs.History.{History, has_nav, has_row, is_of}
 use Rattle.log_model.specs.Places.{aim_of, is_below, is_shown}
 use Rattle.log_model.specs.Seen.{Place, Seen, place_of}
+use Rattle.log_model.specs.declared.header.Header.{Header}
 use Rattle.log_model.specs.declared.job.Why.{Why}
 use Rattle.log_model.specs.declared.row_kind.RowKind.{RowKind}
 use Rattle.mover_facts.specs.Movers.{IsMovedBy}
@@ -26,16 +29,18 @@ use Rattle.tab_ids.specs.declared.EntryId.{EntryId}
 use Rattle.tab_ids.specs.declared.NavId.{NavId}
 use Rattle.tab_ids.specs.declared.ReqId.{ReqId}
 use Rattle.tab_moves.proofs.Needing.{IsNeeding, need_here, needs_it}
+use Rattle.tab_moves.specs.Making.{HasMade}
 use Rattle.tab_moves.specs.Moving.{IsAtOrBelow}
 use Rattle.tab_moves.specs.Showing.{IsTurn, need_in}
 use Rattle.tab_passes.proofs.Stand.{stand_for}
 use Rattle.tab_passes.specs.Causes.{show_why}
 use Rattle.tab_passes.specs.Passing.{HasOnly, IsPassing}
 use Rattle.tab_serves.proofs.Below.{kept_loads, left_loads}
+use Rattle.tab_serves.proofs.Calms.{made_calm, moved_calm}
 use Rattle.tab_serves.proofs.Orders.{IsOrderOf, looks_over, moved_over, parents_over, stood_over, walk_orders, ways_over, were_over}
 use Rattle.tab_serves.proofs.Reached.{loads_stand_still, reached_still}
 use Rattle.tab_serves.specs.Serving.{HasOnlyServed, HasWalked, InWalk, IsOfWalk, IsWalking, LeavesLog}
-use Rattle.tab_walk.specs.Moving.{MayMoveTo}
+use Rattle.tab_walk.specs.Moving.{HasBeenMoved, MayMoveTo}
 use Rattle.walk_facts.proofs.Leaving.{one_more, walk_stays}
 use Rattle.walk_facts.proofs.Placed.{found_nav}
 use Rattle.walk_facts.specs.Serving.{IsServedAt, is_needing, is_stopping}
@@ -125,7 +130,7 @@ module _ (w : InWalk) (n : ℕ) (out : List RowKind) (t : Tables) (walking : IsW
       }
 
   pub idle_left : LeavesLog s s
-  idle_left = record { history = refl; aim = refl; parked = refl; looks = refl; causes = λ why may. may; rows_ = λ are. are }
+  idle_left = record { history = refl; aim = refl; parked = refl; looks = refl; causes = λ why may. may; rows_ = λ are. are; calms = keeps_none s }
 
   -- ---- it needs something
 
@@ -308,8 +313,13 @@ module _ (w : InWalk) (n : ℕ) (out : List RowKind) (t : Tables) (walking : IsW
             served = one_more s x passing.going.tab.sound passing.going.tab.hangs w.navs n nav here walking.order turn.others turn.own walking.served;
           }
 
-      pub turn_left : LeavesLog s x
-      turn_left =
+      -- it had been shown a document, where one is below it
+      raised_below : (other : NavId) (q : Place) → place_of s other ≡ Some q → is_below nav q ≡ true → 1 ≤ needing.place.epoch.0
+      raised_below other q there below =
+          raised (walking.walked.parents other nav q needing.place there below needing.placed)
+
+      left_by : IsCalmTurn s x nav needing.place → LeavesLog s x
+      left_by calm =
           record {
             history = turn.others.history;
             aim = turn.others.aim;
@@ -317,4 +327,15 @@ module _ (w : InWalk) (n : ℕ) (out : List RowKind) (t : Tables) (walking : IsW
             looks = looks_over e out new orders;
             causes = turn.causes;
             rows_ = rows_then;
+            calms = turn_keeps s x passing.going.tab.sound passing.going.tab.hangs passing.going.tab.homes passing.going.tab.standing nav needing.place needing.placed visited turn.others raised_below calm;
           }
+
+      -- what it leaves, where it was moved
+      pub moved_left : HasBeenMoved e nav out new → LeavesLog s x
+      moved_left moved =
+          left_by (moved_calm e nav out new moved turn.others needing.place needing.placed (λ none. (needing.standing.told.0 none).last))
+
+      -- and where its document is made
+      pub made_left : (header : Header) (entry : EntryId) (cause : Why) → HasMade header t nav entry cause out new → LeavesLog s x
+      made_left header entry cause made =
+          left_by (made_calm header t nav entry cause e out new made needing.place needing.placed)

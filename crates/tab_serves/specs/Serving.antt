@@ -1,5 +1,6 @@
 -- What the walk of a coordinator of a tab with loads asks for, and what it leaves.
 -- HTML Standard, "apply the history step"; orders and reasons are this project's own.
+use Rattle.calm_facts.specs.Calm.{KeepsCalm}
 use Rattle.frame_whole.specs.Tab.{AreAwakeWithRows}
 use Rattle.left_facts.specs.Left.{WereShown}
 use Rattle.load_ends.specs.Standing.{LoadsStand}
@@ -67,7 +68,7 @@ HasOnlyServed run cause was out = HasOnly (IsServeFor run cause) was out
 
 -- ---- what it leaves
 
--- the history and its aim, what is held back, what is read of the requests, for what orders may be sent, and that who is awake has an entry
+-- the history and its aim, what is held back, what is read of the requests, for what orders may be sent, that who is awake has an entry, and how calm the tab is
 pub record LeavesLog (s t : Seen) : Type 0 where
   pub history : t.history ≡ s.history
   pub aim : aim_of t ≡ aim_of s
@@ -75,6 +76,7 @@ pub record LeavesLog (s t : Seen) : Type 0 where
   pub looks : map look t.requests ≡ map look s.requests
   pub causes : (why : Why) → MayCause s why → MayCause t why
   pub rows_ : AreAwakeWithRows s → AreAwakeWithRows t
+  pub calms : KeepsCalm s t
 
 -- what it asked of the log is so still; but where not all stand, some may have been woken
 pub record HasWalked (e : InEvent) (s : Seen) : Type 0 where

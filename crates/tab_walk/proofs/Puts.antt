@@ -1,13 +1,13 @@
 -- What a move puts out: orders that freeze or discard documents, and the one that shows one; and who is awake after them.
 use Rattle.log_model.specs.After.{after}
-use Rattle.log_model.specs.Seen.{Seen}
+use Rattle.log_model.specs.Seen.{Place, Seen, place_of}
 use Rattle.log_model.specs.declared.job.Task.{Task}
 use Rattle.log_model.specs.declared.job.Why.{Why}
 use Rattle.log_model.specs.declared.row_kind.RowKind.{RowKind}
 use Rattle.mover_facts.proofs.Orders.{PutsToSleep}
 use Rattle.seen_laws.proofs.InEvents.{now_more}
 use Rattle.seen_laws.specs.InEvent.{InEvent, now_of, row_of}
-use Rattle.std.proofs.Common.{List, Option, [], refl, subst, sym, ℕ, ◌++◌, ◌∷◌, ◌≡◌}
+use Rattle.std.proofs.Common.{List, None, Option, Some, [], ap, refl, subst, sym, ℕ, ◌++◌, ◌∙◌, ◌∷◌, ◌≡◌}
 use Rattle.tab_doors.specs.Keeping.{Move}
 use Rattle.tab_doors.specs.Orders.{order_to}
 use Rattle.tab_doors.specs.declared.tables.Tables.{Tables}
@@ -20,7 +20,7 @@ use Rattle.tab_moves.specs.Showing.{IsShownBy, IsToShow}
 use Rattle.tab_passes.proofs.Onlies.{only_as, only_one, only_then}
 use Rattle.tab_passes.specs.Leaving.{HasOnlyFrozen}
 use Rattle.tab_walk.proofs.Overs.{IsQuietRow, over_only}
-use Rattle.tab_walk.specs.Moving.{HasOnlyLeft, HasOnlyMoved, InMove, IsLeaveFor, IsMoveFor, IsOfMove}
+use Rattle.tab_walk.specs.Moving.{HasBeenMoved, HasOnlyLeft, HasOnlyMoved, InMove, IsBound, IsLeaveFor, IsMoveFor, IsOfMove}
 use Rattle.walk_rows.proofs.Sinces.{sent_since, shown_since, since_itself}
 use Rattle.walk_rows.proofs.Wakes.{ShowsNone}
 use Rattle.walk_rows.specs.Since.{AwakeSince}
@@ -95,3 +95,40 @@ woken_as m nav doc entry navs docs entries e why for_ was mid out move run keep 
     (subst (λ (d : DocId). IsToShow move run keep (now_of e mid) m.nav d entry m.cause) (sym docs)
     (subst (λ (x : EntryId). IsToShow move run keep (now_of e mid) m.nav m.doc x m.cause) (sym entries) shows)))
     shown
+
+-- ---- all of it
+
+-- what was left, and what is shown
+pub moved_by : (e : InEvent) (why for_ : Why) (was mid out : List RowKind) (move : Option Move) (run : Option ReqId) (keep : ℕ) (t : Tables) (nav : NavId) (doc : DocId) (entry : EntryId) (cause : Why) → HasOnlyLeft why was mid → IsToShow move run keep (now_of e mid) nav doc entry cause → IsShownBy (now_of e mid) t nav doc entry for_ mid out → ((place : Place) → place_of (now_of e was) nav ≡ Some place → place.last ≡ None → mid ≡ was) → HasBeenMoved e nav was out
+moved_by e why for_ was mid out move run keep t nav doc entry cause left shows shown first =
+    record {
+      mid = mid;
+      for_ = why;
+      left = left;
+      first = first;
+      job = order_to (now_of e mid) doc for_ (tasks.Activate entry shown.epoch shown.long shown.at shown.target.memo shown.target.address);
+      entry = entry;
+      epoch = shown.epoch;
+      long = shown.long;
+      at = shown.at;
+      memo = shown.target.memo;
+      address = shown.target.address;
+      task = refl;
+      wanted = shows.wanted;
+      is = shown.is;
+    }
+
+-- where it leaves a document, it was shown one
+pub left_first_not : (m : InMove) (run : Option ReqId) (s : Seen) (nav : NavId) → nav ≡ m.nav → IsBound m run s → (was mid : List RowKind) (place : Place) → place_of s nav ≡ Some place → place.last ≡ None → mid ≡ was
+left_first_not m run s nav navs bound was mid place placed none =
+    absurd (let both : Some bound.place ≡ Some place = sym bound.placed ∙ ap (λ (n : NavId). place_of s n) (sym navs) ∙ placed in let same : bound.place ≡ place = cc in let never : Some m.left ≡ None = sym bound.last ∙ ap (λ (p : Place). p.last) same ∙ none in cc)
+
+-- the same of a move, by the names of a call
+pub moved_as : (m : InMove) (nav : NavId) (doc : DocId) (entry : EntryId) → nav ≡ m.nav → doc ≡ m.doc → entry ≡ m.entry → (e : InEvent) (why for_ : Why) (was mid out : List RowKind) (move : Option Move) (run first_run : Option ReqId) (keep : ℕ) (t : Tables) → IsBound m first_run (now_of e was) → HasOnlyLeft why was mid → IsToShow move run keep (now_of e mid) m.nav m.doc m.entry m.cause → IsShownBy (now_of e mid) t nav doc entry for_ mid out → HasBeenMoved e nav was out
+moved_as m nav doc entry navs docs entries e why for_ was mid out move run first_run keep t bound left shows shown =
+    moved_by e why for_ was mid out move run keep t nav doc entry m.cause left
+    (subst (λ (n : NavId). IsToShow move run keep (now_of e mid) n doc entry m.cause) (sym navs)
+    (subst (λ (d : DocId). IsToShow move run keep (now_of e mid) m.nav d entry m.cause) (sym docs)
+    (subst (λ (x : EntryId). IsToShow move run keep (now_of e mid) m.nav m.doc x m.cause) (sym entries) shows)))
+    shown
+    (left_first_not m first_run (now_of e was) nav navs bound was mid)

@@ -17,7 +17,8 @@ use Rattle.mover_facts.specs.Movers.{IsMovedBy}
 use Rattle.log_model.specs.Equal.{holds}
 use Rattle.nav_tree.specs.Tree.{Tree, nav_of}
 use Rattle.nav_tree.specs.declared.nav.Nav.{Nav}
-use Rattle.std.specs.Prelude.{Bool, List, None, Option, Some, drop, false, is_some, true, ◌==◌, ◌≡◌, ◌≤◌, ℕ}
+use Rattle.seen_laws.specs.InEvent.{InEvent, now_of}
+use Rattle.std.specs.Prelude.{Bool, List, None, Option, Some, [], drop, false, is_some, true, ◌++◌, ◌==◌, ◌∷◌, ◌≡◌, ◌≤◌, ℕ}
 use Rattle.page_cache.specs.Kept.{left_first}
 use Rattle.std.specs.Option.{option_to_list}
 use Rattle.tab_doors.specs.Keeping.{Move}
@@ -26,10 +27,12 @@ use Rattle.walk_facts.specs.Walking.{LeavesOthers}
 use Rattle.tab_evicts.specs.Evicting.{InEvicting, NoLoadBelow}
 use Rattle.tab_ids.specs.declared.DocId.{DocId}
 use Rattle.tab_ids.specs.declared.EntryId.{EntryId}
+use Rattle.tab_ids.specs.declared.Epoch.{Epoch}
 use Rattle.tab_ids.specs.declared.NavId.{NavId}
 use Rattle.tab_ids.specs.declared.ReqId.{ReqId}
 use Rattle.tab_ids.specs.declared.StateId.{StateId}
 use Rattle.tab_moves.specs.Moving.{AllAsleep, MayBeMoved}
+use Rattle.tab_moves.specs.Showing.{IsWanted}
 use Rattle.tab_passes.specs.Causes.{MayCause, show_why}
 use Rattle.tab_passes.specs.Passing.{HasOnly, InPass}
 use Rattle.walk_rows.specs.Since.{IsVisitedInNeed}
@@ -142,6 +145,23 @@ pub record IsMoveFor (why : Why) (row : RowKind) : Type 0 where
 -- nothing but such orders was put out
 abbrev pub HasOnlyMoved : Why → List RowKind → List RowKind → Type 0
 HasOnlyMoved why was out = HasOnly (IsMoveFor why) was out
+
+-- the navigable left what it was shown last, which it hadn't if it was never shown a document, and last an order was put out that shows it its target's entry, by the document that is there for it
+pub record HasBeenMoved (e : InEvent) (nav : NavId) (was out : List RowKind) : Type 0 where
+  pub mid : List RowKind
+  pub for_ : Why
+  pub left : HasOnlyLeft for_ was mid
+  pub first : (place : Place) → place_of (now_of e was) nav ≡ Some place → place.last ≡ None → mid ≡ was
+  pub job : Job
+  pub entry : EntryId
+  pub epoch : Epoch
+  pub long : ℕ
+  pub at : ℕ
+  pub memo : Option (List ℕ)
+  pub address : List ℕ
+  pub task : job.task ≡ tasks.Activate entry epoch long at memo address
+  pub wanted : IsWanted (now_of e mid) nav job.doc entry
+  pub is : out ≡ mid ++ rows.Sent job ∷ []
 
 -- ---- the parts
 

@@ -8,7 +8,7 @@ ghost use Rattle.tab_moves.specs.Showing.{IsTurn, need_in};
 ghost use Rattle.tab_passes.specs.Causes.{show_why};
 ghost use Rattle.tab_passes.specs.Passing.{InPass, IsPassing};
 ghost use Rattle.tab_walk.specs.Cutting.{MayCutFrom};
-ghost use Rattle.tab_walk.specs.Moving.{HasOnlyMoved, InMove, MayMoveFrom, MayMoveTo, in_move};
+ghost use Rattle.tab_walk.specs.Moving.{HasBeenMoved, HasOnlyMoved, InMove, MayMoveFrom, MayMoveTo, in_move};
 ghost use Rattle.walk_rows.specs.Since.{AwakeSince};
 
 use crate::cutting::cut_left;
@@ -42,6 +42,7 @@ fn move_from(
     ensures passing { OnOk result (IsPassing m.pass out.new tables.new) }
     ensures turn { OnOk result (IsTurn (now_of m.pass.event out.old) (now_of m.pass.event out.new) nav) }
     ensures wakes { OnOk result (AwakeSince (now_of m.pass.event out.old) (nav ∷ []) (now_of m.pass.event out.new)) }
+    ensures moved { OnOk result (HasBeenMoved m.pass.event nav out.old out.new) }
     ensures only { OnOk result (HasOnlyMoved (show_why tables.old.running cause) out.old out.new) }
     ensures kept { OnOk result (KeepsStore tables.old tables.new) }
 {
@@ -84,6 +85,7 @@ fn cut_from(
     ensures passing { OnOk result (IsPassing m.pass out.new tables.new) }
     ensures turn { OnOk result (IsTurn (now_of m.pass.event out.old) (now_of m.pass.event out.new) nav) }
     ensures wakes { OnOk result (AwakeSince (now_of m.pass.event out.old) (nav ∷ []) (now_of m.pass.event out.new)) }
+    ensures moved { OnOk result (HasBeenMoved m.pass.event nav out.old out.new) }
     ensures only { OnOk result (HasOnlyMoved (show_why tables.old.running cause) out.old out.new) }
     ensures kept { OnOk result (KeepsStore tables.old tables.new) }
 {
@@ -111,6 +113,7 @@ pub fn move_to(
     ensures passing { OnOk result (IsPassing p out.new tables.new) }
     ensures turn { OnOk result (IsTurn (now_of p.event out.old) (now_of p.event out.new) nav) }
     ensures wakes { OnOk result (AwakeSince (now_of p.event out.old) (nav ∷ []) (now_of p.event out.new)) }
+    ensures moved { OnOk result (HasBeenMoved p.event nav out.old out.new) }
     ensures only { OnOk result (HasOnlyMoved (show_why tables.old.running cause) out.old out.new) }
     ensures kept { OnOk result (KeepsStore tables.old tables.new) }
 {

@@ -1,7 +1,7 @@
 use Rattle.apply_plan.specs.declared.need.Need.{Need}
 use Rattle.std.proofs.Common.{Some, ap, refl, sym, ◌∙◌}
 use Rattle.tab_serves.proofs.Rounds.{made_served, made_since, moved_served}
-use Rattle.tab_serves.proofs.Turns.{idle_left, idle_walking, make_own, may_move, move_own, turn_left, turn_walking}
+use Rattle.tab_serves.proofs.Turns.{idle_left, idle_walking, made_left, make_own, may_move, move_own, moved_left, turn_walking}
 use Rattle.tab_serves.proofs.serving.serve_one.Goals as goal
 use Rattle.tab_serves.specs.Serving.{walk_by}
 use Rattle.tab_passes.proofs.Onlies.{only_none}
@@ -32,7 +32,7 @@ returns-in_ok-move_to-in-Move-clause-walking g c =
 
 pub returns-in_ok-move_to-in-Move-clause-left : goal.returns-in_ok-move_to-in-Move-clause-left
 returns-in_ok-move_to-in-Move-clause-left g c =
-    turn_left (walk_by g.p c.args.cause c.args.navs.now) c.args.i c.args.out.now c.args.tables.now c.requires.0 c.at-nav.result.now c.at-nav.ensures _ (sym c.need_at.ensures ∙ c.in-Some.is) _ _ c.in_ok-move_to-in-Move.ensures.passing c.in_ok-move_to-in-Move.ensures.turn c.in_ok-move_to-in-Move.ensures.wakes (moved_served _ _ _ _ c.in_ok-move_to-in-Move.ensures.only) c.in_ok-move_to-in-Move.ensures.kept
+    moved_left (walk_by g.p c.args.cause c.args.navs.now) c.args.i c.args.out.now c.args.tables.now c.requires.0 c.at-nav.result.now c.at-nav.ensures _ (sym c.need_at.ensures ∙ c.in-Some.is) _ _ c.in_ok-move_to-in-Move.ensures.passing c.in_ok-move_to-in-Move.ensures.turn c.in_ok-move_to-in-Move.ensures.wakes (moved_served _ _ _ _ c.in_ok-move_to-in-Move.ensures.only) c.in_ok-move_to-in-Move.ensures.kept c.in_ok-move_to-in-Move.ensures.moved
 
 pub returns-in_ok-move_to-in-Move-clause-only : goal.returns-in_ok-move_to-in-Move-clause-only
 returns-in_ok-move_to-in-Move-clause-only g c = moved_served _ _ _ _ c.in_ok-move_to-in-Move.ensures.only
@@ -43,7 +43,7 @@ returns-in_ok-make_target-in-Populate-clause-walking g c =
 
 pub returns-in_ok-make_target-in-Populate-clause-left : goal.returns-in_ok-make_target-in-Populate-clause-left
 returns-in_ok-make_target-in-Populate-clause-left g c =
-    turn_left (walk_by g.p c.args.cause c.args.navs.now) c.args.i c.args.out.now c.args.tables.now c.requires.0 c.at-nav.result.now c.at-nav.ensures _ (sym c.need_at.ensures ∙ c.in-Some.is) _ _ c.in_ok-make_target-in-Populate.ensures.passing c.in_ok-make_target-in-Populate.ensures.turn (made_since _ _ _ _ _ g.p.event _ _ c.in_ok-make_target-in-Populate.ensures.made) (made_served _ _ _ _ _ _ _ c.in_ok-make_target-in-Populate.ensures.made) c.in_ok-make_target-in-Populate.ensures.kept
+    made_left (walk_by g.p c.args.cause c.args.navs.now) c.args.i c.args.out.now c.args.tables.now c.requires.0 c.at-nav.result.now c.at-nav.ensures _ (sym c.need_at.ensures ∙ c.in-Some.is) _ _ c.in_ok-make_target-in-Populate.ensures.passing c.in_ok-make_target-in-Populate.ensures.turn (made_since _ _ _ _ _ g.p.event _ _ c.in_ok-make_target-in-Populate.ensures.made) (made_served _ _ _ _ _ _ _ c.in_ok-make_target-in-Populate.ensures.made) c.in_ok-make_target-in-Populate.ensures.kept _ _ _ c.in_ok-make_target-in-Populate.ensures.made
 
 pub returns-in_ok-make_target-in-Populate-clause-only : goal.returns-in_ok-make_target-in-Populate-clause-only
 returns-in_ok-make_target-in-Populate-clause-only g c = made_served _ _ _ _ _ _ _ c.in_ok-make_target-in-Populate.ensures.made

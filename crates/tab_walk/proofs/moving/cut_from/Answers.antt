@@ -2,7 +2,7 @@ use Rattle.std.proofs.Common.{Option, ap, refl, sym}
 use Rattle.tab_ids.specs.declared.ReqId.{ReqId}
 use Rattle.tab_passes.specs.Causes.{show_why}
 use Rattle.tab_walk.proofs.Froms.{part_named, part_turn}
-use Rattle.tab_walk.proofs.Puts.{moved_for, woken_as}
+use Rattle.tab_walk.proofs.Puts.{moved_as, moved_for, woken_as}
 use Rattle.tab_walk.proofs.Readies.{cut_begun, cut_new, cut_ready}
 use Rattle.tab_walk.proofs.moving.cut_from.Goals as goal
 use Rattle.tab_walk.specs.Moving.{InMove}
@@ -27,3 +27,7 @@ returns-clause-only g c =
 pub returns-clause-wakes : goal.returns-clause-wakes
 returns-clause-wakes g c =
     woken_as g.m c.args.nav c.args.doc c.args.entry (ap (λ (x : InMove). x.nav) c.requires.0) (ap (λ (x : InMove). x.doc) c.requires.0) (ap (λ (x : InMove). x.entry) c.requires.0) g.m.pass.event _ _ _ _ _ _ _ _ _ c.in_ok-cut_left.ensures.left c.in_ok-cut_left.ensures.shows c.in_ok-show_target.ensures.shown
+
+pub returns-clause-moved : goal.returns-clause-moved
+returns-clause-moved g c =
+    moved_as g.m c.args.nav c.args.doc c.args.entry (ap (λ (x : InMove). x.nav) c.requires.0) (ap (λ (x : InMove). x.doc) c.requires.0) (ap (λ (x : InMove). x.entry) c.requires.0) g.m.pass.event _ _ _ _ _ _ _ _ _ _ c.requires.1.1.bound c.in_ok-cut_left.ensures.left c.in_ok-cut_left.ensures.shows c.in_ok-show_target.ensures.shown

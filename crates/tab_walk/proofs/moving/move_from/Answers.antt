@@ -7,7 +7,7 @@ use Rattle.tab_ids.specs.declared.StateId.{StateId}
 use Rattle.tab_passes.specs.Causes.{show_why}
 use Rattle.tab_walk.proofs.Froms.{part_named, part_turn, room_ready}
 use Rattle.tab_walk.proofs.Offs.{part_then}
-use Rattle.tab_walk.proofs.Puts.{left_then_left, moved_for, woken_as}
+use Rattle.tab_walk.proofs.Puts.{left_then_left, moved_as, moved_for, woken_as}
 use Rattle.tab_walk.proofs.moving.move_from.Goals as goal
 use Rattle.tab_walk.specs.Moving.{InMove}
 
@@ -39,3 +39,7 @@ returns-clause-only g c =
 pub returns-clause-wakes : goal.returns-clause-wakes
 returns-clause-wakes g c =
     woken_as g.m c.args.nav c.args.doc c.args.entry (ap (λ (x : InMove). x.nav) c.requires.0) (ap (λ (x : InMove). x.doc) c.requires.0) (ap (λ (x : InMove). x.entry) c.requires.0) g.m.pass.event _ _ _ _ _ _ _ _ _ (left_then_left _ _ _ _ c.in_ok-set_off.ensures.left c.in_ok-make_room.ensures.left) c.in_ok-make_room.ensures.shows c.in_ok-show_target.ensures.shown
+
+pub returns-clause-moved : goal.returns-clause-moved
+returns-clause-moved g c =
+    moved_as g.m c.args.nav c.args.doc c.args.entry (ap (λ (x : InMove). x.nav) c.requires.0) (ap (λ (x : InMove). x.doc) c.requires.0) (ap (λ (x : InMove). x.entry) c.requires.0) g.m.pass.event _ _ _ _ _ _ _ _ _ _ c.requires.1.1.bound (left_then_left _ _ _ _ c.in_ok-set_off.ensures.left c.in_ok-make_room.ensures.left) c.in_ok-make_room.ensures.shows c.in_ok-show_target.ensures.shown

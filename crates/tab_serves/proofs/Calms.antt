@@ -1,0 +1,199 @@
+-- What a turn of the walk puts out leaves the tab as calm as it was.
+use Rattle.calm_facts.proofs.Sames.{IsUsableAt}
+use Rattle.calm_facts.proofs.Sents.{AreSeated, DiscardsNone, ShowsEntry, rooted_sent, usable_sent}
+use Rattle.calm_facts.proofs.Turns.{IsCalmTurn, IsInPlace}
+use Rattle.hang_facts.proofs.Targets.{IsTarget, target_has}
+use Rattle.log_model.proofs.Refl.{nat_eq_refl, same_entry_refl}
+use Rattle.log_model.specs.After.{after}
+use Rattle.log_model.specs.AfterPlaces.{activated}
+use Rattle.log_model.specs.Equal.{holds}
+use Rattle.log_model.specs.History.{History, same_entry, target_entry}
+use Rattle.log_model.specs.Orders.{is_usable}
+use Rattle.log_model.specs.Places.{aim_of, is_awake}
+use Rattle.log_model.specs.Seen.{Document, Place, Seen, document_of, place_of}
+use Rattle.log_model.specs.declared.header.Header.{Header}
+use Rattle.log_model.specs.declared.job.Job.{Job}
+use Rattle.log_model.specs.declared.job.Task.{Task}
+use Rattle.log_model.specs.declared.job.Why.{Why}
+use Rattle.log_model.specs.declared.row.Row.{Row}
+use Rattle.log_model.specs.declared.row_kind.RowKind.{RowKind}
+use Rattle.mover_facts.proofs.Orders.{PutsToSleep}
+use Rattle.seen_laws.proofs.InEvents.{now_more}
+use Rattle.seen_laws.specs.InEvent.{InEvent, now_of, row_of}
+use Rattle.std.proofs.Common.{Bool, List, None, Option, Some, ap, cond, inl, inr, refl, subst, sym, true, ℕ, ◌==◌, ◌∙◌, ◌≡◌}
+use Rattle.std.specs.Prelude.{option_map}
+use Rattle.tab_doors.specs.declared.tables.Tables.{Tables}
+use Rattle.tab_ids.specs.declared.DocId.{DocId}
+use Rattle.tab_ids.specs.declared.EntryId.{EntryId}
+use Rattle.tab_ids.specs.declared.NavId.{NavId}
+use Rattle.tab_ids.specs.declared.StateId.{StateId}
+use Rattle.tab_moves.specs.Making.{HasMade}
+use Rattle.tab_passes.proofs.Onlies.{only_as}
+use Rattle.tab_passes.specs.Passing.{HasOnly}
+use Rattle.tab_serves.proofs.Orders.{IsOrderOf, over_orders}
+use Rattle.tab_walk.specs.Moving.{HasBeenMoved, IsLeaveFor}
+use Rattle.walk_facts.proofs.Placed.{found_nav}
+use Rattle.walk_facts.proofs.Sleepers.{becomes, place_becomes, sleepers_of, slept, slept_same}
+use Rattle.walk_facts.proofs.Turns.{show_aim}
+use Rattle.walk_facts.specs.Walking.{LeavesOthers}
+use Rattle.log_model.specs.declared.job.Task.TheVariants as tasks
+use Rattle.log_model.specs.declared.row_kind.RowKind.TheVariants as rows
+
+-- ---- a document is made
+
+module _ (header : Header) (t : Tables) (nav : NavId) (entry : EntryId) (cause : Why) (e : InEvent) (was out : List RowKind) where
+  abbrev s : Seen
+  s = now_of e was
+
+  -- nothing was put out
+  none_calm : (place : Place) → place_of s nav ≡ Some place → IsCalmTurn s s nav place
+  none_calm place placed =
+      record {
+        own = λ now p there. inl (let both : Some p ≡ Some place = sym there ∙ placed in cc);
+        usable = λ none doc d state found usable. record { d = d; found = found; usable = usable };
+        target = λ row at doc d found usable. (doc, record { d = d; found = found; usable = usable });
+        seated = λ are. are;
+      }
+
+  -- an order that makes it
+  populate_calm : (job : Job) (state : StateId) (address : List ℕ) (initial : Bool) → job.task ≡ tasks.Populate nav state address initial → (place : Place) → place_of s nav ≡ Some place → IsCalmTurn s (after s (row_of e (rows.Sent job))) nav place
+  populate_calm job state address initial task place placed =
+      record {
+        own = λ now p there. inl (let both : Some p ≡ Some place = sym there ∙ places ∙ placed in cc);
+        usable = λ none. stays;
+        target = λ row at doc d found usable. (doc, stays doc d row.state found usable);
+        seated = rooted_sent s e.event e.actor job (subst (λ (k : Task). ShowsEntry s.history.rows k) (sym task) tt);
+      }
+    where
+      places : place_of (after s (row_of e (rows.Sent job))) nav ≡ place_of s nav
+      places = rw task refl
+
+      stays : (doc : DocId) (d : Document) (other : StateId) → document_of s doc ≡ Some d → is_usable d other ≡ true → IsUsableAt (after s (row_of e (rows.Sent job))) doc other
+      stays = usable_sent s e.event e.actor job (subst (λ (k : Task). DiscardsNone k) (sym task) tt)
+
+  pub made_calm : HasMade header t nav entry cause was out → (place : Place) → place_of s nav ≡ Some place → IsCalmTurn s (now_of e out) nav place
+  made_calm (inl making) place placed =
+      subst (λ (l : List RowKind). IsCalmTurn s (now_of e l) nav place) (sym making.1) (none_calm place placed)
+  made_calm (inr made) place placed =
+      subst (λ (l : List RowKind). IsCalmTurn s (now_of e l) nav place) (sym made.is)
+      (subst (λ (x : Seen). IsCalmTurn s x nav place) (sym (now_more e was (rows.Sent made.job))) (populate_calm made.job _ _ _ made.task place placed))
+
+-- ---- it is moved
+
+module _ (e : InEvent) (nav : NavId) (was out : List RowKind) (moved : HasBeenMoved e nav was out) (others : LeavesOthers (now_of e was) (now_of e out) nav) (place : Place) (placed : place_of (now_of e was) nav ≡ Some place) (first : place.epoch.0 ≡ 0 → place.last ≡ None) where
+  abbrev b : Seen
+  b = now_of e was
+
+  abbrev m : Seen
+  m = now_of e moved.mid
+
+  abbrev x : Seen
+  x = after m (row_of e (rows.Sent moved.job))
+
+  then_ : now_of e out ≡ x
+  then_ =
+      ap (λ (l : List RowKind). now_of e l) moved.is ∙ now_more e moved.mid (rows.Sent moved.job)
+
+  -- ---- the order that shows it
+
+  history : m.history ≡ b.history
+  history = sym (ap (λ (y : Seen). y.history) then_) ∙ others.history
+
+  aims : aim_of m ≡ aim_of b
+  aims =
+      sym (show_aim m e.event e.actor moved.job moved.wanted.document moved.entry moved.epoch moved.long moved.at moved.memo moved.address moved.task moved.wanted.found) ∙ sym (ap aim_of then_) ∙ others.aim
+
+  -- its target is the one before
+  at_before : target_entry b.history.rows nav (aim_of b) ≡ Some moved.wanted.target
+  at_before =
+      sym (ap (λ (h : History). target_entry h.rows nav (aim_of m)) history ∙ ap (λ (k : ℕ). target_entry b.history.rows nav k) aims) ∙ moved.wanted.at
+
+  abbrev become : Place → Place
+  become = becomes m e.event e.actor moved.job moved.wanted.document moved.entry moved.epoch moved.long moved.at moved.memo moved.address moved.task moved.wanted.found
+
+  abbrev old : Place
+  old = slept (sleepers_of m moved.job.doc moved.wanted.document.nav) moved.job.why moved.wanted.place
+
+  new : become moved.wanted.place ≡ activated moved.job moved.entry moved.epoch moved.wanted.document old
+  new =
+      ap (λ (c : Bool). let p : Place = cond c (activated moved.job moved.entry moved.epoch moved.wanted.document old) old in p) own
+    where
+      own : (old.nav.0 == moved.wanted.document.nav.0) ≡ true
+      own =
+          ap (λ (n : NavId). n.0 == moved.wanted.document.nav.0) ((slept_same (sleepers_of m moved.job.doc moved.wanted.document.nav) moved.job.why moved.wanted.place).0 ∙ found_nav m.places nav moved.wanted.place moved.wanted.placed ∙ sym moved.wanted.nav_is)
+          ∙ nat_eq_refl moved.wanted.document.nav.0
+
+  -- it is awake on its target
+  put : (p : Place) → place_of x nav ≡ Some p → aim_of b ≡ b.history.current → IsInPlace b p
+  put p there now =
+      record {
+        up = ap (λ (q : Place). is_awake q) (sym is);
+        target = ap (λ (n : NavId). holds (λ (row : Row). holds (same_entry row.entry) p.given) (target_entry b.history.rows n b.history.current)) navs
+            ∙ ap (λ (o : Option Row). holds (λ (row : Row). holds (same_entry row.entry) p.given) o) (ap (λ (k : ℕ). target_entry b.history.rows nav k) (sym now) ∙ at_before)
+            ∙ ap (λ (o : Option EntryId). holds (same_entry moved.wanted.target.entry) o) given
+            ∙ same_entry_refl moved.wanted.target.entry;
+      }
+    where
+      is : activated moved.job moved.entry moved.epoch moved.wanted.document old ≡ p
+      is =
+          let both : Some (become moved.wanted.place) ≡ Some p = sym (place_becomes m e.event e.actor moved.job moved.wanted.document moved.entry moved.epoch moved.long moved.at moved.memo moved.address moved.task moved.wanted.found nav ∙ ap (option_map become) moved.wanted.placed) ∙ there in
+          let same : become moved.wanted.place ≡ p = cc in
+          sym new ∙ same
+
+      navs : p.nav ≡ nav
+      navs = found_nav x.places nav p there
+
+      given : p.given ≡ Some moved.wanted.target.entry
+      given =
+          ap (λ (q : Place). q.given) (sym is) ∙ ap (λ (n : EntryId). Some n) (sym moved.wanted.entry_is)
+
+  -- a usable document is so after it
+  shown_usable : (doc : DocId) (d : Document) (state : StateId) → document_of m doc ≡ Some d → is_usable d state ≡ true → IsUsableAt x doc state
+  shown_usable =
+      usable_sent m e.event e.actor moved.job (subst (λ (k : Task). DiscardsNone k) (sym moved.task) tt)
+
+  shown_seated : AreSeated m → AreSeated x
+  shown_seated =
+      rooted_sent m e.event e.actor moved.job (subst (λ (k : Task). ShowsEntry m.history.rows k) (sym moved.task) (moved.wanted.target, its.there, moved.wanted.entry_is))
+    where
+      its : IsTarget m.history.rows nav (aim_of m) moved.wanted.target
+      its = target_has m.history.rows nav (aim_of m) moved.wanted.target moved.wanted.at
+
+  -- ---- those before it
+
+  puts_entry : (l : List Row) (task : Task) → PutsToSleep task → ShowsEntry l task
+  puts_entry l tasks.Freeze puts = tt
+  puts_entry l tasks.Discard puts = tt
+  puts_entry l _ puts = absurd puts
+
+  left_orders : HasOnly (IsOrderOf PutsToSleep) was moved.mid
+  left_orders =
+      only_as (IsLeaveFor moved.for_) (IsOrderOf PutsToSleep) was moved.mid (λ row it. record { job = it.job; is = it.is; task = it.puts }) moved.left
+
+  left_seated : AreSeated b → AreSeated m
+  left_seated =
+      over_orders PutsToSleep AreSeated (λ y event job puts. rooted_sent y event.event event.actor job (puts_entry y.history.rows job.task puts)) e was moved.mid left_orders
+
+  -- ---- all of it
+
+  moved_turn : IsCalmTurn b x nav place
+  moved_turn =
+      record {
+        own = λ now p there. inr (put p there now);
+        usable = λ none doc d state found usable. shown_usable doc d state (ap (λ (l : List RowKind). document_of (now_of e l) doc) (moved.first place placed (first none)) ∙ found) usable;
+        target = λ row at doc d found usable. (moved.job.doc, shown_usable moved.job.doc moved.wanted.document row.state moved.wanted.found (ap (λ (r : Row). is_usable moved.wanted.document r.state) (its row at) ∙ moved.wanted.usable));
+        seated = λ are. shown_seated (left_seated are);
+      }
+    where
+      its : (row : Row) → target_entry b.history.rows nav (aim_of b) ≡ Some row → row ≡ moved.wanted.target
+      its row at = let both : Some row ≡ Some moved.wanted.target = sym at ∙ at_before in cc
+
+  pub moved_calm : IsCalmTurn b (now_of e out) nav place
+  moved_calm = subst (λ (y : Seen). IsCalmTurn b y nav place) (sym then_) moved_turn
+
+-- ---- any orders
+
+-- who is awake stays rooted over orders, each of which shows an entry of the history, if one
+pub seated_over : (e : InEvent) (l : List Row) (was out : List RowKind) → HasOnly (IsOrderOf (ShowsEntry l)) was out → (now_of e was).history.rows ≡ l → AreSeated (now_of e was) → AreSeated (now_of e out)
+seated_over e l was out only same seated =
+    (over_orders (ShowsEntry l) (λ (y : Seen). (y.history.rows ≡ l) × AreSeated y) (λ y event job shows so. (so.0, rooted_sent y event.event event.actor job (subst (λ (r : List Row). ShowsEntry r job.task) (sym so.0) shows) so.1)) e was out only (same, seated)).1
