@@ -365,6 +365,19 @@ def try_lasting(b):
         count('names its state', job.task.kind != MAKES or s.docs[job.doc].state == job.task.state, job.nr)
 
 
+def try_past(b):
+    """A document that isn't the one that its navigable was shown last acts under no epoch of it that is now: not in its view, an order that comes to it, or what it made."""
+    s = b.s
+    for d in s.docs.values():
+        n, act, v = s.place.get(d.nav), s.last_act.get(d.nav), s.views.get(d.nr)
+        if n is None or (act is not None and act.doc == d.nr):
+            continue
+        epochs = [] if v is None else [v.epoch]
+        epochs += [job.task.epoch for job in b.jobs() if job.doc == d.nr and job.task.kind == SHOWS]
+        epochs += [made.epoch for made in b.mades() if made.doc == d.nr]
+        count('past', all(e <= max(n.epoch - 1, 0) for e in epochs), (d.nr, n.epoch, epochs))
+
+
 def try_fragments(s):
     """But for the load whose order was just finished, of which the next row tells what was made."""
     sent = [s.jobs[j].task.req for p in s.procs.values() for j in [*p.mail, *([] if p.hand is None else [p.hand])]
@@ -439,6 +452,7 @@ def try_loads(log, keep):
         if ends or log[i + 1].kind != 'made':
             try_fragments(b.s)
         try_lasting(b)
+        try_past(b)
 
 
 for profile in PROFILES:

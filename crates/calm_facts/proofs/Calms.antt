@@ -15,7 +15,7 @@ use Rattle.log_model.specs.Soundness.{IsSound}
 use Rattle.log_model.specs.declared.job.Why.{Why}
 use Rattle.log_model.specs.declared.row.Row.{Row}
 use Rattle.place_facts.specs.Standing.{AreStanding}
-use Rattle.std.proofs.Common.{Bool, None, Option, Some, ap, arith, false, inl, inr, not, refl, suc, sym, true, zero, ℕ, ◌==◌, ◌||◌, ◌∙◌, ◌≡◌, ◌⊎◌}
+use Rattle.std.proofs.Common.{Bool, List, None, Option, Some, ap, arith, false, inl, inr, not, refl, suc, sym, true, zero, ℕ, ◌==◌, ◌||◌, ◌∙◌, ◌≡◌, ◌⊎◌}
 use Rattle.tab_ids.specs.declared.DocId.{DocId}
 use Rattle.tab_ids.specs.declared.EntryId.{EntryId}
 use Rattle.tab_ids.specs.declared.NavId.{NavId}
@@ -64,12 +64,17 @@ needs_not rows step place doc wakes met given =
     asleep_not lost is = absurd cc
     asleep_not asleep is = absurd cc
 
--- who is shown has an entry
+-- who has a target has an entry
+pub target_entered : (l : List Row) (nav : NavId) (step : ℕ) (row : Row) → target_entry l nav step ≡ Some row → has_row nav l ≡ true
+target_entered l nav step row at =
+    let target = target_has l nav step row at in
+    has_any (is_of nav) l row target.there (ap (λ (n : NavId). n.0 == nav.0) target.nav_is ∙ nat_eq_refl nav.0)
+
+-- so has who is shown
 pub shown_row : (s : Seen) → IsSound s.history → Hangs s → (step : ℕ) (nav : NavId) → is_shown s.history.rows step nav ≡ true → has_row nav s.history.rows ≡ true
 shown_row s sound hangs step nav shown =
     let its = some_is (target_entry s.history.rows nav step) (has_begun s sound hangs step nav shown) in
-    let target = target_has s.history.rows nav step its.0 its.1 in
-    has_any (is_of nav) s.history.rows its.0 target.there (ap (λ (n : NavId). n.0 == nav.0) target.nav_is ∙ nat_eq_refl nav.0)
+    target_entered s.history.rows nav step its.0 its.1
 
 -- ---- who is in need
 
@@ -163,7 +168,7 @@ pub here_rooted : (s : Seen) (place : Place) (d : Document) → IsHere s place �
 here_rooted s place d here =
     let its = given_row s s.history.current place here.target in
     let target = target_has s.history.rows place.nav s.history.current its.row its.at in
-    inl (its.row, target.there, its.given)
+    inl (its.row, target.there, target.nav_is, its.given)
 
 pub calm_rooted : (s : Seen) → IsCalm s → AreRooted s
 calm_rooted s calm nav place doc d placed wakes found has = by_case (calm.here nav place doc placed wakes)

@@ -1,5 +1,5 @@
 -- After a change of one navigable's entries, a push or a replace of a load, a calm tab is calm but for that one and those below it; and no entry hangs on a document state that is new.
-use Rattle.calm_facts.proofs.Sames.{Sight, SameSights, WasSeen, was_seen, way_at}
+use Rattle.calm_facts.proofs.Sames.{SameSights, Sight, awake_same, WasSeen, was_seen, way_at}
 use Rattle.calm_facts.specs.Calm.{IsCalm, IsCalmBut, IsHere}
 use Rattle.frame_tab.proofs.Stating.{puts_owner}
 use Rattle.hang_facts.proofs.Hung.{has_begun}
@@ -10,7 +10,7 @@ use Rattle.log_model.proofs.Refl.{nat_eq_refl}
 use Rattle.log_model.specs.Equal.{holds}
 use Rattle.log_model.specs.History.{History, applied, cleared, has_nav, has_row, is_of, owner_of, replaced_row, same_entry, target_entry}
 use Rattle.log_model.specs.Places.{is_awake, is_shown, way_to}
-use Rattle.log_model.specs.Seen.{Place, Seen, Status, awake, place_of}
+use Rattle.log_model.specs.Seen.{Place, Seen, awake, place_of}
 use Rattle.log_model.specs.Soundness.{IsSound, hangs_on, is_owned_by}
 use Rattle.log_model.specs.declared.row.Row.{Row}
 use Rattle.shown_ways.proofs.Keeps.{shown_then, shown_was}
@@ -69,13 +69,9 @@ module _ (s t : Seen) (sound : IsSound s.history) (hangs : Hangs s) (then_sound 
     apart_wakes shown epoch =
         by_case (calm.wakes m was.old was.placed (ap (λ (n : NavId). is_shown s.history.rows s.history.current n) old_nav ∙ shown_was s t sound hangs then_sound then_hangs nav keeps m was.old was.placed beside_was apart (ap (λ (n : NavId). is_shown t.history.rows t.history.current n) (sym (found_nav t.places m p placed)) ∙ shown)) (subst (λ (e : Epoch). 1 ≤ e.0) (ap (λ (x : Sight). x.epoch) was.sight_is) epoch))
       where
-        status_same : (one other : Place) → one.status ≡ other.status → is_awake one ≡ is_awake other
-        status_same one other is =
-            ap (λ (x : Status). let q : Place = record one { status = x } in is_awake q) is
-
         by_case : ⊥ ⊎ (is_awake was.old ≡ true) → is_awake p ≡ true
         by_case (inl never) = absurd never
-        by_case (inr up) = status_same p was.old (ap (λ (x : Sight). x.status) was.sight_is) ∙ up
+        by_case (inr up) = awake_same p was.old (ap (λ (x : Sight). x.status) was.sight_is) ∙ up
 
   pub changed_but : IsCalmBut (λ (m : NavId). has_nav (way_to t m) nav ≡ true) t
   changed_but =

@@ -7,3 +7,4 @@ pub mod Awakes
 pub mod Changes
 pub mod Shows
 pub mod Takes
+pub mod Roots

@@ -149,6 +149,10 @@ given_same rows step one other navs givens =
     ap (λ (n : NavId). holds (λ (row : Row). holds (same_entry row.entry) one.given) (target_entry rows n step)) navs
     ∙ ap (λ (o : Option EntryId). holds (λ (row : Row). holds (same_entry row.entry) o) (target_entry rows other.nav step)) givens
 
+-- and whether its navigable is awake
+pub awake_same : (one other : Place) → one.status ≡ other.status → is_awake one ≡ is_awake other
+awake_same one other is = ap (λ (x : Status). let p : Place = record one { status = x } in is_awake p) is
+
 -- a place that is read as another one is here as that one was
 pub here_same : (s t : Seen) → t.history ≡ s.history → (one other : Place) → one.nav ≡ other.nav → one.given ≡ other.given → IsHere s other → IsHere t one
 here_same s t history one other navs givens here =
@@ -158,10 +162,10 @@ here_same s t history one other navs givens here =
     }
 
 -- one that was given the same, on a document of the same state, is rooted as that one was
-pub root_same : (s t : Seen) → t.history ≡ s.history → (old place : Place) (one d : Document) → place.given ≡ old.given → one.state ≡ d.state → IsRooted s old one → IsRooted t place d
-root_same s t history old place one d given state (inl it) =
-    inl (it.0, subst (λ (h : History). Has h.rows it.0) (sym history) it.1, given ∙ it.2)
-root_same s t history old place one d given state (inr it) =
+pub root_same : (s t : Seen) → t.history ≡ s.history → (old place : Place) (one d : Document) → place.nav ≡ old.nav → place.given ≡ old.given → one.state ≡ d.state → IsRooted s old one → IsRooted t place d
+root_same s t history old place one d navs given state (inl it) =
+    inl (it.0, subst (λ (h : History). Has h.rows it.0) (sym history) it.1, it.2 ∙ sym navs, given ∙ it.3)
+root_same s t history old place one d navs given state (inr it) =
     inr (it.0, subst (λ (h : History). Has h.rows it.0) (sym history) it.1, it.2 ∙ state, subst (λ (h : History). it.0.step.0 ≤ h.current) (sym history) it.3)
 
 module _ (s t : Seen) (history : t.history ≡ s.history) (same : SameSights s t) where
@@ -181,10 +185,6 @@ module _ (s t : Seen) (history : t.history ≡ s.history) (same : SameSights s t
           by_case (inl out) = inl out
           by_case (inr here) = inr (here_same s t history place was.old was.nav_is (ap (λ (x : Sight). x.given) was.sight_is) here)
 
-      status_same : (one other : Place) → one.status ≡ other.status → is_awake one ≡ is_awake other
-      status_same one other is =
-          ap (λ (x : Status). let p : Place = record one { status = x } in is_awake p) is
-
       wakes_of : (nav : NavId) (place : Place) → WasSeen s nav place → is_shown t.history.rows t.history.current place.nav ≡ true → 1 ≤ place.epoch.0 → Except nav ⊎ (is_awake place ≡ true)
       wakes_of nav place was shown epoch =
           by_case (calm.wakes nav was.old was.placed (sym (ap (λ (h : History). is_shown h.rows h.current place.nav) history ∙ ap (λ (n : NavId). is_shown s.history.rows s.history.current n) was.nav_is) ∙ shown) (subst (λ (e : Epoch). 1 ≤ e.0) (ap (λ (x : Sight). x.epoch) was.sight_is) epoch))
@@ -192,7 +192,7 @@ module _ (s t : Seen) (history : t.history ≡ s.history) (same : SameSights s t
           by_case : Except nav ⊎ (is_awake was.old ≡ true) → Except nav ⊎ (is_awake place ≡ true)
           by_case (inl out) = inl out
           by_case (inr up) =
-              inr (status_same place was.old (ap (λ (x : Sight). x.status) was.sight_is) ∙ up)
+              inr (awake_same place was.old (ap (λ (x : Sight). x.status) was.sight_is) ∙ up)
 
   ways_same : (nav : NavId) → option_map (λ (p : Place). p.above) (place_of t nav) ≡ option_map (λ (p : Place). p.above) (place_of s nav)
   ways_same nav =
@@ -220,7 +220,7 @@ module _ (s t : Seen) (history : t.history ≡ s.history) (same : SameSights s t
       by_old was None at is = absurd cc
       by_old was (Some old) at is =
           let state : old.state ≡ d.state = cc in
-          root_same s t history was.old place old d (ap (λ (x : Sight). x.given) was.sight_is) state (are nav was.old doc old was.placed (sym (ap (λ (x : Sight). x.status) was.sight_is) ∙ wakes) at (ap (λ (x : StateId). has_state x s.history.rows) state ∙ sym (ap (λ (h : History). has_state d.state h.rows) history) ∙ has))
+          root_same s t history was.old place old d was.nav_is (ap (λ (x : Sight). x.given) was.sight_is) state (are nav was.old doc old was.placed (sym (ap (λ (x : Sight). x.status) was.sight_is) ∙ wakes) at (ap (λ (x : StateId). has_state x s.history.rows) state ∙ sym (ap (λ (h : History). has_state d.state h.rows) history) ∙ has))
 
   -- all of it
   pub keeps_same : KeepStates s.documents t.documents → ((doc : DocId) (d : Document) (state : StateId) → document_of s doc ≡ Some d → is_usable d state ≡ true → IsUsableAt t doc state) → KeepsCalm s t

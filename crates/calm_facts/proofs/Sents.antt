@@ -2,6 +2,7 @@
 use Rattle.calm_facts.proofs.Sames.{IsUsableAt}
 use Rattle.calm_facts.specs.Calm.{AreRooted, HasUsable, IsRooted}
 use Rattle.coord_facts.proofs.Unread.{next}
+use Rattle.hang_facts.proofs.Forms.{nav_is}
 use Rattle.hang_facts.proofs.Members.{Passing, any_has, has_any, has_map, has_more}
 use Rattle.hang_facts.specs.Members.{Has}
 use Rattle.home_facts.specs.Homes.{document_in}
@@ -162,16 +163,18 @@ pub record AreSeated (s : Seen) : Type 0 where
   pub there : (nav : NavId) (place : Place) (doc : DocId) → place_of s nav ≡ Some place → place.status ≡ awake doc → is_some (document_of s doc) ≡ true
   pub rooted : AreRooted s
 
--- an order that shows an entry shows one of the history
-abbrev pub ShowsEntry : List Row → Task → Type 0
-ShowsEntry rows (tasks.Activate entry epoch long at memo address) = (row : Row) × (Has rows row) × (row.entry ≡ entry)
-ShowsEntry rows _ = Unit {0}
+-- an order that shows a document an entry shows it one of its navigable, which is in the history
+abbrev pub ShowsEntry : Seen → DocId → Task → Type 0
+ShowsEntry s doc (tasks.Activate entry epoch long at memo address) =
+    (d : Document) → document_of s doc ≡ Some d → (row : Row) × (Has s.history.rows row) × (row.nav ≡ d.nav) × (row.entry ≡ entry)
+ShowsEntry s doc _ = Unit {0}
 
 -- the place was the same, and on the document that it is awake on
 record WasSeated (s : Seen) (nav : NavId) (place : Place) (doc : DocId) : Type 0 where
   old : Place
   placed : place_of s nav ≡ Some old
   wakes : old.status ≡ awake doc
+  nav_is : place.nav ≡ old.nav
   given : place.given ≡ old.given
 
 -- or it is shown an entry of the history
@@ -180,6 +183,7 @@ record IsShownEntry (s : Seen) (job : Job) (place : Place) (doc : DocId) : Type 
   found : is_some (document_of s doc) ≡ true
   row : Row
   has : Has s.history.rows row
+  nav_is : row.nav ≡ place.nav
   given : place.given ≡ Some row.entry
 
 abbrev ComesFrom : Seen → Job → NavId → Place → DocId → Type 0
@@ -192,7 +196,7 @@ module _ (s : Seen) (event : ℕ) (actor : Actor) (job : Job) where
   -- where no place changes
   same_from : u.places ≡ s.places → (nav : NavId) (place : Place) (doc : DocId) → place_of u nav ≡ Some place → place.status ≡ awake doc → ComesFrom s job nav place doc
   same_from same nav place doc placed wakes =
-      inl (record { old = place; placed = ap (λ (l : List Place). place_in l nav) (sym same) ∙ placed; wakes = wakes; given = refl })
+      inl (record { old = place; placed = ap (λ (l : List Place). place_in l nav) (sym same) ∙ placed; wakes = wakes; nav_is = refl; given = refl })
 
   places_are : (task : Task) → job.task ≡ task → u.places ≡ places_sent s job task
   places_are task is = ap (λ (k : Task). places_sent s job k) is
@@ -205,7 +209,7 @@ module _ (s : Seen) (event : ℕ) (actor : Actor) (job : Job) where
       by_test true same =
           let never : asleep ≡ awake doc = ap (λ (p : Place). p.status) same ∙ wakes in absurd cc
       by_test false same =
-          inl (record { old = old; placed = was; wakes = ap (λ (p : Place). p.status) same ∙ wakes; given = ap (λ (p : Place). p.given) (sym same) })
+          inl (record { old = old; placed = was; wakes = ap (λ (p : Place). p.status) same ∙ wakes; nav_is = ap (λ (p : Place). p.nav) (sym same); given = ap (λ (p : Place). p.given) (sym same) })
 
   sleeps_from : (navs : List NavId) → ((nav : NavId) → place_of u nav ≡ option_map (slept navs job.why) (place_of s nav)) → (nav : NavId) (place : Place) (doc : DocId) → place_of u nav ≡ Some place → place.status ≡ awake doc → ComesFrom s job nav place doc
   sleeps_from navs become nav place doc placed wakes = by_old (place_of s nav) refl
@@ -218,8 +222,8 @@ module _ (s : Seen) (event : ℕ) (actor : Actor) (job : Job) where
           slept_from navs old nav place doc at (let same : slept navs job.why old ≡ place = cc in same) wakes
 
   -- one that is shown the document was shown the entry
-  shows_from : (d : Document) (entry : EntryId) (epoch : Epoch) (long at : ℕ) (memo : Option (List ℕ)) (address : List ℕ) → (task : job.task ≡ tasks.Activate entry epoch long at memo address) → (found : document_of s job.doc ≡ Some d) → (row : Row) → Has s.history.rows row → row.entry ≡ entry → (nav : NavId) (place : Place) (doc : DocId) → place_of u nav ≡ Some place → place.status ≡ awake doc → ComesFrom s job nav place doc
-  shows_from d entry epoch long at memo address task found row has entry_is nav place doc placed wakes =
+  shows_from : (d : Document) (entry : EntryId) (epoch : Epoch) (long at : ℕ) (memo : Option (List ℕ)) (address : List ℕ) → (task : job.task ≡ tasks.Activate entry epoch long at memo address) → (found : document_of s job.doc ≡ Some d) → (row : Row) → Has s.history.rows row → row.nav ≡ d.nav → row.entry ≡ entry → (nav : NavId) (place : Place) (doc : DocId) → place_of u nav ≡ Some place → place.status ≡ awake doc → ComesFrom s job nav place doc
+  shows_from d entry epoch long at memo address task found row has row_nav entry_is nav place doc placed wakes =
       by_old (place_of s nav) refl
     where
       become : Place → Place
@@ -228,8 +232,8 @@ module _ (s : Seen) (event : ℕ) (actor : Actor) (job : Job) where
       sleepers : List NavId
       sleepers = sleepers_of s job.doc d.nav
 
-      by_test : (old : Place) → place_of s nav ≡ Some old → (b : Bool) → (let p : Place = cond b (activated job entry epoch d (slept sleepers job.why old)) (slept sleepers job.why old) in p) ≡ place → ComesFrom s job nav place doc
-      by_test old was true same =
+      by_test : (old : Place) → place_of s nav ≡ Some old → (b : Bool) → ((slept sleepers job.why old).nav.0 == d.nav.0) ≡ b → (let p : Place = cond b (activated job entry epoch d (slept sleepers job.why old)) (slept sleepers job.why old) in p) ≡ place → ComesFrom s job nav place doc
+      by_test old was true own same =
           let on : awake job.doc ≡ awake doc = ap (λ (p : Place). p.status) same ∙ wakes in
           let doc_is : job.doc ≡ doc = cc in
           inr (record {
@@ -237,18 +241,19 @@ module _ (s : Seen) (event : ℕ) (actor : Actor) (job : Job) where
             found = ap (λ (x : DocId). is_some (document_of s x)) (sym doc_is) ∙ ap (λ (o : Option Document). is_some o) found;
             row = row;
             has = has;
+            nav_is = row_nav ∙ sym (nav_is (slept sleepers job.why old).nav d.nav own) ∙ ap (λ (p : Place). p.nav) same;
             given = ap (λ (p : Place). p.given) (sym same) ∙ ap (λ (e : EntryId). Some e) (sym entry_is);
           })
-      by_test old was false same = slept_from sleepers old nav place doc was same wakes
+      by_test old was false own same = slept_from sleepers old nav place doc was same wakes
 
       by_old : (o : Option Place) → place_of s nav ≡ o → ComesFrom s job nav place doc
       by_old None was =
           let never : None ≡ Some place = sym (place_becomes s event actor job d entry epoch long at memo address task found nav ∙ ap (option_map become) was) ∙ placed in absurd cc
       by_old (Some old) was =
           let both : Some (become old) ≡ Some place = sym (place_becomes s event actor job d entry epoch long at memo address task found nav ∙ ap (option_map become) was) ∙ placed in
-          by_test old was ((slept sleepers job.why old).nav.0 == d.nav.0) (let same : become old ≡ place = cc in same)
+          by_test old was ((slept sleepers job.why old).nav.0 == d.nav.0) refl (let same : become old ≡ place = cc in same)
 
-  comes_from : (task : Task) → job.task ≡ task → ShowsEntry s.history.rows task → (nav : NavId) (place : Place) (doc : DocId) → place_of u nav ≡ Some place → place.status ≡ awake doc → ComesFrom s job nav place doc
+  comes_from : (task : Task) → job.task ≡ task → ShowsEntry s job.doc task → (nav : NavId) (place : Place) (doc : DocId) → place_of u nav ≡ Some place → place.status ≡ awake doc → ComesFrom s job nav place doc
   comes_from (tasks.Activate entry epoch long at memo address) is shows =
       by_document (document_of s job.doc) refl
     where
@@ -256,7 +261,8 @@ module _ (s : Seen) (event : ℕ) (actor : Actor) (job : Job) where
       by_document None none =
           same_from (places_are (tasks.Activate entry epoch long at memo address) is ∙ rw none refl)
       by_document (Some d) found =
-          shows_from d entry epoch long at memo address is found shows.0 shows.1 shows.2
+          let its = shows d found in
+          shows_from d entry epoch long at memo address is found its.0 its.1 its.2 its.3
   comes_from tasks.Freeze is shows =
       sleeps_from (sleepers_with s job.doc) (place_sleeps s event actor job tasks.Freeze is tt)
   comes_from tasks.Discard is shows =
@@ -317,7 +323,7 @@ module _ (s : Seen) (event : ℕ) (actor : Actor) (job : Job) where
       by_old (Some old) at is = record { old = old; found = at; state = cc }
 
   -- each order keeps it
-  pub rooted_sent : ShowsEntry s.history.rows job.task → AreSeated s → AreSeated u
+  pub rooted_sent : ShowsEntry s job.doc job.task → AreSeated s → AreSeated u
   rooted_sent shows seated =
       record {
         there = λ nav place doc placed wakes. there_by nav place doc (comes_from job.task refl shows nav place doc placed wakes);
@@ -329,15 +335,15 @@ module _ (s : Seen) (event : ℕ) (actor : Actor) (job : Job) where
       there_by nav place doc (inr shown) = there_of doc shown.found
 
       -- a root stays one, with the same given entry
-      again : (old place : Place) (one other : Document) → place.given ≡ old.given → one.state ≡ other.state → IsRooted s old one → IsRooted u place other
-      again old place one other given states (inl root) = inl (root.0, root.1, given ∙ root.2)
-      again old place one other given states (inr root) = inr (root.0, root.1, root.2 ∙ states, root.3)
+      again : (old place : Place) (one other : Document) → place.nav ≡ old.nav → place.given ≡ old.given → one.state ≡ other.state → IsRooted s old one → IsRooted u place other
+      again old place one other navs given states (inl root) = inl (root.0, root.1, root.2 ∙ sym navs, given ∙ root.3)
+      again old place one other navs given states (inr root) = inr (root.0, root.1, root.2 ∙ states, root.3)
 
       rooted_by : (nav : NavId) (place : Place) (doc : DocId) (d : Document) → document_of u doc ≡ Some d → has_state d.state u.history.rows ≡ true → ComesFrom s job nav place doc → IsRooted u place d
       rooted_by nav place doc d found has (inl was) =
           let its = was_of doc d (seated.there nav was.old doc was.placed was.wakes) found in
-          again was.old place its.old d was.given its.state (seated.rooted nav was.old doc its.old was.placed was.wakes its.found (ap (λ (x : StateId). has_state x s.history.rows) its.state ∙ has))
-      rooted_by nav place doc d found has (inr shown) = inl (shown.row, shown.has, shown.given)
+          again was.old place its.old d was.nav_is was.given its.state (seated.rooted nav was.old doc its.old was.placed was.wakes its.found (ap (λ (x : StateId). has_state x s.history.rows) its.state ∙ has))
+      rooted_by nav place doc d found has (inr shown) = inl (shown.row, shown.has, shown.nav_is, shown.given)
 
 -- ---- rows that are no orders
 

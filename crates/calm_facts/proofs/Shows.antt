@@ -1,23 +1,24 @@
--- Where each navigable with entries has a target of the state that it had, each is shown just as it was; and a calm tab is calm then, but for navigables without an entry.
-use Rattle.calm_facts.specs.Calm.{IsCalm, IsCalmYet, IsHere}
+-- Where each navigable with entries has a target of the state that it had, each is shown just as it was; and a tab that is calm but for navigables without an entry is so still.
+use Rattle.calm_facts.proofs.Calms.{shown_row, target_entered}
+use Rattle.calm_facts.proofs.Sames.{awake_same}
+use Rattle.calm_facts.proofs.Turns.{later_in, own_in}
+use Rattle.calm_facts.specs.Calm.{IsCalmYet, IsHere}
 use Rattle.hang_facts.proofs.Forms.{nav_is}
 use Rattle.hang_facts.proofs.Hung.{has_begun, is_hung, place_chain}
 use Rattle.hang_facts.proofs.Members.{Passing, any_has, find_has, has_any}
-use Rattle.hang_facts.proofs.Targets.{IsTarget, some_is, target_has}
+use Rattle.hang_facts.proofs.Targets.{some_is}
 use Rattle.hang_facts.specs.AsPlaces.{IsChain, IsHung}
 use Rattle.hang_facts.specs.Hanging.{Hangs}
-use Rattle.hang_facts.specs.Members.{Has}
 use Rattle.log_model.proofs.Refl.{nat_eq_refl}
-use Rattle.log_model.specs.Equal.{holds}
 use Rattle.log_model.specs.History.{has_nav, has_row, is_of, target_entry}
-use Rattle.log_model.specs.Places.{holder_of, is_awake, is_given_target, is_shown}
-use Rattle.log_model.specs.Seen.{Place, Seen, Status, asleep, awake, place_of}
+use Rattle.log_model.specs.Places.{is_awake, is_given_target, is_shown}
+use Rattle.log_model.specs.Seen.{Place, Seen, asleep, awake, place_of}
 use Rattle.log_model.specs.Soundness.{IsSound}
 use Rattle.log_model.specs.declared.row.Row.{Row}
 use Rattle.shown_ways.proofs.Keeps.{way_there}
 use Rattle.shown_ways.proofs.Ways.{leads_shown, shown_leads}
 use Rattle.shown_ways.specs.Ways.{IsOnTarget, LeadsUp, hanging}
-use Rattle.std.proofs.Common.{Bool, List, None, Option, Some, [], ap, arith, false, inl, inr, refl, subst, sym, true, ℕ, ◌==◌, ◌||◌, ◌∙◌, ◌∷◌, ◌≡◌, ◌≤◌, ◌⊎◌}
+use Rattle.std.proofs.Common.{Bool, List, None, Option, Some, [], ap, arith, false, inl, inr, refl, subst, sym, true, ◌==◌, ◌||◌, ◌∙◌, ◌∷◌, ◌≡◌, ◌≤◌, ◌⊎◌}
 use Rattle.std.specs.Prelude.{find, is_some, option_map, slice_get}
 use Rattle.tab_ids.specs.declared.DocId.{DocId}
 use Rattle.tab_ids.specs.declared.Epoch.{Epoch}
@@ -48,17 +49,12 @@ pub record IsNewPlace (place : Place) : Type 0 where
   pub sleeps : place.status ≡ asleep
   pub unshown : place.epoch.0 ≡ 0
 
--- a change after which each navigable with entries has a target of the state that it had
+-- a change after which each navigable with entries had entries, and has a target of the state that it had
 pub record ChangesCalmly (s t : Seen) : Type 0 where
   pub still : (nav : NavId) (place : Place) → place_of s nav ≡ Some place → HangsStill t nav place
+  pub entered : (nav : NavId) (place : Place) → place_of s nav ≡ Some place → has_row nav t.history.rows ≡ true → has_row nav s.history.rows ≡ true
   pub states : (nav : NavId) (place : Place) → place_of s nav ≡ Some place → has_row nav t.history.rows ≡ true → state_at t nav ≡ state_at s nav
   pub was : (nav : NavId) (place : Place) → place_of t nav ≡ Some place → WasCalm s t nav place ⊎ IsNewPlace place
-
--- a navigable's target is an entry
-target_row : (s : Seen) (nav : NavId) (row : Row) → target_entry s.history.rows nav s.history.current ≡ Some row → has_row nav s.history.rows ≡ true
-target_row s nav row at =
-    let its : IsTarget s.history.rows nav s.history.current row = target_has s.history.rows nav s.history.current row at in
-    has_any (is_of nav) s.history.rows row its.there (ap (λ (n : NavId). n.0 == nav.0) its.nav_is ∙ nat_eq_refl nav.0)
 
 -- a target of the same state
 record IsTargetOf (s : Seen) (nav : NavId) (state : StateId) : Type 0 where
@@ -72,13 +68,6 @@ target_of s nav state is = by_target (target_entry s.history.rows nav s.history.
     by_target : (o : Option Row) → target_entry s.history.rows nav s.history.current ≡ o → option_map (λ (row : Row). row.state) o ≡ Some state → IsTargetOf s nav state
     by_target None at never = absurd cc
     by_target (Some row) at same = record { row = row; at = at; state_is = cc }
-
-either : (a b : Bool) → b ≡ true → (a || b) ≡ true
-either true b is = refl
-either false b is = is
-
-own_in : (nav : NavId) (navs : List NavId) → has_nav (nav ∷ navs) nav ≡ true
-own_in nav navs = ap (λ (b : Bool). b || has_nav navs nav) (nat_eq_refl nav.0)
 
 -- who is above one with entries has entries
 above_rows : (t : Seen) → IsSound t.history → Hangs t → (above : List NavId) (nav : NavId) (place : Place) → place_of t nav ≡ Some place → place.above ≡ above → IsChain t.places above → has_row nav t.history.rows ≡ true → (x : NavId) → has_nav (nav ∷ above) x ≡ true → has_row x t.history.rows ≡ true
@@ -149,7 +138,7 @@ module _ (s t : Seen) (sound : IsSound s.history) (hangs : Hangs s) (then_sound 
 
         some_before : is_some (target_entry s.history.rows m s.history.current) ≡ true
         some_before =
-            let state : state_at s m ≡ Some then_target.0.state = sym (changes.states m place found (target_row t m then_target.0 then_target.1)) ∙ ap (option_map (λ (row : Row). row.state)) then_target.1 in
+            let state : state_at s m ≡ Some then_target.0.state = sym (changes.states m place found (target_entered t.history.rows m t.history.current then_target.0 then_target.1)) ∙ ap (option_map (λ (row : Row). row.state)) then_target.1 in
             let its = target_of s m then_target.0.state state in
             ap (λ (o : Option Row). is_some o) its.at
 
@@ -173,7 +162,7 @@ module _ (s t : Seen) (sound : IsSound s.history) (hangs : Hangs s) (then_sound 
 
             its : IsTargetOf s parent on.target.state
             its =
-                target_of s parent on.target.state (sym (changes.states parent above.0 above.1 (target_row t parent on.target on.at)) ∙ ap (option_map (λ (row : Row). row.state)) on.at)
+                target_of s parent on.target.state (sym (changes.states parent above.0 above.1 (target_entered t.history.rows parent t.history.current on.target on.at)) ∙ ap (option_map (λ (row : Row). row.state)) on.at)
 
     -- it is shown then, if it was and has an entry still
     pub shown_after : is_shown s.history.rows s.history.current m ≡ true → has_row m t.history.rows ≡ true → is_shown t.history.rows t.history.current m ≡ true
@@ -227,7 +216,7 @@ module _ (s t : Seen) (sound : IsSound s.history) (hangs : Hangs s) (then_sound 
 
             entered_up : has_row parent t.history.rows ≡ true
             entered_up =
-                above_rows t then_sound then_hangs own.above x own at refl (place_chain t then_sound then_hangs x own at) entered_x parent (either (x.0 == parent.0) (has_nav own.above parent) (ap (λ (l : List NavId). has_nav l parent) up ∙ own_in parent others))
+                above_rows t then_sound then_hangs own.above x own at refl (place_chain t then_sound then_hangs x own at) entered_x parent (later_in x parent own.above (ap (λ (l : List NavId). has_nav l parent) up ∙ own_in parent others))
 
             its : IsTargetOf t parent on.target.state
             its =
@@ -235,11 +224,7 @@ module _ (s t : Seen) (sound : IsSound s.history) (hangs : Hangs s) (then_sound 
 
   -- ---- the tab is calm, but for those without an entry
 
-  status_same : (one other : Place) → one.status ≡ other.status → is_awake one ≡ is_awake other
-  status_same one other is =
-      ap (λ (x : Status). let q : Place = record one { status = x } in is_awake q) is
-
-  module _ (calm : IsCalm s) where
+  module _ (calm : IsCalmYet s) where
     here_with : (nav : NavId) (place : Place) → place_of t nav ≡ Some place → (was : WasCalm s t nav place) → IsHere s was.old → has_row nav t.history.rows ≡ true → IsHere t place
     here_with nav place placed was here entered =
         record {
@@ -253,20 +238,26 @@ module _ (s t : Seen) (sound : IsSound s.history) (hangs : Hangs s) (then_sound 
     here_of nav place doc placed wakes (inl was) =
         by_row (has_row nav t.history.rows) refl (calm.here nav was.old doc was.placed (sym was.status ∙ wakes))
       where
-        by_row : (b : Bool) → has_row nav t.history.rows ≡ b → ⊥ ⊎ IsHere s was.old → (has_row nav t.history.rows ≡ false) ⊎ IsHere t place
+        by_row : (b : Bool) → has_row nav t.history.rows ≡ b → (has_row nav s.history.rows ≡ false) ⊎ IsHere s was.old → (has_row nav t.history.rows ≡ false) ⊎ IsHere t place
         by_row false is here = inl is
-        by_row true is (inl never) = absurd never
+        by_row true is (inl none) =
+            let never : true ≡ false = sym (changes.entered nav was.old was.placed is) ∙ none in absurd cc
         by_row true is (inr here) = inr (here_with nav place placed was here is)
 
     wakes_of : (nav : NavId) (place : Place) → place_of t nav ≡ Some place → is_shown t.history.rows t.history.current place.nav ≡ true → 1 ≤ place.epoch.0 → WasCalm s t nav place ⊎ IsNewPlace place → is_awake place ≡ true
     wakes_of nav place placed shown epoch (inr new) =
         let none = new.unshown in absurd (omega (arith, none, epoch))
     wakes_of nav place placed shown epoch (inl was) =
-        by_case (calm.wakes nav was.old was.placed (ap (λ (n : NavId). is_shown s.history.rows s.history.current n) (found_nav s.places nav was.old was.placed) ∙ shown_before nav was.old was.placed (ap (λ (n : NavId). is_shown t.history.rows t.history.current n) (sym (found_nav t.places nav place placed)) ∙ shown)) (subst (λ (e : Epoch). 1 ≤ e.0) was.epoch epoch))
+        by_case (calm.wakes nav was.old was.placed (ap (λ (n : NavId). is_shown s.history.rows s.history.current n) (found_nav s.places nav was.old was.placed) ∙ before) (subst (λ (e : Epoch). 1 ≤ e.0) was.epoch epoch))
       where
-        by_case : ⊥ ⊎ (is_awake was.old ≡ true) → is_awake place ≡ true
-        by_case (inl never) = absurd never
-        by_case (inr up) = status_same place was.old was.status ∙ up
+        before : is_shown s.history.rows s.history.current nav ≡ true
+        before =
+            shown_before nav was.old was.placed (ap (λ (n : NavId). is_shown t.history.rows t.history.current n) (sym (found_nav t.places nav place placed)) ∙ shown)
+
+        by_case : (has_row nav s.history.rows ≡ false) ⊎ (is_awake was.old ≡ true) → is_awake place ≡ true
+        by_case (inl none) =
+            let never : true ≡ false = sym (shown_row s sound hangs s.history.current nav before) ∙ none in absurd cc
+        by_case (inr up) = awake_same place was.old was.status ∙ up
 
     pub changed_yet : IsCalmYet t
     changed_yet =

@@ -42,10 +42,10 @@ pub record IsChildOn (s : Seen) (at : NavId) (way : List NavId) : Type 0 where
   pub others : List NavId
   pub above : place.above ≡ at ∷ others
 
-own_in : (nav : NavId) (navs : List NavId) → has_nav (nav ∷ navs) nav ≡ true
+pub own_in : (nav : NavId) (navs : List NavId) → has_nav (nav ∷ navs) nav ≡ true
 own_in nav navs = ap (λ (b : Bool). b || has_nav navs nav) (nat_eq_refl nav.0)
 
-later_in : (first nav : NavId) (navs : List NavId) → has_nav navs nav ≡ true → has_nav (first ∷ navs) nav ≡ true
+pub later_in : (first nav : NavId) (navs : List NavId) → has_nav navs nav ≡ true → has_nav (first ∷ navs) nav ≡ true
 later_in first nav navs has = by_test (first.0 == nav.0)
   where
     by_test : (b : Bool) → (b || has_nav navs nav) ≡ true

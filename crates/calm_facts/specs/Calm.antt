@@ -57,10 +57,10 @@ NeedIsNew s = (nav : NavId) (place : Place) → place_of s nav ≡ Some place �
 
 -- ---- whatever runs
 
--- the place was given an entry of the history, or the document's state has one at the current step or before
+-- the place was given an entry of its navigable in the history, or the document's state has one at the current step or before
 abbrev pub IsRooted : Seen → Place → Document → Type 0
 IsRooted s place d =
-    ((row : Row) × (Has s.history.rows row) × (place.given ≡ Some row.entry)) ⊎ ((row : Row) × (Has s.history.rows row) × (row.state ≡ d.state) × (row.step.0 ≤ s.history.current))
+    ((row : Row) × (Has s.history.rows row) × (row.nav ≡ place.nav) × (place.given ≡ Some row.entry)) ⊎ ((row : Row) × (Has s.history.rows row) × (row.state ≡ d.state) × (row.step.0 ≤ s.history.current))
 
 -- so it is of each that is awake on a document whose state has an entry
 abbrev pub AreRooted : Seen → Type 0

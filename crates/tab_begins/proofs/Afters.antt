@@ -18,14 +18,11 @@ use Rattle.mover_facts.proofs.Places.{ways_both, ways_mapped}
 use Rattle.mover_facts.proofs.Stays.{KeepWays}
 use Rattle.place_facts.proofs.Changes.{IsOldOrNew, pushed_rows, replaced_rows}
 use Rattle.place_facts.specs.Standing.{IsShownOnce, IsStanding, IsUnshownYet}
-use Rattle.tab_begins.specs.Taking.{GivenAreOwn}
 use Rattle.tab_passes.proofs.Goings.{goes_on}
 use Rattle.tab_passes.specs.Causes.{MayCause, MayServe}
 use Rattle.tab_serves.proofs.Reached.{IsReachedAt, reached_at}
 use Rattle.log_model.specs.declared.request.Request.{Request}
 use Rattle.owed_facts.proofs.Requests.{req_same}
-use Rattle.std.specs.Prelude.{nat_lt}
-use Rattle.entry_facts.specs.Entries.{AreEntries, EachEntry, IsNumbered}
 use Rattle.std.specs.Option.{option_map_or}
 use Rattle.walk_rows.proofs.Moved.{changed_moves}
 use Rattle.mover_facts.specs.Movers.{IsMovedBy}
@@ -872,45 +869,3 @@ module _ (p : InPass) (out : List RowKind) (t : Tables) (passing : IsPassing p o
           by_test false at_ =
               let before : MayServe s req = passed.takers m was.old req was.found (reads false at_) in
               it.causes (whys.Req req) (λ r same. (let one : req ≡ r = cc in subst (λ (x : ReqId). MayServe s x) one before)) req refl
-
-  -- ---- each navigable was given entries of its own
-
-  -- what it was given was numbered, and the new entry wasn't yet
-  not_new : (m : NavId) (place : Place) → place_of s m ≡ Some place → place.given ≡ Some (new_entry t) → ⊥
-  not_new m place found is = by_epoch (nat_lt 0 place.epoch.0) refl
-    where
-      once : IsStanding s place
-      once = tab_s.standing m place found
-
-      by_epoch : (b : Bool) → nat_lt 0 place.epoch.0 ≡ b → ⊥
-      by_epoch true later =
-          let shown : IsShownOnce place = once.told.1 (grind (arith, nat_tests, later)) in
-          let same : Some (new_entry t) ≡ Some shown.entry = sym is ∙ shown.given in
-          let one : new_entry t ≡ shown.entry = cc in
-          let low = (tab_s.entries.entries.given m place shown.entry found shown.ever).own (ap (λ (x : EntryId). x.maker) (sym one)) in
-          let held : t.entries ≡ s.entries = passing.work.holds.entries in
-          let nr : shown.entry.nr ≡ t.entries + 1 = ap (λ (x : EntryId). x.nr) (sym one) in
-          omega (arith, low, held, nr)
-      by_epoch false none =
-          let unshown : IsUnshownYet place = once.told.0 (grind (arith, nat_tests, none)) in
-          let never : None ≡ Some (new_entry t) = sym unshown.given ∙ is in cc
-
-  pub gave_then : GivenAreOwn s → GivenAreOwn n
-  gave_then gave m place row found has given =
-      by_row (old_or_new load.replace refl)
-    where
-      was : WasAt m place
-      was = was_at m place found
-
-      given_was : was.old.given ≡ Some row.entry
-      given_was = sym (taker_same (λ (q : Place). q.given) (λ q. refl) was.old) ∙ ap (λ (q : Place). q.given) was.is ∙ given
-
-      old_or_new : (b : Bool) → load.replace ≡ b → IsOldOrNew s.history.rows load.nav (new_entry t) load.state row
-      old_or_new true is =
-          replaced_rows s load.nav it.over (new_entry t) load.state load.address None row (subst (λ (h : History). Has h.rows row) (history_put true is) has)
-      old_or_new false is =
-          pushed_rows s load.nav (new_entry t) load.state load.address None row (subst (λ (h : History). Has h.rows row) (history_put false is) has)
-
-      by_row : IsOldOrNew s.history.rows load.nav (new_entry t) load.state row → row.nav ≡ m
-      by_row (inl old) = gave m was.old row was.found old given_was
-      by_row (inr new) = absurd (not_new m was.old was.found (given_was ∙ ap (λ (x : EntryId). Some x) new.1))

@@ -12,7 +12,7 @@ use Rattle.tab_applies.proofs.Dues.{own_nav}
 use Rattle.tab_applies.specs.Applying.{HasApplied, MayApply}
 use Rattle.calm_facts.specs.Calm.{IsCalmAround}
 use Rattle.tab_one_pass.proofs.Calms.{drops_calm}
-use Rattle.tab_begins.proofs.Afters.{aim_then, applied_last, around_then, documents_same, gave_then, joined_same, joined_then, look_was, over_then, wishes_then, loads_then, open_then}
+use Rattle.tab_begins.proofs.Afters.{aim_then, applied_last, around_then, documents_same, joined_same, joined_then, look_was, over_then, wishes_then, loads_then, open_then}
 use Rattle.tab_begins.proofs.Strays.{blamed_then}
 use Rattle.hang_facts.specs.Members.{Has}
 use Rattle.log_model.specs.History.{History}
@@ -153,5 +153,4 @@ module _ (p : InPass) (out : List RowKind) (t : Tables) (passing : IsPassing p o
           record {
             wishes = reads_then wish s.requests y.requests x.requests (wishes_then p out t passing nav load at idle may.may mid m mid_pass it) left.wishes;
             documents = left.documents ∙ documents_same p out t passing nav load at idle may.may mid m mid_pass it;
-            gave = λ gave m_ place row found has given. gave_then p out t passing nav load at idle may.may mid m mid_pass it gave m_ place row (ap (λ (l : List Place). place_in l m_) (sym left.places) ∙ found) (subst (λ (h : History). Has h.rows row) left.history has) given;
           }

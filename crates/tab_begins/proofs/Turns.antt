@@ -51,7 +51,7 @@ use Rattle.log_model.specs.declared.job.Why.TheVariants as whys
 
 -- nothing was done
 pub made_same : (s : Seen) → KeepsMade s s
-made_same s = record { wishes = λ req. refl; documents = refl; gave = λ gave. gave }
+made_same s = record { wishes = λ req. refl; documents = refl }
 
 module _ (p : InPass) (out : List RowKind) (t : Tables) (passing : IsPassing p out t) (turning : IsTurning p.event out) (stand : all_stand (now_of p.event out) (now_of p.event out).history.current ≡ true) (none : (now_of p.event out).parked ≡ []) (blame : List (StateId × ReqId)) (rests : IsAtRest p.event t.running blame (now_of p.event out)) (step : QueueStep) (rest : List QueueStep) (queue : HasQueue (now_of p.event out) None (step ∷ rest)) where
   abbrev s : Seen
@@ -130,7 +130,6 @@ module _ (p : InPass) (out : List RowKind) (t : Tables) (passing : IsPassing p o
       record {
         wishes = gone.alone.wishes;
         documents = gone.alone.documents;
-        gave = λ gave nav place row found has given. gave nav place row (ap (λ (l : List Place). place_in l nav) (sym gone.alone.places) ∙ found) (subst (λ (h : History). Has h.rows row) gone.history has) given;
       }
 
   pub traverse_keep : (more : List RowKind) (u : Tables) (req : ReqId) (delta : ℤ) → HasGone p.event out more t u req delta → u.kept.keep ≡ t.kept.keep

@@ -49,16 +49,10 @@ pub record HasTaken (e : InEvent) (t : Tables) (nav : NavId) (load : Load) (was 
 abbrev pub AreOldLoads : Seen → Seen → Type 0
 AreOldLoads s t = (req : ReqId) (l : Look) → look_of t req ≡ Some l → is_ongoing l ≡ true → look_of s req ≡ Some l
 
--- an entry that a navigable was given is its own, while the history has it
-abbrev pub GivenAreOwn : Seen → Type 0
-GivenAreOwn s =
-    (nav : NavId) (place : Place) (row : Row) → place_of s nav ≡ Some place → Has s.history.rows row → place.given ≡ Some row.entry → row.nav ≡ nav
-
--- each request asks what it asked, and what was made of it is; documents are as they were; and each navigable was given entries of its own, if that was so
+-- each request asks what it asked, and what was made of it is; and documents are as they were
 pub record KeepsMade (s t : Seen) : Type 0 where
   pub wishes : SameReads wish s.requests t.requests
   pub documents : t.documents ≡ s.documents
-  pub gave : GivenAreOwn s → GivenAreOwn t
 
 -- the same requests have joined, what is held back is, each asks what it asked, documents are as they were, and each ongoing load was so
 pub record KeepsQueue (s t : Seen) : Type 0 where

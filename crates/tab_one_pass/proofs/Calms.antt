@@ -286,7 +286,7 @@ module _ (run : Option ReqId) (loads : List ReqId) (hand : List Made) (s t : See
       by_old None at is = absurd cc
       by_old (Some old) at is =
           let state : old.state ≡ d.state = cc in
-          root_same s t turn.history was.place place old d (given_was nav place was.place placed was.placed) state (are nav was.place doc old was.placed was.wakes at (ap (λ (x : StateId). has_state x s.history.rows) state ∙ sym (ap (λ (h : History). has_state d.state h.rows) turn.history) ∙ has))
+          root_same s t turn.history was.place place old d (nav_was nav place was.place placed was.placed) (given_was nav place was.place placed was.placed) state (are nav was.place doc old was.placed was.wakes at (ap (λ (x : StateId). has_state x s.history.rows) state ∙ sym (ap (λ (h : History). has_state d.state h.rows) turn.history) ∙ has))
 
   pub swept_calm : KeepsCalm s t
   swept_calm =

@@ -36,6 +36,7 @@ use Rattle.walk_facts.proofs.Placed.{found_nav}
 use Rattle.walk_facts.proofs.Sleepers.{becomes, place_becomes, sleepers_of, slept, slept_same}
 use Rattle.walk_facts.proofs.Turns.{show_aim}
 use Rattle.walk_facts.specs.Walking.{LeavesOthers}
+use Rattle.walk_rows.proofs.Wakes.{ShowsNone}
 use Rattle.log_model.specs.declared.job.Task.TheVariants as tasks
 use Rattle.log_model.specs.declared.row_kind.RowKind.TheVariants as rows
 
@@ -62,7 +63,7 @@ module _ (header : Header) (t : Tables) (nav : NavId) (entry : EntryId) (cause :
         own = λ now p there. inl (let both : Some p ≡ Some place = sym there ∙ places ∙ placed in cc);
         usable = λ none. stays;
         target = λ row at doc d found usable. (doc, stays doc d row.state found usable);
-        seated = rooted_sent s e.event e.actor job (subst (λ (k : Task). ShowsEntry s.history.rows k) (sym task) tt);
+        seated = rooted_sent s e.event e.actor job (subst (λ (k : Task). ShowsEntry s job.doc k) (sym task) tt);
       }
     where
       places : place_of (after s (row_of e (rows.Sent job))) nav ≡ place_of s nav
@@ -154,17 +155,17 @@ module _ (e : InEvent) (nav : NavId) (was out : List RowKind) (moved : HasBeenMo
 
   shown_seated : AreSeated m → AreSeated x
   shown_seated =
-      rooted_sent m e.event e.actor moved.job (subst (λ (k : Task). ShowsEntry m.history.rows k) (sym moved.task) (moved.wanted.target, its.there, moved.wanted.entry_is))
+      rooted_sent m e.event e.actor moved.job (subst (λ (k : Task). ShowsEntry m moved.job.doc k) (sym moved.task) (λ d found. (moved.wanted.target, its.there, its.nav_is ∙ sym moved.wanted.nav_is ∙ ap (λ (x : Document). x.nav) (let both : Some moved.wanted.document ≡ Some d = sym moved.wanted.found ∙ found in let one : moved.wanted.document ≡ d = cc in one), moved.wanted.entry_is)))
     where
       its : IsTarget m.history.rows nav (aim_of m) moved.wanted.target
       its = target_has m.history.rows nav (aim_of m) moved.wanted.target moved.wanted.at
 
   -- ---- those before it
 
-  puts_entry : (l : List Row) (task : Task) → PutsToSleep task → ShowsEntry l task
-  puts_entry l tasks.Freeze puts = tt
-  puts_entry l tasks.Discard puts = tt
-  puts_entry l _ puts = absurd puts
+  puts_entry : (y : Seen) (doc : DocId) (task : Task) → PutsToSleep task → ShowsEntry y doc task
+  puts_entry y doc tasks.Freeze puts = tt
+  puts_entry y doc tasks.Discard puts = tt
+  puts_entry y doc _ puts = absurd puts
 
   left_orders : HasOnly (IsOrderOf PutsToSleep) was moved.mid
   left_orders =
@@ -172,7 +173,7 @@ module _ (e : InEvent) (nav : NavId) (was out : List RowKind) (moved : HasBeenMo
 
   left_seated : AreSeated b → AreSeated m
   left_seated =
-      over_orders PutsToSleep AreSeated (λ y event job puts. rooted_sent y event.event event.actor job (puts_entry y.history.rows job.task puts)) e was moved.mid left_orders
+      over_orders PutsToSleep AreSeated (λ y event job puts. rooted_sent y event.event event.actor job (puts_entry y job.doc job.task puts)) e was moved.mid left_orders
 
   -- ---- all of it
 
@@ -193,7 +194,16 @@ module _ (e : InEvent) (nav : NavId) (was out : List RowKind) (moved : HasBeenMo
 
 -- ---- any orders
 
--- who is awake stays rooted over orders, each of which shows an entry of the history, if one
-pub seated_over : (e : InEvent) (l : List Row) (was out : List RowKind) → HasOnly (IsOrderOf (ShowsEntry l)) was out → (now_of e was).history.rows ≡ l → AreSeated (now_of e was) → AreSeated (now_of e out)
-seated_over e l was out only same seated =
-    (over_orders (ShowsEntry l) (λ (y : Seen). (y.history.rows ≡ l) × AreSeated y) (λ y event job shows so. (so.0, rooted_sent y event.event event.actor job (subst (λ (r : List Row). ShowsEntry r job.task) (sym so.0) shows) so.1)) e was out only (same, seated)).1
+none_entry : (y : Seen) (doc : DocId) (task : Task) → ShowsNone task → ShowsEntry y doc task
+none_entry y doc (tasks.Activate entry epoch long at memo address) never = absurd never
+none_entry y doc (tasks.Populate nav state address initial) none = tt
+none_entry y doc (tasks.Update long at) none = tt
+none_entry y doc tasks.Freeze none = tt
+none_entry y doc tasks.Discard none = tt
+none_entry y doc (tasks.Ask slot cause) none = tt
+none_entry y doc (tasks.DoFragment req mode address) none = tt
+
+-- who is awake stays rooted over orders that show no document
+pub seated_over : (e : InEvent) (was out : List RowKind) → HasOnly (IsOrderOf ShowsNone) was out → AreSeated (now_of e was) → AreSeated (now_of e out)
+seated_over e was out only =
+    over_orders ShowsNone AreSeated (λ y event job none. rooted_sent y event.event event.actor job (none_entry y job.doc job.task none)) e was out only
