@@ -8,3 +8,5 @@ pub mod Changes
 pub mod Shows
 pub mod Takes
 pub mod Roots
+pub mod Moves
+pub mod Loads

@@ -89,7 +89,8 @@ around_by s t history at calm but doc there =
 -- ---- one row after the other
 
 pub keeps_none : (s : Seen) → KeepsCalm s s
-keeps_none s = record { yet = λ aim calm. calm; around = λ aim at calm. calm; rooted = λ are. are }
+keeps_none s =
+    record { yet = λ aim calm. calm; around = λ aim at calm. calm; rooted = λ are. are }
 
 pub keeps_then : (s t u : Seen) → t.history ≡ s.history → aim_of t ≡ aim_of s → KeepsCalm s t → KeepsCalm t u → KeepsCalm s u
 keeps_then s t u history aim one two =

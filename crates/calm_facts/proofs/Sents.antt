@@ -48,11 +48,11 @@ module _ (s : Seen) (event : ℕ) (actor : Actor) (job : Job) where
   abbrev t : Seen
   t = next s event actor (rows.Sent job)
 
-  documents_are : (task : Task) → job.task ≡ task → t.documents ≡ documents_sent s job task
+  pub documents_are : (task : Task) → job.task ≡ task → t.documents ≡ documents_sent s job task
   documents_are task is = ap (λ (k : Task). documents_sent s job k) is
 
   -- one that is changed in what is read of it here by none
-  found_on : (f : Document → Document) → ((d : Document) → (f d).nr ≡ d.nr) → t.documents ≡ on_document job.doc f s.documents → (doc : DocId) → document_of t doc ≡ option_map (λ (d : Document). cond (d.nr.0 == job.doc.0) (f d) d) (document_of s doc)
+  pub found_on : (f : Document → Document) → ((d : Document) → (f d).nr ≡ d.nr) → t.documents ≡ on_document job.doc f s.documents → (doc : DocId) → document_of t doc ≡ option_map (λ (d : Document). cond (d.nr.0 == job.doc.0) (f d) d) (document_of s doc)
   found_on f nrs is doc =
       ap (λ (l : List Document). document_in l doc) is
       ∙ find_map (λ (d : Document). d.nr.0) (λ (d : Document). cond (d.nr.0 == job.doc.0) (f d) d) doc.0 s.documents (λ d. by_test d (d.nr.0 == job.doc.0))
@@ -62,7 +62,7 @@ module _ (s : Seen) (event : ℕ) (actor : Actor) (job : Job) where
       by_test d false = refl
 
   -- a document more leaves those that were there
-  found_more : (new : Document) → t.documents ≡ s.documents ++ new ∷ [] → (doc : DocId) (d : Document) → document_of s doc ≡ Some d → document_of t doc ≡ Some d
+  pub found_more : (new : Document) → t.documents ≡ s.documents ++ new ∷ [] → (doc : DocId) (d : Document) → document_of s doc ≡ Some d → document_of t doc ≡ Some d
   found_more new is doc d found =
       ap (λ (l : List Document). document_in l doc) is
       ∙ find-append (λ (x : Document). x.nr.0 == doc.0) s.documents (new ∷ [])
@@ -169,61 +169,73 @@ ShowsEntry s doc (tasks.Activate entry epoch long at memo address) =
     (d : Document) → document_of s doc ≡ Some d → (row : Row) × (Has s.history.rows row) × (row.nav ≡ d.nav) × (row.entry ≡ entry)
 ShowsEntry s doc _ = Unit {0}
 
--- the place was the same, and on the document that it is awake on
-record WasSeated (s : Seen) (nav : NavId) (place : Place) (doc : DocId) : Type 0 where
-  old : Place
-  placed : place_of s nav ≡ Some old
-  wakes : old.status ≡ awake doc
-  nav_is : place.nav ≡ old.nav
-  given : place.given ≡ old.given
+-- the place was there, and is awake only on the document that it was awake on
+pub record WasSeated (s : Seen) (nav : NavId) (place : Place) : Type 0 where
+  pub old : Place
+  pub placed : place_of s nav ≡ Some old
+  pub wakes : (doc : DocId) → place.status ≡ awake doc → old.status ≡ awake doc
+  pub nav_is : place.nav ≡ old.nav
+  pub given : place.given ≡ old.given
 
--- or it is shown an entry of the history
-record IsShownEntry (s : Seen) (job : Job) (place : Place) (doc : DocId) : Type 0 where
-  on : doc ≡ job.doc
-  found : is_some (document_of s doc) ≡ true
-  row : Row
-  has : Has s.history.rows row
-  nav_is : row.nav ≡ place.nav
-  given : place.given ≡ Some row.entry
+-- or the order shows it the document, and an entry
+pub record IsShownOne (s : Seen) (job : Job) (place : Place) : Type 0 where
+  pub entry : EntryId
+  pub epoch : Epoch
+  pub long : ℕ
+  pub at : ℕ
+  pub memo : Option (List ℕ)
+  pub address : List ℕ
+  pub task : job.task ≡ tasks.Activate entry epoch long at memo address
+  pub on : (doc : DocId) → place.status ≡ awake doc → doc ≡ job.doc
+  pub d : Document
+  pub found : document_of s job.doc ≡ Some d
+  pub own : place.nav ≡ d.nav
+  pub given : place.given ≡ Some entry
 
-abbrev ComesFrom : Seen → Job → NavId → Place → DocId → Type 0
-ComesFrom s job nav place doc = WasSeated s nav place doc ⊎ IsShownEntry s job place doc
+abbrev pub ComesFrom : Seen → Job → NavId → Place → Type 0
+ComesFrom s job nav place = WasSeated s nav place ⊎ IsShownOne s job place
 
 module _ (s : Seen) (event : ℕ) (actor : Actor) (job : Job) where
   abbrev u : Seen
   u = next s event actor (rows.Sent job)
 
   -- where no place changes
-  same_from : u.places ≡ s.places → (nav : NavId) (place : Place) (doc : DocId) → place_of u nav ≡ Some place → place.status ≡ awake doc → ComesFrom s job nav place doc
-  same_from same nav place doc placed wakes =
-      inl (record { old = place; placed = ap (λ (l : List Place). place_in l nav) (sym same) ∙ placed; wakes = wakes; nav_is = refl; given = refl })
+  same_from : u.places ≡ s.places → (nav : NavId) (place : Place) → place_of u nav ≡ Some place → ComesFrom s job nav place
+  same_from same nav place placed =
+      inl (record { old = place; placed = ap (λ (l : List Place). place_in l nav) (sym same) ∙ placed; wakes = λ doc on. on; nav_is = refl; given = refl })
 
   places_are : (task : Task) → job.task ≡ task → u.places ≡ places_sent s job task
   places_are task is = ap (λ (k : Task). places_sent s job k) is
 
   -- one that fell asleep isn't awake
-  slept_from : (navs : List NavId) (old : Place) (nav : NavId) (place : Place) (doc : DocId) → place_of s nav ≡ Some old → slept navs job.why old ≡ place → place.status ≡ awake doc → ComesFrom s job nav place doc
-  slept_from navs old nav place doc was is wakes = by_test (has_nav navs old.nav) is
+  slept_from : (navs : List NavId) (old : Place) (nav : NavId) (place : Place) → place_of s nav ≡ Some old → slept navs job.why old ≡ place → ComesFrom s job nav place
+  slept_from navs old nav place was is = by_test (has_nav navs old.nav) is
     where
-      by_test : (b : Bool) → (let p : Place = cond b (record old { status = asleep; why = job.why }) old in p) ≡ place → ComesFrom s job nav place doc
+      by_test : (b : Bool) → (let p : Place = cond b (record old { status = asleep; why = job.why }) old in p) ≡ place → ComesFrom s job nav place
       by_test true same =
-          let never : asleep ≡ awake doc = ap (λ (p : Place). p.status) same ∙ wakes in absurd cc
+          inl (record {
+            old = old;
+            placed = was;
+            wakes = λ doc on. absurd (let never : asleep ≡ awake doc = ap (λ (p : Place). p.status) same ∙ on in cc);
+            nav_is = ap (λ (p : Place). p.nav) (sym same);
+            given = ap (λ (p : Place). p.given) (sym same);
+          })
       by_test false same =
-          inl (record { old = old; placed = was; wakes = ap (λ (p : Place). p.status) same ∙ wakes; nav_is = ap (λ (p : Place). p.nav) (sym same); given = ap (λ (p : Place). p.given) (sym same) })
+          inl (record { old = old; placed = was; wakes = λ doc on. ap (λ (p : Place). p.status) same ∙ on; nav_is = ap (λ (p : Place). p.nav) (sym same); given = ap (λ (p : Place). p.given) (sym same) })
 
-  sleeps_from : (navs : List NavId) → ((nav : NavId) → place_of u nav ≡ option_map (slept navs job.why) (place_of s nav)) → (nav : NavId) (place : Place) (doc : DocId) → place_of u nav ≡ Some place → place.status ≡ awake doc → ComesFrom s job nav place doc
-  sleeps_from navs become nav place doc placed wakes = by_old (place_of s nav) refl
+  sleeps_from : (navs : List NavId) → ((nav : NavId) → place_of u nav ≡ option_map (slept navs job.why) (place_of s nav)) → (nav : NavId) (place : Place) → place_of u nav ≡ Some place → ComesFrom s job nav place
+  sleeps_from navs become nav place placed = by_old (place_of s nav) refl
     where
-      by_old : (o : Option Place) → place_of s nav ≡ o → ComesFrom s job nav place doc
+      by_old : (o : Option Place) → place_of s nav ≡ o → ComesFrom s job nav place
       by_old None at =
           let never : None ≡ Some place = sym (become nav ∙ ap (option_map (slept navs job.why)) at) ∙ placed in absurd cc
       by_old (Some old) at =
           let both : Some (slept navs job.why old) ≡ Some place = sym (become nav ∙ ap (option_map (slept navs job.why)) at) ∙ placed in
-          slept_from navs old nav place doc at (let same : slept navs job.why old ≡ place = cc in same) wakes
+          slept_from navs old nav place at (let same : slept navs job.why old ≡ place = cc in same)
 
   -- one that is shown the document was shown the entry
-  shows_from : (d : Document) (entry : EntryId) (epoch : Epoch) (long at : ℕ) (memo : Option (List ℕ)) (address : List ℕ) → (task : job.task ≡ tasks.Activate entry epoch long at memo address) → (found : document_of s job.doc ≡ Some d) → (row : Row) → Has s.history.rows row → row.nav ≡ d.nav → row.entry ≡ entry → (nav : NavId) (place : Place) (doc : DocId) → place_of u nav ≡ Some place → place.status ≡ awake doc → ComesFrom s job nav place doc
-  shows_from d entry epoch long at memo address task found row has row_nav entry_is nav place doc placed wakes =
+  shows_from : (d : Document) (entry : EntryId) (epoch : Epoch) (long at : ℕ) (memo : Option (List ℕ)) (address : List ℕ) → (task : job.task ≡ tasks.Activate entry epoch long at memo address) → (found : document_of s job.doc ≡ Some d) → (nav : NavId) (place : Place) → place_of u nav ≡ Some place → ComesFrom s job nav place
+  shows_from d entry epoch long at memo address task found nav place placed =
       by_old (place_of s nav) refl
     where
       become : Place → Place
@@ -232,47 +244,71 @@ module _ (s : Seen) (event : ℕ) (actor : Actor) (job : Job) where
       sleepers : List NavId
       sleepers = sleepers_of s job.doc d.nav
 
-      by_test : (old : Place) → place_of s nav ≡ Some old → (b : Bool) → ((slept sleepers job.why old).nav.0 == d.nav.0) ≡ b → (let p : Place = cond b (activated job entry epoch d (slept sleepers job.why old)) (slept sleepers job.why old) in p) ≡ place → ComesFrom s job nav place doc
+      by_test : (old : Place) → place_of s nav ≡ Some old → (b : Bool) → ((slept sleepers job.why old).nav.0 == d.nav.0) ≡ b → (let p : Place = cond b (activated job entry epoch d (slept sleepers job.why old)) (slept sleepers job.why old) in p) ≡ place → ComesFrom s job nav place
       by_test old was true own same =
-          let on : awake job.doc ≡ awake doc = ap (λ (p : Place). p.status) same ∙ wakes in
-          let doc_is : job.doc ≡ doc = cc in
           inr (record {
-            on = sym doc_is;
-            found = ap (λ (x : DocId). is_some (document_of s x)) (sym doc_is) ∙ ap (λ (o : Option Document). is_some o) found;
-            row = row;
-            has = has;
-            nav_is = row_nav ∙ sym (nav_is (slept sleepers job.why old).nav d.nav own) ∙ ap (λ (p : Place). p.nav) same;
-            given = ap (λ (p : Place). p.given) (sym same) ∙ ap (λ (e : EntryId). Some e) (sym entry_is);
+            entry = entry;
+            epoch = epoch;
+            long = long;
+            at = at;
+            memo = memo;
+            address = address;
+            task = task;
+            on = λ doc wakes. (let on : awake job.doc ≡ awake doc = ap (λ (p : Place). p.status) same ∙ wakes in let doc_is : job.doc ≡ doc = cc in sym doc_is);
+            d = d;
+            found = found;
+            own = ap (λ (p : Place). p.nav) (sym same) ∙ nav_is (slept sleepers job.why old).nav d.nav own;
+            given = ap (λ (p : Place). p.given) (sym same);
           })
-      by_test old was false own same = slept_from sleepers old nav place doc was same wakes
+      by_test old was false own same = slept_from sleepers old nav place was same
 
-      by_old : (o : Option Place) → place_of s nav ≡ o → ComesFrom s job nav place doc
+      by_old : (o : Option Place) → place_of s nav ≡ o → ComesFrom s job nav place
       by_old None was =
           let never : None ≡ Some place = sym (place_becomes s event actor job d entry epoch long at memo address task found nav ∙ ap (option_map become) was) ∙ placed in absurd cc
       by_old (Some old) was =
           let both : Some (become old) ≡ Some place = sym (place_becomes s event actor job d entry epoch long at memo address task found nav ∙ ap (option_map become) was) ∙ placed in
           by_test old was ((slept sleepers job.why old).nav.0 == d.nav.0) refl (let same : become old ≡ place = cc in same)
 
-  comes_from : (task : Task) → job.task ≡ task → ShowsEntry s job.doc task → (nav : NavId) (place : Place) (doc : DocId) → place_of u nav ≡ Some place → place.status ≡ awake doc → ComesFrom s job nav place doc
-  comes_from (tasks.Activate entry epoch long at memo address) is shows =
-      by_document (document_of s job.doc) refl
+  comes_by : (task : Task) → job.task ≡ task → (nav : NavId) (place : Place) → place_of u nav ≡ Some place → ComesFrom s job nav place
+  comes_by (tasks.Activate entry epoch long at memo address) is = by_document (document_of s job.doc) refl
     where
-      by_document : (o : Option Document) → document_of s job.doc ≡ o → (nav : NavId) (place : Place) (doc : DocId) → place_of u nav ≡ Some place → place.status ≡ awake doc → ComesFrom s job nav place doc
+      by_document : (o : Option Document) → document_of s job.doc ≡ o → (nav : NavId) (place : Place) → place_of u nav ≡ Some place → ComesFrom s job nav place
       by_document None none =
           same_from (places_are (tasks.Activate entry epoch long at memo address) is ∙ rw none refl)
-      by_document (Some d) found =
-          let its = shows d found in
-          shows_from d entry epoch long at memo address is found its.0 its.1 its.2 its.3
-  comes_from tasks.Freeze is shows =
+      by_document (Some d) found = shows_from d entry epoch long at memo address is found
+  comes_by tasks.Freeze is =
       sleeps_from (sleepers_with s job.doc) (place_sleeps s event actor job tasks.Freeze is tt)
-  comes_from tasks.Discard is shows =
+  comes_by tasks.Discard is =
       sleeps_from (sleepers_with s job.doc) (place_sleeps s event actor job tasks.Discard is tt)
-  comes_from (tasks.Populate nav state address initial) is shows =
+  comes_by (tasks.Populate nav state address initial) is =
       same_from (places_are (tasks.Populate nav state address initial) is)
-  comes_from (tasks.Update long at) is shows = same_from (places_are (tasks.Update long at) is)
-  comes_from (tasks.Ask slot cause) is shows = same_from (places_are (tasks.Ask slot cause) is)
-  comes_from (tasks.DoFragment req mode address) is shows =
+  comes_by (tasks.Update long at) is = same_from (places_are (tasks.Update long at) is)
+  comes_by (tasks.Ask slot cause) is = same_from (places_are (tasks.Ask slot cause) is)
+  comes_by (tasks.DoFragment req mode address) is =
       same_from (places_are (tasks.DoFragment req mode address) is)
+
+  -- where each place comes from
+  pub comes_from : (nav : NavId) (place : Place) → place_of u nav ≡ Some place → ComesFrom s job nav place
+  comes_from = comes_by job.task refl
+
+  -- an entry that is shown, in the history
+  record IsRowShown (place : Place) : Type 0 where
+    row : Row
+    has : Has s.history.rows row
+    nav_is : row.nav ≡ place.nav
+    given : place.given ≡ Some row.entry
+
+  row_shown : ShowsEntry s job.doc job.task → (place : Place) → IsShownOne s job place → IsRowShown place
+  row_shown shows place shown =
+      record {
+        row = its.0;
+        has = its.1;
+        nav_is = its.2 ∙ sym shown.own;
+        given = shown.given ∙ ap (λ (e : EntryId). Some e) (sym its.3);
+      }
+    where
+      its : (row : Row) × (Has s.history.rows row) × (row.nav ≡ shown.d.nav) × (row.entry ≡ shown.entry)
+      its = subst (λ (k : Task). ShowsEntry s job.doc k) shown.task shows shown.d shown.found
 
   -- ---- documents, with their states
 
@@ -326,24 +362,52 @@ module _ (s : Seen) (event : ℕ) (actor : Actor) (job : Job) where
   pub rooted_sent : ShowsEntry s job.doc job.task → AreSeated s → AreSeated u
   rooted_sent shows seated =
       record {
-        there = λ nav place doc placed wakes. there_by nav place doc (comes_from job.task refl shows nav place doc placed wakes);
-        rooted = λ nav place doc d placed wakes found has. rooted_by nav place doc d found has (comes_from job.task refl shows nav place doc placed wakes);
+        there = λ nav place doc placed wakes. there_by nav place doc wakes (comes_from nav place placed);
+        rooted = λ nav place doc d placed wakes found has. rooted_by nav place doc d wakes found has (comes_from nav place placed);
       }
     where
-      there_by : (nav : NavId) (place : Place) (doc : DocId) → ComesFrom s job nav place doc → is_some (document_of u doc) ≡ true
-      there_by nav place doc (inl was) = there_of doc (seated.there nav was.old doc was.placed was.wakes)
-      there_by nav place doc (inr shown) = there_of doc shown.found
+      there_by : (nav : NavId) (place : Place) (doc : DocId) → place.status ≡ awake doc → ComesFrom s job nav place → is_some (document_of u doc) ≡ true
+      there_by nav place doc wakes (inl was) =
+          there_of doc (seated.there nav was.old doc was.placed (was.wakes doc wakes))
+      there_by nav place doc wakes (inr shown) =
+          there_of doc (ap (λ (x : DocId). is_some (document_of s x)) (shown.on doc wakes) ∙ ap (λ (o : Option Document). is_some o) shown.found)
 
       -- a root stays one, with the same given entry
       again : (old place : Place) (one other : Document) → place.nav ≡ old.nav → place.given ≡ old.given → one.state ≡ other.state → IsRooted s old one → IsRooted u place other
       again old place one other navs given states (inl root) = inl (root.0, root.1, root.2 ∙ sym navs, given ∙ root.3)
       again old place one other navs given states (inr root) = inr (root.0, root.1, root.2 ∙ states, root.3)
 
-      rooted_by : (nav : NavId) (place : Place) (doc : DocId) (d : Document) → document_of u doc ≡ Some d → has_state d.state u.history.rows ≡ true → ComesFrom s job nav place doc → IsRooted u place d
-      rooted_by nav place doc d found has (inl was) =
-          let its = was_of doc d (seated.there nav was.old doc was.placed was.wakes) found in
-          again was.old place its.old d was.nav_is was.given its.state (seated.rooted nav was.old doc its.old was.placed was.wakes its.found (ap (λ (x : StateId). has_state x s.history.rows) its.state ∙ has))
-      rooted_by nav place doc d found has (inr shown) = inl (shown.row, shown.has, shown.nav_is, shown.given)
+      rooted_by : (nav : NavId) (place : Place) (doc : DocId) (d : Document) → place.status ≡ awake doc → document_of u doc ≡ Some d → has_state d.state u.history.rows ≡ true → ComesFrom s job nav place → IsRooted u place d
+      rooted_by nav place doc d wakes found has (inl was) =
+          let its = was_of doc d (seated.there nav was.old doc was.placed (was.wakes doc wakes)) found in
+          again was.old place its.old d was.nav_is was.given its.state (seated.rooted nav was.old doc its.old was.placed (was.wakes doc wakes) its.found (ap (λ (x : StateId). has_state x s.history.rows) its.state ∙ has))
+      rooted_by nav place doc d wakes found has (inr shown) =
+          let its = row_shown shows place shown in inl (its.row, its.has, its.nav_is, its.given)
+
+-- ---- over any orders
+
+-- who is awake stays seated
+pub record KeepsSeats (s t : Seen) : Type 0 where
+  pub history : t.history ≡ s.history
+  pub seated : AreSeated s → AreSeated t
+
+pub seats_none : (s : Seen) → KeepsSeats s s
+seats_none s = record { history = refl; seated = λ are. are }
+
+pub seats_then : (s t u : Seen) → KeepsSeats s t → KeepsSeats t u → KeepsSeats s u
+seats_then s t u one two =
+    record {
+      history = two.history ∙ one.history;
+      seated = λ are. two.seated (one.seated are);
+    }
+
+-- each order keeps them
+pub seats_sent : (s : Seen) (event : ℕ) (actor : Actor) (job : Job) → ShowsEntry s job.doc job.task → KeepsSeats s (next s event actor (rows.Sent job))
+seats_sent s event actor job shows =
+    record {
+      history = refl;
+      seated = rooted_sent s event actor job shows;
+    }
 
 -- ---- rows that are no orders
 

@@ -1,7 +1,7 @@
 -- A turn of a walk keeps the tab calm: who is in need was never shown a document, so none is below it, and only its place changes.
 use Rattle.calm_facts.proofs.Calms.{need_new, shown_row}
 use Rattle.calm_facts.proofs.Sames.{IsUsableAt, around_by, but_more, here_same, way_at, way_same, yet_same}
-use Rattle.calm_facts.proofs.Sents.{AreSeated}
+use Rattle.calm_facts.proofs.Sents.{AreSeated, KeepsSeats}
 use Rattle.calm_facts.specs.Calm.{AreRooted, IsCalmAround, IsCalmBut, IsCalmYet, IsHere, KeepsCalm}
 use Rattle.hang_facts.proofs.Forms.{nav_is}
 use Rattle.hang_facts.proofs.Hung.{has_begun, own_form, place_chain}
@@ -263,14 +263,14 @@ module _ (s t : Seen) (sound : IsSound s.history) (hangs : Hangs s) (standing : 
 
 -- ---- all of it
 
--- what the rows of a turn do to its navigable, to documents that are usable, and to who is awake
+-- what the rows of a turn do to its navigable, to documents that are usable, to who is awake, and to what navigables were given
 pub record IsCalmTurn (s t : Seen) (at : NavId) (place : Place) : Type 0 where
   pub own : aim_of s ≡ s.history.current → (p : Place) → place_of t at ≡ Some p → (p ≡ place) ⊎ IsInPlace s p
   -- where it was never shown a document, each usable one is usable still
   pub usable : place.epoch.0 ≡ 0 → (doc : DocId) (d : Document) (state : StateId) → document_of s doc ≡ Some d → is_usable d state ≡ true → IsUsableAt t doc state
   -- and where one is usable for its target, one is still
   pub target : (row : Row) → target_entry s.history.rows at (aim_of s) ≡ Some row → (doc : DocId) (d : Document) → document_of s doc ≡ Some d → is_usable d row.state ≡ true → (other : DocId) × IsUsableAt t other row.state
-  pub seated : AreSeated s → AreSeated t
+  pub seats : KeepsSeats s t
 
 -- who is awake is so on a document that is there
 pub homes_seated : (s : Seen) → AreHomed s → AreRooted s → AreSeated s
@@ -285,7 +285,7 @@ turn_keeps s t sound hangs homes standing at place placed visited others raised 
     record {
       yet = λ now. turn_yet s t sound hangs standing now at place placed visited others (turn.own now) raised;
       around = λ now by calm. around now by calm (around_need s t sound hangs standing now at place placed visited others (turn.own now) raised by calm);
-      rooted = λ are. (turn.seated (homes_seated s homes are)).rooted;
+      rooted = λ are. (turn.seats.seated (homes_seated s homes are)).rooted;
     }
   where
     around : aim_of s ≡ s.history.current → (by : NavId) → (calm : IsCalmAround s by) → ((at.0 == by.0) ≡ true) ⊎ (place.epoch.0 ≡ 0) → IsCalmAround t by

@@ -3,8 +3,9 @@
 use Rattle.hang_facts.specs.Members.{Has}
 use Rattle.log_model.specs.History.{has_nav, has_row, has_state, target_entry}
 use Rattle.log_model.specs.Orders.{is_usable}
-use Rattle.log_model.specs.Places.{aim_of, is_awake, is_given_target, is_shown, way_to}
+use Rattle.log_model.specs.Places.{aim_of, is_awake, is_given_target, is_moved, is_shown, way_to}
 use Rattle.log_model.specs.Seen.{Document, Place, Seen, awake, document_of, place_of}
+use Rattle.log_model.specs.declared.job.Task.{Task}
 use Rattle.log_model.specs.declared.row.Row.{Row}
 use Rattle.std.specs.List.{list_any}
 use Rattle.std.specs.Prelude.{None, Option, Some, false, true, ◌≡◌, ◌≤◌, ◌⊎◌}
@@ -13,6 +14,7 @@ use Rattle.tab_ids.specs.declared.NavId.{NavId}
 use Rattle.tab_ids.specs.declared.ReqId.{ReqId}
 use Rattle.tab_ids.specs.declared.StateId.{StateId}
 use Rattle.walk_rows.specs.Since.{IsVisitedInNeed}
+use Rattle.log_model.specs.declared.job.Task.TheVariants as tasks
 
 -- ---- where no traversal runs
 
@@ -66,6 +68,18 @@ IsRooted s place d =
 abbrev pub AreRooted : Seen → Type 0
 AreRooted s =
     (nav : NavId) (place : Place) (doc : DocId) (d : Document) → place_of s nav ≡ Some place → place.status ≡ awake doc → document_of s doc ≡ Some d → has_state d.state s.history.rows ≡ true → IsRooted s place d
+
+-- ---- where a traversal runs
+
+-- who is awake, has an entry and wasn't moved by the traversal that runs, is where it is to be at the current step
+abbrev pub UnmovedAreHere : Seen → Type 0
+UnmovedAreHere s =
+    (nav : NavId) (place : Place) (doc : DocId) → place_of s nav ≡ Some place → place.status ≡ awake doc → has_row nav s.history.rows ≡ true → is_moved s nav ≡ false → IsHere s place
+
+-- the order shows a document
+abbrev pub ShowsOne : Task → Type 0
+ShowsOne (tasks.Activate entry epoch long at memo address) = Unit {0}
+ShowsOne _ = ⊥
 
 -- ---- what rows keep
 

@@ -1,36 +1,96 @@
--- A load is refused as it is accepted, and the coordinator goes on working.
+-- A load is refused as it is accepted: the two rows may be logged together, and the coordinator is at work then.
 use Rattle.each_facts.specs.Runs.{is_this}
-use Rattle.frame_rows.proofs.LawfulLaws.{ends_other, lawful_plain}
 use Rattle.frame_rows.specs.Lawful.{AreLawful}
-use Rattle.load_doors.specs.Refusing.{IsDeniedHere}
-use Rattle.load_rows.proofs.Accepts.{load_denial_passes}
-use Rattle.load_ties.proofs.Ends.{refused_ended}
+use Rattle.load_doors.specs.Refusing.{IsDeniedLoad}
+use Rattle.load_doors.specs.Tied.{AreTied}
+use Rattle.load_rows.proofs.Accepts.{denied_load_may, load_there}
+use Rattle.kept_facts.specs.Keeping.{kept_states}
+use Rattle.load_ties.proofs.Ends.{other_ends, refused_ended}
+use Rattle.load_ties.specs.Tying.{TiesLoads}
+use Rattle.log_model.specs.After.{after, new_request}
+use Rattle.log_model.specs.AfterRequests.{on_request}
+use Rattle.log_model.specs.Seen.{Asked, Seen, request_of}
 use Rattle.log_model.specs.declared.outcome.Denial.{Denial}
 use Rattle.log_model.specs.declared.row_kind.Actor.{Actor}
 use Rattle.log_model.specs.declared.row_kind.LogRow.{LogRow}
 use Rattle.log_model.specs.declared.row_kind.RowKind.{RowKind}
-use Rattle.seen_laws.proofs.InEvents.{led_here}
+use Rattle.request_facts.proofs.Readers.{on_read}
+use Rattle.seen_laws.proofs.InEvents.{now_more, now_own}
 use Rattle.seen_laws.specs.Blocks.{MayLog}
-use Rattle.seen_laws.specs.InEvent.{Anything, InEvent, here_of, now_of, row_of}
-use Rattle.std.proofs.Common.{List, [], false, refl, subst, sym, ◌++◌, ◌∷◌, ◌≡◌}
-use Rattle.tab_doors.proofs.Ahead.{none_lawful}
+use Rattle.seen_laws.specs.InEvent.{InEvent, now_of, row_of, start_of}
+use Rattle.seen_laws.specs.Sending.{leads}
+use Rattle.std.proofs.Common.{List, None, Some, [], ap, false, length, refl, subst, sym, ◌+◌, ◌∙◌, ◌∷◌, ◌≡◌, ◌≤◌}
+use Rattle.tab_doors.proofs.Ahead.{lawful_none}
+use Rattle.tab_doors.proofs.EndLaws.{left_holds}
 use Rattle.tab_doors.proofs.Keeping.{unstarted_no_load}
-use Rattle.tab_doors.proofs.TurnWorks.{ended_work}
-use Rattle.tab_doors.specs.Working.{IsAtWork}
+use Rattle.tab_doors.proofs.Requests.{ended_moved, moved_same, runs_ended_apart}
+use Rattle.tab_doors.proofs.Works.{goal_read, goal_same}
+use Rattle.tab_doors.specs.Look.{look_of, moved_by}
+use Rattle.tab_doors.specs.Ties.{AreInitial, Holds, IsRunning}
+use Rattle.tab_doors.specs.Working.{HasGoal, IsAtWork, IsWorker}
 use Rattle.tab_doors.specs.declared.tables.Tables.{Tables}
 use Rattle.tab_ids.specs.declared.ReqId.{ReqId}
 use Rattle.log_model.specs.declared.outcome.Ending.TheVariants as endings
+use Rattle.log_model.specs.declared.request.Request.TheVariants as requests
+use Rattle.log_model.specs.declared.row_kind.Actor.TheVariants as actors
 use Rattle.log_model.specs.declared.row_kind.RowKind.TheVariants as rows
 
--- the row passes whatever comes later
-denied_may : (e : InEvent) (out : List RowKind) (req : ReqId) (reason : Denial) {t : Tables} → IsAtWork e out t → IsDeniedHere e out req reason → MayLog (here_of e out) (row_of e (rows.Refused req reason) ∷ []) Anything
-unfolding now_of
-denied_may e out req reason work denied =
-    subst (λ (actor : Actor). MayLog (here_of e out) (let row : LogRow = record { event = e.event; actor = actor; row = rows.Refused req reason } in row ∷ []) Anything) (sym denied.by_user) (load_denial_passes (here_of e out) e.event req denied.nav denied.mode denied.address reason denied.asked (led_here e out work.own) denied.accepted denied.at denied.own denied.what denied.open_ denied.unparked denied.reason_is)
+module _ (e : InEvent) (t : Tables) (req : ReqId) (reason : Denial) (denied : IsDeniedLoad e req reason) (tied : AreTied (now_of e []) t) where
+  -- ---- the two rows may be logged
 
-pub refused_work : (e : InEvent) (out : List RowKind) (t : Tables) (req : ReqId) (reason : Denial) → IsAtWork e out t → IsDeniedHere e out req reason → is_this t.running req ≡ false → IsAtWork e (out ++ rows.Refused req reason ∷ []) t
-refused_work e out t req reason work denied apart =
-    ended_work e out t req (rows.Refused req reason) (endings.Refused reason) work apart refl refl refl refl refl refl refl refl refl (refused_ended (now_of e out) e.event e.actor req reason) (unstarted_no_load (now_of e out) req denied.asked denied.at denied.unstarted) lawful
-  where
-    lawful : AreLawful e (out ++ rows.Refused req reason ∷ [])
-    lawful = lawful_plain e out (rows.Refused req reason) (λ r. refl) (ends_other e out (rows.Refused req reason) req (refl, λ s. refl) denied.unheld denied.unparked) (none_lawful e out work.lawful) (denied_may e out req reason work denied)
+  own_row : row_of e e.own ≡ (let row : LogRow = record { event = e.event; actor = actors.Ui; row = rows.Accepted req None (requests.Load denied.nav denied.mode denied.address) } in row)
+  own_row =
+      ap (λ (a : Actor). let row : LogRow = record { event = e.event; actor = a; row = e.own } in row) denied.by_user
+      ∙ ap (λ (k : RowKind). let row : LogRow = record { event = e.event; actor = actors.Ui; row = k } in row) denied.own
+
+  refusal_row : row_of e (rows.Refused req reason) ≡ (let row : LogRow = record { event = e.event; actor = actors.Ui; row = rows.Refused req reason } in row)
+  refusal_row = ap (λ (a : Actor). let row : LogRow = record { event = e.event; actor = a; row = rows.Refused req reason } in row) denied.by_user
+
+  lawful : AreLawful e (rows.Refused req reason ∷ [])
+  unfolding AreLawful
+  lawful later rest =
+      (subst (λ (second : LogRow). MayLog (start_of e) (row_of e e.own ∷ second ∷ []) (λ (l : List LogRow). Unit {0})) (sym refusal_row)
+      (subst (λ (own : LogRow). MayLog (start_of e) (own ∷ (let row : LogRow = record { event = e.event; actor = actors.Ui; row = rows.Refused req reason } in row) ∷ []) (λ (l : List LogRow). Unit {0})) (sym own_row)
+      (denied_load_may e.header e.start e.event req denied.nav denied.mode denied.address reason denied.next denied.reason_is denied.unparked)))
+      later tt
+
+  -- ---- the tables stand for what the log has come to then
+
+  abbrev s : Seen
+  s = now_of e []
+
+  abbrev n : Seen
+  n = after s (row_of e (rows.Refused req reason))
+
+  there : request_of s req ≡ Some (new_request req None (requests.Load denied.nav denied.mode denied.address))
+  there =
+      ap (λ (x : Seen). request_of x req) (now_own e ∙ ap (λ (row : LogRow). after e.start row) own_row)
+      ∙ load_there e.start e.event req denied.nav denied.mode denied.address denied.next
+
+  -- the traversal that runs has begun
+  apart : is_this t.running req ≡ false
+  apart = sym (tied.runs.only req (new_request req None (requests.Load denied.nav denied.mode denied.address)) there)
+
+  abbrev over : List Asked
+  over = on_request req (λ (q : Asked). record q { ending = Some (endings.Refused reason) }) s.requests
+
+  moved : moved_by n.requests t.running ≡ moved_by s.requests t.running
+  moved = moved_same s.requests over t.running (ended_moved s e.event e.actor req (endings.Refused reason))
+
+  pub refused_work : IsAtWork e (rows.Refused req reason ∷ []) t
+  refused_work =
+      record {
+        own = ap (λ (k : RowKind). leads k) denied.own;
+        worker = subst (λ (a : Actor). IsWorker a) (sym denied.by_user) tt;
+        holds = subst (λ (x : Seen). Holds (look_of x t.running) t) (sym now_is) (left_holds (look_of s t.running) (look_of n t.running) t refl refl refl moved refl refl refl tied.holds);
+        runs = subst (λ (x : Seen). IsRunning x.requests t.running) (sym now_is) (runs_ended_apart s.requests t.running req (endings.Refused reason) apart tied.runs);
+        goal = subst (λ (x : Seen). HasGoal x.requests t.running t.goal) (sym now_is) (goal_same s.requests over t.running t.goal (on_read goal_read s.requests req (λ q. record q { ending = Some (endings.Refused reason) }) (λ q. refl)) tied.goal);
+        few = subst (λ (x : Seen). length x.documents ≤ x.jobs + 1) (sym now_is) tied.few;
+        initial = subst (λ (x : Seen). AreInitial x.initial_states t.initial.entries) (sym now_is) tied.initial;
+        loads = subst (λ (x : Seen). TiesLoads x t.loads) (sym now_is) (other_ends s n req (refused_ended s e.event e.actor req reason) t.loads tied.loads (unstarted_no_load s req (new_request req None (requests.Load denied.nav denied.mode denied.address)) there refl));
+        kept = tied.kept ∙ ap (λ (x : Seen). kept_states x) (sym now_is);
+        lawful = lawful_none e (rows.Refused req reason ∷ []) lawful;
+      }
+    where
+      now_is : now_of e (rows.Refused req reason ∷ []) ≡ n
+      now_is = now_more e [] (rows.Refused req reason)

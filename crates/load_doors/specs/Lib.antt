@@ -1,3 +1,4 @@
 pub mod Loading
 pub mod Applying
+pub mod Tied
 pub mod Refusing

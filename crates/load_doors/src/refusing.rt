@@ -1,9 +1,9 @@
 //! A load is refused.
-ghost use Rattle.std.specs.Prelude.{◌≡◌, ◌++◌, ◌∷◌, [], false, OnOk};
-ghost use Rattle.each_facts.specs.Runs.{is_this};
-ghost use Rattle.load_doors.specs.Refusing.{IsDeniedHere};
+ghost use Rattle.std.specs.Prelude.{◌≡◌, ◌∷◌, [], OnOk};
+ghost use Rattle.load_doors.specs.Refusing.{IsDeniedLoad};
+ghost use Rattle.load_doors.specs.Tied.{AreTied};
 ghost use Rattle.log_model.specs.declared.row_kind.RowKind.TheVariants as rows;
-ghost use Rattle.seen_laws.specs.InEvent.{InEvent};
+ghost use Rattle.seen_laws.specs.InEvent.{InEvent, now_of};
 ghost use Rattle.tab_doors.specs.Working.{IsAtWork};
 
 use address::OutOfMemory;
@@ -11,22 +11,20 @@ use log_model::{Denial, Out, RowKind};
 use tab_doors::Tables;
 use tab_ids::ReqId;
 
-/// A load is refused as the user asks for it.
+/// A load is refused as the user asks for it, by the first row that is put out in the event: the row of its acceptance may be logged only where this one follows.
 pub fn refuse_load(
-    tables: &mut Tables,
+    _tables: &Tables,
     out: &mut Out,
     req: ReqId,
     reason: Denial,
 ) -> Result<(), OutOfMemory>
     ghost e: { InEvent }
-    requires work { IsAtWork e out.old tables.old }
-    requires denied { IsDeniedHere e out.old req reason }
-    requires apart { is_this tables.old.running req ≡ false }
-    ensures work { OnOk result (IsAtWork e out.new tables.new) }
-    ensures out { OnOk result (out.new ≡ out.old ++ rows.Refused req reason ∷ []) }
-    ensures tables { tables.new ≡ tables.old }
+    requires first { out.old ≡ [] }
+    requires denied { IsDeniedLoad e req reason }
+    requires tied { AreTied (now_of e []) _tables.now }
+    ensures work { OnOk result (IsAtWork e out.new _tables.now) }
+    ensures out { OnOk result (out.new ≡ rows.Refused req reason ∷ []) }
 {
-    let _running = tables.running;
     out.push(RowKind::Refused { req, reason })?;
     Ok(())
 }

@@ -6,7 +6,7 @@ use Rattle.frame_facts.proofs.Applied.{applied_wishes}
 use Rattle.frame_tab.proofs.Goings.{begun_of}
 use Rattle.frame_tab.proofs.Plainly.{applied_reads}
 use Rattle.frame_whole.proofs.Refusing.{none_without}
-use Rattle.last_facts.proofs.Applied.{pushed_lasting, replaced_lasting}
+use Rattle.tab_turns.proofs.PassedOn.{load_pushed_tab, load_replaced_tab, pushed_going, pushed_lasting, replaced_going, replaced_lasting}
 use Rattle.load_doors.specs.Applying.{new_entry}
 use Rattle.load_table.specs.Loads.{ongoing_load}
 use Rattle.load_table.specs.declared.load.Load.{Load}
@@ -31,17 +31,14 @@ use Rattle.tab_applies.proofs.Dues.{aim_now, fit, given, going, next_is, open_, 
 use Rattle.tab_applies.specs.Applying.{HasApplied, MayApply}
 use Rattle.tab_doors.specs.Working.{IsAtWork, KeepsRun}
 use Rattle.tab_doors.specs.declared.tables.Tables.{Tables}
-use Rattle.tab_going.proofs.Changes.{pushed_going, replaced_going}
-use Rattle.tab_going.specs.Going.{IsGoing}
+use Rattle.tab_turns.proofs.Begins.{IsGoing, IsTab}
 use Rattle.tab_ids.specs.declared.DocId.{DocId}
 use Rattle.tab_ids.specs.declared.EntryId.{EntryId}
 use Rattle.tab_ids.specs.declared.NavId.{NavId}
 use Rattle.tab_ids.specs.declared.ReqId.{ReqId}
-use Rattle.tab_passes.specs.Causes.{MayCause}
-use Rattle.tab_passes.specs.Passing.{InPass, IsPassing}
-use Rattle.tab_turns.proofs.Turned.{begun_as_it_was, causes_on}
-use Rattle.tab_whole.proofs.Loaded.{load_pushed_tab, load_replaced_tab}
-use Rattle.tab_whole.specs.Tab.{IsTab}
+use Rattle.tab_turns.specs.Turning.{MayCause}
+use Rattle.tab_turns.specs.PassedOn.{InPass, IsPassing}
+pub use Rattle.tab_turns.proofs.Turned.{begun_as_it_was, causes_on}
 use Rattle.walk_rows.proofs.Sinces.{applied_since, since_itself}
 use Rattle.walk_rows.specs.Since.{AwakeSince}
 use Rattle.log_model.specs.declared.change.Change.TheVariants as changes

@@ -30,13 +30,12 @@ use Rattle.tab_doors.proofs.Holding.{its_node}
 use Rattle.std.specs.Prelude.{IsSome}
 use Rattle.tab_doors.specs.Dues.{MayChange}
 use Rattle.tab_doors.specs.declared.tables.Tables.{Tables}
-use Rattle.tab_going.proofs.Counts.{count_few}
-use Rattle.tab_going.specs.Going.{IsGoing, has_ended}
+use Rattle.tab_turns.proofs.Ends.{count_few}
+use Rattle.tab_turns.proofs.Begins.{IsGoing, IsTab, IsUnheld, aim_is}
+use Rattle.tab_turns.specs.PassedOn.{AreSteps, InPass, IsPassing, has_ended}
 use Rattle.tab_ids.specs.declared.EntryId.{EntryId}
 use Rattle.tab_ids.specs.declared.NavId.{NavId}
 use Rattle.tab_ids.specs.declared.ReqId.{ReqId}
-use Rattle.tab_passes.specs.Passing.{InPass, IsPassing}
-use Rattle.tab_whole.specs.Tab.{IsTab}
 use Rattle.load_table.specs.declared.phase.Phase.TheVariants as phases
 use Rattle.log_model.specs.declared.change.Change.TheVariants as changes
 use Rattle.log_model.specs.declared.request.Request.TheVariants as requests
@@ -61,15 +60,11 @@ use Rattle.tab_applies.proofs.Sees.{sees}
 use Rattle.tab_doors.proofs.Sights.{seen_of}
 use Rattle.tab_doors.specs.Dues.{SeesRows}
 use Rattle.tab_doors.specs.Look.{Sight, look_of, sight, sight_in}
-use Rattle.tab_going.proofs.Steps.{pushed_steps, replaced_steps}
-use Rattle.tab_going.specs.Going.{AreSteps}
+use Rattle.tab_turns.proofs.PassedOn.{fresh, pushed_steps, replaced_steps, way_unheld}
 use Rattle.tab_ids.specs.declared.DocId.{DocId}
 use Rattle.tab_ids.specs.declared.StateId.{StateId}
-use Rattle.tab_passes.proofs.Aims.{aim_is}
-use Rattle.tab_passes.proofs.Goings.{goes_on}
+use Rattle.tab_turns.proofs.Turned.{goes_on}
 use Rattle.tab_turns.proofs.Firsts.{none_under_way}
-use Rattle.tab_whole.proofs.Fresh.{fresh}
-use Rattle.tab_whole.proofs.Where.{IsUnheld, way_unheld}
 use Rattle.log_model.specs.declared.row_kind.RowKind.TheVariants as rows
 
 -- the navigable's target at the aim, which it was given

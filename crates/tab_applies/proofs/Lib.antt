@@ -1,3 +1,4 @@
 pub mod Sees
 pub mod Dues
 pub mod Dones
+pub mod PassedOn

@@ -14,8 +14,10 @@ use Rattle.coord_facts.proofs.Unread.{next}
 use Rattle.std.proofs.Common.{Bool, List, None, Option, Some, [], ap, arith, cond, false, map, refl, sym, true, ℕ, ◌==◌, ◌||◌, ◌∙◌, ◌∷◌, ◌≡◌, ◌≤◌}
 use Rattle.std.specs.Prelude.{is_some}
 use Rattle.tab_doors.specs.Dues.{SeesRows, has_any}
-use Rattle.tab_going.proofs.Counts.{applied_long, count_few}
-use Rattle.tab_going.specs.Going.{AreSteps, IsGoing, has_ended}
+use Rattle.tab_turns.proofs.PassedOn.{applied_long}
+use Rattle.tab_turns.proofs.Ends.{count_few}
+use Rattle.tab_turns.proofs.Begins.{IsGoing}
+use Rattle.tab_turns.specs.PassedOn.{AreSteps, has_ended}
 use Rattle.tab_ids.specs.declared.NavId.{NavId}
 use Rattle.tab_ids.specs.declared.ReqId.{ReqId}
 use Rattle.log_model.specs.declared.row_kind.RowKind.TheVariants as rows

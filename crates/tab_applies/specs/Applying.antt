@@ -18,8 +18,8 @@ use Rattle.tab_doors.specs.declared.tables.Tables.{Tables}
 use Rattle.tab_ids.specs.declared.DocId.{DocId}
 use Rattle.tab_ids.specs.declared.EntryId.{EntryId}
 use Rattle.tab_ids.specs.declared.NavId.{NavId}
-use Rattle.tab_passes.specs.Causes.{MayCause}
-use Rattle.tab_passes.specs.Passing.{InPass}
+use Rattle.tab_turns.specs.Turning.{MayCause}
+use Rattle.tab_turns.specs.PassedOn.{InPass}
 use Rattle.walk_rows.specs.Since.{AwakeSince}
 use Rattle.load_table.specs.declared.phase.Phase.TheVariants as phases
 use Rattle.log_model.specs.declared.row_kind.RowKind.TheVariants as rows

@@ -3,7 +3,7 @@ ghost use Rattle.std.specs.Prelude.{◌≡◌, None, OnOk, IsSome, Some};
 ghost use Rattle.load_table.specs.Loads.{ongoing_load};
 ghost use Rattle.seen_laws.specs.InEvent.{now_of};
 ghost use Rattle.tab_applies.specs.Applying.{HasApplied, InReady, MayApply, given_in};
-ghost use Rattle.tab_passes.specs.Passing.{IsPassing};
+ghost use Rattle.tab_turns.specs.PassedOn.{IsPassing};
 
 use address::OutOfMemory;
 use load_doors::apply_load;

@@ -2,7 +2,7 @@
 use Rattle.frame_facts.specs.Lasting.{wish}
 use Rattle.request_facts.proofs.Readers.{SameReads, on_read, reads_then}
 use Rattle.log_model.specs.Equal.{has_req}
-use Rattle.tab_turns.proofs.Turned.{still_joined}
+use Rattle.tab_applies.proofs.PassedOn.{still_joined}
 use Rattle.calm_facts.proofs.Around.{usable_found}
 use Rattle.calm_facts.proofs.Awakes.{calm_stood, lost_none, stand_each}
 use Rattle.calm_facts.proofs.Changes.{changed_but, push_childless, replace_childless}
@@ -10,17 +10,15 @@ use Rattle.calm_facts.proofs.Sames.{IsUsableAt, SameSights, Sight, sight_of}
 use Rattle.calm_facts.specs.Calm.{HasUsable, IsCalmAround}
 use Rattle.tab_begins.proofs.Standings.{all_of, in_place, met_none, none_of, third}
 use Rattle.tab_ids.specs.declared.DocId.{DocId}
-use Rattle.tab_serves.specs.Serving.{ParentsShown}
+pub use Rattle.tab_one_pass.specs.Passing.{MayServe, ParentsShown, TakersServe}
 use Rattle.left_facts.specs.Left.{WereShown}
 use Rattle.left_facts.proofs.Rows.{were_shown}
-use Rattle.tab_one_pass.specs.Passing.{HasPassed, IsOpen, TakersServe}
+use Rattle.tab_one_pass.specs.Passing.{AreUnheld, HasPassed, IsLoadOf, IsOpen, KeepsAwake, MayCause}
+use Rattle.rest_rows.proofs.Shown.{applied_awake}
 use Rattle.mover_facts.proofs.Places.{ways_both, ways_mapped}
 use Rattle.mover_facts.proofs.Stays.{KeepWays}
-use Rattle.place_facts.proofs.Changes.{IsOldOrNew, pushed_rows, replaced_rows}
-use Rattle.place_facts.specs.Standing.{IsShownOnce, IsStanding, IsUnshownYet}
-use Rattle.tab_passes.proofs.Goings.{goes_on}
-use Rattle.tab_passes.specs.Causes.{MayCause, MayServe}
-use Rattle.tab_serves.proofs.Reached.{IsReachedAt, reached_at}
+pub use Rattle.tab_one_pass.proofs.Passes.{goes_on}
+use Rattle.tab_one_pass.proofs.Stands.{IsReachedAt, reached_at}
 use Rattle.log_model.specs.declared.request.Request.{Request}
 use Rattle.owed_facts.proofs.Requests.{req_same}
 use Rattle.std.specs.Option.{option_map_or}
@@ -29,9 +27,9 @@ use Rattle.mover_facts.specs.Movers.{IsMovedBy}
 use Rattle.load_facts.specs.Loading.{look, look_of}
 use Rattle.log_model.specs.AfterRequests.{entries_taken, on_request}
 use Rattle.log_model.specs.Causes.{nav_of_change}
-use Rattle.tab_drops.specs.Dropping.{IsLoadApplied, IsLoadOf, AreUnheld, IsBelowNav, StandOr}
-use Rattle.tab_drops.proofs.Loads.{IsAskedFor, asked_for, load_now, open_of, sole_load}
-use Rattle.tab_drops.proofs.ForCallers.{load_applied, stand_reached}
+use Rattle.tab_one_pass.specs.PassedOn.{IsLoadApplied, IsBelowNav, StandOr}
+use Rattle.tab_one_pass.proofs.PassedOn.{load_applied, open_of, sole_load, stand_reached}
+use Rattle.tab_one_pass.proofs.Dropped.{IsAskedFor, asked_for, load_now}
 use Rattle.asked_facts.specs.Asking.{ArePlain}
 use Rattle.coord_facts.proofs.Applied.{AreDocuments, all_pushed, all_replaced, push_places, replace_places}
 use Rattle.coord_facts.proofs.Held.{on_else, without_same}
@@ -83,8 +81,8 @@ use Rattle.tab_ids.specs.declared.EntryId.{EntryId}
 use Rattle.tab_ids.specs.declared.NavId.{NavId}
 use Rattle.tab_ids.specs.declared.ReqId.{ReqId}
 use Rattle.tab_ids.specs.declared.StateId.{StateId}
-use Rattle.tab_passes.proofs.Aims.{aim_is}
-use Rattle.tab_passes.specs.Passing.{InPass, IsPassing}
+pub use Rattle.tab_one_pass.proofs.Calms.{aim_is}
+pub use Rattle.tab_one_pass.specs.PassedOn.{InPass, IsPassing}
 use Rattle.tab_whole.proofs.Fresh.{fresh}
 use Rattle.tab_whole.specs.Tab.{IsTab}
 use Rattle.walk_facts.proofs.Placed.{found_nav}
@@ -184,6 +182,12 @@ module _ (p : InPass) (out : List RowKind) (t : Tables) (passing : IsPassing p o
   places_are =
       ap (λ (x : Seen). x.places) now_is
       ∙ subst (λ (c : Change). places_applied s load.req c ≡ with_taker s.history (applied s.history c) load.req s.places) (sym (put_is load.replace refl)) (by_taker load.replace)
+
+  -- who is awake stays so
+  pub awake_then : KeepsAwake s n
+  awake_then m doc was =
+      let a = applied_awake s load.req change m was.place doc was.placed was.wakes in
+      record { place = a.new; placed = ap (λ (x : Seen). place_in x.places m) now_is ∙ a.there; wakes = a.wakes }
 
   taker_nav : (place : Place) → (taker place).nav.0 ≡ place.nav.0
   taker_nav place =

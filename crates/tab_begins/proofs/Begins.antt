@@ -23,22 +23,20 @@ use Rattle.std.specs.Prelude.{option_map}
 use Rattle.calm_facts.proofs.Awakes.{awake_shown, lost_none, stand_each}
 use Rattle.tab_begins.proofs.Downs.{AllPlaced, IsInNeed, down}
 use Rattle.tab_begins.proofs.Standings.{all_of, in_place}
-use Rattle.tab_drops.proofs.ForCallers.{stand_reached}
-use Rattle.tab_drops.proofs.Turns.{each_stands}
-use Rattle.tab_drops.specs.Dropping.{AreUnheld, IsBare, IsLoadOf, IsUnsettled, StandOrMove}
+use Rattle.tab_one_pass.proofs.PassedOn.{each_stands, stand_reached}
+use Rattle.tab_one_pass.specs.Passing.{AreLeftStrays, AreUnheld, HasPassed, IsLeftStray, IsLoadOf, IsOpen, MayCause, MayServe, ParentsShown, StandOrMove, TakersServe}
+pub use Rattle.tab_one_pass.specs.Passing.{IsBare, IsUnsettled}
 use Rattle.tab_ids.specs.declared.DocId.{DocId}
 use Rattle.tab_ids.specs.declared.NavId.{NavId}
 use Rattle.tab_ids.specs.declared.ReqId.{ReqId}
 use Rattle.tab_ids.specs.declared.StateId.{StateId}
-use Rattle.tab_one_pass.proofs.Opens.{serve_on, takers_on}
-use Rattle.tab_one_pass.specs.Passing.{AreLeftStrays, HasPassed, IsLeftStray, IsOpen, TakersServe}
-use Rattle.tab_passes.proofs.Goings.{show_causes}
-use Rattle.tab_passes.specs.Causes.{MayCause, MayServe}
-use Rattle.tab_passes.specs.Passing.{InPass}
-use Rattle.tab_serves.proofs.Reached.{IsReachedAt, reached_at}
-use Rattle.tab_serves.specs.Serving.{ParentsShown}
-use Rattle.tab_sweeps.proofs.Loads.{loaded_never, of_load}
-use Rattle.tab_turns.specs.Turning.{LeavesAlone}
+pub use Rattle.tab_one_pass.proofs.Opens.{serve_on, takers_on}
+pub use Rattle.tab_one_pass.proofs.Gives.{show_causes}
+use Rattle.tab_one_pass.specs.PassedOn.{InPass}
+use Rattle.tab_one_pass.proofs.Stands.{IsReachedAt, reached_at}
+pub use Rattle.tab_one_pass.proofs.Calms.{loaded_never}
+pub use Rattle.tab_one_pass.proofs.Dropped.{of_load}
+use Rattle.tab_applies.specs.PassedOn.{LeavesAlone}
 use Rattle.tab_whole.specs.Tab.{IsTab}
 use Rattle.walk_facts.proofs.Placed.{found_nav}
 use Rattle.walk_rows.proofs.Moved.{run_moves}

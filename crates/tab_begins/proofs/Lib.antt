@@ -11,3 +11,4 @@ pub mod Queues
 pub mod Turns
 pub mod Nexts
 pub mod Stood
+pub mod PassedOn

@@ -1,10 +1,9 @@
 -- In a calm tab each awake navigable is where it is to be, and so it is as a traversal begins.
 use Rattle.calm_facts.proofs.Calms.{calm_rooted}
 use Rattle.calm_facts.proofs.Sames.{calm_same, sights_same}
-use Rattle.calm_facts.specs.Calm.{AreRooted, IsCalm, IsHere}
+use Rattle.calm_facts.specs.Calm.{AreRooted, IsCalm, IsHere, UnmovedAreHere}
 use Rattle.log_model.specs.Seen.{Place, Seen, awake, place_of}
 use Rattle.std.proofs.Common.{Some, inl, inr, ◌≡◌, ◌⊎◌}
-use Rattle.tab_begins.specs.Queueing.{UnmovedAreHere}
 use Rattle.tab_ids.specs.declared.DocId.{DocId}
 use Rattle.tab_ids.specs.declared.NavId.{NavId}
 

@@ -34,15 +34,14 @@ use Rattle.tab_ids.specs.declared.DocId.{DocId}
 use Rattle.tab_ids.specs.declared.NavId.{NavId}
 use Rattle.tab_ids.specs.declared.ReqId.{ReqId}
 use Rattle.tab_ids.specs.declared.StateId.{StateId}
-use Rattle.tab_one_pass.specs.Noting.{EntriesAreNoted, entered_in}
-use Rattle.tab_one_pass.specs.Passing.{AreLeftStrays, IsLeftStray}
-use Rattle.tab_passes.proofs.Leavings.{leaving_none}
-use Rattle.tab_passes.specs.Causes.{MayServe}
-use Rattle.tab_passes.specs.Leaving.{IsLeaving}
-use Rattle.tab_passes.specs.Passing.{InPass, IsPassing}
-use Rattle.tab_sweeps.proofs.Founds.{held, in_table, listed_here}
-use Rattle.tab_sweeps.proofs.Loads.{loaded_never, of_load}
-use Rattle.tab_sweeps.specs.Sweeping.{AreBlamed, IsBlamed, IsStray}
+pub use Rattle.tab_one_pass.specs.Noting.{EntriesAreNoted, entered_in}
+use Rattle.tab_one_pass.specs.Passing.{AreLeftStrays, IsLeftStray, MayServe}
+pub use Rattle.tab_one_pass.proofs.PassedOn.{held, in_table, leaving_none, listed_here}
+use Rattle.tab_one_pass.specs.PassedOn.{AreBlamed, InPass, IsLeaving, IsPassing}
+use Rattle.tab_one_pass.proofs.Calms.{loaded_never}
+use Rattle.tab_one_pass.proofs.Dropped.{of_load}
+pub use Rattle.tab_one_pass.proofs.Dropped.{IsBlamed}
+pub use Rattle.tab_one_pass.specs.Passing.{IsStray}
 use Rattle.tab_whole.specs.Tab.{IsTab}
 use Rattle.walk_facts.proofs.Placed.{found_nav}
 use Rattle.walk_rows.specs.Since.{WasAwake}

@@ -11,32 +11,29 @@ use Rattle.std.proofs.Common.{Bool, List, None, Option, Some, ap, refl, subst, s
 use Rattle.tab_applies.proofs.Dues.{own_nav}
 use Rattle.tab_applies.specs.Applying.{HasApplied, MayApply}
 use Rattle.calm_facts.specs.Calm.{IsCalmAround}
-use Rattle.tab_one_pass.proofs.Calms.{drops_calm}
-use Rattle.tab_begins.proofs.Afters.{aim_then, applied_last, around_then, documents_same, joined_same, joined_then, look_was, over_then, wishes_then, loads_then, open_then}
+use Rattle.tab_one_pass.proofs.Calms.{LeavesAll, drops_calm}
+use Rattle.tab_begins.proofs.Afters.{aim_then, applied_last, around_then, awake_then, documents_same, joined_same, joined_then, look_was, over_then, wishes_then, loads_then, open_then}
 use Rattle.tab_begins.proofs.Strays.{blamed_then}
-use Rattle.hang_facts.specs.Members.{Has}
-use Rattle.log_model.specs.History.{History}
 use Rattle.log_model.specs.Seen.{Place, place_in}
 use Rattle.tab_begins.specs.Taking.{HasTaken, IsOver, KeepsMade, KeepsQueue, MayTake, NoneBelow}
 use Rattle.tab_doors.specs.Working.{KeepsRun, KeepsStore}
 use Rattle.tab_doors.specs.declared.tables.Tables.{Tables}
-use Rattle.tab_drops.proofs.Turns.{below_back, reached_same}
-use Rattle.tab_drops.specs.Dropping.{AreUnheld, EndsLoads, HasOnlyDroppedBy, IsBare, IsBelowNav, IsLoadApplied, IsLoadOf, LeavesAll, StandOr, StandOrBare}
+use Rattle.tab_one_pass.proofs.PassedOn.{below_back}
+pub use Rattle.tab_one_pass.proofs.Passes.{reached_same}
+use Rattle.tab_one_pass.proofs.Dropped.{EndsLoads, moved_blamed}
+use Rattle.tab_one_pass.specs.PassedOn.{AreBlamed, InPass, IsBelowNav, IsLoadApplied, IsPassing, StandOr}
+use Rattle.tab_one_pass.specs.Passing.{AreUnheld, HasOnlyDroppedBy, IsBare, IsLoadOf, IsOpen, KeepsAwake, MayServe}
+pub use Rattle.tab_one_pass.specs.Passing.{StandOrBare}
 use Rattle.tab_ids.specs.declared.NavId.{NavId}
 use Rattle.tab_ids.specs.declared.ReqId.{ReqId}
 use Rattle.tab_ids.specs.declared.StateId.{StateId}
-use Rattle.tab_one_pass.proofs.Dropped.{moved_blamed}
 use Rattle.tab_one_pass.proofs.Opens.{open_left}
 use Rattle.tab_one_pass.specs.Noting.{AreNoted, EntriesAreNoted}
-use Rattle.tab_one_pass.specs.Passing.{IsOpen}
-use Rattle.tab_passes.specs.Causes.{MayServe}
-use Rattle.tab_passes.specs.Passing.{InPass, IsPassing}
 use Rattle.frame_facts.specs.Lasting.{wish}
 use Rattle.request_facts.proofs.Readers.{reads_then}
 use Rattle.log_model.specs.Equal.{has_req}
-use Rattle.tab_sweeps.specs.Sweeping.{AreBlamed}
-use Rattle.tab_turns.proofs.Turned.{turning_on}
-use Rattle.tab_turns.specs.Turning.{IsTurning}
+pub use Rattle.tab_applies.proofs.PassedOn.{turning_on}
+use Rattle.tab_applies.specs.PassedOn.{IsTurning}
 use Rattle.log_model.specs.declared.job.Why.TheVariants as whys
 
 module _ (p : InPass) (out : List RowKind) (t : Tables) (passing : IsPassing p out t) (nav : NavId) (load : Load) (at : load_in nav t.loads ≡ Some load) (idle : t.running ≡ None) (blame : List (StateId × ReqId)) (may : MayTake p.event blame nav load (now_of p.event out)) where
@@ -130,6 +127,12 @@ module _ (p : InPass) (out : List RowKind) (t : Tables) (passing : IsPassing p o
       taken_around =
           (drops_calm y x left).around (aim_then p out t passing nav load at idle may.may mid m mid_pass it) nav
           (subst (λ (o : NavId). IsCalmAround y o) own (around_then p out t passing nav load at idle may.may mid m mid_pass it may.passed.rows_))
+
+      -- who is awake stays so
+      pub taken_awake : KeepsAwake s x
+      taken_awake m_ doc was =
+          let then_ = awake_then p out t passing nav load at idle may.may mid m mid_pass it m_ doc was in
+          record { place = then_.place; placed = ap (λ (l : List Place). place_in l m_) left.places ∙ then_.placed; wakes = then_.wakes }
 
       pub taken_kept : KeepsRun t u
       taken_kept =

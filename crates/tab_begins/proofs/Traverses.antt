@@ -19,13 +19,13 @@ use Rattle.tab_begins.specs.Taking.{AreOldLoads, GoesOn, HasBegun, KeepsStrays}
 use Rattle.tab_doors.specs.declared.tables.Tables.{Tables}
 use Rattle.tab_ids.specs.declared.ReqId.{ReqId}
 use Rattle.tab_ids.specs.declared.Step.{Step}
-use Rattle.tab_one_pass.proofs.Passes.{left_blamed}
+pub use Rattle.tab_one_pass.proofs.Passes.{left_blamed}
 use Rattle.tab_one_pass.specs.Passing.{HasPassed}
-use Rattle.tab_passes.proofs.Aims.{aim_is}
-use Rattle.tab_passes.specs.Passing.{InPass, IsPassing}
-use Rattle.tab_sweeps.proofs.Bares.{own_document}
-use Rattle.tab_turns.proofs.Firsts.{IsWaitingFirst, first_waits}
-use Rattle.tab_turns.specs.Beginning.{HasGone, IsFirst, WentTo}
+use Rattle.tab_one_pass.proofs.Calms.{aim_is}
+use Rattle.tab_one_pass.specs.PassedOn.{InPass, IsPassing}
+pub use Rattle.tab_one_pass.proofs.PassedOn.{own_document}
+use Rattle.tab_applies.proofs.PassedOn.{IsWaitingFirst, first_waits}
+use Rattle.tab_applies.specs.PassedOn.{HasGone, IsFirst, WentTo}
 use Rattle.tab_whole.proofs.Beginning.{no_load}
 use Rattle.tab_whole.specs.Tab.{IsTab}
 use Rattle.log_model.specs.declared.outcome.Denial.TheVariants as denials

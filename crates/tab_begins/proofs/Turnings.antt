@@ -12,7 +12,7 @@ use Rattle.std.proofs.Common.{List, None, Some, [], ap, false, inl, inr, length,
 use Rattle.std.specs.Prelude.{nat_lt}
 use Rattle.tab_ids.specs.declared.ReqId.{ReqId}
 use Rattle.tab_one_pass.specs.Passing.{LeavesPass}
-use Rattle.tab_turns.specs.Turning.{IsTurning}
+use Rattle.tab_applies.specs.PassedOn.{IsTurning}
 
 pub turning_passed : (e : InEvent) (out more : List RowKind) → LeavesPass (now_of e out) (now_of e more) → IsTurning e out → IsTurning e more
 turning_passed e out more left turning =

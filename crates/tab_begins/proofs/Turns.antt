@@ -13,41 +13,44 @@ use Rattle.log_model.specs.Places.{all_stand, all_stand_in, is_ongoing_load}
 use Rattle.owed_facts.proofs.Requests.{req_same}
 use Rattle.std.proofs.lemmas.Bool.{and_parts}
 use Rattle.std.specs.Option.{option_map_or}
-use Rattle.std.specs.Prelude.{option_map}
+use Rattle.std.specs.Prelude.{map, option_map}
 use Rattle.tab_applies.specs.Applying.{MayApply}
 use Rattle.tab_begins.proofs.Readies.{ready_phase}
 use Rattle.tab_doors.specs.Working.{KeepsRun}
-use Rattle.tab_drops.proofs.ForCallers.{stand_reached}
-use Rattle.tab_drops.proofs.Turns.{tied_load}
-use Rattle.tab_drops.specs.Dropping.{IsLoadOf}
+use Rattle.tab_one_pass.proofs.PassedOn.{stand_reached, tied_load}
+use Rattle.load_doors.specs.Applying.{new_entry}
+use Rattle.navigate_core.specs.Navigations.{change_for}
+use Rattle.tab_drops.specs.Dropping.{row_of_drop}
+use Rattle.tab_one_pass.specs.Passing.{HasPassed, IsLoadOf, IsOpen, KeepsAwake, LoadsLive, MayCause, MayStand, StandOrBare, show_why}
 use Rattle.tab_ids.specs.declared.DocId.{DocId}
-use Rattle.tab_serves.proofs.Reached.{IsReachedAt, reached_at}
+pub use Rattle.tab_one_pass.proofs.Lives.{live_then, stand_awake}
+use Rattle.tab_one_pass.proofs.Stands.{IsReachedAt, reached_at}
 use Rattle.tab_whole.specs.Tab.{IsTab}
 use Rattle.load_table.specs.declared.phase.Phase.TheVariants as phases
-use Rattle.hang_facts.specs.Members.{Has}
-use Rattle.log_model.specs.Seen.{Asked, Place, Seen, place_in, request_of}
+use Rattle.home_facts.specs.Homes.{document_in}
+use Rattle.log_model.specs.Seen.{Asked, Document, Place, Seen, place_in, request_of}
+use Rattle.log_model.specs.declared.change.Change.{Change}
 use Rattle.log_model.specs.declared.row_kind.RowKind.{RowKind}
 use Rattle.move_queue.specs.declared.queue_step.QueueStep.{QueueStep}
 use Rattle.move_queue.specs.declared.queue_step.QueueStep.TheVariants.{Ready, Reload, Traverse}
 use Rattle.seen_laws.specs.InEvent.{now_of}
-use Rattle.std.proofs.Common.{Bool, List, None, Option, Some, [], ap, false, filter, inl, refl, subst, sym, true, ℕ, ℤ, ◌&&◌, ◌==◌, ◌||◌, ◌∙◌, ◌∷◌, ◌≡◌}
+use Rattle.std.proofs.Common.{Bool, List, None, Option, Some, [], ap, append-nil, append_assoc, false, filter, inl, refl, subst, sym, true, ℕ, ℤ, ◌&&◌, ◌++◌, ◌==◌, ◌||◌, ◌∙◌, ◌∷◌, ◌≡◌}
 use Rattle.tab_begins.proofs.Queues.{ahead, queue_passed, queue_traversed}
-use Rattle.calm_facts.specs.Calm.{AreRooted}
+use Rattle.calm_facts.specs.Calm.{AreRooted, IsCalmAround, UnmovedAreHere}
 use Rattle.calm_facts.proofs.Awakes.{calm_stood}
 use Rattle.tab_begins.proofs.Stood.{calm_begun}
-use Rattle.tab_begins.specs.Queueing.{HasQueue, IsAtRest, IsCalmFor, IsPassedOver, MayFollow, UnmovedAreHere, is_ready_in, is_there, is_traverse, load_in}
-use Rattle.tab_begins.specs.Taking.{AreOldLoads, GoesOn, HasBegun, IsOver, KeepsMade, KeepsQueue, KeepsStrays, MayTake}
+use Rattle.tab_begins.specs.Queueing.{HadTurn, HasGrown, HasQueue, IsAppliedNext, IsAtRest, IsCalmFor, IsPassedOver, MayFollow, is_ready_in, is_there, is_traverse, load_in}
+use Rattle.tab_begins.specs.Taking.{AreOldLoads, GoesOn, HasBegun, HasTaken, IsOver, KeepsMade, KeepsQueue, KeepsStrays, MayTake}
 use Rattle.tab_doors.specs.declared.tables.Tables.{Tables}
 use Rattle.tab_ids.specs.declared.NavId.{NavId}
 use Rattle.tab_ids.specs.declared.ReqId.{ReqId}
 use Rattle.tab_ids.specs.declared.StateId.{StateId}
-use Rattle.tab_one_pass.specs.Passing.{HasPassed, IsOpen, MayStand}
-use Rattle.tab_passes.proofs.Goings.{show_causes}
-use Rattle.tab_passes.specs.Causes.{MayCause, show_why}
-use Rattle.tab_passes.specs.Passing.{InPass, IsPassing}
-use Rattle.tab_turns.specs.Beginning.{HasGone, IsFirst, WentTo}
-use Rattle.tab_turns.specs.Turning.{IsTurning}
+use Rattle.tab_one_pass.proofs.Gives.{show_causes}
+use Rattle.tab_one_pass.specs.PassedOn.{AreBlamed, InPass, IsPassing}
+use Rattle.tab_applies.specs.PassedOn.{HasGone, IsFirst, IsTurning, WentTo}
 use Rattle.log_model.specs.declared.job.Why.TheVariants as whys
+use Rattle.log_model.specs.declared.outcome.Denial.TheVariants as denials
+use Rattle.log_model.specs.declared.row_kind.RowKind.TheVariants as rows
 
 -- nothing was done
 pub made_same : (s : Seen) → KeepsMade s s
@@ -83,14 +86,14 @@ module _ (p : InPass) (out : List RowKind) (t : Tables) (passing : IsPassing p o
         queue_traversed p.event out more t u req delta (subst (λ (d : ℤ). HasGone p.event out more t u req d) same gone) p.loads p.hand (subst (λ (r : Option ReqId). IsTab r p.loads p.hand s) rests.idle passing.going.tab) rests.idle were rest its_queue
 
   -- after it, where one runs a pass may follow
-  module _ (more : List RowKind) (u : Tables) (then_ : IsPassing p more u) (goes : GoesOn p.event u.running (now_of p.event more)) (calm : UnmovedAreHere (now_of p.event more) × AreRooted (now_of p.event more)) (strays : KeepsStrays (now_of p.event out) (now_of p.event more)) where
+  module _ (more : List RowKind) (u : Tables) (then_ : IsPassing p more u) (goes : GoesOn p.event u.running (now_of p.event more)) (calm : UnmovedAreHere (now_of p.event more) × AreRooted (now_of p.event more)) (strays : KeepsStrays (now_of p.event out) (now_of p.event more)) (live : LoadsLive (now_of p.event more)) where
     abbrev n : Seen
     n = now_of p.event more
 
     -- it was refused
     pub after_refused : u.running ≡ None → IsAtRest p.event u.running blame n
     after_refused idle_ =
-        record { idle = idle_; passed = subst (λ (r : Option ReqId). GoesOn p.event r n) idle_ goes; strays = strays.left blame rests.strays }
+        record { idle = idle_; passed = subst (λ (r : Option ReqId). GoesOn p.event r n) idle_ goes; strays = strays.left blame rests.strays; loading = live.loading }
 
     -- it has begun
     pub after_begun : (req : ReqId) → u.running ≡ Some req → MayFollow p.event u.running blame req n
@@ -100,6 +103,7 @@ module _ (p : InPass) (out : List RowKind) (t : Tables) (passing : IsPassing p o
           loads = subst (λ (r : Option ReqId). MayStand r n) (sym ran) begun.loads;
           blamed = strays.blamed blame rests.strays;
           calm = subst (λ (r : Option ReqId). IsCalmFor r n) (sym ran) calm;
+          live = live;
         }
       where
         begun : HasBegun p.event req n
@@ -107,6 +111,9 @@ module _ (p : InPass) (out : List RowKind) (t : Tables) (passing : IsPassing p o
 
         its : MayCause n (whys.Req req)
         its = subst (λ (r : Option ReqId). MayCause n (show_why r whys.Start)) ran (show_causes n u.running then_.going.tab.asked whys.Start (λ r never. absurd cc))
+
+    pub begun_came : (req : ReqId) → u.running ≡ Some req → HadTurn out more req u.running × MayFollow p.event u.running blame req n
+    begun_came req ran = (subst (HadTurn out more req) (sym ran) refl, after_begun req ran)
 
   -- as it begins, nobody was moved by it
   pub traverse_calm : (more : List RowKind) (u : Tables) (req : ReqId) (delta : ℤ) → HasGone p.event out more t u req delta → UnmovedAreHere (now_of p.event more) × AreRooted (now_of p.event more)
@@ -123,6 +130,29 @@ module _ (p : InPass) (out : List RowKind) (t : Tables) (passing : IsPassing p o
       stand_then : all_stand n n.history.current ≡ true
       stand_then =
           ap (λ (h : History). all_stand_in h.rows n.places h.current) gone.history ∙ ap (λ (l : List Place). all_stand_in s.history.rows l s.history.current) gone.alone.places ∙ stand
+
+  -- ongoing loads live on
+  live_now : LoadsLive s
+  live_now = record { awake = stand_awake t.running p.loads p.hand s tab rests.passed.walked.loads; loading = rests.loading }
+
+  live_over : (n : Seen) → AreOldLoads s n → KeepsAwake s n → n.documents ≡ s.documents → LoadsLive n
+  live_over n were wakes documents =
+      live_then s n were wakes (λ state is one. record { doc = one.doc; d = one.d; found = ap (λ (l : List Document). document_in l one.doc) documents ∙ one.found; of_state = one.of_state; there = one.there }) live_now
+
+  pub traverse_live : (more : List RowKind) (u : Tables) (req : ReqId) (delta : ℤ) → HasGone p.event out more t u req delta → AreOldLoads s (now_of p.event more) → LoadsLive (now_of p.event more)
+  traverse_live more u req delta gone were =
+      live_over (now_of p.event more) were (λ nav doc was. record { place = was.place; placed = ap (λ (l : List Place). place_in l nav) gone.alone.places ∙ was.placed; wakes = was.wakes }) gone.alone.documents
+
+  pub load_live : (more : List RowKind) → KeepsQueue s (now_of p.event more) → KeepsAwake s (now_of p.event more) → LoadsLive (now_of p.event more)
+  load_live more kept wakes = live_over (now_of p.event more) kept.loads wakes kept.documents
+
+  -- what was put out
+  pub traverse_grown : (more : List RowKind) (u : Tables) (req : ReqId) (delta : ℤ) → HasGone p.event out more t u req delta → HasGrown out more
+  traverse_grown more u req delta gone = by_step (step_at_delta s delta) gone.went
+    where
+      by_step : (o : Option ℕ) → WentTo out more t u req o → HasGrown out more
+      by_step None went = record { more = rows.Refused req denials.NoStep ∷ []; is = went.0 }
+      by_step (Some step_) went = record { more = rows.Started req (Some (record { 0 = step_ })) ∷ []; is = went.0 }
 
   -- what was made, and by whom, is as it was
   pub traverse_made : (more : List RowKind) (u : Tables) (req : ReqId) (delta : ℤ) → HasGone p.event out more t u req delta → KeepsMade s (now_of p.event more)
@@ -223,3 +253,52 @@ module _ (p : InPass) (out : List RowKind) (t : Tables) (passing : IsPassing p o
 
         unready : (q : Asked) → request_of s req ≡ Some q → is_ready_load s q ≡ true → loads nav q.what ≡ true → ⊥
         unready q at ready its = by_has q at ready (passing.work.loads.all req q nav at (and_parts (is_ongoing_load q) (has_document s q) ready).0 its)
+
+-- ---- whose turn it was
+
+-- the load's that was applied, and a pass may follow for it
+pub after_applied : (p : InPass) (out : List RowKind) (t : Tables) → t.running ≡ None → (nav : NavId) (load : Load) (more : List RowKind) → HasTaken p.event t nav load out more → (req : ReqId) → load.req ≡ req → (u : Tables) → KeepsRun t u → (noted : List (StateId × ReqId)) → IsOpen p.event u.running (whys.Req req) (now_of p.event more) → StandOrBare (now_of p.event more) → AreBlamed (now_of p.event more) noted → IsCalmAround (now_of p.event more) nav → LoadsLive (now_of p.event more) → HadTurn out more req u.running × MayFollow p.event u.running noted req (now_of p.event more)
+after_applied p out t idle nav load more taken req is u keeps noted open_ stand blamed around live = (
+  subst (HadTurn out more req) (sym runs) applied,
+  record {
+    open_ = open_;
+    loads = subst (λ (r : Option ReqId). MayStand r n) (sym runs) stand;
+    blamed = blamed;
+    calm = subst (λ (r : Option ReqId). IsCalmFor r n) (sym runs) (nav, around);
+    live = live;
+  },
+)
+  where
+    n : Seen
+    n = now_of p.event more
+
+    runs : u.running ≡ None
+    runs = keeps.running ∙ idle
+
+    change : Change
+    change = change_for load taken.over (new_entry t)
+
+    later : List RowKind
+    later = map row_of_drop taken.drops.drops
+
+    applied : IsAppliedNext out more req
+    applied =
+        record {
+          change = change;
+          later = later;
+          is = taken.drops.is ∙ ap (λ (l : List RowKind). l ++ later) taken.is ∙ append_assoc out (rows.Applied load.req change ∷ []) later ∙ ap (λ (r : ReqId). out ++ rows.Applied r change ∷ later) is;
+        }
+
+-- ---- what was put out
+
+-- nothing
+pub grown_none : (out : List RowKind) → HasGrown out out
+grown_none out = record { more = []; is = sym (append-nil out) }
+
+-- the load's row, and drops
+pub load_grown : (p : InPass) (out : List RowKind) (t : Tables) (nav : NavId) (load : Load) (more : List RowKind) → HasTaken p.event t nav load out more → HasGrown out more
+load_grown p out t nav load more taken =
+    record {
+      more = rows.Applied load.req (change_for load taken.over (new_entry t)) ∷ map row_of_drop taken.drops.drops;
+      is = taken.drops.is ∙ ap (λ (l : List RowKind). l ++ map row_of_drop taken.drops.drops) taken.is ∙ append_assoc out (rows.Applied load.req (change_for load taken.over (new_entry t)) ∷ []) (map row_of_drop taken.drops.drops);
+    }

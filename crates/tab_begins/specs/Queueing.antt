@@ -1,6 +1,7 @@
 -- The queue of a tab with loads: the traversals that joined, in order, and a step for each ready load; and what is so once steps have had their turns.
 -- HTML Standard, "session history traversal queue" and "traverse the history by a delta"; that ready loads wait in it is this project's own.
-use Rattle.calm_facts.specs.Calm.{AreRooted, IsCalmAround, IsHere}
+use Rattle.calm_facts.specs.Calm.{AreRooted, IsCalmAround, UnmovedAreHere}
+use Rattle.calm_facts.specs.Loads.{LoadsHaveDocuments}
 use Rattle.hang_facts.specs.Members.{Has}
 use Rattle.load_table.specs.Loads.{ongoing_load}
 use Rattle.load_table.specs.declared.load.Load.{Load}
@@ -8,29 +9,28 @@ use Rattle.load_table.specs.declared.phase.Phase.{Phase}
 use Rattle.log_model.specs.ActsAtOnce.{is_ready_load}
 use Rattle.log_model.specs.Equal.{holds}
 use Rattle.log_model.specs.Once.{delta_of, loads}
-use Rattle.log_model.specs.History.{has_row}
-use Rattle.log_model.specs.Places.{all_stand, is_moved}
-use Rattle.log_model.specs.Seen.{Asked, Place, Seen, awake, place_of, request_in, request_of}
+use Rattle.log_model.specs.Places.{all_stand}
+use Rattle.log_model.specs.Seen.{Asked, Seen, request_in, request_of}
 use Rattle.move_queue.specs.declared.queue_step.QueueStep.{QueueStep}
 use Rattle.move_queue.specs.declared.queue_step.QueueStep.TheVariants.{Ready, Reload, Traverse}
 use Rattle.request_facts.proofs.Readers.{SameReads}
 use Rattle.seen_laws.specs.InEvent.{InEvent, now_of}
-use Rattle.std.specs.Prelude.{Bool, List, None, Option, Some, [], false, filter, if◌then◌else◌, length, option_and_then, true, ℤ, ◌&&◌, ◌<◌, ◌==◌, ◌∷◌, ◌≡◌, ◌⊎◌}
+use Rattle.std.specs.Prelude.{Bool, List, None, Option, Some, [], false, filter, length, option_and_then, true, ℤ, ◌++◌, ◌&&◌, ◌<◌, ◌==◌, ◌∷◌, ◌≡◌, ◌⊎◌}
 use Rattle.tab_begins.specs.declared.turn.Turn.{Turn}
 use Rattle.tab_begins.specs.declared.turn.Turn.TheVariants.{Rests, Refused, Went}
+use Rattle.log_model.specs.declared.change.Change.{Change}
 use Rattle.log_model.specs.declared.job.Why.{Why}
 use Rattle.log_model.specs.declared.row_kind.RowKind.{RowKind}
-use Rattle.tab_passes.specs.Causes.{MayCause}
+pub use Rattle.tab_one_pass.specs.Passing.{AreLeftStrays, HasPassed, IsOpen, LoadsLive, MayCause, MayStand}
 use Rattle.tab_doors.specs.declared.tables.Tables.{Tables}
-use Rattle.tab_ids.specs.declared.DocId.{DocId}
 use Rattle.tab_ids.specs.declared.NavId.{NavId}
 use Rattle.tab_ids.specs.declared.ReqId.{ReqId}
 use Rattle.tab_ids.specs.declared.StateId.{StateId}
 use Rattle.std.specs.Option.{option_map_or}
-use Rattle.tab_one_pass.specs.Passing.{AreLeftStrays, HasPassed, IsOpen, MayStand}
-use Rattle.tab_sweeps.specs.Sweeping.{AreBlamed}
+pub use Rattle.tab_one_pass.specs.PassedOn.{AreBlamed}
 use Rattle.load_table.specs.declared.phase.Phase.TheVariants as phases
 use Rattle.log_model.specs.declared.job.Why.TheVariants as whys
+use Rattle.log_model.specs.declared.row_kind.RowKind.TheVariants as rows
 
 -- ---- the steps that wait
 
@@ -98,28 +98,25 @@ pub record LeavesQueue (s t : Seen) : Type 0 where
 
 -- ---- once steps have had their turns
 
--- who is awake, has an entry and wasn't moved by the traversal that runs, is where it is to be at the current step
-abbrev pub UnmovedAreHere : Seen → Type 0
-UnmovedAreHere s =
-    (nav : NavId) (place : Place) (doc : DocId) → place_of s nav ≡ Some place → place.status ≡ awake doc → has_row nav s.history.rows ≡ true → is_moved s nav ≡ false → IsHere s place
-
 -- how calm the tab is then: but for a load's navigable and those below, or for whom the traversal has moved
 abbrev pub IsCalmFor : Option ReqId → Seen → Type 0
 IsCalmFor None s = (at : NavId) × IsCalmAround s at
 IsCalmFor (Some run) s = UnmovedAreHere s × AreRooted s
 
--- a pass may follow, for the request that has begun or was applied
+-- a pass may follow, for the request that has begun or was applied; and ongoing loads live on
 pub record MayFollow (e : InEvent) (run : Option ReqId) (blame : List (StateId × ReqId)) (req : ReqId) (s : Seen) : Type 0 where
   pub open_ : IsOpen e run (whys.Req req) s
   pub loads : MayStand run s
   pub blamed : AreBlamed s blame
   pub calm : IsCalmFor run s
+  pub live : LoadsLive s
 
 -- no traversal runs, and all is as after a pass
 pub record IsAtRest (e : InEvent) (run : Option ReqId) (blame : List (StateId × ReqId)) (s : Seen) : Type 0 where
   pub idle : run ≡ None
   pub passed : HasPassed e s
   pub strays : AreLeftStrays s blame
+  pub loading : LoadsHaveDocuments s
 
 -- all stand at the current step, and orders may be for whom they might before
 pub record IsPassedOver (s n : Seen) : Type 0 where
@@ -148,10 +145,23 @@ is_due_in table (Ready req nav) = is_ready_in table nav req
 is_due_in table (Traverse req delta) = true
 is_due_in table (Reload req nav) = true
 
--- the steps from the first one on that is due
-abbrev pub from_due : List Load → List QueueStep → List QueueStep
-from_due table [] = []
-from_due table (step ∷ steps) = if is_due_in table step then step ∷ steps else from_due table steps
+-- none of these steps is due
+abbrev pub AreUndue : List Load → List QueueStep → Type 0
+AreUndue table steps = (step : QueueStep) → Has steps step → is_due_in table step ≡ false
+
+-- the step is the first that is due, and these wait behind it
+pub record IsFirstDue (table : List Load) (waiting : List QueueStep) (step : QueueStep) (rest : List QueueStep) : Type 0 where
+  pub before : List QueueStep
+  pub whole : waiting ≡ before ++ step ∷ rest
+  pub undue : AreUndue table before
+  pub due : is_due_in table step ≡ true
+
+-- ---- what is put out
+
+-- the rows that were put out stand behind those that were there
+pub record HasGrown (was out : List RowKind) : Type 0 where
+  pub more : List RowKind
+  pub is : out ≡ was ++ more
 
 -- ---- whose turn is next
 
@@ -162,11 +172,22 @@ pub record HasRested (e : InEvent) (t u : Tables) (was blame : List (StateId × 
   pub noted : blame ≡ was
   pub why : (all_stand (now_of e old) (now_of e old).history.current ≡ false) ⊎ (waiting ≡ [])
 
--- what the turn came to: nothing was done; or a traversal was refused, and all is as after a pass; or a request has begun or was applied, so that a pass may follow for it
+-- the request was applied by the next row
+pub record IsAppliedNext (old new : List RowKind) (req : ReqId) : Type 0 where
+  pub change : Change
+  pub later : List RowKind
+  pub is : new ≡ old ++ rows.Applied req change ∷ later
+
+-- whose turn it was: the traversal that runs now, or, where none does, the load that was applied
+abbrev pub HadTurn : List RowKind → List RowKind → ReqId → Option ReqId → Type 0
+HadTurn old new req None = IsAppliedNext old new req
+HadTurn old new req (Some run) = run ≡ req
+
+-- what the turn came to: nothing was done; or a traversal was refused, and all is as after a pass; or the request whose turn it was has begun or was applied, so that a pass may follow for it
 abbrev pub CameTo : InEvent → Tables → Tables → List (StateId × ReqId) → List (StateId × ReqId) → List RowKind → List RowKind → List QueueStep → Turn → Type 0
 CameTo e t u was blame old new waiting Rests = HasRested e t u was blame old new waiting
 CameTo e t u was blame old new waiting Refused = IsAtRest e u.running blame (now_of e new) × IsPassedOver (now_of e old) (now_of e new)
-CameTo e t u was blame old new waiting (Went req) = MayFollow e u.running blame req (now_of e new)
+CameTo e t u was blame old new waiting (Went req) = HadTurn old new req u.running × MayFollow e u.running blame req (now_of e new)
 
 -- where a step had its turn, fewer wait
 abbrev pub FewerWait : List QueueStep → List QueueStep → Turn → Type 0

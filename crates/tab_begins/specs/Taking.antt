@@ -1,13 +1,11 @@
 -- The turns of a ready load and of a traversal: what they ask of the log, what they put out, and that a pass may follow.
 -- HTML Standard, "finalize a cross-document navigation", "navigate" and "traverse the history by a delta"; that a load waits in the queue until all stand is this project's own.
 use Rattle.frame_facts.specs.Lasting.{wish}
-use Rattle.hang_facts.specs.Members.{Has}
 use Rattle.load_doors.specs.Applying.{new_entry}
 use Rattle.load_facts.specs.Loading.{Look, is_ongoing, look_of}
 use Rattle.load_table.specs.declared.load.Load.{Load}
 use Rattle.log_model.specs.Seen.{Place, Seen, place_of}
 use Rattle.log_model.specs.declared.job.Why.{Why}
-use Rattle.log_model.specs.declared.row.Row.{Row}
 use Rattle.log_model.specs.declared.row_kind.RowKind.{RowKind}
 use Rattle.navigate_core.specs.Navigations.{change_for}
 use Rattle.request_facts.proofs.Readers.{SameReads}
@@ -15,14 +13,13 @@ use Rattle.seen_laws.specs.InEvent.{InEvent, now_of}
 use Rattle.std.specs.Prelude.{List, None, Option, Some, [], false, true, ◌++◌, ◌∷◌, ◌≡◌}
 use Rattle.tab_applies.specs.Applying.{MayApply}
 use Rattle.tab_doors.specs.declared.tables.Tables.{Tables}
-use Rattle.tab_drops.specs.Dropping.{HasOnlyDroppedBy, IsBelowNav, IsLoadOf, StandOrMove}
+use Rattle.tab_one_pass.specs.PassedOn.{AreBlamed, IsBelowNav}
+use Rattle.tab_one_pass.specs.Passing.{AreLeftStrays, HasOnlyDroppedBy, HasPassed, IsOpen, MayCause}
+pub use Rattle.tab_one_pass.specs.Passing.{IsLoadOf, StandOrMove}
 use Rattle.tab_ids.specs.declared.EntryId.{EntryId}
 use Rattle.tab_ids.specs.declared.NavId.{NavId}
 use Rattle.tab_ids.specs.declared.ReqId.{ReqId}
 use Rattle.tab_ids.specs.declared.StateId.{StateId}
-use Rattle.tab_one_pass.specs.Passing.{AreLeftStrays, HasPassed, IsOpen}
-use Rattle.tab_passes.specs.Causes.{MayCause}
-use Rattle.tab_sweeps.specs.Sweeping.{AreBlamed}
 use Rattle.log_model.specs.declared.row_kind.RowKind.TheVariants as rows
 
 -- it may be applied, after a pass, for each of whose stray documents that are left a request is noted

@@ -1,10 +1,10 @@
 //! The next step of the queue has its turn, where one may.
-ghost use Rattle.std.specs.Prelude.{◌≡◌, ◌∷◌, [], None, OnOk, IfOk, IfNone, IfSome};
+ghost use Rattle.std.specs.Prelude.{◌≡◌, [], None, OnOk, IfOk, IfNone, IfSome};
 ghost use Rattle.seen_laws.specs.InEvent.{now_of};
-ghost use Rattle.tab_begins.specs.Queueing.{CameTo, FewerWait, HasQueue, IsAtRest, from_due, is_due_in, is_ready_in, is_there};
+ghost use Rattle.tab_begins.specs.Queueing.{AreUndue, CameTo, FewerWait, HasGrown, HasQueue, IsAtRest, IsFirstDue, is_due_in, is_ready_in, is_there};
 ghost use Rattle.tab_begins.specs.Taking.{KeepsMade};
-ghost use Rattle.tab_passes.specs.Passing.{InPass, IsPassing};
-ghost use Rattle.tab_turns.specs.Turning.{IsTurning};
+ghost use Rattle.tab_one_pass.specs.PassedOn.{InPass, IsPassing};
+ghost use Rattle.tab_applies.specs.PassedOn.{IsTurning};
 
 use crate::taking::take_load;
 use crate::traversing::take_traversal;
@@ -52,8 +52,8 @@ fn is_due(loads: &LoadTable, step: &QueueStep) -> bool
 
 /// The first step that is due is taken off the queue, and so are those of loads that have ended before it.
 fn next_due(queue: &mut MoveQueue, loads: &LoadTable) -> Option<QueueStep>
-    ensures next { IfSome result (λ step. from_due loads.now queue.old.waiting ≡ step ∷ queue.new.waiting) }
-    ensures none { IfNone result (from_due loads.now queue.old.waiting ≡ []) }
+    ensures next { IfSome result (λ step. IsFirstDue loads.now queue.old.waiting step queue.new.waiting) }
+    ensures none { IfNone result (AreUndue loads.now queue.old.waiting) }
     ensures empty { IfNone result (queue.new.waiting ≡ []) }
     ensures parked { queue.new.parked ≡ queue.old.parked }
 {
@@ -87,6 +87,7 @@ pub fn begin_next(
     ensures fewer { IfOk result (λ turn. FewerWait queue.old.waiting queue.new.waiting turn) }
     ensures made { OnOk result (KeepsMade (now_of p.event out.old) (now_of p.event out.new)) }
     ensures keep { OnOk result (tables.new.kept.keep ≡ tables.old.kept.keep) }
+    ensures grown { OnOk result (HasGrown out.old out.new) }
     ensures parked { queue.new.parked ≡ queue.old.parked }
 {
     let current = tables.store.current();

@@ -4,9 +4,8 @@ ghost use Rattle.log_model.specs.Places.{all_stand};
 ghost use Rattle.seen_laws.specs.InEvent.{now_of};
 ghost use Rattle.tab_begins.specs.Taking.{AreOldLoads, GoesOn, KeepsStrays};
 ghost use Rattle.tab_one_pass.specs.Passing.{HasPassed};
-ghost use Rattle.tab_passes.specs.Passing.{InPass, IsPassing};
-ghost use Rattle.tab_turns.specs.Beginning.{HasGone, IsFirst};
-ghost use Rattle.tab_turns.specs.Turning.{IsTurning};
+ghost use Rattle.tab_one_pass.specs.PassedOn.{InPass, IsPassing};
+ghost use Rattle.tab_applies.specs.PassedOn.{HasGone, IsFirst, IsTurning};
 
 use address::OutOfMemory;
 use log_model::Out;

@@ -38,11 +38,11 @@ use Rattle.tab_drops.proofs.Loads.{asked_for, load_held, open_of}
 use Rattle.tab_drops.proofs.Turns.{tied_load}
 use Rattle.tab_drops.specs.Dropping.{ArePlaced, AreUnheld, IsBare, IsLoadOf}
 use Rattle.tab_drops.specs.Ways.{bare_load_in}
-use Rattle.tab_going.proofs.Counts.{count_few}
-use Rattle.tab_going.specs.Going.{count_of, has_ended}
+use Rattle.tab_moves.proofs.PassedOn.{count_few}
+use Rattle.tab_moves.specs.PassedOn.{IsPassing, count_of, has_ended}
 use Rattle.tab_ids.specs.declared.NavId.{NavId}
 use Rattle.tab_ids.specs.declared.ReqId.{ReqId}
-use Rattle.tab_passes.specs.Passing.{InPass, IsPassing}
+use Rattle.tab_moves.specs.Moving.{InPass}
 use Rattle.walk_facts.proofs.Placed.{found_nav}
 use Rattle.walk_rows.proofs.Needs.{dropped_stood}
 use Rattle.log_model.specs.declared.outcome.Cause.TheVariants as causes

@@ -32,8 +32,10 @@ use Rattle.tab_drops.specs.Dropping.{IsLoadOf, IsUnsettled}
 use Rattle.tab_drops.specs.Turns.{GivesWay, IsByLoad}
 use Rattle.tab_ids.specs.declared.NavId.{NavId}
 use Rattle.tab_ids.specs.declared.ReqId.{ReqId}
-use Rattle.tab_passes.proofs.Aims.{aim_is}
-use Rattle.tab_passes.specs.Passing.{InPass, IsPassing, aim_in}
+use Rattle.tab_moves.proofs.Needing.{aim_is}
+use Rattle.tab_moves.specs.PassedOn.{IsPassing}
+use Rattle.tab_moves.specs.Moving.{InPass}
+use Rattle.tab_moves.specs.Showing.{aim_in}
 use Rattle.walk_rows.proofs.Needs.{dropped_stood, need_not_all_stand, need_stands_not}
 use Rattle.log_model.specs.declared.outcome.Cause.TheVariants as causes
 use Rattle.log_model.specs.declared.row_kind.RowKind.TheVariants as rows

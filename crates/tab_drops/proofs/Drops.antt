@@ -4,7 +4,7 @@ use Rattle.coord_facts.proofs.Unread.{next}
 use Rattle.each_facts.specs.Runs.{is_this}
 use Rattle.entry_facts.proofs.Skips.{without_made}
 use Rattle.frame_facts.specs.Lasting.{wish}
-use Rattle.last_facts.proofs.Rows.{dropped_lasting}
+use Rattle.tab_moves.proofs.PassedOn.{IsUnheld, at_most_once, dropped_going, dropped_lasting, dropped_tab, unheld_end, unheld_hand, unheld_loads, way_unheld}
 use Rattle.load_doors.specs.Loading.{IsOpenHere}
 use Rattle.load_facts.specs.Loading.{Look, is_ongoing, look, look_of}
 use Rattle.load_whereabouts.specs.Whereabouts.{times_on_way}
@@ -32,16 +32,12 @@ use Rattle.tab_doors.specs.Working.{IsAtWork, KeepsStore}
 use Rattle.tab_doors.specs.declared.tables.Tables.{Tables}
 use Rattle.tab_drops.proofs.Loads.{IsAskedFor, asked_for, open_of}
 use Rattle.tab_drops.specs.Dropping.{AreUnheld, IsLoadOf, LeavesAll}
-use Rattle.tab_going.proofs.Rows.{dropped_going}
-use Rattle.tab_going.specs.Going.{IsGoing}
+use Rattle.tab_moves.proofs.Makings.{IsGoing}
 use Rattle.tab_ids.specs.declared.NavId.{NavId}
 use Rattle.tab_ids.specs.declared.ReqId.{ReqId}
-use Rattle.tab_passes.proofs.Goings.{goes_on}
-use Rattle.tab_passes.specs.Causes.{MayServe}
-use Rattle.tab_passes.specs.Passing.{InPass, IsPassing}
-use Rattle.tab_whole.proofs.Ending.{dropped_tab}
-use Rattle.tab_whole.proofs.Where.{IsUnheld, at_most_once, unheld_end, unheld_hand, unheld_loads, way_unheld}
-use Rattle.tab_whole.specs.Tab.{IsTab}
+use Rattle.tab_moves.proofs.Frees.{goes_on}
+use Rattle.tab_moves.specs.PassedOn.{IsPassing, IsTab, MayServe}
+use Rattle.tab_moves.specs.Moving.{InPass}
 use Rattle.walk_rows.proofs.Moved.{dropped_moved}
 use Rattle.log_model.specs.declared.outcome.Ending.TheVariants as endings
 use Rattle.log_model.specs.declared.row_kind.RowKind.TheVariants as rows

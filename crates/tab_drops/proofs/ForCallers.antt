@@ -27,8 +27,8 @@ use Rattle.tab_drops.proofs.Loads.{IsAskedFor, IsNavLoad, asked_for, nav_load}
 use Rattle.tab_drops.specs.Dropping.{ArePlaced, AreUnheld, IsBare, IsLoadApplied, IsLoadOf, IsUnsettled, StandOrBare, StandOrMove}
 use Rattle.tab_ids.specs.declared.NavId.{NavId}
 use Rattle.tab_ids.specs.declared.ReqId.{ReqId}
-use Rattle.tab_passes.specs.Passing.{InPass, IsPassing}
-use Rattle.tab_whole.specs.Tab.{IsTab}
+use Rattle.tab_moves.specs.PassedOn.{IsPassing, IsTab}
+use Rattle.tab_moves.specs.Moving.{InPass}
 use Rattle.doc_facts.specs.Docs.{HasPlace}
 use Rattle.log_model.specs.declared.made.Made.{Made}
 use Rattle.log_model.specs.declared.outcome.Ending.TheVariants as endings

@@ -14,7 +14,8 @@ use Rattle.tab_drops.specs.Listing.{AreListed}
 use Rattle.tab_drops.specs.Turns.{IsDropping, IsTurnAt}
 use Rattle.tab_ids.specs.declared.NavId.{NavId}
 use Rattle.tab_ids.specs.declared.ReqId.{ReqId}
-use Rattle.tab_passes.specs.Passing.{InPass, IsPassing}
+use Rattle.tab_moves.specs.PassedOn.{IsPassing}
+use Rattle.tab_moves.specs.Moving.{InPass}
 
 module _ (p : InPass) (was : List RowKind) (t : Tables) (begins : IsPassing p was t) (navs listed_ : List NavId) (same : navs ≡ listed_) (are : AreListed t.tree t.loads listed_) where
   abbrev s0 : Seen

@@ -24,8 +24,8 @@ use Rattle.tab_drops.specs.Turns.{GivesWay, IsAnyNav, IsFor, IsTurnAt}
 use Rattle.tab_drops.specs.Ways.{bare_load_in, is_unsettled_in}
 use Rattle.tab_ids.specs.declared.NavId.{NavId}
 use Rattle.tab_ids.specs.declared.ReqId.{ReqId}
-use Rattle.tab_passes.specs.Passing.{InPass, IsPassing}
-use Rattle.tab_passes.specs.Sleepers.{is_below_in}
+use Rattle.tab_moves.specs.PassedOn.{IsPassing, is_below_in}
+use Rattle.tab_moves.specs.Moving.{InPass}
 use Rattle.log_model.specs.declared.outcome.Cause.TheVariants as causes
 use Rattle.log_model.specs.declared.row_kind.RowKind.TheVariants as rows
 

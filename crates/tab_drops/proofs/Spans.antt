@@ -21,8 +21,9 @@ use Rattle.tab_drops.specs.Listing.{AreListed}
 use Rattle.tab_drops.specs.Turns.{IsAmong, IsDropping, IsOfFirst, IsTurnAt}
 use Rattle.tab_ids.specs.declared.NavId.{NavId}
 use Rattle.tab_ids.specs.declared.ReqId.{ReqId}
-use Rattle.tab_passes.proofs.Keeps.{kept_none, kept_then}
-use Rattle.tab_passes.specs.Passing.{InPass, IsPassing}
+use Rattle.tab_moves.proofs.PassedOn.{kept_none, kept_then}
+use Rattle.tab_moves.specs.PassedOn.{IsPassing}
+use Rattle.tab_moves.specs.Moving.{InPass}
 
 -- ---- what was put out
 

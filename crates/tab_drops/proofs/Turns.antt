@@ -34,7 +34,8 @@ use Rattle.tab_drops.specs.Listing.{AreOwn}
 use Rattle.tab_drops.specs.Turns.{GivesWay, IsAnyNav, IsTurnAt}
 use Rattle.tab_ids.specs.declared.NavId.{NavId}
 use Rattle.tab_ids.specs.declared.ReqId.{ReqId}
-use Rattle.tab_passes.specs.Passing.{InPass, IsPassing}
+use Rattle.tab_moves.specs.PassedOn.{IsPassing}
+use Rattle.tab_moves.specs.Moving.{InPass}
 use Rattle.walk_facts.specs.Serving.{is_needing, is_stopping}
 use Rattle.walk_rows.specs.Since.{IsVisitedInNeed}
 use Rattle.log_model.specs.declared.request.Request.TheVariants as requests

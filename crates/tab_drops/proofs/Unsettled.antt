@@ -30,12 +30,11 @@ use Rattle.tab_drops.specs.Dropping.{IsBelowNav, IsUnsettled}
 use Rattle.tab_drops.proofs.Climbs.{needs_within}
 use Rattle.tab_drops.specs.Ways.{any_needing_in, is_needing_in, is_unsettled_in}
 use Rattle.tab_ids.specs.declared.NavId.{NavId}
-use Rattle.tab_moves.proofs.Needing.{need_here, needs_it}
+use Rattle.tab_moves.proofs.Needing.{need_here, needs_it, stand_for}
 use Rattle.tab_moves.specs.Showing.{need_in}
-use Rattle.tab_passes.proofs.Sleepers.{below_same}
-use Rattle.tab_passes.proofs.Stand.{depth_is, stand_for}
-use Rattle.tab_passes.specs.Passing.{InPass, IsPassing}
-use Rattle.tab_passes.specs.Sleepers.{is_below_in}
+use Rattle.tab_moves.proofs.PassedOn.{below_same, depth_is}
+use Rattle.tab_moves.specs.PassedOn.{IsPassing, is_below_in}
+use Rattle.tab_moves.specs.Moving.{InPass}
 use Rattle.walk_facts.proofs.Placed.{found_nav}
 use Rattle.walk_facts.specs.Serving.{is_needing, is_stopping}
 use Rattle.walk_rows.specs.Since.{IsVisitedInNeed}

@@ -21,7 +21,7 @@ use Rattle.seen_laws.specs.InEvent.{InEvent}
 use Rattle.std.specs.Prelude.{List, Some, [], false, map, true, ◌++◌, ◌<◌, ◌∷◌, ◌≡◌, ◌⊎◌}
 use Rattle.tab_ids.specs.declared.NavId.{NavId}
 use Rattle.tab_ids.specs.declared.ReqId.{ReqId}
-use Rattle.tab_passes.specs.Causes.{MayCause}
+use Rattle.tab_moves.specs.Moving.{MayCause}
 use Rattle.walk_rows.specs.Since.{IsVisitedInNeed}
 use Rattle.log_model.specs.declared.outcome.Cause.TheVariants as causes
 use Rattle.log_model.specs.declared.row_kind.RowKind.TheVariants as rows

@@ -13,7 +13,8 @@ use Rattle.tab_doors.specs.declared.tables.Tables.{Tables}
 use Rattle.tab_drops.specs.Dropping.{Drop, HasOnlyDropped, IsLoadOf, IsUnsettled, LeavesAll}
 use Rattle.tab_ids.specs.declared.NavId.{NavId}
 use Rattle.tab_ids.specs.declared.ReqId.{ReqId}
-use Rattle.tab_passes.specs.Passing.{InPass, IsPassing}
+use Rattle.tab_moves.specs.PassedOn.{IsPassing}
+use Rattle.tab_moves.specs.Moving.{InPass}
 use Rattle.log_model.specs.declared.outcome.Cause.TheVariants as causes
 
 -- ---- why a load is dropped for another request

@@ -6,7 +6,8 @@ ghost use Rattle.tab_doors.specs.Working.{KeepsStore};
 ghost use Rattle.tab_drops.specs.Dropping.{ArePlaced, AreUnheld, EndsLoads, HasOnlyDestroyed, HaveEntries, IsBare, IsDestroyedLoad, LeavesAll, StandOrBare};
 ghost use Rattle.tab_drops.specs.Turns.{IsTurnAt};
 ghost use Rattle.tab_drops.specs.Ways.{bare_load_in};
-ghost use Rattle.tab_passes.specs.Passing.{InPass, IsPassing};
+ghost use Rattle.tab_moves.specs.PassedOn.{IsPassing};
+ghost use Rattle.tab_moves.specs.Moving.{InPass};
 
 use crate::dropping::load_of;
 use crate::listing::loading;

@@ -5,7 +5,8 @@ ghost use Rattle.seen_laws.specs.InEvent.{now_of};
 ghost use Rattle.tab_doors.specs.Working.{KeepsStore};
 ghost use Rattle.tab_drops.specs.Dropping.{AreUnheld, EndsLoads, HasOnlyDroppedBy, IsBelowNav, IsDroppedFor, IsLoadApplied, IsUnsettled, LeavesAll, StandOrBare, StandOrMove};
 ghost use Rattle.tab_drops.specs.Turns.{GivesWay, IsAnyNav, IsFor, IsTurnAt};
-ghost use Rattle.tab_passes.specs.Passing.{InPass, IsPassing};
+ghost use Rattle.tab_moves.specs.PassedOn.{IsPassing};
+ghost use Rattle.tab_moves.specs.Moving.{InPass};
 
 use crate::listing::loading;
 use crate::ways::{is_below, is_unsettled};

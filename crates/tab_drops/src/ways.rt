@@ -4,7 +4,7 @@ ghost use Rattle.apply_plan.specs.Order.{parent_in};
 ghost use Rattle.step_index.specs.Held.{history_held};
 ghost use Rattle.tab_doors.specs.Dues.{has_none};
 ghost use Rattle.tab_drops.specs.Ways.{is_needing_in, is_unsettled_in};
-ghost use Rattle.tab_passes.specs.Sleepers.{is_below_in};
+ghost use Rattle.tab_moves.specs.PassedOn.{is_below_in};
 
 use apply_plan::need_of;
 use entry_store::Store;

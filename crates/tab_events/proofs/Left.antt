@@ -2,6 +2,7 @@
 use Rattle.asked_facts.proofs.Plainly.{plain_passes}
 use Rattle.asked_facts.proofs.Running.{running_is}
 use Rattle.asked_facts.specs.Asking.{IsAskedPlainly, IsTabRequest}
+use Rattle.calm_facts.specs.Loads.{LoadsHaveDocuments}
 use Rattle.coord_facts.specs.Flowing.{Flows}
 use Rattle.each_facts.proofs.Runs.{at_place}
 use Rattle.each_facts.specs.Runs.{EachAsked}
@@ -29,7 +30,7 @@ use Rattle.std.specs.List.{list_all, list_any}
 use Rattle.std.specs.Option.{option_map_or}
 use Rattle.std.specs.Prelude.{find, is_none, is_some, map, option_and_then, option_map, slice_get}
 use Rattle.tab_events.proofs.Requests.{AreLeft, IsSo, lean, left_then}
-use Rattle.tab_events.specs.Between.{AreSwept, IsBetween, KeptAreFrozen, LoadsHaveDocuments, orders_go}
+use Rattle.tab_events.specs.Between.{AreSwept, IsBetween, KeptAreFrozen, orders_go}
 use Rattle.tab_ids.specs.declared.DocId.{DocId}
 use Rattle.tab_ids.specs.declared.NavId.{NavId}
 use Rattle.tab_ids.specs.declared.ReqId.{ReqId}

@@ -43,7 +43,7 @@ orders_on proc f (desk ∷ desks) keeps go = by_desk (desk.proc.0 == proc.0) ref
     by_desk false its false none h more = rw its (ap (λ (b : Bool). b || list_any has_order (on_desk proc f desks)) none ∙ more h)
 
 -- where the changed desk has one, there is one
-on_itself : (proc : ProcId) (f : Desk → Desk) (desks : List Desk) → has_order (f (desk_in desks proc)) ≡ true → list_any has_order (on_desk proc f desks) ≡ true
+pub on_itself : (proc : ProcId) (f : Desk → Desk) (desks : List Desk) → has_order (f (desk_in desks proc)) ≡ true → list_any has_order (on_desk proc f desks) ≡ true
 on_itself proc f [] has = ap (λ (b : Bool). b || false) has
 on_itself proc f (desk ∷ desks) has = by_desk (desk.proc.0 == proc.0) refl (on_itself proc f desks)
   where
@@ -65,7 +65,7 @@ some_not : (n : ℕ) → (suc n == 0) ≡ false
 some_not n = grind (arith, nat_tests)
 
 -- a list with one more isn't empty
-one_more : {A : Type 0} (l : List A) (x : A) → (length (l ++ x ∷ []) == 0) ≡ false
+pub one_more : {A : Type 0} (l : List A) (x : A) → (length (l ++ x ∷ []) == 0) ≡ false
 one_more [] x = refl
 one_more (y ∷ l) x = some_not (length (l ++ x ∷ []))
 

@@ -1,5 +1,6 @@
 -- All that holds between two events of a tab with frames, loads and documents that are left or kept, in which nobody died and nobody is asked.
 -- HTML Standard, "apply the history step", "ongoing navigation" and "Documents kept for traversal"; the form is this project's own.
+use Rattle.calm_facts.specs.Loads.{LoadsHaveDocuments}
 use Rattle.std.specs.List.{list_any}
 use Rattle.std.specs.Prelude.{◌≡◌, ◌⊎◌, ◌≤◌, ◌==◌, ◌||◌, ℕ, Bool, not, true, false, [], is_some, length, Option, Some}
 use Rattle.tab_ids.specs.declared.DocId.{DocId}
@@ -7,13 +8,12 @@ use Rattle.tab_ids.specs.declared.ReqId.{ReqId}
 use Rattle.log_model.specs.ActsAtOnce.{ends_stepped, ends_told}
 use Rattle.log_model.specs.Equal.{has_doc}
 use Rattle.log_model.specs.History.{has_state}
-use Rattle.log_model.specs.Places.{is_ongoing_load}
-use Rattle.log_model.specs.Seen.{Seen, Asked, Desk, Document, document_of, request_in}
+use Rattle.log_model.specs.Seen.{Seen, Desk, Document, document_of}
 use Rattle.coord_facts.specs.Flowing.{Flows}
 use Rattle.frame_tab.specs.Asking.{NoneHeld}
 use Rattle.frame_whole.specs.Tab.{AreAwakeWithRows}
 use Rattle.load_ends.specs.Standing.{LoadsStand}
-use Rattle.rest_facts.specs.Between.{HasLoadDocument, IsOfLoad}
+use Rattle.rest_facts.specs.Between.{IsOfLoad}
 use Rattle.rest_rows.specs.Moving.{AllRest}
 use Rattle.tab_whole.specs.Tab.{IsTab}
 use Rattle.walk_facts.specs.Serving.{AreServed}
@@ -30,11 +30,6 @@ has_order desk = not (length desk.mail == 0) || is_some desk.in_hand || not (len
 -- so it is of one of them
 abbrev pub orders_go : Seen → Bool
 orders_go s = list_any has_order s.desks
-
--- each ongoing load has a document that is there or being made
-abbrev pub LoadsHaveDocuments : Seen → Type 0
-LoadsHaveDocuments s =
-    (req : ReqId) (q : Asked) → request_in s.requests req ≡ Some q → is_ongoing_load q ≡ true → HasLoadDocument s q
 
 -- each kept document is frozen, and its state has entries
 abbrev pub KeptAreFrozen : Seen → Type 0

@@ -28,7 +28,7 @@ use Rattle.tab_ids.specs.declared.ReqId.{ReqId}
 use Rattle.tab_ids.specs.declared.StateId.{StateId}
 use Rattle.tab_evicts.proofs.Climbs.{within}
 use Rattle.tab_evicts.specs.Evicting.{hangs_in, owner_in}
-use Rattle.tab_whole.specs.Tab.{IsTab}
+use Rattle.tab_passes.specs.PassedOn.{IsTab}
 use Rattle.walk_facts.proofs.Placed.{found_nav}
 
 -- ---- the tables

@@ -1,4 +1,5 @@
 -- A document on which nobody is awake is discarded within a move.
+use Rattle.calm_facts.proofs.Loads.{IsLoads, loads_sent}
 use Rattle.doc_facts.specs.Docs.{AreDocs}
 use Rattle.hang_facts.proofs.Members.{has_map}
 use Rattle.hang_facts.specs.Members.{Has}
@@ -13,16 +14,22 @@ use Rattle.load_table.specs.declared.load.Load.{Load}
 use Rattle.frame_rows.specs.Discarding.{SettlesNone}
 use Rattle.left_facts.proofs.Rows.{were_shown}
 use Rattle.left_facts.specs.Left.{WereShown}
+use Rattle.load_ties.specs.Tying.{HasLoad, IsLoadTied, TiesLoads}
+use Rattle.log_model.proofs.Refl.{nat_eq_refl}
 use Rattle.log_model.specs.After.{after}
 use Rattle.log_model.specs.AfterPlaces.{sleepers_with, without_doc}
 use Rattle.log_model.specs.Checks.{may_go_on}
-use Rattle.log_model.specs.Places.{all_asked}
+use Rattle.log_model.specs.Once.{loads}
+use Rattle.log_model.specs.Places.{all_asked, is_load, is_under_way}
 use Rattle.log_model.specs.Seen.{Asked, Document, Seen, document_of, request_of}
 use Rattle.log_model.specs.declared.job.Job.{Job}
 use Rattle.log_model.specs.declared.job.Why.{Why}
+use Rattle.log_model.specs.declared.request.Request.{Request}
 use Rattle.log_model.specs.declared.row_kind.LogRow.{LogRow}
 use Rattle.log_model.specs.declared.row_kind.RowKind.{RowKind}
 use Rattle.nav_tree.specs.Tree.{document_of as document_at}
+use Rattle.std.proofs.lemmas.Bool.{and_parts}
+use Rattle.log_model.specs.declared.request.Request.TheVariants as requests
 use Rattle.nav_tree.specs.declared.place.Place as live_place
 use Rattle.owed_facts.specs.Owed.{AreUnasked}
 use Rattle.page_cache.specs.Kept.{without}
@@ -32,7 +39,7 @@ use Rattle.rest_facts.proofs.Still.{found_itself}
 use Rattle.seen_laws.proofs.InEvents.{now_more}
 use Rattle.seen_laws.proofs.Keyed.{find_has as seen_number, find_on_other}
 use Rattle.seen_laws.specs.InEvent.{now_of, row_of}
-use Rattle.std.proofs.Common.{List, None, Option, Some, [], ap, arith, false, inl, map, refl, subst, sym, true, ℕ, ◌++◌, ◌==◌, ◌∙◌, ◌∷◌, ◌≡◌}
+use Rattle.std.proofs.Common.{List, None, Option, Some, [], ap, arith, false, inl, inr, map, refl, subst, sym, true, ℕ, ◌++◌, ◌==◌, ◌∙◌, ◌∷◌, ◌≡◌}
 use Rattle.std.proofs.lemmas.Bool.Decides.{nat_tests}
 use Rattle.std.specs.Prelude.{find, is_some, option_map}
 use Rattle.tab_doors.proofs.Keeping.{states_on}
@@ -91,6 +98,34 @@ one_of_state s docs doc other d e there also states first second =
     let numbers : d.nr ≡ e.nr = docs.sole doc other d e there also states first second in
     let number : doc.0 ≡ other.0 = sym (seen_number (λ (x : Document). x.nr.0) doc.0 s.documents d there) ∙ ap (λ (n : DocId). n.0) numbers ∙ seen_number (λ (x : Document). x.nr.0) other.0 s.documents e also in
     ap (λ (n : ℕ). let x : DocId = record { 0 = n } in x) number
+
+-- ---- documents of loads
+
+-- a load is of a navigable
+pub nav_of_load : (what : Request) → is_load what ≡ true → (nav : NavId) × (loads nav what ≡ true)
+nav_of_load (requests.Load nav mode address) is = (nav, nat_eq_refl nav.0)
+nav_of_load _ is = absurd (let never : false ≡ true = is in cc)
+
+-- a state that is no load's in the tables is none's in the log
+pub no_loads : (s : Seen) (table : List Load) → TiesLoads s table → (state : StateId) → ((nav : NavId) (load : Load) → ongoing_load nav table ≡ Some load → (state.0 == load.state.0) ≡ false) → IsLoads s state → ⊥
+no_loads s table ties state apart its =
+    let never : true ≡ false = sym (nat_eq_refl state.0) ∙ ap (λ (x : StateId). state.0 == x.0) (sym states) ∙ apart nav.0 has.load has.at in cc
+  where
+    nav : (n : NavId) × (loads n its.q.what ≡ true)
+    nav = nav_of_load its.q.what (and_parts (is_under_way its.q) (is_load its.q.what) its.ongoing).1
+
+    has : HasLoad table nav.0 its.req
+    has = ties.all its.req its.q nav.0 its.found its.ongoing nav.1
+
+    tied : IsLoadTied s has.load
+    tied = ties.there nav.0 has.load has.at
+
+    states : has.load.state ≡ state
+    states =
+        let both : Some tied.q ≡ Some its.q = sym tied.found ∙ ap (λ (r : ReqId). request_of s r) has.req_is ∙ its.found in
+        let same : tied.q ≡ its.q = cc in
+        let two : Some has.load.state ≡ Some state = sym tied.state ∙ ap (λ (q : Asked). q.state) same ∙ its.own in
+        cc
 
 module _ (p : InPass) (move : Move) {docs : List DocId} (out : List RowKind) (t : Tables) (leaving : IsLeaving p (Some move) docs out t) (why : Why) (may : MayCause (now_of p.event out) why) (doc : DocId) (state : StateId) (its : IsQuiet (now_of p.event out) t doc state) where
   abbrev s : Seen
@@ -160,7 +195,17 @@ module _ (p : InPass) (move : Move) {docs : List DocId} (out : List RowKind) (t 
   gone_places = none_places s p.event.event p.event.actor discard its.nobody tasks.Discard refl tt
 
   pub gone_stays : StaysPlaced s gone_seen
-  gone_stays = record { places = gone_places; leaves = λ nav. discard_none_leaves s p.event.event p.event.actor discard its.nobody nav refl unasked }
+  gone_stays =
+      record {
+        places = gone_places;
+        leaves = λ nav. discard_none_leaves s p.event.event p.event.actor discard its.nobody nav refl unasked;
+        loading = loads_sent s p.event.event p.event.actor discard (inr none_its);
+      }
+    where
+      none_its : (d : Document) → document_of s doc ≡ Some d → IsLoads s d.state → ⊥
+      none_its d found loads_it =
+          let states : d.state ≡ state = ap (λ (x : Document). x.state) (one_document s doc d its.document found its.found) ∙ its.its_state in
+          no_loads s t.loads leaving.work.loads state its.unloaded (subst (λ (x : StateId). IsLoads s x) states loads_it)
 
   pub gone_other : (other : DocId) → (doc.0 == other.0) ≡ false → document_of gone_seen other ≡ document_of s other
   gone_other other apart = find_on_other (λ (y : Document). y.nr.0) (λ (y : Document). record y { is_discarded = true }) doc.0 other.0 s.documents (λ y. refl) apart

@@ -1,6 +1,7 @@
 -- The document of a state that is kept no longer is discarded, with all that are there below it.
 -- HTML Standard, "Documents kept for traversal" and "destroy a document"; how many are kept, and that those below go with one, is this project's own.
 use Rattle.apply_plan.specs.Order.{rest}
+use Rattle.calm_facts.specs.Loads.{LoadsHaveDocuments}
 use Rattle.home_facts.specs.Homes.{IsOnAwake}
 use Rattle.kept_facts.specs.Keeping.{kept_states}
 use Rattle.left_facts.specs.Left.{WereShown}
@@ -120,10 +121,11 @@ pub record IsDiscardFor (why : Why) (row : RowKind) : Type 0 where
 abbrev pub HasOnlyDiscarded : Why → List RowKind → List RowKind → Type 0
 HasOnlyDiscarded why was out = HasOnly (IsDiscardFor why) was out
 
--- the places, the history and the aim stay
+-- the places, the history and the aim stay, and each ongoing load has its document still
 pub record StaysPlaced (s t : Seen) : Type 0 where
   pub places : t.places ≡ s.places
   pub leaves : (nav : NavId) → LeavesOthers s t nav
+  pub loading : LoadsHaveDocuments s → LoadsHaveDocuments t
 
 -- ---- what is left below
 

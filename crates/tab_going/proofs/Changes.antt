@@ -7,14 +7,11 @@ use Rattle.log_model.specs.Places.{is_load}
 use Rattle.log_model.specs.Seen.{Asked, Seen, request_of}
 use Rattle.log_model.specs.declared.change.Change.{Change}
 use Rattle.log_model.specs.declared.made.Made.{Made}
-use Rattle.log_model.specs.declared.request.Mode.{Mode}
 use Rattle.log_model.specs.declared.row_kind.Actor.{Actor}
 use Rattle.log_model.specs.declared.row_kind.RowKind.{RowKind}
-use Rattle.request_facts.proofs.LookUps.{on_itself}
-use Rattle.std.proofs.Common.{Bool, List, None, Option, Some, [], ap, arith, cond, false, length, refl, subst, sym, true, ℕ, ◌&&◌, ◌+◌, ◌<◌, ◌==◌, ◌||◌, ◌∙◌, ◌≡◌, ◌≤◌}
-use Rattle.std.specs.Prelude.{is_some, option_map}
+use Rattle.std.proofs.Common.{Bool, List, None, Option, Some, [], ap, arith, cond, false, length, refl, sym, true, ℕ, ◌+◌, ◌<◌, ◌==◌, ◌∙◌, ◌≡◌, ◌≤◌}
 use Rattle.tab_going.proofs.Counts.{applied_long, applied_more, applied_same, as_many, count_more, count_same}
-use Rattle.tab_going.proofs.Epochs.{AreUpTo, IsNoReload, applied_up}
+use Rattle.tab_going.proofs.Epochs.{IsNoReload, applied_up}
 use Rattle.tab_going.proofs.HeldUp.{applied_held, begun_held, none_held_up}
 use Rattle.tab_going.proofs.Steps.{added_steps, pushed_steps, removed_steps, replaced_steps, steps_still, traversed_steps}
 use Rattle.tab_going.specs.Going.{AreCounted, AreHeldUp, AreSteps, IsGoing, count_of, has_ended, has_spent}

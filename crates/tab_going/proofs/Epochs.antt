@@ -1,5 +1,4 @@
 -- No navigable is under a later epoch than orders were sent: over each row.
-use Rattle.coord_facts.proofs.Unread.{next}
 use Rattle.frame_facts.proofs.Orders.{found_last}
 use Rattle.log_model.specs.AfterPlaces.{activated, given_entry, new_place, on_place, places_added, places_applied, places_given, places_sent, put_to_sleep, sleepers_below, sleepers_with, with_taker}
 use Rattle.log_model.specs.History.{History, applied, has_nav, has_row}
@@ -10,7 +9,6 @@ use Rattle.log_model.specs.declared.job.Job.{Job}
 use Rattle.log_model.specs.declared.job.Task.{Task}
 use Rattle.log_model.specs.declared.job.Why.{Why}
 use Rattle.log_model.specs.declared.made.Made.{Made}
-use Rattle.log_model.specs.declared.row_kind.Actor.{Actor}
 use Rattle.seen_laws.proofs.Keyed.{find_map}
 use Rattle.std.proofs.Common.{Bool, List, None, Option, Some, [], ap, arith, cond, inl, inr, map, not, refl, subst, sym, true, false, ℕ, ◌&&◌, ◌++◌, ◌+◌, ◌==◌, ◌∙◌, ◌∷◌, ◌≡◌, ◌≤◌, ◌⊎◌}
 use Rattle.std.specs.Option.{option_map_or}

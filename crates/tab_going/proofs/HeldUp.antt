@@ -2,7 +2,7 @@
 use Rattle.coord_facts.proofs.Held.{on_else}
 use Rattle.coord_facts.proofs.Unread.{next}
 use Rattle.each_facts.proofs.Courses.{was_asked}
-use Rattle.frame_facts.proofs.Applied.{applied_wishes}
+pub use Rattle.frame_facts.proofs.Applied.{applied_wishes}
 use Rattle.frame_facts.proofs.Orders.{wish_blind}
 use Rattle.frame_facts.specs.Lasting.{Wish, wish}
 use Rattle.log_model.specs.After.{ended}

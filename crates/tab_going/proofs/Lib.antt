@@ -4,3 +4,4 @@ pub mod Epochs
 pub mod Steps
 pub mod Rows
 pub mod Changes
+pub mod PassedOn

@@ -2,12 +2,9 @@
 use Rattle.coord_facts.proofs.Unread.{next}
 use Rattle.last_facts.specs.Lasting.{AreLasting}
 use Rattle.log_model.specs.After.{ended}
-use Rattle.log_model.specs.AfterPlaces.{sleepers_below, sleepers_with}
-use Rattle.log_model.specs.AfterRequests.{on_request, on_served, request_begun, request_served, requests_sent, with_activated, with_moved}
-use Rattle.log_model.specs.History.{has_state}
-use Rattle.log_model.specs.Places.{is_load}
-use Rattle.log_model.specs.Seen.{Asked, Document, Seen, document_of, place_of, request_in, request_of}
-use Rattle.log_model.specs.declared.change.Change.{Change}
+use Rattle.log_model.specs.AfterPlaces.{sleepers_below}
+use Rattle.log_model.specs.AfterRequests.{on_served, request_served, requests_sent, with_activated, with_moved}
+use Rattle.log_model.specs.Seen.{Asked, Document, Seen, document_of, place_of, request_of}
 use Rattle.log_model.specs.declared.job.Job.{Job}
 use Rattle.log_model.specs.declared.job.Task.{Task}
 use Rattle.log_model.specs.declared.job.Why.{Why}
@@ -18,18 +15,14 @@ use Rattle.log_model.specs.declared.outcome.Ending.{Ending}
 use Rattle.log_model.specs.declared.row_kind.Actor.{Actor}
 use Rattle.log_model.specs.declared.row_kind.RowKind.{RowKind}
 use Rattle.request_facts.proofs.Readers.{IsBlind}
-use Rattle.std.proofs.Common.{Bool, List, None, Option, Some, [], ap, arith, cond, false, length, refl, subst, sym, true, ℕ, ◌&&◌, ◌+◌, ◌<◌, ◌==◌, ◌||◌, ◌∙◌, ◌∷◌, ◌≡◌, ◌≤◌}
+use Rattle.std.proofs.Common.{Bool, List, None, Option, Some, [], ap, arith, false, length, refl, subst, sym, true, ℕ, ◌+◌, ◌<◌, ◌||◌, ◌∙◌, ◌≡◌, ◌≤◌}
 use Rattle.std.specs.Option.{option_map_or}
-use Rattle.tab_going.proofs.Counts.{applied_long, applied_more, applied_same, as_many, count_more, count_same}
-use Rattle.tab_going.proofs.Epochs.{AreUpTo, EpochFits, IsNoReload, applied_up, later_up, sent_up}
-use Rattle.tab_going.proofs.HeldUp.{applied_held, begun_held, dropped_held, none_held_up, refused_held, sent_held}
-use Rattle.tab_going.proofs.Steps.{added_steps, pushed_steps, removed_steps, replaced_steps, steps_still, traversed_steps}
-use Rattle.tab_going.specs.Going.{AreCounted, AreHeldUp, AreSteps, IsGoing, count_of, has_ended, has_spent}
-use Rattle.tab_ids.specs.declared.EntryId.{EntryId}
-use Rattle.tab_ids.specs.declared.NavId.{NavId}
+use Rattle.tab_going.proofs.Counts.{as_many, count_more, count_same}
+use Rattle.tab_going.proofs.Epochs.{AreUpTo, EpochFits, later_up, sent_up}
+use Rattle.tab_going.proofs.HeldUp.{dropped_held, refused_held, sent_held}
+use Rattle.tab_going.proofs.Steps.{steps_still}
+use Rattle.tab_going.specs.Going.{AreHeldUp, IsGoing, count_of, has_ended, has_spent}
 use Rattle.tab_ids.specs.declared.ReqId.{ReqId}
-use Rattle.tab_ids.specs.declared.StateId.{StateId}
-use Rattle.tab_ids.specs.declared.Step.{Step}
 use Rattle.tab_whole.specs.Tab.{IsTab}
 use Rattle.log_model.specs.declared.change.Change.TheVariants as changes
 use Rattle.log_model.specs.declared.job.Task.TheVariants as tasks

@@ -9,7 +9,7 @@ use Rattle.log_model.specs.Seen.{Asked, Seen, request_in}
 use Rattle.log_model.specs.declared.change.Change.{Change}
 use Rattle.log_model.specs.declared.row.Row.{Row}
 use Rattle.log_model.specs.declared.row_kind.Actor.{Actor}
-use Rattle.std.proofs.Common.{Bool, List, None, Option, Some, [], ap, arith, cond, fold, inl, inr, map, max, refl, subst, sym, true, false, ℕ, ◌+◌, ◌==◌, ◌∙◌, ◌∷◌, ◌≡◌, ◌≤◌, ◌⊎◌}
+use Rattle.std.proofs.Common.{Bool, List, None, Option, Some, [], ap, arith, cond, fold, inl, inr, map, max, refl, subst, true, false, ℕ, ◌+◌, ◌==◌, ◌∷◌, ◌≡◌, ◌≤◌, ◌⊎◌}
 use Rattle.std.proofs.lemmas.Bool.Decides.{nat_tests}
 use Rattle.std.specs.Prelude.{filter, nat_le}
 use Rattle.tab_going.proofs.Counts.{applied_more}

@@ -12,7 +12,7 @@ use Rattle.log_model.specs.declared.row.Row.{Row}
 use Rattle.std.specs.Prelude.{Bool, List, None, Option, Some, filter, is_some, length, true, ℕ, ◌+◌, ◌<◌, ◌&&◌, ◌||◌, ◌≡◌, ◌≤◌}
 use Rattle.tab_ids.specs.declared.NavId.{NavId}
 use Rattle.tab_ids.specs.declared.ReqId.{ReqId}
-use Rattle.tab_whole.specs.Tab.{IsTab}
+pub use Rattle.tab_whole.specs.Tab.{IsTab}
 
 -- the request has ended
 abbrev pub has_ended : Asked → Bool

@@ -35,12 +35,13 @@ use Rattle.tab_moves.proofs.Sleeps.{WasSlept, was_slept}
 use Rattle.tab_moves.specs.Moving.{AllAsleep, HasLeft, InMoving, IsAtOrBelow, IsToLeave}
 use Rattle.tab_passes.proofs.Freezings.{found_still, new_still}
 use Rattle.tab_passes.proofs.Frozen.{freezes_it, frozen_more}
-use Rattle.tab_passes.proofs.Goings.{goes_on}
-use Rattle.tab_passes.proofs.Onlies.{only_one, only_then}
+pub use Rattle.tab_passes.proofs.Goings.{goes_on}
+pub use Rattle.tab_passes.proofs.Onlies.{only_one, only_then}
 use Rattle.tab_passes.proofs.Serveds.{served_causes}
 use Rattle.tab_passes.specs.Causes.{MayCause, show_why}
-use Rattle.tab_passes.specs.Leaving.{AreLeftBelow, HasOnlyFrozen, IsFreezeOf, IsFreezing, IsLeaving, IsLeftBelow, IsNewFor, IsStill, IsToFreeze, left_then, without_all}
-use Rattle.tab_passes.specs.Sleepers.{docs_below}
+use Rattle.tab_passes.specs.Leaving.{AreLeftBelow, IsFreezing, IsLeaving, IsLeftBelow, IsNewFor, IsStill, IsToFreeze, left_then, without_all}
+pub use Rattle.tab_passes.specs.Leaving.{HasOnlyFrozen, IsFreezeOf}
+pub use Rattle.tab_passes.specs.Sleepers.{docs_below}
 use Rattle.walk_facts.proofs.Placed.{found_nav}
 use Rattle.walk_facts.proofs.Sleepers.{slept}
 use Rattle.walk_facts.specs.Walking.{LeavesOthers}

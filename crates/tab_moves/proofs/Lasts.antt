@@ -20,13 +20,13 @@ use Rattle.tab_doors.proofs.Sights.{IsSeen, seen_of, sight_of}
 use Rattle.tab_doors.specs.Look.{Sight, is_live_for, sight}
 use Rattle.tab_doors.specs.Ties.{AreListed}
 use Rattle.tab_doors.specs.declared.tables.Tables.{Tables}
-use Rattle.tab_passes.proofs.Lives.{live_parts, has_state_in, there_for}
+pub use Rattle.tab_passes.proofs.Lives.{has_state_in, live_parts, there_for}
 use Rattle.tab_ids.specs.declared.DocId.{DocId}
 use Rattle.tab_ids.specs.declared.NavId.{NavId}
 use Rattle.tab_ids.specs.declared.StateId.{StateId}
 use Rattle.tab_moves.specs.Leaving.{IsLeftFor, left_in}
 use Rattle.tab_passes.specs.Passing.{InPass, IsPassing}
-use Rattle.tab_whole.proofs.Above.{below_sleeps}
+pub use Rattle.tab_passes.proofs.PassedOn.{below_sleeps}
 use Rattle.walk_facts.proofs.Placed.{each_found, found_nav}
 
 -- ---- what the navigable was shown last

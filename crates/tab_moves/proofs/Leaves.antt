@@ -5,7 +5,7 @@ use Rattle.hang_facts.proofs.Forms.{nav_is}
 use Rattle.hang_facts.proofs.Hung.{not_above_itself, places_distinct}
 use Rattle.hang_facts.specs.AsPlaces.{AreDistinct}
 use Rattle.home_facts.specs.Homes.{IsAtHome}
-use Rattle.last_facts.proofs.Moved.{slept_placed}
+use Rattle.tab_passes.proofs.PassedOn.{slept_placed}
 use Rattle.log_model.proofs.Refl.{nat_eq_refl}
 use Rattle.log_model.specs.AfterPlaces.{sleepers_with}
 use Rattle.log_model.specs.History.{has_nav}
@@ -27,7 +27,8 @@ use Rattle.tab_ids.specs.declared.NavId.{NavId}
 use Rattle.tab_moves.specs.Moving.{InMoving, IsToLeave}
 use Rattle.tab_passes.proofs.Freezable.{freeze_ahead}
 use Rattle.tab_passes.proofs.Goings.{for_passed, is_passed_for, none_to_begin}
-use Rattle.tab_passes.specs.Leaving.{IsLeaving, IsToFreeze, MayLeave}
+use Rattle.tab_passes.specs.Leaving.{IsLeaving, IsToFreeze}
+pub use Rattle.tab_passes.specs.Leaving.{MayLeave}
 use Rattle.walk_facts.proofs.Placed.{found_nav}
 use Rattle.walk_rows.proofs.Sinces.{ShowsThen, was_shower}
 use Rattle.walk_rows.proofs.Sleeping.{IsUnder, SleepUnder, shower_is, sleepers_under}

@@ -9,3 +9,4 @@ pub mod Needing
 pub mod Procs
 pub mod Makings
 pub mod Lasts
+pub mod PassedOn

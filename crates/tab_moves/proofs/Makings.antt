@@ -8,7 +8,7 @@ use Rattle.hang_facts.proofs.Members.{find_has, has_any, into_map}
 use Rattle.hang_facts.proofs.Parts.{state_is}
 use Rattle.hang_facts.proofs.Targets.{IsTarget, target_has}
 use Rattle.hang_facts.specs.Members.{Has}
-use Rattle.last_facts.proofs.Orders.{making_lasting}
+use Rattle.tab_passes.proofs.PassedOn.{IsMakeOf, lives_first, make_tab, making_lasting}
 use Rattle.load_facts.specs.Loading.{AreLoading, look}
 use Rattle.log_model.proofs.Refl.{nat_eq_refl}
 use Rattle.log_model.specs.Checks.{may_go_on}
@@ -46,8 +46,8 @@ use Rattle.tab_doors.specs.Orders.{next_order}
 use Rattle.tab_doors.specs.Ties.{IsListed, IsOneSuch}
 use Rattle.tab_doors.specs.Working.{IsAtWork, KeepsStore}
 use Rattle.tab_doors.specs.declared.tables.Tables.{Tables}
-use Rattle.tab_going.proofs.Rows.{sent_going}
-use Rattle.tab_going.specs.Going.{IsGoing}
+use Rattle.tab_passes.proofs.Leavings.{sent_going}
+pub use Rattle.tab_passes.specs.Leaving.{IsGoing}
 use Rattle.tab_ids.specs.declared.DocId.{DocId}
 use Rattle.tab_ids.specs.declared.EntryId.{EntryId}
 use Rattle.tab_ids.specs.declared.NavId.{NavId}
@@ -58,12 +58,11 @@ use Rattle.tab_moves.proofs.Procs.{home_is, home_some}
 use Rattle.tab_moves.proofs.Needing.{IsNeeding, NeedsIt, needs_it}
 use Rattle.tab_moves.specs.Making.{HasMade, home_in, is_new_by, make_why}
 use Rattle.tab_moves.specs.Showing.{IsTurn, need_in}
-use Rattle.tab_passes.proofs.Goings.{goes_on, is_passed_for, show_causes}
+use Rattle.tab_passes.proofs.Goings.{goes_on, is_passed_for}
+pub use Rattle.tab_passes.proofs.Goings.{show_causes}
 use Rattle.tab_passes.proofs.Serveds.{served_causes}
 use Rattle.tab_passes.specs.Causes.{MayCause}
 use Rattle.tab_passes.specs.Passing.{InPass, IsPassing}
-use Rattle.tab_whole.proofs.Making.{IsMakeOf, make_tab}
-use Rattle.tab_whole.proofs.Sending.{lives_first}
 use Rattle.walk_facts.proofs.Placed.{found_nav}
 use Rattle.walk_facts.proofs.Turns.{make_leaves, make_serves}
 use Rattle.walk_facts.specs.Serving.{IsMaking}

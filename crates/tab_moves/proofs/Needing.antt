@@ -36,8 +36,9 @@ use Rattle.tab_ids.specs.declared.NavId.{NavId}
 use Rattle.tab_ids.specs.declared.StateId.{StateId}
 use Rattle.tab_moves.proofs.Ups.{held_row}
 use Rattle.tab_moves.specs.Showing.{need_in}
-use Rattle.tab_passes.proofs.Aims.{aim_is, held_aim}
-use Rattle.tab_passes.proofs.Stand.{stand_for}
+use Rattle.tab_passes.proofs.Aims.{held_aim}
+pub use Rattle.tab_passes.proofs.Aims.{aim_is}
+pub use Rattle.tab_passes.proofs.Stand.{stand_for}
 use Rattle.tab_passes.specs.Passing.{InPass, IsPassing, aim_in}
 use Rattle.walk_facts.specs.Serving.{is_needing, is_stopping}
 

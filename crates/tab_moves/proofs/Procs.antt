@@ -31,7 +31,7 @@ use Rattle.tab_passes.proofs.Stand.{stand_for}
 use Rattle.tab_passes.specs.Passing.{InPass, IsPassing}
 use Rattle.tab_passes.specs.Telling.{awake_on}
 use Rattle.walk_facts.proofs.Placed.{found_nav}
-use Rattle.tab_whole.proofs.Above.{IsUpAt}
+use Rattle.tab_passes.proofs.PassedOn.{IsUpAt}
 use Rattle.walk_facts.specs.Serving.{is_stopping}
 
 module _ (p : InPass) (out : List RowKind) (t : Tables) (pass : IsPassing p out t) (nav : NavId) (place : Place) (placed : place_of (now_of p.event out) nav ≡ Some place) (reached : list_any (is_stopping (now_of p.event out).history.rows (aim_of (now_of p.event out)) (now_of p.event out).places) place.above ≡ false) where

@@ -1,6 +1,6 @@
 -- A navigable that is to be shown its target may be, and all goes on then.
 use Rattle.coord_facts.proofs.Unread.{next}
-use Rattle.frame_facts.proofs.Moves.{ServesNoneToBegin}
+use Rattle.tab_passes.proofs.Goings.{ServesNoneToBegin, for_passed, goes_on, is_passed_for, none_to_begin, show_causes}
 use Rattle.hang_facts.proofs.Hung.{not_above_itself, place_chain, places_distinct}
 use Rattle.hang_facts.proofs.Parts.{state_is}
 use Rattle.hang_facts.proofs.Targets.{IsTarget, target_has}
@@ -50,15 +50,12 @@ use Rattle.tab_moves.proofs.Fews.{few_shown}
 use Rattle.tab_moves.proofs.Ups.{held_row, up_at}
 use Rattle.tab_moves.specs.Showing.{IsShownBy, IsToShow, IsTurn}
 use Rattle.tab_passes.proofs.Aims.{aim_is, held_aim, held_pair}
-use Rattle.tab_passes.proofs.Goings.{for_passed, goes_on, is_passed_for, none_to_begin, show_causes}
-use Rattle.tab_passes.proofs.Leavings.{passing_again, shown_leaving}
+use Rattle.tab_passes.proofs.Leavings.{IsShowOf, IsToMade, passing_again, sent_home, shown_leaving}
 use Rattle.tab_passes.proofs.Serveds.{served_causes}
 use Rattle.tab_passes.specs.Causes.{MayCause, show_why}
 use Rattle.tab_passes.specs.Leaving.{IsLeaving}
 use Rattle.tab_passes.specs.Passing.{InPass, IsPassing, aim_in}
-use Rattle.tab_whole.proofs.Above.{on_parent}
-use Rattle.tab_whole.proofs.Sending.{IsToMade, sent_home}
-use Rattle.tab_whole.proofs.Showing.{IsShowOf}
+pub use Rattle.tab_passes.proofs.PassedOn.{on_parent}
 use Rattle.walk_facts.proofs.Placed.{found_nav}
 use Rattle.walk_facts.proofs.Sleepers.{becomes, place_becomes, sleepers_of, slept}
 use Rattle.walk_facts.proofs.Turns.{show_leaves, show_serves}

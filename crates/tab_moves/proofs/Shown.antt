@@ -24,8 +24,9 @@ use Rattle.tab_ids.specs.declared.DocId.{DocId}
 use Rattle.tab_ids.specs.declared.NavId.{NavId}
 use Rattle.tab_moves.proofs.Leaves.{differs, distinct, docs_apart, home_of, its_home, to_freeze, under}
 use Rattle.tab_moves.specs.Moving.{InMoving, IsToLeave}
-use Rattle.tab_passes.proofs.Sleepers.{at_own}
-use Rattle.tab_passes.proofs.Unders.{ShownBelow, below_has, below_is, has_docs, has_filter_map, shows_below, shows_parts, walked_there}
+pub use Rattle.tab_passes.proofs.Sleepers.{at_own}
+use Rattle.tab_passes.proofs.Unders.{ShownBelow, below_has, has_docs, shows_parts}
+pub use Rattle.tab_passes.proofs.Unders.{below_is, has_filter_map, shows_below, walked_there}
 use Rattle.tab_passes.specs.Leaving.{IsLeaving, IsToFreeze, left_then, without_all}
 use Rattle.tab_passes.specs.Sleepers.{docs_below}
 use Rattle.walk_facts.proofs.Order.{walk_once}

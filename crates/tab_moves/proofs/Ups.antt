@@ -17,7 +17,7 @@ use Rattle.step_index.specs.contracts.step_index.StepIndexStore.TheImpl.Laws.{so
 use Rattle.step_index.specs.declared.step_index.StepIndex.{StepIndex}
 use Rattle.tab_doors.specs.Ties.{HoldsHistory}
 use Rattle.tab_ids.specs.declared.NavId.{NavId}
-use Rattle.tab_whole.proofs.Above.{IsUpAt}
+use Rattle.tab_passes.proofs.PassedOn.{IsUpAt}
 use Rattle.walk_facts.specs.Serving.{is_in_place, is_stopping}
 
 -- ---- the row of an entry

@@ -16,7 +16,7 @@ use Rattle.tab_doors.specs.declared.tables.Tables.{Tables}
 use Rattle.tab_ids.specs.declared.NavId.{NavId}
 use Rattle.tab_ids.specs.declared.ProcId.{ProcId}
 use Rattle.tab_ids.specs.declared.ReqId.{ReqId}
-use Rattle.tab_passes.specs.Causes.{show_why}
+pub use Rattle.tab_passes.specs.Causes.{show_why}
 use Rattle.log_model.specs.History.{row_of}
 use Rattle.log_model.specs.declared.row.Row.{Row}
 use Rattle.nav_tree.specs.Tree.{is_state}
@@ -24,7 +24,7 @@ use Rattle.std.specs.Map.{lookup}
 use Rattle.std.specs.Prelude.{[], is_some, ◌++◌, ◌∷◌}
 use Rattle.step_index.specs.Held.{history_held}
 use Rattle.tab_ids.specs.declared.EntryId.{EntryId}
-use Rattle.tab_passes.specs.Telling.{awake_on}
+pub use Rattle.tab_passes.specs.Telling.{awake_on}
 use Rattle.log_model.specs.declared.job.Task.TheVariants as tasks
 use Rattle.log_model.specs.declared.job.Why.TheVariants as whys
 use Rattle.log_model.specs.declared.row_kind.RowKind.TheVariants as rows

@@ -15,9 +15,10 @@ use Rattle.tab_doors.specs.Keeping.{Move}
 use Rattle.tab_ids.specs.declared.DocId.{DocId}
 use Rattle.tab_ids.specs.declared.NavId.{NavId}
 use Rattle.tab_ids.specs.declared.ReqId.{ReqId}
-use Rattle.tab_passes.specs.Causes.{MayCause, show_why}
+use Rattle.tab_passes.specs.Causes.{show_why}
+pub use Rattle.tab_passes.specs.Causes.{MayCause}
 use Rattle.tab_passes.specs.Leaving.{IsNewFor}
-use Rattle.tab_passes.specs.Passing.{InPass}
+pub use Rattle.tab_passes.specs.Passing.{InPass}
 use Rattle.walk_facts.specs.Walking.{LeavesOthers}
 use Rattle.walk_rows.specs.Since.{WasAwake}
 

@@ -25,7 +25,8 @@ use Rattle.tab_ids.specs.declared.NavId.{NavId}
 use Rattle.tab_ids.specs.declared.ReqId.{ReqId}
 use Rattle.tab_ids.specs.declared.StateId.{StateId}
 use Rattle.tab_passes.specs.Causes.{MayCause, show_why}
-use Rattle.tab_passes.specs.Passing.{InPass, aim_in}
+use Rattle.tab_passes.specs.Passing.{InPass}
+pub use Rattle.tab_passes.specs.Passing.{aim_in}
 use Rattle.walk_facts.specs.Serving.{IsServedAt}
 use Rattle.walk_facts.specs.Walking.{LeavesOthers}
 use Rattle.walk_rows.specs.Since.{IsVisitedInNeed}

@@ -1,18 +1,24 @@
 -- How calm a pass leaves the tab: where loads give way, where stray documents are discarded, and where who is awake is told.
+use Rattle.asked_facts.specs.Asking.{IsThere}
 use Rattle.calm_facts.proofs.Around.{around_calm}
 use Rattle.calm_facts.proofs.Calms.{IsGivenRow, calm_rows, given_row, shown_row}
+use Rattle.calm_facts.proofs.Loads.{HasOne, IsLoads, loads_sent, loads_then}
+use Rattle.calm_facts.proofs.Moves.{AreUnmoved}
 use Rattle.calm_facts.proofs.Sames.{IsUsableAt, around_by, but_more, here_same, keeps_same, root_same, sights_same, way_at, way_same, yet_same}
 use Rattle.calm_facts.proofs.Sents.{DiscardsNone, usable_sent}
-use Rattle.calm_facts.specs.Calm.{AreRooted, CalmUnless, IsCalm, IsCalmAround, IsCalmBut, IsCalmYet, IsHere, IsRooted, KeepsCalm}
+use Rattle.calm_facts.specs.Calm.{AreRooted, CalmUnless, IsCalm, IsCalmAround, IsCalmBut, IsCalmYet, IsHere, IsRooted, KeepsCalm, UnmovedAreHere}
+use Rattle.calm_facts.specs.Loads.{LoadsHaveDocuments}
+use Rattle.each_facts.specs.Runs.{OnlyRuns}
 use Rattle.hang_facts.proofs.Forms.{nav_is}
 use Rattle.hang_facts.proofs.Members.{has_any}
 use Rattle.hang_facts.proofs.Parts.{state_is}
 use Rattle.hang_facts.proofs.Targets.{IsTarget, target_has}
 use Rattle.log_model.proofs.Refl.{nat_eq_refl}
 use Rattle.log_model.specs.History.{History, has_nav, has_row, has_state}
-use Rattle.log_model.specs.Orders.{is_usable}
+use Rattle.log_model.specs.Orders.{is_being_made, is_usable}
 use Rattle.log_model.specs.Places.{aim_of, is_awake, is_below, is_shown, way_to}
-use Rattle.tab_passes.specs.Telling.{length_index}
+use Rattle.tab_one_pass.proofs.Moves.{put_unmoved}
+use Rattle.tab_serves.specs.PassedOn.{HasOnlyTold, IsToldMore, IsUpdateFor, aim_in, length_index}
 use Rattle.log_model.specs.Seen.{Document, Place, Seen, awake, document_of, place_of}
 use Rattle.log_model.specs.declared.job.Task.{Task}
 use Rattle.log_model.specs.declared.job.Why.{Why}
@@ -27,17 +33,17 @@ use Rattle.std.proofs.Common.{Bool, List, None, Option, Some, ap, false, inl, in
 use Rattle.std.proofs.lemmas.Bool.{and_parts}
 use Rattle.std.specs.Prelude.{option_map}
 use Rattle.tab_doors.specs.declared.tables.Tables.{Tables}
-use Rattle.tab_drops.specs.Dropping.{LeavesAll}
+pub use Rattle.tab_drops.specs.Dropping.{LeavesAll}
 use Rattle.tab_ids.specs.declared.DocId.{DocId}
 use Rattle.tab_ids.specs.declared.NavId.{NavId}
 use Rattle.tab_ids.specs.declared.ReqId.{ReqId}
 use Rattle.tab_ids.specs.declared.StateId.{StateId}
-use Rattle.tab_one_pass.specs.Passing.{HasPassed, LeavesCalm, LeavesPass}
-use Rattle.tab_passes.proofs.Aims.{aim_is}
-use Rattle.tab_passes.proofs.Onlies.{only_as}
-use Rattle.tab_passes.specs.Passing.{HasOnly, InPass, IsPassing, aim_in}
-use Rattle.tab_passes.specs.Telling.{HasOnlyTold, IsToldMore, IsUpdateFor}
+use Rattle.tab_one_pass.specs.Passing.{HasPassed, HasPutOut, LeavesCalm, LeavesPass}
+pub use Rattle.tab_serves.proofs.PassedOn.{aim_is}
+pub use Rattle.tab_serves.proofs.Calms.{only_as}
+use Rattle.tab_serves.specs.Serving.{HasOnly, InPass, IsPassing}
 use Rattle.tab_serves.proofs.Orders.{IsOrderOf, over_orders}
+pub use Rattle.tab_sweeps.proofs.Loads.{loaded_never}
 use Rattle.tab_sweeps.specs.Sweeping.{IsNoStray, IsOnStray, IsStray, IsSweptTurn, but_status}
 use Rattle.tab_whole.specs.Tab.{IsTab}
 use Rattle.walk_facts.proofs.Placed.{found_nav}
@@ -86,7 +92,41 @@ told_calm e why was out only more =
     usable doc d state found is =
         over_orders Tells (λ (x : Seen). IsUsableAt x doc state) (λ x event job tells so. usable_sent x event.event event.actor job (tells_none job.task tells).0 doc so.d state so.found so.usable) e was out orders (record { d = d; found = found; usable = is })
 
+pub told_loads : (e : InEvent) (why : Why) (was out : List RowKind) → HasOnlyTold why was out → LoadsHaveDocuments (now_of e was) → LoadsHaveDocuments (now_of e out)
+told_loads e why was out only =
+    over_orders Tells LoadsHaveDocuments (λ x event job tells. loads_sent x event.event event.actor job (inl (tells_none job.task tells).0)) e was out (only_as (IsUpdateFor why) (IsOrderOf Tells) was out one only)
+  where
+    one : (row : RowKind) → IsUpdateFor why row → IsOrderOf Tells row
+    one (rows.Sent job) is = record { job = job; is = refl; task = is.1 }
+    one _ is = absurd is
+
 -- ---- stray documents are discarded
+
+-- a load's document isn't stray: its state has an ongoing load, or it is still being made
+pub swept_loads : (s t : Seen) → IsSweptTurn s t → LoadsHaveDocuments s → LoadsHaveDocuments t
+swept_loads s t turn = loads_then s t (λ req l at on. sym (turn.looks req) ∙ at) docs
+  where
+    not_stray : (state : StateId) → IsLoads s state → (one : HasOne s state) → IsNoStray s one.doc
+    not_stray state its one other stray = by_there one.there
+      where
+        same : stray.document ≡ one.d
+        same = let both : Some stray.document ≡ Some one.d = sym stray.found ∙ one.found in cc
+
+        states : other ≡ state
+        states = sym stray.its_state ∙ ap (λ (x : Document). x.state) same ∙ one.of_state
+
+        by_there : (is_usable one.d state ≡ true) ⊎ (is_being_made one.d ≡ true) → ⊥
+        by_there (inl usable) =
+            loaded_never s other stray.unloaded its.req its.q state its.found its.ongoing its.own (ap (λ (x : StateId). x.0) (sym states))
+        by_there (inr made) =
+            let unready : not one.d.is_ready ≡ true = (and_parts (not one.d.is_ready) (not one.d.is_known_dead) made).0 in
+            let ready : one.d.is_ready ≡ true = ap (λ (x : Document). x.is_ready) (sym same) ∙ stray.ready in
+            let never : false ≡ true = sym (ap (λ (b : Bool). not b) ready) ∙ unready in
+            absurd cc
+
+    docs : (state : StateId) → IsLoads s state → HasOne s state → HasOne t state
+    docs state its one =
+        record { doc = one.doc; d = one.d; found = turn.others one.doc (not_stray state its one) ∙ one.found; of_state = one.of_state; there = one.there }
 
 module _ (run : Option ReqId) (loads : List ReqId) (hand : List Made) (s t : Seen) (tab : IsTab run loads hand s) (turn : IsSweptTurn s t) where
   -- the place before, of which all is so but whether its navigable is awake
@@ -294,7 +334,7 @@ module _ (run : Option ReqId) (loads : List ReqId) (hand : List Made) (s t : See
 
 -- ---- the pass
 
-module _ (p : InPass) (was : List RowKind) (t : Tables) (before : IsPassing p was t) (out : List RowKind) (u : Tables) (after_ : IsPassing p out u) (left : LeavesPass (now_of p.event was) (now_of p.event out)) (passed : HasPassed p.event (now_of p.event out)) (served : AreServed (now_of p.event out)) where
+module _ (p : InPass) (was : List RowKind) (t : Tables) (before : IsPassing p was t) (out : List RowKind) (u : Tables) (after_ : IsPassing p out u) (left : LeavesPass (now_of p.event was) (now_of p.event out)) (passed : HasPassed p.event (now_of p.event out)) (served : AreServed (now_of p.event out)) (cause tells : Why) (only : HasPutOut p.event t.running cause tells was out) where
   abbrev a : Seen
   a = now_of p.event was
 
@@ -309,8 +349,14 @@ module _ (p : InPass) (was : List RowKind) (t : Tables) (before : IsPassing p wa
       aim_is a t.running before.going.tab.asked t.goal before.work.goal ∙ ap (λ (r : Option ReqId). aim_in a.history r t.goal) none
 
   pub passed_calm : LeavesCalm t.running a z
-  passed_calm = record { yet = yet t.running refl; around = λ at. around at t.running refl; rooted = left.calms.rooted }
+  passed_calm = record { yet = yet t.running refl; around = λ at. around at t.running refl; rooted = left.calms.rooted; unmoved = λ req is here. (unmoved req is here).here }
     where
+      unmoved : (req : ReqId) → t.running ≡ Some req → UnmovedAreHere a → AreUnmoved req z
+      unmoved req is here =
+          let there : IsThere a req = before.going.tab.asked.runs req is in
+          put_unmoved p.event req cause tells was out (subst (λ (r : Option ReqId). HasPutOut p.event r cause tells was out) is only)
+          (record { only = subst (λ (r : Option ReqId). OnlyRuns r a) is before.going.tab.asked.only; q = there.q; found = there.found; traverses = there.traverses; here = here })
+
       yet : (run : Option ReqId) → t.running ≡ run → CalmUnless IsCalmYet run a → CalmUnless IsCalm run z
       yet (Some run) is calm = tt
       yet None is calm =

@@ -27,20 +27,23 @@ use Rattle.tab_doors.specs.Dues.{has_none}
 use Rattle.tab_doors.specs.Look as tables
 use Rattle.tab_doors.specs.declared.tables.Tables.{Tables}
 use Rattle.tab_drops.proofs.Bares.{bare_is}
-use Rattle.tab_drops.proofs.ForCallers.{tab_placed}
-use Rattle.tab_drops.proofs.Loads.{IsAskedFor, asked_for, load_now}
+pub use Rattle.tab_drops.proofs.ForCallers.{tab_placed}
+pub use Rattle.tab_drops.proofs.Loads.{IsAskedFor, asked_for, load_now}
 use Rattle.tab_drops.proofs.Sortings.{lookup_has}
-use Rattle.tab_drops.specs.Dropping.{EndsLoads, IsBare, IsLoadOf, LeavesAll}
+use Rattle.tab_drops.specs.Dropping.{IsBare, IsLoadOf, LeavesAll}
+pub use Rattle.tab_drops.specs.Dropping.{EndsLoads}
 use Rattle.tab_ids.specs.declared.DocId.{DocId}
 use Rattle.tab_ids.specs.declared.NavId.{NavId}
 use Rattle.tab_ids.specs.declared.ReqId.{ReqId}
 use Rattle.tab_ids.specs.declared.StateId.{StateId}
 use Rattle.tab_one_pass.specs.Noting.{AreNoted, IsNotedBy, IsToNote, noted_for, noting_in}
 use Rattle.tab_one_pass.specs.Passing.{AreLeftStrays, IsLeftStray, TakersServe}
-use Rattle.tab_passes.specs.Causes.{MayServe}
-use Rattle.tab_passes.specs.Passing.{InPass, IsPassing}
-use Rattle.tab_sweeps.proofs.Loads.{awake_unloaded, loaded_never, of_load, table_unloaded}
-use Rattle.tab_sweeps.specs.Sweeping.{AreBlamed, IsBlamed, IsStray, NoneStray}
+use Rattle.tab_serves.specs.PassedOn.{MayServe}
+use Rattle.tab_serves.specs.Serving.{InPass, IsPassing}
+use Rattle.tab_sweeps.proofs.Loads.{awake_unloaded, loaded_never, table_unloaded}
+pub use Rattle.tab_sweeps.proofs.Loads.{of_load}
+use Rattle.tab_sweeps.specs.Sweeping.{AreBlamed, IsStray, NoneStray}
+pub use Rattle.tab_sweeps.specs.Sweeping.{IsBlamed}
 use Rattle.walk_facts.proofs.Placed.{found_nav}
 use Rattle.log_model.specs.declared.job.Why.TheVariants as whys
 

@@ -21,15 +21,15 @@ use Rattle.tab_ids.specs.declared.StateId.{StateId}
 use Rattle.tab_one_pass.proofs.Calms.{swept_calm}
 use Rattle.tab_one_pass.proofs.Dropped.{destroyed_left, moved_blamed}
 use Rattle.tab_one_pass.proofs.Opens.{open_left, open_swept, place_same, swept_orders}
+use Rattle.tab_one_pass.proofs.Orphans.{stray_sent}
 use Rattle.tab_one_pass.proofs.Passes.{left_drops, left_then, loaded_before, swept_left}
 use Rattle.tab_one_pass.proofs.Stands.{rows_swept, stand_swept}
 use Rattle.tab_one_pass.specs.Noting.{AreNoted}
-use Rattle.tab_one_pass.specs.Passing.{AreLeftStrays, HasClearedOut, HasGivenWay, IsOpen, LeavesPass, MayStand, WereLoaded}
-use Rattle.tab_passes.proofs.Goings.{show_causes}
-use Rattle.tab_passes.specs.Causes.{MayCause, MayServe, show_why}
-use Rattle.tab_passes.specs.Passing.{HasOnly, InPass, IsPassing}
+use Rattle.tab_one_pass.specs.Passing.{AreLeftStrays, HasClearedOut, HasGivenWay, IsOpen, LeavesPass, MayStand, SendsForStrays, WereLoaded}
+pub use Rattle.tab_serves.proofs.PassedOn.{show_causes}
+use Rattle.tab_serves.specs.PassedOn.{MayServe}
+use Rattle.tab_serves.specs.Serving.{HasOnly, InPass, IsOfWalk, IsPassing, MayCause, show_why}
 use Rattle.tab_serves.proofs.Orders.{IsOrderOf}
-use Rattle.tab_serves.specs.Serving.{IsOfWalk}
 use Rattle.tab_sweeps.specs.Sweeping.{AreBlamed, HasOnlySwept, IsSweptTurn, NoneStray}
 use Rattle.tab_whole.specs.Tab.{IsTab}
 
@@ -138,3 +138,7 @@ module _ (p : InPass) (out : List RowKind) (t : Tables) (pass : IsPassing p out 
 
       pub cleared_only : HasOnlyDestroyed y mid new → HasClearedOut p.event blame out new
       cleared_only destroys = record { swept = mid; sweeps = only; destroys = destroys }
+
+      pub cleared_sent : HasOnlyDestroyed y mid new → SendsForStrays s x out new
+      cleared_sent destroys awake_ =
+          stray_sent t.running p.loads p.hand p.event out pass.going.tab awake_ blame mid new only swept destroys ends left.documents left.history

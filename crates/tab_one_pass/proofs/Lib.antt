@@ -3,7 +3,11 @@ pub mod Notings
 pub mod Dropped
 pub mod Opens
 pub mod Stands
+pub mod Moves
 pub mod Calms
 pub mod Passes
+pub mod Orphans
 pub mod Gives
 pub mod Wholes
+pub mod PassedOn
+pub mod Lives

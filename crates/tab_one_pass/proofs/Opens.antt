@@ -11,18 +11,17 @@ use Rattle.seen_laws.specs.InEvent.{now_of}
 use Rattle.std.proofs.Common.{List, None, Option, Some, [], ap, refl, subst, sym, ◌∙◌, ◌≡◌}
 use Rattle.std.specs.Prelude.{option_map}
 use Rattle.tab_drops.proofs.Spans.{unheld_on}
-use Rattle.tab_drops.proofs.Turns.{visited_same}
+pub use Rattle.tab_drops.proofs.Turns.{visited_same}
 use Rattle.tab_drops.specs.Dropping.{IsLoadOf, LeavesAll}
 use Rattle.tab_ids.specs.declared.DocId.{DocId}
 use Rattle.tab_ids.specs.declared.NavId.{NavId}
 use Rattle.tab_ids.specs.declared.ReqId.{ReqId}
 use Rattle.tab_ids.specs.declared.StateId.{StateId}
 use Rattle.tab_one_pass.specs.Passing.{IsOpen, TakersServe}
-use Rattle.tab_passes.proofs.Onlies.{only_as}
-use Rattle.tab_passes.specs.Causes.{MayCause, MayServe, show_why}
-use Rattle.tab_passes.specs.Passing.{HasOnly, InPass}
+use Rattle.tab_serves.proofs.Calms.{only_as}
+use Rattle.tab_serves.specs.PassedOn.{MayServe}
+use Rattle.tab_serves.specs.Serving.{HasOnly, InPass, IsOfWalk, MayCause, show_why}
 use Rattle.tab_serves.proofs.Orders.{IsOrderOf, parents_over, taken_over, ways_over, were_over}
-use Rattle.tab_serves.specs.Serving.{IsOfWalk}
 use Rattle.tab_sweeps.proofs.ForCallers.{moves_on}
 use Rattle.tab_sweeps.specs.Sweeping.{HasOnlySwept, IsSweepOf, IsSweptTurn, NoneStray}
 use Rattle.tab_whole.specs.Tab.{IsTab}

@@ -1,5 +1,8 @@
 -- One part of a pass after the other: what it leaves, and what goes on.
+use Rattle.calm_facts.proofs.Loads.{loads_same}
+use Rattle.calm_facts.specs.Loads.{LoadsHaveDocuments}
 use Rattle.frame_facts.specs.Lasting.{Wish, wish}
+use Rattle.home_facts.specs.Homes.{document_in}
 use Rattle.request_facts.proofs.Readers.{reads_then}
 use Rattle.tab_sweeps.proofs.Loads.{loaded_never, unloaded_by}
 use Rattle.asked_facts.specs.Asking.{ArePlain}
@@ -25,19 +28,17 @@ use Rattle.tab_ids.specs.declared.DocId.{DocId}
 use Rattle.tab_ids.specs.declared.NavId.{NavId}
 use Rattle.tab_ids.specs.declared.ReqId.{ReqId}
 use Rattle.tab_ids.specs.declared.StateId.{StateId}
-use Rattle.tab_one_pass.proofs.Calms.{drops_calm, told_calm}
+use Rattle.tab_one_pass.proofs.Calms.{drops_calm, swept_loads, told_calm, told_loads}
 use Rattle.tab_one_pass.proofs.Opens.{place_same, serve_on, takers_on}
 use Rattle.tab_one_pass.proofs.Sents.{IsAnyTask, WasStray, joined_same, looks_same, strays_over, usable_before, were_same}
 use Rattle.tab_one_pass.specs.Passing.{AreLeftStrays, HasPassed, IsLeftStray, IsOpen, LeavesPass}
-use Rattle.tab_passes.proofs.Goings.{goes_on}
-use Rattle.tab_passes.proofs.Onlies.{only_as}
-use Rattle.tab_passes.specs.Causes.{MayCause}
-use Rattle.tab_passes.specs.Passing.{HasOnly}
-use Rattle.tab_passes.specs.Telling.{HasOnlyTold, IsToldMore, IsUpdateFor}
+pub use Rattle.tab_serves.proofs.PassedOn.{goes_on}
+use Rattle.tab_serves.proofs.Calms.{only_as}
+use Rattle.tab_serves.specs.Serving.{HasOnly, HasOnlyServed, HasWalked, IsOfWalk, LeavesLog, MayCause, MayWalk}
+use Rattle.tab_serves.specs.PassedOn.{HasOnlyTold, IsToldMore, IsUpdateFor}
 use Rattle.tab_serves.proofs.Orders.{IsOrderOf, taken_over, walk_orders}
-use Rattle.tab_drops.proofs.Turns.{reached_same}
+pub use Rattle.tab_drops.proofs.Turns.{reached_same}
 use Rattle.tab_serves.proofs.Reached.{loads_stand_still}
-use Rattle.tab_serves.specs.Serving.{HasOnlyServed, HasWalked, IsOfWalk, LeavesLog, MayWalk}
 use Rattle.tab_sweeps.specs.Sweeping.{AreBlamed, IsSweptTurn}
 use Rattle.walk_rows.proofs.Sinces.{places_since}
 use Rattle.walk_rows.specs.Since.{AwakeSince}
@@ -56,7 +57,7 @@ look_what (Some q) = refl
 
 pub left_none : (s : Seen) → LeavesPass s s
 left_none s =
-    record { history = refl; aim = refl; parked = refl; joined = refl; loads = λ req l at on. at; others = λ req l at off. at; whats = λ r. refl; causes = λ why may. may; ready = λ state some. some; calms = keeps_none s }
+    record { history = refl; aim = refl; parked = refl; joined = refl; loads = λ req l at on. at; others = λ req l at off. at; whats = λ r. refl; causes = λ why may. may; ready = λ state some. some; calms = keeps_none s; loading = λ are. are }
 
 pub left_then : (s t u : Seen) → LeavesPass s t → LeavesPass t u → LeavesPass s u
 left_then s t u one two =
@@ -71,6 +72,7 @@ left_then s t u one two =
       causes = λ why may. two.causes why (one.causes why may);
       ready = λ state some. one.ready state (two.ready state some);
       calms = keeps_then s t u one.history one.aim one.calms two.calms;
+      loading = λ are. two.loading (one.loading are);
     }
 
 -- where loads gave way
@@ -87,6 +89,7 @@ left_drops s t left =
       causes = left.orders;
       ready = λ state some. ap (λ (l : List Document). list_any (λ (d : Document). is_usable d state) l) (sym left.documents) ∙ some;
       calms = drops_calm s t left;
+      loading = loads_same s t left.loads (λ doc. ap (λ (l : List Document). document_in l doc) left.documents);
     }
   where
     by_found : (req : ReqId) (l : Look) → is_ongoing l ≡ false → (o : Option Asked) → request_of s req ≡ o → option_map look o ≡ Some l → look_of t req ≡ Some l
@@ -118,8 +121,8 @@ loaded_before s t left state some = by_load (ongoing_load s state) refl
         absurd cc
 
 -- where orders were sent
-pub left_orders : (e : InEvent) (was out : List RowKind) → HasOnly (IsOrderOf IsAnyTask) was out → (now_of e out).history ≡ (now_of e was).history → aim_of (now_of e out) ≡ aim_of (now_of e was) → (now_of e out).parked ≡ (now_of e was).parked → ((why : Why) → MayCause (now_of e was) why → MayCause (now_of e out) why) → KeepsCalm (now_of e was) (now_of e out) → LeavesPass (now_of e was) (now_of e out)
-left_orders e was out only history aim parked causes calms =
+pub left_orders : (e : InEvent) (was out : List RowKind) → HasOnly (IsOrderOf IsAnyTask) was out → (now_of e out).history ≡ (now_of e was).history → aim_of (now_of e out) ≡ aim_of (now_of e was) → (now_of e out).parked ≡ (now_of e was).parked → ((why : Why) → MayCause (now_of e was) why → MayCause (now_of e out) why) → KeepsCalm (now_of e was) (now_of e out) → (LoadsHaveDocuments (now_of e was) → LoadsHaveDocuments (now_of e out)) → LeavesPass (now_of e was) (now_of e out)
+left_orders e was out only history aim parked causes calms loading =
     record {
       history = history;
       aim = aim;
@@ -131,6 +134,7 @@ left_orders e was out only history aim parked causes calms =
       causes = causes;
       ready = λ state. usable_before e was out only state;
       calms = calms;
+      loading = loading;
     }
 
 -- ---- orders
@@ -255,7 +259,7 @@ module _ (e : InEvent) (run : Option ReqId) (why : Why) (was out : List RowKind)
 
   pub told_left : LeavesPass s t
   told_left =
-      left_orders e was out orders more.history more.aim more.parked told_causes (told_calm e why was out only more)
+      left_orders e was out orders more.history more.aim more.parked told_causes (told_calm e why was out only more) (told_loads e why was out only)
 
 -- ---- those who need it are served
 
@@ -274,7 +278,7 @@ module _ (e : InEvent) (run : Option ReqId) (cause : Why) (was out : List RowKin
 
   pub walked_left : LeavesPass (now_of e was) (now_of e out)
   walked_left =
-      left_orders e was out walked_orders left.history left.aim left.parked left.causes left.calms
+      left_orders e was out walked_orders left.history left.aim left.parked left.causes left.calms left.loading
 
   pub walked_strays : (blame : List (StateId × ReqId)) → AreLeftStrays (now_of e was) blame → AreLeftStrays (now_of e out) blame
   walked_strays blame = strays_left e was out blame walked_orders left.history left.causes
@@ -283,4 +287,4 @@ module _ (e : InEvent) (run : Option ReqId) (cause : Why) (was out : List RowKin
 
 pub swept_left : (e : InEvent) (was out : List RowKind) → HasOnly (IsOrderOf IsOfWalk) was out → IsSweptTurn (now_of e was) (now_of e out) → KeepsCalm (now_of e was) (now_of e out) → LeavesPass (now_of e was) (now_of e out)
 swept_left e was out only turn calms =
-    left_orders e was out (any_orders was out only) turn.history turn.aim turn.parked turn.causes calms
+    left_orders e was out (any_orders was out only) turn.history turn.aim turn.parked turn.causes calms (swept_loads (now_of e was) (now_of e out) turn)

@@ -22,7 +22,7 @@ use Rattle.left_facts.specs.Left.{WereShown}
 use Rattle.tab_ids.specs.declared.NavId.{NavId}
 use Rattle.tab_ids.specs.declared.ReqId.{ReqId}
 use Rattle.tab_ids.specs.declared.StateId.{StateId}
-use Rattle.tab_passes.specs.Passing.{HasOnly}
+use Rattle.tab_serves.specs.Serving.{HasOnly}
 use Rattle.tab_serves.proofs.Orders.{IsOrderOf, over_orders}
 use Rattle.tab_sweeps.proofs.Loads.{unloaded_same}
 use Rattle.tab_sweeps.specs.Sweeping.{IsStray}

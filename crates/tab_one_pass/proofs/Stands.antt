@@ -19,7 +19,8 @@ use Rattle.tab_drops.specs.Dropping.{IsBare, StandOrBare}
 use Rattle.tab_ids.specs.declared.DocId.{DocId}
 use Rattle.tab_ids.specs.declared.NavId.{NavId}
 use Rattle.tab_ids.specs.declared.ReqId.{ReqId}
-use Rattle.tab_serves.proofs.Reached.{IsReachedAt, reached_at, reached_where}
+use Rattle.tab_serves.proofs.Reached.{reached_where}
+pub use Rattle.tab_serves.proofs.Reached.{IsReachedAt, reached_at}
 use Rattle.tab_sweeps.proofs.ForCallers.{needed}
 use Rattle.tab_sweeps.proofs.Loads.{awake_unloaded}
 use Rattle.tab_sweeps.specs.Sweeping.{IsOnStray, IsSweptTurn, NoneStray}

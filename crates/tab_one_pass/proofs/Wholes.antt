@@ -14,13 +14,13 @@ use Rattle.tab_doors.specs.declared.tables.Tables.{Tables}
 use Rattle.tab_ids.specs.declared.NavId.{NavId}
 use Rattle.tab_ids.specs.declared.ReqId.{ReqId}
 use Rattle.tab_ids.specs.declared.StateId.{StateId}
+use Rattle.tab_one_pass.proofs.Orphans.{put_sent}
 use Rattle.tab_one_pass.proofs.Passes.{any_orders, left_then, loaded_before, may_walk, strays_left, told_causes, told_left, told_orders, told_passed, walked_left, walked_passed, walked_strays}
 use Rattle.tab_one_pass.proofs.Sents.{strays_over}
-use Rattle.tab_one_pass.specs.Passing.{AreLeftStrays, HasClearedOut, HasGivenWay, HasPassed, HasPutOut, IsOpen, LeavesPass, WereLoaded}
+use Rattle.tab_one_pass.specs.Passing.{AreLeftStrays, HasClearedOut, HasGivenWay, HasPassed, HasPutOut, IsOpen, LeavesPass, SendsForStrays, WereLoaded}
 use Rattle.tab_serves.proofs.Orders.{walk_orders}
-use Rattle.tab_passes.specs.Passing.{InPass, IsPassing}
-use Rattle.tab_passes.specs.Telling.{HasOnlyTold, IsToldMore}
-use Rattle.tab_serves.specs.Serving.{HasOnlyServed, HasWalked, LeavesLog, MayWalk}
+use Rattle.tab_serves.specs.Serving.{HasOnlyServed, HasWalked, InPass, IsPassing, LeavesLog, MayWalk}
+use Rattle.tab_serves.specs.PassedOn.{HasOnlyTold, IsToldMore}
 use Rattle.walk_facts.specs.Serving.{AreServed, IsServed}
 
 -- who is served is so still once the others were told
@@ -73,6 +73,12 @@ module _ (p : InPass) (cause tells : Why) (t m : Tables) (was given cleared : Li
           let told_ = strays_over p.event served out (told_orders tells served out only) doc state stray in
           let walked_ = strays_over p.event cleared served (any_orders cleared served (walk_orders u.running cause cleared served serves)) doc state told_.stray in
           loaded_before s (now_of p.event given) first state (loaded doc state walked_.stray)
+
+      pub whole_sent : LeavesPass s (now_of p.event given) → HasGivenWay s t.running was given → SendsForStrays (now_of p.event given) mid given cleared → SendsForStrays s (now_of p.event out) was out
+      whole_sent first gives sends awake_ doc state stray =
+          let told_ = strays_over p.event served out (told_orders tells served out only) doc state stray in
+          let walked_ = strays_over p.event cleared served (any_orders cleared served (walk_orders u.running cause cleared served serves)) doc state told_.stray in
+          put_sent p.event t.running cause tells was given cleared served out first gives sends u.running serves only awake_ doc state walked_.stray
 
       pub whole_left : LeavesPass s (now_of p.event given) → LeavesPass (now_of p.event given) mid → LeavesPass s (now_of p.event out)
       whole_left first then_ =

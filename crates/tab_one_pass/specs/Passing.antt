@@ -1,6 +1,7 @@
 -- What one pass over a tab with loads asks of the log, what it puts out, and what it leaves, so that another one may follow.
 -- HTML Standard, "apply the history step" and "destroy a document"; that all this goes by passes is this project's own.
-use Rattle.calm_facts.specs.Calm.{AreRooted, CalmUnless, HasUsable, IsCalm, IsCalmAround, IsCalmYet, KeepsCalm}
+use Rattle.calm_facts.specs.Calm.{AreRooted, CalmUnless, HasUsable, IsCalm, IsCalmAround, IsCalmYet, KeepsCalm, UnmovedAreHere}
+use Rattle.calm_facts.specs.Loads.{LoadsHaveDocuments}
 use Rattle.frame_whole.specs.Tab.{AreAwakeWithRows}
 use Rattle.left_facts.specs.Left.{WereShown}
 use Rattle.load_facts.specs.Loading.{Look, is_ongoing, look_of}
@@ -8,24 +9,28 @@ use Rattle.log_model.specs.History.{has_row}
 use Rattle.log_model.specs.Orders.{ongoing_load}
 use Rattle.log_model.specs.Places.{aim_of}
 use Rattle.log_model.specs.Seen.{Asked, Document, Place, Seen, document_of, place_of}
+use Rattle.log_model.specs.declared.job.Job.{Job}
 use Rattle.log_model.specs.declared.job.Why.{Why}
 use Rattle.log_model.specs.declared.row_kind.RowKind.{RowKind}
 use Rattle.nav_tree.specs.Tree.{is_state}
 use Rattle.request_facts.proofs.Readers.{SameReads}
 use Rattle.seen_laws.specs.InEvent.{InEvent, now_of}
 use Rattle.std.specs.Map.{lookup}
-use Rattle.std.specs.Prelude.{List, None, Option, Some, [], false, is_some, true, ℕ, ◌≡◌}
-use Rattle.tab_drops.specs.Dropping.{AreUnheld, HasOnlyDestroyed, HasOnlyDroppedBy, IsUnsettled, StandOrBare, StandOrMove}
+use Rattle.std.specs.Prelude.{List, None, Option, Some, [], false, is_some, true, ℕ, ◌++◌, ◌∷◌, ◌≡◌}
+use Rattle.tab_drops.specs.Dropping.{HasOnlyDestroyed}
+pub use Rattle.tab_drops.specs.Dropping.{AreUnheld, HasOnlyDroppedBy, IsBare, IsLoadOf, IsUnsettled, StandOrBare, StandOrMove}
 use Rattle.tab_ids.specs.declared.DocId.{DocId}
 use Rattle.tab_ids.specs.declared.NavId.{NavId}
 use Rattle.tab_ids.specs.declared.ReqId.{ReqId}
 use Rattle.tab_ids.specs.declared.StateId.{StateId}
-use Rattle.tab_moves.specs.Moving.{IsSince}
-use Rattle.tab_passes.specs.Causes.{MayCause, MayServe, show_why}
-use Rattle.tab_passes.specs.Telling.{HasOnlyTold}
-use Rattle.tab_serves.specs.Serving.{HasOnlyServed, HasWalked, ParentsShown}
-use Rattle.tab_sweeps.specs.Sweeping.{HasOnlySwept, IsStray}
-use Rattle.walk_rows.specs.Since.{AwakeSince, MovesVisited}
+use Rattle.tab_serves.specs.Serving.{HasOnlyServed, HasWalked, IsSince}
+pub use Rattle.tab_serves.specs.PassedOn.{MayServe}
+pub use Rattle.tab_serves.specs.Serving.{MayCause, ParentsShown, show_why}
+use Rattle.tab_serves.specs.PassedOn.{HasOnlyTold}
+use Rattle.tab_sweeps.specs.Sweeping.{HasOnlySwept}
+pub use Rattle.tab_sweeps.specs.Sweeping.{IsStray}
+use Rattle.walk_rows.specs.Since.{AwakeSince, MovesVisited, WasAwake}
+use Rattle.log_model.specs.declared.row_kind.RowKind.TheVariants as rows
 
 -- ---- what a pass asks for
 
@@ -73,7 +78,35 @@ AreLeftStrays s blame = (doc : DocId) (state : StateId) → IsStray s doc state 
 abbrev pub WereLoaded : Seen → Seen → Type 0
 WereLoaded s t = (doc : DocId) (state : StateId) → IsStray t doc state → is_some (ongoing_load s state) ≡ true
 
+-- the navigable of each ongoing load is awake
+abbrev pub LoadsAwake : Seen → Type 0
+LoadsAwake s = (req : ReqId) (nav : NavId) → IsLoadOf s req nav → (doc : DocId) × WasAwake s nav doc
+
+-- who is awake stays so
+abbrev pub KeepsAwake : Seen → Seen → Type 0
+KeepsAwake s t = (nav : NavId) (doc : DocId) → WasAwake s nav doc → WasAwake t nav doc
+
+-- each ongoing load has its document, and its navigable is awake
+pub record LoadsLive (s : Seen) : Type 0 where
+  pub awake : LoadsAwake s
+  pub loading : LoadsHaveDocuments s
+
+-- the navigable of each ongoing load that has no entry is awake, as where one was just removed
+abbrev pub BareAwake : Seen → Type 0
+BareAwake s = (req : ReqId) (nav : NavId) → IsLoadOf s req nav → IsBare s nav → (doc : DocId) × WasAwake s nav doc
+
 -- ---- what it puts out
+
+-- an order was put out
+pub record HasSent (was out : List RowKind) : Type 0 where
+  pub before : List RowKind
+  pub job : Job
+  pub later : List RowKind
+  pub is : out ≡ was ++ (before ++ rows.Sent job ∷ later)
+
+-- where a document is stray then, one was, if each load's navigable without an entry was awake
+abbrev pub SendsForStrays : Seen → Seen → List RowKind → List RowKind → Type 0
+SendsForStrays s t was out = BareAwake s → (doc : DocId) (state : StateId) → IsStray t doc state → HasSent was out
 
 -- where a traversal runs, ongoing loads gave way to it
 abbrev pub HasGivenWay : Seen → Option ReqId → List RowKind → List RowKind → Type 0
@@ -106,7 +139,7 @@ pub record HasPassed (e : InEvent) (s : Seen) : Type 0 where
   pub takers : TakersServe s
   pub rows_ : AreAwakeWithRows s
 
--- the history and its aim, what is held back and what has joined, and what each request asks; only ongoing loads ended; orders may be for whom they might be; no document was made usable; and the tab is as calm as it was
+-- the history and its aim, what is held back and what has joined, and what each request asks; only ongoing loads ended; orders may be for whom they might be; no document was made usable; the tab is as calm as it was; and each ongoing load has its document, if it had
 pub record LeavesPass (s t : Seen) : Type 0 where
   pub history : t.history ≡ s.history
   pub aim : aim_of t ≡ aim_of s
@@ -118,9 +151,11 @@ pub record LeavesPass (s t : Seen) : Type 0 where
   pub causes : (why : Why) → MayCause s why → MayCause t why
   pub ready : (state : StateId) → HasUsable t state → HasUsable s state
   pub calms : KeepsCalm s t
+  pub loading : LoadsHaveDocuments s → LoadsHaveDocuments t
 
--- where no traversal runs, the tab is calm, if it was so but for navigables without an entry, or around one of which a load was just applied; and whatever runs, who is awake is rooted, if they were
+-- where a traversal runs, whom it hasn't moved is where it is to be, if that was so; where none does, the tab is calm, if it was so but for navigables without an entry, or around one of which a load was just applied; and whatever runs, who is awake is rooted, if they were
 pub record LeavesCalm (run : Option ReqId) (s t : Seen) : Type 0 where
   pub yet : CalmUnless IsCalmYet run s → CalmUnless IsCalm run t
   pub around : (at : NavId) → CalmUnless (λ (x : Seen). IsCalmAround x at) run s → CalmUnless IsCalm run t
   pub rooted : AreRooted s → AreRooted t
+  pub unmoved : (req : ReqId) → run ≡ Some req → UnmovedAreHere s → UnmovedAreHere t

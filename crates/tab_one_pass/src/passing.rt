@@ -6,8 +6,8 @@ ghost use Rattle.log_model.specs.ActsAtOnce.{ends_told};
 ghost use Rattle.seen_laws.specs.InEvent.{now_of};
 ghost use Rattle.tab_doors.specs.Working.{KeepsStore};
 ghost use Rattle.tab_drops.specs.Dropping.{StandOrBare};
-ghost use Rattle.tab_one_pass.specs.Passing.{AreLeftStrays, HasClearedOut, HasGivenWay, HasPassed, HasPutOut, IsOpen, LeavesCalm, LeavesPass, MayPass, MayStand, WereLoaded};
-ghost use Rattle.tab_passes.specs.Passing.{InPass, IsPassing};
+ghost use Rattle.tab_one_pass.specs.Passing.{AreLeftStrays, HasClearedOut, HasGivenWay, HasPassed, HasPutOut, IsOpen, LeavesCalm, LeavesPass, MayPass, MayStand, SendsForStrays, WereLoaded};
+ghost use Rattle.tab_serves.specs.Serving.{InPass, IsPassing};
 ghost use Rattle.tab_sweeps.specs.Sweeping.{AreBlamed};
 ghost use Rattle.walk_facts.specs.Serving.{AreServed};
 
@@ -72,6 +72,7 @@ fn clear_out(
     ensures loads { OnOk result (LoadsStand (now_of p.event out.new)) }
     ensures strays { OnOk result (AreLeftStrays (now_of p.event out.new) blame.new.entries) }
     ensures loaded { OnOk result (WereLoaded (now_of p.event out.old) (now_of p.event out.new)) }
+    ensures sent { OnOk result (SendsForStrays (now_of p.event out.old) (now_of p.event out.new) out.old out.new) }
     ensures rows { OnOk result (AreAwakeWithRows (now_of p.event out.new)) }
     ensures left { OnOk result (LeavesPass (now_of p.event out.old) (now_of p.event out.new)) }
     ensures only { OnOk result (HasClearedOut p.event blame.old.entries out.old out.new) }
@@ -104,6 +105,7 @@ pub fn pass(
     ensures told { OnOk result (ends_told (now_of p.event out.new) ≡ true) }
     ensures strays { OnOk result (AreLeftStrays (now_of p.event out.new) blame.new.entries) }
     ensures loaded { OnOk result (WereLoaded (now_of p.event out.old) (now_of p.event out.new)) }
+    ensures sent { OnOk result (SendsForStrays (now_of p.event out.old) (now_of p.event out.new) out.old out.new) }
     ensures passed { OnOk result (HasPassed p.event (now_of p.event out.new)) }
     ensures left { OnOk result (LeavesPass (now_of p.event out.old) (now_of p.event out.new)) }
     ensures calm { OnOk result (LeavesCalm tables.old.running (now_of p.event out.old) (now_of p.event out.new)) }

@@ -10,7 +10,7 @@ use Rattle.seen_laws.specs.Sending.{is_passed}  -- keep
 use Rattle.log_model.specs.declared.job.Task.TheVariants as tasks  -- keep
 use Rattle.log_model.specs.declared.job.Why.TheVariants as whys  -- keep
 use Rattle.asked_facts.specs.Asking.{ArePlain}
-use Rattle.frame_facts.proofs.Moves.{ServesNoneToBegin}
+pub use Rattle.tab_going.proofs.PassedOn.{ServesNoneToBegin}
 use Rattle.log_model.proofs.Refl.{nat_eq_refl}
 use Rattle.log_model.specs.Checks.{may_go_on}
 use Rattle.log_model.specs.Equal.{implies}

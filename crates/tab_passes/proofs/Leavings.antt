@@ -1,7 +1,6 @@
 -- All goes on as documents are left: frozen or discarded, within a move or not.
-use Rattle.frame_facts.proofs.Moves.{ServesNoneToBegin}
+use Rattle.tab_going.proofs.PassedOn.{ServesNoneToBegin, discard_tab, discarded_lasting, freeze_tab, frozen_lasting, show_tab, shown_lasting}
 use Rattle.doc_facts.specs.Docs.{HasPlace}
-use Rattle.last_facts.proofs.Orders.{discarded_lasting, frozen_lasting, shown_lasting}
 use Rattle.log_model.specs.After.{after}
 use Rattle.log_model.specs.Places.{aim_of, all_stand}
 use Rattle.log_model.specs.Seen.{Document, Place, Seen, document_of}
@@ -23,7 +22,7 @@ use Rattle.tab_doors.specs.Keeping.{Move, with_left}
 use Rattle.tab_doors.specs.Orders.{order_to}
 use Rattle.tab_doors.specs.Working.{IsAtWork, IsAtWorkFor, KeepsStore}
 use Rattle.tab_doors.specs.declared.tables.Tables.{Tables}
-use Rattle.tab_going.proofs.Rows.{sent_going}
+pub use Rattle.tab_going.proofs.Rows.{sent_going}
 use Rattle.tab_going.specs.Going.{IsGoing}
 use Rattle.tab_ids.specs.declared.DocId.{DocId}
 use Rattle.tab_ids.specs.declared.Epoch.{Epoch}
@@ -31,9 +30,7 @@ use Rattle.tab_ids.specs.declared.ReqId.{ReqId}
 use Rattle.tab_ids.specs.declared.StateId.{StateId}
 use Rattle.tab_passes.specs.Leaving.{IsLeaving, MayLeave, left_then}
 use Rattle.tab_passes.specs.Passing.{InPass, IsPassing}
-use Rattle.tab_whole.proofs.Leaving.{discard_tab, freeze_tab}
-use Rattle.tab_whole.proofs.Sending.{IsToMade, sent_home}
-use Rattle.tab_whole.proofs.Showing.{IsShowOf, show_tab}
+pub use Rattle.tab_going.proofs.PassedOn.{IsShowOf, IsToMade, sent_home}
 use Rattle.log_model.specs.declared.job.Task.TheVariants as tasks
 use Rattle.log_model.specs.declared.row_kind.RowKind.TheVariants as rows
 

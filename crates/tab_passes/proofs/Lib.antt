@@ -21,3 +21,4 @@ pub mod Stills
 pub mod Serveds
 pub mod Fews
 pub mod Lives
+pub mod PassedOn

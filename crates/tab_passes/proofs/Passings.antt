@@ -1,7 +1,7 @@
 -- All goes on after a document was told length and index.
 use Rattle.tab_passes.proofs.Untold.{IsTellDue}  -- keep
 use Rattle.home_facts.specs.Homes.{IsAtHome}
-use Rattle.last_facts.proofs.Orders.{told_lasting}
+use Rattle.tab_going.proofs.PassedOn.{IsToMade, sent_home, tell_tab, told_lasting}
 use Rattle.log_model.specs.After.{after}
 use Rattle.log_model.specs.Places.{aim_of, all_stand}
 use Rattle.log_model.specs.Seen.{Document, Seen}
@@ -28,9 +28,7 @@ use Rattle.tab_ids.specs.declared.ReqId.{ReqId}
 use Rattle.tab_passes.proofs.Tellings.{telling_aim, told_turn}
 use Rattle.tab_passes.specs.Passing.{InPass, IsPassing}
 use Rattle.tab_passes.specs.Telling.{IsToldTurn}
-use Rattle.tab_whole.proofs.Sending.{IsToMade, sent_home}
-use Rattle.tab_whole.proofs.Telling.{tell_tab}
-use Rattle.tab_whole.specs.Tab.{IsTab}
+pub use Rattle.tab_going.specs.Going.{IsTab}
 use Rattle.log_model.specs.declared.job.Task.TheVariants as tasks
 use Rattle.log_model.specs.declared.row_kind.RowKind.TheVariants as rows
 

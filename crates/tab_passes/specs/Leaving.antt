@@ -12,7 +12,7 @@ use Rattle.log_model.specs.AfterPlaces.{sleepers_with, without_doc}
 use Rattle.log_model.specs.declared.row_kind.RowKind.{RowKind}
 use Rattle.log_model.specs.declared.job.Job.{Job}
 use Rattle.log_model.specs.declared.job.Why.{Why}
-use Rattle.last_facts.proofs.Moved.{MayMove}
+use Rattle.tab_going.proofs.PassedOn.{MayMove}
 use Rattle.mover_facts.proofs.Orders.{MovesEach}
 use Rattle.owed_facts.specs.Owed.{IsOwed}
 use Rattle.nav_tree.specs.Tree.{Tree, document_of as document_at}
@@ -25,7 +25,7 @@ use Rattle.tab_doors.specs.Keeping.{Move}
 use Rattle.tab_doors.specs.Look.{Sight, sight}
 use Rattle.tab_doors.specs.Working.{IsAtWorkFor}
 use Rattle.tab_doors.specs.declared.tables.Tables.{Tables}
-use Rattle.tab_going.specs.Going.{IsGoing}
+pub use Rattle.tab_going.specs.Going.{IsGoing}
 use Rattle.tab_ids.specs.declared.DocId.{DocId}
 use Rattle.tab_ids.specs.declared.NavId.{NavId}
 use Rattle.tab_ids.specs.declared.StateId.{StateId}

@@ -3,3 +3,4 @@ pub mod Telling
 pub mod Causes
 pub mod Leaving
 pub mod Sleepers
+pub mod PassedOn

@@ -3,7 +3,7 @@ use Rattle.calm_facts.specs.Calm.{HasUsable}
 use Rattle.coord_facts.proofs.Held.{on_else}
 use Rattle.frame_facts.specs.Lasting.{Wish, wish}
 use Rattle.load_facts.specs.Loading.{Look, is_ongoing, look, look_of}
-use Rattle.log_model.specs.AfterRequests.{entries_taken, on_request, without_req}
+use Rattle.log_model.specs.AfterRequests.{entries_taken, on_request}
 use Rattle.log_model.specs.Orders.{is_usable}
 use Rattle.log_model.specs.Places.{aim_of, all_stand, all_stand_in, is_load, is_traversal}
 use Rattle.log_model.specs.Seen.{Asked, Document, Place, Seen, request_in}
@@ -15,19 +15,18 @@ use Rattle.log_model.specs.declared.row_kind.RowKind.{RowKind}
 use Rattle.owed_facts.proofs.Requests.{req_same}
 use Rattle.seen_laws.proofs.InEvents.{now_more}
 use Rattle.seen_laws.specs.InEvent.{InEvent, now_of}
-use Rattle.std.proofs.Common.{Bool, List, None, Option, Some, [], ap, false, refl, subst, sym, true, ℕ, filter, ◌&&◌, ◌++◌, ◌==◌, ◌∙◌, ◌∷◌, ◌≡◌}
+use Rattle.std.proofs.Common.{Bool, List, None, Option, Some, ap, false, refl, subst, sym, true, ℕ, filter, ◌&&◌, ◌==◌, ◌∙◌, ◌≡◌}
 use Rattle.std.proofs.lemmas.Bool.{and_parts}
 use Rattle.std.specs.List.{list_any}
 use Rattle.std.specs.Prelude.{is_none, option_map}
 use Rattle.tab_begins.proofs.Begins.{passed_on, strays_on}
 use Rattle.tab_begins.proofs.Queues.{await_on, deltas_same, rest_left, steps_on}
-use Rattle.tab_begins.specs.Queueing.{AreStepsOf, HasQueue, HaveJoined, IsAheadOf, is_traverse}
+use Rattle.tab_begins.specs.Queueing.{AreLeftStrays, AreStepsOf, HasPassed, HasQueue, HaveJoined, IsAheadOf, is_traverse}
 use Rattle.tab_doors.specs.declared.tables.Tables.{Tables}
 use Rattle.tab_ids.specs.declared.ReqId.{ReqId}
 use Rattle.tab_ids.specs.declared.StateId.{StateId}
-use Rattle.tab_one_pass.specs.Passing.{AreLeftStrays, HasPassed}
-use Rattle.tab_passes.specs.Passing.{InPass, IsPassing}
-use Rattle.tab_turns.specs.Ending.{HasEnded}
+use Rattle.tab_begins.proofs.Afters.{InPass, IsPassing}
+use Rattle.tab_begins.specs.PassedOn.{HasEnded}
 use Rattle.tab_whole.proofs.Beginning.{no_load}
 use Rattle.tab_whole.specs.Tab.{IsTab}
 use Rattle.log_model.specs.declared.change.Change.TheVariants as changes

@@ -1,25 +1,21 @@
 -- Where no traversal runs and all stand, after a pass: another pass may follow, for whatever its orders are.
 use Rattle.log_model.specs.Places.{aim_of, all_stand}
-use Rattle.log_model.specs.Seen.{Asked, Place, Seen, place_of, request_in}
+use Rattle.log_model.specs.Seen.{Place, Seen, place_of}
 use Rattle.log_model.specs.declared.job.Why.{Why}
 use Rattle.log_model.specs.declared.row_kind.RowKind.{RowKind}
 use Rattle.seen_laws.specs.InEvent.{now_of}
-use Rattle.std.proofs.Common.{Bool, List, None, Option, Some, ap, false, subst, sym, true, ℕ, ◌∙◌, ◌≡◌}
+use Rattle.std.proofs.Common.{List, None, Option, Some, ap, false, subst, sym, true, ℕ, ◌∙◌, ◌≡◌}
 use Rattle.tab_doors.specs.declared.tables.Tables.{Tables}
-use Rattle.tab_drops.proofs.ForCallers.{stand_bare}
+use Rattle.tab_begins.proofs.PassedOn.{stand_bare}
 use Rattle.tab_ids.specs.declared.NavId.{NavId}
 use Rattle.tab_ids.specs.declared.ReqId.{ReqId}
 use Rattle.tab_ids.specs.declared.StateId.{StateId}
-use Rattle.tab_one_pass.proofs.Passes.{left_blamed}
-use Rattle.tab_one_pass.specs.Passing.{AreLeftStrays, HasPassed, IsOpen, MayStand}
-use Rattle.tab_passes.proofs.Aims.{aim_is}
-use Rattle.tab_passes.specs.Causes.{MayCause}
-use Rattle.tab_passes.specs.Passing.{InPass, IsPassing}
-use Rattle.tab_sweeps.proofs.Bares.{own_document}
-use Rattle.tab_sweeps.specs.Sweeping.{AreBlamed}
+use Rattle.tab_begins.proofs.Traverses.{left_blamed, own_document}
+use Rattle.tab_begins.specs.Queueing.{AreBlamed, AreLeftStrays, HasPassed, IsOpen, MayCause, MayStand}
+use Rattle.tab_begins.proofs.Afters.{InPass, IsPassing, aim_is}
 use Rattle.tab_whole.specs.Tab.{IsTab}
 use Rattle.walk_rows.proofs.Needs.{need_not_all_stand}
-use Rattle.walk_rows.specs.Since.{IsVisitedInNeed, MovesVisited}
+use Rattle.walk_rows.specs.Since.{IsVisitedInNeed}
 
 module _ (p : InPass) (out : List RowKind) (t : Tables) (passing : IsPassing p out t) (idle : t.running ≡ None) (passed : HasPassed p.event (now_of p.event out)) (stand : all_stand (now_of p.event out) (now_of p.event out).history.current ≡ true) where
   abbrev s : Seen

@@ -6,20 +6,20 @@ use Rattle.log_model.proofs.Refl.{nat_eq_refl}
 use Rattle.log_model.specs.ActsAtOnce.{ends_stepped, has_document, has_no_step_waiting, has_reason_to_run, is_ready_load}
 use Rattle.log_model.specs.Equal.{implies}
 use Rattle.log_model.specs.Once.{loads}
-use Rattle.log_model.specs.Places.{aim_of, all_stand, is_load, is_ongoing_load, is_reload, is_traversal, is_under_way, passed_traversal, running_traversal}
+use Rattle.log_model.specs.Places.{aim_of, all_stand, is_load, is_ongoing_load, is_traversal, is_under_way, passed_traversal, running_traversal}
 use Rattle.log_model.specs.Queue.{is_queue_free, is_step_under_way}
 use Rattle.log_model.specs.Seen.{Asked, Seen, request_in, request_of}
 use Rattle.log_model.specs.declared.request.Request.{Request}
 use Rattle.move_queue.specs.declared.queue_step.QueueStep.{QueueStep}
 use Rattle.rest_facts.proofs.Seated.{all_has}
 use Rattle.rest_facts.proofs.Stands.{all_requests}
-use Rattle.std.proofs.Common.{Bool, List, None, Option, Some, [], ap, false, filter, inl, inr, length, not, refl, subst, sym, true, ◌&&◌, ◌==◌, ◌||◌, ◌∙◌, ◌∷◌, ◌≡◌, ◌⊎◌}
+use Rattle.std.proofs.Common.{Bool, List, None, Option, Some, [], ap, false, inl, inr, length, not, refl, subst, sym, true, ◌&&◌, ◌==◌, ◌∙◌, ◌∷◌, ◌≡◌}
 use Rattle.std.proofs.lemmas.Bool.{and_parts}
 use Rattle.std.specs.List.{list_all}
 use Rattle.std.specs.Prelude.{is_some, option_and_then}
-use Rattle.tab_begins.specs.Queueing.{AreStepsOf, HasQueue, is_traverse}
+use Rattle.tab_begins.specs.Queueing.{AreStepsOf, HasQueue}
 use Rattle.tab_ids.specs.declared.ReqId.{ReqId}
-use Rattle.tab_passes.proofs.Aims.{passed_is, running_is}
+use Rattle.tab_begins.proofs.PassedOn.{passed_is, running_is}
 use Rattle.tab_rests.specs.Resting.{IsNoneDue}
 use Rattle.log_model.specs.declared.request.Request.TheVariants as requests
 

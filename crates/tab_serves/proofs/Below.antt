@@ -26,16 +26,15 @@ use Rattle.std.proofs.Common.{Bool, List, None, Option, Some, [], ap, cond, fals
 use Rattle.std.proofs.lemmas.Bool.{and_parts}
 use Rattle.std.specs.List.{list_any}
 use Rattle.std.specs.Prelude.{option_map, slice_get}
-use Rattle.tab_evicts.proofs.Hangings.{none_awake}
-use Rattle.tab_evicts.specs.Evicting.{NoLoadBelow}
+use Rattle.tab_walk.proofs.PassedOn.{has_filter_map, none_awake}
+use Rattle.tab_walk.specs.Cutting.{NoLoadBelow}
 use Rattle.tab_ids.specs.declared.DocId.{DocId}
 use Rattle.tab_ids.specs.declared.NavId.{NavId}
 use Rattle.tab_ids.specs.declared.ReqId.{ReqId}
 use Rattle.tab_ids.specs.declared.StateId.{StateId}
-use Rattle.tab_passes.proofs.Unders.{has_filter_map}
 use Rattle.tab_serves.proofs.Reached.{IsReachedAt, need_off, reached_at}
 use Rattle.tab_walk.specs.Moving.{NoLoadBelowKept}
-use Rattle.tab_whole.specs.Tab.{IsTab}
+use Rattle.tab_walk.specs.PassedOn.{IsTab}
 use Rattle.walk_facts.proofs.Placed.{found_nav}
 use Rattle.walk_rows.specs.Since.{IsVisitedInNeed}
 use Rattle.log_model.specs.declared.request.Request.TheVariants as requests

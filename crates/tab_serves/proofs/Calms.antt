@@ -1,7 +1,9 @@
--- What a turn of the walk puts out leaves the tab as calm as it was.
+-- What a turn of the walk puts out leaves the tab as calm as it was, and each ongoing load its document.
+use Rattle.calm_facts.proofs.Loads.{loads_sent}
 use Rattle.calm_facts.proofs.Sames.{IsUsableAt}
-use Rattle.calm_facts.proofs.Sents.{AreSeated, DiscardsNone, ShowsEntry, rooted_sent, usable_sent}
+use Rattle.calm_facts.proofs.Sents.{DiscardsNone, KeepsSeats, ShowsEntry, seats_none, seats_sent, seats_then, usable_sent}
 use Rattle.calm_facts.proofs.Turns.{IsCalmTurn, IsInPlace}
+use Rattle.calm_facts.specs.Loads.{LoadsHaveDocuments}
 use Rattle.hang_facts.proofs.Targets.{IsTarget, target_has}
 use Rattle.log_model.proofs.Refl.{nat_eq_refl, same_entry_refl}
 use Rattle.log_model.specs.After.{after}
@@ -20,23 +22,21 @@ use Rattle.log_model.specs.declared.row_kind.RowKind.{RowKind}
 use Rattle.mover_facts.proofs.Orders.{PutsToSleep}
 use Rattle.seen_laws.proofs.InEvents.{now_more}
 use Rattle.seen_laws.specs.InEvent.{InEvent, now_of, row_of}
-use Rattle.std.proofs.Common.{Bool, List, None, Option, Some, ap, cond, inl, inr, refl, subst, sym, true, ℕ, ◌==◌, ◌∙◌, ◌≡◌}
+use Rattle.std.proofs.Common.{Bool, List, None, Option, Some, [], ap, cond, inl, inr, refl, subst, sym, true, ℕ, ◌++◌, ◌==◌, ◌∙◌, ◌∷◌, ◌≡◌}
 use Rattle.std.specs.Prelude.{option_map}
 use Rattle.tab_doors.specs.declared.tables.Tables.{Tables}
 use Rattle.tab_ids.specs.declared.DocId.{DocId}
 use Rattle.tab_ids.specs.declared.EntryId.{EntryId}
 use Rattle.tab_ids.specs.declared.NavId.{NavId}
 use Rattle.tab_ids.specs.declared.StateId.{StateId}
-use Rattle.tab_moves.specs.Making.{HasMade}
-use Rattle.tab_passes.proofs.Onlies.{only_as}
-use Rattle.tab_passes.specs.Passing.{HasOnly}
+use Rattle.tab_walk.specs.PassedOn.{HasMade}
+pub use Rattle.tab_walk.proofs.Overs.{only_as}
+use Rattle.tab_walk.specs.Moving.{HasBeenMoved, HasOnly, IsLeaveFor}
 use Rattle.tab_serves.proofs.Orders.{IsOrderOf, over_orders}
-use Rattle.tab_walk.specs.Moving.{HasBeenMoved, IsLeaveFor}
 use Rattle.walk_facts.proofs.Placed.{found_nav}
 use Rattle.walk_facts.proofs.Sleepers.{becomes, place_becomes, sleepers_of, slept, slept_same}
 use Rattle.walk_facts.proofs.Turns.{show_aim}
 use Rattle.walk_facts.specs.Walking.{LeavesOthers}
-use Rattle.walk_rows.proofs.Wakes.{ShowsNone}
 use Rattle.log_model.specs.declared.job.Task.TheVariants as tasks
 use Rattle.log_model.specs.declared.row_kind.RowKind.TheVariants as rows
 
@@ -53,7 +53,7 @@ module _ (header : Header) (t : Tables) (nav : NavId) (entry : EntryId) (cause :
         own = λ now p there. inl (let both : Some p ≡ Some place = sym there ∙ placed in cc);
         usable = λ none doc d state found usable. record { d = d; found = found; usable = usable };
         target = λ row at doc d found usable. (doc, record { d = d; found = found; usable = usable });
-        seated = λ are. are;
+        seats = seats_none s;
       }
 
   -- an order that makes it
@@ -63,7 +63,7 @@ module _ (header : Header) (t : Tables) (nav : NavId) (entry : EntryId) (cause :
         own = λ now p there. inl (let both : Some p ≡ Some place = sym there ∙ places ∙ placed in cc);
         usable = λ none. stays;
         target = λ row at doc d found usable. (doc, stays doc d row.state found usable);
-        seated = rooted_sent s e.event e.actor job (subst (λ (k : Task). ShowsEntry s job.doc k) (sym task) tt);
+        seats = seats_sent s e.event e.actor job (subst (λ (k : Task). ShowsEntry s job.doc k) (sym task) tt);
       }
     where
       places : place_of (after s (row_of e (rows.Sent job))) nav ≡ place_of s nav
@@ -153,9 +153,9 @@ module _ (e : InEvent) (nav : NavId) (was out : List RowKind) (moved : HasBeenMo
   shown_usable =
       usable_sent m e.event e.actor moved.job (subst (λ (k : Task). DiscardsNone k) (sym moved.task) tt)
 
-  shown_seated : AreSeated m → AreSeated x
-  shown_seated =
-      rooted_sent m e.event e.actor moved.job (subst (λ (k : Task). ShowsEntry m moved.job.doc k) (sym moved.task) (λ d found. (moved.wanted.target, its.there, its.nav_is ∙ sym moved.wanted.nav_is ∙ ap (λ (x : Document). x.nav) (let both : Some moved.wanted.document ≡ Some d = sym moved.wanted.found ∙ found in let one : moved.wanted.document ≡ d = cc in one), moved.wanted.entry_is)))
+  shown_seats : KeepsSeats m x
+  shown_seats =
+      seats_sent m e.event e.actor moved.job (subst (λ (k : Task). ShowsEntry m moved.job.doc k) (sym moved.task) (λ d found. (moved.wanted.target, its.there, its.nav_is ∙ sym moved.wanted.nav_is ∙ ap (λ (x : Document). x.nav) (let both : Some moved.wanted.document ≡ Some d = sym moved.wanted.found ∙ found in let one : moved.wanted.document ≡ d = cc in one), moved.wanted.entry_is)))
     where
       its : IsTarget m.history.rows nav (aim_of m) moved.wanted.target
       its = target_has m.history.rows nav (aim_of m) moved.wanted.target moved.wanted.at
@@ -171,9 +171,9 @@ module _ (e : InEvent) (nav : NavId) (was out : List RowKind) (moved : HasBeenMo
   left_orders =
       only_as (IsLeaveFor moved.for_) (IsOrderOf PutsToSleep) was moved.mid (λ row it. record { job = it.job; is = it.is; task = it.puts }) moved.left
 
-  left_seated : AreSeated b → AreSeated m
-  left_seated =
-      over_orders PutsToSleep AreSeated (λ y event job puts. rooted_sent y event.event event.actor job (puts_entry y job.doc job.task puts)) e was moved.mid left_orders
+  left_seats : KeepsSeats b m
+  left_seats =
+      over_orders PutsToSleep (λ (y : Seen). KeepsSeats b y) (λ y event job puts so. seats_then b y (after y (row_of event (rows.Sent job))) so (seats_sent y event.event event.actor job (puts_entry y job.doc job.task puts))) e was moved.mid left_orders (seats_none b)
 
   -- ---- all of it
 
@@ -183,7 +183,7 @@ module _ (e : InEvent) (nav : NavId) (was out : List RowKind) (moved : HasBeenMo
         own = λ now p there. inr (put p there now);
         usable = λ none doc d state found usable. shown_usable doc d state (ap (λ (l : List RowKind). document_of (now_of e l) doc) (moved.first place placed (first none)) ∙ found) usable;
         target = λ row at doc d found usable. (moved.job.doc, shown_usable moved.job.doc moved.wanted.document row.state moved.wanted.found (ap (λ (r : Row). is_usable moved.wanted.document r.state) (its row at) ∙ moved.wanted.usable));
-        seated = λ are. shown_seated (left_seated are);
+        seats = seats_then b m x left_seats shown_seats;
       }
     where
       its : (row : Row) → target_entry b.history.rows nav (aim_of b) ≡ Some row → row ≡ moved.wanted.target
@@ -192,18 +192,20 @@ module _ (e : InEvent) (nav : NavId) (was out : List RowKind) (moved : HasBeenMo
   pub moved_calm : IsCalmTurn b (now_of e out) nav place
   moved_calm = subst (λ (y : Seen). IsCalmTurn b y nav place) (sym then_) moved_turn
 
--- ---- any orders
+-- ---- documents of loads
 
-none_entry : (y : Seen) (doc : DocId) (task : Task) → ShowsNone task → ShowsEntry y doc task
-none_entry y doc (tasks.Activate entry epoch long at memo address) never = absurd never
-none_entry y doc (tasks.Populate nav state address initial) none = tt
-none_entry y doc (tasks.Update long at) none = tt
-none_entry y doc tasks.Freeze none = tt
-none_entry y doc tasks.Discard none = tt
-none_entry y doc (tasks.Ask slot cause) none = tt
-none_entry y doc (tasks.DoFragment req mode address) none = tt
+-- an order that discards none leaves each ongoing load its document
+sent_loads : (e : InEvent) (was out : List RowKind) (job : Job) → out ≡ was ++ rows.Sent job ∷ [] → DiscardsNone job.task → LoadsHaveDocuments (now_of e was) → LoadsHaveDocuments (now_of e out)
+sent_loads e was out job is none are =
+    subst (λ (l : List RowKind). LoadsHaveDocuments (now_of e l)) (sym is)
+    (subst (λ (x : Seen). LoadsHaveDocuments x) (sym (now_more e was (rows.Sent job))) (loads_sent (now_of e was) e.event e.actor job (inl none) are))
 
--- who is awake stays rooted over orders that show no document
-pub seated_over : (e : InEvent) (was out : List RowKind) → HasOnly (IsOrderOf ShowsNone) was out → AreSeated (now_of e was) → AreSeated (now_of e out)
-seated_over e was out only =
-    over_orders ShowsNone AreSeated (λ y event job none. rooted_sent y event.event event.actor job (none_entry y job.doc job.task none)) e was out only
+pub made_loads : (header : Header) (t : Tables) (nav : NavId) (entry : EntryId) (cause : Why) (e : InEvent) (was out : List RowKind) → HasMade header t nav entry cause was out → LoadsHaveDocuments (now_of e was) → LoadsHaveDocuments (now_of e out)
+made_loads header t nav entry cause e was out (inl making) are =
+    subst (λ (l : List RowKind). LoadsHaveDocuments (now_of e l)) (sym making.1) are
+made_loads header t nav entry cause e was out (inr made) are =
+    sent_loads e was out made.job made.is (subst (λ (k : Task). DiscardsNone k) (sym made.task) tt) are
+
+pub moved_loads : (e : InEvent) (nav : NavId) (was out : List RowKind) → HasBeenMoved e nav was out → LoadsHaveDocuments (now_of e was) → LoadsHaveDocuments (now_of e out)
+moved_loads e nav was out moved are =
+    sent_loads e moved.mid out moved.job moved.is (subst (λ (k : Task). DiscardsNone k) (sym moved.task) tt) (moved.loading are)

@@ -1,5 +1,6 @@
 pub mod Reached
 pub mod Below
+pub mod PassedOn
 pub mod Orders
 pub mod Turns
 pub mod Rounds

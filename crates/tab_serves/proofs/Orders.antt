@@ -25,8 +25,8 @@ use Rattle.std.specs.Option.{option_map_or}
 use Rattle.std.specs.Prelude.{is_some, option_map}
 use Rattle.tab_ids.specs.declared.NavId.{NavId}
 use Rattle.tab_ids.specs.declared.ReqId.{ReqId}
-use Rattle.tab_passes.proofs.Onlies.{only_as}
-use Rattle.tab_passes.specs.Passing.{HasOnly}
+use Rattle.tab_walk.proofs.Overs.{only_as}
+use Rattle.tab_walk.specs.Moving.{HasOnly}
 use Rattle.tab_serves.specs.Serving.{HasOnlyServed, IsOfWalk, IsServeFor, ParentsShown}
 use Rattle.walk_facts.proofs.Aims.{blur, on_served_blur}
 use Rattle.walk_facts.proofs.Sleepers.{becomes, place_becomes, shown_on, sleepers_of, slept, slept_same, shown_same}

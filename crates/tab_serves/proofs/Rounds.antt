@@ -1,6 +1,7 @@
 -- One turn after the other, all of the walk are served.
 use Rattle.apply_plan.specs.Order.{walk_of}
 use Rattle.calm_facts.proofs.Sames.{keeps_none, keeps_then}
+use Rattle.calm_facts.specs.Calm.{ShowsOne}
 use Rattle.log_model.specs.Seen.{Place}
 use Rattle.log_model.specs.Walk as log
 use Rattle.log_model.specs.declared.header.Header.{Header}
@@ -15,12 +16,13 @@ use Rattle.tab_doors.specs.declared.tables.Tables.{Tables}
 use Rattle.tab_ids.specs.declared.EntryId.{EntryId}
 use Rattle.tab_ids.specs.declared.NavId.{NavId}
 use Rattle.tab_ids.specs.declared.ReqId.{ReqId}
-use Rattle.tab_moves.specs.Making.{HasMade, is_new_by, make_why}
-use Rattle.tab_passes.proofs.Keeps.{kept_none, kept_then}
-use Rattle.tab_passes.proofs.Onlies.{only_as, only_none, only_one, only_then}
-use Rattle.tab_passes.proofs.Stand.{stand_for}
-use Rattle.tab_passes.specs.Causes.{show_why}
-use Rattle.tab_passes.specs.Passing.{InPass, IsPassing}
+use Rattle.tab_walk.specs.PassedOn.{HasMade, IsPassing, is_new_by, make_why}
+use Rattle.tab_walk.proofs.PassedOn.{kept_none, kept_then, stand_for}
+use Rattle.tab_walk.proofs.Ends.{only_one}
+use Rattle.tab_walk.proofs.Overs.{only_as}
+pub use Rattle.tab_walk.proofs.PassedOn.{only_none}
+pub use Rattle.tab_walk.proofs.Puts.{only_then}
+use Rattle.tab_walk.specs.Cutting.{InPass, show_why}
 use Rattle.tab_serves.specs.Serving.{HasOnlyServed, InWalk, IsOfWalk, IsServeFor, IsServing, IsWalking, LeavesLog, MayWalk, walk_by}
 use Rattle.tab_walk.specs.Moving.{HasOnlyMoved, IsMoveFor, IsOfMove}
 use Rattle.walk_facts.proofs.Leaving.{all_served}
@@ -40,7 +42,7 @@ use Rattle.walk_rows.proofs.Wakes.{ShowsNone}
 -- a move
 pub moved_served : (run : Option ReqId) (cause : Why) (was out : List RowKind) → HasOnlyMoved (show_why run cause) was out → HasOnlyServed run cause was out
 moved_served run cause was out only =
-    only_as (IsMoveFor (show_why run cause)) (IsServeFor run cause) was out (λ row it. record { job = it.job; is = it.is; serves = by_task it.job.task it.moves; why_is = inl it.why_is }) only
+    only_as (IsMoveFor (show_why run cause)) (IsServeFor run cause) was out (λ row it. record { job = it.job; is = it.is; serves = by_task it.job.task it.moves; why_is = inl it.why_is; shows = λ shows. it.why_is }) only
   where
     by_task : (task : Task) → IsOfMove task → IsOfWalk task
     by_task (tasks.Activate entry epoch length index memo address) is = tt
@@ -53,7 +55,7 @@ pub made_served : (header : Header) (t : Tables) (nav : NavId) (entry : EntryId)
 made_served header t nav entry cause was out (inl making) =
     subst (λ (l : List RowKind). HasOnlyServed t.running cause was l) (sym making.1) (only_none (IsServeFor t.running cause) was)
 made_served header t nav entry cause was out (inr made) =
-    only_one (IsServeFor t.running cause) was out (rows.Sent made.job) made.is (record { job = made.job; is = refl; serves = subst (λ (k : Task). IsOfWalk k) (sym made.task) tt; why_is = by_new (is_new_by t.tree nav cause) made.why_is })
+    only_one (IsServeFor t.running cause) was out (rows.Sent made.job) made.is (record { job = made.job; is = refl; serves = subst (λ (k : Task). IsOfWalk k) (sym made.task) tt; why_is = by_new (is_new_by t.tree nav cause) made.why_is; shows = λ shows. absurd (subst (λ (k : Task). ShowsOne k) made.task shows) })
   where
     by_new : (b : Bool) → made.job.why ≡ make_why b t.running cause → (made.job.why ≡ show_why t.running cause) ⊎ (made.job.why ≡ cause)
     by_new true is = inr is
@@ -83,6 +85,7 @@ left_then s t u first then_ =
       causes = λ why may. then_.causes why (first.causes why may);
       rows_ = λ are. then_.rows_ (first.rows_ are);
       calms = keeps_then s t u first.history first.aim first.calms then_.calms;
+      loading = λ are. then_.loading (first.loading are);
     }
 
 -- ---- the walk
@@ -110,7 +113,7 @@ module _ (p : InPass) (cause : Why) (navs : List NavId) where
           order = walk_here p out t passing navs is;
           served = record { each = λ k nav low at. absurd (omega (arith, low)) };
         };
-        left = record { history = refl; aim = refl; parked = refl; looks = refl; causes = λ why so. so; rows_ = λ are. are; calms = keeps_none (now_of p.event out) };
+        left = record { history = refl; aim = refl; parked = refl; looks = refl; causes = λ why so. so; rows_ = λ are. are; calms = keeps_none (now_of p.event out); loading = λ are. are };
         only = only_none (IsServeFor t.running cause) out;
         kept = kept_none t;
       }

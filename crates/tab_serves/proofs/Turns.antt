@@ -3,6 +3,7 @@ use Rattle.apply_plan.specs.Needs.{need_of}
 use Rattle.apply_plan.specs.declared.need.Need.{Need}
 use Rattle.calm_facts.proofs.Sames.{keeps_none}
 use Rattle.calm_facts.proofs.Turns.{IsCalmTurn, turn_keeps}
+use Rattle.calm_facts.specs.Loads.{LoadsHaveDocuments}
 use Rattle.hang_facts.proofs.Forms.{nav_is}
 use Rattle.rest_facts.proofs.Stands.{get_of}
 use Rattle.frame_whole.specs.Tab.{AreAwakeWithRows}
@@ -28,19 +29,18 @@ use Rattle.tab_doors.specs.declared.tables.Tables.{Tables}
 use Rattle.tab_ids.specs.declared.EntryId.{EntryId}
 use Rattle.tab_ids.specs.declared.NavId.{NavId}
 use Rattle.tab_ids.specs.declared.ReqId.{ReqId}
-use Rattle.tab_moves.proofs.Needing.{IsNeeding, need_here, needs_it}
-use Rattle.tab_moves.specs.Making.{HasMade}
-use Rattle.tab_moves.specs.Moving.{IsAtOrBelow}
-use Rattle.tab_moves.specs.Showing.{IsTurn, need_in}
-use Rattle.tab_passes.proofs.Stand.{stand_for}
-use Rattle.tab_passes.specs.Causes.{show_why}
-use Rattle.tab_passes.specs.Passing.{HasOnly, IsPassing}
+use Rattle.tab_walk.proofs.PassedOn.{need_here, stand_for}
+use Rattle.tab_walk.proofs.Finds.{IsNeeding, needs_it}
+use Rattle.tab_walk.specs.PassedOn.{HasMade, IsPassing, need_in}
+use Rattle.tab_walk.proofs.Thens.{IsAtOrBelow}
+use Rattle.tab_walk.proofs.Froms.{IsTurn}
+use Rattle.tab_walk.specs.Cutting.{show_why}
+use Rattle.tab_walk.specs.Moving.{HasBeenMoved, HasOnly, MayMoveTo}
 use Rattle.tab_serves.proofs.Below.{kept_loads, left_loads}
-use Rattle.tab_serves.proofs.Calms.{made_calm, moved_calm}
+use Rattle.tab_serves.proofs.Calms.{made_calm, made_loads, moved_calm, moved_loads}
 use Rattle.tab_serves.proofs.Orders.{IsOrderOf, looks_over, moved_over, parents_over, stood_over, walk_orders, ways_over, were_over}
 use Rattle.tab_serves.proofs.Reached.{loads_stand_still, reached_still}
 use Rattle.tab_serves.specs.Serving.{HasOnlyServed, HasWalked, InWalk, IsOfWalk, IsWalking, LeavesLog}
-use Rattle.tab_walk.specs.Moving.{HasBeenMoved, MayMoveTo}
 use Rattle.walk_facts.proofs.Leaving.{one_more, walk_stays}
 use Rattle.walk_facts.proofs.Placed.{found_nav}
 use Rattle.walk_facts.specs.Serving.{IsServedAt, is_needing, is_stopping}
@@ -130,7 +130,8 @@ module _ (w : InWalk) (n : ℕ) (out : List RowKind) (t : Tables) (walking : IsW
       }
 
   pub idle_left : LeavesLog s s
-  idle_left = record { history = refl; aim = refl; parked = refl; looks = refl; causes = λ why may. may; rows_ = λ are. are; calms = keeps_none s }
+  idle_left =
+      record { history = refl; aim = refl; parked = refl; looks = refl; causes = λ why may. may; rows_ = λ are. are; calms = keeps_none s; loading = λ are. are }
 
   -- ---- it needs something
 
@@ -318,8 +319,8 @@ module _ (w : InWalk) (n : ℕ) (out : List RowKind) (t : Tables) (walking : IsW
       raised_below other q there below =
           raised (walking.walked.parents other nav q needing.place there below needing.placed)
 
-      left_by : IsCalmTurn s x nav needing.place → LeavesLog s x
-      left_by calm =
+      left_by : IsCalmTurn s x nav needing.place → (LoadsHaveDocuments s → LoadsHaveDocuments x) → LeavesLog s x
+      left_by calm loading =
           record {
             history = turn.others.history;
             aim = turn.others.aim;
@@ -328,14 +329,15 @@ module _ (w : InWalk) (n : ℕ) (out : List RowKind) (t : Tables) (walking : IsW
             causes = turn.causes;
             rows_ = rows_then;
             calms = turn_keeps s x passing.going.tab.sound passing.going.tab.hangs passing.going.tab.homes passing.going.tab.standing nav needing.place needing.placed visited turn.others raised_below calm;
+            loading = loading;
           }
 
       -- what it leaves, where it was moved
       pub moved_left : HasBeenMoved e nav out new → LeavesLog s x
       moved_left moved =
-          left_by (moved_calm e nav out new moved turn.others needing.place needing.placed (λ none. (needing.standing.told.0 none).last))
+          left_by (moved_calm e nav out new moved turn.others needing.place needing.placed (λ none. (needing.standing.told.0 none).last)) (moved_loads e nav out new moved)
 
       -- and where its document is made
       pub made_left : (header : Header) (entry : EntryId) (cause : Why) → HasMade header t nav entry cause out new → LeavesLog s x
       made_left header entry cause made =
-          left_by (made_calm header t nav entry cause e out new made needing.place needing.placed)
+          left_by (made_calm header t nav entry cause e out new made needing.place needing.placed) (made_loads header t nav entry cause e out new made)

@@ -1,6 +1,7 @@
 -- What the walk of a coordinator of a tab with loads asks for, and what it leaves.
 -- HTML Standard, "apply the history step"; orders and reasons are this project's own.
-use Rattle.calm_facts.specs.Calm.{KeepsCalm}
+use Rattle.calm_facts.specs.Calm.{KeepsCalm, ShowsOne}
+use Rattle.calm_facts.specs.Loads.{LoadsHaveDocuments}
 use Rattle.frame_whole.specs.Tab.{AreAwakeWithRows}
 use Rattle.left_facts.specs.Left.{WereShown}
 use Rattle.load_ends.specs.Standing.{LoadsStand}
@@ -18,9 +19,9 @@ use Rattle.tab_doors.specs.Working.{KeepsStore}
 use Rattle.tab_doors.specs.declared.tables.Tables.{Tables}
 use Rattle.tab_ids.specs.declared.NavId.{NavId}
 use Rattle.tab_ids.specs.declared.ReqId.{ReqId}
-use Rattle.tab_moves.specs.Moving.{IsSince}
-use Rattle.tab_passes.specs.Causes.{MayCause, show_why}
-use Rattle.tab_passes.specs.Passing.{HasOnly, InPass, IsPassing}
+pub use Rattle.tab_walk.specs.PassedOn.{IsPassing, IsSince}
+pub use Rattle.tab_walk.specs.Cutting.{InPass, MayCause, show_why}
+pub use Rattle.tab_walk.specs.Moving.{HasOnly}
 use Rattle.walk_facts.specs.Walking.{AreServedUpTo, IsWalk}
 use Rattle.walk_rows.specs.Later.{MovesLater}
 use Rattle.walk_rows.specs.Since.{AwakeSince, MovesVisited}
@@ -55,12 +56,13 @@ IsOfWalk tasks.Freeze = Unit {0}
 IsOfWalk tasks.Discard = Unit {0}
 IsOfWalk _ = ⊥
 
--- the row is such an order: for the traversal that runs, where one does, or for the cause
+-- the row is such an order: for the traversal that runs, where one does, or for the cause; one that shows a document isn't for the cause, where one runs
 pub record IsServeFor (run : Option ReqId) (cause : Why) (row : RowKind) : Type 0 where
   pub job : Job
   pub is : row ≡ rows.Sent job
   pub serves : IsOfWalk job.task
   pub why_is : (job.why ≡ show_why run cause) ⊎ (job.why ≡ cause)
+  pub shows : ShowsOne job.task → job.why ≡ show_why run cause
 
 -- nothing but such orders was put out
 abbrev pub HasOnlyServed : Option ReqId → Why → List RowKind → List RowKind → Type 0
@@ -68,7 +70,7 @@ HasOnlyServed run cause was out = HasOnly (IsServeFor run cause) was out
 
 -- ---- what it leaves
 
--- the history and its aim, what is held back, what is read of the requests, for what orders may be sent, that who is awake has an entry, and how calm the tab is
+-- the history and its aim, what is held back, what is read of the requests, for what orders may be sent, that who is awake has an entry, how calm the tab is, and that each ongoing load has its document
 pub record LeavesLog (s t : Seen) : Type 0 where
   pub history : t.history ≡ s.history
   pub aim : aim_of t ≡ aim_of s
@@ -77,6 +79,7 @@ pub record LeavesLog (s t : Seen) : Type 0 where
   pub causes : (why : Why) → MayCause s why → MayCause t why
   pub rows_ : AreAwakeWithRows s → AreAwakeWithRows t
   pub calms : KeepsCalm s t
+  pub loading : LoadsHaveDocuments s → LoadsHaveDocuments t
 
 -- what it asked of the log is so still; but where not all stand, some may have been woken
 pub record HasWalked (e : InEvent) (s : Seen) : Type 0 where

@@ -2,8 +2,8 @@
 ghost use Rattle.std.specs.Prelude.{◌≡◌, ◌+◌, ◌<◌, OnOk, length};
 ghost use Rattle.seen_laws.specs.InEvent.{now_of};
 ghost use Rattle.tab_doors.specs.Working.{KeepsStore};
-ghost use Rattle.tab_moves.specs.Showing.{need_in};
-ghost use Rattle.tab_passes.specs.Passing.{InPass, IsPassing};
+ghost use Rattle.tab_walk.specs.PassedOn.{IsPassing, need_in};
+ghost use Rattle.tab_walk.specs.Cutting.{InPass};
 ghost use Rattle.tab_serves.specs.Serving.{HasOnlyServed, HasWalked, IsWalking, LeavesLog, MayWalk, walk_by};
 ghost use Rattle.walk_facts.specs.Serving.{AreServed};
 

@@ -27,7 +27,7 @@ use Rattle.tab_ids.specs.declared.StateId.{StateId}
 use Rattle.tab_sweeps.proofs.Courses.{read_same}
 use Rattle.tab_sweeps.proofs.Loads.{unloaded_same}
 use Rattle.tab_sweeps.specs.Sweeping.{IsOnStray, IsStray, IsSweptTurn, NoneStray}
-use Rattle.tab_whole.specs.Tab.{IsTab}
+use Rattle.tab_passes.specs.PassedOn.{IsTab}
 use Rattle.walk_facts.proofs.Placed.{found_nav}
 use Rattle.walk_facts.specs.Serving.{is_in_place, is_needing, is_stopping}
 use Rattle.walk_rows.specs.Since.{MovesVisited, WasAwake}

@@ -29,7 +29,7 @@ use Rattle.tab_sweeps.proofs.Lists.{has_of}
 use Rattle.tab_sweeps.proofs.Loads.{awake_unloaded}
 use Rattle.tab_sweeps.specs.Sweeping.{IsStray, MovesUnder}
 use Rattle.tab_sweeps.specs.Turns.{IsAnyStray}
-use Rattle.tab_whole.specs.Tab.{IsTab}
+use Rattle.tab_passes.specs.PassedOn.{IsTab}
 use Rattle.walk_facts.proofs.Placed.{each_found}
 use Rattle.walk_facts.proofs.Sleepers.{has_nav_where}
 use Rattle.walk_rows.proofs.Sleeping.{IsShower, shower_is}

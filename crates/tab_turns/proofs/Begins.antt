@@ -2,12 +2,12 @@
 use Rattle.coord_facts.proofs.Held.{without_same}
 use Rattle.coord_facts.proofs.Unread.{next}
 use Rattle.each_facts.specs.Runs.{is_this}
-use Rattle.frame_facts.specs.Lasting.{wish}
+use Rattle.tab_passes.specs.PassedOn.{wish}
 use Rattle.frame_rows.proofs.LawfulLaws.{ends_other}
 use Rattle.frame_rows.specs.Lawful.{held_at_first}
 use Rattle.frame_tab.proofs.Goings.{begun_of}
 use Rattle.history_laws.proofs.InOrder.{used_steps-ordered}
-use Rattle.last_facts.proofs.Rows.{refused_lasting, started_lasting}
+use Rattle.tab_passes.proofs.PassedOn.{IsNoProcess, begun_going, begun_tab, joined_unheld, no_load, nowhere_tab, refused_going, refused_lasting, started_lasting}
 use Rattle.log_model.specs.AfterRequests.{on_request, request_begun}
 use Rattle.log_model.specs.Causes.{denial_at_acceptance}
 use Rattle.log_model.specs.Equal.{has_req}
@@ -37,23 +37,19 @@ use Rattle.tab_doors.proofs.Histories.{log_steps}
 use Rattle.tab_doors.specs.Dues.{IsBeginDue, IsNowhere}
 use Rattle.tab_doors.specs.Working.{IsAtWork, IsWorker}
 use Rattle.tab_doors.specs.declared.tables.Tables.{Tables}
-use Rattle.tab_going.proofs.Changes.{begun_going}
-use Rattle.tab_going.proofs.Rows.{refused_going}
-use Rattle.tab_going.specs.Going.{IsGoing}
+pub use Rattle.tab_passes.specs.Leaving.{IsGoing}
 use Rattle.tab_ids.specs.declared.DocId.{DocId}
 use Rattle.tab_ids.specs.declared.ReqId.{ReqId}
 use Rattle.tab_ids.specs.declared.Step.{Step}
-use Rattle.tab_passes.proofs.Aims.{aim_is, held_pair}
+use Rattle.tab_passes.proofs.Aims.{held_pair}
+pub use Rattle.tab_passes.proofs.Aims.{aim_is}
 use Rattle.tab_passes.specs.Passing.{InPass, IsPassing}
 use Rattle.tab_turns.proofs.Firsts.{IsWaitingFirst, first_turn, first_waits, none_asked, not_begun}
 use Rattle.tab_turns.proofs.Turned.{IsTurned, alone_turned, begun_as_it_was, begun_with, still_joined, turning_turned}
 use Rattle.tab_turns.specs.Beginning.{HasGone, IsFirst, WentTo, at_place, joined_then, step_by}
 use Rattle.tab_turns.specs.Turning.{IsTurning, LeavesAlone}
-use Rattle.tab_whole.proofs.Beginning.{begun_tab, no_load}
-use Rattle.tab_whole.proofs.Ending.{IsNoProcess}
-use Rattle.tab_whole.proofs.Refusing.{nowhere_tab}
-use Rattle.tab_whole.proofs.Where.{IsUnheld, joined_unheld}
-use Rattle.tab_whole.specs.Tab.{IsTab}
+pub use Rattle.tab_passes.proofs.PassedOn.{IsUnheld}
+pub use Rattle.tab_passes.proofs.Passings.{IsTab}
 use Rattle.log_model.specs.declared.outcome.Denial.TheVariants as denials
 use Rattle.log_model.specs.declared.outcome.Ending.TheVariants as endings
 use Rattle.log_model.specs.declared.request.Request.TheVariants as requests

@@ -3,14 +3,12 @@ use Rattle.apply_plan.specs.Standing.{are_settled}
 use Rattle.coord_facts.proofs.Held.{without_same}
 use Rattle.coord_facts.proofs.Unread.{next}
 use Rattle.each_facts.specs.Runs.{is_run}
-use Rattle.frame_facts.proofs.Applied.{applied_wishes}
-use Rattle.frame_facts.proofs.Moves.{goes_of}
-use Rattle.frame_facts.specs.Lasting.{wish}
+use Rattle.tab_passes.proofs.PassedOn.{applied_wishes, ended_tab, goes_of, joined_unheld, traversed_going, traversed_lasting}
+use Rattle.tab_passes.specs.PassedOn.{has_ended as has_ended_, wish}
 use Rattle.frame_rows.specs.Lawful.{held_at_first}
 use Rattle.frame_tab.proofs.Goings.{begun_of}
 use Rattle.frame_tab.proofs.Plainly.{applied_reads}
 use Rattle.frame_whole.proofs.Aiming.{used_used}
-use Rattle.last_facts.proofs.Applied.{traversed_lasting}
 use Rattle.log_model.proofs.Refl.{nat_eq_refl}
 use Rattle.log_model.specs.AfterPlaces.{with_taker}
 use Rattle.log_model.specs.AfterRequests.{changes_history, entries_taken}
@@ -42,9 +40,8 @@ use Rattle.step_index.specs.Held.{history_held}
 use Rattle.tab_doors.specs.Dues.{IsEndDue, MayChange}
 use Rattle.tab_doors.specs.Working.{IsAtWork}
 use Rattle.tab_doors.specs.declared.tables.Tables.{Tables}
-use Rattle.tab_going.proofs.Changes.{traversed_going}
-use Rattle.tab_going.proofs.Counts.{count_few}
-use Rattle.tab_going.specs.Going.{IsGoing, has_ended as has_ended_}
+pub use Rattle.tab_passes.proofs.PassedOn.{count_few}
+use Rattle.tab_passes.specs.Leaving.{IsGoing}
 use Rattle.tab_ids.specs.declared.DocId.{DocId}
 use Rattle.tab_ids.specs.declared.ReqId.{ReqId}
 use Rattle.tab_ids.specs.declared.Step.{Step}
@@ -55,9 +52,7 @@ use Rattle.tab_turns.proofs.Standings.{stand_is}
 use Rattle.tab_turns.proofs.Turned.{IsTurned, alone_turned, begun_as_it_was, still_joined, turning_turned}
 use Rattle.tab_turns.specs.Ending.{HasEnded, is_through}
 use Rattle.tab_turns.specs.Turning.{IsTurning, LeavesAlone}
-use Rattle.tab_whole.proofs.Traversed.{ended_tab}
-use Rattle.tab_whole.proofs.Where.{joined_unheld}
-use Rattle.tab_whole.specs.Tab.{IsTab}
+use Rattle.tab_passes.proofs.Passings.{IsTab}
 use Rattle.log_model.specs.declared.change.Change.TheVariants as changes
 use Rattle.log_model.specs.declared.made.What.TheVariants as whats
 use Rattle.log_model.specs.declared.request.Request.TheVariants as requests

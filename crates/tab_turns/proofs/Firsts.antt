@@ -25,7 +25,7 @@ use Rattle.tab_ids.specs.declared.DocId.{DocId}
 use Rattle.tab_ids.specs.declared.ReqId.{ReqId}
 use Rattle.tab_ids.specs.declared.Step.{Step}
 use Rattle.tab_turns.specs.Beginning.{IsFirst}
-use Rattle.tab_whole.specs.Tab.{IsTab}
+use Rattle.tab_passes.proofs.Passings.{IsTab}
 use Rattle.log_model.specs.declared.request.Request.TheVariants as requests
 
 -- ---- it is open

@@ -3,3 +3,4 @@ pub mod Firsts
 pub mod Turned
 pub mod Ends
 pub mod Begins
+pub mod PassedOn

@@ -1,5 +1,5 @@
 -- What the rows of a traversal's turn leave, and what is known of the event in which they are put out.
-use Rattle.frame_facts.specs.Lasting.{Wish, wish}
+use Rattle.tab_passes.specs.PassedOn.{Wish, wish}
 use Rattle.frame_tab.proofs.Goings.{Begun, begun_of}
 use Rattle.asked_facts.specs.Asking.{ArePlain}
 use Rattle.log_model.specs.Checks.{is_checked, may_go_on}
@@ -11,7 +11,7 @@ use Rattle.log_model.specs.Places.{has_passed, is_reload, is_traversal}
 use Rattle.log_model.specs.Seen.{Asked, Seen, request_in, request_of}
 use Rattle.log_model.specs.declared.job.Why.{Why}
 use Rattle.log_model.specs.declared.row_kind.RowKind.{RowKind}
-use Rattle.tab_passes.proofs.Goings.{goes_on}
+pub use Rattle.tab_passes.proofs.Goings.{goes_on}
 use Rattle.tab_passes.specs.Causes.{MayCause}
 use Rattle.each_facts.proofs.Runs.{each_asked_on}
 use Rattle.each_facts.proofs.Courses.{was_asked, is_asked}

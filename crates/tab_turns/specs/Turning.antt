@@ -1,6 +1,6 @@
 -- What is known of the event in which traversals have their turns, and what a turn leaves.
 -- HTML Standard, "session history traversal queue"; what is held back is this project's own.
-use Rattle.frame_facts.specs.Lasting.{wish}
+use Rattle.tab_passes.specs.PassedOn.{wish}
 use Rattle.frame_rows.specs.Lawful.{held_at_first}
 use Rattle.log_model.specs.Causes.{denial_at_acceptance}
 use Rattle.log_model.specs.Equal.{has_req}
@@ -12,7 +12,7 @@ use Rattle.request_facts.proofs.Readers.{SameReads}
 use Rattle.seen_laws.specs.InEvent.{InEvent, now_of}
 use Rattle.std.specs.Prelude.{List, None, Some, [], false, length, nat_lt, true, ◌≡◌, ◌⊎◌}
 use Rattle.tab_ids.specs.declared.ReqId.{ReqId}
-use Rattle.tab_passes.specs.Causes.{MayCause}
+pub use Rattle.tab_passes.specs.Causes.{MayCause}
 
 -- what is held back is what was as the event's own row had come, or nothing is any more; no traversal was held back then; and what joined isn't refused as it is accepted
 pub record IsTurning (e : InEvent) (out : List RowKind) : Type 0 where

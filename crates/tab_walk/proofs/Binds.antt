@@ -20,8 +20,8 @@ use Rattle.tab_ids.specs.declared.NavId.{NavId}
 use Rattle.tab_ids.specs.declared.ReqId.{ReqId}
 use Rattle.tab_ids.specs.declared.StateId.{StateId}
 use Rattle.tab_moves.specs.Moving.{HasLeft}
-use Rattle.tab_passes.specs.Causes.{show_why}
-use Rattle.tab_passes.specs.Leaving.{HasOnlyFrozen}
+use Rattle.tab_moves.specs.Making.{show_why}
+use Rattle.tab_moves.proofs.Frees.{HasOnlyFrozen}
 use Rattle.tab_walk.proofs.Overs.{causes_over, frozen_quiet, loads_over, moved_over, sights_over, were_over}
 use Rattle.tab_walk.specs.Moving.{HasSetOff, InMove, IsBound, NoLoadBelowKept}
 use Rattle.walk_facts.proofs.Placed.{found_nav}

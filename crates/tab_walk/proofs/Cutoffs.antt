@@ -44,12 +44,11 @@ use Rattle.tab_evicts.proofs.Quiets.{for_one, one_document}
 use Rattle.tab_ids.specs.declared.DocId.{DocId}
 use Rattle.tab_ids.specs.declared.NavId.{NavId}
 use Rattle.tab_ids.specs.declared.StateId.{StateId}
-use Rattle.tab_moves.proofs.Leaves.{may_leave}
-use Rattle.tab_passes.proofs.Aheads.{left_sends}
-use Rattle.tab_passes.proofs.Goings.{show_causes}
-use Rattle.tab_passes.proofs.Lives.{listed_at}
-use Rattle.tab_passes.specs.Causes.{MayCause}
-use Rattle.tab_passes.specs.Leaving.{IsGoneAt, IsLeaving, MayLeave}
+use Rattle.tab_moves.proofs.Leaves.{MayLeave, may_leave}
+use Rattle.tab_moves.proofs.PassedOn.{left_sends, listed_at}
+pub use Rattle.tab_moves.proofs.Makings.{show_causes}
+use Rattle.tab_moves.specs.Moving.{MayCause}
+use Rattle.tab_moves.specs.PassedOn.{IsGoneAt, IsLeaving}
 use Rattle.tab_walk.proofs.Offs.{asleep_off, to_leave}
 use Rattle.tab_walk.specs.Cutting.{MayCut, cut_of}
 use Rattle.tab_walk.specs.Moving.{HasSetOff, InMove, IsBound, MaySetOff, is_up_in}

@@ -27,8 +27,8 @@ use Rattle.tab_evicts.proofs.Theres.{there_apart, there_gone, there_lives, there
 use Rattle.tab_evicts.specs.Evicting.{IsGoneFor, IsThereBelow, NoLoadBelow, StaysPlaced}
 use Rattle.tab_ids.specs.declared.DocId.{DocId}
 use Rattle.tab_ids.specs.declared.StateId.{StateId}
-use Rattle.tab_passes.proofs.Lives.{has_state_in, live_parts, there_for}
-use Rattle.tab_passes.specs.Leaving.{IsLeaving, left_then, without_all}
+use Rattle.tab_moves.proofs.Lasts.{has_state_in, live_parts, there_for}
+use Rattle.tab_moves.specs.PassedOn.{IsLeaving, left_then, without_all}
 use Rattle.tab_walk.specs.Cutting.{AreCutBelow, InCut, IsCutBelow, IsCutting}
 use Rattle.walk_rows.proofs.Passed.{discard_gone}
 use Rattle.log_model.specs.declared.job.Task.TheVariants as tasks

@@ -20,11 +20,9 @@ use Rattle.tab_doors.specs.declared.tables.Tables.{Tables}
 use Rattle.tab_ids.specs.declared.DocId.{DocId}
 use Rattle.tab_ids.specs.declared.NavId.{NavId}
 use Rattle.tab_ids.specs.declared.StateId.{StateId}
-use Rattle.tab_moves.proofs.Shown.{AreEach, IsShown, apart_left, each_below, home}
-use Rattle.tab_passes.proofs.Sleepers.{at_own}
-use Rattle.tab_passes.proofs.Unders.{below_is, shows_below, walked_there}
-use Rattle.tab_passes.specs.Leaving.{IsLeaving}
-use Rattle.tab_passes.specs.Sleepers.{docs_below}
+use Rattle.tab_moves.proofs.Shown.{AreEach, IsShown, apart_left, at_own, below_is, each_below, home, shows_below, walked_there}
+use Rattle.tab_moves.specs.PassedOn.{IsLeaving}
+use Rattle.tab_moves.proofs.Frees.{docs_below}
 use Rattle.tab_walk.proofs.Thens.{asleep_then, awake_hangs, cut_then, its_off, leaves_then_, moving, other_then, to}
 use Rattle.tab_walk.specs.Cutting.{AreCutBelow, IsCutBelow, MayCut, cut_of}
 use Rattle.tab_walk.specs.Moving.{InMove, IsBound, is_up_in}

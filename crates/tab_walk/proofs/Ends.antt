@@ -1,4 +1,9 @@
 -- Where none may be kept: the document that is left is discarded, then those below it, and then the navigable may be shown its target.
+use Rattle.calm_facts.proofs.Loads.{IsLoads, loads_sent}
+use Rattle.calm_facts.specs.Loads.{LoadsHaveDocuments}
+use Rattle.tab_evicts.proofs.Quiets.{no_loads, one_document}
+use Rattle.tab_ids.specs.declared.StateId.{StateId}
+use Rattle.tab_walk.proofs.Cutoffs.{cut_gone}
 use Rattle.hang_facts.proofs.Hung.{places_distinct}
 use Rattle.hang_facts.specs.AsPlaces.{AreDistinct}
 use Rattle.home_facts.specs.Homes.{AreHomed}
@@ -14,7 +19,7 @@ use Rattle.log_model.specs.declared.row_kind.RowKind.{RowKind}
 use Rattle.seen_laws.proofs.InEvents.{now_more}
 use Rattle.seen_laws.proofs.Keyed.{find_on_same}
 use Rattle.seen_laws.specs.InEvent.{now_of}
-use Rattle.std.proofs.Common.{Bool, List, Option, Some, [], ap, cond, false, refl, subst, sym, true, ℕ, ◌++◌, ◌==◌, ◌||◌, ◌∙◌, ◌∷◌, ◌≡◌, ◌≤◌}
+use Rattle.std.proofs.Common.{Bool, List, Option, Some, [], ap, cond, false, inr, refl, subst, sym, true, ℕ, ◌++◌, ◌==◌, ◌||◌, ◌∙◌, ◌∷◌, ◌≡◌, ◌≤◌}
 use Rattle.std.specs.Prelude.{option_map}
 use Rattle.tab_doors.specs.Orders.{order_to}
 use Rattle.tab_doors.specs.Working.{KeepsStore}
@@ -23,14 +28,12 @@ use Rattle.tab_evicts.specs.Evicting.{IsGoneFor}
 use Rattle.tab_ids.specs.declared.DocId.{DocId}
 use Rattle.tab_ids.specs.declared.ReqId.{ReqId}
 use Rattle.tab_moves.proofs.Shown.{AreEach, all_left, apart_new, each_below}
-use Rattle.tab_moves.specs.Moving.{AllAsleep}
-use Rattle.tab_passes.proofs.Freezings.{below_none}
-use Rattle.tab_passes.proofs.Goings.{goes_on}
-use Rattle.tab_passes.proofs.Onlies.{only_one}
-use Rattle.tab_passes.specs.Causes.{MayCause, show_why}
-use Rattle.tab_passes.specs.Leaving.{IsLeaving, left_then, without_all}
-use Rattle.tab_passes.specs.Passing.{HasOnly}
-use Rattle.tab_passes.specs.Sleepers.{docs_below}
+use Rattle.tab_moves.specs.Moving.{AllAsleep, MayCause}
+use Rattle.tab_moves.proofs.PassedOn.{below_none}
+pub use Rattle.tab_moves.proofs.Frees.{goes_on, only_one}
+use Rattle.tab_moves.specs.Making.{show_why}
+use Rattle.tab_moves.specs.PassedOn.{HasOnly, IsLeaving, left_then, without_all}
+use Rattle.tab_moves.proofs.Frees.{docs_below}
 use Rattle.tab_walk.proofs.Cutoffs.{cut_cause}
 use Rattle.tab_walk.proofs.Downs.{each_then, none_below, place_then, visited_then}
 use Rattle.tab_walk.proofs.Overs.{IsQuietRow, causes_over, loads_over, moved_over, parked_over}
@@ -159,4 +162,10 @@ module _ (m : InMove) (out : List RowKind) (t : Tables) (leaving : IsLeaving m.p
         others = subst (λ (x : Seen). LeavesOthers s x m.nav) now_is (leaves_then_ m out t leaving why may);
         parked = parked_over m.pass.event out new_out quiet;
         causes = causes_over m.pass.event out new_out quiet each;
+        loading = subst (λ (x : Seen). LoadsHaveDocuments s → LoadsHaveDocuments x) now_is (loads_sent s m.pass.event.event m.pass.event.actor (order_to s m.left why tasks.Discard) (inr none_its));
       }
+    where
+      none_its : (d : Document) → document_of s m.left ≡ Some d → IsLoads s d.state → ⊥
+      none_its d found loads_it =
+          let states : d.state ≡ m.state = ap (λ (x : Document). x.state) (one_document s m.left d bound.old found bound.old_found) ∙ bound.old_state in
+          no_loads s t.loads leaving.work.loads m.state (cut_gone m out t leaving why may).unloaded (subst (λ (x : StateId). IsLoads s x) states loads_it)

@@ -23,12 +23,13 @@ use Rattle.tab_ids.specs.declared.DocId.{DocId}
 use Rattle.tab_ids.specs.declared.EntryId.{EntryId}
 use Rattle.tab_ids.specs.declared.NavId.{NavId}
 use Rattle.tab_ids.specs.declared.StateId.{StateId}
-use Rattle.tab_moves.proofs.Lasts.{LeavesNothing, left_none, left_some}
-use Rattle.tab_moves.proofs.Needing.{IsNeeding, NeedsIt, needs_it}
+use Rattle.tab_moves.proofs.Lasts.{LeavesNothing, left_none, left_some, live_parts}
+use Rattle.tab_moves.proofs.Needing.{NeedsIt}
+pub use Rattle.tab_moves.proofs.Needing.{IsNeeding, needs_it}
 use Rattle.tab_moves.specs.Leaving.{IsLeftFor, left_in}
 use Rattle.tab_moves.specs.Showing.{IsToShow, need_in}
-use Rattle.tab_passes.proofs.Lives.{live_parts}
-use Rattle.tab_passes.specs.Passing.{InPass, IsPassing}
+use Rattle.tab_moves.specs.PassedOn.{IsPassing}
+use Rattle.tab_moves.specs.Moving.{InPass}
 use Rattle.tab_evicts.specs.Evicting.{NoLoadBelow}
 use Rattle.tab_walk.specs.Cutting.{MayCutFrom}
 use Rattle.tab_walk.specs.Moving.{IsBound, MayMoveFrom, MayMoveTo, in_move}

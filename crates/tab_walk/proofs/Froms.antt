@@ -11,10 +11,10 @@ use Rattle.std.specs.Option.{option_to_list}
 use Rattle.tab_ids.specs.declared.NavId.{NavId}
 use Rattle.tab_ids.specs.declared.ReqId.{ReqId}
 use Rattle.tab_ids.specs.declared.StateId.{StateId}
-use Rattle.tab_moves.specs.Showing.{IsTurn}
-use Rattle.tab_passes.specs.Causes.{show_why}
-use Rattle.tab_walk.proofs.Offs.{part_then}
+pub use Rattle.tab_moves.specs.Showing.{IsTurn}
+use Rattle.tab_moves.specs.Making.{show_why}
 use Rattle.tab_walk.specs.Moving.{HasSetOff, InMove, IsPart, MayMakeRoom, MayMoveFrom}
+use Rattle.walk_rows.proofs.Leaves.{leaves_then}
 
 pub part_named : (one other : NavId) → one ≡ other → (s t : Seen) → IsPart s t one → IsPart s t other
 part_named one other same s t part = subst (λ (n : NavId). IsPart s t n) same part
@@ -39,7 +39,10 @@ room_ready m run now_run keep now_keep s t state beyond why cause nav then_run m
         cc
 
 pub part_turn : (s t u : Seen) (nav : NavId) → IsPart s t nav → IsTurn t u nav → IsTurn s u nav
-part_turn s t u nav part turn = record { own = turn.own; others = both.others; parked = both.parked; causes = both.causes }
-  where
-    both : IsPart s u nav
-    both = part_then s t u nav part (record { others = turn.others; parked = turn.parked; causes = turn.causes })
+part_turn s t u nav part turn =
+    record {
+      own = turn.own;
+      others = leaves_then s t u nav part.others turn.others;
+      parked = turn.parked ∙ part.parked;
+      causes = λ why may. turn.causes why (part.causes why may);
+    }

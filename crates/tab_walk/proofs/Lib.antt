@@ -13,3 +13,4 @@ pub mod Ends
 pub mod Shows
 pub mod Named
 pub mod Readies
+pub mod PassedOn

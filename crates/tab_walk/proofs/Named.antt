@@ -16,8 +16,9 @@ use Rattle.tab_ids.specs.declared.DocId.{DocId}
 use Rattle.tab_ids.specs.declared.NavId.{NavId}
 use Rattle.tab_ids.specs.declared.StateId.{StateId}
 use Rattle.tab_moves.specs.Showing.{IsToShow}
-use Rattle.tab_passes.specs.Leaving.{IsGoneAt, IsLeaving, MayLeave, left_then, without_all}
-use Rattle.tab_passes.specs.Sleepers.{docs_below}
+use Rattle.tab_moves.proofs.Leaves.{MayLeave}
+use Rattle.tab_moves.specs.PassedOn.{IsGoneAt, IsLeaving, left_then, without_all}
+use Rattle.tab_moves.proofs.Frees.{docs_below}
 use Rattle.tab_walk.proofs.Cutoffs.{cut_gone, cut_leaves, cut_own, cut_sends}
 use Rattle.tab_walk.proofs.Ends.{aimed_then, all_gone, cutting_then, part_cut, sleeps_then}
 use Rattle.tab_walk.proofs.Offs.{part_then}

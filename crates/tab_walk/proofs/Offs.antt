@@ -25,21 +25,17 @@ use Rattle.log_model.specs.Seen.{request_of}
 use Rattle.tab_doors.specs.Working.{KeepsStore}
 use Rattle.tab_ids.specs.declared.ReqId.{ReqId}
 use Rattle.tab_ids.specs.declared.StateId.{StateId}
-use Rattle.tab_moves.specs.Moving.{HasLeft}
-use Rattle.tab_passes.proofs.Goings.{goes_on}
-use Rattle.tab_passes.specs.Leaving.{HasOnlyFrozen}
-use Rattle.tab_passes.specs.Passing.{HasOnly}
+use Rattle.tab_moves.specs.Moving.{AllAsleep, HasLeft, IsToLeave, MayCause}
+use Rattle.tab_moves.proofs.Frees.{HasOnlyFrozen, goes_on}
+use Rattle.tab_moves.specs.PassedOn.{HasOnly, IsLeaving}
 use Rattle.tab_walk.proofs.Binds.{set_off_left}
-use Rattle.tab_walk.proofs.Overs.{IsQuietRow, causes_over, frozen_quiet, parked_over}
+use Rattle.tab_walk.proofs.Overs.{IsQuietRow, causes_over, frozen_loads, frozen_quiet, parked_over}
 use Rattle.tab_walk.specs.Moving.{IsPart}
 use Rattle.walk_rows.proofs.Leaves.{leaves_none, leaves_then}
-use Rattle.tab_moves.specs.Moving.{AllAsleep, IsToLeave}
-use Rattle.tab_passes.proofs.Goings.{show_causes}
-use Rattle.tab_passes.specs.Causes.{MayCause}
-use Rattle.tab_passes.specs.Leaving.{IsLeaving}
-use Rattle.tab_passes.specs.Telling.{awake_on}
+use Rattle.tab_moves.proofs.Makings.{show_causes}
+use Rattle.tab_moves.specs.Making.{awake_on}
 use Rattle.tab_walk.specs.Moving.{HasSetOff, InMove, IsBound, MaySetOff, is_up_in, move_of}
-use Rattle.tab_whole.proofs.Above.{below_sleeps}
+use Rattle.tab_moves.proofs.Lasts.{below_sleeps}
 use Rattle.walk_rows.specs.Since.{WasAwake}
 
 module _ (m : InMove) {noted : Option StateId} (out : List RowKind) (t : Tables) (leaving : IsLeaving m.pass (Some (record { doc = m.doc; left = noted })) [] out t) (left : DocId) (why : Why) (may : MaySetOff m t.running (now_of m.pass.event out) m.nav left why) where
@@ -142,7 +138,7 @@ module _ (m : InMove) (out : List RowKind) (t : Tables) (leaving : IsLeaving m.p
   pub left_off : (new : List RowKind) (u : Tables) (docs : List DocId) → KeepsStore t u → IsLeaving m.pass (Some (move_of m)) [] new u → HasOnlyFrozen why docs out new → HasLeft docs why (now_of m.pass.event out) (now_of m.pass.event new) nav → HasSetOff m u.running (now_of m.pass.event new) × IsPart (now_of m.pass.event out) (now_of m.pass.event new) nav
   left_off new u docs keeps leaving_ only left_ = (
     subst (λ (r : Option ReqId). HasSetOff m r (now_of m.pass.event new)) (sym keeps.running) (set_off_left m t.running out new may.bound docs why only (subst (λ (n : NavId). HasLeft docs why (now_of m.pass.event out) (now_of m.pass.event new) n) (sym may.its) left_) each leaving.going.tab.sound leaving.going.tab.hangs may.were may.loads),
-    record { others = left_.leaves; parked = parked_over m.pass.event out new quiet; causes = causes_over m.pass.event out new quiet each },
+    record { others = left_.leaves; parked = parked_over m.pass.event out new quiet; causes = causes_over m.pass.event out new quiet each; loading = frozen_loads m.pass.event why docs out new only },
   )
     where
       quiet : HasOnly IsQuietRow out new
@@ -152,8 +148,8 @@ module _ (m : InMove) (out : List RowKind) (t : Tables) (leaving : IsLeaving m.p
       each = goes_on (now_of m.pass.event new) u.running leaving_.going.tab.asked
 
 pub part_none : (s : Seen) (nav : NavId) → IsPart s s nav
-part_none s nav = record { others = leaves_none s nav; parked = refl; causes = λ why may. may }
+part_none s nav = record { others = leaves_none s nav; parked = refl; causes = λ why may. may; loading = λ are. are }
 
 pub part_then : (s t u : Seen) (nav : NavId) → IsPart s t nav → IsPart t u nav → IsPart s u nav
 part_then s t u nav one two =
-    record { others = leaves_then s t u nav one.others two.others; parked = two.parked ∙ one.parked; causes = λ why may. two.causes why (one.causes why may) }
+    record { others = leaves_then s t u nav one.others two.others; parked = two.parked ∙ one.parked; causes = λ why may. two.causes why (one.causes why may); loading = λ are. two.loading (one.loading are) }

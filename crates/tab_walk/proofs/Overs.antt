@@ -1,4 +1,7 @@
 -- What holds over orders that freeze or discard documents, one after the other.
+use Rattle.calm_facts.proofs.Loads.{loads_sent}
+use Rattle.calm_facts.proofs.Sents.{DiscardsNone}
+use Rattle.calm_facts.specs.Loads.{LoadsHaveDocuments}
 use Rattle.hang_facts.specs.Members.{Has}
 use Rattle.left_facts.proofs.Rows.{were_shown}
 use Rattle.left_facts.specs.Left.{WereShown}
@@ -32,10 +35,10 @@ use Rattle.tab_ids.specs.declared.NavId.{NavId}
 use Rattle.tab_ids.specs.declared.ReqId.{ReqId}
 use Rattle.tab_ids.specs.declared.StateId.{StateId}
 use Rattle.tab_moves.proofs.Sleeps.{WasSlept, was_slept}
-use Rattle.tab_passes.proofs.Onlies.{only_as}
-use Rattle.tab_passes.specs.Leaving.{HasOnlyFrozen, IsFreezeOf}
-use Rattle.tab_passes.specs.Causes.{MayCause}
-use Rattle.tab_passes.specs.Passing.{HasOnly}
+pub use Rattle.tab_moves.proofs.PassedOn.{only_as}
+use Rattle.tab_moves.proofs.Frees.{HasOnlyFrozen, IsFreezeOf}
+use Rattle.tab_moves.specs.Moving.{MayCause}
+use Rattle.tab_moves.specs.PassedOn.{HasOnly}
 use Rattle.walk_facts.proofs.Sleepers.{slept}
 use Rattle.walk_rows.proofs.Moved.{sent_moved}
 use Rattle.log_model.specs.declared.job.Task.TheVariants as tasks
@@ -55,21 +58,25 @@ pub discarded_quiet : (why : Why) (was out : List RowKind) → HasOnlyDiscarded 
 discarded_quiet why was out only =
     only_as _ IsQuietRow was out (λ row it. record { job = it.job; is = it.is; puts = subst (λ (k : Task). PutsToSleep k) (sym it.discards) tt }) only
 
--- what each keeps is kept over all
-pub over_rows : (P : Seen → Type 0) → ((s : Seen) (event : InEvent) (job : Job) → PutsToSleep job.task → P s → P (after s (row_of event (rows.Sent job)))) → (e : InEvent) (out more : List RowKind) → ((row : RowKind) → Has more row → IsQuietRow row) → P (now_of e out) → P (now_of e (out ++ more))
-over_rows P step e out [] each so = subst (λ (l : List RowKind). P (now_of e l)) (sym (append-nil out)) so
-over_rows P step e out (row ∷ more) each so =
+-- what each row keeps is kept over all
+over_rows : (Is : RowKind → Type 0) (P : Seen → Type 0) (e : InEvent) → ((s : Seen) (row : RowKind) → Is row → P s → P (after s (row_of e row))) → (out more : List RowKind) → ((row : RowKind) → Has more row → Is row) → P (now_of e out) → P (now_of e (out ++ more))
+over_rows Is P e step out [] each so = subst (λ (l : List RowKind). P (now_of e l)) (sym (append-nil out)) so
+over_rows Is P e step out (row ∷ more) each so =
     subst (λ (l : List RowKind). P (now_of e l)) (append_assoc out (row ∷ []) more)
-    (over_rows P step e (out ++ row ∷ []) more (λ other there. each other (inr there)) (subst (λ (x : Seen). P x) (sym (now_more e out row)) one))
-  where
-    its : IsQuietRow row
-    its = each row (inl refl)
+    (over_rows Is P e step (out ++ row ∷ []) more (λ other there. each other (inr there)) (subst (λ (x : Seen). P x) (sym (now_more e out row)) (step (now_of e out) row (each row (inl refl)) so)))
 
-    one : P (after (now_of e out) (row_of e row))
-    one = subst (λ (k : RowKind). P (after (now_of e out) (row_of e k))) (sym its.is) (step (now_of e out) e its.job its.puts so)
+pub over_each : (Is : RowKind → Type 0) (P : Seen → Type 0) (e : InEvent) → ((s : Seen) (row : RowKind) → Is row → P s → P (after s (row_of e row))) → (was out : List RowKind) → HasOnly Is was out → P (now_of e was) → P (now_of e out)
+over_each Is P e step was out only so =
+    subst (λ (l : List RowKind). P (now_of e l)) (sym only.is) (over_rows Is P e step was only.more only.each so)
 
 pub over_only : (P : Seen → Type 0) → ((s : Seen) (event : InEvent) (job : Job) → PutsToSleep job.task → P s → P (after s (row_of event (rows.Sent job)))) → (e : InEvent) (was out : List RowKind) → HasOnly IsQuietRow was out → P (now_of e was) → P (now_of e out)
-over_only P step e was out only so = subst (λ (l : List RowKind). P (now_of e l)) (sym only.is) (over_rows P step e was only.more only.each so)
+over_only P step e =
+    over_each IsQuietRow P e (λ s row it so. subst (λ (k : RowKind). P (after s (row_of e k))) (sym it.is) (step s e it.job it.puts so))
+
+-- each ongoing load has its document still, where documents were frozen
+pub frozen_loads : (e : InEvent) (why : Why) (docs : List DocId) (was out : List RowKind) → HasOnlyFrozen why docs was out → LoadsHaveDocuments (now_of e was) → LoadsHaveDocuments (now_of e out)
+frozen_loads e why docs =
+    over_each (IsFreezeOf why docs) LoadsHaveDocuments e (λ s row it so. subst (λ (k : RowKind). LoadsHaveDocuments (after s (row_of e k))) (sym it.is) (loads_sent s e.event e.actor it.job (inl (subst (λ (k : Task). DiscardsNone k) (sym it.freezes) tt)) so))
 
 -- ---- what they keep
 

@@ -1,4 +1,5 @@
 -- What a move puts out: orders that freeze or discard documents, and the one that shows one; and who is awake after them.
+use Rattle.calm_facts.specs.Loads.{LoadsHaveDocuments}
 use Rattle.log_model.specs.After.{after}
 use Rattle.log_model.specs.Seen.{Place, Seen, place_of}
 use Rattle.log_model.specs.declared.job.Task.{Task}
@@ -17,8 +18,9 @@ use Rattle.tab_ids.specs.declared.EntryId.{EntryId}
 use Rattle.tab_ids.specs.declared.NavId.{NavId}
 use Rattle.tab_ids.specs.declared.ReqId.{ReqId}
 use Rattle.tab_moves.specs.Showing.{IsShownBy, IsToShow}
-use Rattle.tab_passes.proofs.Onlies.{only_as, only_one, only_then}
-use Rattle.tab_passes.specs.Leaving.{HasOnlyFrozen}
+use Rattle.tab_moves.proofs.PassedOn.{only_as}
+use Rattle.tab_moves.proofs.Frees.{HasOnlyFrozen, only_one}
+pub use Rattle.tab_moves.proofs.Frees.{only_then}
 use Rattle.tab_walk.proofs.Overs.{IsQuietRow, over_only}
 use Rattle.tab_walk.specs.Moving.{HasBeenMoved, HasOnlyLeft, HasOnlyMoved, InMove, IsBound, IsLeaveFor, IsMoveFor, IsOfMove}
 use Rattle.walk_rows.proofs.Sinces.{sent_since, shown_since, since_itself}
@@ -99,13 +101,14 @@ woken_as m nav doc entry navs docs entries e why for_ was mid out move run keep 
 -- ---- all of it
 
 -- what was left, and what is shown
-pub moved_by : (e : InEvent) (why for_ : Why) (was mid out : List RowKind) (move : Option Move) (run : Option ReqId) (keep : ℕ) (t : Tables) (nav : NavId) (doc : DocId) (entry : EntryId) (cause : Why) → HasOnlyLeft why was mid → IsToShow move run keep (now_of e mid) nav doc entry cause → IsShownBy (now_of e mid) t nav doc entry for_ mid out → ((place : Place) → place_of (now_of e was) nav ≡ Some place → place.last ≡ None → mid ≡ was) → HasBeenMoved e nav was out
-moved_by e why for_ was mid out move run keep t nav doc entry cause left shows shown first =
+pub moved_by : (e : InEvent) (why for_ : Why) (was mid out : List RowKind) (move : Option Move) (run : Option ReqId) (keep : ℕ) (t : Tables) (nav : NavId) (doc : DocId) (entry : EntryId) (cause : Why) → HasOnlyLeft why was mid → IsToShow move run keep (now_of e mid) nav doc entry cause → IsShownBy (now_of e mid) t nav doc entry for_ mid out → ((place : Place) → place_of (now_of e was) nav ≡ Some place → place.last ≡ None → mid ≡ was) → (LoadsHaveDocuments (now_of e was) → LoadsHaveDocuments (now_of e mid)) → HasBeenMoved e nav was out
+moved_by e why for_ was mid out move run keep t nav doc entry cause left shows shown first loading =
     record {
       mid = mid;
       for_ = why;
       left = left;
       first = first;
+      loading = loading;
       job = order_to (now_of e mid) doc for_ (tasks.Activate entry shown.epoch shown.long shown.at shown.target.memo shown.target.address);
       entry = entry;
       epoch = shown.epoch;
@@ -124,11 +127,12 @@ left_first_not m run s nav navs bound was mid place placed none =
     absurd (let both : Some bound.place ≡ Some place = sym bound.placed ∙ ap (λ (n : NavId). place_of s n) (sym navs) ∙ placed in let same : bound.place ≡ place = cc in let never : Some m.left ≡ None = sym bound.last ∙ ap (λ (p : Place). p.last) same ∙ none in cc)
 
 -- the same of a move, by the names of a call
-pub moved_as : (m : InMove) (nav : NavId) (doc : DocId) (entry : EntryId) → nav ≡ m.nav → doc ≡ m.doc → entry ≡ m.entry → (e : InEvent) (why for_ : Why) (was mid out : List RowKind) (move : Option Move) (run first_run : Option ReqId) (keep : ℕ) (t : Tables) → IsBound m first_run (now_of e was) → HasOnlyLeft why was mid → IsToShow move run keep (now_of e mid) m.nav m.doc m.entry m.cause → IsShownBy (now_of e mid) t nav doc entry for_ mid out → HasBeenMoved e nav was out
-moved_as m nav doc entry navs docs entries e why for_ was mid out move run first_run keep t bound left shows shown =
+pub moved_as : (m : InMove) (nav : NavId) (doc : DocId) (entry : EntryId) → nav ≡ m.nav → doc ≡ m.doc → entry ≡ m.entry → (e : InEvent) (why for_ : Why) (was mid out : List RowKind) (move : Option Move) (run first_run : Option ReqId) (keep : ℕ) (t : Tables) → IsBound m first_run (now_of e was) → HasOnlyLeft why was mid → IsToShow move run keep (now_of e mid) m.nav m.doc m.entry m.cause → IsShownBy (now_of e mid) t nav doc entry for_ mid out → (LoadsHaveDocuments (now_of e was) → LoadsHaveDocuments (now_of e mid)) → HasBeenMoved e nav was out
+moved_as m nav doc entry navs docs entries e why for_ was mid out move run first_run keep t bound left shows shown loading =
     moved_by e why for_ was mid out move run keep t nav doc entry m.cause left
     (subst (λ (n : NavId). IsToShow move run keep (now_of e mid) n doc entry m.cause) (sym navs)
     (subst (λ (d : DocId). IsToShow move run keep (now_of e mid) m.nav d entry m.cause) (sym docs)
     (subst (λ (x : EntryId). IsToShow move run keep (now_of e mid) m.nav m.doc x m.cause) (sym entries) shows)))
     shown
     (left_first_not m first_run (now_of e was) nav navs bound was mid)
+    loading

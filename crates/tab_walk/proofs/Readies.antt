@@ -10,10 +10,9 @@ use Rattle.tab_ids.specs.declared.EntryId.{EntryId}
 use Rattle.tab_ids.specs.declared.NavId.{NavId}
 use Rattle.tab_ids.specs.declared.StateId.{StateId}
 use Rattle.tab_moves.specs.Moving.{MayBeMoved}
-use Rattle.tab_passes.proofs.Leavings.{begun_leaving}
-use Rattle.tab_passes.specs.Causes.{show_why}
-use Rattle.tab_passes.specs.Leaving.{IsLeaving}
-use Rattle.tab_passes.specs.Passing.{IsPassing}
+use Rattle.tab_moves.proofs.PassedOn.{begun_leaving}
+use Rattle.tab_moves.specs.Making.{show_why}
+use Rattle.tab_moves.specs.PassedOn.{IsLeaving, IsPassing}
 use Rattle.tab_walk.specs.Cutting.{MayCut, MayCutFrom, cut_of}
 use Rattle.tab_walk.specs.Moving.{InMove, document_or, in_move}
 

@@ -27,19 +27,18 @@ use Rattle.tab_ids.specs.declared.NavId.{NavId}
 use Rattle.tab_ids.specs.declared.ReqId.{ReqId}
 use Rattle.tab_ids.specs.declared.StateId.{StateId}
 use Rattle.tab_moves.proofs.Ups.{up_at}
-use Rattle.tab_moves.specs.Moving.{AllAsleep}
+use Rattle.tab_moves.specs.Moving.{AllAsleep, MayCause}
 use Rattle.tab_moves.specs.Showing.{IsToShow}
-use Rattle.tab_passes.proofs.Goings.{show_causes}
-use Rattle.tab_passes.specs.Causes.{MayCause, show_why}
-use Rattle.tab_passes.specs.Leaving.{IsLeaving}
+use Rattle.tab_moves.proofs.Makings.{show_causes}
+use Rattle.tab_moves.specs.Making.{show_why}
+use Rattle.tab_moves.specs.PassedOn.{HasOnly, IsLeaving}
 use Rattle.left_facts.specs.Left.{WereShown}
 use Rattle.log_model.specs.Checks.{may_go_on}
 use Rattle.log_model.specs.Seen.{Asked, request_of}
 use Rattle.tab_doors.specs.Working.{KeepsStore}
 use Rattle.tab_evicts.specs.Evicting.{HasOnlyDiscarded}
-use Rattle.tab_passes.proofs.Goings.{goes_on}
-use Rattle.tab_passes.proofs.Lives.{live_parts}
-use Rattle.tab_passes.specs.Passing.{HasOnly}
+use Rattle.tab_moves.proofs.Frees.{goes_on}
+use Rattle.tab_moves.proofs.Lasts.{live_parts}
 use Rattle.tab_walk.proofs.Overs.{IsQuietRow, causes_over, discarded_quiet, moved_over, parked_over}
 use Rattle.tab_walk.specs.Moving.{InMove, IsBound, IsPart, MayMakeRoom, NoLoadBelowKept, document_or, evicting_in, move_of}
 use Rattle.walk_facts.specs.Serving.{is_needing, is_stopping}
@@ -47,7 +46,7 @@ use Rattle.walk_facts.specs.Walking.{LeavesOthers}
 use Rattle.walk_rows.proofs.Walks.{stopping_same}
 use Rattle.walk_rows.specs.Since.{IsVisitedInNeed}
 use Rattle.std.proofs.lemmas.Bool.Decides.{nat_tests}
-use Rattle.tab_whole.proofs.Above.{on_parent}
+use Rattle.tab_moves.proofs.Showings.{on_parent}
 use Rattle.rest_facts.proofs.Stands.{get_of}
 use Rattle.walk_facts.proofs.Placed.{each_found, found_nav}
 use Rattle.hang_facts.proofs.Hung.{places_distinct}
@@ -285,7 +284,7 @@ module _ (m : InMove) (out : List RowKind) (t : Tables) (leaving : IsLeaving m.p
   sleeps_evicted other place at_or placed = sleeps other place at_or (sym (placed_then other) ∙ placed)
 
   pub part_evicted : IsPart was now m.nav
-  part_evicted = record { others = leaves; parked = parked_over m.pass.event out new_out quiet; causes = causes_over m.pass.event out new_out quiet each }
+  part_evicted = record { others = leaves; parked = parked_over m.pass.event out new_out quiet; causes = causes_over m.pass.event out new_out quiet each; loading = stays.loading }
 
 -- ---- in the words of the call
 

@@ -27,10 +27,9 @@ use Rattle.tab_ids.specs.declared.NavId.{NavId}
 use Rattle.tab_ids.specs.declared.ReqId.{ReqId}
 use Rattle.tab_moves.specs.Moving.{AllAsleep}
 use Rattle.tab_moves.specs.Showing.{IsToShow}
-use Rattle.tab_passes.proofs.Goings.{goes_on}
-use Rattle.tab_passes.specs.Causes.{show_why}
-use Rattle.tab_passes.specs.Leaving.{IsLeaving}
-use Rattle.tab_passes.specs.Passing.{HasOnly}
+use Rattle.tab_moves.proofs.Frees.{goes_on}
+use Rattle.tab_moves.specs.Making.{show_why}
+use Rattle.tab_moves.specs.PassedOn.{HasOnly, IsLeaving}
 use Rattle.tab_walk.proofs.Overs.{IsQuietRow, causes_over, discarded_quiet, moved_over, parked_over}
 use Rattle.tab_walk.proofs.Rooms.{filter_none}
 use Rattle.tab_walk.specs.Cutting.{IsCutting, cut_of}
@@ -136,4 +135,4 @@ module _ (m : InMove) (why : Why) (out : List RowKind) (t : Tables) (new : Docum
       few_none = let none : length now.kept ≡ 0 = ap (λ (l : List DocId). length l) so.kept in omega (arith, none)
 
   pub cut_part : IsPart was now m.nav
-  cut_part = record { others = leaves; parked = parked_over m.pass.event out last_out quiet; causes = causes_over m.pass.event out last_out quiet each }
+  cut_part = record { others = leaves; parked = parked_over m.pass.event out last_out quiet; causes = causes_over m.pass.event out last_out quiet each; loading = stays.loading }

@@ -25,8 +25,9 @@ use Rattle.tab_ids.specs.declared.NavId.{NavId}
 use Rattle.tab_ids.specs.declared.StateId.{StateId}
 use Rattle.tab_moves.proofs.Leaves.{distinct, showed, under}
 use Rattle.tab_moves.proofs.Sleeps.{WasSlept, was_slept}
-use Rattle.tab_moves.specs.Moving.{AllAsleep, InMoving, IsAtOrBelow, IsToLeave}
-use Rattle.tab_passes.specs.Leaving.{IsLeaving}
+use Rattle.tab_moves.specs.Moving.{AllAsleep, InMoving, IsToLeave}
+pub use Rattle.tab_moves.specs.Moving.{IsAtOrBelow}
+use Rattle.tab_moves.specs.PassedOn.{IsLeaving}
 use Rattle.tab_walk.proofs.Cutoffs.{cut_nobody, off}
 use Rattle.tab_walk.proofs.Offs.{asleep_off, to_leave}
 use Rattle.tab_walk.specs.Cutting.{MayCut, cut_of}

@@ -10,7 +10,8 @@ use Rattle.seen_laws.specs.InEvent.{now_of}
 use Rattle.std.specs.Prelude.{List, None, Some, [], false, length, take, true, ℕ, ◌<◌, ◌∷◌, ◌≡◌}
 use Rattle.tab_doors.specs.Keeping.{Move}
 use Rattle.tab_doors.specs.declared.tables.Tables.{Tables}
-use Rattle.tab_evicts.specs.Evicting.{IsGoneFor, IsThereBelow, NoLoadBelow}
+use Rattle.tab_evicts.specs.Evicting.{IsGoneFor, IsThereBelow}
+pub use Rattle.tab_evicts.specs.Evicting.{NoLoadBelow}
 use Rattle.tab_ids.specs.declared.DocId.{DocId}
 use Rattle.left_facts.specs.Left.{WereShown}
 use Rattle.std.specs.Prelude.{Option}
@@ -18,11 +19,11 @@ use Rattle.tab_ids.specs.declared.NavId.{NavId}
 use Rattle.tab_ids.specs.declared.ReqId.{ReqId}
 use Rattle.tab_ids.specs.declared.StateId.{StateId}
 use Rattle.tab_moves.specs.Moving.{MayBeMoved}
-use Rattle.tab_passes.specs.Causes.{show_why}
 use Rattle.tab_walk.specs.Moving.{InMove, IsBound}
-use Rattle.tab_passes.specs.Causes.{MayCause}
-use Rattle.tab_passes.specs.Leaving.{IsLeaving, without_all}
-use Rattle.tab_passes.specs.Passing.{InPass}
+pub use Rattle.tab_moves.specs.Making.{show_why}
+pub use Rattle.tab_moves.specs.Moving.{InPass, MayCause}
+use Rattle.tab_moves.specs.PassedOn.{without_all}
+pub use Rattle.tab_moves.specs.PassedOn.{IsLeaving}
 
 -- the document is there below the state, and nobody is awake on it any more
 pub record IsCutBelow (s : Seen) (gone : StateId) (doc : DocId) : Type 0 where

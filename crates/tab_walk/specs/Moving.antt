@@ -1,5 +1,6 @@
 -- A navigable is moved to the document that is there for its target: what it is between the rows of that.
 -- HTML Standard, "apply the history step", "deactivate a document for a cross-document navigation" and "Documents kept for traversal"; orders and reasons are this project's own.
+use Rattle.calm_facts.specs.Loads.{LoadsHaveDocuments}
 use Rattle.hang_facts.specs.Members.{Has}
 use Rattle.kept_facts.specs.Keeping.{kept_states}
 use Rattle.left_facts.specs.Left.{WereShown}
@@ -22,7 +23,7 @@ use Rattle.std.specs.Prelude.{Bool, List, None, Option, Some, [], drop, false, i
 use Rattle.page_cache.specs.Kept.{left_first}
 use Rattle.std.specs.Option.{option_to_list}
 use Rattle.tab_doors.specs.Keeping.{Move}
-use Rattle.tab_passes.specs.Telling.{awake_on}
+use Rattle.tab_moves.specs.Making.{awake_on, show_why}
 use Rattle.walk_facts.specs.Walking.{LeavesOthers}
 use Rattle.tab_evicts.specs.Evicting.{InEvicting, NoLoadBelow}
 use Rattle.tab_ids.specs.declared.DocId.{DocId}
@@ -31,10 +32,9 @@ use Rattle.tab_ids.specs.declared.Epoch.{Epoch}
 use Rattle.tab_ids.specs.declared.NavId.{NavId}
 use Rattle.tab_ids.specs.declared.ReqId.{ReqId}
 use Rattle.tab_ids.specs.declared.StateId.{StateId}
-use Rattle.tab_moves.specs.Moving.{AllAsleep, MayBeMoved}
+use Rattle.tab_moves.specs.Moving.{AllAsleep, InPass, MayBeMoved, MayCause}
 use Rattle.tab_moves.specs.Showing.{IsWanted}
-use Rattle.tab_passes.specs.Causes.{MayCause, show_why}
-use Rattle.tab_passes.specs.Passing.{HasOnly, InPass}
+pub use Rattle.tab_moves.specs.PassedOn.{HasOnly}
 use Rattle.walk_rows.specs.Since.{IsVisitedInNeed}
 use Rattle.log_model.specs.declared.job.Task.TheVariants as tasks
 use Rattle.log_model.specs.declared.row_kind.RowKind.TheVariants as rows
@@ -111,11 +111,12 @@ pub record HasSetOff (m : InMove) (run : Option ReqId) (s : Seen) : Type 0 where
 
 -- ---- what the rows of a move leave
 
--- who isn't at or below the navigable is as it was, and for what orders may be sent, that may be so still
+-- who isn't at or below the navigable is as it was, and for what orders may be sent, that may be so still; and each ongoing load has its document still
 pub record IsPart (s t : Seen) (nav : NavId) : Type 0 where
   pub others : LeavesOthers s t nav
   pub parked : t.parked ≡ s.parked
   pub causes : (why : Why) → MayCause s why → MayCause t why
+  pub loading : LoadsHaveDocuments s → LoadsHaveDocuments t
 
 -- the row is an order, for this, that freezes or discards a document
 pub record IsLeaveFor (why : Why) (row : RowKind) : Type 0 where
@@ -146,12 +147,13 @@ pub record IsMoveFor (why : Why) (row : RowKind) : Type 0 where
 abbrev pub HasOnlyMoved : Why → List RowKind → List RowKind → Type 0
 HasOnlyMoved why was out = HasOnly (IsMoveFor why) was out
 
--- the navigable left what it was shown last, which it hadn't if it was never shown a document, and last an order was put out that shows it its target's entry, by the document that is there for it
+-- the navigable left what it was shown last, which it hadn't if it was never shown a document, and by which each ongoing load kept its document; and last an order was put out that shows it its target's entry, by the document that is there for it
 pub record HasBeenMoved (e : InEvent) (nav : NavId) (was out : List RowKind) : Type 0 where
   pub mid : List RowKind
   pub for_ : Why
   pub left : HasOnlyLeft for_ was mid
   pub first : (place : Place) → place_of (now_of e was) nav ≡ Some place → place.last ≡ None → mid ≡ was
+  pub loading : LoadsHaveDocuments (now_of e was) → LoadsHaveDocuments (now_of e mid)
   pub job : Job
   pub entry : EntryId
   pub epoch : Epoch

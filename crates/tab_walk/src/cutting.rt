@@ -6,7 +6,7 @@ ghost use Rattle.tab_doors.specs.Working.{KeepsStore};
 ghost use Rattle.tab_evicts.specs.Evicting.{HasOnlyDiscarded, StaysPlaced};
 ghost use Rattle.log_model.specs.Seen.{document_of};
 ghost use Rattle.tab_moves.specs.Showing.{IsToShow};
-ghost use Rattle.tab_passes.specs.Leaving.{IsLeaving, left_then, without_all};
+ghost use Rattle.tab_moves.specs.PassedOn.{IsLeaving, left_then, without_all};
 ghost use Rattle.tab_walk.specs.Cutting.{InCutLeft, InCutTurn, InCuts, IsCutTurn, IsCutting, MayCut, cut_of};
 ghost use Rattle.tab_walk.specs.Moving.{HasOnlyLeft, IsPart};
 

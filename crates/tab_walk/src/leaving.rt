@@ -4,7 +4,7 @@ ghost use Rattle.kept_facts.specs.Keeping.{kept_states};
 ghost use Rattle.seen_laws.specs.InEvent.{now_of};
 ghost use Rattle.tab_doors.specs.Working.{KeepsStore};
 ghost use Rattle.tab_moves.specs.Showing.{IsToShow};
-ghost use Rattle.tab_passes.specs.Leaving.{IsLeaving};
+ghost use Rattle.tab_moves.specs.PassedOn.{IsLeaving};
 ghost use Rattle.tab_walk.specs.Moving.{HasOnlyLeft, HasSetOff, InMove, IsPart, MayMakeRoom, MaySetOff, is_up_in, move_of};
 
 use address::OutOfMemory;

@@ -1,4 +1,8 @@
 -- All that holds of a tab between two rows holds after a request is accepted with the next number: a traversal joins the queue, a load is at hand, a poke joins the input of its document's process, and one that reaches no document is at hand, too.
+use Rattle.log_model.specs.declared.made.Made.{Made}
+use Rattle.past_facts.specs.Past.{ArePast}
+use Rattle.past_facts.proofs.Places.{same_last}
+use Rattle.past_facts.proofs.Rows.{still_past}
 use Rattle.asked_facts.proofs.Rows.{accepted_plain}
 use Rattle.asked_facts.specs.Asking.{IsNoEditing}
 use Rattle.coord_facts.proofs.Flowings.{left_flows}
@@ -53,6 +57,10 @@ module _ (run : Option ReqId) (s : Seen) (event : ℕ) (actor : Actor) (tab : Is
   accept_flows doc what =
       left_flows s (next s event actor (accepts doc what)) (accepted_left s event actor req doc what) refl refl refl (accepted_held s event actor req doc what) flows
 
+  accept_past : (doc : Option DocId) (what : Request) → ArePast [] (next s event actor (accepts doc what))
+  accept_past doc what =
+      still_past [] [] s (next s event actor (accepts doc what)) tab.docs (accepted_left s event actor req doc what) refl (same_last s.places) (ap (λ (l : List Made). l ++ []) (accepted_held s event actor req doc what)) tab.past
+
   -- ---- a traversal
 
   module _ (delta : ℤ) where
@@ -85,6 +93,7 @@ module _ (run : Option ReqId) (s : Seen) (event : ℕ) (actor : Actor) (tab : Is
           ways = left_ways s event actor tab.ways (accepts None (requests.Go delta)) (accepted_left s event actor req None (requests.Go delta)) refl refl;
           entries = accepted_entries [] s event actor tab.entries req None (requests.Go delta);
           flows = flows_if went went_flows;
+          past = accept_past None (requests.Go delta);
         }
 
   -- ---- a load, which is at hand
@@ -140,6 +149,7 @@ module _ (run : Option ReqId) (s : Seen) (event : ℕ) (actor : Actor) (tab : Is
           ways = left_ways s event actor tab.ways (accepts None load) (accepted_left s event actor req None load) refl refl;
           entries = accepted_entries [] s event actor tab.entries req None load;
           flows = flows_if load_accepted load_accepted_flows;
+          past = accept_past None load;
         }
 
   -- ---- a poke
@@ -179,6 +189,7 @@ module _ (run : Option ReqId) (s : Seen) (event : ℕ) (actor : Actor) (tab : Is
             ways = left_ways s event actor tab.ways (accepts (Some doc) poke) (accepted_left s event actor req (Some doc) poke) refl refl;
             entries = accepted_entries [] s event actor tab.entries req (Some doc) poke;
             flows = flows_if poked poked_flows;
+            past = accept_past (Some doc) poke;
           }
 
     -- one that reaches no document is at hand, and to be refused
@@ -211,4 +222,5 @@ module _ (run : Option ReqId) (s : Seen) (event : ℕ) (actor : Actor) (tab : Is
           ways = left_ways s event actor tab.ways (accepts None poke) (accepted_left s event actor req None poke) refl refl;
           entries = accepted_entries [] s event actor tab.entries req None poke;
           flows = flows_if strayed strayed_flows;
+          past = accept_past None poke;
         }

@@ -1,4 +1,11 @@
 -- All that holds of a tab between two events holds after a document acts on the first poke of its process, with no edit, and after the process refuses that poke.
+use Rattle.log_model.specs.declared.made.Report.{Report}
+use Rattle.std.proofs.lemmas.List.Elements.{filter_map-append}
+use Rattle.log_model.specs.AfterRequests.{made_of_report}
+use Rattle.coord_facts.proofs.OneMade.{reported}
+use Rattle.log_model.specs.declared.made.Made.{Made}
+use Rattle.past_facts.proofs.Places.{same_last}
+use Rattle.past_facts.proofs.Rows.{acted_row_past, still_past}
 use Rattle.asked_facts.proofs.Rows.{made_plain, refused_plain}
 use Rattle.asked_facts.specs.Asking.{IsNoEditing, IsTabRequest}
 use Rattle.coord_facts.proofs.Flowings.{left_flows, made_flows}
@@ -27,7 +34,7 @@ use Rattle.load_facts.proofs.Rows.{made_loading, refused_loading}
 use Rattle.load_facts.specs.Loading.{is_ongoing, look}
 use Rattle.load_whereabouts.proofs.Answered.{made_other}
 use Rattle.load_whereabouts.proofs.Ended.{poke_refused_loads}
-use Rattle.log_model.specs.After.{follows_finished}
+use Rattle.log_model.specs.After.{follows_finished, desks_made}
 use Rattle.log_model.specs.Equal.{has_req}
 use Rattle.log_model.specs.Places.{is_load}
 use Rattle.log_model.specs.Seen.{Asked, Document, Seen, desk_of, document_of, request_in, request_of}
@@ -48,10 +55,10 @@ use Rattle.request_facts.specs.Whereabouts.{is_of_load}
 use Rattle.rest_facts.proofs.Kept.{left_kept}
 use Rattle.seen_laws.specs.Acting.{IsToAct}
 use Rattle.shown_facts.proofs.Rows.{made_shown, refused_shown}
-use Rattle.std.proofs.Common.{Bool, None, Option, Some, [], ap, arith, false, refl, subst, sym, true, ℕ, ◌&&◌, ◌+◌, ◌==◌, ◌∙◌, ◌≡◌}
+use Rattle.std.proofs.Common.{Bool, None, Option, Some, [], ap, arith, false, refl, subst, sym, true, ℕ, ◌&&◌, ◌+◌, ◌==◌, ◌∙◌, ◌≡◌, List, ◌++◌, ◌∷◌}
 use Rattle.std.proofs.lemmas.Bool.{eqb-true}
 use Rattle.std.proofs.lemmas.Bool.Decides.{nat_tests}
-use Rattle.std.specs.Prelude.{is_none, slice_get}
+use Rattle.std.specs.Prelude.{is_none, slice_get, filter_map}
 use Rattle.tab_ids.specs.declared.DocId.{DocId}
 use Rattle.tab_ids.specs.declared.NavId.{NavId}
 use Rattle.tab_ids.specs.declared.ProcId.{ProcId}
@@ -59,6 +66,7 @@ use Rattle.tab_ids.specs.declared.ReqId.{ReqId}
 use Rattle.tab_whole.proofs.Where.{nothing_goes}
 use Rattle.tab_whole.specs.Tab.{IsTab}
 use Rattle.transit_facts.proofs.Rows.{left_ways, made_ways}
+use Rattle.log_model.specs.declared.made.Report.TheVariants as reports
 use Rattle.log_model.specs.declared.made.What.TheVariants as whats
 use Rattle.log_model.specs.declared.request.Request.TheVariants as requests
 use Rattle.log_model.specs.declared.row_kind.Actor.TheVariants as actors
@@ -215,6 +223,12 @@ module _ (run : Option ReqId) (s : Seen) (proc : ProcId) (tab : IsTab run [] [] 
     acted_flows =
         made_flows s proc poke its_asked.q its_asked.nav d view what acts by_action.no_edit flows (held_apart s.requests s.parked poke.req (λ x. record x { made = Some (made_for view poke.req what) }) unparked)
 
+    -- it has a report of its own
+    its_told : filter_map made_of_report (desks_made false (made_for view poke.req what) (desk_of s proc)).reports ≡ filter_map made_of_report (desk_of s proc).reports ++ made_for view poke.req what ∷ []
+    its_told =
+        ap (λ (l : List Report). filter_map made_of_report l) (reported (desk_of s proc).reports (made_for view poke.req what) what by_action.no_edit)
+        ∙ filter_map-append made_of_report (desk_of s proc).reports (reports.Made (made_for view poke.req what) ∷ [])
+
     pub acted_tab : IsTab run [] [] acted
     acted_tab =
         record {
@@ -238,6 +252,7 @@ module _ (run : Option ReqId) (s : Seen) (proc : ProcId) (tab : IsTab run [] [] 
           ways = made_ways s s.events (actors.Proc proc) tab.ways proc (made_for view poke.req what) anew;
           entries = poke_entries [] s s.events (actors.Proc proc) tab.entries proc (made_for view poke.req what) d view make anew;
           flows = flows_if acted acted_flows;
+          past = acted_row_past s s.events proc tab.docs (made_for view poke.req what) d view found is.has its_home refl false anew its_told (ap (λ (l : List Made). l ++ []) (held_apart s.requests s.parked poke.req (λ x. record x { made = Some (made_for view poke.req what) }) unparked)) tab.past;
         }
 
   -- ---- its process refuses it
@@ -288,4 +303,5 @@ module _ (run : Option ReqId) (s : Seen) (proc : ProcId) (tab : IsTab run [] [] 
           ways = left_ways s event (actors.Proc proc) tab.ways (rows.Refused poke.req reason) (refused_left s event (actors.Proc proc) poke.req reason) refl refl;
           entries = refused_entries [] s event tab.entries poke.req (nothing_goes [] s poke.req unparked refl) (actors.Proc proc) reason;
           flows = flows_if unpoked unmade_flows;
+          past = still_past [] [] s unpoked tab.docs (refused_left s event (actors.Proc proc) poke.req reason) refl (same_last s.places) (ap (λ (l : List Made). l ++ []) (refused_held s event (actors.Proc proc) poke.req reason unparked)) tab.past;
         }

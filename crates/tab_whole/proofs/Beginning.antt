@@ -1,8 +1,10 @@
 -- All that holds of a tab between two rows holds after a traversal begins, where none runs; after a load begins that is at hand; and after a document state is evicted.
+use Rattle.past_facts.proofs.Places.{same_last}
+use Rattle.past_facts.proofs.Rows.{still_past}
 use Rattle.asked_facts.proofs.Begun.{begun_plain, load_begun_plain}
 use Rattle.asked_facts.proofs.Rows.{evicted_plain}
 use Rattle.coord_facts.proofs.Flowings.{left_flows}
-use Rattle.coord_facts.proofs.Unread.{evicted_left, next, started_left}
+use Rattle.coord_facts.proofs.Unread.{evicted_left, next, started_left, started_held}
 use Rattle.coord_facts.specs.Flowing.{Flows}
 use Rattle.desk_facts.proofs.Rows.{evicted_desks, started_desks}
 use Rattle.doc_facts.proofs.Rows.{evicted_docs, started_docs}
@@ -37,7 +39,7 @@ use Rattle.request_facts.proofs.Onces.{evicted_once, started_once}
 use Rattle.request_facts.specs.Whereabouts.{is_of_load}
 use Rattle.rest_facts.proofs.Kept.{left_kept}
 use Rattle.shown_facts.proofs.Rows.{begun_load_shown, begun_other_shown, evicted_shown}
-use Rattle.std.proofs.Common.{List, None, Option, Some, [], ap, false, refl, subst, sym, true, ℕ, ◌∙◌, ◌∷◌, ◌≡◌}
+use Rattle.std.proofs.Common.{List, None, Option, Some, [], ap, false, refl, subst, sym, true, ℕ, ◌∙◌, ◌∷◌, ◌≡◌, ◌++◌}
 use Rattle.tab_ids.specs.declared.NavId.{NavId}
 use Rattle.tab_ids.specs.declared.ReqId.{ReqId}
 use Rattle.tab_ids.specs.declared.StateId.{StateId}
@@ -96,6 +98,7 @@ module _ (at : List ReqId) (hand : List Made) (s : Seen) (event : ℕ) (actor : 
         ways = left_ways s event actor tab.ways (rows.Started req (Some goal)) (started_left s event actor req (Some goal)) refl refl;
         entries = started_entries hand s event actor tab.entries req (Some goal);
         flows = started_if s event actor hand req (Some goal) tab.flows;
+        past = still_past hand hand s (next s event actor (rows.Started req (Some goal))) tab.docs (started_left s event actor req (Some goal)) refl (same_last s.places) (ap (λ (l : List Made). l ++ hand) (started_held s event actor req (Some goal))) tab.past;
       }
     where
       no_loads : (p : Asked) → request_of s req ≡ Some p → is_load p.what ≡ false
@@ -153,6 +156,7 @@ module _ (run : Option ReqId) (req : ReqId) (at : List ReqId) (hand : List Made)
         ways = left_ways s event actor tab.ways (rows.Started req None) (started_left s event actor req None) refl refl;
         entries = started_entries hand s event actor tab.entries req None;
         flows = started_if s event actor hand req None tab.flows;
+        past = still_past hand hand s (next s event actor (rows.Started req None)) tab.docs (started_left s event actor req None) refl (same_last s.places) (ap (λ (l : List Made). l ++ hand) (started_held s event actor req None)) tab.past;
       }
 
 -- ---- a document state is evicted
@@ -187,4 +191,5 @@ module _ (run : Option ReqId) (s : Seen) (event : ℕ) (actor : Actor) (tab : Is
         ways = left_ways s event actor tab.ways (rows.Evicted state) (evicted_left s event actor state) refl refl;
         entries = evicted_entries [] s event actor tab.entries state;
         flows = flows_if evicted evicted_flows;
+        past = still_past [] [] s evicted tab.docs (evicted_left s event actor state) refl (same_last s.places) refl tab.past;
       }

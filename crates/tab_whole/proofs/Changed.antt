@@ -1,4 +1,5 @@
 -- All that holds of a tab between two rows holds after a change is applied, where what is told of the change itself holds.
+use Rattle.past_facts.proofs.Rows.{applied_past}
 use Rattle.asked_facts.specs.Asking.{ArePlain}
 use Rattle.coord_facts.proofs.Unread.{next}
 use Rattle.desk_facts.proofs.Rows.{applied_desks}
@@ -92,4 +93,5 @@ module _ (run next_run : Option ReqId) (loads : List ReqId) (hand : List Made) (
           ways = applied_ways s event actor req change tab.ways;
           entries = well.entries;
           flows = well.flows;
+          past = applied_past hand s event actor tab.docs req change tab.past;
         }

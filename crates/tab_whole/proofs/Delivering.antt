@@ -1,4 +1,6 @@
 -- All that holds of a tab between two events holds after a report is delivered of an order of which nothing was made; and what a report leaves of the rest, whatever it tells of.
+use Rattle.past_facts.specs.Past.{ArePast}
+use Rattle.past_facts.proofs.Rows.{unmade_past}
 use Rattle.asked_facts.proofs.Rows.{delivered_plain}
 use Rattle.coord_facts.proofs.Answered as answering
 use Rattle.coord_facts.proofs.Flowings as flowing
@@ -43,7 +45,7 @@ use Rattle.request_facts.specs.Knowns.{AreKnown}
 use Rattle.request_facts.specs.Whereabouts.{AreOnce}
 use Rattle.rest_facts.proofs.Kept.{left_kept}
 use Rattle.shown_facts.proofs.Rows.{delivered_shown}
-use Rattle.std.proofs.Common.{Bool, List, None, Option, Some, [], ap, arith, refl, subst, sym, ℕ, ◌+◌, ◌∙◌, ◌∷◌, ◌≡◌}
+use Rattle.std.proofs.Common.{Bool, List, None, Option, Some, [], ap, arith, refl, subst, sym, ℕ, ◌+◌, ◌∙◌, ◌∷◌, ◌≡◌, ◌++◌}
 use Rattle.std.specs.Prelude.{drop, slice_get}
 use Rattle.tab_ids.specs.declared.DocId.{DocId}
 use Rattle.tab_ids.specs.declared.NavId.{NavId}
@@ -82,8 +84,8 @@ module _ (run : Option ReqId) (s : Seen) (event : ℕ) (proc : ProcId) (tab : Is
         by_report (reports.Made made) at its = rw at tt
         by_report (reports.Died death) at never = absurd never
 
-    pub came_tab : (hand : List Made) → FlowsIf hand came → AreOnce came (at_hand [] hand) → AreLoadsOnce came (at_hand [] hand) → AreKnown came → AreEntries hand came → IsTab run [] hand came
-    came_tab hand flows_ once trips known entries =
+    pub came_tab : (hand : List Made) → FlowsIf hand came → AreOnce came (at_hand [] hand) → AreLoadsOnce came (at_hand [] hand) → AreKnown came → AreEntries hand came → ArePast hand came → IsTab run [] hand came
+    came_tab hand flows_ once trips known entries past =
         record {
           sound = tab.sound;
           hangs = left_hangs s event actors.Coord tab.hangs (rows.Delivered proc) tt;
@@ -105,6 +107,7 @@ module _ (run : Option ReqId) (s : Seen) (event : ℕ) (proc : ProcId) (tab : Is
           ways = delivered_ways s event actors.Coord proc tab.homes tab.ways fine;
           entries = entries;
           flows = flows_;
+          past = past;
         }
 
   -- ---- of an order of which nothing was made
@@ -167,3 +170,4 @@ module _ (run : Option ReqId) (s : Seen) (event : ℕ) (proc : ProcId) (tab : Is
         (untold_loads s [] event actors.Coord proc (reports.Done job outcome None) first refl tab.trips)
         (untold_known s event actors.Coord proc (reports.Done job outcome None) first refl tab.known)
         (told_entries [] s event actors.Coord tab.entries proc (fine (reports.Done job outcome None) first) (rw first refl))
+        (unmade_past [] [] s event proc tab.docs (fine (reports.Done job outcome None) first) (ap (λ (l : List Made). l ++ []) done_held) tab.past)

@@ -1,4 +1,5 @@
 -- All that holds of a tab between two rows holds after a request is refused or dropped by the coordinator or the user's event, wherever it was: in the queue, held back, at hand, or an ongoing load.
+use Rattle.past_facts.proofs.Rows.{dropped_past, refused_past}
 use Rattle.asked_facts.proofs.Rows.{dropped_plain, refused_plain}
 use Rattle.coord_facts.proofs.Unread.{dropped_left, next, refused_left}
 use Rattle.desk_facts.proofs.Rows.{denied_desks, dropped_desks}
@@ -96,6 +97,7 @@ module _ (run : Option ReqId) (loads : List ReqId) (hand : List Made) (s : Seen)
         ways = left_ways s event actor tab.ways (rows.Dropped req cause) (dropped_left s event actor req cause) refl refl;
         entries = dropped_entries hand s event tab.entries req end.passed actor cause;
         flows = dropped_if s event run hand req (record { other = end.other; held = end.passed.held; at_hand = end.passed.at_hand }) actor cause tab.flows;
+        past = dropped_past hand s event actor tab.docs req cause tab.past;
       }
 
   -- what is of one actor or the other
@@ -146,4 +148,5 @@ module _ (run : Option ReqId) (loads : List ReqId) (hand : List Made) (s : Seen)
         ways = left_ways s event actor tab.ways (rows.Refused req reason) (refused_left s event actor req reason) refl refl;
         entries = refused_entries hand s event tab.entries req end.passed actor reason;
         flows = refused_if s event run hand req (record { other = end.other; held = end.passed.held; at_hand = end.passed.at_hand }) actor reason tab.flows;
+        past = refused_past hand s event actor tab.docs req reason tab.past;
       }

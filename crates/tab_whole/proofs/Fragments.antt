@@ -1,4 +1,9 @@
 -- All that holds of a tab between two events holds after a process finishes the fragment order of a load, whose document runs and makes a new entry of it in the same event.
+use Rattle.doc_facts.specs.Docs.{AreDocs}
+use Rattle.coord_facts.proofs.Held.{held_apart}
+use Rattle.fragment_facts.proofs.Joined.{EndsUntold, told_joined}
+use Rattle.past_facts.specs.Past.{ArePast}
+use Rattle.past_facts.proofs.Rows.{acted_row_past, finished_past}
 use Rattle.asked_facts.proofs.Rows.{finished_plain, made_plain}
 use Rattle.coord_facts.proofs.Kept.{IsInHand}
 use Rattle.coord_facts.proofs.Unread.{next}
@@ -43,14 +48,14 @@ use Rattle.request_facts.proofs.Readers.{finished_reads}
 use Rattle.request_facts.specs.Whereabouts.{is_of_load}
 use Rattle.rest_facts.proofs.Kept.{left_kept}
 use Rattle.shown_facts.proofs.Rows.{finished_shown, made_shown}
-use Rattle.std.proofs.Common.{Bool, List, None, Option, Some, [], ap, false, refl, subst, sym, true, ℕ, ◌&&◌, ◌∙◌, ◌≡◌}
+use Rattle.std.proofs.Common.{Bool, List, None, Option, Some, [], ap, false, refl, subst, sym, true, ℕ, ◌&&◌, ◌∙◌, ◌≡◌, ◌++◌}
 use Rattle.std.specs.Prelude.{is_none, is_some, not, option_map}
 use Rattle.tab_ids.specs.declared.DocId.{DocId}
 use Rattle.tab_ids.specs.declared.NavId.{NavId}
 use Rattle.tab_ids.specs.declared.ProcId.{ProcId}
 use Rattle.tab_ids.specs.declared.ReqId.{ReqId}
 use Rattle.tab_whole.proofs.Joining.{joined_ways}
-use Rattle.tab_whole.proofs.Working.{finish_flows, in_hand_lives, unmade}
+use Rattle.tab_whole.proofs.Working.{finish_flows, in_hand_lives, unmade, held_by_cores}
 use Rattle.tab_whole.specs.Tab.{IsTab}
 use Rattle.transit_facts.proofs.Rows.{finished_ways}
 use Rattle.transit_facts.specs.Orders.{IsOutcomeOf}
@@ -230,6 +235,16 @@ module _ (run : Option ReqId) (s : Seen) (event : ℕ) (proc : ProcId) (tab : Is
   fragment_made_flows =
       fragment_flows finished event proc order.job req mode address d view just unparked now_flows
 
+  finished_docs_ : AreDocs finished
+  finished_docs_ = finished_docs s event (actors.Proc proc) tab.docs tab.desks proc order outcomes.Fragmented is.in_hand tt
+
+  ends_untold : EndsUntold (desk_of finished proc).reports
+  ends_untold = record { front = just.front; job = order.job; outcome = outcomes.Fragmented; last = just.last }
+
+  finished_past_ : ArePast [] finished
+  finished_past_ =
+      finished_past s event proc tab.docs order outcomes.Fragmented in_ (ap (λ (l : List Made). l ++ []) (held_by_cores s.requests finished.requests s.parked (finished_cores s (desk_of s proc).in_hand outcomes.Fragmented s.requests))) tab.past
+
   pub fragment_made_tab : IsTab run [] [] fragment_made
   fragment_made_tab =
       record {
@@ -253,4 +268,5 @@ module _ (run : Option ReqId) (s : Seen) (event : ℕ) (proc : ProcId) (tab : Is
         ways = joined_ways finished event (actors.Proc proc) proc made just.follows (finished_ways s event (actors.Proc proc) tab.ways proc order outcomes.Fragmented is.in_hand its);
         entries = fragment_entries [] finished event (actors.Proc proc) (finished_entries [] s event (actors.Proc proc) tab.entries proc order.job.nr outcomes.Fragmented (unmade run s event proc tab flows order outcomes.Fragmented is.in_hand its tt)) proc made d view make just.follows ends;
         flows = flows_if fragment_made fragment_made_flows;
+        past = acted_row_past finished event proc finished_docs_ made d view found is.has just.home refl true just.follows (told_joined made (desk_of finished proc).reports ends_untold) (ap (λ (l : List Made). l ++ []) (held_apart finished.requests finished.parked req (λ x. record x { made = Some made }) unparked)) finished_past_;
       }

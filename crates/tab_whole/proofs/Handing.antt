@@ -1,10 +1,12 @@
 -- All that holds of a tab between two events holds between two rows after a report is delivered of what a document made, of a poke or of a fragment order: it is at hand, held back, or a traversal in the queue.
+use Rattle.coord_facts.specs.Leading.{held_back}
+use Rattle.past_facts.proofs.Rows.{made_past, unmade_past}
 use Rattle.coord_facts.specs.Flowing.{Flows}
 use Rattle.desk_facts.specs.Own.{IsFragmentTask, IsMadeIn, IsReportIn}
 use Rattle.entry_facts.proofs.Skips.{IsNoEntry, made_in}
 use Rattle.entry_facts.proofs.Told.{at_hand_entries, held_entries, passed_entries}
 use Rattle.fragment_facts.proofs.AtHand.{at_hand_flows}
-use Rattle.fragment_facts.proofs.Delivered.{held_then, parked_flows, unheld_then}
+use Rattle.fragment_facts.proofs.Delivered.{held_then, parked_flows, unheld_then, first_told}
 use Rattle.fragment_facts.specs.Fragments.{IsFirstMadeOf, IsQuiet}
 use Rattle.fragment_facts.specs.Waiting.{FlowsWith}
 use Rattle.frame_whole.proofs.FlowsAlike.{flows_if}
@@ -21,7 +23,7 @@ use Rattle.request_facts.proofs.KnownMoved.{at_hand_known, delivered_made, first
 use Rattle.request_facts.proofs.Placings.{IsNoGo, at_hand_once, go_delivered_once, held_once}
 use Rattle.request_facts.specs.Cores.{Core, core, core_of}
 use Rattle.request_facts.specs.Knowns.{IsMadeOf, is_go}
-use Rattle.std.proofs.Common.{Bool, None, Option, Some, [], ap, false, refl, subst, sym, true, ℕ, ℤ, ◌||◌, ◌∙◌, ◌∷◌, ◌≡◌}
+use Rattle.std.proofs.Common.{Bool, None, Option, Some, [], ap, false, refl, subst, sym, true, ℕ, ℤ, ◌||◌, ◌∙◌, ◌∷◌, ◌≡◌, List, append-nil, ◌++◌}
 use Rattle.std.specs.Prelude.{option_and_then, slice_get}
 use Rattle.tab_ids.specs.declared.ProcId.{ProcId}
 use Rattle.tab_ids.specs.declared.ReqId.{ReqId}
@@ -141,6 +143,7 @@ module _ (run : Option ReqId) (s : Seen) (event : ℕ) (proc : ProcId) (tab : Is
       (at_hand_loads s [] event actors.Coord proc report made first tells tab.trips no_go free)
       (at_hand_known s event actors.Coord proc report made first tells tab.known no_go free)
       (at_hand_entries [] s event actors.Coord tab.entries proc (fine run s event proc tab flows report first) made at_first free)
+      (made_past [] (made ∷ []) s event proc tab.docs (fine run s event proc tab flows report first) made (first_told (desk_of s proc) made told_first) its_home (ap (λ (l : List Made). l ++ made ∷ []) (unheld_then s event proc made told_first free ∙ sym (append-nil (held_back s.requests s.parked)))) tab.past)
 
   -- and all that is at hand of its request, which isn't the running traversal
   pub hand_made : IsNoGo made.what → is_held_back s made ≡ false → IsMadeAtHand run [] (made ∷ []) told made.req made
@@ -171,6 +174,7 @@ module _ (run : Option ReqId) (s : Seen) (event : ℕ) (proc : ProcId) (tab : Is
       (held_loads s [] event actors.Coord proc report made first tells tab.trips no_go held)
       (held_known s event actors.Coord proc report made first tells tab.known no_go held)
       (held_entries s event actors.Coord tab.entries proc (fine run s event proc tab flows report first) made at_first held its_made)
+      (made_past [] [] s event proc tab.docs (fine run s event proc tab flows report first) made (first_told (desk_of s proc) made told_first) its_home (ap (λ (l : List Made). l ++ []) (held_then s event proc made told_first its_asked.q its_asked.there its_asked.makes held) ∙ append-nil (held_back s.requests s.parked ++ made ∷ []) ∙ ap (λ (l : List Made). l ++ made ∷ []) (sym (append-nil (held_back s.requests s.parked)))) tab.past)
 
   -- ---- it is a traversal, and joins the queue
 
@@ -188,3 +192,4 @@ module _ (run : Option ReqId) (s : Seen) (event : ℕ) (proc : ProcId) (tab : Is
         (go_delivered_loads s [] event actors.Coord proc report made first tells tab.trips delta what)
         (go_delivered_known s event actors.Coord proc report made first tells tab.known delta what)
         (passed_entries [] s event actors.Coord tab.entries proc (fine run s event proc tab flows report first) made at_first (go_free s made delta what) (go_none made delta what))
+        (unmade_past [] [] s event proc tab.docs (fine run s event proc tab flows report first) (ap (λ (l : List Made). l ++ []) (unheld_then s event proc made told_first (go_free s made delta what))) tab.past)

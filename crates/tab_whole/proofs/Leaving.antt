@@ -1,5 +1,6 @@
 -- All that holds between two rows holds after a document that is made is frozen or discarded: who is awake on it falls asleep, and those below.
 -- This project's own.
+use Rattle.past_facts.proofs.Orders.{told_past}
 use Rattle.asked_facts.proofs.Orders.{slept_plain}
 use Rattle.coord_facts.proofs.Leadings.{doc_same}
 use Rattle.coord_facts.proofs.Unread.{next}
@@ -114,6 +115,7 @@ module _ (run : Option ReqId) (loads : List ReqId) (hand : List Made) (s : Seen)
           ways = frozen_ways s event actor tab.ways job task;
           entries = sent_entries hand s event actor tab.entries job (subst (λ (t : Task). TellsAlone t) (sym task) tt);
           flows = freeze_if s event actor hand job task (sent_home run loads hand s tab job d to) thawed_not tab.flows;
+          past = told_past hand s event actor tab.docs job (sent_home run loads hand s tab job d to) (subst (λ (t : Task). load_docs.MakesNone t) (sym task) tt) (subst (λ (t : Task). load_docs.ShowsNone t) (sym task) tt) tab.past;
         }
 
   -- ---- it is discarded
@@ -157,4 +159,5 @@ module _ (run : Option ReqId) (loads : List ReqId) (hand : List Made) (s : Seen)
           ways = discarded_ways s event actor tab.ways job task;
           entries = sent_entries hand s event actor tab.entries job (subst (λ (t : Task). TellsAlone t) (sym task) tt);
           flows = discard_if s event actor hand job task (sent_home run loads hand s tab job d to) unused tab.flows;
+          past = told_past hand s event actor tab.docs job (sent_home run loads hand s tab job d to) (subst (λ (t : Task). load_docs.MakesNone t) (sym task) tt) (subst (λ (t : Task). load_docs.ShowsNone t) (sym task) tt) tab.past;
         }

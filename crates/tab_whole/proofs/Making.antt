@@ -1,5 +1,6 @@
 -- All that holds between two rows holds after an order is sent that makes the next document: for the target of a navigable, or for an ongoing load.
 -- This project's own.
+use Rattle.past_facts.proofs.Orders.{populated_past}
 use Rattle.asked_facts.proofs.Orders.{told_plain}
 use Rattle.coord_facts.proofs.Leadings.{doc_same}
 use Rattle.coord_facts.proofs.Unread.{next}
@@ -247,6 +248,7 @@ module _ (run : Option ReqId) (loads_ : List ReqId) (hand : List Made) (s : Seen
           ways = making_ways s event actor tab.ways job nav state address initial task gone unused;
           entries = making_entries hand s event actor tab.entries job nav state address initial task make.next_;
           flows = make_if s event actor hand job nav state address initial task (lives_first run loads_ hand s tab job make.first) is_new tab.flows;
+          past = populated_past hand s event actor tab.docs job nav state address initial task (lives_first run loads_ hand s tab job make.first) is_new tab.past;
         }
 
   -- ---- for an entry of a navigable, as its target at any step is

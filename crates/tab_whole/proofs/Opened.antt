@@ -1,4 +1,5 @@
 -- A tab that was just opened, at any address and without a handler, is as one is between two rows, and between two events.
+use Rattle.past_facts.proofs.Rows.{opened_past}
 use Rattle.asked_facts.proofs.Rows.{opened_plain}
 use Rattle.coord_facts.proofs.Unread.{next}
 use Rattle.coord_facts.specs.Flowing.{Flows}
@@ -81,4 +82,5 @@ module _ (event : ℕ) (actor : Actor) (entry : EntryId) (state : StateId) (doc 
         ways = composed.ways;
         entries = opened_entries event actor entry state doc proc None address first.maker entry_low first.doc_nr;
         flows = flows_if opened_seen composed.flows;
+        past = opened_past event actor entry state doc proc None address;
       }

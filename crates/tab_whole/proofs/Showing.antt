@@ -1,5 +1,6 @@
 -- All that holds between two rows holds after a navigable is shown a document, wherever it was before: it may be awake on another one, which then is left, and those below it may fall asleep.
 -- This project's own.
+use Rattle.past_facts.proofs.Orders.{activated_past}
 use Rattle.asked_facts.proofs.Orders.{shown_plain}
 use Rattle.coord_facts.proofs.Unread.{next}
 use Rattle.coord_facts.specs.Leading.{coming, pending_view}
@@ -195,4 +196,5 @@ module _ (run : Option ReqId) (loads : List ReqId) (hand : List Made) (s : Seen)
         ways = shown_ways s event actor tab.ways job d target.entry epoch long at target.memo target.address task show.found show.home;
         entries = shown_entries hand s event actor tab.entries job d target.entry epoch long at target.memo target.address task to_show;
         flows = show_if s event actor hand job d target.entry epoch long at target.memo target.address task (sent_home run loads hand s tab job d to) show.found place show.placed show.later tab.flows some_view.0 some_view.1 fields;
+        past = activated_past hand s event actor tab.docs job (sent_home run loads hand s tab job d to) d target.entry epoch long at target.memo target.address task show.found (λ before there. (let both : Some place ≡ Some before = sym show.placed ∙ there in let one : place ≡ before = cc in subst (λ (p : Place). p.epoch.0 < epoch.0) one show.later)) tab.flows.within tab.past;
       }

@@ -1,5 +1,6 @@
 -- All that holds between two rows holds after a document is told length and index.
 -- This project's own.
+use Rattle.past_facts.proofs.Orders.{told_past}
 use Rattle.asked_facts.proofs.Orders.{told_plain}
 use Rattle.coord_facts.proofs.Unread.{next}
 use Rattle.desk_facts.proofs.Orders.{told_desks}
@@ -61,4 +62,5 @@ tell_tab run loads hand s event actor tab job long at d task to =
       ways = told_ways s event actor tab.ways job (tasks.Update long at) task tt;
       entries = sent_entries hand s event actor tab.entries job (subst (λ (t : Task). TellsAlone t) (sym task) tt);
       flows = update_if s event actor hand job long at task (sent_home run loads hand s tab job d to) tab.flows;
+      past = told_past hand s event actor tab.docs job (sent_home run loads hand s tab job d to) (subst (λ (t : Task). load_docs.MakesNone t) (sym task) tt) (subst (λ (t : Task). load_docs.ShowsNone t) (sym task) tt) tab.past;
     }

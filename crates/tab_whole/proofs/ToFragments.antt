@@ -1,5 +1,6 @@
 -- All that holds between two rows holds after a document is sent to a fragment, for a load at hand: that load is on its way then.
 -- This project's own.
+use Rattle.past_facts.proofs.Orders.{told_past}
 use Rattle.asked_facts.proofs.Orders.{fragment_plain}
 use Rattle.coord_facts.proofs.Unread.{next}
 use Rattle.desk_facts.proofs.Orders.{told_desks}
@@ -93,4 +94,5 @@ module _ (run : Option ReqId) (loads : List ReqId) (hand : List Made) (s : Seen)
         ways = told_ways s event actor tab.ways job (tasks.DoFragment req mode address) task tt;
         entries = sent_entries hand s event actor tab.entries job (subst (λ (t : Task). TellsAlone t) (sym task) tt);
         flows = fragment_if s event actor hand job req mode address task (sent_home run (req ∷ loads) hand s tab job d to) tab.flows;
+        past = told_past hand s event actor tab.docs job (sent_home run (req ∷ loads) hand s tab job d to) (subst (λ (t : Task). load_docs.MakesNone t) (sym task) tt) (subst (λ (t : Task). load_docs.ShowsNone t) (sym task) tt) tab.past;
       }

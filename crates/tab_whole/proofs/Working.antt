@@ -1,4 +1,6 @@
 -- All that holds of a tab between two events holds after a process takes up a live order, or finishes one that makes, shows, tells, freezes, discards or asks its document; what is on its way leads on after one that sends it to a fragment, too.
+use Rattle.log_model.specs.declared.made.Made.{Made}
+use Rattle.past_facts.proofs.Rows.{finished_past, taken_past}
 use Rattle.asked_facts.proofs.Rows.{finished_plain, taken_plain}
 use Rattle.coord_facts.proofs.Answered.{IsAnswer, answer_flows}
 use Rattle.coord_facts.proofs.Flowings.{finished_flows, taken_flows}
@@ -109,6 +111,7 @@ module _ (run : Option ReqId) (s : Seen) (event : ℕ) (proc : ProcId) (tab : Is
           ways = taken_ways s event (actors.Proc proc) tab.ways proc job dirty free first;
           entries = taken_entries [] s event (actors.Proc proc) tab.entries proc job.nr true dirty;
           flows = flows_if taken took_flows;
+          past = taken_past s event proc tab.docs job dirty free first tab.past;
         }
 
   -- ---- an order is finished
@@ -225,4 +228,5 @@ module _ (run : Option ReqId) (s : Seen) (event : ℕ) (proc : ProcId) (tab : Is
           ways = finished_ways s event (actors.Proc proc) tab.ways proc order outcome in_hand its;
           entries = finished_entries [] s event (actors.Proc proc) tab.entries proc order.job.nr outcome unmade;
           flows = flows_if finished finish_flows;
+          past = finished_past s event proc tab.docs order outcome in_hand_lives (ap (λ (l : List Made). l ++ []) held_stays) tab.past;
         }

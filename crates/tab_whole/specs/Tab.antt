@@ -18,6 +18,7 @@ use Rattle.kept_facts.specs.Keeping.{AreKeptDocs}
 use Rattle.load_facts.specs.Loading.{AreLoading}
 use Rattle.load_whereabouts.specs.Whereabouts.{AreLoadsOnce}
 use Rattle.mover_facts.specs.Movers.{AreMovers}
+use Rattle.past_facts.specs.Past.{ArePast}
 use Rattle.place_facts.specs.Standing.{AreStanding}
 use Rattle.request_facts.specs.Knowns.{AreKnown}
 use Rattle.request_facts.specs.Whereabouts.{AreOnce}
@@ -56,3 +57,5 @@ pub record IsTab (run : Option ReqId) (loads : List ReqId) (hand : List Made) (s
   pub ways : AreOnTheirWay s
   pub entries : AreEntries hand s
   pub flows : FlowsIf hand s
+  -- of a navigable's documents, only the one that it was shown last acts under its epoch
+  pub past : ArePast hand s

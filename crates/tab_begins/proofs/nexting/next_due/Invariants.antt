@@ -1,6 +1,6 @@
 use Rattle.std.specs.Prelude.{length, ◌≡◌}
 use Rattle.tab_begins.proofs.nexting.next_due.Given as goal
-use Rattle.tab_begins.specs.Queueing.{from_due}
+use Rattle.tab_begins.proofs.Nexts.{from_due}
 
 -- the first that is due is still to come
 abbrev pub invariant-steps : goal.invariant-steps

@@ -4,7 +4,7 @@ use Rattle.std.proofs.Common.{rules, subst, ℤ}
 use Rattle.std.proofs.lemmas.Int.{to_z-of_z}
 use Rattle.tab_begins.proofs.Traverses.{goes_on, keeps_strays, old_loads}
 use Rattle.tab_begins.proofs.traversing.take_traversal.Goals as goal
-use Rattle.tab_turns.specs.Beginning.{HasGone}
+use Rattle.tab_applies.specs.PassedOn.{HasGone}
 
 pub returns-clause-goes : goal.returns-clause-goes
 returns-clause-goes g c =

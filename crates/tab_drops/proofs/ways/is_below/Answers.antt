@@ -1,7 +1,7 @@
 use Rattle.std.proofs.Common.{arith, length, sym, ◌<◌, ◌∙◌}
 use Rattle.std.proofs.lemmas.Bool.Decides.{nat_tests}
 use Rattle.tab_drops.proofs.ways.is_below.Goals as goal
-use Rattle.tab_passes.proofs.Sleeps.{up_past}
+use Rattle.tab_moves.proofs.PassedOn.{up_past}
 
 pub loop-i-preserved : goal.loop-i-preserved
 loop-i-preserved c =

@@ -1,4 +1,4 @@
-use Rattle.tab_one_pass.proofs.Gives.{cleared_left, cleared_loaded, cleared_loads, cleared_only, cleared_open, cleared_rows, cleared_strays, destroy_asks}
+use Rattle.tab_one_pass.proofs.Gives.{cleared_left, cleared_loaded, cleared_loads, cleared_only, cleared_open, cleared_rows, cleared_sent, cleared_strays, destroy_asks}
 use Rattle.tab_one_pass.proofs.passing.clear_out.Goals as goal
 
 pub destroy_loads-requires : goal.destroy_loads-requires
@@ -32,3 +32,7 @@ returns-clause-only g c =
 pub returns-clause-loaded : goal.returns-clause-loaded
 returns-clause-loaded g c =
     cleared_loaded g.p c.args.out.now c.args.tables.now c.requires.0 c.args.cause c.requires.1.0 c.requires.1.1.0 _ _ _ c.in_ok-sweep.ensures.passing c.in_ok-sweep.ensures.swept c.in_ok-sweep.ensures.only c.in_ok-sweep.ensures.left c.in_ok-sweep.ensures.kept _ _ c.in_ok-destroy_loads.ensures.gone c.in_ok-destroy_loads.ensures.left c.in_ok-destroy_loads.ensures.kept
+
+pub returns-clause-sent : goal.returns-clause-sent
+returns-clause-sent g c =
+    cleared_sent g.p c.args.out.now c.args.tables.now c.requires.0 c.args.cause c.requires.1.0 c.requires.1.1.0 _ _ _ c.in_ok-sweep.ensures.passing c.in_ok-sweep.ensures.swept c.in_ok-sweep.ensures.only c.in_ok-sweep.ensures.left c.in_ok-sweep.ensures.kept _ _ c.in_ok-destroy_loads.ensures.gone c.in_ok-destroy_loads.ensures.left c.in_ok-destroy_loads.ensures.kept c.in_ok-destroy_loads.ensures.only

@@ -1,5 +1,5 @@
 use Rattle.tab_one_pass.proofs.Calms.{passed_calm}
-use Rattle.tab_one_pass.proofs.Wholes.{walk_asks, whole_left, whole_loaded, whole_only, whole_passed, whole_served, whole_strays}
+use Rattle.tab_one_pass.proofs.Wholes.{walk_asks, whole_left, whole_loaded, whole_only, whole_passed, whole_sent, whole_served, whole_strays}
 use Rattle.tab_one_pass.proofs.passing.pass.Goals as goal
 
 pub give_way-requires : goal.give_way-requires
@@ -44,3 +44,9 @@ returns-clause-calm g c =
     (whole_left g.p c.args.cause c.args.tells c.args.tables.now _ c.args.out.now c.give_way.new.out _ c.in_ok-give_way.ensures.kept c.give_way.new.blame.entries _ c.in_ok-clear_out.ensures.kept c.in_ok-clear_out.ensures.open_ c.serve_all.new.tables _ _ _ c.in_ok-serve_all.ensures.only c.in_ok-serve_all.ensures.left c.in_ok-tell_all.ensures.only c.in_ok-tell_all.ensures.more c.in_ok-tell_all.ensures.passing c.in_ok-give_way.ensures.left c.in_ok-clear_out.ensures.left)
     (whole_passed g.p c.args.cause c.args.tells c.args.tables.now _ c.args.out.now c.give_way.new.out _ c.in_ok-give_way.ensures.kept c.give_way.new.blame.entries _ c.in_ok-clear_out.ensures.kept c.in_ok-clear_out.ensures.open_ c.serve_all.new.tables _ _ _ c.in_ok-serve_all.ensures.only c.in_ok-serve_all.ensures.left c.in_ok-tell_all.ensures.only c.in_ok-tell_all.ensures.more c.in_ok-tell_all.ensures.passing c.in_ok-clear_out.ensures.rows c.in_ok-serve_all.ensures.walked)
     (whole_served g.p c.args.cause c.args.tells c.args.tables.now _ c.args.out.now c.give_way.new.out _ c.in_ok-give_way.ensures.kept c.give_way.new.blame.entries _ c.in_ok-clear_out.ensures.kept c.in_ok-clear_out.ensures.open_ c.serve_all.new.tables _ _ _ c.in_ok-serve_all.ensures.only c.in_ok-serve_all.ensures.left c.in_ok-tell_all.ensures.only c.in_ok-tell_all.ensures.more c.in_ok-tell_all.ensures.passing c.in_ok-serve_all.ensures.served)
+    _ _
+    (whole_only g.p c.args.cause c.args.tells c.args.tables.now _ c.args.out.now c.give_way.new.out _ c.in_ok-give_way.ensures.kept c.give_way.new.blame.entries _ c.in_ok-clear_out.ensures.kept c.in_ok-clear_out.ensures.open_ c.serve_all.new.tables _ _ _ c.in_ok-serve_all.ensures.only c.in_ok-serve_all.ensures.left c.in_ok-tell_all.ensures.only c.in_ok-tell_all.ensures.more c.in_ok-tell_all.ensures.passing c.in_ok-give_way.ensures.only c.in_ok-clear_out.ensures.only)
+
+pub returns-clause-sent : goal.returns-clause-sent
+returns-clause-sent g c =
+    whole_sent g.p c.args.cause c.args.tells c.args.tables.now _ c.args.out.now c.give_way.new.out _ c.in_ok-give_way.ensures.kept c.give_way.new.blame.entries _ c.in_ok-clear_out.ensures.kept c.in_ok-clear_out.ensures.open_ c.serve_all.new.tables _ _ _ c.in_ok-serve_all.ensures.only c.in_ok-serve_all.ensures.left c.in_ok-tell_all.ensures.only c.in_ok-tell_all.ensures.more c.in_ok-tell_all.ensures.passing c.in_ok-give_way.ensures.left c.in_ok-give_way.ensures.only c.in_ok-clear_out.ensures.sent

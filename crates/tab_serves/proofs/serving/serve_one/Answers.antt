@@ -4,7 +4,7 @@ use Rattle.tab_serves.proofs.Rounds.{made_served, made_since, moved_served}
 use Rattle.tab_serves.proofs.Turns.{idle_left, idle_walking, made_left, make_own, may_move, move_own, moved_left, turn_walking}
 use Rattle.tab_serves.proofs.serving.serve_one.Goals as goal
 use Rattle.tab_serves.specs.Serving.{walk_by}
-use Rattle.tab_passes.proofs.Onlies.{only_none}
+use Rattle.tab_walk.proofs.PassedOn.{only_none}
 
 pub move_to-requires : goal.move_to-requires
 move_to-requires g c =

@@ -1,6 +1,6 @@
 use Rattle.tab_evicts.proofs.Spans.{stays_none, stays_then}
-use Rattle.tab_passes.proofs.Keeps.{kept_none, kept_then}
-use Rattle.tab_passes.proofs.Onlies.{only_none, only_then}
+use Rattle.tab_moves.proofs.PassedOn.{kept_none, kept_then, only_none}
+use Rattle.tab_moves.proofs.Frees.{only_then}
 use Rattle.tab_walk.proofs.cutting.cut_each.Goals as goal
 
 pub loop-i-init : goal.loop-i-init

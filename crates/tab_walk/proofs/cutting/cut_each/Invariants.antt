@@ -2,7 +2,7 @@ use Rattle.seen_laws.specs.InEvent.{now_of}
 use Rattle.std.proofs.Common.{drop, take}
 use Rattle.tab_doors.specs.Working.{KeepsStore}
 use Rattle.tab_evicts.specs.Evicting.{HasOnlyDiscarded, StaysPlaced}
-use Rattle.tab_passes.specs.Leaving.{without_all}
+use Rattle.tab_moves.specs.PassedOn.{without_all}
 use Rattle.tab_walk.proofs.cutting.cut_each.Given as goal
 use Rattle.tab_walk.specs.Cutting.{IsCutting}
 

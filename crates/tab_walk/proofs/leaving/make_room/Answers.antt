@@ -2,7 +2,7 @@ use Rattle.seen_laws.specs.InEvent.{now_of}
 use Rattle.std.proofs.Common.{Option, arith, false, subst, true, ◌==◌, ◌≡◌}
 use Rattle.std.proofs.lemmas.Bool.Decides.{nat_tests}
 use Rattle.tab_ids.specs.declared.StateId.{StateId}
-use Rattle.tab_passes.proofs.Onlies.{only_none}
+use Rattle.tab_moves.proofs.PassedOn.{only_none}
 use Rattle.tab_walk.proofs.Puts.{discarded_left}
 use Rattle.tab_walk.proofs.Rooms.{evicted, none_beyond, other_beyond, same_beyond}
 use Rattle.tab_walk.proofs.leaving.make_room.Goals as goal

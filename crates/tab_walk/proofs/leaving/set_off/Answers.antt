@@ -2,7 +2,7 @@ use Rattle.seen_laws.specs.InEvent.{now_of}
 use Rattle.std.proofs.Common.{ap, refl, subst, sym, ◌∙◌}
 use Rattle.tab_ids.specs.declared.NavId.{NavId}
 use Rattle.tab_moves.specs.Moving.{IsToLeave}
-use Rattle.tab_passes.proofs.Onlies.{only_none}
+use Rattle.tab_moves.proofs.PassedOn.{only_none}
 use Rattle.tab_walk.proofs.Offs.{asleep_off, left_off, may_own, to_leave}
 use Rattle.tab_walk.proofs.Puts.{frozen_left}
 use Rattle.tab_walk.proofs.leaving.set_off.Goals as goal

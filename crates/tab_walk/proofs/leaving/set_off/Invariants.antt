@@ -1,6 +1,6 @@
 use Rattle.seen_laws.specs.InEvent.{now_of}
 use Rattle.std.proofs.Common.{[]}
-use Rattle.tab_passes.specs.Leaving.{left_then}
+use Rattle.tab_moves.specs.PassedOn.{left_then}
 use Rattle.tab_walk.proofs.leaving.set_off.Given as goal
 use Rattle.tab_walk.specs.Moving.{move_of}
 

@@ -1,6 +1,6 @@
 use Rattle.std.proofs.Common.{Option, ap, refl, sym}
 use Rattle.tab_ids.specs.declared.ReqId.{ReqId}
-use Rattle.tab_passes.specs.Causes.{show_why}
+use Rattle.tab_moves.specs.Making.{show_why}
 use Rattle.tab_walk.proofs.Froms.{part_named, part_turn}
 use Rattle.tab_walk.proofs.Puts.{moved_as, moved_for, woken_as}
 use Rattle.tab_walk.proofs.Readies.{cut_begun, cut_new, cut_ready}
@@ -30,4 +30,4 @@ returns-clause-wakes g c =
 
 pub returns-clause-moved : goal.returns-clause-moved
 returns-clause-moved g c =
-    moved_as g.m c.args.nav c.args.doc c.args.entry (ap (λ (x : InMove). x.nav) c.requires.0) (ap (λ (x : InMove). x.doc) c.requires.0) (ap (λ (x : InMove). x.entry) c.requires.0) g.m.pass.event _ _ _ _ _ _ _ _ _ _ c.requires.1.1.bound c.in_ok-cut_left.ensures.left c.in_ok-cut_left.ensures.shows c.in_ok-show_target.ensures.shown
+    moved_as g.m c.args.nav c.args.doc c.args.entry (ap (λ (x : InMove). x.nav) c.requires.0) (ap (λ (x : InMove). x.doc) c.requires.0) (ap (λ (x : InMove). x.entry) c.requires.0) g.m.pass.event _ _ _ _ _ _ _ _ _ _ c.requires.1.1.bound c.in_ok-cut_left.ensures.left c.in_ok-cut_left.ensures.shows c.in_ok-show_target.ensures.shown c.in_ok-cut_left.ensures.part.loading

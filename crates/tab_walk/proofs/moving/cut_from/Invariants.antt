@@ -1,7 +1,7 @@
 use Rattle.log_model.specs.Seen.{document_of}
 use Rattle.seen_laws.specs.InEvent.{now_of}
 use Rattle.std.proofs.Common.{Some, []}
-use Rattle.tab_passes.specs.Leaving.{left_then}
+use Rattle.tab_moves.specs.PassedOn.{left_then}
 use Rattle.tab_walk.proofs.moving.cut_from.Given as goal
 use Rattle.tab_walk.specs.Cutting.{cut_of}
 use Rattle.tab_walk.specs.Moving.{document_or}

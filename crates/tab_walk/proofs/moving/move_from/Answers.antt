@@ -4,7 +4,7 @@ use Rattle.seen_laws.specs.InEvent.{now_of}
 use Rattle.std.proofs.Common.{List, Option, ap, drop, sym, ◌∙◌}
 use Rattle.tab_ids.specs.declared.ReqId.{ReqId}
 use Rattle.tab_ids.specs.declared.StateId.{StateId}
-use Rattle.tab_passes.specs.Causes.{show_why}
+use Rattle.tab_moves.specs.Making.{show_why}
 use Rattle.tab_walk.proofs.Froms.{part_named, part_turn, room_ready}
 use Rattle.tab_walk.proofs.Offs.{part_then}
 use Rattle.tab_walk.proofs.Puts.{left_then_left, moved_as, moved_for, woken_as}
@@ -42,4 +42,4 @@ returns-clause-wakes g c =
 
 pub returns-clause-moved : goal.returns-clause-moved
 returns-clause-moved g c =
-    moved_as g.m c.args.nav c.args.doc c.args.entry (ap (λ (x : InMove). x.nav) c.requires.0) (ap (λ (x : InMove). x.doc) c.requires.0) (ap (λ (x : InMove). x.entry) c.requires.0) g.m.pass.event _ _ _ _ _ _ _ _ _ _ c.requires.1.1.bound (left_then_left _ _ _ _ c.in_ok-set_off.ensures.left c.in_ok-make_room.ensures.left) c.in_ok-make_room.ensures.shows c.in_ok-show_target.ensures.shown
+    moved_as g.m c.args.nav c.args.doc c.args.entry (ap (λ (x : InMove). x.nav) c.requires.0) (ap (λ (x : InMove). x.doc) c.requires.0) (ap (λ (x : InMove). x.entry) c.requires.0) g.m.pass.event _ _ _ _ _ _ _ _ _ _ c.requires.1.1.bound (left_then_left _ _ _ _ c.in_ok-set_off.ensures.left c.in_ok-make_room.ensures.left) c.in_ok-make_room.ensures.shows c.in_ok-show_target.ensures.shown (λ are. c.in_ok-make_room.ensures.part.loading (c.in_ok-set_off.ensures.part.loading are))

@@ -1,0 +1,4 @@
+pub mod Endings
+pub mod Waits
+pub mod Releases
+pub mod PassedOn

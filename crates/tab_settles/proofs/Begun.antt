@@ -1,0 +1,122 @@
+-- The next step of the queue had its turn, or none was due.
+use Rattle.tab_releases.specs.Releasing.{InPass, IsPassing, IsTurning, LoadsMadeOwn, Tables}
+use Rattle.calm_facts.proofs.Awakes.{calm_stood}
+use Rattle.calm_facts.proofs.Calms.{calm_but}
+use Rattle.calm_facts.specs.Calm.{IsCalmYet}
+use Rattle.coord_facts.specs.Leading.{held_back}
+use Rattle.log_model.specs.History.{has_row}
+use Rattle.tab_begins.specs.Queueing.{IsCalmFor}
+use Rattle.tab_ids.specs.declared.NavId.{NavId}
+use Rattle.log_model.specs.Seen.{Seen}
+use Rattle.log_model.specs.declared.job.Why.{Why}
+use Rattle.log_model.specs.declared.row_kind.RowKind.{RowKind}
+use Rattle.move_queue.specs.Queue.{Queue}
+use Rattle.seen_laws.specs.InEvent.{now_of}
+use Rattle.std.proofs.Common.{List, None, Option, Some, [], ap, false, inl, inr, subst, sym, ◌∙◌, ◌≡◌}
+use Rattle.tab_begins.specs.Queueing.{HasRested}
+use Rattle.tab_releases.specs.PassedOn.{CameTo, HasQueue, IsAtRest, IsPassedOver, KeepsMade, MayFollow, Refused, Rests, Turn, Went}
+use Rattle.tab_ids.specs.declared.ReqId.{ReqId}
+use Rattle.tab_ids.specs.declared.StateId.{StateId}
+use Rattle.tab_rests.proofs.Rests.{rest_blamed, rest_loads, rest_open}
+use Rattle.tab_settles.proofs.Stood.{stood_live, theirs_over}
+use Rattle.tab_settles.specs.Settling.{HasSettled, IsCalmBefore, IsQueueing, IsReady}
+use Rattle.log_model.specs.declared.job.Why.TheVariants as whys
+
+module _ (p : InPass) (out : List RowKind) (t : Tables) (queue : Queue) (blame : List (StateId × ReqId)) (cause : Why) (at : HasSettled p out t queue blame cause) (idle : t.running ≡ None) where
+  abbrev s : Seen
+  s = now_of p.event out
+
+  none_s : s.parked ≡ []
+  none_s = at.queueing.held idle
+
+  pub begin_asks : IsPassing p out t × (IsTurning p.event out × ((s.parked ≡ []) × (IsAtRest p.event t.running blame s × HasQueue s None queue.waiting)))
+  begin_asks =
+      (at.passing, (at.queueing.turning, (none_s, (record { idle = idle; passed = at.passed; strays = at.strays; loading = at.live.loading }, subst (λ (r : Option ReqId). HasQueue s r queue.waiting) idle at.queueing.queued))))
+
+  module _ (new : List RowKind) (u : Tables) (noted : List (StateId × ReqId)) (left : Queue) (passing : IsPassing p new u) (turning : IsTurning p.event new) (none : (now_of p.event new).parked ≡ []) (queued : HasQueue (now_of p.event new) u.running left.waiting) (parked : left.parked ≡ queue.parked) (keep : u.kept.keep ≡ t.kept.keep) (made : KeepsMade s (now_of p.event new)) where
+    abbrev n : Seen
+    n = now_of p.event new
+
+    queueing_n : IsQueueing p new u left
+    queueing_n =
+        record {
+          turning = turning;
+          queued = queued;
+          parked = parked ∙ at.queueing.parked ∙ ap (λ (l : List ReqId). held_back s.requests l) none_s ∙ ap (λ (l : List ReqId). held_back n.requests l) (sym none);
+          held = λ runs. none;
+          over = λ has. none;
+          releasing = λ some. absurd (some none);
+        }
+
+    theirs_n : LoadsMadeOwn n
+    theirs_n =
+        theirs_over s n made.wishes made.documents at.theirs
+
+    -- how calm the tab is then
+    calm_for : (r : Option ReqId) → IsCalmFor r n → IsCalmBefore r n
+    calm_for None around = inr around
+    calm_for (Some run) calm = calm
+
+    rested_yet : IsAtRest p.event u.running noted n → IsPassedOver s n → IsCalmYet n
+    rested_yet rest over =
+        calm_but n (calm_stood n passing.going.tab.sound passing.going.tab.hangs passing.going.tab.homes passing.going.tab.standing rest.passed.rows_ over.stand) (λ (nav : NavId). has_row nav n.history.rows ≡ false)
+
+    -- it has begun, or was applied
+    pub went_ready : (turn : Turn) (req : ReqId) → turn ≡ Went req → CameTo p.event t u blame noted out new left.waiting turn → (why : Why) → why ≡ whys.Req req → IsReady p new u left noted why
+    went_ready turn req is came why same =
+        (let may : MayFollow p.event u.running noted req n = (subst (λ (x : Turn). CameTo p.event t u blame noted out new left.waiting x) is came).1 in subst (λ (w : Why). IsReady p new u left noted w) (sym same) (record {
+          passing = passing;
+          empty = at.empty;
+          header = keep ∙ at.header;
+          open_ = may.open_;
+          loads = may.loads;
+          blamed = may.blamed;
+          calm = calm_for u.running may.calm;
+          live = may.live;
+          theirs = theirs_n;
+          queueing = queueing_n;
+        }))
+
+    -- it was refused
+    pub refused_ready : (turn : Turn) → turn ≡ Refused → CameTo p.event t u blame noted out new left.waiting turn → IsReady p new u left noted cause
+    refused_ready turn is came =
+        (let both : IsAtRest p.event u.running noted n × IsPassedOver s n = subst (λ (x : Turn). CameTo p.event t u blame noted out new left.waiting x) is came in let rest = both.0 in let over = both.1 in record {
+          passing = passing;
+          empty = at.empty;
+          header = keep ∙ at.header;
+          open_ = rest_open p new u passing rest.idle rest.passed over.stand cause (over.causes cause at.may);
+          loads = rest_loads p new u passing rest.idle rest.passed over.stand;
+          blamed = rest_blamed p new u passing rest.passed noted rest.strays;
+          calm = subst (λ (r : Option ReqId). IsCalmBefore r n) (sym rest.idle) (inl (rested_yet rest over));
+          live = stood_live p new u passing rest.idle rest.passed over.stand rest.loading;
+          theirs = theirs_n;
+          queueing = queueing_n;
+        })
+
+    -- none was due
+    pub rested_settled : (turn : Turn) → turn ≡ Rests → CameTo p.event t u blame noted out new left.waiting turn → HasSettled p new u left noted cause
+    rested_settled turn is came =
+        subst (λ (l : List (StateId × ReqId)). HasSettled p new u left l cause) (sym rested.noted) (moved new (sym rested.out) u (sym rested.tables) queueing_n)
+      where
+        rested : HasRested p.event t u blame noted out new left.waiting
+        rested = subst (λ (x : Turn). CameTo p.event t u blame noted out new left.waiting x) is came
+
+        moved : (l : List RowKind) → out ≡ l → (x : Tables) → t ≡ x → IsQueueing p l x left → HasSettled p l x left blame cause
+        moved l same x alike =
+            subst (λ (k : List RowKind). IsQueueing p k x left → HasSettled p k x left blame cause) same
+            (subst (λ (z : Tables). IsQueueing p out z left → HasSettled p out z left blame cause) alike
+            (λ going. record {
+              passing = at.passing;
+              empty = at.empty;
+              header = at.header;
+              may = at.may;
+              passed = at.passed;
+              strays = at.strays;
+              served = at.served;
+              told = at.told;
+              swept = at.swept;
+              calm = at.calm;
+              live = at.live;
+              theirs = at.theirs;
+              queueing = going;
+            }))

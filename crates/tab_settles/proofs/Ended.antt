@@ -1,0 +1,206 @@
+-- The traversal that ran has ended: what was held back for it may be taken up, and then a pass may follow.
+use Rattle.calm_facts.proofs.Loads.{loads_same}
+use Rattle.calm_facts.specs.Calm.{CalmUnless, IsCalmYet}
+use Rattle.calm_facts.specs.Loads.{LoadsHaveDocuments}
+use Rattle.coord_facts.proofs.Held.{held_alike}
+use Rattle.coord_facts.proofs.Unread.{next}
+use Rattle.coord_facts.specs.Leading.{held_back}
+use Rattle.frame_rows.specs.Lawful.{has_traversed}
+use Rattle.home_facts.specs.Homes.{document_in}
+use Rattle.log_model.specs.Equal.{has_req}
+use Rattle.log_model.specs.Places.{aim_of, all_stand}
+use Rattle.log_model.specs.Queue.{is_traverse}
+use Rattle.log_model.specs.Seen.{Document, Seen}
+use Rattle.log_model.specs.declared.job.Why.{Why}
+use Rattle.log_model.specs.declared.row_kind.LogRow.{LogRow}
+use Rattle.log_model.specs.declared.row_kind.RowKind.{RowKind}
+use Rattle.move_queue.specs.Queue.{Queue}
+use Rattle.owed_facts.specs.Owed.{IsLoose}
+use Rattle.seen_laws.proofs.InEvents.{now_more}
+use Rattle.seen_laws.specs.InEvent.{InEvent, now_of, row_of}
+use Rattle.std.proofs.Common.{Bool, List, None, Option, Some, [], ap, append-nil, arith, false, inl, length, map, refl, subst, sym, true, ◌++◌, ◌+◌, ◌∙◌, ◌∷◌, ◌≡◌}
+use Rattle.std.proofs.lemmas.Bool.{and_parts, or_right}
+use Rattle.std.proofs.lemmas.List.Folds.{list_any-append}
+use Rattle.std.proofs.lemmas.List.{map-append}
+use Rattle.std.specs.List.{last_or, list_any}
+use Rattle.std.specs.Prelude.{is_some}
+use Rattle.tab_turns.specs.Ending.{HasRested}
+use Rattle.tab_releases.specs.PassedOn.{HasEnded, HasPassed, HasQueue, MayHaveEnded, is_through, show_why}
+use Rattle.tab_releases.specs.Releasing.{EndsEach, HoldsParked, InPass, IsPassing, IsReleasing, IsTaking, IsTurning, KeepsRun, LoadsMadeOwn, MayBeFor, MayCause, Tables}
+use Rattle.tab_ids.specs.declared.ReqId.{ReqId}
+use Rattle.tab_ids.specs.declared.StateId.{StateId}
+use Rattle.tab_releases.proofs.Endings.{IsEnding, is_ending}
+use Rattle.tab_releases.proofs.Releases.{mades_same}
+use Rattle.tab_rests.proofs.Ended.{ended_loads, ended_passed, ended_queue, ended_stand, ended_strays}
+use Rattle.tab_rests.specs.Resting.{IsNoneDue}
+use Rattle.tab_begins.specs.Queueing.{HasGrown}
+use Rattle.tab_settles.proofs.Grown.{grown_then}
+use Rattle.tab_settles.proofs.Stood.{stood_taking, theirs_over}
+use Rattle.tab_rests.proofs.Rests.{rest_stand}
+use Rattle.tab_settles.specs.Settling.{HasSettled, IsCalmBefore, IsQueueing, IsReady, MayRelease}
+use Rattle.log_model.specs.declared.change.Change.TheVariants as changes
+use Rattle.log_model.specs.declared.row_kind.RowKind.TheVariants as rows
+
+-- ---- lists
+
+some_last : {A : Type 0} (x : A) (xs : List A) → (let o : Option A = None in last_or (Some x) xs ≡ o) → ⊥
+some_last x [] e = cc
+some_last x (y ∷ xs) e = some_last y xs e
+
+none_last : {A : Type 0} (xs : List A) → (let o : Option A = None in last_or o xs ≡ o) → xs ≡ []
+none_last [] e = refl
+none_last (x ∷ xs) e = absurd (some_last x xs e)
+
+none_long : {A : Type 0} (xs : List A) → length xs ≡ 0 → xs ≡ []
+none_long [] e = refl
+none_long (x ∷ xs) e = absurd (omega (arith, e))
+
+module _ (p : InPass) (out : List RowKind) (t : Tables) (queue : Queue) (blame : List (StateId × ReqId)) (cause : Why) (at : HasSettled p out t queue blame cause) (mid : List RowKind) (m : Tables) (then_ : IsPassing p mid m) (turning : IsTurning p.event mid) (ended : HasEnded p.event out mid t m) (through : is_through (now_of p.event out) t.running ≡ true) where
+  abbrev e : InEvent
+  e = p.event
+
+  abbrev s : Seen
+  s = now_of e out
+
+  abbrev y : Seen
+  y = now_of e mid
+
+  idle : m.running ≡ None
+  idle = ended.none_runs
+
+  stand_s : all_stand s (aim_of s) ≡ true
+  stand_s = (and_parts (is_some t.running) (all_stand s (aim_of s)) through).1
+
+  passed_m : HasPassed e y
+  passed_m = ended_passed p out t at.passing at.passed mid m ended
+
+  stand_m : all_stand y y.history.current ≡ true
+  stand_m = ended_stand p out t at.passing at.passed mid m ended stand_s
+
+  theirs_m : LoadsMadeOwn y
+  theirs_m = theirs_over s y ended.alone.wishes ended.alone.documents at.theirs
+
+  -- each ongoing load has its document still
+  loading_m : LoadsHaveDocuments y
+  loading_m =
+      loads_same s y (ended_loads p out t at.passing at.passed mid m ended) (λ doc. ap (λ (l : List Document). document_in l doc) ended.alone.documents) at.live.loading
+
+  taking_m : IsTaking e m.running blame y
+  taking_m =
+      stood_taking p mid m then_ idle passed_m stand_m blame (ended_strays p out t at.passing at.passed mid m ended blame at.strays) loading_m
+
+  loose_m : IsLoose e mid
+  loose_m = then_.loose (rest_stand p mid m then_ idle passed_m stand_m)
+
+  queue_m : HasQueue y None queue.waiting
+  queue_m =
+      subst (λ (r : Option ReqId). HasQueue y r queue.waiting) idle (ended_queue p out t at.passing at.passed mid m ended queue.waiting at.queueing.queued)
+
+  parked_m : HoldsParked y queue.parked
+  parked_m =
+      at.queueing.parked
+      ∙ sym (held_alike s.requests y.requests s.parked (mades_same s y ended.alone.wishes))
+      ∙ ap (λ (l : List ReqId). held_back y.requests l) (sym ended.alone.parked)
+
+  abbrev kind : RowKind
+  kind = rows.Applied ended.req (changes.Traverse (record { 0 = aim_of s }))
+
+  many_m : length y.requests ≡ length s.requests
+  many_m =
+      ap (λ (x : Seen). length x.requests) (ap (λ (l : List RowKind). now_of e l) ended.out ∙ now_more e out kind)
+      ∙ (let its : IsEnding s (next s e.event e.actor kind) ended.req = is_ending s e kind ended.req refl in its.long)
+
+  traversed_m : has_traversed e mid ≡ true
+  traversed_m =
+      ap (λ (l : List RowKind). has_traversed e l) ended.out
+      ∙ ap (λ (l : List LogRow). list_any is_traverse l) (map-append (row_of e) out (kind ∷ []))
+      ∙ list_any-append is_traverse (map (row_of e) out) (row_of e kind ∷ [])
+      ∙ or_right (list_any is_traverse (map (row_of e) out)) (list_any is_traverse (row_of e kind ∷ [])) refl
+
+  releasing_m : (y.parked ≡ [] → ⊥) → IsReleasing e mid
+  releasing_m some =
+      (let may : MayRelease e out = at.queueing.releasing (λ none. some (ended.alone.parked ∙ none)) in record {
+        by_coord = may.by_coord;
+        takes = may.takes;
+        many = many_m ∙ may.many;
+        ended = traversed_m;
+        old = λ req has. may.old req (ap (λ (l : List ReqId). has_req l req) (sym ended.alone.parked) ∙ has);
+      })
+
+  pub release_asks : IsPassing p mid m × ((p.hand ≡ []) × (IsTurning e mid × ((m.running ≡ None) × (IsTaking e m.running blame y × (IsLoose e mid × (LoadsMadeOwn y × (HasQueue y None queue.waiting × (HoldsParked y queue.parked × ((y.parked ≡ [] → ⊥) → IsReleasing e mid)))))))))
+  release_asks = (then_, (at.empty, (turning, (idle, (taking_m, (loose_m, (theirs_m, (queue_m, (parked_m, releasing_m)))))))))
+
+  -- ---- once it was taken up
+
+  module _ (new : List RowKind) (u : Tables) (noted : List (StateId × ReqId)) (last : Option ReqId) (left : Queue) (passing : IsPassing p new u) (turning_n : IsTurning e new) (taking : IsTaking e u.running noted (now_of e new)) (queued : HasQueue (now_of e new) None left.waiting) (none : (now_of e new).parked ≡ []) (empty : left.parked ≡ []) (each : EndsEach e mid new (now_of e mid).parked) (last_is : last ≡ last_or None (now_of e mid).parked) (theirs : LoadsMadeOwn (now_of e new)) (causes : MayBeFor (now_of e new) last) (waiting : left.waiting ≡ queue.waiting) (kept : KeepsRun m u) where
+    n : Seen
+    n = now_of e new
+
+    idle_n : u.running ≡ None
+    idle_n = kept.running ∙ idle
+
+    -- where nothing was held back, nothing was put out
+    may_n : MayCause (now_of e new) (show_why last cause)
+    may_n = by_last last refl
+      where
+        by_last : (o : Option ReqId) → last ≡ o → MayCause (now_of e new) (show_why o cause)
+        by_last (Some req) is = causes req is
+        by_last None is =
+            let nothing : (now_of e mid).parked ≡ [] = none_last (now_of e mid).parked (sym last_is ∙ is) in
+            let rows_ : each.more ≡ [] = none_long each.more (each.long ∙ ap (λ (l : List ReqId). length l) nothing) in
+            let same : new ≡ mid = each.out ∙ ap (λ (l : List RowKind). mid ++ l) rows_ ∙ append-nil mid in
+            subst (λ (l : List RowKind). MayCause (now_of e l) cause) (sym same) (ended.alone.causes cause at.may)
+
+    queueing_n : IsQueueing p new u left
+    queueing_n =
+        record {
+          turning = turning_n;
+          queued = subst (λ (r : Option ReqId). HasQueue (now_of e new) r left.waiting) (sym idle_n) queued;
+          parked = empty ∙ ap (λ (l : List ReqId). held_back (now_of e new).requests l) (sym none);
+          held = λ runs. none;
+          over = λ has. none;
+          releasing = λ some. absurd (some none);
+        }
+
+    pub ready_n : (why : Why) → why ≡ show_why last cause → IsReady p new u left noted why
+    ready_n why is =
+        subst (λ (w : Why). IsReady p new u left noted w) (sym is) (record {
+          passing = passing;
+          empty = at.empty;
+          header = kept.keep ∙ ended.keep ∙ at.header;
+          open_ = taking.open_ (show_why last cause) may_n;
+          loads = taking.loads;
+          blamed = taking.blamed;
+          calm = subst (λ (r : Option ReqId). IsCalmBefore r (now_of e new)) (sym idle_n) (inl (subst (λ (r : Option ReqId). CalmUnless IsCalmYet r (now_of e new)) idle_n taking.calm));
+          live = taking.live;
+          theirs = theirs;
+          queueing = queueing_n;
+        })
+
+-- ---- what was put out
+
+-- the traversal's row, and one for each request that was held back
+pub finish_grown : (e : InEvent) (out mid new : List RowKind) (t m : Tables) (reqs : List ReqId) → HasEnded e out mid t m → EndsEach e mid new reqs → HasGrown out new
+finish_grown e out mid new t m reqs ended each =
+    grown_then out mid new (record { more = rows.Applied ended.req (changes.Traverse (record { 0 = aim_of (now_of e out) })) ∷ []; is = ended.out }) (record { more = each.more; is = each.out })
+
+-- ---- whether it ended
+
+pub has_ended : (e : InEvent) (old new : List RowKind) (t u : Tables) (b : Bool) → b ≡ true → MayHaveEnded e old new t u b → HasEnded e old new t u
+has_ended e old new t u true is ended = ended
+has_ended e old new t u false is ended = absurd cc
+
+pub has_rested : (e : InEvent) (old new : List RowKind) (t u : Tables) (b : Bool) → b ≡ false → MayHaveEnded e old new t u b → HasRested old new t u
+has_rested e old new t u false is rested = rested
+has_rested e old new t u true is rested = absurd cc
+
+module _ (p : InPass) (out : List RowKind) (t : Tables) (queue : Queue) (blame : List (StateId × ReqId)) (cause : Why) (at : HasSettled p out t queue blame cause) (new : List RowKind) (u : Tables) (rested : HasRested out new t u) where
+  -- nothing was done, and no turn is due
+  pub still_due : is_some t.running ≡ true → false ≡ is_through (now_of p.event out) t.running → IsNoneDue (now_of p.event new) u.running queue.waiting
+  still_due runs through =
+      subst (λ (l : List RowKind). IsNoneDue (now_of p.event l) u.running queue.waiting) (sym rested.out)
+      (subst (λ (x : Tables). IsNoneDue (now_of p.event out) x.running queue.waiting) (sym rested.tables) (by_run t.running runs through))
+    where
+      by_run : (o : Option ReqId) → is_some o ≡ true → false ≡ is_through (now_of p.event out) o → IsNoneDue (now_of p.event out) o queue.waiting
+      by_run None never through_ = absurd cc
+      by_run (Some req) runs_ through_ = sym through_

@@ -1,0 +1,118 @@
+-- A tab with loads is brought to rest by one pass after the other, with a turn of the queue between two of them.
+-- HTML Standard, "apply the history step" and "session history traversal queue"; what is held back, and that all this goes by passes, is this project's own.
+use Rattle.tab_releases.specs.Releasing.{HoldsParked, InPass, IsPassing, IsTurning, LoadsMadeOwn, MayCause, Tables}
+use Rattle.calm_facts.specs.Calm.{AreRooted, IsCalm, IsCalmAround, IsCalmYet, UnmovedAreHere}
+use Rattle.frame_facts.specs.Lasting.{wish}
+use Rattle.frame_rows.specs.Lawful.{has_traversed, held_at_first}
+use Rattle.frame_tab.specs.Asking.{NoneHeld}
+use Rattle.log_model.specs.ActsAtOnce.{ends_told}
+use Rattle.log_model.specs.Causes.{takes_report}
+use Rattle.log_model.specs.Equal.{has_req}
+use Rattle.log_model.specs.Seen.{Document, Seen, document_of}
+use Rattle.log_model.specs.declared.job.Why.{Why}
+use Rattle.log_model.specs.declared.row_kind.RowKind.{RowKind}
+use Rattle.move_queue.specs.Queue.{Queue}
+use Rattle.move_queue.specs.declared.queue_step.QueueStep.{QueueStep}
+use Rattle.request_facts.proofs.Readers.{SameReads}
+use Rattle.seen_laws.specs.InEvent.{InEvent, now_of}
+use Rattle.std.specs.Prelude.{List, None, Option, Some, [], length, true, ℕ, ◌+◌, ◌≡◌, ◌⊎◌}
+use Rattle.tab_releases.specs.PassedOn.{AreBlamed, AreLeftStrays, HasPassed, HasQueue, IsOpen, LoadsLive, MayStand, show_why}
+use Rattle.tab_events.specs.Between.{AreSwept, orders_go}
+use Rattle.tab_ids.specs.declared.DocId.{DocId}
+use Rattle.tab_ids.specs.declared.NavId.{NavId}
+use Rattle.tab_ids.specs.declared.ReqId.{ReqId}
+use Rattle.tab_ids.specs.declared.StateId.{StateId}
+use Rattle.tab_settles.specs.declared.reasons.Reasons.{Reasons}
+use Rattle.walk_facts.specs.Serving.{AreServed}
+use Rattle.log_model.specs.declared.row_kind.Actor.TheVariants as actors
+use Rattle.log_model.specs.declared.row_kind.RowKind.TheVariants as rows
+
+-- ---- what orders are for
+
+-- an order that tells length and index is for the request that the event accepts or whose report it takes, else for the step that was logged last, else for the cause
+abbrev pub tells_of : Reasons → Why
+tells_of reasons = show_why reasons.handled (show_why reasons.logged reasons.cause)
+
+-- orders are for this request from now on, where there is one
+abbrev pub followed : Option ReqId → Reasons → Reasons
+followed last reasons = record reasons { cause = show_why last reasons.cause }
+
+-- ---- what a pass puts out, and leaves
+
+-- the row is an order, or drops a request
+abbrev pub IsOrderOrDrop : RowKind → Type 0
+IsOrderOrDrop (rows.Sent job) = Unit {0}
+IsOrderOrDrop (rows.Dropped req cause) = Unit {0}
+IsOrderOrDrop _ = ⊥
+
+-- there are as many requests, which ask what they asked, and each document that was there is its navigable's
+pub record LeavesPut (s t : Seen) : Type 0 where
+  pub many : length t.requests ≡ length s.requests
+  pub wishes : SameReads wish s.requests t.requests
+  pub homes : (doc : DocId) (d : Document) → document_of s doc ≡ Some d → (new : Document) × (document_of t doc ≡ Some new) × (new.nav ≡ d.nav)
+
+-- ---- the queue, and what is held back
+
+-- the event takes a report and accepts no request, and what is held back was so before the event began; so it may be taken up once a traversal has ended
+pub record MayRelease (e : InEvent) (out : List RowKind) : Type 0 where
+  pub by_coord : e.actor ≡ actors.Coord
+  pub takes : takes_report e.own ≡ true
+  pub many : length (now_of e out).requests ≡ length e.start.requests
+  pub old : (req : ReqId) → has_req (now_of e out).parked req ≡ true → (has_req (held_at_first e) req ≡ true) × (has_req e.start.parked req ≡ true)
+
+-- the queue has what waits and what is held back; nothing is where no traversal runs, or once one has ended in the event
+pub record IsQueueing (p : InPass) (out : List RowKind) (t : Tables) (queue : Queue) : Type 0 where
+  pub turning : IsTurning p.event out
+  pub queued : HasQueue (now_of p.event out) t.running queue.waiting
+  pub parked : HoldsParked (now_of p.event out) queue.parked
+  pub held : NoneHeld t.running (now_of p.event out)
+  pub over : has_traversed p.event out ≡ true → (now_of p.event out).parked ≡ []
+  pub releasing : ((now_of p.event out).parked ≡ [] → ⊥) → MayRelease p.event out
+
+-- how many turns are left at most: one that begins and one that ends for each step that waits, and the end of the one that runs
+abbrev pub turns_left : Option ReqId → List QueueStep → ℕ
+turns_left None waiting = length waiting + length waiting
+turns_left (Some run) waiting = 1 + (length waiting + length waiting)
+
+-- ---- how calm the tab is
+
+-- before a pass: where no traversal runs it is calm but for navigables without an entry, or around one of which a load was just applied; where one does, whom it hasn't moved is where it is to be, and who is awake is rooted
+abbrev pub IsCalmBefore : Option ReqId → Seen → Type 0
+IsCalmBefore None s = IsCalmYet s ⊎ ((at : NavId) × IsCalmAround s at)
+IsCalmBefore (Some run) s = UnmovedAreHere s × AreRooted s
+
+-- after it: where no traversal runs the tab is calm
+abbrev pub IsCalmAfter : Option ReqId → Seen → Type 0
+IsCalmAfter None s = IsCalm s
+IsCalmAfter (Some run) s = UnmovedAreHere s × AreRooted s
+
+-- ---- from pass to pass
+
+-- a pass may follow, whose orders are for this cause; nothing is at hand, and ongoing loads live on
+pub record IsReady (p : InPass) (out : List RowKind) (t : Tables) (queue : Queue) (blame : List (StateId × ReqId)) (cause : Why) : Type 0 where
+  pub passing : IsPassing p out t
+  pub empty : p.hand ≡ []
+  pub header : t.kept.keep ≡ p.event.header.keep
+  pub open_ : IsOpen p.event t.running cause (now_of p.event out)
+  pub loads : MayStand t.running (now_of p.event out)
+  pub blamed : AreBlamed (now_of p.event out) blame
+  pub calm : IsCalmBefore t.running (now_of p.event out)
+  pub live : LoadsLive (now_of p.event out)
+  pub theirs : LoadsMadeOwn (now_of p.event out)
+  pub queueing : IsQueueing p out t queue
+
+-- a pass has gone by: who is visited is served, who is awake was told, no document is stray or an order is on its way, and for each stray one that is left a request is noted; ongoing loads live on; orders may be for the cause
+pub record HasSettled (p : InPass) (out : List RowKind) (t : Tables) (queue : Queue) (blame : List (StateId × ReqId)) (cause : Why) : Type 0 where
+  pub passing : IsPassing p out t
+  pub empty : p.hand ≡ []
+  pub header : t.kept.keep ≡ p.event.header.keep
+  pub may : MayCause (now_of p.event out) cause
+  pub passed : HasPassed p.event (now_of p.event out)
+  pub strays : AreLeftStrays (now_of p.event out) blame
+  pub served : AreServed (now_of p.event out)
+  pub told : ends_told (now_of p.event out) ≡ true
+  pub swept : AreSwept (now_of p.event out) ⊎ (orders_go (now_of p.event out) ≡ true)
+  pub calm : IsCalmAfter t.running (now_of p.event out)
+  pub live : LoadsLive (now_of p.event out)
+  pub theirs : LoadsMadeOwn (now_of p.event out)
+  pub queueing : IsQueueing p out t queue

@@ -1,0 +1,9 @@
+//! A tab with loads is brought to rest: one pass after the other, with a turn of the queue between two of them.
+#![tactic(auto)]
+
+mod reasons;
+mod resting;
+mod turning;
+
+pub use reasons::Reasons;
+pub use resting::settle;

@@ -1,0 +1,45 @@
+//! One pass after the other, until nothing is due.
+ghost use Rattle.std.specs.Prelude.{◌≡◌, OnOk};
+ghost use Rattle.seen_laws.specs.InEvent.{now_of};
+ghost use Rattle.tab_begins.specs.Queueing.{HasGrown};
+ghost use Rattle.tab_releases.specs.Releasing.{InPass};
+ghost use Rattle.tab_rests.specs.Resting.{IsNoneDue};
+ghost use Rattle.tab_settles.specs.Settling.{HasSettled, IsReady};
+
+use crate::reasons::Reasons;
+use crate::turning::take_turn;
+use address::OutOfMemory;
+use indexmap::IndexMap;
+use log_model::{Header, Out};
+use move_queue::MoveQueue;
+use std::alloc::Global;
+use tab_doors::Tables;
+use tab_ids::{ReqId, StateId};
+use tab_one_pass::pass;
+
+/// Brings the tab to rest: loads give way, stray documents are discarded, who needs it is shown a document or has one made, who is awake is told length and index; the traversal that runs ends where all stand, with what was held back for it, and the next step of the queue has its turn; then once more, until nothing is due. HTML Standard, "apply the history step" and "session history traversal queue".
+pub fn settle(
+    alloc: Global,
+    header: &Header,
+    tables: &mut Tables,
+    queue: &mut MoveQueue,
+    blame: &mut IndexMap<StateId, ReqId>,
+    out: &mut Out,
+    reasons: &mut Reasons,
+) -> Result<(), OutOfMemory>
+    ghost p: { InPass }
+    requires header { header.now ≡ p.event.header }
+    requires ready { IsReady p out.old tables.old queue.old blame.old.entries reasons.old.cause }
+    ensures settled { OnOk result (HasSettled p out.new tables.new queue.new blame.new.entries reasons.new.cause) }
+    ensures due { OnOk result (IsNoneDue (now_of p.event out.new) tables.new.running queue.new.waiting) }
+    ensures grown { OnOk result (HasGrown out.old out.new) }
+    ensures handled { OnOk result (reasons.new.handled ≡ reasons.old.handled) }
+{
+    'passes: loop {
+        let (cause, tells) = (reasons.cause, reasons.tells());
+        pass(alloc, header, tables, blame, out, cause, tells)?;
+        if !take_turn(alloc, tables, queue, blame, out, reasons)? {
+            return Ok(());
+        }
+    }
+}
