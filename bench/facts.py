@@ -378,6 +378,20 @@ def try_past(b):
         count('past', all(e <= max(n.epoch - 1, 0) for e in epochs), (d.nr, n.epoch, epochs))
 
 
+def try_off(b):
+    """As an event ends: a navigable that no order showed a document, or whose first such order isn't reported, was never shown one, and isn't the top; where no traversal runs, each other one that is shown and doesn't stand is so for the last load that was applied, of it or one above, since which not all have stood."""
+    s, run = b.s, logcheck.running_traversal(b.s)
+    shown = logcheck.D11_shown(s.H, s.H.current)
+    for n, p in s.place.items():
+        act = s.last_act.get(n)
+        new = p.epoch == 0 or (p.epoch == 1 and p.status == 'awake' and not act.delivered)
+        count('never shown', not new or not s.act_ever.get(n), n)
+        count('top was shown', n != 0 or not new, n)
+        if run is None and n in shown and not new and not logcheck.D12c_stands(s, n, s.H.current):
+            q = s.reqs.get(p.why[1]) if p.why[0] == 'r' else None
+            count('off since a load', q is not None and q.nr == s.last_lr and not s.lr_stood and q.change.nav in logcheck.way(s.H, n), (n, p.why))
+
+
 def try_fragments(s):
     """But for the load whose order was just finished, of which the next row tells what was made."""
     sent = [s.jobs[j].task.req for p in s.procs.values() for j in [*p.mail, *([] if p.hand is None else [p.hand])]
@@ -453,6 +467,8 @@ def try_loads(log, keep):
             try_fragments(b.s)
         try_lasting(b)
         try_past(b)
+        if ends:
+            try_off(b)
 
 
 for profile in PROFILES:

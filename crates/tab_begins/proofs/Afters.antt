@@ -10,10 +10,10 @@ use Rattle.calm_facts.proofs.Sames.{IsUsableAt, SameSights, Sight, sight_of}
 use Rattle.calm_facts.specs.Calm.{HasUsable, IsCalmAround}
 use Rattle.tab_begins.proofs.Standings.{all_of, in_place, met_none, none_of, third}
 use Rattle.tab_ids.specs.declared.DocId.{DocId}
-pub use Rattle.tab_one_pass.specs.Passing.{MayServe, ParentsShown, TakersServe}
+pub use Rattle.tab_one_pass.specs.Passing.{KeepsAwake, MayServe, ParentsShown, TakersServe}
 use Rattle.left_facts.specs.Left.{WereShown}
 use Rattle.left_facts.proofs.Rows.{were_shown}
-use Rattle.tab_one_pass.specs.Passing.{AreUnheld, HasPassed, IsLoadOf, IsOpen, KeepsAwake, MayCause}
+use Rattle.tab_one_pass.specs.Passing.{AreUnheld, HasPassed, IsLoadOf, IsOpen, MayCause}
 use Rattle.rest_rows.proofs.Shown.{applied_awake}
 use Rattle.mover_facts.proofs.Places.{ways_both, ways_mapped}
 use Rattle.mover_facts.proofs.Stays.{KeepWays}
@@ -27,8 +27,9 @@ use Rattle.mover_facts.specs.Movers.{IsMovedBy}
 use Rattle.load_facts.specs.Loading.{look, look_of}
 use Rattle.log_model.specs.AfterRequests.{entries_taken, on_request}
 use Rattle.log_model.specs.Causes.{nav_of_change}
-use Rattle.tab_one_pass.specs.PassedOn.{IsLoadApplied, IsBelowNav, StandOr}
-use Rattle.tab_one_pass.proofs.PassedOn.{load_applied, open_of, sole_load, stand_reached}
+use Rattle.tab_one_pass.specs.PassedOn.{IsLoadApplied, IsBelowNav, StandOr, IsTab}
+use Rattle.tab_one_pass.proofs.PassedOn.{load_applied, open_of, sole_load}
+pub use Rattle.tab_one_pass.proofs.PassedOn.{stand_reached, at_most_once, fresh}
 use Rattle.tab_one_pass.proofs.Dropped.{IsAskedFor, asked_for, load_now}
 use Rattle.asked_facts.specs.Asking.{ArePlain}
 use Rattle.coord_facts.proofs.Applied.{AreDocuments, all_pushed, all_replaced, push_places, replace_places}
@@ -36,7 +37,6 @@ use Rattle.coord_facts.proofs.Held.{on_else, without_same}
 use Rattle.load_facts.specs.Loading.{IsLoading, Look, is_ongoing}
 use Rattle.load_whereabouts.specs.Whereabouts.{times_on_way}
 use Rattle.request_facts.proofs.Times.{times_none}
-use Rattle.tab_whole.proofs.Where.{at_most_once}
 use Rattle.coord_facts.proofs.Unread.{next}
 use Rattle.hang_facts.proofs.Forms.{nav_is}
 use Rattle.hang_facts.proofs.Hung.{has_begun, not_above_itself}
@@ -83,8 +83,6 @@ use Rattle.tab_ids.specs.declared.ReqId.{ReqId}
 use Rattle.tab_ids.specs.declared.StateId.{StateId}
 pub use Rattle.tab_one_pass.proofs.Calms.{aim_is}
 pub use Rattle.tab_one_pass.specs.PassedOn.{InPass, IsPassing}
-use Rattle.tab_whole.proofs.Fresh.{fresh}
-use Rattle.tab_whole.specs.Tab.{IsTab}
 use Rattle.walk_facts.proofs.Placed.{found_nav}
 use Rattle.walk_facts.specs.Serving.{is_in_place, is_needing, is_stopping}
 use Rattle.walk_rows.specs.Since.{IsVisitedInNeed, MovesVisited}

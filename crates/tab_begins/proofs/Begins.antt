@@ -23,7 +23,8 @@ use Rattle.std.specs.Prelude.{option_map}
 use Rattle.calm_facts.proofs.Awakes.{awake_shown, lost_none, stand_each}
 use Rattle.tab_begins.proofs.Downs.{AllPlaced, IsInNeed, down}
 use Rattle.tab_begins.proofs.Standings.{all_of, in_place}
-use Rattle.tab_one_pass.proofs.PassedOn.{each_stands, stand_reached}
+use Rattle.tab_one_pass.proofs.PassedOn.{stand_reached}
+pub use Rattle.tab_one_pass.proofs.PassedOn.{each_stands}
 use Rattle.tab_one_pass.specs.Passing.{AreLeftStrays, AreUnheld, HasPassed, IsLeftStray, IsLoadOf, IsOpen, MayCause, MayServe, ParentsShown, StandOrMove, TakersServe}
 pub use Rattle.tab_one_pass.specs.Passing.{IsBare, IsUnsettled}
 use Rattle.tab_ids.specs.declared.DocId.{DocId}
@@ -32,12 +33,11 @@ use Rattle.tab_ids.specs.declared.ReqId.{ReqId}
 use Rattle.tab_ids.specs.declared.StateId.{StateId}
 pub use Rattle.tab_one_pass.proofs.Opens.{serve_on, takers_on}
 pub use Rattle.tab_one_pass.proofs.Gives.{show_causes}
-use Rattle.tab_one_pass.specs.PassedOn.{InPass}
+use Rattle.tab_one_pass.specs.PassedOn.{InPass, IsTab}
 use Rattle.tab_one_pass.proofs.Stands.{IsReachedAt, reached_at}
 pub use Rattle.tab_one_pass.proofs.Calms.{loaded_never}
 pub use Rattle.tab_one_pass.proofs.Dropped.{of_load}
 use Rattle.tab_applies.specs.PassedOn.{LeavesAlone}
-use Rattle.tab_whole.specs.Tab.{IsTab}
 use Rattle.walk_facts.proofs.Placed.{found_nav}
 use Rattle.walk_rows.proofs.Moved.{run_moves}
 use Rattle.walk_rows.proofs.Sinces.{places_since}

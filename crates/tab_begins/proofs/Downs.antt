@@ -17,7 +17,7 @@ use Rattle.tab_begins.proofs.Standings.{in_place, none_of}
 use Rattle.tab_ids.specs.declared.DocId.{DocId}
 use Rattle.tab_ids.specs.declared.NavId.{NavId}
 use Rattle.tab_ids.specs.declared.ReqId.{ReqId}
-use Rattle.tab_whole.specs.Tab.{IsTab}
+use Rattle.tab_one_pass.specs.PassedOn.{IsTab}
 use Rattle.walk_facts.proofs.Placed.{found_nav}
 use Rattle.walk_facts.specs.Serving.{is_in_place, is_needing, is_stopping}
 use Rattle.walk_rows.specs.Since.{IsVisitedInNeed}

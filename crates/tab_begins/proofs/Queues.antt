@@ -37,8 +37,8 @@ use Rattle.tab_doors.specs.declared.tables.Tables.{Tables}
 use Rattle.tab_one_pass.specs.Passing.{LeavesPass}
 use Rattle.tab_applies.proofs.PassedOn.{IsWaitingFirst, first_waits}
 use Rattle.tab_applies.specs.PassedOn.{HasGone, IsFirst, WentTo, joined_then}
-use Rattle.tab_whole.proofs.Beginning.{no_load}
-use Rattle.tab_whole.specs.Tab.{IsTab, at_hand}
+use Rattle.tab_one_pass.proofs.PassedOn.{no_load}
+use Rattle.tab_one_pass.specs.PassedOn.{IsTab, at_hand}
 
 -- ---- traversals
 

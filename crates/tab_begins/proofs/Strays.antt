@@ -37,12 +37,11 @@ use Rattle.tab_ids.specs.declared.StateId.{StateId}
 pub use Rattle.tab_one_pass.specs.Noting.{EntriesAreNoted, entered_in}
 use Rattle.tab_one_pass.specs.Passing.{AreLeftStrays, IsLeftStray, MayServe}
 pub use Rattle.tab_one_pass.proofs.PassedOn.{held, in_table, leaving_none, listed_here}
-use Rattle.tab_one_pass.specs.PassedOn.{AreBlamed, InPass, IsLeaving, IsPassing}
+use Rattle.tab_one_pass.specs.PassedOn.{AreBlamed, InPass, IsLeaving, IsPassing, IsTab}
 use Rattle.tab_one_pass.proofs.Calms.{loaded_never}
 use Rattle.tab_one_pass.proofs.Dropped.{of_load}
 pub use Rattle.tab_one_pass.proofs.Dropped.{IsBlamed}
 pub use Rattle.tab_one_pass.specs.Passing.{IsStray}
-use Rattle.tab_whole.specs.Tab.{IsTab}
 use Rattle.walk_facts.proofs.Placed.{found_nav}
 use Rattle.walk_rows.specs.Since.{WasAwake}
 use Rattle.log_model.specs.declared.job.Why.TheVariants as whys

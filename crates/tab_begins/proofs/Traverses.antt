@@ -22,12 +22,11 @@ use Rattle.tab_ids.specs.declared.Step.{Step}
 pub use Rattle.tab_one_pass.proofs.Passes.{left_blamed}
 use Rattle.tab_one_pass.specs.Passing.{HasPassed}
 use Rattle.tab_one_pass.proofs.Calms.{aim_is}
-use Rattle.tab_one_pass.specs.PassedOn.{InPass, IsPassing}
+use Rattle.tab_one_pass.specs.PassedOn.{InPass, IsPassing, IsTab}
 pub use Rattle.tab_one_pass.proofs.PassedOn.{own_document}
 use Rattle.tab_applies.proofs.PassedOn.{IsWaitingFirst, first_waits}
 use Rattle.tab_applies.specs.PassedOn.{HasGone, IsFirst, WentTo}
-use Rattle.tab_whole.proofs.Beginning.{no_load}
-use Rattle.tab_whole.specs.Tab.{IsTab}
+use Rattle.tab_one_pass.proofs.PassedOn.{no_load}
 use Rattle.log_model.specs.declared.outcome.Denial.TheVariants as denials
 use Rattle.log_model.specs.declared.outcome.Ending.TheVariants as endings
 use Rattle.log_model.specs.declared.row_kind.RowKind.TheVariants as rows

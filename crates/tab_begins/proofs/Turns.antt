@@ -20,13 +20,13 @@ use Rattle.tab_doors.specs.Working.{KeepsRun}
 use Rattle.tab_one_pass.proofs.PassedOn.{stand_reached, tied_load}
 use Rattle.load_doors.specs.Applying.{new_entry}
 use Rattle.navigate_core.specs.Navigations.{change_for}
-use Rattle.tab_drops.specs.Dropping.{row_of_drop}
+use Rattle.tab_one_pass.specs.PassedOn.{Drop, IsTab, row_of_drop, AreBlamed, InPass, IsPassing}
 use Rattle.tab_one_pass.specs.Passing.{HasPassed, IsLoadOf, IsOpen, KeepsAwake, LoadsLive, MayCause, MayStand, StandOrBare, show_why}
 use Rattle.tab_ids.specs.declared.DocId.{DocId}
 pub use Rattle.tab_one_pass.proofs.Lives.{live_then, stand_awake}
 use Rattle.tab_one_pass.proofs.Stands.{IsReachedAt, reached_at}
-use Rattle.tab_whole.specs.Tab.{IsTab}
 use Rattle.load_table.specs.declared.phase.Phase.TheVariants as phases
+use Rattle.hang_facts.specs.Members.{Has}
 use Rattle.home_facts.specs.Homes.{document_in}
 use Rattle.log_model.specs.Seen.{Asked, Document, Place, Seen, place_in, request_of}
 use Rattle.log_model.specs.declared.change.Change.{Change}
@@ -34,19 +34,18 @@ use Rattle.log_model.specs.declared.row_kind.RowKind.{RowKind}
 use Rattle.move_queue.specs.declared.queue_step.QueueStep.{QueueStep}
 use Rattle.move_queue.specs.declared.queue_step.QueueStep.TheVariants.{Ready, Reload, Traverse}
 use Rattle.seen_laws.specs.InEvent.{now_of}
-use Rattle.std.proofs.Common.{Bool, List, None, Option, Some, [], ap, append-nil, append_assoc, false, filter, inl, refl, subst, sym, true, ℕ, ℤ, ◌&&◌, ◌++◌, ◌==◌, ◌||◌, ◌∙◌, ◌∷◌, ◌≡◌}
+use Rattle.std.proofs.Common.{Bool, List, None, Option, Some, [], ap, append-nil, append_assoc, false, filter, inl, inr, refl, subst, sym, true, ℕ, ℤ, ◌&&◌, ◌++◌, ◌==◌, ◌||◌, ◌∙◌, ◌∷◌, ◌≡◌}
 use Rattle.tab_begins.proofs.Queues.{ahead, queue_passed, queue_traversed}
 use Rattle.calm_facts.specs.Calm.{AreRooted, IsCalmAround, UnmovedAreHere}
 use Rattle.calm_facts.proofs.Awakes.{calm_stood}
 use Rattle.tab_begins.proofs.Stood.{calm_begun}
-use Rattle.tab_begins.specs.Queueing.{HadTurn, HasGrown, HasQueue, IsAppliedNext, IsAtRest, IsCalmFor, IsPassedOver, MayFollow, is_ready_in, is_there, is_traverse, load_in}
+use Rattle.tab_begins.specs.Queueing.{HadTurn, HasGrown, HasQueue, IsAppliedNext, IsAtRest, IsCalmFor, IsOfTurn, IsPassedOver, MayFollow, is_ready_in, is_there, is_traverse, load_in}
 use Rattle.tab_begins.specs.Taking.{AreOldLoads, GoesOn, HasBegun, HasTaken, IsOver, KeepsMade, KeepsQueue, KeepsStrays, MayTake}
 use Rattle.tab_doors.specs.declared.tables.Tables.{Tables}
 use Rattle.tab_ids.specs.declared.NavId.{NavId}
 use Rattle.tab_ids.specs.declared.ReqId.{ReqId}
 use Rattle.tab_ids.specs.declared.StateId.{StateId}
 use Rattle.tab_one_pass.proofs.Gives.{show_causes}
-use Rattle.tab_one_pass.specs.PassedOn.{AreBlamed, InPass, IsPassing}
 use Rattle.tab_applies.specs.PassedOn.{HasGone, IsFirst, IsTurning, WentTo}
 use Rattle.log_model.specs.declared.job.Why.TheVariants as whys
 use Rattle.log_model.specs.declared.outcome.Denial.TheVariants as denials
@@ -55,6 +54,11 @@ use Rattle.log_model.specs.declared.row_kind.RowKind.TheVariants as rows
 -- nothing was done
 pub made_same : (s : Seen) → KeepsMade s s
 made_same s = record { wishes = λ req. refl; documents = refl }
+
+-- one row alone was put out
+one_each : (kind : RowKind) → IsOfTurn kind → (row : RowKind) → Has (kind ∷ []) row → IsOfTurn row
+one_each kind its row (inl is) = subst IsOfTurn is its
+one_each kind its row (inr never) = absurd never
 
 module _ (p : InPass) (out : List RowKind) (t : Tables) (passing : IsPassing p out t) (turning : IsTurning p.event out) (stand : all_stand (now_of p.event out) (now_of p.event out).history.current ≡ true) (none : (now_of p.event out).parked ≡ []) (blame : List (StateId × ReqId)) (rests : IsAtRest p.event t.running blame (now_of p.event out)) (step : QueueStep) (rest : List QueueStep) (queue : HasQueue (now_of p.event out) None (step ∷ rest)) where
   abbrev s : Seen
@@ -151,8 +155,9 @@ module _ (p : InPass) (out : List RowKind) (t : Tables) (passing : IsPassing p o
   traverse_grown more u req delta gone = by_step (step_at_delta s delta) gone.went
     where
       by_step : (o : Option ℕ) → WentTo out more t u req o → HasGrown out more
-      by_step None went = record { more = rows.Refused req denials.NoStep ∷ []; is = went.0 }
-      by_step (Some step_) went = record { more = rows.Started req (Some (record { 0 = step_ })) ∷ []; is = went.0 }
+      by_step None went = record { more = rows.Refused req denials.NoStep ∷ []; is = went.0; each = one_each (rows.Refused req denials.NoStep) tt }
+      by_step (Some step_) went =
+          record { more = rows.Started req (Some (record { 0 = step_ })) ∷ []; is = went.0; each = one_each (rows.Started req (Some (record { 0 = step_ }))) tt }
 
   -- what was made, and by whom, is as it was
   pub traverse_made : (more : List RowKind) (u : Tables) (req : ReqId) (delta : ℤ) → HasGone p.event out more t u req delta → KeepsMade s (now_of p.event more)
@@ -293,12 +298,22 @@ after_applied p out t idle nav load more taken req is u keeps noted open_ stand 
 
 -- nothing
 pub grown_none : (out : List RowKind) → HasGrown out out
-grown_none out = record { more = []; is = sym (append-nil out) }
+grown_none out = record { more = []; is = sym (append-nil out); each = λ row never. absurd never }
 
 -- the load's row, and drops
+drops_each : (drops : List Drop) (row : RowKind) → Has (map row_of_drop drops) row → IsOfTurn row
+drops_each [] row never = absurd never
+drops_each (d ∷ drops) row (inl is) = subst IsOfTurn is tt
+drops_each (d ∷ drops) row (inr has) = drops_each drops row has
+
 pub load_grown : (p : InPass) (out : List RowKind) (t : Tables) (nav : NavId) (load : Load) (more : List RowKind) → HasTaken p.event t nav load out more → HasGrown out more
 load_grown p out t nav load more taken =
     record {
       more = rows.Applied load.req (change_for load taken.over (new_entry t)) ∷ map row_of_drop taken.drops.drops;
       is = taken.drops.is ∙ ap (λ (l : List RowKind). l ++ map row_of_drop taken.drops.drops) taken.is ∙ append_assoc out (rows.Applied load.req (change_for load taken.over (new_entry t)) ∷ []) (map row_of_drop taken.drops.drops);
+      each = each_row;
     }
+  where
+    each_row : (row : RowKind) → Has (rows.Applied load.req (change_for load taken.over (new_entry t)) ∷ map row_of_drop taken.drops.drops) row → IsOfTurn row
+    each_row row (inl is) = subst IsOfTurn is tt
+    each_row row (inr has) = drops_each taken.drops.drops row has

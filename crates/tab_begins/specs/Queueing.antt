@@ -158,10 +158,19 @@ pub record IsFirstDue (table : List Load) (waiting : List QueueStep) (step : Que
 
 -- ---- what is put out
 
--- the rows that were put out stand behind those that were there
+-- the row begins, applies or ends a request
+abbrev pub IsOfTurn : RowKind → Type 0
+IsOfTurn (rows.Started req goal) = Unit {0}
+IsOfTurn (rows.Applied req change) = Unit {0}
+IsOfTurn (rows.Refused req reason) = Unit {0}
+IsOfTurn (rows.Dropped req cause) = Unit {0}
+IsOfTurn _ = ⊥
+
+-- the rows that were put out are such rows, behind those that were there
 pub record HasGrown (was out : List RowKind) : Type 0 where
   pub more : List RowKind
   pub is : out ≡ was ++ more
+  pub each : (row : RowKind) → Has more row → IsOfTurn row
 
 -- ---- whose turn is next
 

@@ -10,7 +10,7 @@ use Rattle.hang_facts.proofs.Members.{into_map}
 use Rattle.hang_facts.specs.Members.{Has}
 use Rattle.load_ends.specs.Standing.{LoadsStand, is_reached}
 use Rattle.log_model.specs.ActsAtOnce.{ends_stepped, ends_told, has_no_step_waiting, has_reason_to_run, is_ready_load, is_told}
-use Rattle.log_model.specs.Equal.{has_doc, holds, implies, same_pair}
+use Rattle.log_model.specs.Equal.{holds, implies, same_pair}
 use Rattle.log_model.specs.History.{History, has_nav, has_row, has_state, used_step_at}
 use Rattle.log_model.specs.Orders.{is_being_made, is_usable}
 use Rattle.log_model.specs.Places.{aim_of, all_stand, all_stand_in, awake_document, due_pair, has_passed_with, is_awake, is_gone, is_lost_in, is_moved_in, is_ongoing_load, is_shown, is_standing, way_of, is_reload, is_traversal, is_under_way, pair_in, passed_in, passed_traversal, running_in, told_pair}
@@ -30,7 +30,7 @@ use Rattle.std.specs.List.{list_all, list_any}
 use Rattle.std.specs.Option.{option_map_or}
 use Rattle.std.specs.Prelude.{find, is_none, is_some, map, option_and_then, option_map, slice_get}
 use Rattle.tab_events.proofs.Requests.{AreLeft, IsSo, lean, left_then}
-use Rattle.tab_events.specs.Between.{AreSwept, IsBetween, KeptAreFrozen, orders_go}
+use Rattle.tab_events.specs.Between.{AreSwept, IsBetween, orders_go}
 use Rattle.tab_ids.specs.declared.DocId.{DocId}
 use Rattle.tab_ids.specs.declared.NavId.{NavId}
 use Rattle.tab_ids.specs.declared.ReqId.{ReqId}
@@ -440,18 +440,6 @@ module _ (keep : ℕ) (run : Option ReqId) (s t : Seen) (is : IsBetween keep run
       by_case d state (inl can) = inl (usable d state ∙ can)
       by_case d state (inr made) = inr (being_made d ∙ made)
 
-  -- ---- the kept documents
-
-  frozen : KeptAreFrozen t
-  frozen doc d has found =
-      let w : WasOf s left.g doc d = before doc d found in
-      let its = is.frozen doc w.before (ap (λ (l : List DocId). has_doc l doc) (sym left.kept) ∙ has) w.there in (
-        sym (ap (λ (x : Document). x.is_frozen) w.is) ∙ left.keeps.frozen w.before ∙ its.0,
-        ap (λ (h : History). has_state d.state h.rows) left.history
-            ∙ ap (λ (n : StateId). has_state n s.history.rows) (sym (ap (λ (x : Document). x.state) w.is) ∙ left.keeps.state w.before)
-            ∙ its.1,
-      )
-
   pub between_left : Flows t → AllRest t → IsBetween keep run t
   between_left flows rests =
       record {
@@ -466,6 +454,5 @@ module _ (keep : ℕ) (run : Option ReqId) (s t : Seen) (is : IsBetween keep run
         swept = swept;
         stands = stands;
         loading = loading;
-        frozen = frozen;
         few = subst (λ (l : List DocId). length l ≤ keep) (sym left.kept) is.few;
       }

@@ -55,6 +55,5 @@ module _ (keep : ℕ) (event : ℕ) (actor : Actor) (entry : EntryId) (state : S
         swept = inl (λ other d found ready there. inl (composed.plain.swept other d found ready there));
         stands = refl;
         loading = λ req q there ongoing. absurd (no_request req q there);
-        frozen = λ other d has found. absurd cc;
         few = omega arith;
       }

@@ -6,7 +6,6 @@ use Rattle.std.specs.Prelude.{◌≡◌, ◌⊎◌, ◌≤◌, ◌==◌, ◌||�
 use Rattle.tab_ids.specs.declared.DocId.{DocId}
 use Rattle.tab_ids.specs.declared.ReqId.{ReqId}
 use Rattle.log_model.specs.ActsAtOnce.{ends_stepped, ends_told}
-use Rattle.log_model.specs.Equal.{has_doc}
 use Rattle.log_model.specs.History.{has_state}
 use Rattle.log_model.specs.Seen.{Seen, Desk, Document, document_of}
 use Rattle.coord_facts.specs.Flowing.{Flows}
@@ -31,11 +30,6 @@ has_order desk = not (length desk.mail == 0) || is_some desk.in_hand || not (len
 abbrev pub orders_go : Seen → Bool
 orders_go s = list_any has_order s.desks
 
--- each kept document is frozen, and its state has entries
-abbrev pub KeptAreFrozen : Seen → Type 0
-KeptAreFrozen s =
-    (doc : DocId) (d : Document) → has_doc s.kept doc ≡ true → document_of s doc ≡ Some d → (d.is_frozen ≡ true) × (has_state d.state s.history.rows ≡ true)
-
 -- with this traversal running, and at most so many documents kept
 pub record IsBetween (keep : ℕ) (run : Option ReqId) (s : Seen) : Type 0 where
   -- what holds between two rows, with nothing at hand
@@ -55,5 +49,4 @@ pub record IsBetween (keep : ℕ) (run : Option ReqId) (s : Seen) : Type 0 where
   pub stands : LoadsStand s
   pub loading : LoadsHaveDocuments s
   -- the kept documents
-  pub frozen : KeptAreFrozen s
   pub few : length s.kept ≤ keep

@@ -35,7 +35,7 @@ use Rattle.tab_evicts.proofs.Theres.{there_apart, there_elsewhere, there_gone, t
 use Rattle.tab_evicts.specs.Evicting.{IsThereBelow}
 use Rattle.left_facts.specs.Left.{WereShown}
 use Rattle.tab_evicts.proofs.Quiets.{IsQuiet, gone_seen, gone_leaving, gone_looks, gone_may, gone_now, gone_other, gone_places, gone_states, gone_stays, gone_were, one_document, one_of_state, quiet_discards, quiet_settles}
-use Rattle.tab_evicts.specs.Evicting.{IsBeside, InEvicting, IsEvicting, IsGoneFor, NoLoadBelow, NoneBelow, StaysPlaced, below_in, hangs_in}
+use Rattle.tab_evicts.specs.Evicting.{InEvicting, InLetting, IsBeside, IsGoneFor, IsLetting, NoLoadBelow, NoneBelow, StaysPlaced, below_in, hangs_in, move_in}
 use Rattle.tab_ids.specs.declared.DocId.{DocId}
 use Rattle.tab_ids.specs.declared.NavId.{NavId}
 use Rattle.tab_ids.specs.declared.StateId.{StateId}
@@ -49,7 +49,7 @@ use Rattle.log_model.specs.declared.job.Task.TheVariants as tasks
 use Rattle.log_model.specs.declared.row_kind.RowKind.TheVariants as rows
 
 -- such an order may be sent
-pub below_ahead : (e : InEvent) (out : List RowKind) (move : Move) (t : Tables) (doc : DocId) (why : Why) (d : Document) → IsAtWorkFor (Some move) e out t → IsBelowDue (now_of e out) (order_to (now_of e out) doc why tasks.Discard) d → (desk_of (now_of e out) (proc_at (now_of e out) doc)).known ≡ 0 → SettlesNone (now_of e out) (row_of e (rows.Sent (order_to (now_of e out) doc why tasks.Discard))) → MaySend (Some move) e out (order_to (now_of e out) doc why tasks.Discard)
+pub below_ahead : (e : InEvent) (out : List RowKind) (move : Option Move) (t : Tables) (doc : DocId) (why : Why) (d : Document) → IsAtWorkFor move e out t → IsBelowDue (now_of e out) (order_to (now_of e out) doc why tasks.Discard) d → (desk_of (now_of e out) (proc_at (now_of e out) doc)).known ≡ 0 → SettlesNone (now_of e out) (row_of e (rows.Sent (order_to (now_of e out) doc why tasks.Discard))) → MaySend move e out (order_to (now_of e out) doc why tasks.Discard)
 unfolding now_of
 below_ahead e out move t doc why d work due known settles later ahead =
     below_discard_may (here_of e out) e.event e.actor (order_to (here_of e out).now doc why tasks.Discard) d (led_here e out work.own) (numbered (here_of e out).now (proc_at (here_of e out).now doc) doc why tasks.Discard known) due settles later tt
@@ -68,15 +68,12 @@ record IsBelow (s : Seen) (t : Tables) (gone : StateId) (doc : DocId) (its : Sta
   placed : place_of s document.nav ≡ Some place
   below : hangs_on gone place ≡ true
 
-module _ (m : InEvicting) (gone : StateId) (why : Why) (out : List RowKind) (t : Tables) (so : IsEvicting m gone why out t) where
+module _ (l : InLetting) (gone : StateId) (why : Why) (out : List RowKind) (t : Tables) (so : IsLetting l gone why out t) where
   abbrev p : InPass
-  p = m.pass
+  p = l.pass
 
-  abbrev move : Move
-  move = m.move
-
-  abbrev state : StateId
-  state = m.state
+  abbrev move : Option Move
+  move = move_in l
 
   abbrev s : Seen
   s = now_of p.event out
@@ -182,19 +179,22 @@ module _ (m : InEvicting) (gone : StateId) (why : Why) (out : List RowKind) (t :
     below_gone = there_gone s gone doc its_there so.gone_for
 
     -- its state isn't the one that is left
-    apart_left : (its.0 == state.0) ≡ false
-    apart_left = by_test (its.0 == state.0) refl
+    apart_left : (m : InEvicting) → l.moved ≡ Some m → (its.0 == m.state.0) ≡ false
+    apart_left m at = by_test (its.0 == m.state.0) refl
       where
-        by_test : (c : Bool) → (its.0 == state.0) ≡ c → (its.0 == state.0) ≡ false
+        beside : IsBeside s gone m
+        beside = (so.moving m at).beside
+
+        by_test : (c : Bool) → (its.0 == m.state.0) ≡ c → (its.0 == m.state.0) ≡ false
         by_test false e = e
         by_test true e =
-            let states : b.document.state ≡ so.beside.old.state = b.its_state ∙ state_is its state e ∙ sym so.beside.its_state in
-            let one : doc ≡ m.left = one_of_state s so.leaving.going.tab.docs doc m.left b.document so.beside.old b.found so.beside.found states b.undiscarded so.beside.undiscarded in
-            let apart : (doc.0 == m.left.0) ≡ false = there_elsewhere s gone doc its_there m.left so.beside.old so.beside.nav so.beside.place so.beside.found so.beside.its_nav so.beside.placed so.beside.outside in
+            let states : b.document.state ≡ beside.old.state = b.its_state ∙ state_is its m.state e ∙ sym beside.its_state in
+            let one : doc ≡ m.left = one_of_state s so.leaving.going.tab.docs doc m.left b.document beside.old b.found beside.found states b.undiscarded beside.undiscarded in
+            let apart : (doc.0 == m.left.0) ≡ false = there_elsewhere s gone doc its_there m.left beside.old beside.nav beside.place beside.found beside.its_nav beside.placed beside.outside in
             let no_ : true ≡ false = sym (ap (λ (x : DocId). x.0 == m.left.0) one ∙ nat_eq_refl m.left.0) ∙ apart in
             absurd cc
 
-    pub below_sends : MaySend (Some move) p.event out (order_to s doc why tasks.Discard)
+    pub below_sends : MaySend move p.event out (order_to s doc why tasks.Discard)
     below_sends =
         below_ahead p.event out move t doc why its_quiet.document so.leaving.work
         (record {
@@ -204,28 +204,30 @@ module _ (m : InEvicting) (gone : StateId) (why : Why) (out : List RowKind) (t :
         (so.leaving.going.tab.asked.died (proc_at s doc)).0
         (quiet_settles p move out t so.leaving why so.may doc its its_quiet (row_of p.event (rows.Sent (order_to s doc why tasks.Discard))))
 
-    pub below_lets : LetsGo (Some move) t.kept.keep (kept_states s) its
-    below_lets =
-        subst (λ (o : Option StateId). without its (with_left o t.kept.keep (kept_states s)) ≡ with_left o t.kept.keep (without its (kept_states s))) (sym so.noted)
-        (fitting_leaves t.kept.keep state its (kept_states s) so.room apart_left)
+    pub below_lets : LetsGo move t.kept.keep (kept_states s) its
+    below_lets = by_move l.moved refl
+      where
+        by_move : (o : Option InEvicting) → l.moved ≡ o → LetsGo (option_map (λ (m : InEvicting). m.move) o) t.kept.keep (kept_states s) its
+        by_move None at = refl
+        by_move (Some m) at =
+            subst (λ (o : Option StateId). without its (with_left o t.kept.keep (kept_states s)) ≡ with_left o t.kept.keep (without its (kept_states s))) (sym (so.moving m at).noted)
+            (fitting_leaves t.kept.keep m.state its (kept_states s) (so.moving m at).room (apart_left m at))
 
     -- ---- what it leaves
 
-    pub below_done : (new : List RowKind) (u : Tables) → new ≡ out ++ rows.Sent (order_to s doc why tasks.Discard) ∷ [] → KeepsStore t u → IsLeaving p (Some move) (left_then s doc []) new u → IsEvicting m gone why new u
+    pub below_done : (new : List RowKind) (u : Tables) → new ≡ out ++ rows.Sent (order_to s doc why tasks.Discard) ∷ [] → KeepsStore t u → IsLeaving p move (left_then s doc []) new u → IsLetting l gone why new u
     below_done new u made keeps leaving_ =
         record {
           leaving = leaving;
-          noted = so.noted;
           may = gone_may p move out t so.leaving why so.may doc its its_quiet new u made leaving;
           were = subst (λ (x : Seen). WereShown x) now_is (gone_were p move out t so.leaving why so.may doc its its_quiet so.were);
           loads = subst (λ (x : Seen). NoLoadBelow x gone) now_is loads_then;
           gone_for = subst (λ (x : Seen). IsGoneFor x gone) now_is gone_then;
           none = subst (λ (x : Seen). NoneBelow x gone) now_is none_then;
-          beside = subst (λ (x : Seen). IsBeside x gone m) now_is beside_then;
-          room = room_then;
+          moving = λ m at. record { noted = (so.moving m at).noted; beside = subst (λ (x : Seen). IsBeside x gone m) now_is (beside_then m at); room = room_then m at };
         }
       where
-        leaving : IsLeaving p (Some move) [] new u
+        leaving : IsLeaving p move [] new u
         leaving = gone_leaving p move out t so.leaving why so.may doc its its_quiet new u made leaving_
 
         then_ : Seen
@@ -260,27 +262,28 @@ module _ (m : InEvicting) (gone : StateId) (why : Why) (out : List RowKind) (t :
         none_then : NoneBelow then_ gone
         none_then nav place x placed wakes = so.none nav place x (placed_was nav place placed) wakes
 
-        beside_then : IsBeside then_ gone m
-        beside_then =
+        beside_then : (m : InEvicting) → l.moved ≡ Some m → IsBeside then_ gone m
+        beside_then m at =
+            let beside : IsBeside s gone m = (so.moving m at).beside in
             record {
-              nav = so.beside.nav;
-              place = so.beside.place;
-              placed = ap (λ (l : List Place). place_in l so.beside.nav) places ∙ so.beside.placed;
-              outside = so.beside.outside;
-              old = so.beside.old;
-              found = other m.left (there_elsewhere s gone doc its_there m.left so.beside.old so.beside.nav so.beside.place so.beside.found so.beside.its_nav so.beside.placed so.beside.outside) ∙ so.beside.found;
-              its_nav = so.beside.its_nav;
-              its_state = so.beside.its_state;
-              undiscarded = so.beside.undiscarded;
-              new_found = other move.doc (there_elsewhere s gone doc its_there move.doc m.new so.beside.nav so.beside.place so.beside.new_found so.beside.new_nav so.beside.placed so.beside.outside) ∙ so.beside.new_found;
-              new_nav = so.beside.new_nav;
+              nav = beside.nav;
+              place = beside.place;
+              placed = ap (λ (l : List Place). place_in l beside.nav) places ∙ beside.placed;
+              outside = beside.outside;
+              old = beside.old;
+              found = other m.left (there_elsewhere s gone doc its_there m.left beside.old beside.nav beside.place beside.found beside.its_nav beside.placed beside.outside) ∙ beside.found;
+              its_nav = beside.its_nav;
+              its_state = beside.its_state;
+              undiscarded = beside.undiscarded;
+              new_found = other m.move.doc (there_elsewhere s gone doc its_there m.move.doc m.new beside.nav beside.place beside.new_found beside.new_nav beside.placed beside.outside) ∙ beside.new_found;
+              new_nav = beside.new_nav;
             }
 
-        room_then : length (left_first state (kept_states (now_of p.event new))) ≤ u.kept.keep
-        room_then =
-            subst (λ (n : ℕ). length (left_first state (kept_states (now_of p.event new))) ≤ n) (sym keeps.keep)
-            (subst (λ (x : Seen). length (left_first state (kept_states x)) ≤ t.kept.keep) now_is
-            (subst (λ (l : List StateId). length (left_first state l) ≤ t.kept.keep) (sym (gone_states p move out t so.leaving why so.may doc its its_quiet)) (fitting_fits t.kept.keep state its (kept_states s) so.room apart_left)))
+        room_then : (m : InEvicting) → l.moved ≡ Some m → length (left_first m.state (kept_states (now_of p.event new))) ≤ u.kept.keep
+        room_then m at =
+            subst (λ (n : ℕ). length (left_first m.state (kept_states (now_of p.event new))) ≤ n) (sym keeps.keep)
+            (subst (λ (x : Seen). length (left_first m.state (kept_states x)) ≤ t.kept.keep) now_is
+            (subst (λ (l : List StateId). length (left_first m.state l) ≤ t.kept.keep) (sym (gone_states p move out t so.leaving why so.may doc its its_quiet)) (fitting_fits t.kept.keep m.state its (kept_states s) (so.moving m at).room (apart_left m at))))
 
     pub below_stays : (new : List RowKind) (u : Tables) → new ≡ out ++ rows.Sent (order_to s doc why tasks.Discard) ∷ [] → StaysPlaced s (now_of p.event new)
     below_stays new u made =

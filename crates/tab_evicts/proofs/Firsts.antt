@@ -42,7 +42,7 @@ use Rattle.tab_doors.specs.declared.tables.Tables.{Tables}
 use Rattle.tab_evicts.proofs.Cuts.{over_fits, over_leaves}
 use Rattle.tab_evicts.proofs.Hangings.{none_awake, none_hangs, not_awake}
 use Rattle.tab_evicts.proofs.Quiets.{IsQuiet, gone_leaving, gone_looks, gone_may, gone_now, gone_other, gone_places, gone_seen, gone_states, gone_stays, gone_were, one_document, quiet_discards, quiet_settles}
-use Rattle.tab_evicts.specs.Evicting.{IsBeside, InEvicting, IsEvicting, IsGoneFor, IsToEvict, NoLoadBelow, NoneBelow, StaysPlaced}
+use Rattle.tab_evicts.specs.Evicting.{HasRoomBeside, IsBeside, InEvicting, IsEvicting, IsGoneFor, IsToEvict, NoLoadBelow, NoneBelow, StaysPlaced}
 use Rattle.tab_ids.specs.declared.DocId.{DocId}
 use Rattle.tab_ids.specs.declared.NavId.{NavId}
 use Rattle.tab_ids.specs.declared.StateId.{StateId}
@@ -253,7 +253,7 @@ module _ (m : InEvicting) (gone : StateId) (why : Why) (out : List RowKind) (t :
   due : IsKeptLast s (order_to s first.doc why tasks.Discard) first_quiet.document (Some m.left)
   due =
       subst (λ (d : Document). IsKeptLast s (order_to s first.doc why tasks.Discard) d (Some m.left)) same (record {
-        discards = subst (λ (d : Document). IsDiscardOf s (order_to s first.doc why tasks.Discard) d) (sym same) (quiet_discards p move out t leaving why to.may first.doc gone first_quiet);
+        discards = subst (λ (d : Document). IsDiscardOf s (order_to s first.doc why tasks.Discard) d) (sym same) (quiet_discards p (Some move) out t leaving why to.may first.doc gone first_quiet);
         kept = ap (λ (d : DocId). has_doc s.kept d) its_nr ∙ into_docs s.kept first.doc first.kept;
         followed = ap (λ (d : DocId). holds (λ (place : Place). holds (λ (last : DocId). last.0 == d.0) place.last) (place_of s first.its.d.nav)) its_nr ∙ ap (λ (o : Option Place). holds (is_last first.doc) o) first.its.placed ∙ first.its.left;
         last = ap last_of kept_are ∙ first.last ∙ ap (λ (d : DocId). Some d) (sym its_nr);
@@ -266,7 +266,7 @@ module _ (m : InEvicting) (gone : StateId) (why : Why) (out : List RowKind) (t :
   first_sends =
       over_ahead p.event out move t first.doc why first_quiet.document m.new to.place m.left leaving.work to.new_found due
       (leaving.going.tab.asked.died (proc_at s first.doc)).0
-      (quiet_settles p move out t leaving why to.may first.doc gone first_quiet (row_of p.event (rows.Sent (order_to s first.doc why tasks.Discard))))
+      (quiet_settles p (Some move) out t leaving why to.may first.doc gone first_quiet (row_of p.event (rows.Sent (order_to s first.doc why tasks.Discard))))
       kept_many
       (ap (λ (n : NavId). place_of s n) to.new_nav ∙ to.placed)
       to.last
@@ -283,37 +283,35 @@ module _ (m : InEvicting) (gone : StateId) (why : Why) (out : List RowKind) (t :
   first_done new u made keeps leaving_ =
       record {
         leaving = leaving_now;
-        noted = to.noted;
-        may = gone_may p move out t leaving why to.may first.doc gone first_quiet new u made leaving_now;
-        were = subst (λ (x : Seen). WereShown x) now_is (gone_were p move out t leaving why to.may first.doc gone first_quiet to.were);
+        may = gone_may p (Some move) out t leaving why to.may first.doc gone first_quiet new u made leaving_now;
+        were = subst (λ (x : Seen). WereShown x) now_is (gone_were p (Some move) out t leaving why to.may first.doc gone first_quiet to.were);
         loads = subst (λ (x : Seen). NoLoadBelow x gone) now_is loads_then;
         gone_for = subst (λ (x : Seen). IsGoneFor x gone) now_is gone_then;
         none = subst (λ (x : Seen). NoneBelow x gone) now_is none_then;
-        beside = subst (λ (x : Seen). IsBeside x gone m) now_is beside_then;
-        room = room_then;
+        moving = λ x at. (let same : m ≡ x = cc in subst (λ (y : InEvicting). HasRoomBeside y gone (now_of p.event new) u.kept.keep) same (record { noted = to.noted; beside = subst (λ (x : Seen). IsBeside x gone m) now_is beside_then; room = room_then }));
       }
     where
       leaving_now : IsLeaving p (Some move) [] new u
-      leaving_now = gone_leaving p move out t leaving why to.may first.doc gone first_quiet new u made leaving_
+      leaving_now = gone_leaving p (Some move) out t leaving why to.may first.doc gone first_quiet new u made leaving_
 
       then_ : Seen
-      then_ = gone_seen p move out t leaving why to.may first.doc gone first_quiet
+      then_ = gone_seen p (Some move) out t leaving why to.may first.doc gone first_quiet
 
       now_is : then_ ≡ now_of p.event new
-      now_is = gone_now p move out t leaving why to.may first.doc gone first_quiet new u made
+      now_is = gone_now p (Some move) out t leaving why to.may first.doc gone first_quiet new u made
 
       places : then_.places ≡ s.places
-      places = gone_places p move out t leaving why to.may first.doc gone first_quiet
+      places = gone_places p (Some move) out t leaving why to.may first.doc gone first_quiet
 
       placed_was : (nav : NavId) (place : Place) → place_of then_ nav ≡ Some place → place_of s nav ≡ Some place
       placed_was nav place at = ap (λ (l : List Place). place_in l nav) (sym places) ∙ at
 
       other : (x : DocId) → (first.doc.0 == x.0) ≡ false → document_of then_ x ≡ document_of s x
-      other x apart = gone_other p move out t leaving why to.may first.doc gone first_quiet x apart
+      other x apart = gone_other p (Some move) out t leaving why to.may first.doc gone first_quiet x apart
 
       loads_then : NoLoadBelow then_ gone
       loads_then req l nav place at ongoing its_own placed =
-          to.loads req l nav place (sym (gone_looks p move out t leaving why to.may first.doc gone first_quiet req) ∙ at) ongoing its_own (placed_was nav place placed)
+          to.loads req l nav place (sym (gone_looks p (Some move) out t leaving why to.may first.doc gone first_quiet req) ∙ at) ongoing its_own (placed_was nav place placed)
 
       gone_then : IsGoneFor then_ gone
       gone_then =
@@ -359,11 +357,11 @@ module _ (m : InEvicting) (gone : StateId) (why : Why) (out : List RowKind) (t :
       room_then =
           subst (λ (n : ℕ). length (left_first state (kept_states (now_of p.event new))) ≤ n) (sym keeps.keep)
           (subst (λ (x : Seen). length (left_first state (kept_states x)) ≤ t.kept.keep) now_is
-          (subst (λ (l : List StateId). length (left_first state l) ≤ t.kept.keep) (sym (gone_states p move out t leaving why to.may first.doc gone first_quiet)) (over_fits t.kept.keep state gone (kept_states s) to.over to.kept)))
+          (subst (λ (l : List StateId). length (left_first state l) ≤ t.kept.keep) (sym (gone_states p (Some move) out t leaving why to.may first.doc gone first_quiet)) (over_fits t.kept.keep state gone (kept_states s) to.over to.kept)))
 
   pub first_stays : (new : List RowKind) (u : Tables) → new ≡ out ++ rows.Sent (order_to s first.doc why tasks.Discard) ∷ [] → StaysPlaced s (now_of p.event new)
   first_stays new u made =
-      subst (λ (x : Seen). StaysPlaced s x) (gone_now p move out t leaving why to.may first.doc gone first_quiet new u made) (gone_stays p move out t leaving why to.may first.doc gone first_quiet)
+      subst (λ (x : Seen). StaysPlaced s x) (gone_now p (Some move) out t leaving why to.may first.doc gone first_quiet new u made) (gone_stays p (Some move) out t leaving why to.may first.doc gone first_quiet)
 
   -- there is one
   pub first_is_there : IsSome (document_at gone t.tree)

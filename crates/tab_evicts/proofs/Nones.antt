@@ -29,7 +29,7 @@ use Rattle.tab_doors.specs.declared.tables.Tables.{Tables}
 use Rattle.tab_evicts.proofs.Hangings.{hangs_same}
 use Rattle.tab_evicts.proofs.Quiets.{IsQuiet, gone_now, gone_other, gone_places, gone_seen}
 use Rattle.tab_evicts.proofs.Theres.{there_lives}
-use Rattle.tab_evicts.specs.Evicting.{InEvicting, IsEvicting, IsNotBelow, IsThereBelow, NoMoreBelow, NoneOfBelow, NoneThereBelow, below_in, hangs_in}
+use Rattle.tab_evicts.specs.Evicting.{InLetting, IsLetting, IsNotBelow, IsThereBelow, NoMoreBelow, NoneOfBelow, NoneThereBelow, below_in, hangs_in}
 use Rattle.tab_ids.specs.declared.DocId.{DocId}
 use Rattle.tab_ids.specs.declared.NavId.{NavId}
 use Rattle.tab_ids.specs.declared.StateId.{StateId}
@@ -114,9 +114,9 @@ none_of_all docs i s gone past first = subst (λ (l : List DocId). NoneOfBelow l
 
 -- ---- what is there below, by the tables
 
-module _ (m : InEvicting) (gone : StateId) (why : Why) (out : List RowKind) (t : Tables) (so : IsEvicting m gone why out t) (doc : DocId) (it : IsThereBelow (now_of m.pass.event out) gone doc) where
+module _ (l : InLetting) (gone : StateId) (why : Why) (out : List RowKind) (t : Tables) (so : IsLetting l gone why out t) (doc : DocId) (it : IsThereBelow (now_of l.pass.event out) gone doc) where
   abbrev s : Seen
-  s = now_of m.pass.event out
+  s = now_of l.pass.event out
 
   -- the tables have it
   pub below_known : below_in t gone doc ≡ None → ⊥
@@ -138,7 +138,7 @@ module _ (m : InEvicting) (gone : StateId) (why : Why) (out : List RowKind) (t :
 
 -- ---- one is discarded
 
-module _ (p : InPass) (move : Move) (out : List RowKind) (t : Tables) (leaving : IsLeaving p (Some move) [] out t) (why : Why) (may : MayCause (now_of p.event out) why) (doc : DocId) (state : StateId) (its : IsQuiet (now_of p.event out) t doc state) (gone : StateId) where
+module _ (p : InPass) (move : Option Move) (out : List RowKind) (t : Tables) (leaving : IsLeaving p move [] out t) (why : Why) (may : MayCause (now_of p.event out) why) (doc : DocId) (state : StateId) (its : IsQuiet (now_of p.event out) t doc state) (gone : StateId) where
   abbrev before : Seen
   before = now_of p.event out
 
@@ -198,6 +198,6 @@ there_listed s t listed gone doc it = by_state (state_of doc t.tree) refl
     by_state (Some x) is = by_place (find (is_placed doc) t.tree.places) refl x is
 
 -- each that was there is among those that were listed
-pub none_there : (m : InEvicting) (gone : StateId) (why : Why) (out : List RowKind) (t : Tables) → IsEvicting m gone why out t → (was last : Seen) (docs : List DocId) (tree : Tree) → ((doc : DocId) → IsThereBelow was gone doc → Has (docs_of tree) doc) → IsPermutation (docs_of tree) docs → NoMoreBelow gone was (now_of m.pass.event out) → NoMoreBelow gone (now_of m.pass.event out) last → NoneOfBelow docs last gone → NoneThereBelow last gone
-none_there m gone why out t so was last docs tree listed order first then_ none doc it =
+pub none_there : (l : InLetting) (gone : StateId) (why : Why) (out : List RowKind) (t : Tables) → IsLetting l gone why out t → (was last : Seen) (docs : List DocId) (tree : Tree) → ((doc : DocId) → IsThereBelow was gone doc → Has (docs_of tree) doc) → IsPermutation (docs_of tree) docs → NoMoreBelow gone was (now_of l.pass.event out) → NoMoreBelow gone (now_of l.pass.event out) last → NoneOfBelow docs last gone → NoneThereBelow last gone
+none_there l gone why out t so was last docs tree listed order first then_ none doc it =
     none doc (ordered_has (docs_of tree) docs doc order (listed doc (first doc (then_ doc it)))) it

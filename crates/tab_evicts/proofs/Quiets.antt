@@ -127,7 +127,7 @@ no_loads s table ties state apart its =
         let two : Some has.load.state ≡ Some state = sym tied.state ∙ ap (λ (q : Asked). q.state) same ∙ its.own in
         cc
 
-module _ (p : InPass) (move : Move) {docs : List DocId} (out : List RowKind) (t : Tables) (leaving : IsLeaving p (Some move) docs out t) (why : Why) (may : MayCause (now_of p.event out) why) (doc : DocId) (state : StateId) (its : IsQuiet (now_of p.event out) t doc state) where
+module _ (p : InPass) (move : Option Move) {docs : List DocId} (out : List RowKind) (t : Tables) (leaving : IsLeaving p move docs out t) (why : Why) (may : MayCause (now_of p.event out) why) (doc : DocId) (state : StateId) (its : IsQuiet (now_of p.event out) t doc state) where
   abbrev s : Seen
   s = now_of p.event out
 
@@ -225,10 +225,10 @@ module _ (p : InPass) (move : Move) {docs : List DocId} (out : List RowKind) (t 
     pub gone_now : gone_seen ≡ now_of p.event new
     gone_now = sym (ap (λ (x : List RowKind). now_of p.event x) is ∙ now_more p.event out (rows.Sent discard))
 
-    pub gone_leaving : IsLeaving p (Some move) (left_then s doc docs) new u → IsLeaving p (Some move) (without_doc doc docs) new u
-    gone_leaving so = subst (λ (x : List DocId). IsLeaving p (Some move) (x ++ without_doc doc docs) new u) (below_none s doc its.nobody) so
+    pub gone_leaving : IsLeaving p move (left_then s doc docs) new u → IsLeaving p move (without_doc doc docs) new u
+    gone_leaving so = subst (λ (x : List DocId). IsLeaving p move (x ++ without_doc doc docs) new u) (below_none s doc its.nobody) so
 
-    pub gone_may : {rest : List DocId} → IsLeaving p (Some move) rest new u → MayCause (now_of p.event new) why
+    pub gone_may : {rest : List DocId} → IsLeaving p move rest new u → MayCause (now_of p.event new) why
     gone_may so =
         subst (λ (x : Seen). MayCause x why) gone_now
         (served_causes s p.event discard why (subst (λ (x : Seen). (req : ReqId) (q : Asked) → request_of x req ≡ Some q → may_go_on x req ≡ true) (sym gone_now) (goes_on (now_of p.event new) u.running so.going.tab.asked)) may)

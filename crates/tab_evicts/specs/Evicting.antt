@@ -19,7 +19,7 @@ use Rattle.nav_tree.specs.declared.nav.Nav.{Nav}
 use Rattle.page_cache.specs.Kept.{left_first}
 use Rattle.seen_laws.specs.InEvent.{now_of}
 use Rattle.std.specs.List.{list_any}
-use Rattle.std.specs.Prelude.{Bool, List, None, Option, Some, [], drop, false, if◌then◌else◌, length, option_and_then, true, ℕ, ◌==◌, ◌∷◌, ◌≡◌, ◌≤◌}
+use Rattle.std.specs.Prelude.{Bool, List, None, Option, Some, [], drop, false, if◌then◌else◌, length, option_and_then, option_map, true, ℕ, ◌==◌, ◌∷◌, ◌≡◌, ◌≤◌}
 use Rattle.tab_doors.specs.Keeping.{Move}
 use Rattle.tab_doors.specs.Ties.{nav_in}
 use Rattle.tab_doors.specs.declared.tables.Tables.{Tables}
@@ -97,17 +97,36 @@ pub record IsGoneFor (s : Seen) (gone : StateId) : Type 0 where
   pub discarded : document.is_discarded ≡ true
   pub its_state : document.state ≡ gone
 
--- the move leaves the document of this state; that of the state was discarded, and those below it may be; there is room for all that are kept then
-pub record IsEvicting (m : InEvicting) (gone : StateId) (why : Why) (out : List RowKind) (t : Tables) : Type 0 where
-  pub leaving : IsLeaving m.pass (Some m.move) [] out t
+-- the move leaves the document of this state, it is beside, and there is room for all that are kept then
+pub record HasRoomBeside (m : InEvicting) (gone : StateId) (s : Seen) (keep : ℕ) : Type 0 where
   pub noted : m.move.left ≡ Some m.state
-  pub may : MayCause (now_of m.pass.event out) why
-  pub were : WereShown (now_of m.pass.event out)
-  pub loads : NoLoadBelow (now_of m.pass.event out) gone
-  pub gone_for : IsGoneFor (now_of m.pass.event out) gone
-  pub none : NoneBelow (now_of m.pass.event out) gone
-  pub beside : IsBeside (now_of m.pass.event out) gone m
-  pub room : length (left_first m.state (kept_states (now_of m.pass.event out))) ≤ t.kept.keep
+  pub beside : IsBeside s gone m
+  pub room : length (left_first m.state (kept_states s)) ≤ keep
+
+-- where one is: the move that has begun, if one has
+pub record InLetting : Type 0 where
+  pub pass : InPass
+  pub moved : Option InEvicting
+
+abbrev pub move_in : InLetting → Option Move
+move_in l = option_map (λ (m : InEvicting). m.move) l.moved
+
+-- the document of the state was discarded, and those below it may be; where a move has begun, there is room for all that are kept then
+pub record IsLetting (l : InLetting) (gone : StateId) (why : Why) (out : List RowKind) (t : Tables) : Type 0 where
+  pub leaving : IsLeaving l.pass (move_in l) [] out t
+  pub may : MayCause (now_of l.pass.event out) why
+  pub were : WereShown (now_of l.pass.event out)
+  pub loads : NoLoadBelow (now_of l.pass.event out) gone
+  pub gone_for : IsGoneFor (now_of l.pass.event out) gone
+  pub none : NoneBelow (now_of l.pass.event out) gone
+  pub moving : (m : InEvicting) → l.moved ≡ Some m → HasRoomBeside m gone (now_of l.pass.event out) t.kept.keep
+
+-- the same within a move
+abbrev pub letting_for : InEvicting → InLetting
+letting_for m = record { pass = m.pass; moved = Some m }
+
+abbrev pub IsEvicting : InEvicting → StateId → Why → List RowKind → Tables → Type 0
+IsEvicting m gone why out t = IsLetting (letting_for m) gone why out t
 
 -- ---- what such orders leave
 

@@ -3,7 +3,7 @@ ghost use Rattle.std.specs.Prelude.{◌≡◌, OnOk};
 ghost use Rattle.apply_plan.specs.Order.{parent_in};
 ghost use Rattle.seen_laws.specs.InEvent.{now_of};
 ghost use Rattle.tab_doors.specs.Working.{KeepsStore};
-ghost use Rattle.tab_evicts.specs.Evicting.{HasOnlyDiscarded, InEvicting, IsEvicting, IsNotBelow, NoMoreBelow, NoneOfBelow, StaysPlaced, below_in, hangs_in, is_owned_by};
+ghost use Rattle.tab_evicts.specs.Evicting.{HasOnlyDiscarded, InLetting, IsLetting, IsNotBelow, NoMoreBelow, NoneOfBelow, StaysPlaced, below_in, hangs_in, is_owned_by};
 
 use address::OutOfMemory;
 use log_model::{Docs, Out, Why};
@@ -68,13 +68,13 @@ fn discard_if(
     doc: DocId,
     why: Why,
 ) -> Result<(), OutOfMemory>
-    ghost m: { InEvicting }
-    requires evicting { IsEvicting m gone why out.old tables.old }
-    ensures evicting { OnOk result (IsEvicting m gone why out.new tables.new) }
-    ensures gone { OnOk result (IsNotBelow (now_of m.pass.event out.new) gone doc) }
-    ensures fewer { OnOk result (NoMoreBelow gone (now_of m.pass.event out.old) (now_of m.pass.event out.new)) }
+    ghost l: { InLetting }
+    requires letting { IsLetting l gone why out.old tables.old }
+    ensures letting { OnOk result (IsLetting l gone why out.new tables.new) }
+    ensures gone { OnOk result (IsNotBelow (now_of l.pass.event out.new) gone doc) }
+    ensures fewer { OnOk result (NoMoreBelow gone (now_of l.pass.event out.old) (now_of l.pass.event out.new)) }
     ensures only { OnOk result (HasOnlyDiscarded why out.old out.new) }
-    ensures stays { OnOk result (StaysPlaced (now_of m.pass.event out.old) (now_of m.pass.event out.new)) }
+    ensures stays { OnOk result (StaysPlaced (now_of l.pass.event out.old) (now_of l.pass.event out.new)) }
     ensures kept { OnOk result (KeepsStore tables.old tables.new) }
 {
     match state_below(tables, gone, doc) {
@@ -93,13 +93,13 @@ pub fn discard_below(
     docs: &Docs,
     why: Why,
 ) -> Result<(), OutOfMemory>
-    ghost m: { InEvicting }
-    requires evicting { IsEvicting m gone why out.old tables.old }
-    ensures evicting { OnOk result (IsEvicting m gone why out.new tables.new) }
-    ensures gone { OnOk result (NoneOfBelow docs.now (now_of m.pass.event out.new) gone) }
-    ensures fewer { OnOk result (NoMoreBelow gone (now_of m.pass.event out.old) (now_of m.pass.event out.new)) }
+    ghost l: { InLetting }
+    requires letting { IsLetting l gone why out.old tables.old }
+    ensures letting { OnOk result (IsLetting l gone why out.new tables.new) }
+    ensures gone { OnOk result (NoneOfBelow docs.now (now_of l.pass.event out.new) gone) }
+    ensures fewer { OnOk result (NoMoreBelow gone (now_of l.pass.event out.old) (now_of l.pass.event out.new)) }
     ensures only { OnOk result (HasOnlyDiscarded why out.old out.new) }
-    ensures stays { OnOk result (StaysPlaced (now_of m.pass.event out.old) (now_of m.pass.event out.new)) }
+    ensures stays { OnOk result (StaysPlaced (now_of l.pass.event out.old) (now_of l.pass.event out.new)) }
     ensures kept { OnOk result (KeepsStore tables.old tables.new) }
 {
     for i in 0..docs.len() {

@@ -54,8 +54,8 @@ fn home_of(header: &Header, tables: &Tables, nav: NavId, address: &Address) -> O
     }
 }
 
-/// The same, where there is one.
-pub(crate) fn home_there(header: &Header, tables: &Tables, nav: NavId, address: &Address) -> ProcId
+/// The process in which a document of the navigable at an address is made, where there is one: that of the address's origin, by the header; of an about:blank document that of the parent's document, at the top the first.
+pub fn home_there(header: &Header, tables: &Tables, nav: NavId, address: &Address) -> ProcId
     requires { IsSome (home_in header.now tables.now nav address.now) }
     ensures { home_in header.now tables.now nav address.now ≡ Some result }
 {

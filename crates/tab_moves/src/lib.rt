@@ -6,6 +6,7 @@ mod leaving;
 mod making;
 mod showing;
 
+pub use homes::home_there;
 pub use leaving::freeze_left;
 pub use making::make_target;
 pub use showing::{row_there, show_target, show_why};

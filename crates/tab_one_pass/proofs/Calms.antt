@@ -18,7 +18,7 @@ use Rattle.log_model.specs.History.{History, has_nav, has_row, has_state}
 use Rattle.log_model.specs.Orders.{is_being_made, is_usable}
 use Rattle.log_model.specs.Places.{aim_of, is_awake, is_below, is_shown, way_to}
 use Rattle.tab_one_pass.proofs.Moves.{put_unmoved}
-use Rattle.tab_serves.specs.PassedOn.{HasOnlyTold, IsToldMore, IsUpdateFor, aim_in, length_index}
+use Rattle.tab_serves.specs.PassedOn.{HasOnlyTold, IsToldMore, IsUpdateFor, aim_in, length_index, IsTab}
 use Rattle.log_model.specs.Seen.{Document, Place, Seen, awake, document_of, place_of}
 use Rattle.log_model.specs.declared.job.Task.{Task}
 use Rattle.log_model.specs.declared.job.Why.{Why}
@@ -45,7 +45,6 @@ use Rattle.tab_serves.specs.Serving.{HasOnly, InPass, IsPassing}
 use Rattle.tab_serves.proofs.Orders.{IsOrderOf, over_orders}
 pub use Rattle.tab_sweeps.proofs.Loads.{loaded_never}
 use Rattle.tab_sweeps.specs.Sweeping.{IsNoStray, IsOnStray, IsStray, IsSweptTurn, but_status}
-use Rattle.tab_whole.specs.Tab.{IsTab}
 use Rattle.walk_facts.proofs.Placed.{found_nav}
 use Rattle.walk_facts.specs.Serving.{AreServed}
 use Rattle.walk_rows.specs.Since.{WasAwake}

@@ -27,11 +27,10 @@ use Rattle.tab_one_pass.proofs.Stands.{rows_swept, stand_swept}
 use Rattle.tab_one_pass.specs.Noting.{AreNoted}
 use Rattle.tab_one_pass.specs.Passing.{AreLeftStrays, HasClearedOut, HasGivenWay, IsOpen, LeavesPass, MayStand, SendsForStrays, WereLoaded}
 pub use Rattle.tab_serves.proofs.PassedOn.{show_causes}
-use Rattle.tab_serves.specs.PassedOn.{MayServe}
+use Rattle.tab_serves.specs.PassedOn.{MayServe, IsTab}
 use Rattle.tab_serves.specs.Serving.{HasOnly, InPass, IsOfWalk, IsPassing, MayCause, show_why}
 use Rattle.tab_serves.proofs.Orders.{IsOrderOf}
 use Rattle.tab_sweeps.specs.Sweeping.{AreBlamed, HasOnlySwept, IsSweptTurn, NoneStray}
-use Rattle.tab_whole.specs.Tab.{IsTab}
 
 module _ (p : InPass) (out : List RowKind) (t : Tables) (pass : IsPassing p out t) (cause : Why) (so : IsOpen p.event t.running cause (now_of p.event out)) where
   abbrev s : Seen

@@ -17,7 +17,7 @@ use Rattle.tab_ids.specs.declared.StateId.{StateId}
 use Rattle.tab_drops.proofs.ForCallers.{stand_reached}
 use Rattle.tab_serves.proofs.Reached.{IsReachedAt, reached_at}
 use Rattle.tab_one_pass.specs.Passing.{KeepsAwake, LoadsAwake, LoadsLive}
-use Rattle.tab_whole.specs.Tab.{IsTab}
+use Rattle.tab_serves.specs.PassedOn.{IsTab}
 
 module _ (run : Option ReqId) (ids : List ReqId) (hand : List Made) (s : Seen) (tab : IsTab run ids hand s) where
   -- one that stands is awake

@@ -27,7 +27,7 @@ use Rattle.tab_serves.proofs.Calms.{only_as}
 use Rattle.tab_serves.specs.Serving.{HasOnly, IsServeFor}
 use Rattle.tab_serves.specs.PassedOn.{IsUpdateFor, length_index}
 use Rattle.tab_sweeps.specs.Sweeping.{HasOnlySwept, IsSweepOf}
-use Rattle.tab_serves.proofs.PassedOn.{over_each}
+pub use Rattle.tab_serves.proofs.PassedOn.{over_each}
 use Rattle.log_model.specs.declared.job.Task.TheVariants as tasks
 use Rattle.log_model.specs.declared.job.Why.TheVariants as whys
 use Rattle.log_model.specs.declared.request.Request.TheVariants as requests

@@ -19,12 +19,11 @@ use Rattle.tab_ids.specs.declared.ReqId.{ReqId}
 use Rattle.tab_ids.specs.declared.StateId.{StateId}
 use Rattle.tab_one_pass.specs.Passing.{IsOpen, TakersServe}
 use Rattle.tab_serves.proofs.Calms.{only_as}
-use Rattle.tab_serves.specs.PassedOn.{MayServe}
+use Rattle.tab_serves.specs.PassedOn.{MayServe, IsTab}
 use Rattle.tab_serves.specs.Serving.{HasOnly, InPass, IsOfWalk, MayCause, show_why}
 use Rattle.tab_serves.proofs.Orders.{IsOrderOf, parents_over, taken_over, ways_over, were_over}
 use Rattle.tab_sweeps.proofs.ForCallers.{moves_on}
 use Rattle.tab_sweeps.specs.Sweeping.{HasOnlySwept, IsSweepOf, IsSweptTurn, NoneStray}
-use Rattle.tab_whole.specs.Tab.{IsTab}
 use Rattle.walk_rows.proofs.Sinces.{places_since}
 use Rattle.walk_rows.specs.Since.{AwakeSince, IsVisitedInNeed}
 use Rattle.log_model.specs.declared.job.Why.TheVariants as whys

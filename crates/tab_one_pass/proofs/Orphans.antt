@@ -25,11 +25,10 @@ use Rattle.tab_ids.specs.declared.NavId.{NavId}
 use Rattle.tab_ids.specs.declared.ReqId.{ReqId}
 use Rattle.tab_ids.specs.declared.StateId.{StateId}
 use Rattle.tab_one_pass.specs.Passing.{BareAwake, HasGivenWay, HasSent, LeavesPass, SendsForStrays}
-use Rattle.tab_serves.specs.PassedOn.{HasOnlyTold}
+use Rattle.tab_serves.specs.PassedOn.{HasOnlyTold, IsTab}
 use Rattle.tab_serves.specs.Serving.{HasOnlyServed}
 use Rattle.tab_sweeps.proofs.Loads.{awake_unloaded, loaded_never, unloaded_by}
 use Rattle.tab_sweeps.specs.Sweeping.{HasOnlySwept, IsStray, IsSweepOf, NoneStray}
-use Rattle.tab_whole.specs.Tab.{IsTab}
 use Rattle.walk_facts.proofs.Placed.{found_nav}
 use Rattle.walk_rows.specs.Since.{WasAwake}
 use Rattle.log_model.specs.declared.row_kind.RowKind.TheVariants as rows

@@ -24,7 +24,7 @@ pub use Rattle.tab_serves.proofs.Reached.{IsReachedAt, reached_at}
 use Rattle.tab_sweeps.proofs.ForCallers.{needed}
 use Rattle.tab_sweeps.proofs.Loads.{awake_unloaded}
 use Rattle.tab_sweeps.specs.Sweeping.{IsOnStray, IsSweptTurn, NoneStray}
-use Rattle.tab_whole.specs.Tab.{IsTab}
+use Rattle.tab_serves.specs.PassedOn.{IsTab}
 use Rattle.walk_facts.specs.Serving.{is_needing}
 use Rattle.walk_facts.specs.Walking.{IsApart}
 use Rattle.walk_rows.proofs.Walks.{above_apart}

@@ -17,8 +17,7 @@ use Rattle.request_facts.proofs.Readers.{SameReads}
 use Rattle.seen_laws.specs.InEvent.{InEvent, now_of}
 use Rattle.std.specs.Map.{lookup}
 use Rattle.std.specs.Prelude.{List, None, Option, Some, [], false, is_some, true, ℕ, ◌++◌, ◌∷◌, ◌≡◌}
-use Rattle.tab_drops.specs.Dropping.{HasOnlyDestroyed}
-pub use Rattle.tab_drops.specs.Dropping.{AreUnheld, HasOnlyDroppedBy, IsBare, IsLoadOf, IsUnsettled, StandOrBare, StandOrMove}
+pub use Rattle.tab_drops.specs.Dropping.{AreUnheld, HasOnlyDestroyed, HasOnlyDroppedBy, IsBare, IsLoadOf, IsUnsettled, StandOrBare, StandOrMove}
 use Rattle.tab_ids.specs.declared.DocId.{DocId}
 use Rattle.tab_ids.specs.declared.NavId.{NavId}
 use Rattle.tab_ids.specs.declared.ReqId.{ReqId}
@@ -27,8 +26,7 @@ use Rattle.tab_serves.specs.Serving.{HasOnlyServed, HasWalked, IsSince}
 pub use Rattle.tab_serves.specs.PassedOn.{MayServe}
 pub use Rattle.tab_serves.specs.Serving.{MayCause, ParentsShown, show_why}
 use Rattle.tab_serves.specs.PassedOn.{HasOnlyTold}
-use Rattle.tab_sweeps.specs.Sweeping.{HasOnlySwept}
-pub use Rattle.tab_sweeps.specs.Sweeping.{IsStray}
+pub use Rattle.tab_sweeps.specs.Sweeping.{HasOnlySwept, IsStray}
 use Rattle.walk_rows.specs.Since.{AwakeSince, MovesVisited, WasAwake}
 use Rattle.log_model.specs.declared.row_kind.RowKind.TheVariants as rows
 

@@ -5,7 +5,7 @@ use Rattle.calm_facts.proofs.Calms.{calm_but}
 use Rattle.calm_facts.specs.Calm.{IsCalmYet}
 use Rattle.coord_facts.specs.Leading.{held_back}
 use Rattle.log_model.specs.History.{has_row}
-use Rattle.tab_begins.specs.Queueing.{IsCalmFor}
+use Rattle.tab_releases.specs.PassedOn.{HasRested, IsCalmFor, CameTo, HasQueue, IsAtRest, IsPassedOver, KeepsMade, MayFollow, Refused, Rests, Turn, Went}
 use Rattle.tab_ids.specs.declared.NavId.{NavId}
 use Rattle.log_model.specs.Seen.{Seen}
 use Rattle.log_model.specs.declared.job.Why.{Why}
@@ -13,8 +13,6 @@ use Rattle.log_model.specs.declared.row_kind.RowKind.{RowKind}
 use Rattle.move_queue.specs.Queue.{Queue}
 use Rattle.seen_laws.specs.InEvent.{now_of}
 use Rattle.std.proofs.Common.{List, None, Option, Some, [], ap, false, inl, inr, subst, sym, ◌∙◌, ◌≡◌}
-use Rattle.tab_begins.specs.Queueing.{HasRested}
-use Rattle.tab_releases.specs.PassedOn.{CameTo, HasQueue, IsAtRest, IsPassedOver, KeepsMade, MayFollow, Refused, Rests, Turn, Went}
 use Rattle.tab_ids.specs.declared.ReqId.{ReqId}
 use Rattle.tab_ids.specs.declared.StateId.{StateId}
 use Rattle.tab_rests.proofs.Rests.{rest_blamed, rest_loads, rest_open}
@@ -45,7 +43,7 @@ module _ (p : InPass) (out : List RowKind) (t : Tables) (queue : Queue) (blame :
           parked = parked ∙ at.queueing.parked ∙ ap (λ (l : List ReqId). held_back s.requests l) none_s ∙ ap (λ (l : List ReqId). held_back n.requests l) (sym none);
           held = λ runs. none;
           over = λ has. none;
-          releasing = λ some. absurd (some none);
+          releasing = λ some all. absurd (some none);
         }
 
     theirs_n : LoadsMadeOwn n

@@ -18,26 +18,29 @@ use Rattle.move_queue.specs.Queue.{Queue}
 use Rattle.owed_facts.specs.Owed.{IsLoose}
 use Rattle.seen_laws.proofs.InEvents.{now_more}
 use Rattle.seen_laws.specs.InEvent.{InEvent, now_of, row_of}
-use Rattle.std.proofs.Common.{Bool, List, None, Option, Some, [], ap, append-nil, arith, false, inl, length, map, refl, subst, sym, true, ◌++◌, ◌+◌, ◌∙◌, ◌∷◌, ◌≡◌}
+use Rattle.std.proofs.Common.{Bool, List, None, Option, Some, [], ap, append-nil, arith, false, inl, inr, length, map, refl, subst, sym, true, ◌++◌, ◌+◌, ◌∙◌, ◌∷◌, ◌≡◌, ◌≤◌, ◌⊎◌}
 use Rattle.std.proofs.lemmas.Bool.{and_parts, or_right}
 use Rattle.std.proofs.lemmas.List.Folds.{list_any-append}
 use Rattle.std.proofs.lemmas.List.{map-append}
 use Rattle.std.specs.List.{last_or, list_any}
 use Rattle.std.specs.Prelude.{is_some}
+use Rattle.tab_releases.specs.PassedOn.{IsOfTurn, HasEnded, HasPassed, HasQueue, MayHaveEnded, is_through, show_why}
 use Rattle.tab_turns.specs.Ending.{HasRested}
-use Rattle.tab_releases.specs.PassedOn.{HasEnded, HasPassed, HasQueue, MayHaveEnded, is_through, show_why}
 use Rattle.tab_releases.specs.Releasing.{EndsEach, HoldsParked, InPass, IsPassing, IsReleasing, IsTaking, IsTurning, KeepsRun, LoadsMadeOwn, MayBeFor, MayCause, Tables}
 use Rattle.tab_ids.specs.declared.ReqId.{ReqId}
 use Rattle.tab_ids.specs.declared.StateId.{StateId}
-use Rattle.tab_releases.proofs.Endings.{IsEnding, is_ending}
-use Rattle.tab_releases.proofs.Releases.{mades_same}
+pub use Rattle.tab_releases.proofs.Endings.{IsEnding, is_ending}
+pub use Rattle.tab_releases.proofs.Releases.{mades_same}
 use Rattle.tab_rests.proofs.Ended.{ended_loads, ended_passed, ended_queue, ended_stand, ended_strays}
-use Rattle.tab_rests.specs.Resting.{IsNoneDue}
-use Rattle.tab_begins.specs.Queueing.{HasGrown}
-use Rattle.tab_settles.proofs.Grown.{grown_then}
+pub use Rattle.tab_rests.specs.Resting.{IsNoneDue}
+use Rattle.asked_facts.specs.Asking.{ArePlain}
+use Rattle.hang_facts.specs.Members.{Has}
+use Rattle.log_model.specs.Points.{ends_in}
+use Rattle.std.specs.List.{cons_option, filter_map}
+use Rattle.tab_settles.proofs.Puts.{put_then, turn_put}
 use Rattle.tab_settles.proofs.Stood.{stood_taking, theirs_over}
 use Rattle.tab_rests.proofs.Rests.{rest_stand}
-use Rattle.tab_settles.specs.Settling.{HasSettled, IsCalmBefore, IsQueueing, IsReady, MayRelease}
+use Rattle.tab_settles.specs.Settling.{HasPut, HasSettled, IsCalmBefore, IsQueueing, IsReady, MayRelease}
 use Rattle.log_model.specs.declared.change.Change.TheVariants as changes
 use Rattle.log_model.specs.declared.row_kind.RowKind.TheVariants as rows
 
@@ -119,7 +122,7 @@ module _ (p : InPass) (out : List RowKind) (t : Tables) (queue : Queue) (blame :
 
   releasing_m : (y.parked ≡ [] → ⊥) → IsReleasing e mid
   releasing_m some =
-      (let may : MayRelease e out = at.queueing.releasing (λ none. some (ended.alone.parked ∙ none)) in record {
+      (let may : MayRelease e out = at.queueing.releasing (λ none. some (ended.alone.parked ∙ none)) stand_s in record {
         by_coord = may.by_coord;
         takes = may.takes;
         many = many_m ∙ may.many;
@@ -159,7 +162,7 @@ module _ (p : InPass) (out : List RowKind) (t : Tables) (queue : Queue) (blame :
           parked = empty ∙ ap (λ (l : List ReqId). held_back (now_of e new).requests l) (sym none);
           held = λ runs. none;
           over = λ has. none;
-          releasing = λ some. absurd (some none);
+          releasing = λ some all. absurd (some none);
         }
 
     pub ready_n : (why : Why) → why ≡ show_why last cause → IsReady p new u left noted why
@@ -179,10 +182,47 @@ module _ (p : InPass) (out : List RowKind) (t : Tables) (queue : Queue) (blame :
 
 -- ---- what was put out
 
+-- a row that ends a request is of a turn
+ends_turn : (e : InEvent) (kind : RowKind) (req : ReqId) → ends_in (row_of e kind) ≡ Some req → IsOfTurn kind
+ends_turn e (rows.Applied r change) req is = tt
+ends_turn e (rows.Refused r reason) req is = tt
+ends_turn e (rows.Dropped r cause) req is = tt
+ends_turn e (rows.Started r goal) req is = tt
+ends_turn e _ req is = absurd cc
+
+-- where as many requests end as there are rows, each row ends one
+each_ends : (e : InEvent) (more : List RowKind) → length (filter_map ends_in (map (row_of e) more)) ≡ length more → (row : RowKind) → Has more row → IsOfTurn row
+each_ends e [] long row never = absurd never
+each_ends e (kind ∷ more) long row has =
+    by_end (ends_in (row_of e kind)) refl long has (λ same has_. each_ends e more same row has_)
+  where
+    short : (l : List RowKind) → length (filter_map ends_in (map (row_of e) l)) ≤ length l
+    short [] = omega arith
+    short (x ∷ l) = by_one (ends_in (row_of e x)) (short l)
+      where
+        by_one : (o : Option ReqId) → length (filter_map ends_in (map (row_of e) l)) ≤ length l → length (cons_option o (filter_map ends_in (map (row_of e) l))) ≤ length (x ∷ l)
+        by_one None low = omega (arith, low)
+        by_one (Some r) low = omega (arith, low)
+
+    by_end : (o : Option ReqId) → ends_in (row_of e kind) ≡ o → length (cons_option o (filter_map ends_in (map (row_of e) more))) ≡ length (kind ∷ more) → (kind ≡ row) ⊎ Has more row → (length (filter_map ends_in (map (row_of e) more)) ≡ length more → Has more row → IsOfTurn row) → IsOfTurn row
+    by_end None is long_ has_ later = (let low = short more in absurd (omega (arith, low, long_)))
+    by_end (Some req) is long_ (inl same) later = subst IsOfTurn same (ends_turn e kind req is)
+    by_end (Some req) is long_ (inr has_) later =
+        later (let same : length (filter_map ends_in (map (row_of e) more)) ≡ length more = omega (arith, long_) in same) has_
+
 -- the traversal's row, and one for each request that was held back
-pub finish_grown : (e : InEvent) (out mid new : List RowKind) (t m : Tables) (reqs : List ReqId) → HasEnded e out mid t m → EndsEach e mid new reqs → HasGrown out new
-finish_grown e out mid new t m reqs ended each =
-    grown_then out mid new (record { more = rows.Applied ended.req (changes.Traverse (record { 0 = aim_of (now_of e out) })) ∷ []; is = ended.out }) (record { more = each.more; is = each.out })
+pub finish_put : (e : InEvent) (run : Option ReqId) (out mid new : List RowKind) (t m : Tables) (reqs : List ReqId) → ArePlain run (now_of e new) → HasEnded e out mid t m → EndsEach e mid new reqs → HasPut e out new
+finish_put e run out mid new t m reqs plain ended each =
+    put_then e run out mid new plain
+    (turn_put e out mid (record { more = kind ∷ []; is = ended.out; each = one_row }))
+    (turn_put e mid new (record { more = each.more; is = each.out; each = each_ends e each.more (ap (λ (l : List ReqId). length l) each.ends ∙ sym each.long) }))
+  where
+    kind : RowKind
+    kind = rows.Applied ended.req (changes.Traverse (record { 0 = aim_of (now_of e out) }))
+
+    one_row : (row : RowKind) → Has (kind ∷ []) row → IsOfTurn row
+    one_row row (inl is) = subst IsOfTurn is tt
+    one_row row (inr never) = absurd never
 
 -- ---- whether it ended
 

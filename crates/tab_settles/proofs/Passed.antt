@@ -1,30 +1,31 @@
 -- After a pass: the queue waits on, and what is held back is.
+use Rattle.log_model.specs.History.{History}
 use Rattle.coord_facts.proofs.Held.{held_alike}
 use Rattle.coord_facts.specs.Leading.{held_back}
 use Rattle.each_facts.proofs.Courses.{was_asked}
 use Rattle.frame_facts.specs.Lasting.{Wish, wish}
 use Rattle.log_model.specs.ActsAtOnce.{ends_told}
 use Rattle.log_model.specs.Equal.{has_req}
-use Rattle.log_model.specs.Places.{is_load}
+use Rattle.log_model.specs.Places.{is_load, aim_of, all_stand, all_stand_in}
 use Rattle.log_model.specs.Points.{nav_of_request}
 use Rattle.log_model.specs.Seen.{Seen}
 use Rattle.log_model.specs.declared.job.Why.{Why}
 use Rattle.log_model.specs.declared.row_kind.RowKind.{RowKind}
 use Rattle.move_queue.specs.Queue.{Queue}
 use Rattle.seen_laws.specs.InEvent.{now_of}
-use Rattle.std.proofs.Common.{List, None, Option, Some, ap, inl, inr, refl, subst, sym, true, ◌∙◌, ◌≡◌, ◌⊎◌}
-use Rattle.tab_releases.proofs.PassedOn.{queue_left, turning_passed}
+use Rattle.std.proofs.Common.{List, None, Option, Some, ap, inl, inr, refl, subst, sym, true, ◌∙◌, ◌≡◌, ◌⊎◌, Bool, false, ℕ}
+use Rattle.tab_releases.proofs.PassedOn.{queue_left, turning_passed, stand_awake}
 use Rattle.tab_releases.proofs.Releases.{IsByItsOwn, mades_same, queue_over}
-use Rattle.tab_begins.proofs.Turns.{stand_awake}
 use Rattle.tab_events.specs.Between.{AreSwept, orders_go}
 use Rattle.tab_releases.specs.PassedOn.{AreBlamed, AreLeftStrays, HasOnly, HasPassed, HasPutOut, HasQueue, KeepsStore, LeavesCalm, LeavesPass, LoadsLive, MayPass, SendsForStrays}
 use Rattle.tab_releases.specs.Releasing.{HoldsParked, InPass, IsPassing, LoadsMadeOwn, Tables}
 use Rattle.tab_ids.specs.declared.NavId.{NavId}
 use Rattle.tab_ids.specs.declared.ReqId.{ReqId}
 use Rattle.tab_ids.specs.declared.StateId.{StateId}
-use Rattle.tab_settles.proofs.PutOuts.{only_applies_none, only_leaves, put_only}
+use Rattle.tab_settles.proofs.PutOuts.{only_applies_none, only_leaves, put_only, KeepsOff, only_off}
 use Rattle.tab_settles.proofs.Sweeps.{swept_or}
-use Rattle.tab_settles.specs.Settling.{HasSettled, IsCalmAfter, IsCalmBefore, IsOrderOrDrop, IsQueueing, IsReady, LeavesPut, MayRelease}
+use Rattle.tab_settles.proofs.Puts.{pass_put, put_then}
+use Rattle.tab_settles.specs.Settling.{HasPut, HasSettled, IsCalmAfter, IsCalmBefore, IsOrderOrDrop, IsQueueing, IsReady, LeavesPut, MayRelease}
 use Rattle.walk_facts.specs.Serving.{AreServed}
 
 module _ (p : InPass) (out : List RowKind) (t : Tables) (queue : Queue) (blame : List (StateId × ReqId)) (cause : Why) (ready : IsReady p out t queue blame cause) where
@@ -69,6 +70,21 @@ module _ (p : InPass) (out : List RowKind) (t : Tables) (queue : Queue) (blame :
         let home = leaves.homes made.doc had.d had.found in
         (record { d = home.0; found = home.1; nav_is = ap (λ (w : Wish). nav_of_request w.what) (sym asked.2) ∙ had.nav_is ∙ ap (λ (x : NavId). Some x) (sym home.2) }, both.1)
 
+    -- where all stand, they did before the pass
+    stood_before : all_stand n (aim_of n) ≡ true → all_stand s (aim_of s) ≡ true
+    stood_before all = by_test (all_stand s (aim_of s)) refl
+      where
+        off : KeepsOff s n
+        off = only_off p.event out new put
+
+        by_test : (b : Bool) → all_stand s (aim_of s) ≡ b → b ≡ true
+        by_test true is = refl
+        by_test false is =
+            let unsettled : all_stand_in s.history.rows n.places (aim_of s) ≡ false = off.unsettled s.history.rows (aim_of s) is in
+            let same : all_stand n (aim_of n) ≡ all_stand_in s.history.rows n.places (aim_of s) = ap (λ (k : ℕ). all_stand n k) left.aim ∙ ap (λ (h : History). all_stand_in h.rows n.places (aim_of s)) left.history in
+            let never : false ≡ true = sym unsettled ∙ sym same ∙ all in
+            absurd cc
+
     queueing_then : IsQueueing p new u queue
     queueing_then =
         record {
@@ -77,7 +93,7 @@ module _ (p : InPass) (out : List RowKind) (t : Tables) (queue : Queue) (blame :
           parked = parked_then;
           held = λ none. left.parked ∙ ready.queueing.held (sym kept.running ∙ none);
           over = λ has. left.parked ∙ ready.queueing.over (sym (only_applies_none p.event out new put) ∙ has);
-          releasing = λ some. (let may : MayRelease p.event out = ready.queueing.releasing (λ none. some (left.parked ∙ none)) in record {
+          releasing = λ some all. (let may : MayRelease p.event out = ready.queueing.releasing (λ none. some (left.parked ∙ none)) (stood_before all) in record {
             by_coord = may.by_coord;
             takes = may.takes;
             many = leaves.many ∙ may.many;
@@ -126,3 +142,15 @@ module _ (p : InPass) (out : List RowKind) (t : Tables) (queue : Queue) (blame :
           theirs = theirs_then;
           queueing = queueing_then;
         }
+
+-- ---- what was put out
+
+-- by a pass
+pub pass_ready_put : (p : InPass) (out : List RowKind) (t : Tables) (queue : Queue) (blame : List (StateId × ReqId)) (cause : Why) → IsReady p out t queue blame cause → (new : List RowKind) (tells : Why) → HasPutOut p.event t.running cause tells out new → LeavesPass (now_of p.event out) (now_of p.event new) → HasPut p.event out new
+pass_ready_put p out t queue blame cause ready new tells only left =
+    pass_put p.event t.running cause tells out new only ready.passing.going.tab.asked ready.open_.may left.causes
+
+-- before, by a pass, and by a turn
+pub put_both : (p : InPass) (first out mid new : List RowKind) (u : Tables) → IsPassing p new u → HasPut p.event first out → HasPut p.event out mid → HasPut p.event mid new → HasPut p.event first new
+put_both p first out mid new u passing one two three =
+    put_then p.event u.running first out new passing.going.tab.asked one (put_then p.event u.running out mid new passing.going.tab.asked two three)

@@ -1,4 +1,7 @@
 -- What orders and drops leave, and so a pass: what requests ask and how many there are, and whose each document is; and none of them applies a traversal.
+use Rattle.owed_facts.proofs.Standing.{sent_eased}
+use Rattle.log_model.specs.declared.row.Row.{Row}
+use Rattle.log_model.specs.Places.{all_stand_in}
 use Rattle.coord_facts.proofs.Unread.{next}
 use Rattle.frame_facts.proofs.Orders.{wish_blind}
 use Rattle.frame_facts.specs.Lasting.{wish}
@@ -125,6 +128,35 @@ row_leaves s event actor (rows.Dropped req cause) is =
       homes = λ doc d found. (d, found, refl);
     }
 row_leaves s event actor row is = elim is [ ]
+
+-- ---- who doesn't stand
+
+-- where not all stood at a step, not all do then
+pub record KeepsOff (s t : Seen) : Type 0 where
+  pub unsettled : (rows_ : List Row) (step : ℕ) → all_stand_in rows_ s.places step ≡ false → all_stand_in rows_ t.places step ≡ false
+
+off_none : (s : Seen) → KeepsOff s s
+off_none s = record { unsettled = λ rows_ step off. off }
+
+off_then : (s t u : Seen) → KeepsOff s t → KeepsOff t u → KeepsOff s u
+off_then s t u first then_ = record { unsettled = λ rows_ step off. then_.unsettled rows_ step (first.unsettled rows_ step off) }
+
+row_off : (s : Seen) (event : ℕ) (actor : Actor) (row : RowKind) → IsOrderOrDrop row → KeepsOff s (next s event actor row)
+row_off s event actor (rows.Sent job) is = record { unsettled = (sent_eased s job job.task).unsettled }
+row_off s event actor (rows.Dropped req cause) is = record { unsettled = λ rows_ step off. off }
+row_off s event actor row is = elim is [ ]
+
+rows_off : (e : InEvent) (was more : List RowKind) → ((row : RowKind) → Has more row → IsOrderOrDrop row) → KeepsOff (now_of e was) (now_of e (was ++ more))
+rows_off e was [] each =
+    subst (λ (l : List RowKind). KeepsOff (now_of e was) (now_of e l)) (sym (append-nil was)) (off_none (now_of e was))
+rows_off e was (row ∷ more) each =
+    subst (λ (l : List RowKind). KeepsOff (now_of e was) (now_of e l)) (append_assoc was (row ∷ []) more)
+    (off_then (now_of e was) (now_of e (was ++ row ∷ [])) (now_of e ((was ++ row ∷ []) ++ more)) (subst (λ (s : Seen). KeepsOff (now_of e was) s) (sym (now_more e was row)) (row_off (now_of e was) e.event e.actor row (each row (inl refl))))
+    (rows_off e (was ++ row ∷ []) more (λ x there. each x (inr there))))
+
+pub only_off : (e : InEvent) (was out : List RowKind) → HasOnly IsOrderOrDrop was out → KeepsOff (now_of e was) (now_of e out)
+only_off e was out only =
+    subst (λ (l : List RowKind). KeepsOff (now_of e was) (now_of e l)) (sym only.is) (rows_off e was only.more only.each)
 
 -- ---- many
 

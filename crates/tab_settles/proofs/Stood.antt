@@ -2,7 +2,7 @@
 use Rattle.calm_facts.proofs.Calms.{calm_but, calm_rooted}
 use Rattle.calm_facts.specs.Calm.{CalmUnless, IsCalm, IsCalmYet}
 use Rattle.calm_facts.specs.Loads.{LoadsHaveDocuments}
-use Rattle.tab_begins.proofs.Turns.{stand_awake}
+use Rattle.tab_releases.proofs.PassedOn.{stand_awake, calm_unmoved}
 use Rattle.log_model.specs.History.{has_row}
 use Rattle.each_facts.proofs.Courses.{was_asked}
 use Rattle.frame_facts.specs.Lasting.{Wish, wish}
@@ -15,7 +15,6 @@ use Rattle.log_model.specs.declared.row_kind.RowKind.{RowKind}
 use Rattle.seen_laws.specs.InEvent.{now_of}
 use Rattle.std.proofs.Common.{List, None, Option, ap, false, subst, sym, true, ◌∙◌, ◌≡◌}
 use Rattle.calm_facts.proofs.Awakes.{calm_stood}
-use Rattle.tab_releases.proofs.PassedOn.{calm_unmoved}
 use Rattle.tab_releases.specs.Releasing.{InPass, IsPassing, IsTaking, LoadsMadeOwn, Tables}
 use Rattle.tab_ids.specs.declared.NavId.{NavId}
 use Rattle.tab_ids.specs.declared.ReqId.{ReqId}

@@ -18,10 +18,9 @@ use Rattle.tab_events.proofs.Ordered.{on_itself, one_more}
 use Rattle.tab_events.specs.Between.{AreSwept, has_order, orders_go}
 use Rattle.tab_ids.specs.declared.DocId.{DocId}
 use Rattle.tab_ids.specs.declared.ReqId.{ReqId}
-use Rattle.tab_releases.specs.PassedOn.{HasOnly, HasSent}
+use Rattle.tab_releases.specs.PassedOn.{HasOnly, HasSent, IsStray}
 use Rattle.tab_settles.specs.Settling.{IsOrderOrDrop}
-use Rattle.tab_sweeps.proofs.Loads.{of_load}
-use Rattle.tab_sweeps.specs.Sweeping.{IsStray}
+use Rattle.tab_releases.proofs.PassedOn.{of_load}
 use Rattle.log_model.specs.declared.row_kind.RowKind.TheVariants as rows
 
 -- ---- one row

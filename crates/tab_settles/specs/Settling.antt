@@ -1,21 +1,27 @@
 -- A tab with loads is brought to rest by one pass after the other, with a turn of the queue between two of them.
 -- HTML Standard, "apply the history step" and "session history traversal queue"; what is held back, and that all this goes by passes, is this project's own.
-use Rattle.tab_releases.specs.Releasing.{HoldsParked, InPass, IsPassing, IsTurning, LoadsMadeOwn, MayCause, Tables}
+use Rattle.log_model.specs.Places.{aim_of, all_stand}
+use Rattle.tab_releases.specs.Releasing.{InPass, IsPassing, LoadsMadeOwn, MayCause, Tables}
+pub use Rattle.tab_releases.specs.Releasing.{HoldsParked, IsTurning}
 use Rattle.calm_facts.specs.Calm.{AreRooted, IsCalm, IsCalmAround, IsCalmYet, UnmovedAreHere}
 use Rattle.frame_facts.specs.Lasting.{wish}
 use Rattle.frame_rows.specs.Lawful.{has_traversed, held_at_first}
+use Rattle.hang_facts.specs.Members.{Has}
+use Rattle.order_facts.specs.Orders.{IsOfCoord, AreOrders}
 use Rattle.frame_tab.specs.Asking.{NoneHeld}
 use Rattle.log_model.specs.ActsAtOnce.{ends_told}
 use Rattle.log_model.specs.Causes.{takes_report}
 use Rattle.log_model.specs.Equal.{has_req}
 use Rattle.log_model.specs.Seen.{Document, Seen, document_of}
+use Rattle.log_model.specs.declared.job.Job.{Job}
+use Rattle.log_model.specs.declared.job.Task.{Task}
 use Rattle.log_model.specs.declared.job.Why.{Why}
 use Rattle.log_model.specs.declared.row_kind.RowKind.{RowKind}
 use Rattle.move_queue.specs.Queue.{Queue}
 use Rattle.move_queue.specs.declared.queue_step.QueueStep.{QueueStep}
 use Rattle.request_facts.proofs.Readers.{SameReads}
 use Rattle.seen_laws.specs.InEvent.{InEvent, now_of}
-use Rattle.std.specs.Prelude.{List, None, Option, Some, [], length, true, ℕ, ◌+◌, ◌≡◌, ◌⊎◌}
+use Rattle.std.specs.Prelude.{List, None, Option, Some, [], length, true, ℕ, ◌++◌, ◌+◌, ◌≡◌, ◌⊎◌}
 use Rattle.tab_releases.specs.PassedOn.{AreBlamed, AreLeftStrays, HasPassed, HasQueue, IsOpen, LoadsLive, MayStand, show_why}
 use Rattle.tab_events.specs.Between.{AreSwept, orders_go}
 use Rattle.tab_ids.specs.declared.DocId.{DocId}
@@ -24,6 +30,7 @@ use Rattle.tab_ids.specs.declared.ReqId.{ReqId}
 use Rattle.tab_ids.specs.declared.StateId.{StateId}
 use Rattle.tab_settles.specs.declared.reasons.Reasons.{Reasons}
 use Rattle.walk_facts.specs.Serving.{AreServed}
+use Rattle.log_model.specs.declared.job.Task.TheVariants as tasks
 use Rattle.log_model.specs.declared.row_kind.Actor.TheVariants as actors
 use Rattle.log_model.specs.declared.row_kind.RowKind.TheVariants as rows
 
@@ -51,6 +58,22 @@ pub record LeavesPut (s t : Seen) : Type 0 where
   pub wishes : SameReads wish s.requests t.requests
   pub homes : (doc : DocId) (d : Document) → document_of s doc ≡ Some d → (new : Document) × (document_of t doc ≡ Some new) × (new.nav ≡ d.nav)
 
+-- the order makes a document
+abbrev pub IsMake : Task → Type 0
+IsMake (tasks.Populate nav state address initial) = Unit {0}
+IsMake _ = ⊥
+
+-- rows of a coordinator were put out, behind those that were there; and each order among them that makes a document is for what orders may be for
+pub record HasPut (e : InEvent) (was out : List RowKind) : Type 0 where
+  pub more : List RowKind
+  pub is : out ≡ was ++ more
+  pub each : (row : RowKind) → Has more row → IsOfCoord row
+  pub makes : (job : Job) → Has more (rows.Sent job) → IsMake job.task → MayCause (now_of e out) job.why
+
+-- each order on its way that makes a document, or of which a report tells, is for what orders may be for
+abbrev pub MakesServe : Seen → Type 0
+MakesServe s = AreOrders (λ (job : Job). IsMake job.task → MayCause s job.why) s
+
 -- ---- the queue, and what is held back
 
 -- the event takes a report and accepts no request, and what is held back was so before the event began; so it may be taken up once a traversal has ended
@@ -60,14 +83,14 @@ pub record MayRelease (e : InEvent) (out : List RowKind) : Type 0 where
   pub many : length (now_of e out).requests ≡ length e.start.requests
   pub old : (req : ReqId) → has_req (now_of e out).parked req ≡ true → (has_req (held_at_first e) req ≡ true) × (has_req e.start.parked req ≡ true)
 
--- the queue has what waits and what is held back; nothing is where no traversal runs, or once one has ended in the event
+-- the queue has what waits and what is held back; nothing is where no traversal runs, or once one has ended in the event; and what is may be taken up, where all stand at the aim
 pub record IsQueueing (p : InPass) (out : List RowKind) (t : Tables) (queue : Queue) : Type 0 where
   pub turning : IsTurning p.event out
   pub queued : HasQueue (now_of p.event out) t.running queue.waiting
   pub parked : HoldsParked (now_of p.event out) queue.parked
   pub held : NoneHeld t.running (now_of p.event out)
   pub over : has_traversed p.event out ≡ true → (now_of p.event out).parked ≡ []
-  pub releasing : ((now_of p.event out).parked ≡ [] → ⊥) → MayRelease p.event out
+  pub releasing : ((now_of p.event out).parked ≡ [] → ⊥) → all_stand (now_of p.event out) (aim_of (now_of p.event out)) ≡ true → MayRelease p.event out
 
 -- how many turns are left at most: one that begins and one that ends for each step that waits, and the end of the one that runs
 abbrev pub turns_left : Option ReqId → List QueueStep → ℕ

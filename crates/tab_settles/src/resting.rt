@@ -1,10 +1,9 @@
 //! One pass after the other, until nothing is due.
 ghost use Rattle.std.specs.Prelude.{◌≡◌, OnOk};
 ghost use Rattle.seen_laws.specs.InEvent.{now_of};
-ghost use Rattle.tab_begins.specs.Queueing.{HasGrown};
 ghost use Rattle.tab_releases.specs.Releasing.{InPass};
 ghost use Rattle.tab_rests.specs.Resting.{IsNoneDue};
-ghost use Rattle.tab_settles.specs.Settling.{HasSettled, IsReady};
+ghost use Rattle.tab_settles.specs.Settling.{HasPut, HasSettled, IsReady};
 
 use crate::reasons::Reasons;
 use crate::turning::take_turn;
@@ -32,7 +31,7 @@ pub fn settle(
     requires ready { IsReady p out.old tables.old queue.old blame.old.entries reasons.old.cause }
     ensures settled { OnOk result (HasSettled p out.new tables.new queue.new blame.new.entries reasons.new.cause) }
     ensures due { OnOk result (IsNoneDue (now_of p.event out.new) tables.new.running queue.new.waiting) }
-    ensures grown { OnOk result (HasGrown out.old out.new) }
+    ensures put { OnOk result (HasPut p.event out.old out.new) }
     ensures handled { OnOk result (reasons.new.handled ≡ reasons.old.handled) }
 {
     'passes: loop {

@@ -1,10 +1,9 @@
 //! One turn of the queue: the traversal that runs ends, or the next step has its turn.
 ghost use Rattle.std.specs.Prelude.{◌≡◌, ◌<◌, IfOk, None, OnOk, false, is_some, true};
 ghost use Rattle.seen_laws.specs.InEvent.{now_of};
-ghost use Rattle.tab_begins.specs.Queueing.{HasGrown};
 ghost use Rattle.tab_releases.specs.Releasing.{InPass};
 ghost use Rattle.tab_rests.specs.Resting.{IsNoneDue};
-ghost use Rattle.tab_settles.specs.Settling.{HasSettled, IsReady, turns_left};
+ghost use Rattle.tab_settles.specs.Settling.{HasPut, HasSettled, IsReady, turns_left};
 
 use crate::reasons::Reasons;
 use address::OutOfMemory;
@@ -34,7 +33,7 @@ fn finish(
     ensures fewer { IfOk result (λ ended. ended ≡ true → turns_left tables.new.running queue.new.waiting < turns_left tables.old.running queue.old.waiting) }
     ensures rested { IfOk result (λ ended. ended ≡ false → HasSettled p out.new tables.new queue.new blame.new.entries reasons.new.cause) }
     ensures due { IfOk result (λ ended. ended ≡ false → IsNoneDue (now_of p.event out.new) tables.new.running queue.new.waiting) }
-    ensures grown { OnOk result (HasGrown out.old out.new) }
+    ensures put { OnOk result (HasPut p.event out.old out.new) }
     ensures handled { reasons.new.handled ≡ reasons.old.handled }
 {
     let running = tables.running;
@@ -63,7 +62,7 @@ fn begin(
     ensures fewer { IfOk result (λ did. did ≡ true → turns_left tables.new.running queue.new.waiting < turns_left tables.old.running queue.old.waiting) }
     ensures rested { IfOk result (λ did. did ≡ false → HasSettled p out.new tables.new queue.new blame.new.entries reasons.new.cause) }
     ensures due { IfOk result (λ did. did ≡ false → IsNoneDue (now_of p.event out.new) tables.new.running queue.new.waiting) }
-    ensures grown { OnOk result (HasGrown out.old out.new) }
+    ensures put { OnOk result (HasPut p.event out.old out.new) }
     ensures handled { reasons.new.handled ≡ reasons.old.handled }
 {
     match begin_next(alloc, tables, queue, blame, out)? {
@@ -94,7 +93,7 @@ pub(crate) fn take_turn(
     ensures fewer { IfOk result (λ did. did ≡ true → turns_left tables.new.running queue.new.waiting < turns_left tables.old.running queue.old.waiting) }
     ensures rested { IfOk result (λ did. did ≡ false → HasSettled p out.new tables.new queue.new blame.new.entries reasons.new.cause) }
     ensures due { IfOk result (λ did. did ≡ false → IsNoneDue (now_of p.event out.new) tables.new.running queue.new.waiting) }
-    ensures grown { OnOk result (HasGrown out.old out.new) }
+    ensures put { OnOk result (HasPut p.event out.old out.new) }
     ensures handled { reasons.new.handled ≡ reasons.old.handled }
 {
     if tables.running.is_some() {

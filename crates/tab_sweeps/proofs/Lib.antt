@@ -3,10 +3,13 @@ pub mod Loads
 pub mod Bares
 pub mod Unders
 pub mod Founds
+pub mod Theres
 pub mod Sends
+pub mod Discards
 pub mod Gones
 pub mod Courses
 pub mod Steps
+pub mod Unneededs
 pub mod Swepts
 pub mod Listings
 pub mod ForCallers

@@ -2,34 +2,21 @@
 use Rattle.frame_rows.proofs.Discards.{discard_may}
 use Rattle.frame_rows.specs.Discarding.{IsDiscardDue, SettlesNone}
 use Rattle.hang_facts.proofs.Hung.{places_distinct}
-use Rattle.hang_facts.proofs.Members.{has_map}
 use Rattle.hang_facts.specs.AsPlaces.{AreDistinct}
-use Rattle.hang_facts.specs.Members.{Has}
-use Rattle.kept_facts.proofs.States.{AreOfOwnStates, sole_states}
-use Rattle.leave_rows.proofs.Unasked.{all_answered}
 use Rattle.log_model.specs.Checks.{may_go_on}
 use Rattle.log_model.specs.History.{has_state}
 use Rattle.log_model.specs.Orders.{ongoing_load}
-use Rattle.log_model.specs.Places.{all_asked}
-use Rattle.log_model.specs.Seen.{Asked, Document, Seen, desk_of, document_of, request_of}
+use Rattle.log_model.specs.Seen.{Asked, Document, Seen, desk_of, request_of}
 use Rattle.log_model.specs.declared.job.Job.{Job}
-use Rattle.log_model.specs.declared.row_kind.LogRow.{LogRow}
 use Rattle.log_model.specs.declared.row_kind.RowKind.{RowKind}
 use Rattle.nav_tree.specs.Tree.{is_state, state_of}
-use Rattle.owed_facts.specs.Owed.{AreUnasked}
-use Rattle.rest_facts.proofs.Stands.{all_requests}
-use Rattle.rest_facts.proofs.Still.{found_itself}
 use Rattle.seen_laws.proofs.InEvents.{led_here}
 use Rattle.seen_laws.specs.InEvent.{InEvent, here_of, now_of, row_of}
-use Rattle.std.proofs.Common.{List, None, Option, Some, ap, arith, false, inr, map, refl, subst, sym, true, ℕ, ◌==◌, ◌∙◌, ◌≡◌}
-use Rattle.std.proofs.lemmas.Bool.Decides.{nat_tests}
+use Rattle.std.proofs.Common.{List, None, Option, Some, ap, false, inr, refl, subst, sym, true, ◌∙◌, ◌≡◌}
 use Rattle.std.specs.Map.{lookup}
-use Rattle.std.specs.Prelude.{find}
-use Rattle.tab_doors.proofs.Sights.{sight_of}
 use Rattle.tab_doors.proofs.Whose.{proc_found}
 use Rattle.tab_doors.proofs.Works.{numbered}
 use Rattle.tab_doors.specs.Keeping.{Move}
-use Rattle.tab_doors.specs.Look.{Sight, sight}
 use Rattle.tab_doors.specs.Orders.{order_to, proc_at}
 use Rattle.tab_doors.specs.Working.{IsAtWorkFor, MaySend}
 use Rattle.tab_doors.specs.declared.tables.Tables.{Tables}
@@ -37,12 +24,11 @@ use Rattle.tab_ids.specs.declared.DocId.{DocId}
 use Rattle.tab_ids.specs.declared.ReqId.{ReqId}
 use Rattle.tab_ids.specs.declared.StateId.{StateId}
 use Rattle.tab_passes.proofs.Goings.{none_to_begin}
-use Rattle.tab_passes.proofs.Lives.{listed_at}
 use Rattle.tab_passes.specs.Causes.{MayCause, MayServe}
-use Rattle.tab_passes.specs.Leaving.{IsGoneAt, MayLeave}
+use Rattle.tab_passes.specs.Leaving.{MayLeave}
 use Rattle.tab_passes.specs.Passing.{InPass}
-use Rattle.tab_sweeps.proofs.Founds.{here_for, stray_lives}
-use Rattle.tab_sweeps.proofs.Loads.{table_unloaded}
+use Rattle.tab_sweeps.proofs.Founds.{here_for}
+use Rattle.tab_sweeps.proofs.Theres.{settles_none, stray_unknown}
 use Rattle.tab_sweeps.proofs.Unders.{moves_sleepers}
 use Rattle.tab_sweeps.specs.Sweeping.{IsBlamed, IsStray, MovesUnder}
 use Rattle.tab_sweeps.specs.Turns.{IsAnyStray, IsSweeping}
@@ -57,11 +43,11 @@ stray_ahead e out t doc d by r work due known settles later ahead =
     discard_may (here_of e out) e.event e.actor (order_to (here_of e out).now doc (whys.Req by) tasks.Discard) d by r (led_here e out work.own) (numbered (here_of e out).now (proc_at (here_of e out).now doc) doc (whys.Req by) tasks.Discard known) due settles later tt
 
 -- a request for which an order may be sent is there
-record IsAsked (s : Seen) (req : ReqId) : Type 0 where
-  q : Asked
-  at : request_of s req ≡ Some q
+pub record IsAsked (s : Seen) (req : ReqId) : Type 0 where
+  pub q : Asked
+  pub at : request_of s req ≡ Some q
 
-is_asked : (s : Seen) (req : ReqId) → MayServe s req → IsAsked s req
+pub is_asked : (s : Seen) (req : ReqId) → MayServe s req → IsAsked s req
 is_asked s req may = by_found (request_of s req) refl
   where
     by_found : (o : Option Asked) → request_of s req ≡ o → IsAsked s req
@@ -100,9 +86,6 @@ module _ (p : InPass) (blame : List (StateId × ReqId)) {docs : List DocId} (out
     distinct : AreDistinct s.places
     distinct = places_distinct s so.leaving.going.tab.sound so.leaving.going.tab.hangs
 
-    unasked : AreUnasked s
-    unasked r q at = (so.leaving.going.tab.asked.each r q at).unasked
-
     pub sweep_leaves : MayLeave s doc (whys.Req req)
     sweep_leaves =
         record {
@@ -113,19 +96,13 @@ module _ (p : InPass) (blame : List (StateId × ReqId)) {docs : List DocId} (out
           begun = inr (none_to_begin s (whys.Req req) may_cause);
         }
 
-    unknown : stray.document.is_known_dead ≡ false
-    unknown = (so.leaving.going.tab.docs.each doc stray.document stray.found).live.unknown
-
-    settles : (row : LogRow) → SettlesNone s row
-    settles row = all_answered s row (all_requests s.requests (all_asked s) (λ r q at. rw (unasked r q at) refl))
-
     pub sweep_sends : MaySend None p.event out (order_to s doc (whys.Req req) tasks.Discard)
     sweep_sends =
         let asked = is_asked s req may_serve in
         stray_ahead p.event out t doc stray.document req asked.q so.leaving.work
         (record {
           task = refl;
-          to = record { found = stray.found; proc = sym (proc_found s doc stray.document stray.found); alive = rw (stray.undiscarded, unknown) refl };
+          to = record { found = stray.found; proc = sym (proc_found s doc stray.document stray.found); alive = rw (stray.undiscarded, stray_unknown p out t so.leaving doc state stray) refl };
           gone = ap (λ (x : StateId). has_state x s.history.rows) stray.its_state ∙ stray.bare;
           unloaded = ap (λ (x : StateId). ongoing_load s x) stray.its_state ∙ stray.unloaded;
           unhandled = (so.leaving.going.tab.docs.each doc stray.document stray.found).live.slot;
@@ -133,34 +110,4 @@ module _ (p : InPass) (blame : List (StateId × ReqId)) {docs : List DocId} (out
           there = asked.at;
         })
         (so.leaving.going.tab.asked.died (proc_at s doc)).0
-        (settles (row_of p.event (rows.Sent discard)))
-
-    pub sweep_gone : IsGoneAt s t.tree t.loads doc state
-    sweep_gone =
-        record {
-          document = stray.document;
-          found = stray.found;
-          its_state = own;
-          ready = stray.ready;
-          its = listed_at (map sight s.documents) t so.leaving.work.holds.documents doc (sight stray.document) (sight_of s doc stray.document stray.found) state (stray_lives p None out t so.leaving doc state stray);
-          unloaded = table_unloaded s t.loads so.leaving.work.loads state stray.unloaded;
-        }
-      where
-        own : (x : Sight) → Has (map sight s.documents) x → (x.nr.0 == doc.0) ≡ true → x.state ≡ state
-        own x there same =
-            let of_ = has_map sight s.documents x there in
-            let first : of_.it.nr.0 ≡ x.nr.0 = ap (λ (y : Sight). y.nr.0) of_.is in
-            let second : x.nr.0 ≡ doc.0 = grind (arith, nat_tests, same) in
-            let at : document_of s doc ≡ Some of_.it = subst (λ (n : ℕ). find (λ (y : Document). y.nr.0 == n) s.documents ≡ Some of_.it) (first ∙ second) (found_itself s.documents of_.it so.leaving.going.tab.whose.numbered of_.there) in
-            let two : Some of_.it ≡ Some stray.document = sym at ∙ stray.found in
-            let one : of_.it ≡ stray.document = cc in
-            ap (λ (y : Sight). y.state) (sym of_.is) ∙ ap (λ (y : Document). y.state) one ∙ stray.its_state
-
-    pub sweep_own : AreOfOwnStates s.documents s.kept doc state
-    sweep_own =
-        subst (λ (x : StateId). AreOfOwnStates s.documents s.kept doc x) stray.its_state
-        (sole_states s doc stray.document so.leaving.going.tab.kept (record {
-          found = stray.found;
-          only = λ other o there same undiscarded.
-              ap (λ (n : DocId). n.0) (so.leaving.going.tab.docs.sole other doc o stray.document there stray.found (ap (λ (n : ℕ). let x : StateId = record { 0 = n } in x) same) undiscarded stray.undiscarded);
-        }))
+        (settles_none p out t so.leaving doc state stray (row_of p.event (rows.Sent discard)))

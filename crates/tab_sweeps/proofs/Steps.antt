@@ -20,8 +20,10 @@ use Rattle.tab_passes.specs.Leaving.{IsGoneAt, IsLeaving, MayLeave, left_then}
 use Rattle.tab_passes.specs.Passing.{InPass}
 use Rattle.tab_sweeps.proofs.Courses.{sweep_next}
 use Rattle.tab_sweeps.proofs.Founds.{stray_listed}
-use Rattle.tab_sweeps.proofs.Gones.{swept_next, swept_one, swept_turn}
-use Rattle.tab_sweeps.proofs.Sends.{its_stray, sweep_gone, sweep_leaves, sweep_own, sweep_sends}
+use Rattle.tab_sweeps.proofs.Discards.{swept_turn}
+use Rattle.tab_sweeps.proofs.Gones.{swept_next, swept_one}
+use Rattle.tab_sweeps.proofs.Sends.{its_stray, sweep_leaves, sweep_sends}
+use Rattle.tab_sweeps.proofs.Theres.{stray_gone, stray_own}
 use Rattle.tab_sweeps.specs.Sweeping.{IsStray, IsSweptTurn}
 use Rattle.tab_sweeps.specs.Turns.{HasSweptEach, HasSweptNext, IsAnyStray, IsSweeping, IsSweepingAt}
 use Rattle.log_model.specs.declared.job.Task.TheVariants as tasks
@@ -59,10 +61,10 @@ module _ (p : InPass) (blame : List (StateId × ReqId)) (docs : List DocId) (i :
       step_sends = sweep_sends p blame out t here doc state stray req noted
 
       pub step_gone : IsGoneAt s t.tree t.loads doc state
-      step_gone = sweep_gone p blame out t here doc state stray req noted
+      step_gone = stray_gone p out t here.leaving doc state stray
 
       pub step_own : AreOfOwnStates s.documents s.kept doc state
-      step_own = sweep_own p blame out t here doc state stray req noted
+      step_own = stray_own p out t here.leaving doc state stray
 
       module _ (new : List RowKind) (u : Tables) (made : new ≡ out ++ rows.Sent (order_to s doc (whys.Req req) tasks.Discard) ∷ []) (keeps : KeepsStore t u) (leaving_ : IsLeaving p None (left_then s doc (drop i docs)) new u) where
         left : IsLeaving p None (left_then s doc (doc ∷ drop (i + 1) docs)) new u
@@ -72,7 +74,7 @@ module _ (p : InPass) (blame : List (StateId × ReqId)) (docs : List DocId) (i :
         step_next = swept_next p blame doc rest out t here state stray req noted new u made keeps left
 
         pub step_turn : IsSweptTurn s (now_of p.event new)
-        step_turn = swept_turn p blame doc rest out t here state stray req noted new u made keeps left
+        step_turn = swept_turn p out t here.leaving doc state stray (whys.Req req) new u made left
 
         pub step_only : HasSweptNext s blame docs i out new
         step_only d its =

@@ -1,2 +1,3 @@
 pub mod Sweeping
 pub mod Turns
+pub mod Unneeded

@@ -3,5 +3,7 @@
 
 mod strays;
 mod sweeping;
+mod unneeded;
 
 pub use sweeping::sweep;
+pub use unneeded::discard_unneeded;

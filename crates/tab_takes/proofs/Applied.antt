@@ -15,9 +15,8 @@ use Rattle.left_facts.proofs.Rows.{were_shown}
 use Rattle.log_model.specs.Places.{aim_of, is_moved}
 use Rattle.mover_facts.specs.Movers.{IsMovedBy}
 use Rattle.tab_doors.specs.Working.{HasGoal}
-use Rattle.tab_begins.proofs.Afters.{MayServe, ParentsShown, TakersServe, aim_is}
-use Rattle.tab_begins.specs.PassedOn.{InPass, IsPassing, aim_in}
-use Rattle.tab_one_pass.specs.Passing.{KeepsAwake}
+use Rattle.tab_begins.proofs.Afters.{KeepsAwake, MayServe, ParentsShown, TakersServe, aim_is}
+use Rattle.tab_begins.specs.PassedOn.{InPass, IsPassing, aim_in, IsGoing, IsTab}
 use Rattle.walk_rows.proofs.Moved.{applied_moved, open_none}
 use Rattle.log_model.proofs.Refl.{nat_eq_refl}
 use Rattle.log_model.specs.After.{ended}
@@ -49,7 +48,6 @@ use Rattle.tab_begins.specs.Queueing.{AreBlamed, IsOpen, LeavesQueue, LoadsLive,
 use Rattle.tab_doors.specs.Working.{IsAtWork, KeepsRun}
 use Rattle.tab_doors.specs.declared.tables.Tables.{Tables}
 use Rattle.tab_begins.specs.Taking.{IsLoadOf}
-use Rattle.tab_going.specs.Going.{IsGoing}
 use Rattle.tab_ids.specs.declared.DocId.{DocId}
 use Rattle.tab_ids.specs.declared.NavId.{NavId}
 use Rattle.tab_ids.specs.declared.ReqId.{ReqId}
@@ -60,7 +58,6 @@ use Rattle.tab_takes.proofs.Opens.{open_then}
 use Rattle.tab_takes.proofs.Verdicts.{s, tab}
 use Rattle.tab_takes.proofs.Where.{joined_same}
 use Rattle.tab_takes.specs.Taking.{HasTaken, IsTaking, IsToTake}
-use Rattle.tab_whole.specs.Tab.{IsTab}
 use Rattle.walk_rows.proofs.Sinces.{applied_since, since_itself}
 use Rattle.log_model.specs.declared.job.Why.TheVariants as whys
 use Rattle.log_model.specs.declared.outcome.Ending.TheVariants as endings

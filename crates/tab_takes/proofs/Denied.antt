@@ -24,20 +24,17 @@ use Rattle.tab_begins.specs.Queueing.{LeavesQueue, MayCause}
 use Rattle.tab_doors.specs.Dues.{IsDenyDue}
 use Rattle.tab_doors.specs.Working.{IsAtWork, KeepsRun}
 use Rattle.tab_doors.specs.declared.tables.Tables.{Tables}
-use Rattle.tab_going.proofs.Rows.{refused_going}
-use Rattle.tab_going.specs.Going.{IsGoing}
+pub use Rattle.tab_begins.proofs.PassedOn.{refused_going}
+use Rattle.tab_begins.specs.PassedOn.{IsGoing, IsTab, InPass, IsPassing}
 use Rattle.tab_ids.specs.declared.DocId.{DocId}
 use Rattle.tab_ids.specs.declared.ReqId.{ReqId}
 use Rattle.tab_ids.specs.declared.StateId.{StateId}
-use Rattle.tab_begins.specs.PassedOn.{InPass, IsPassing}
 use Rattle.tab_takes.proofs.Sorts.{denied_poke}
 use Rattle.tab_takes.proofs.Leaving.{cause_then, queue_then, taking_then}
 use Rattle.tab_takes.proofs.Verdicts.{s, tab}
 use Rattle.tab_takes.proofs.Where.{loads_same, made_at_hand}
 use Rattle.tab_takes.specs.Taking.{HasTaken, IsTaking, IsToTake}
-use Rattle.tab_whole.proofs.Denying.{denied_tab}
-use Rattle.tab_whole.proofs.Ending.{IsNoProcess}
-use Rattle.tab_whole.specs.Tab.{IsTab}
+use Rattle.tab_begins.proofs.PassedOn.{IsNoProcess, denied_tab}
 use Rattle.walk_rows.proofs.Moved.{refused_moved}
 use Rattle.log_model.specs.declared.job.Why.TheVariants as whys
 use Rattle.log_model.specs.declared.outcome.Ending.TheVariants as endings

@@ -43,19 +43,16 @@ use Rattle.tab_doors.specs.Dues.{IsDestroyDue, IsDropDue}
 use Rattle.tab_doors.specs.Keeping.{IsNoLoad}
 use Rattle.tab_doors.specs.Working.{IsAtWork, KeepsRun}
 use Rattle.tab_doors.specs.declared.tables.Tables.{Tables}
-use Rattle.tab_going.proofs.Rows.{dropped_going}
-use Rattle.tab_going.specs.Going.{IsGoing}
+use Rattle.tab_begins.proofs.PassedOn.{absent_tab, bare_tab, dropped_going}
+use Rattle.tab_begins.specs.PassedOn.{IsGoing, IsTab, InPass, IsPassing}
 use Rattle.tab_ids.specs.declared.Death.{Death}
 use Rattle.tab_ids.specs.declared.DocId.{DocId}
 use Rattle.tab_ids.specs.declared.ReqId.{ReqId}
 use Rattle.tab_ids.specs.declared.StateId.{StateId}
-use Rattle.tab_begins.specs.PassedOn.{InPass, IsPassing}
 use Rattle.tab_takes.proofs.Leaving.{cause_then, queue_then, taking_then}
 use Rattle.tab_takes.proofs.Verdicts.{IsOfIt, current, its, s, tab}
 use Rattle.tab_takes.proofs.Where.{loads_same, made_at_hand, no_load}
 use Rattle.tab_takes.specs.Taking.{HasTaken, IsTaking, IsToTake}
-use Rattle.tab_whole.proofs.Denying.{absent_tab, bare_tab}
-use Rattle.tab_whole.specs.Tab.{IsTab}
 use Rattle.walk_rows.proofs.Moved.{dropped_moved}
 use Rattle.log_model.specs.declared.job.Why.TheVariants as whys
 use Rattle.log_model.specs.declared.outcome.Cause.TheVariants as drops

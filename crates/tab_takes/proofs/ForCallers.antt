@@ -17,7 +17,7 @@ use Rattle.tab_ids.specs.declared.DocId.{DocId}
 use Rattle.tab_ids.specs.declared.NavId.{NavId}
 use Rattle.tab_ids.specs.declared.ReqId.{ReqId}
 use Rattle.tab_takes.specs.Taking.{ArrivedWhere, IsArrived, LoadsArrived}
-use Rattle.tab_whole.specs.Tab.{IsTab}
+use Rattle.tab_begins.specs.PassedOn.{IsTab}
 use Rattle.walk_facts.proofs.Placed.{found_nav}
 
 -- each of these passes

@@ -42,14 +42,13 @@ use Rattle.tab_ids.specs.declared.NavId.{NavId}
 use Rattle.tab_ids.specs.declared.ReqId.{ReqId}
 use Rattle.tab_ids.specs.declared.StateId.{StateId}
 use Rattle.tab_begins.proofs.Afters.{MayServe, ParentsShown, TakersServe, goes_on}
-use Rattle.tab_begins.specs.PassedOn.{InPass}
+use Rattle.tab_begins.specs.PassedOn.{InPass, IsTab}
 use Rattle.tab_begins.proofs.Strays.{IsBlamed}
 use Rattle.tab_takes.proofs.Ended.{load_back, look_back, ready_back, unloaded_back}
 use Rattle.tab_takes.proofs.Opens.{new_of, open_then}
 use Rattle.tab_takes.proofs.Verdicts.{s, tab}
 use Rattle.tab_takes.proofs.Where.{joined_same}
 use Rattle.tab_takes.specs.Taking.{IsTaking, IsToTake}
-use Rattle.tab_whole.specs.Tab.{IsTab}
 use Rattle.walk_rows.proofs.Sinces.{places_since, since_itself}
 use Rattle.log_model.specs.declared.job.Why.TheVariants as whys
 

@@ -26,13 +26,12 @@ use Rattle.tab_ids.specs.declared.StateId.{StateId}
 use Rattle.tab_begins.proofs.Strays.{EntriesAreNoted, IsBlamed, IsStray, entered_in, held, in_table, leaving_none, listed_here}
 use Rattle.tab_begins.proofs.Afters.{MayServe, ParentsShown, TakersServe}
 use Rattle.tab_begins.specs.Queueing.{AreBlamed, IsOpen, MayStand}
-use Rattle.tab_begins.specs.PassedOn.{InPass}
+use Rattle.tab_begins.specs.PassedOn.{InPass, IsTab}
 use Rattle.tab_takes.proofs.Applied.{causes, loads_back, moved_on, moved_same, n as after_change, serves, stray_unloaded}
 use Rattle.tab_takes.proofs.Stays.{but_given, reached_same, shown_same, visited_on, way_rows}
 use Rattle.tab_takes.proofs.Verdicts.{s as before_change, tab}
 use Rattle.tab_takes.proofs.Ways.{IsTargetOf}
 use Rattle.tab_takes.specs.Taking.{IsToTake}
-use Rattle.tab_whole.specs.Tab.{IsTab}
 use Rattle.walk_facts.proofs.Placed.{found_nav}
 use Rattle.log_model.specs.declared.job.Why.TheVariants as whys
 

@@ -14,7 +14,7 @@ use Rattle.tab_ids.specs.declared.NavId.{NavId}
 use Rattle.tab_ids.specs.declared.ReqId.{ReqId}
 use Rattle.tab_begins.proofs.Afters.{MayServe, ParentsShown, TakersServe}
 use Rattle.tab_begins.specs.Queueing.{IsOpen, MayCause}
-use Rattle.tab_begins.proofs.Begins.{show_causes}
+pub use Rattle.tab_begins.proofs.Begins.{show_causes}
 use Rattle.tab_begins.specs.PassedOn.{show_why}
 use Rattle.walk_rows.proofs.Moved.{run_moves}
 use Rattle.walk_rows.specs.Since.{AwakeSince, MovesVisited}

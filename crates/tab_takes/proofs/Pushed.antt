@@ -41,15 +41,14 @@ use Rattle.std.specs.Option.{option_map_or}
 use Rattle.std.specs.Prelude.{filter, nat_le, option_map}
 use Rattle.sync_core.specs.declared.judging.Judged.TheVariants as verdicts
 use Rattle.frame_tab.proofs.Aims.{others_pushed, own_pushed}
-use Rattle.tab_begins.proofs.PassedOn.{sees, tab_placed}
+use Rattle.tab_begins.proofs.PassedOn.{sees, tab_placed, pushed_going, pushed_tab}
 use Rattle.tab_doors.specs.Dues.{IsTakeDue, MayChange, SeesRows}
 use Rattle.tab_doors.specs.Ties.{IsAwakeIn}
 use Rattle.tab_doors.specs.Working.{IsAtWork, KeepsRun}
 use Rattle.tab_doors.specs.declared.tables.Tables.{Tables}
 use Rattle.tab_begins.proofs.Begins.{IsBare, IsUnsettled}
 use Rattle.tab_begins.specs.Taking.{IsLoadOf}
-use Rattle.tab_going.proofs.Changes.{pushed_going}
-use Rattle.tab_going.specs.Going.{IsGoing}
+use Rattle.tab_begins.specs.PassedOn.{IsGoing, IsTab, InPass, aim_in}
 use Rattle.tab_ids.specs.declared.DocId.{DocId}
 use Rattle.tab_ids.specs.declared.EntryId.{EntryId}
 use Rattle.tab_ids.specs.declared.NavId.{NavId}
@@ -57,7 +56,6 @@ use Rattle.tab_ids.specs.declared.ReqId.{ReqId}
 use Rattle.tab_ids.specs.declared.StateId.{StateId}
 use Rattle.tab_begins.proofs.Strays.{EntriesAreNoted}
 use Rattle.tab_begins.specs.Queueing.{MayStand}
-use Rattle.tab_begins.specs.PassedOn.{InPass, aim_in}
 use Rattle.tab_takes.proofs.Applied.{IsAfter, aim_then, aim_was, has_applied, loads_back, n as after_change, own_then, then_q}
 use Rattle.tab_takes.proofs.Asks.{unlike, what_is}
 use Rattle.tab_takes.proofs.Entries.{entry_fresh, entry_later, entry_maker, entry_new, its_next, its_own, state_of_it}
@@ -71,8 +69,6 @@ use Rattle.tab_takes.proofs.Walks.{reached_or_unsettled}
 use Rattle.tab_takes.proofs.Ways.{IsTargetOf}
 use Rattle.tab_takes.proofs.Where.{loads_same}
 use Rattle.tab_takes.specs.Taking.{ArrivedWhere, HasTaken, IsArrived, IsToTake, LoadsArrived, asked_in}
-use Rattle.tab_whole.proofs.Pushed.{pushed_tab}
-use Rattle.tab_whole.specs.Tab.{IsTab}
 use Rattle.walk_facts.proofs.Placed.{found_nav}
 use Rattle.log_model.specs.declared.change.Change.TheVariants as changes
 use Rattle.log_model.specs.declared.job.Why.TheVariants as whys

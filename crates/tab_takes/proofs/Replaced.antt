@@ -37,8 +37,8 @@ use Rattle.tab_doors.specs.declared.tables.Tables.{Tables}
 use Rattle.tab_begins.proofs.Begins.{IsBare, IsUnsettled, serve_on}
 use Rattle.tab_begins.proofs.Takes.{StandOrBare}
 use Rattle.tab_begins.specs.Taking.{IsLoadOf, StandOrMove}
-use Rattle.tab_going.proofs.Changes.{replaced_going}
-use Rattle.tab_going.specs.Going.{IsGoing}
+use Rattle.tab_begins.proofs.PassedOn.{replaced_going, replaced_tab}
+use Rattle.tab_begins.specs.PassedOn.{IsGoing, IsTab, InPass, aim_in}
 use Rattle.tab_ids.specs.declared.DocId.{DocId}
 use Rattle.tab_ids.specs.declared.EntryId.{EntryId}
 use Rattle.tab_ids.specs.declared.Epoch.{Epoch}
@@ -48,7 +48,6 @@ use Rattle.tab_ids.specs.declared.StateId.{StateId}
 use Rattle.tab_ids.specs.declared.Step.{Step}
 use Rattle.tab_begins.proofs.Afters.{MayServe, TakersServe}
 use Rattle.tab_begins.specs.Queueing.{AreBlamed, MayStand}
-use Rattle.tab_begins.specs.PassedOn.{InPass, aim_in}
 use Rattle.tab_begins.proofs.Strays.{IsBlamed}
 use Rattle.tab_takes.proofs.Applied.{IsAfter, aim_then, aim_was, causes, has_applied, loads_back, moved_on, moved_same, n as after_change, stray_unloaded}
 use Rattle.tab_takes.proofs.Asks.{unlike, what_is}
@@ -60,8 +59,6 @@ use Rattle.tab_takes.proofs.Swaps.{given_now, has_state_same, place_now, reads, 
 use Rattle.tab_takes.proofs.Verdicts.{IsOfIt, Tells}
 use Rattle.tab_takes.proofs.Where.{loads_same}
 use Rattle.tab_takes.specs.Taking.{HasTaken, IsToTake, asked_in}
-use Rattle.tab_whole.proofs.Replaced.{replaced_tab}
-use Rattle.tab_whole.specs.Tab.{IsTab}
 use Rattle.walk_facts.proofs.Placed.{found_nav}
 use Rattle.log_model.specs.declared.change.Change.TheVariants as changes
 use Rattle.log_model.specs.declared.job.Why.TheVariants as whys

@@ -27,9 +27,8 @@ use Rattle.tab_ids.specs.declared.Epoch.{Epoch}
 use Rattle.tab_ids.specs.declared.ReqId.{ReqId}
 use Rattle.tab_ids.specs.declared.StateId.{StateId}
 use Rattle.tab_begins.proofs.PassedOn.{moved_is}
-use Rattle.tab_begins.specs.PassedOn.{InPass}
+use Rattle.tab_begins.specs.PassedOn.{InPass, IsTab}
 use Rattle.tab_takes.specs.Taking.{HasNode, IsByItsOwn, IsToTake, judged_in, nav_found}
-use Rattle.tab_whole.specs.Tab.{IsTab}
 use Rattle.walk_facts.proofs.Placed.{found_nav}
 
 some_same : {A : Type 0} {a b : A} → (let o : Option A = Some a in o) ≡ Some b → a ≡ b

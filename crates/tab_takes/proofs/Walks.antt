@@ -32,7 +32,7 @@ use Rattle.tab_ids.specs.declared.ReqId.{ReqId}
 use Rattle.tab_ids.specs.declared.StateId.{StateId}
 use Rattle.tab_takes.proofs.Stays.{up_rows}
 use Rattle.tab_takes.specs.Taking.{IsArrived}
-use Rattle.tab_whole.specs.Tab.{IsTab}
+use Rattle.tab_begins.specs.PassedOn.{IsTab}
 use Rattle.walk_facts.proofs.Placed.{found_nav}
 use Rattle.walk_facts.specs.Serving.{is_in_place, is_needing, is_stopping}
 use Rattle.walk_rows.specs.Since.{IsVisitedInNeed}

@@ -74,13 +74,13 @@ module _ (c : InCut) (gone : StateId) (why : Why) (rest docs : List DocId) (doc 
 
     pub cut_sends : MaySend (Some c.move) c.pass.event out (order_to s doc why tasks.Discard)
     cut_sends =
-        below_ahead c.pass.event out c.move t doc why cut_quiet.document so.leaving.work
+        below_ahead c.pass.event out (Some c.move) t doc why cut_quiet.document so.leaving.work
         (record {
-          discards = quiet_discards c.pass c.move out t so.leaving why so.may doc its cut_quiet;
+          discards = quiet_discards c.pass (Some c.move) out t so.leaving why so.may doc its cut_quiet;
           below = ap (λ (d : Document). is_below_gone s d) (one_document s doc cut_quiet.document it.document cut_quiet.found it.found) ∙ there_gone s gone doc it so.gone_for;
         })
         (so.leaving.going.tab.asked.died (proc_at s doc)).0
-        (quiet_settles c.pass c.move out t so.leaving why so.may doc its cut_quiet (row_of c.pass.event (rows.Sent (order_to s doc why tasks.Discard))))
+        (quiet_settles c.pass (Some c.move) out t so.leaving why so.may doc its cut_quiet (row_of c.pass.event (rows.Sent (order_to s doc why tasks.Discard))))
 
     pub cut_lets : LetsGo (Some c.move) t.kept.keep (kept_states s) its
     cut_lets =
@@ -89,13 +89,13 @@ module _ (c : InCut) (gone : StateId) (why : Why) (rest docs : List DocId) (doc 
     -- ---- what it leaves
 
     abbrev then_ : Seen
-    then_ = gone_seen c.pass c.move out t so.leaving why so.may doc its cut_quiet
+    then_ = gone_seen c.pass (Some c.move) out t so.leaving why so.may doc its cut_quiet
 
     places : then_.places ≡ s.places
-    places = gone_places c.pass c.move out t so.leaving why so.may doc its cut_quiet
+    places = gone_places c.pass (Some c.move) out t so.leaving why so.may doc its cut_quiet
 
     other : (x : DocId) → (doc.0 == x.0) ≡ false → document_of then_ x ≡ document_of s x
-    other x apart = gone_other c.pass c.move out t so.leaving why so.may doc its cut_quiet x apart
+    other x apart = gone_other c.pass (Some c.move) out t so.leaving why so.may doc its cut_quiet x apart
 
     sleepers_same : (x : DocId) → sleepers_with then_ x ≡ sleepers_with s x
     sleepers_same x = ap (λ (l : List Place). sleepers_with (record s { places = l }) x) places
@@ -150,8 +150,8 @@ module _ (c : InCut) (gone : StateId) (why : Why) (rest docs : List DocId) (doc 
         record {
           leaving = leaving;
           noted = so.noted;
-          may = gone_may c.pass c.move out t so.leaving why so.may doc its cut_quiet new u made leaving;
-          loads = subst (λ (x : Seen). NoLoadBelow x gone) now_is (λ req l nav place found ongoing own placed. so.loads req l nav place (sym (gone_looks c.pass c.move out t so.leaving why so.may doc its cut_quiet req) ∙ found) ongoing own (ap (λ (m : List Place). place_in m nav) (sym places) ∙ placed));
+          may = gone_may c.pass (Some c.move) out t so.leaving why so.may doc its cut_quiet new u made leaving;
+          loads = subst (λ (x : Seen). NoLoadBelow x gone) now_is (λ req l nav place found ongoing own placed. so.loads req l nav place (sym (gone_looks c.pass (Some c.move) out t so.leaving why so.may doc its cut_quiet req) ∙ found) ongoing own (ap (λ (m : List Place). place_in m nav) (sym places) ∙ placed));
           gone_for = subst (λ (x : Seen). IsGoneFor x gone) now_is gone_then;
           gone_left = subst (λ (x : Seen). is_gone x c.left ≡ true) now_is (discard_gone doc s.documents c.left so.gone_left);
           each = subst (λ (x : Seen). AreCutBelow x gone docs) now_is (each_then docs so.each.1 so.each.2);
@@ -161,14 +161,14 @@ module _ (c : InCut) (gone : StateId) (why : Why) (rest docs : List DocId) (doc 
         }
       where
         leaving : IsLeaving c.pass (Some c.move) (without_doc doc rest) new u
-        leaving = gone_leaving c.pass c.move out t so.leaving why so.may doc its cut_quiet new u made leaving_
+        leaving = gone_leaving c.pass (Some c.move) out t so.leaving why so.may doc its cut_quiet new u made leaving_
 
         now_is : then_ ≡ now_of c.pass.event new
-        now_is = gone_now c.pass c.move out t so.leaving why so.may doc its cut_quiet new u made
+        now_is = gone_now c.pass (Some c.move) out t so.leaving why so.may doc its cut_quiet new u made
 
     pub cut_stays : (new : List RowKind) (u : Tables) → new ≡ out ++ rows.Sent (order_to s doc why tasks.Discard) ∷ [] → StaysPlaced s (now_of c.pass.event new)
     cut_stays new u made =
-        subst (λ (x : Seen). StaysPlaced s x) (gone_now c.pass c.move out t so.leaving why so.may doc its cut_quiet new u made) (gone_stays c.pass c.move out t so.leaving why so.may doc its cut_quiet)
+        subst (λ (x : Seen). StaysPlaced s x) (gone_now c.pass (Some c.move) out t so.leaving why so.may doc its cut_quiet new u made) (gone_stays c.pass (Some c.move) out t so.leaving why so.may doc its cut_quiet)
 
 -- ---- so many of them
 

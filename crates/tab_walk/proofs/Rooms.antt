@@ -21,7 +21,7 @@ use Rattle.tab_doors.specs.Keeping.{HasRoom, LeavesOne}
 use Rattle.tab_doors.specs.declared.tables.Tables.{Tables}
 use Rattle.tab_evicts.proofs.Cuts.{fitting_room, over_room}
 use Rattle.tab_evicts.proofs.Quiets.{one_of_state}
-use Rattle.tab_evicts.specs.Evicting.{InEvicting, IsEvicting, IsToEvict, StaysPlaced}
+use Rattle.tab_evicts.specs.Evicting.{InEvicting, IsBeside, IsEvicting, IsToEvict, StaysPlaced}
 use Rattle.tab_ids.specs.declared.DocId.{DocId}
 use Rattle.tab_ids.specs.declared.NavId.{NavId}
 use Rattle.tab_ids.specs.declared.ReqId.{ReqId}
@@ -252,8 +252,11 @@ module _ (m : InMove) (out : List RowKind) (t : Tables) (leaving : IsLeaving m.p
         needs = ap (λ (h : History). is_needing h.rows (aim_of now) bound.place) leaves.history ∙ ap (λ (step : ℕ). is_needing was.history.rows step bound.place) leaves.aim ∙ bound.visited.needs;
       }
 
-  nav_same : then_.beside.nav ≡ m.nav
-  nav_same = sym then_.beside.new_nav ∙ bound.new_nav
+  abbrev beside : IsBeside now gone (evicting m out t leaving bound sleeps)
+  beside = (then_.moving (evicting m out t leaving bound sleeps) refl).beside
+
+  nav_same : beside.nav ≡ m.nav
+  nav_same = sym beside.new_nav ∙ bound.new_nav
 
   pub bound_evicted : IsBound m u.running now
   bound_evicted =
@@ -266,14 +269,14 @@ module _ (m : InMove) (out : List RowKind) (t : Tables) (leaving : IsLeaving m.p
         entry_is = bound.entry_is;
         last = bound.last;
         apart = bound.apart;
-        old = then_.beside.old;
-        old_found = then_.beside.found;
-        old_nav = then_.beside.its_nav ∙ nav_same;
-        old_state = then_.beside.its_state;
-        undiscarded = then_.beside.undiscarded;
-        unknown = (then_.leaving.going.tab.docs.each m.left then_.beside.old then_.beside.found).live.unknown;
+        old = beside.old;
+        old_found = beside.found;
+        old_nav = beside.its_nav ∙ nav_same;
+        old_state = beside.its_state;
+        undiscarded = beside.undiscarded;
+        unknown = (then_.leaving.going.tab.docs.each m.left beside.old beside.found).live.unknown;
         new = bound.new;
-        new_found = then_.beside.new_found;
+        new_found = beside.new_found;
         new_nav = bound.new_nav;
         usable = bound.usable;
         may = causes_over m.pass.event out new_out quiet each m.cause bound.may;
@@ -319,7 +322,7 @@ module _ (m : InMove) (out : List RowKind) (t : Tables) (leaving : IsLeaving m.p
     -- and was evicted
     pub evicted : (new_out : List RowKind) (u : Tables) → KeepsStore t u → IsEvicting (evicting_in m at_hand) gone why new_out u → HasOnlyDiscarded why out new_out → StaysPlaced at_hand (now_of m.pass.event new_out) → IsLeaving m.pass (Some (move_of m)) [] new_out u × IsToShow (Some (move_of m)) u.running u.kept.keep (now_of m.pass.event new_out) m.nav m.doc m.entry m.cause × IsPart at_hand (now_of m.pass.event new_out) m.nav
     evicted new_out u keeps so only stays =
-        (then_.leaving, to_show m new_out u then_.leaving now_bound now_sleeps (room_fits m new_out u then_.leaving now_bound now_sleeps then_.room), part_evicted m out t leaving bound_ may.off.sleeps gone why new_out u keeps then_ only stays)
+        (then_.leaving, to_show m new_out u then_.leaving now_bound now_sleeps (room_fits m new_out u then_.leaving now_bound now_sleeps (then_.moving (evicting m out t leaving bound_ may.off.sleeps) refl).room), part_evicted m out t leaving bound_ may.off.sleeps gone why new_out u keeps then_ only stays)
       where
         then_ : IsEvicting (evicting m out t leaving bound_ may.off.sleeps) gone why new_out u
         then_ = subst (λ (e : InEvicting). IsEvicting e gone why new_out u) new_is so

@@ -12,7 +12,7 @@ loop-i-init g c = (c.requires, only_none _ _, stays_none _, none_of_first c.args
 pub loop-i-preserved : goal.loop-i-preserved
 loop-i-preserved g c =
     let inv = c.loop-i.invariant in (
-      c.in_ok-discard_if.ensures.evicting,
+      c.in_ok-discard_if.ensures.letting,
       only_then _ _ _ _ inv.1 c.in_ok-discard_if.ensures.only,
       stays_then _ _ _ inv.2 c.in_ok-discard_if.ensures.stays,
       none_of_next _ _ _ _ _ _ c.at.ensures inv.3 c.in_ok-discard_if.ensures.fewer c.in_ok-discard_if.ensures.gone,

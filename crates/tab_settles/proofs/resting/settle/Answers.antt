@@ -1,8 +1,7 @@
 use Rattle.std.proofs.Common.{rules, ◌≡◌}
-use Rattle.tab_settles.proofs.Grown.{grown_then, pass_grown}
-use Rattle.tab_settles.proofs.Passed.{pass_asks, settled}
+use Rattle.tab_settles.proofs.Passed.{pass_asks, pass_ready_put, put_both, settled}
 use Rattle.tab_settles.proofs.resting.settle.Goals as goal
-use Rattle.tab_settles.specs.Settling.{IsReady}
+use Rattle.tab_settles.specs.Settling.{HasSettled, IsReady}
 
 pub pass-requires : goal.pass-requires
 pass-requires g c =
@@ -12,12 +11,13 @@ pub take_turn-requires : goal.take_turn-requires
 take_turn-requires g c =
     settled g.p _ _ _ _ _ c.passes.invariant.0 _ _ _ _ c.in_ok-pass.ensures.passing c.in_ok-pass.ensures.served c.in_ok-pass.ensures.told c.in_ok-pass.ensures.strays c.in_ok-pass.ensures.passed c.in_ok-pass.ensures.left c.in_ok-pass.ensures.only c.in_ok-pass.ensures.kept c.in_ok-pass.ensures.calm c.in_ok-pass.ensures.sent
 
-pub returns-then-not-branch-clause-grown : goal.returns-then-not-branch-clause-grown
-returns-then-not-branch-clause-grown g c =
-    grown_then _ _ _ c.passes.invariant.1.0 (grown_then _ _ _ (pass_grown _ _ _ _ _ _ c.in_ok-pass.ensures.only) c.in_ok-take_turn.ensures.grown)
+pub returns-then-not-branch-clause-put : goal.returns-then-not-branch-clause-put
+returns-then-not-branch-clause-put g c =
+    let settled_ : HasSettled g.p c.take_turn.new.out c.take_turn.new.tables c.take_turn.new.queue c.take_turn.new.blame.entries c.take_turn.new.reasons.cause = search rules in
+    put_both g.p _ _ _ _ _ settled_.passing c.passes.invariant.1.0 (pass_ready_put g.p _ _ _ _ _ c.passes.invariant.0 _ _ c.in_ok-pass.ensures.only c.in_ok-pass.ensures.left) c.in_ok-take_turn.ensures.put
 
 pub passes-preserved : goal.passes-preserved
 passes-preserved g c =
     let ready : IsReady g.p c.take_turn.new.out c.take_turn.new.tables c.take_turn.new.queue c.take_turn.new.blame.entries c.take_turn.new.reasons.cause = search rules in
     let handled : c.take_turn.new.reasons.handled ≡ c.args.reasons.now.handled = search rules in
-    (ready, (grown_then _ _ _ c.passes.invariant.1.0 (grown_then _ _ _ (pass_grown _ _ _ _ _ _ c.in_ok-pass.ensures.only) c.in_ok-take_turn.ensures.grown), handled))
+    (ready, (put_both g.p _ _ _ _ _ ready.passing c.passes.invariant.1.0 (pass_ready_put g.p _ _ _ _ _ c.passes.invariant.0 _ _ c.in_ok-pass.ensures.only c.in_ok-pass.ensures.left) c.in_ok-take_turn.ensures.put, handled))

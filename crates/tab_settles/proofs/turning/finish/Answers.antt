@@ -1,5 +1,5 @@
 use Rattle.std.proofs.Common.{ap, sym, ◌∙◌}
-use Rattle.tab_settles.proofs.Ended.{finish_grown, has_ended, has_rested, ready_n, release_asks, still_due}
+use Rattle.tab_settles.proofs.Ended.{finish_put, has_ended, has_rested, ready_n, release_asks, still_due}
 use Rattle.tab_settles.proofs.turning.finish.Goals as goal
 use Rattle.tab_settles.specs.declared.reasons.Reasons.{Reasons}
 
@@ -11,9 +11,9 @@ pub returns-then-branch-clause-ready : goal.returns-then-branch-clause-ready
 returns-then-branch-clause-ready g c did =
     ready_n g.p _ _ _ _ _ c.requires.0 _ _ c.in_ok-end_running.ensures.passing c.in_ok-end_running.ensures.turning (has_ended _ _ _ _ _ _ c.if-branch.true c.in_ok-end_running.ensures.ended) (sym c.in_ok-end_running.ensures.due ∙ c.if-branch.true) _ _ _ _ _ c.in_ok-last.ensures.passing c.in_ok-last.ensures.turning c.in_ok-last.ensures.open_ c.in_ok-last.ensures.queued c.in_ok-last.ensures.none c.in_ok-last.ensures.parked c.in_ok-last.ensures.ended c.in_ok-last.ensures.last c.in_ok-last.ensures.theirs c.in_ok-last.ensures.cause c.in_ok-last.ensures.waiting c.in_ok-last.ensures.kept _ (ap (λ (r : Reasons). r.cause) c.follow.ensures)
 
-pub returns-then-branch-clause-grown : goal.returns-then-branch-clause-grown
-returns-then-branch-clause-grown g c =
-    finish_grown g.p.event _ _ _ _ _ _ (has_ended _ _ _ _ _ _ c.if-branch.true c.in_ok-end_running.ensures.ended) c.in_ok-last.ensures.ended
+pub returns-then-branch-clause-put : goal.returns-then-branch-clause-put
+returns-then-branch-clause-put g c =
+    finish_put g.p.event _ _ _ _ _ _ _ c.in_ok-last.ensures.passing.going.tab.asked (has_ended _ _ _ _ _ _ c.if-branch.true c.in_ok-end_running.ensures.ended) c.in_ok-last.ensures.ended
 
 pub returns-clause-due : goal.returns-clause-due
 returns-clause-due g c not_ended =

@@ -1,4 +1,4 @@
-use Rattle.std.proofs.Common.{drop, ◌+◌}
+use Rattle.std.proofs.Common.{Some, drop, ◌+◌}
 use Rattle.tab_evicts.proofs.Quiets.{quiet_gone, quiet_leaves, quiet_own}
 use Rattle.tab_walk.proofs.Cuts.{cut_done, cut_lets, cut_quiet, cut_sends, cut_state, cut_stays, cut_turned, cutting_turn}
 use Rattle.tab_walk.proofs.cutting.cut_at.Goals as goal
@@ -13,13 +13,13 @@ discard-requires g c =
     let its = cut_quiet g.n.cut g.n.gone c.args.why g.n.rest (drop (c.args.i + 1) c.args.docs.now) c.at-doc.result.now c.args.out.now c.args.tables.now so c.state_there-state.result c.state_there-state.ensures in (
       c.requires.1.leaving,
       (
-        quiet_leaves g.n.cut.pass g.n.cut.move c.args.out.now c.args.tables.now c.requires.1.leaving c.args.why c.requires.1.may c.at-doc.result.now c.state_there-state.result its,
+        quiet_leaves g.n.cut.pass (Some g.n.cut.move) c.args.out.now c.args.tables.now c.requires.1.leaving c.args.why c.requires.1.may c.at-doc.result.now c.state_there-state.result its,
         (
           cut_sends g.n.cut g.n.gone c.args.why g.n.rest (drop (c.args.i + 1) c.args.docs.now) c.at-doc.result.now c.args.out.now c.args.tables.now so c.state_there-state.result c.state_there-state.ensures,
           (
-            quiet_gone g.n.cut.pass g.n.cut.move c.args.out.now c.args.tables.now c.requires.1.leaving c.args.why c.requires.1.may c.at-doc.result.now c.state_there-state.result its,
+            quiet_gone g.n.cut.pass (Some g.n.cut.move) c.args.out.now c.args.tables.now c.requires.1.leaving c.args.why c.requires.1.may c.at-doc.result.now c.state_there-state.result its,
             (
-              quiet_own g.n.cut.pass g.n.cut.move c.args.out.now c.args.tables.now c.requires.1.leaving c.args.why c.requires.1.may c.at-doc.result.now c.state_there-state.result its,
+              quiet_own g.n.cut.pass (Some g.n.cut.move) c.args.out.now c.args.tables.now c.requires.1.leaving c.args.why c.requires.1.may c.at-doc.result.now c.state_there-state.result its,
               cut_lets g.n.cut g.n.gone c.args.why g.n.rest (drop (c.args.i + 1) c.args.docs.now) c.at-doc.result.now c.args.out.now c.args.tables.now so c.state_there-state.result c.state_there-state.ensures,
             ),
           ),

@@ -1,0 +1,70 @@
+-- The load as its event begins: it is there by the next number, open and unstarted, at hand and nowhere else.
+use Rattle.coord_facts.proofs.Unread.{next}
+use Rattle.load_doors.specs.Loading.{IsOpenHere}
+use Rattle.log_model.specs.After.{new_request}
+use Rattle.log_model.specs.Equal.{has_req}
+use Rattle.log_model.specs.Places.{is_ongoing_load}
+use Rattle.log_model.specs.Points.{is_accepted_here}
+use Rattle.log_model.specs.Seen.{Asked, Seen, request_in, request_of}
+use Rattle.log_model.specs.declared.request.Mode.{Mode}
+use Rattle.log_model.specs.declared.row_kind.RowKind.{RowKind}
+use Rattle.owed_facts.proofs.Rows.{IsIdle, load_idle}
+use Rattle.request_facts.proofs.LookUps.{one_more}
+use Rattle.request_facts.proofs.Times.{itself, times_none}
+use Rattle.request_facts.specs.Whereabouts.{is_of_load}
+use Rattle.seen_laws.specs.Blocks.{point_at}
+use Rattle.seen_laws.specs.InEvent.{InEvent, here_of, now_of}
+use Rattle.std.proofs.Common.{List, None, Option, Some, [], ap, arith, cond, false, length, refl, subst, sym, true, ℕ, ◌==◌, ◌∙◌, ◌∷◌, ◌≡◌}
+use Rattle.std.proofs.lemmas.Bool.Decides.{nat_tests}
+use Rattle.std.specs.Prelude.{nat_lt}
+use Rattle.tab_doors.specs.Keeping.{IsNoLoad}
+use Rattle.tab_ids.specs.declared.NavId.{NavId}
+use Rattle.tab_ids.specs.declared.ReqId.{ReqId}
+use Rattle.tab_loads.specs.Loading.{IsLoadAsk}
+use Rattle.tab_whole.proofs.Where.{at_most_once}
+use Rattle.tab_whole.specs.Tab.{IsTab}
+use Rattle.log_model.specs.declared.request.Request.TheVariants as requests
+use Rattle.log_model.specs.declared.row_kind.RowKind.TheVariants as rows
+
+module _ (e : InEvent) (req : ReqId) (nav : NavId) (mode : Mode) (address : List ℕ) (asks : IsLoadAsk e req nav mode address) where
+  -- what is asked, as it is accepted
+  abbrev pub q : Asked
+  q = new_request req None (requests.Load nav mode address)
+
+  pub first_is : now_of e [] ≡ next e.start e.event e.actor (rows.Accepted req None (requests.Load nav mode address))
+  unfolding now_of
+  first_is = ap (λ (k : RowKind). next e.start e.event e.actor k) asks.own
+
+  pub found : request_of (now_of e []) req ≡ Some q
+  found = ap (λ (s : Seen). request_of s req) first_is ∙ one_more e.start.requests q req asks.next
+
+  pub accepted_here : is_accepted_here (point_at (here_of e []) []) req ≡ true
+  accepted_here = (let number = asks.next in let more : nat_lt (length e.start.requests) req.0 ≡ true = grind (arith, nat_tests, number) in more)
+
+  pub idle : IsIdle (now_of e []) req
+  idle = load_idle (now_of e []) req nav mode address q found refl
+
+  pub no_load : IsNoLoad (now_of e []) req
+  no_load x there =
+      let two : Some q ≡ Some x = sym found ∙ there in
+      let one : q ≡ x = cc in
+      subst (λ (y : Asked). is_ongoing_load y ≡ false) one refl
+
+  pub of_load : is_of_load (request_in (now_of e []).requests req) ≡ true
+  of_load = ap is_of_load found
+
+  module _ (run : Option ReqId) (tab : IsTab run (req ∷ []) [] (now_of e [])) where
+    own : (let n : ℕ = cond (req.0 == req.0) 1 0 in n) ≡ 1
+    own = rw (itself req) refl
+
+    pub unjoined : has_req (now_of e []).joined req ≡ false
+    unjoined =
+        times_none req (now_of e []).joined (let all = at_most_once run (req ∷ []) [] (now_of e []) tab req in omega (arith, all, own))
+
+    pub unparked : has_req (now_of e []).parked req ≡ false
+    unparked =
+        times_none req (now_of e []).parked (let all = at_most_once run (req ∷ []) [] (now_of e []) tab req in omega (arith, all, own))
+
+    pub open_here : IsOpenHere e [] req
+    unfolding now_of
+    open_here = record { asked = q; at = found; open_ = refl; unparked = unparked; unheld = unparked }

@@ -1,0 +1,126 @@
+-- The document of the load's navigable is sent to a fragment: the order may be sent, and all goes on then.
+use Rattle.coord_facts.proofs.Unread.{next}
+use Rattle.home_facts.specs.Homes.{IsAtHome}
+use Rattle.last_facts.proofs.Orders.{fragment_lasting}
+use Rattle.leave_rows.proofs.FragmentSends.{fragment_may}
+use Rattle.leave_rows.specs.Fragments.{IsFragmentDue}
+use Rattle.log_model.proofs.Refl.{nat_eq_refl}
+use Rattle.log_model.specs.Equal.{holds}
+use Rattle.log_model.specs.Places.{aim_of, given_row, is_fragment_navigation, stands}
+use Rattle.log_model.specs.Seen.{Place, Seen, awake, place_of}
+use Rattle.log_model.specs.declared.job.Job.{Job}
+use Rattle.log_model.specs.declared.request.Mode.{Mode}
+use Rattle.log_model.specs.declared.row.Row.{Row}
+use Rattle.log_model.specs.declared.row_kind.RowKind.{RowKind}
+use Rattle.owed_facts.proofs.Ends.{loose_more, loose_owed}
+use Rattle.owed_facts.proofs.Rows.{sent_lasts}
+use Rattle.owed_facts.specs.Owed.{IsLoose}
+use Rattle.rest_rows.proofs.Orders.{told_rests}
+use Rattle.rest_rows.specs.Moving.{AllRest}
+use Rattle.seen_laws.proofs.InEvents.{now_more}
+use Rattle.seen_laws.specs.InEvent.{InEvent, here_of, now_of}
+use Rattle.std.proofs.Common.{Bool, List, None, Option, Some, [], ap, false, length, refl, subst, sym, true, ℕ, ◌||◌, ◌∙◌, ◌∷◌, ◌≡◌, ◌≤◌}
+use Rattle.tab_doors.proofs.Whose.{proc_found}
+use Rattle.tab_doors.proofs.Works.{numbered}
+use Rattle.tab_doors.specs.Orders.{IsThere, order_to}
+use Rattle.tab_doors.specs.Working.{IsAtWork, KeepsStore, MaySend}
+use Rattle.tab_doors.specs.declared.tables.Tables.{Tables}
+use Rattle.tab_going.proofs.Rows.{sent_going}
+use Rattle.tab_going.specs.Going.{IsGoing}
+use Rattle.tab_ids.specs.declared.DocId.{DocId}
+use Rattle.tab_ids.specs.declared.NavId.{NavId}
+use Rattle.tab_ids.specs.declared.ReqId.{ReqId}
+use Rattle.tab_loads.proofs.Cuts.{first_pass}
+use Rattle.tab_loads.proofs.Firsts.{accepted_here, found, q}
+use Rattle.tab_loads.specs.Loading.{IsLoadAsk, pass_of}
+use Rattle.tab_passes.specs.Passing.{IsPassing}
+use Rattle.tab_whole.proofs.Sending.{IsToMade, sent_home}
+use Rattle.tab_whole.proofs.ToFragments.{send_fragment_tab}
+use Rattle.tab_whole.specs.Tab.{IsTab}
+use Rattle.walk_facts.proofs.Placed.{found_nav}
+use Rattle.log_model.specs.declared.job.Task.TheVariants as tasks
+use Rattle.log_model.specs.declared.job.Why.TheVariants as whys
+use Rattle.log_model.specs.declared.row_kind.RowKind.TheVariants as rows
+
+-- one that has a row
+some_row : (o : Option Row) (test : Row → Bool) → holds test o ≡ true → (r : Row) × (o ≡ Some r) × (test r ≡ true)
+some_row None test never = absurd cc
+some_row (Some r) test is = (r, refl, is)
+
+module _ (e : InEvent) (req : ReqId) (nav : NavId) (mode : Mode) (address : List ℕ) (asks : IsLoadAsk e req nav mode address) (t : Tables) (pass : IsPassing (first_pass e req) [] t) (loose : IsLoose e []) (place : Place) (placed : place_of (now_of e []) nav ≡ Some place) (stand : stands (now_of e []) (aim_of (now_of e [])) nav ≡ true) (doc : DocId) (wakes : place.status ≡ awake doc) (leads : holds (λ (r : Row). is_fragment_navigation r.address address) (given_row (now_of e []) place) ≡ true) where
+  abbrev s : Seen
+  s = now_of e []
+
+  abbrev pub order : Job
+  order = order_to s doc (whys.Req req) (tasks.DoFragment req mode address)
+
+  home : IsAtHome s.documents place.nav doc
+  home = (pass.going.tab.homes.homed nav place doc placed wakes).home
+
+  proc_is : home.document.proc ≡ order.proc
+  proc_is = sym (proc_found s doc home.document home.found)
+
+  alive : (home.document.is_discarded || home.document.is_known_dead) ≡ false
+  alive = rw (home.undiscarded, home.unknown) refl
+
+  named : place.nav ≡ nav
+  named = found_nav s.places nav place placed
+
+  due : IsFragmentDue (here_of e []) order home.document req nav mode address (q e req nav mode address asks)
+  unfolding now_of
+  due =
+      (let row = some_row (given_row s place) (λ (r : Row). is_fragment_navigation r.address address) leads in record {
+        task = refl;
+        to = record { found = home.found; proc = proc_is; alive = alive };
+        at = found e req nav mode address asks;
+        what = refl;
+        accepted = accepted_here e req nav mode address asks;
+        place = place;
+        placed = placed;
+        is_awake = rw wakes (nat_eq_refl doc.0);
+        stand = ap (λ (n : NavId). stands s (aim_of s) n) named ∙ stand;
+        row = row.0;
+        given = row.1;
+        is_fragment = row.2;
+      })
+
+  pub may_send : MaySend None e [] order
+  unfolding now_of
+  may_send =
+      fragment_may (here_of e []) e.event e.actor order home.document req nav mode address (q e req nav mode address asks) pass.work.own (numbered s order.proc doc (whys.Req req) (tasks.DoFragment req mode address) (pass.going.tab.asked.died order.proc).0) due
+
+  pub there : IsThere s doc
+  there = record { document = home.document; found = home.found; alive = alive; known = (pass.going.tab.asked.died home.document.proc).0 }
+
+  -- ---- all goes on
+
+  to_made : IsToMade s order home.document
+  to_made = record { found = home.found; ready = home.ready; home = proc_is; first = refl }
+
+  abbrev then_ : Seen
+  then_ = next s e.event e.actor (rows.Sent order)
+
+  pub tab_then : IsTab t.running [] [] then_
+  tab_then =
+      send_fragment_tab t.running [] [] s e.event e.actor req pass.going.tab (q e req nav mode address asks) (record { found = found e req nav mode address asks; load = refl; unsent = refl }) order mode address home.document refl to_made
+
+  going_then : IsGoing t.running [] [] then_
+  going_then =
+      sent_going t.running (req ∷ []) [] s e.event e.actor pass.going order [] [] tab_then (fragment_lasting s e.event e.actor pass.going.lasting order req mode address refl) tt
+
+  loose_then : IsLoose e (rows.Sent order ∷ [])
+  loose_then = loose_more e [] (rows.Sent order) loose (sent_lasts s e.event e.actor order) (λ end lasts. refl)
+
+  now_is : now_of e (rows.Sent order ∷ []) ≡ then_
+  now_is = now_more e [] (rows.Sent order)
+
+  pub sent_passing : (new : List RowKind) (u : Tables) → new ≡ rows.Sent order ∷ [] → KeepsStore t u → IsAtWork e new u → IsPassing (pass_of e) new u
+  sent_passing new u is keeps work =
+      subst (λ (l : List RowKind). IsPassing (pass_of e) l u) (sym is) (record {
+        work = subst (λ (l : List RowKind). IsAtWork e l u) is work;
+        going = subst (λ (x : Seen). IsGoing u.running [] [] x) (sym now_is) (subst (λ (r : Option ReqId). IsGoing r [] [] then_) (sym keeps.running) going_then);
+        owed = loose_owed e (rows.Sent order ∷ []) loose_then;
+        loose = λ all. loose_then;
+        rests = subst (λ (x : Seen). AllRest x) (sym now_is) (told_rests s e.event e.actor [] pass.rests order (sent_home t.running (req ∷ []) [] s pass.going.tab order home.document to_made) tt);
+        few = subst (λ (k : ℕ). length (now_of e (rows.Sent order ∷ [])).kept ≤ k) (sym keeps.keep) (subst (λ (l : List DocId). length l ≤ t.kept.keep) (sym (ap (λ (x : Seen). x.kept) now_is)) pass.few);
+      })

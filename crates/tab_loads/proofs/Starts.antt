@@ -1,0 +1,168 @@
+-- A load begins, in the place of its navigable's ongoing one: what its door asks.
+use Rattle.hang_facts.proofs.Members.{find_has}
+use Rattle.load_doors.specs.Loading.{IsGiven, IsToBegin}
+use Rattle.load_rows.specs.Beginning.{IsLoadToBegin, is_to_fragment}
+use Rattle.load_table.specs.Loads.{ongoing_load}
+use Rattle.load_table.specs.declared.load.Load.{Load}
+use Rattle.load_ties.proofs.Begins.{none_made}
+use Rattle.load_ties.specs.Tying.{is_for_state, made_for}
+use Rattle.log_model.specs.AfterRequests.{load_replaces}
+use Rattle.log_model.specs.History.{History}
+use Rattle.log_model.specs.Places.{aim_of, is_given_target, is_placed, way_to}
+use Rattle.log_model.specs.Points.{is_accepted_here}
+use Rattle.log_model.specs.Seen.{Asked, Document, Place, Seen, document_of, place_in, place_of}
+use Rattle.log_model.specs.declared.row_kind.RowKind.{RowKind}
+use Rattle.rest_facts.proofs.Still.{found_itself}
+use Rattle.seen_laws.specs.Blocks.{point_at}
+use Rattle.seen_laws.specs.InEvent.{InEvent, here_of, now_of}
+use Rattle.std.proofs.Common.{Bool, List, None, Option, Some, [], ap, arith, false, inl, inr, length, not, refl, sym, true, ℕ, ◌+◌, ◌<◌, ◌==◌, ◌||◌, ◌∙◌, ◌≡◌, ◌≤◌, ◌⊎◌}
+use Rattle.std.proofs.lemmas.Bool.Decides.{nat_tests}
+use Rattle.std.proofs.lemmas.Bool.{and_parts}
+use Rattle.std.specs.List.{list_all}
+use Rattle.std.specs.Prelude.{nat_lt}
+use Rattle.tab_doors.proofs.Works.{start_here}
+use Rattle.tab_doors.specs.Working.{IsAtWork, KeepsRun}
+use Rattle.tab_doors.specs.declared.tables.Tables.{Tables}
+use Rattle.tab_drops.proofs.Turns.{tied_load}
+use Rattle.tab_drops.specs.Dropping.{AreUnheld}
+use Rattle.tab_going.proofs.Counts.{count_few}
+use Rattle.tab_going.specs.Going.{count_of, has_spent}
+use Rattle.tab_ids.specs.declared.DocId.{DocId}
+use Rattle.tab_ids.specs.declared.NavId.{NavId}
+use Rattle.tab_ids.specs.declared.ReqId.{ReqId}
+use Rattle.tab_ids.specs.declared.StateId.{StateId}
+use Rattle.tab_loads.proofs.Comes.{all, pass, place, placed, target}
+use Rattle.tab_loads.proofs.Firsts.{q}
+use Rattle.tab_loads.proofs.Givens.{is_given, sent_none}
+use Rattle.tab_loads.proofs.Gives.{IsMadeWay, made_way}
+use Rattle.tab_loads.specs.Asking.{InLoad, IsAsked}
+use Rattle.tab_loads.specs.Giving.{HasDropped, HasMadeWay, HasNone}
+use Rattle.tab_loads.specs.Telling.{away_in, fragment_in}
+use Rattle.tab_turns.proofs.Firsts.{none_asked}
+use Rattle.log_model.specs.declared.job.Why.TheVariants as whys
+use Rattle.log_model.specs.declared.request.Request.TheVariants as requests
+
+module _ (l : InLoad) (t : Tables) (asked : IsAsked l t) (placed_ : away_in t l.nav ≡ None) (anew_ : fragment_in t l.nav l.address ≡ None) (noted : List (StateId × ReqId)) (v : Tables) (out : List RowKind) (way : HasMadeWay l.event l.req l.nav t v out l.noted noted) where
+  abbrev pub e : InEvent
+  e = l.event
+
+  abbrev s : Seen
+  s = now_of l.event []
+
+  abbrev pub n : Seen
+  n = now_of l.event out
+
+  -- what is asked
+  abbrev pub own : Asked
+  own = q l.event l.req l.nav l.mode l.address asked.asks
+
+  pub unheld : AreUnheld l.event s
+  unheld = (asked.begun.taking.open_ whys.Start (λ r never. absurd cc)).held
+
+  pub made : IsMadeWay l.event l.req l.nav l.mode l.address asked.asks t (pass l t asked) unheld l.noted asked.begun.taking asked.begun.theirs n out noted
+  made =
+      made_way l.event l.req l.nav l.mode l.address asked.asks t (pass l t asked) unheld l.noted asked.begun.taking asked.begun.theirs v out noted asked.begun.taking.blamed way
+
+  pub runs_on : KeepsRun t v
+  runs_on = by_case way.which
+    where
+      by_case : HasNone l.nav t v out l.noted noted ⊎ HasDropped l.req l.nav t v out l.noted noted → KeepsRun t v
+      by_case (inl it) = record { running = ap (λ (x : Tables). x.running) it.tables; goal = ap (λ (x : Tables). x.goal) it.tables; keep = ap (λ (x : Tables). x.kept.keep) it.tables }
+      by_case (inr it) = record { running = it.kept.running; goal = it.kept.goal; keep = it.kept.keep }
+
+  abbrev pub own_place : Place
+  own_place = place l t asked
+
+  pub there : place_of n l.nav ≡ Some own_place
+  there = ap (λ (p : List Place). place_in p l.nav) made.places ∙ placed l t asked
+
+  abbrev target_in : History → ℕ → Place → Bool
+  target_in h step p = is_given_target h.rows step p
+
+  pub its_target : is_given_target n.history.rows (aim_of s) own_place ≡ true
+  its_target = ap (λ (h : History). target_in h (aim_of s) (place l t asked)) made.history ∙ target l t asked placed_
+
+  pub given : IsAtWork l.event out v × IsGiven n v l.nav
+  given =
+      (way.work, is_given n v.running v way.work.holds made.going.tab.sound l.nav own_place there (aim_of s) its_target)
+
+  -- ---- its way stands still
+
+  abbrev placed_in : History → List Place → ℕ → NavId → Bool
+  placed_in h places step nav = list_all (λ (x : NavId). is_placed (record s { history = h; places = places }) step x) (way_to (record s { history = h; places = places }) nav)
+
+  pub way_placed : list_all (is_placed n (aim_of n)) (way_to n l.nav) ≡ true
+  way_placed =
+      ap (λ (h : History). placed_in h n.places (aim_of n) l.nav) made.history
+      ∙ ap (λ (p : List Place). placed_in s.history p (aim_of n) l.nav) made.places
+      ∙ ap (λ (k : ℕ). placed_in s.history s.places k l.nav) made.aim
+      ∙ all l t asked placed_
+
+  abbrev fragment_at : History → Place → Bool
+  fragment_at h p = is_to_fragment (record s { history = h }) l.address p
+
+  pub anew_there : is_to_fragment s l.address own_place ≡ false
+  anew_there =
+      sent_none s t.running t (pass l t asked).work.holds (pass l t asked).going.tab.sound l.nav (place l t asked) (placed l t asked) (aim_of s) (target l t asked placed_) l.address anew_
+
+  pub anew : is_to_fragment n l.address own_place ≡ false
+  anew = ap (λ (h : History). fragment_at h own_place) made.history ∙ anew_there
+
+  -- ---- no document has the state
+
+  abbrev pub state : StateId
+  state = record { 0 = n.states + 1 }
+
+  pub low : (doc : DocId) (d : Document) → document_of n doc ≡ Some d → d.state.0 ≤ n.states
+  low doc d found = made.going.tab.loading.documents doc d found
+
+  pub no_document : (doc : DocId) (d : Document) → document_of n doc ≡ Some d → (d.state.0 == (n.states + 1)) ≡ false
+  no_document doc d found = let few = low doc d found in grind (arith, nat_tests, few)
+
+  pub unmade : made_for n.documents state ≡ None
+  unmade = none_made n.documents state never
+    where
+      never : (d : Document) → is_for_state state d ≡ true → made_for n.documents state ≡ Some d → ⊥
+      never d is found =
+          let there_ = (find_has (is_for_state state) n.documents d found).0 in
+          let itself : document_of n d.nr ≡ Some d = found_itself n.documents d made.going.tab.whose.numbered there_ in
+          let no : false ≡ true = sym (no_document d.nr d itself) ∙ (and_parts (d.state.0 == (n.states + 1)) (not (d.is_discarded || d.is_known_dead)) is).0 in
+          absurd cc
+
+  -- ---- it may begin
+
+  pub none_there : ongoing_load l.nav v.loads ≡ None
+  none_there = by_load (ongoing_load l.nav v.loads) refl
+    where
+      by_load : (o : Option Load) → ongoing_load l.nav v.loads ≡ o → ongoing_load l.nav v.loads ≡ None
+      by_load None is = is
+      by_load (Some load) is = absurd (made.alone load.req (tied_load n v.loads l.nav load way.work.loads is))
+
+  pub accepted : is_accepted_here (point_at (here_of l.event out) []) l.req ≡ true
+  accepted =
+      ap (λ (x : Seen). nat_lt (length x.requests) l.req.0) (start_here l.event out)
+      ∙ (let number = asked.asks.next in let more : nat_lt (length l.event.start.requests) l.req.0 ≡ true = grind (arith, nat_tests, number) in more)
+
+  pub due : IsLoadToBegin (here_of l.event out) l.req l.nav l.mode l.address own
+  unfolding now_of
+  due =
+      record {
+        at = made.found;
+        number = refl;
+        what = refl;
+        open_ = refl;
+        unstarted = refl;
+        accepted = accepted;
+        placed = way_placed;
+        place = own_place;
+        there = there;
+        anew = anew;
+        unasked = none_asked (now_of l.event out) made.going.tab.docs (requests.Load l.nav l.mode l.address) None;
+      }
+
+  pub to_begin : (replace : Bool) → replace ≡ load_replaces n (requests.Load l.nav l.mode l.address) → IsToBegin l.event out v.loads l.req l.nav replace l.address
+  to_begin replace is = record { q = own; mode = l.mode; due = due; none_ = none_there; handling = is; unmade = unmade }
+
+  pub states_room : v.states + 1 < 4294967296
+  states_room =
+      (let few_ : n.states ≤ 1 + count_of has_spent n.requests = made.going.counted.states in let few = count_few has_spent n.requests in let room = made.going.room in let same : v.states ≡ n.states = way.work.holds.states in omega (arith, few_, few, room, same))

@@ -1,0 +1,7 @@
+use Rattle.std.proofs.Common.{sym, ◌∙◌}
+use Rattle.tab_loads.proofs.Comes.{give_now}
+use Rattle.tab_loads.proofs.beginning.give_way.Goals as goal
+
+pub drop_load-requires : goal.drop_load-requires
+drop_load-requires g c =
+    give_now _ _ c.requires.0 _ c.requires.1.1.0 _ c.requires.1.1.1.1 _ (sym c.load_of.ensures ∙ c.in-Some.is)

@@ -1,0 +1,5 @@
+pub mod Loading
+pub mod Telling
+pub mod Offs
+pub mod Giving
+pub mod Asking

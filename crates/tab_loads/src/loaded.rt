@@ -1,0 +1,14 @@
+//! `Loaded`, what became of a load as the user asked for it.
+
+/// What became of a load as the user asked for it.
+#[derive(Clone, Copy, PartialEq, Eq, Debug)]
+pub enum Loaded {
+    /// There was a reason against it.
+    Refused,
+    /// Its navigable, or one above it, isn't shown or doesn't stand: it was dropped.
+    CutOff,
+    /// Its navigable's document was sent to a fragment.
+    ToFragment,
+    /// It has begun, and its document is to be made.
+    Begun,
+}

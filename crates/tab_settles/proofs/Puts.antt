@@ -1,0 +1,211 @@
+-- What was put out as a tab is brought to rest: rows of a coordinator, behind those that were there; and each order that makes a document is for what orders may be for.
+use Rattle.order_facts.proofs.Rows.{coord_within, orders_on, orders_over}
+use Rattle.asked_facts.specs.Asking.{ArePlain, IsAskedPlainly}
+use Rattle.hang_facts.specs.Members.{Has}
+use Rattle.log_model.specs.Equal.{holds, implies}
+use Rattle.log_model.specs.Places.{has_passed, is_traversal}
+use Rattle.log_model.specs.Checks.{is_checked}
+use Rattle.log_model.specs.Seen.{Asked, Seen, request_of}
+use Rattle.log_model.specs.declared.job.Job.{Job}
+use Rattle.log_model.specs.declared.job.Task.{Task}
+use Rattle.log_model.specs.declared.job.Why.{Why}
+use Rattle.log_model.specs.declared.row_kind.RowKind.{RowKind}
+use Rattle.order_facts.proofs.Stills.{still_over}
+use Rattle.order_facts.specs.Orders.{IsOfCoord, AreOrders}
+use Rattle.owed_facts.specs.Owed.{IsStill}
+use Rattle.seen_laws.specs.InEvent.{InEvent, now_of}
+use Rattle.std.proofs.Common.{Bool, List, None, Option, Some, [], ap, append_assoc, false, inl, inr, refl, subst, sym, true, ◌++◌, ◌∙◌, ◌∷◌, ◌≡◌, ◌⊎◌}
+use Rattle.tab_releases.specs.PassedOn.{HasGrown, IsOfTurn, MayServe, length_index, Drop, HasGivenWay, HasOnly, HasOnlyDropped, HasPutOut, IsServeFor, IsUpdateFor, row_of_drop, show_why}
+use Rattle.tab_ids.specs.declared.ReqId.{ReqId}
+use Rattle.tab_releases.proofs.PassedOn.{show_causes, only_as, only_none, only_then}
+use Rattle.tab_releases.specs.Releasing.{MayCause}
+use Rattle.tab_settles.specs.Settling.{HasPut, IsMake, MakesServe}
+use Rattle.log_model.specs.declared.job.Task.TheVariants as tasks
+use Rattle.log_model.specs.declared.job.Why.TheVariants as whys
+use Rattle.log_model.specs.declared.row_kind.RowKind.TheVariants as rows
+
+-- ---- what orders may be for, over rows of a coordinator
+
+module _ (e : InEvent) (run : Option ReqId) (was more : List RowKind) (fine : (row : RowKind) → Has more row → IsOfCoord row) (plain : ArePlain run (now_of e (was ++ more))) where
+  abbrev s : Seen
+  s = now_of e was
+
+  abbrev n : Seen
+  n = now_of e (was ++ more)
+
+  -- nobody is asked, so each request may go on
+  serve_by : (req : ReqId) (q : Asked) → MayServe s req → request_of s req ≡ Some q → MayServe n req
+  serve_by req q may at =
+      record {
+        goes = ap (λ (o : Option Asked). holds (λ (x : Asked). implies (is_checked x) (has_passed n x)) o) still.at ∙ implied (is_checked still.r) (has_passed n still.r) passes;
+        begun = λ x there traverses.
+            let two : Some still.r ≡ Some x = sym still.at ∙ there in
+            let one : still.r ≡ x = cc in
+            ap (λ (y : Asked). y.is_started) (sym one) ∙ still.began (may.begun q at (ap is_traversal (sym still.what) ∙ ap (λ (y : Asked). is_traversal y.what) one ∙ traverses));
+      }
+    where
+      still : IsStill n req q
+      still = still_over e more was fine req q at
+
+      asked : IsAskedPlainly req still.r
+      asked = plain.each req still.r still.at
+
+      passes : has_passed n still.r ≡ true
+      passes = rw asked.unasked (rw asked.unprompted refl)
+
+      implied : (a b : Bool) → b ≡ true → implies a b ≡ true
+      implied true b is = is
+      implied false b is = refl
+
+  serve_more : (req : ReqId) → MayServe s req → MayServe n req
+  serve_more req may = by_there (request_of s req) refl
+    where
+      by_there : (o : Option Asked) → request_of s req ≡ o → MayServe n req
+      by_there (Some q) at = serve_by req q may at
+      by_there None at =
+          let never : false ≡ true = sym (ap (λ (o : Option Asked). holds (λ (x : Asked). implies (is_checked x) (has_passed s x)) o) at) ∙ may.goes in absurd cc
+
+  pub cause_more : (why : Why) → MayCause s why → MayCause n why
+  cause_more why may req is = serve_more req (may req is)
+
+-- so over those that an event puts out
+pub cause_put : (e : InEvent) (run : Option ReqId) (was out : List RowKind) → ArePlain run (now_of e out) → HasPut e was out → (why : Why) → MayCause (now_of e was) why → MayCause (now_of e out) why
+cause_put e run was out plain put why may =
+    subst (λ (l : List RowKind). MayCause (now_of e l) why) (sym put.is)
+    (cause_more e run was put.more put.each (subst (λ (l : List RowKind). ArePlain run (now_of e l)) put.is plain) why may)
+
+-- orders that make documents are for what orders may be for still, with those that are put out
+pub put_makes : (e : InEvent) (run : Option ReqId) (was out : List RowKind) → ArePlain run (now_of e out) → HasPut e was out → MakesServe (now_of e was) → MakesServe (now_of e out)
+put_makes e run was out plain put makes =
+    subst (λ (l : List RowKind). AreOrders serves (now_of e l)) (sym put.is)
+    (orders_over serves e put.more was (λ row has. coord_within row (put.each row has)) (λ job has. put.makes job has)
+    (orders_on (λ (job : Job). IsMake job.task → MayCause (now_of e was) job.why) serves (now_of e was) (λ job its made. cause_put e run was out plain put job.why (its made)) makes))
+  where
+    serves : Job → Type 0
+    serves job = IsMake job.task → MayCause (now_of e out) job.why
+
+-- ---- one after the other
+
+-- what is among two lists is among the first or the second
+among : {A : Type 0} (xs ys : List A) (z : A) → Has (xs ++ ys) z → Has xs z ⊎ Has ys z
+among [] ys z has = inr has
+among (x ∷ xs) ys z (inl is) = inl (inl is)
+among (x ∷ xs) ys z (inr has) = by_rest (among xs ys z has)
+  where
+    by_rest : Has xs z ⊎ Has ys z → Has (x ∷ xs) z ⊎ Has ys z
+    by_rest (inl in_) = inl (inr in_)
+    by_rest (inr in_) = inr in_
+
+pub put_then : (e : InEvent) (run : Option ReqId) (a b c : List RowKind) → ArePlain run (now_of e c) → HasPut e a b → HasPut e b c → HasPut e a c
+put_then e run a b c plain one two =
+    record {
+      more = one.more ++ two.more;
+      is = two.is ∙ ap (λ (l : List RowKind). l ++ two.more) one.is ∙ append_assoc a one.more two.more;
+      each = λ row has. by_each row (among one.more two.more row has);
+      makes = λ job has makes. by_makes job makes (among one.more two.more (rows.Sent job) has);
+    }
+  where
+    by_each : (row : RowKind) → Has one.more row ⊎ Has two.more row → IsOfCoord row
+    by_each row (inl has) = one.each row has
+    by_each row (inr has) = two.each row has
+
+    later : (why : Why) → MayCause (now_of e b) why → MayCause (now_of e c) why
+    later = cause_put e run b c plain two
+
+    by_makes : (job : Job) → IsMake job.task → Has one.more (rows.Sent job) ⊎ Has two.more (rows.Sent job) → MayCause (now_of e c) job.why
+    by_makes job makes (inl has) = later job.why (one.makes job has makes)
+    by_makes job makes (inr has) = two.makes job has makes
+
+-- ---- a turn
+
+turn_coord : (row : RowKind) → IsOfTurn row → IsOfCoord row
+turn_coord (rows.Started req goal) its = tt
+turn_coord (rows.Applied req change) its = tt
+turn_coord (rows.Refused req reason) its = tt
+turn_coord (rows.Dropped req cause) its = tt
+turn_coord _ its = absurd its
+
+pub turn_put : (e : InEvent) (was out : List RowKind) → HasGrown was out → HasPut e was out
+turn_put e was out grown =
+    record {
+      more = grown.more;
+      is = grown.is;
+      each = λ row has. turn_coord row (grown.each row has);
+      makes = λ job has makes. absurd (grown.each (rows.Sent job) has);
+    }
+
+-- ---- a pass
+
+-- an order that makes a document is for the traversal that runs, or for the cause
+abbrev MakesFor : Option ReqId → Why → RowKind → Type 0
+MakesFor run cause (rows.Sent job) = IsMake job.task → (job.why ≡ show_why run cause) ⊎ (job.why ≡ cause)
+MakesFor run cause (rows.Dropped req because) = Unit {0}
+MakesFor run cause _ = ⊥
+
+module _ (run : Option ReqId) (cause : Why) where
+  dropped_for : (Is : Drop → Type 0) (was out : List RowKind) → HasOnlyDropped Is was out → HasOnly (MakesFor run cause) was out
+  dropped_for Is was out only =
+      record { more = map_rows only.drops; is = only.is; each = λ row there. each only.drops row there }
+    where
+      map_rows : List Drop → List RowKind
+      map_rows [] = []
+      map_rows (d ∷ drops) = row_of_drop d ∷ map_rows drops
+
+      each : (drops : List Drop) (row : RowKind) → Has (map_rows drops) row → MakesFor run cause row
+      each [] row there = absurd there
+      each (d ∷ drops) row (inl same) = subst (λ (x : RowKind). MakesFor run cause x) same tt
+      each (d ∷ drops) row (inr there) = each drops row there
+
+  given_for : (by : Option ReqId) (s : Seen) (was out : List RowKind) → HasGivenWay s by was out → HasOnly (MakesFor run cause) was out
+  given_for None s was out same = subst (λ (l : List RowKind). HasOnly (MakesFor run cause) was l) (sym same) (only_none (MakesFor run cause) was)
+  given_for (Some by) s was out only = dropped_for _ was out only
+
+  served_for : (row : RowKind) → IsServeFor run cause row → MakesFor run cause row
+  served_for row it = subst (λ (x : RowKind). MakesFor run cause x) (sym it.is) (λ makes. it.why_is)
+
+  told_for : (tells : Why) (row : RowKind) → IsUpdateFor tells row → MakesFor run cause row
+  told_for tells (rows.Sent job) is = λ makes. absurd (never job.task is.1 makes)
+    where
+      never : (task : Task) → length_index task ≡ true → IsMake task → ⊥
+      never (tasks.Populate nav state address initial) is_ makes = let no_ : false ≡ true = is_ in cc
+      never _ is_ makes = absurd makes
+  told_for tells row is = elim is [ ]
+
+  makes_for : (e : InEvent) (tells : Why) (was out : List RowKind) → HasPutOut e run cause tells was out → HasOnly (MakesFor run cause) was out
+  makes_for e tells was out put =
+      only_then (MakesFor run cause) was put.given out (given_for run (now_of e was) was put.given put.gives)
+      (only_then (MakesFor run cause) put.given put.cleared out (only_then (MakesFor run cause) put.given put.clears.swept put.cleared swept (dropped_for _ put.clears.swept put.cleared put.clears.destroys))
+      (only_then (MakesFor run cause) put.cleared put.served out (only_as (IsServeFor run cause) (MakesFor run cause) put.cleared put.served served_for put.serves) (only_as (IsUpdateFor tells) (MakesFor run cause) put.served out (told_for tells) put.told)))
+    where
+      discards : (task : Task) → task ≡ tasks.Discard → IsMake task → ⊥
+      discards (tasks.Populate nav state address initial) is makes = cc
+      discards _ is makes = absurd makes
+
+      swept : HasOnly (MakesFor run cause) put.given put.clears.swept
+      swept =
+          record {
+            more = put.clears.sweeps.more;
+            is = put.clears.sweeps.is;
+            each = λ row there. (let it = put.clears.sweeps.each row there in subst (λ (x : RowKind). MakesFor run cause x) (sym it.is) (λ makes. absurd (discards it.job.task it.discards makes)));
+          }
+
+for_coord : (run : Option ReqId) (cause : Why) (row : RowKind) → MakesFor run cause row → IsOfCoord row
+for_coord run cause (rows.Sent job) its = tt
+for_coord run cause (rows.Dropped req because) its = tt
+for_coord run cause _ its = absurd its
+
+pub pass_put : (e : InEvent) (run : Option ReqId) (cause tells : Why) (was out : List RowKind) → HasPutOut e run cause tells was out → ArePlain run (now_of e was) → MayCause (now_of e was) cause → ((why : Why) → MayCause (now_of e was) why → MayCause (now_of e out) why) → HasPut e was out
+pass_put e run cause tells was out put plain may causes =
+    record {
+      more = only.more;
+      is = only.is;
+      each = λ row has. for_coord run cause row (only.each row has);
+      makes = λ job has makes. by_why job.why (only.each (rows.Sent job) has makes);
+    }
+  where
+    only : HasOnly (MakesFor run cause) was out
+    only = makes_for run cause e tells was out put
+
+    by_why : (why : Why) → (why ≡ show_why run cause) ⊎ (why ≡ cause) → MayCause (now_of e out) why
+    by_why why (inl is) = causes why (subst (MayCause (now_of e was)) (sym is) (show_causes (now_of e was) run plain cause may))
+    by_why why (inr is) = causes why (subst (MayCause (now_of e was)) (sym is) may)

@@ -1,0 +1,63 @@
+-- An event of the coordinator begins: all goes on once its own row was logged, whatever it leaves of a tab as one is between two events.
+use Rattle.tab_stands.proofs.Orders.{makes_first}
+use Rattle.frame_rows.proofs.LawfulLaws.{lawful_legal}
+use Rattle.load_doors.specs.Tied.{AreTied}
+use Rattle.move_queue.specs.Queue.{Queue}
+use Rattle.owed_facts.proofs.Ends.{loose_first, loose_owed}
+use Rattle.rest_rows.specs.Moving.{AllRest}
+use Rattle.seen_laws.specs.InEvent.{AreLegal, InEvent, now_of}
+use Rattle.seen_laws.specs.Sending.{leads}
+use Rattle.std.proofs.Common.{List, [], ap, length, subst, sym, true, ◌≡◌, ◌≤◌, ℕ}
+use Rattle.tab_doors.proofs.Ahead.{lawful_none}
+use Rattle.tab_doors.specs.Working.{HasGoal, IsAtWork, IsWorker}
+use Rattle.tab_doors.specs.declared.tables.Tables.{Tables}
+use Rattle.tab_settles.proofs.PassedOn.{unheld_first}
+use Rattle.tab_events.specs.Between.{IsBetween}
+use Rattle.tab_settles.specs.PassedOn.{InPass, IsGoing, IsPassing}
+use Rattle.tab_ids.specs.declared.DocId.{DocId}
+use Rattle.tab_ids.specs.declared.ReqId.{ReqId}
+use Rattle.tab_ids.specs.declared.StateId.{StateId}
+use Rattle.tab_settles.specs.Settling.{IsQueueing}
+use Rattle.tab_stands.proofs.Coming.{IsComing, stand_then, taking_then}
+use Rattle.tab_stands.specs.Standing.{HasBegun, Lasts}
+
+-- a coordinator is at work once the own row was logged, whose tables stand for what the log has come to
+pub work_first : (e : InEvent) (t : Tables) → leads e.own ≡ true → IsWorker e.actor → AreLegal e [] → AreTied (now_of e []) t → IsAtWork e [] t
+work_first e t own worker legal tied =
+    record {
+      own = own;
+      worker = worker;
+      holds = tied.holds;
+      runs = tied.runs;
+      goal = tied.goal;
+      few = tied.few;
+      initial = tied.initial;
+      loads = tied.loads;
+      kept = tied.kept;
+      lawful = lawful_none e [] (lawful_legal e [] legal);
+    }
+
+module _ (p : InPass) (t : Tables) (queue : Queue) (blame : List (StateId × ReqId)) (between : IsBetween t.kept.keep t.running p.event.start) (lasts : Lasts t.running p.event.start) (goal : HasGoal p.event.start.requests t.running t.goal) (header : t.kept.keep ≡ p.event.header.keep) (own : leads p.event.own ≡ true) (worker : IsWorker p.event.actor) (legal : AreLegal p.event []) (tied : AreTied (now_of p.event []) t) (going : IsGoing t.running p.loads p.hand (now_of p.event [])) (rests : AllRest (now_of p.event [])) (comes : IsComing blame p.event.start (now_of p.event [])) where
+  passing : IsPassing p [] t
+  passing =
+      record {
+        work = work_first p.event t own worker legal tied;
+        going = going;
+        owed = loose_owed p.event [] (loose_first p.event own);
+        loose = λ all. loose_first p.event own;
+        rests = rests;
+        few = subst (λ (k : ℕ). k ≤ t.kept.keep) (sym (ap (λ (l : List DocId). length l) comes.kept)) between.few;
+      }
+
+  pub begun : IsQueueing p [] t queue → HasBegun p t queue blame
+  begun queueing =
+      record {
+        passing = passing;
+        header = header;
+        taking = taking_then p.event t.running t.kept.keep t.goal blame (now_of p.event []) between lasts goal p.loads p.hand going.tab tied.goal comes (unheld_first p t passing);
+        loose = loose_first p.event own;
+        stand = stand_then p.event t.running t.kept.keep t.goal blame (now_of p.event []) between lasts goal p.loads p.hand going.tab tied.goal comes;
+        theirs = comes.theirs;
+        makes = makes_first p.event own comes.serves lasts.makes;
+        queueing = queueing;
+      }

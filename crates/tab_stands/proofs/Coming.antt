@@ -1,0 +1,274 @@
+-- What an event's own row leaves of a tab as one is between two events, so that what documents made may be taken then, and a pass may follow.
+use Rattle.calm_facts.proofs.Calms.{calm_but, calm_need, calm_rooted}
+use Rattle.calm_facts.proofs.Sames.{SameSights, Sight, calm_same, given_same, here_same, rooted_kept, sight_of, way_at}
+use Rattle.calm_facts.proofs.Awakes.{lost_none}
+use Rattle.calm_facts.specs.Calm.{AreRooted, CalmUnless, IsCalm, IsCalmYet, UnmovedAreHere}
+use Rattle.calm_facts.specs.Loads.{LoadsHaveDocuments}
+use Rattle.frame_whole.specs.Tab.{AreAwakeWithRows}
+use Rattle.hang_facts.proofs.Hung.{places_distinct}
+use Rattle.left_facts.specs.Left.{WereShown}
+use Rattle.load_ends.specs.Standing.{LoadsStand, is_reached}
+use Rattle.load_facts.specs.Loading.{Look, is_ongoing, look_of}
+use Rattle.log_model.specs.Equal.{holds}
+use Rattle.log_model.specs.History.{History, has_nav, has_row}
+use Rattle.log_model.specs.Places.{aim_of, has_arrived, is_given_target, is_lost_in, is_moved, is_placed, is_shown, is_standing, way_to}
+use Rattle.log_model.specs.Seen.{Place, Seen, awake, place_in, place_of}
+use Rattle.log_model.specs.declared.job.Why.{Why}
+use Rattle.mover_facts.proofs.Places.{WasThere, place_then, was_there, ways_mapped}
+use Rattle.mover_facts.proofs.Stays.{KeepWays}
+use Rattle.place_facts.proofs.Documents.{KeepStates}
+use Rattle.seen_laws.proofs.Sendings.{both}
+use Rattle.seen_laws.specs.InEvent.{InEvent}
+use Rattle.std.proofs.Common.{List, None, Option, Some, [], ap, arith, false, inl, inr, map, not, refl, subst, sym, true, ℕ, ◌&&◌, ◌∙◌, ◌∷◌, ◌≡◌, ◌⊎◌}
+use Rattle.std.proofs.lemmas.Bool.{and_parts}
+use Rattle.std.specs.List.{list_any}
+use Rattle.std.specs.Prelude.{is_some, option_map}
+use Rattle.tab_settles.proofs.PassedOn.{IsReachedAt, aim_is, all_of, bare_move, calm_unmoved, each_stands, own_document, reached_at, show_causes, stand_awake, stand_bare, stand_reached}
+use Rattle.tab_doors.specs.Working.{HasGoal}
+use Rattle.tab_events.specs.Between.{IsBetween}
+use Rattle.tab_ids.specs.declared.DocId.{DocId}
+use Rattle.tab_ids.specs.declared.EntryId.{EntryId}
+use Rattle.tab_ids.specs.declared.NavId.{NavId}
+use Rattle.tab_ids.specs.declared.ReqId.{ReqId}
+use Rattle.tab_ids.specs.declared.StateId.{StateId}
+use Rattle.tab_ids.specs.declared.Step.{Step}
+use Rattle.log_model.specs.declared.made.Made.{Made}
+use Rattle.tab_settles.specs.PassedOn.{AreUnheld, IsBlamed, IsLeftStray, IsLoadOf, IsStray, IsTab, IsTaking, LoadsLive, LoadsMadeOwn, MayCause, MayServe, MayStand, ParentsShown, TakersServe, aim_in, show_why}
+use Rattle.tab_settles.specs.Settling.{IsCalmAfter}
+use Rattle.tab_stands.specs.Standing.{Lasts}
+use Rattle.walk_rows.proofs.Moved.{run_moves}
+use Rattle.walk_rows.specs.Since.{AwakeSince, MovesVisited}
+use Rattle.log_model.specs.declared.job.Why.TheVariants as whys
+
+-- ---- what a row leaves
+
+-- a change of a place by which it may be known that its document is shown, and no more
+pub record OnlyArrives (g : Place → Place) : Type 0 where
+  pub nav : (p : Place) → (g p).nav ≡ p.nav
+  pub sight : (p : Place) → sight_of (g p) ≡ sight_of p
+  pub last : (p : Place) → (g p).last ≡ p.last
+  pub taken : (p : Place) → (g p).taken_by ≡ p.taken_by
+  pub ever : (p : Place) → (g p).ever_given ≡ p.ever_given
+  pub arrived : (p : Place) → has_arrived p ≡ true → has_arrived (g p) ≡ true
+
+-- the history and the kept documents are as they were; a navigable may have arrived; each ongoing load was one, and has its document; orders may be for whom they might be, the traversal that runs has moved whom it had, each document is of its state, and for each stray document a request is noted
+pub record IsComing (blame : List (StateId × ReqId)) (s n : Seen) : Type 0 where
+  pub g : Place → Place
+  pub arrives : OnlyArrives g
+  pub places : n.places ≡ map g s.places
+  pub history : n.history ≡ s.history
+  pub kept : n.kept ≡ s.kept
+  pub loads : (req : ReqId) (l : Look) → look_of n req ≡ Some l → is_ongoing l ≡ true → look_of s req ≡ Some l
+  pub loading : LoadsHaveDocuments n
+  pub serves : (req : ReqId) → MayServe s req → MayServe n req
+  pub moved : (nav : NavId) → is_moved n nav ≡ is_moved s nav
+  pub states : KeepStates s.documents n.documents
+  pub strays : (doc : DocId) (state : StateId) → IsStray n doc state → IsLeftStray n blame doc state ⊎ IsBlamed n blame doc state
+  pub were : WereShown n
+  pub theirs : LoadsMadeOwn n
+
+-- ---- what is so then
+
+module _ (e : InEvent) (run : Option ReqId) (keep : ℕ) (goal : Step) (blame : List (StateId × ReqId)) (n : Seen) (between : IsBetween keep run e.start) (lasts : Lasts run e.start) (goal_was : HasGoal e.start.requests run goal) (ids : List ReqId) (hand : List Made) (tab : IsTab run ids hand n) (goal_then : HasGoal n.requests run goal) (comes : IsComing blame e.start n) where
+  abbrev s : Seen
+  s = e.start
+
+  -- the place before
+  was : (nav : NavId) (place : Place) → place_of n nav ≡ Some place → WasThere comes.g s.places nav place
+  was nav place there =
+      was_there comes.g s.places comes.arrives.nav nav place (ap (λ (l : List Place). place_in l nav) (sym comes.places) ∙ there)
+
+  -- and then
+  still : (nav : NavId) (place : Place) → place_of s nav ≡ Some place → place_of n nav ≡ Some (comes.g place)
+  still nav place there =
+      ap (λ (l : List Place). place_in l nav) comes.places
+      ∙ place_then comes.g s.places comes.arrives.nav nav
+      ∙ ap (λ (o : Option Place). option_map comes.g o) there
+
+  above_same : (p : Place) → (comes.g p).above ≡ p.above
+  above_same p = ap (λ (x : Sight). x.above) (comes.arrives.sight p)
+
+  status_same : (p : Place) → (comes.g p).status ≡ p.status
+  status_same p = ap (λ (x : Sight). x.status) (comes.arrives.sight p)
+
+  given_is : (p : Place) → (comes.g p).given ≡ p.given
+  given_is p = ap (λ (x : Sight). x.given) (comes.arrives.sight p)
+
+  sights : SameSights s n
+  sights nav =
+      ap (λ (l : List Place). option_map sight_of (place_in l nav)) comes.places
+      ∙ ap (λ (o : Option Place). option_map sight_of o) (place_then comes.g s.places comes.arrives.nav nav)
+      ∙ by_found (place_in s.places nav)
+    where
+      by_found : (o : Option Place) → option_map sight_of (option_map comes.g o) ≡ option_map sight_of o
+      by_found None = refl
+      by_found (Some p) = ap (λ (x : Sight). let o : Option Sight = Some x in o) (comes.arrives.sight p)
+
+  -- the aim is as it was
+  pub aim_same : aim_of n ≡ aim_of s
+  aim_same =
+      aim_is n run tab.asked goal goal_then
+      ∙ ap (λ (h : History). aim_in h run goal) comes.history
+      ∙ sym (aim_is s run between.tab.asked goal goal_was)
+
+  -- each ongoing load was one
+  load_was : (req : ReqId) (nav : NavId) → IsLoadOf n req nav → IsLoadOf s req nav
+  load_was req nav its = record { look = its.look; at = comes.loads req its.look its.at its.ongoing; ongoing = its.ongoing; loads_it = its.loads_it }
+
+  -- ---- ongoing loads stand
+
+  standing_then : (x : NavId) (old : Place) → place_of s x ≡ Some old → (step : ℕ) → is_standing s.history.rows step old ≡ true → is_standing s.history.rows step (comes.g old) ≡ true
+  standing_then x old there step is =
+      let parts = and_parts (is_given_target s.history.rows step old && not old.is_unmet) (has_arrived old) is in
+      let target : is_given_target s.history.rows step old ≡ true = (and_parts (is_given_target s.history.rows step old) (not old.is_unmet) parts.0).0 in
+      let met : not (comes.g old).is_unmet ≡ true = ap not (tab.standing x (comes.g old) (still x old there)).met in
+      both (both (given_same s.history.rows step (comes.g old) old (comes.arrives.nav old) (given_is old) ∙ target) met) (comes.arrives.arrived old parts.1)
+
+  placed_then : (x : NavId) → is_placed s (aim_of s) x ≡ true → is_placed n (aim_of n) x ≡ true
+  placed_then x placed =
+      ap (λ (k : ℕ). is_placed n k x) aim_same
+      ∙ both (ap (λ (h : History). is_shown h.rows (aim_of s) x) comes.history ∙ parts.0) (ap (λ (h : History). holds (is_standing h.rows (aim_of s)) (place_of n x)) comes.history ∙ by_found (place_of s x) refl)
+    where
+      parts : (is_shown s.history.rows (aim_of s) x ≡ true) × (holds (is_standing s.history.rows (aim_of s)) (place_of s x) ≡ true)
+      parts = and_parts (is_shown s.history.rows (aim_of s) x) (holds (is_standing s.history.rows (aim_of s)) (place_of s x)) placed
+
+      by_found : (o : Option Place) → place_of s x ≡ o → holds (is_standing s.history.rows (aim_of s)) (place_of n x) ≡ true
+      by_found None none =
+          let never : false ≡ true = ap (λ (o : Option Place). holds (is_standing s.history.rows (aim_of s)) o) (sym none) ∙ parts.1 in absurd cc
+      by_found (Some old) there =
+          ap (λ (o : Option Place). holds (is_standing s.history.rows (aim_of s)) o) (still x old there)
+          ∙ standing_then x old there (aim_of s) (ap (λ (o : Option Place). holds (is_standing s.history.rows (aim_of s)) o) (sym there) ∙ parts.1)
+
+  reached_then : (nav : NavId) → is_reached s nav ≡ true → is_reached n nav ≡ true
+  reached_then nav reached =
+      both (all_of (is_placed n (aim_of n)) (way_to n nav) (λ x has. placed_then x (at.each x (ap (λ (l : List NavId). has_nav l x) (sym way) ∙ has)))) (ap (λ (o : Option Place). holds (λ (x : Place). not (list_any (is_lost_in n.places) x.above)) o) there ∙ ap not (lost_none n tab.standing (comes.g at.place).above))
+    where
+      at : IsReachedAt s nav
+      at = reached_at s nav reached
+
+      there : place_of n nav ≡ Some (comes.g at.place)
+      there = still nav at.place at.placed
+
+      way : way_to n nav ≡ nav ∷ at.place.above
+      way = way_at n nav (comes.g at.place) there ∙ ap (λ (l : List NavId). nav ∷ l) (above_same at.place)
+
+  pub stand_then : LoadsStand n
+  stand_then =
+      each_stands n (λ req nav its. reached_then nav (stand_reached s between.stands req nav (load_was req nav its)))
+
+  pub live_then : LoadsLive n
+  live_then = record { awake = stand_awake run ids hand n tab stand_then; loading = comes.loading }
+
+  -- ---- who is awake, and who is above
+
+  pub rows_then : AreAwakeWithRows n
+  rows_then nav place doc there wakes =
+      let w : WasThere comes.g s.places nav place = was nav place there in
+      let nav_is : place.nav ≡ w.before.nav = ap (λ (p : Place). p.nav) (sym w.is) ∙ comes.arrives.nav w.before in
+      ap (λ (h : History). has_row place.nav h.rows) comes.history
+      ∙ ap (λ (x : NavId). has_row x s.history.rows) nav_is
+      ∙ between.rows_ nav w.before doc w.found (sym (status_same w.before) ∙ ap (λ (p : Place). p.status) w.is ∙ wakes)
+
+  awake_then : AwakeSince s [] n
+  awake_then nav place doc out there wakes =
+      let w : WasThere comes.g s.places nav place = was nav place there in
+      record { place = w.before; placed = w.found; wakes = sym (status_same w.before) ∙ ap (λ (p : Place). p.status) w.is ∙ wakes }
+
+  ways_then : KeepWays s.places n.places
+  ways_then =
+      subst (λ (l : List Place). KeepWays s.places l) (sym comes.places)
+      (ways_mapped comes.g s.places (record { nav = comes.arrives.nav; above = above_same; given = λ p test any. ap (λ (l : List EntryId). list_any test l) (comes.arrives.ever p) ∙ any }))
+
+  pub parents_then : ParentsShown n
+  parents_then nav above place up there has over =
+      let w : WasThere comes.g s.places nav place = was nav place there in
+      let v : WasThere comes.g s.places above up = was above up over in
+      let had : has_nav w.before.above above ≡ true = ap (λ (l : List NavId). has_nav l above) (sym (above_same w.before) ∙ ap (λ (p : Place). p.above) w.is) ∙ has in
+      ap (λ (o : Option DocId). is_some o) (ap (λ (p : Place). p.last) (sym v.is) ∙ comes.arrives.last v.before)
+      ∙ lasts.parents nav above w.before v.before w.found had v.found
+
+  pub takers_then : TakersServe n
+  takers_then nav place req there is =
+      let w : WasThere comes.g s.places nav place = was nav place there in
+      comes.serves req (lasts.takers nav w.before req w.found (sym (comes.arrives.taken w.before) ∙ ap (λ (p : Place). p.taken_by) w.is ∙ is))
+
+  -- ---- how calm the tab is
+
+  calm_idle : IsCalm s → IsCalm n
+  calm_idle calm = calm_same s n comes.history sights (λ (nav : NavId). ⊥) calm
+
+  pub calm_then : IsCalmAfter run n
+  calm_then = by_run run refl lasts.calm
+    where
+      here_then : UnmovedAreHere s → UnmovedAreHere n
+      here_then here nav place doc there wakes has unmoved =
+          let w : WasThere comes.g s.places nav place = was nav place there in
+          here_same s n comes.history place w.before (ap (λ (p : Place). p.nav) (sym w.is) ∙ comes.arrives.nav w.before) (ap (λ (p : Place). p.given) (sym w.is) ∙ given_is w.before)
+          (here nav w.before doc w.found (sym (status_same w.before) ∙ ap (λ (p : Place). p.status) w.is ∙ wakes) (ap (λ (h : History). has_row nav h.rows) (sym comes.history) ∙ has) (sym (comes.moved nav) ∙ unmoved))
+
+      by_run : (r : Option ReqId) → run ≡ r → IsCalmAfter r s → IsCalmAfter r n
+      by_run None is calm = calm_idle calm
+      by_run (Some req) is calm = (here_then calm.0, rooted_kept s n comes.history sights comes.states calm.1)
+
+  yet_of : (r : Option ReqId) → IsCalmAfter r n → CalmUnless IsCalmYet r n
+  yet_of None calm = calm_but n calm (λ (nav : NavId). has_row nav n.history.rows ≡ false)
+  yet_of (Some req) calm = tt
+
+  unmoved_of : (r : Option ReqId) → IsCalmAfter r n → UnmovedAreHere n
+  unmoved_of None calm = calm_unmoved n calm
+  unmoved_of (Some req) calm = calm.0
+
+  rooted_of : (r : Option ReqId) → IsCalmAfter r n → AreRooted n
+  rooted_of None calm = calm_rooted n calm
+  rooted_of (Some req) calm = calm.1
+
+  -- ---- who is visited in need
+
+  moves_then : (r : Option ReqId) → run ≡ r → IsCalmAfter r n → (cause : Why) → MovesVisited n (show_why r cause)
+  moves_then None is calm cause nav place there need epoch =
+      let idle : aim_of n ≡ n.history.current = aim_is n run tab.asked goal goal_then ∙ ap (λ (r : Option ReqId). aim_in n.history r goal) is in
+      let zero_ : place.epoch.0 ≡ 0 = calm_need n tab.standing idle tab.sound tab.hangs (calm_but n calm (λ (x : NavId). has_row x n.history.rows ≡ false)) nav place there need in
+      absurd (omega (arith, zero_, epoch))
+  moves_then (Some req) is calm cause nav place there need epoch =
+      let it = tab.asked.runs req is in
+      let each = tab.asked.each req it.q it.found in
+      let may : MayServe n req = subst (λ (r : Option ReqId). MayCause n (show_why r whys.Start)) is (show_causes n run tab.asked whys.Start (λ r never. absurd cc)) req refl in
+      run_moves n req it.q nav it.found it.traverses (may.begun it.q it.found it.traverses) each.unasked each.unprompted
+
+  -- ---- all of it, where no ongoing load was held back
+
+  pub taking_then : AreUnheld e n → IsTaking e run blame n
+  taking_then unheld =
+      record {
+        open_ = λ cause may. record {
+          may = may;
+          since = record { distinct = places_distinct s between.tab.sound between.tab.hangs; homed = between.tab.homes.homed; ways = ways_then };
+          unwoken = awake_then;
+          moves = moves_then run refl calm_then cause;
+          were = comes.were;
+          parents = parents_then;
+          held = unheld;
+          takers = takers_then;
+        };
+        loads = loads_of run;
+        blamed = λ doc state stray. blamed_of doc state stray (comes.strays doc state stray);
+        calm = yet_of run calm_then;
+        unmoved = unmoved_of run calm_then;
+        rooted = rooted_of run calm_then;
+        live = live_then;
+      }
+    where
+      -- nobody is awake on a document whose navigable has no entry
+      blamed_of : (doc : DocId) (state : StateId) → IsStray n doc state → IsLeftStray n blame doc state ⊎ IsBlamed n blame doc state → IsBlamed n blame doc state
+      blamed_of doc state stray (inr it) = it
+      blamed_of doc state stray (inl it) =
+          record {
+            req = it.req;
+            noted = it.noted;
+            may = it.may;
+            moves = λ nav place other under placed wakes at is. absurd (let never : true ≡ false = sym (rows_then nav place doc placed wakes) ∙ ap (λ (x : NavId). has_row x n.history.rows) (sym (own_document run ids hand n tab nav place doc stray.document placed wakes stray.found)) ∙ it.bare stray.document stray.found in cc);
+          }
+
+      loads_of : (r : Option ReqId) → MayStand r n
+      loads_of None = stand_bare n stand_then
+      loads_of (Some req) = bare_move n (stand_bare n stand_then)

@@ -1,0 +1,253 @@
+-- A request of the user is accepted, and refused in the same event: the coordinator stands for the log still.
+use Rattle.asked_facts.specs.Asking.{ArePlain}
+use Rattle.tab_settles.proofs.Puts.{put_makes}
+use Rattle.seen_laws.specs.Sending.{leads}
+use Rattle.tab_stands.proofs.Orders.{makes_first, refusal_put}
+use Rattle.coord_facts.proofs.Flowings.{left_flows}
+use Rattle.coord_facts.proofs.Held.{on_else, without_same}
+use Rattle.coord_facts.proofs.Unread.{accepted_held, next, refused_held, refused_left}
+use Rattle.coord_facts.specs.Flowing.{Flows}
+use Rattle.each_facts.specs.Runs.{is_this}
+use Rattle.last_facts.proofs.Rows.{refused_lasting}
+use Rattle.left_facts.proofs.Rows.{were_shown}
+use Rattle.left_facts.specs.Left.{WereShown}
+use Rattle.load_doors.specs.Tied.{AreTied}
+use Rattle.load_ties.proofs.Ends.{other_ends, refused_ended}
+use Rattle.log_model.specs.AfterRequests.{joined_accepted, without_req}
+use Rattle.log_model.specs.ActsAtOnce.{is_ready_load}
+use Rattle.log_model.specs.Equal.{has_req}
+use Rattle.log_model.specs.Places.{is_ongoing_load}
+use Rattle.log_model.specs.Seen.{Asked, Seen, request_in}
+use Rattle.log_model.specs.declared.outcome.Denial.{Denial}
+use Rattle.log_model.specs.declared.request.Request.{Request}
+use Rattle.log_model.specs.declared.row_kind.RowKind.{RowKind}
+use Rattle.hang_facts.specs.Members.{Has}
+use Rattle.move_queue.specs.Queue.{Queue}
+use Rattle.move_queue.specs.declared.queue_step.QueueStep.{QueueStep}
+use Rattle.move_queue.specs.declared.queue_step.QueueStep.TheVariants.{Ready}
+use Rattle.request_facts.proofs.LookUps.{none_before, others_before}
+use Rattle.request_facts.proofs.Readers.{on_read}
+use Rattle.request_facts.proofs.Times.{times_none}
+use Rattle.request_facts.specs.Whereabouts.{times_found}
+use Rattle.rest_rows.proofs.Rows.{accepted_rests, refused_rests}
+use Rattle.seen_laws.proofs.InEvents.{now_more}
+use Rattle.seen_laws.specs.InEvent.{InEvent, now_of}
+use Rattle.std.proofs.Common.{List, None, Option, Some, [], ap, arith, false, filter, inl, inr, length, map, refl, subst, sym, true, ℕ, ◌++◌, ◌+◌, ◌-◌, ◌==◌, ◌∙◌, ◌∷◌, ◌≡◌, ◌⊎◌}
+use Rattle.std.proofs.lemmas.Bool.Decides.{nat_tests}
+use Rattle.std.proofs.lemmas.List.{map-id}
+use Rattle.std.specs.List.{list_any}
+use Rattle.std.specs.Option.{option_map_or}
+use Rattle.std.specs.Prelude.{slice_set}
+use Rattle.tab_settles.specs.PassedOn.{AreLeftStrays, AreStepsOf, AwaitTurns, HasQueue, HaveJoined, IsGoing, IsTab, is_traverse}
+use Rattle.tab_doors.proofs.EndLaws.{left_holds}
+use Rattle.tab_doors.proofs.Keeping.{unstarted_no_load}
+use Rattle.tab_doors.proofs.Requests.{ended_moved, moved_same, runs_ended_apart}
+use Rattle.tab_doors.proofs.Works.{goal_read, goal_same}
+use Rattle.tab_doors.specs.Look.{look_of as sights_of, moved_by}
+use Rattle.tab_doors.specs.declared.tables.Tables.{Tables}
+use Rattle.tab_events.proofs.Left.{between_left, keeps_all}
+use Rattle.tab_events.proofs.Ordered.{unrefused}
+use Rattle.tab_events.proofs.Requests.{AreLeft, others_left}
+use Rattle.tab_events.specs.Between.{IsBetween, has_order}
+use Rattle.tab_settles.proofs.PassedOn.{first_refused_tab, refused_going}
+use Rattle.tab_ids.specs.declared.ReqId.{ReqId}
+use Rattle.tab_ids.specs.declared.StateId.{StateId}
+use Rattle.tab_settles.specs.Settling.{HoldsParked, MakesServe}
+use Rattle.tab_stands.proofs.Accepting.{goes_on, new, now, tied_now, went, comes_now}
+use Rattle.tab_stands.proofs.Coming.{IsComing}
+use Rattle.tab_stands.proofs.More.{coming_more, more, new_there, old_stays, one_of, strays_more}
+use Rattle.tab_stands.proofs.Stays.{stands_still}
+use Rattle.tab_stands.proofs.Waiting.{steps_stay}
+use Rattle.tab_stands.specs.Standing.{HasRoomFor, StandsFor}
+use Rattle.log_model.specs.declared.outcome.Ending.TheVariants as endings
+use Rattle.log_model.specs.declared.row_kind.Actor.{Actor}
+use Rattle.log_model.specs.declared.row_kind.Actor.TheVariants as actors
+use Rattle.log_model.specs.declared.row_kind.RowKind.TheVariants as rows
+
+some_same : {A : Type 0} {a b : A} → (let o : Option A = Some a in o) ≡ Some b → a ≡ b
+some_same e = cc
+
+-- the last of a list is put in its place
+set_last : {A : Type 0} (xs : List A) (x y : A) → slice_set (xs ++ x ∷ []) (length xs) y ≡ xs ++ y ∷ []
+set_last [] x y = refl
+set_last (z ∷ xs) x y = ap (λ l. z ∷ l) (set_last xs x y)
+
+module _ (e : InEvent) (t : Tables) (queue : Queue) (blame : List (StateId × ReqId)) (stands : StandsFor e.start t queue blame) (room : HasRoomFor e.start) (req : ReqId) (what : Request) (by_user : e.actor ≡ actors.Ui) (own : e.own ≡ rows.Accepted req None what) (nr : req.0 ≡ length e.start.requests + 1) (reason : Denial) (joins : joined_accepted e.start.joined req what ≡ e.start.joined) where
+  abbrev s : Seen
+  s = e.start
+
+  abbrev run : Option ReqId
+  run = t.running
+
+  abbrev w : Seen
+  w = went e req None what by_user own nr
+
+  abbrev asked : Asked
+  asked = new e req None what by_user own nr
+
+  -- the request, refused
+  abbrev refuse : Asked → Asked
+  refuse q = record q { ending = Some (endings.Refused reason) }
+
+  abbrev lost : Asked
+  lost = refuse asked
+
+  abbrev n : Seen
+  n = next w e.event actors.Ui (rows.Refused req reason)
+
+  abbrev out : List RowKind
+  out = rows.Refused req reason ∷ []
+
+  pub now_refused : now_of e out ≡ n
+  now_refused =
+      now_more e [] (rows.Refused req reason)
+      ∙ (ap (λ (a : Actor). next (now_of e []) e.event a (rows.Refused req reason)) by_user
+      ∙ ap (λ (x : Seen). next x e.event actors.Ui (rows.Refused req reason)) (now e req None what by_user own nr))
+
+  -- ---- the requests: one more, which is refused
+
+  there : request_in w.requests req ≡ Some asked
+  there = new_there s w asked req nr
+
+  requests_are : n.requests ≡ s.requests ++ lost ∷ []
+  requests_are =
+      ap (λ (o : Option Asked). option_map_or (λ (q : Asked). slice_set w.requests (req.0 - 1) (refuse q)) o w.requests) there
+      ∙ (ap (λ (i : ℕ). slice_set w.requests i lost) last ∙ set_last s.requests asked lost)
+    where
+      last : (req.0 - 1) ≡ length s.requests
+      last = omega (arith, nr)
+
+  abbrev m : Seen
+  m = more s n lost req nr
+
+  n_is : n ≡ m
+  n_is = ap (λ (l : List Asked). record n { requests = l }) requests_are
+
+  comes : IsComing blame s n
+  comes =
+      subst (λ (x : Seen). IsComing blame s x) (sym n_is) (coming_more s n lost req nr refl refl refl refl t queue blame stands (subst (λ (x : Seen). WereShown x) n_is were))
+    where
+      were : WereShown n
+      were =
+          were_shown w e.event actors.Ui (were_shown s e.event actors.Ui stands.lasts.were (rows.Accepted req None what) tt) (rows.Refused req reason) tt
+
+  -- ---- it was nowhere before
+
+  none : request_in s.requests req ≡ None
+  none = none_before s.requests asked req nr
+
+  nowhere : times_found req s.desks s.joined s.parked [] ≡ 0
+  nowhere = stands.between.tab.once req (rw none refl) ∙ rw none refl
+
+  pub unparked : has_req s.parked req ≡ false
+  unparked = times_none req s.parked (let zero_ = nowhere in omega (arith, zero_))
+
+  unjoined : has_req s.joined req ≡ false
+  unjoined = times_none req s.joined (let zero_ = nowhere in omega (arith, zero_))
+
+  joined_same : n.joined ≡ s.joined
+  joined_same = ap (λ (l : List ReqId). without_req req l) joins ∙ without_same s.joined req unjoined
+
+  parked_same : n.parked ≡ s.parked
+  parked_same = without_same s.parked req unparked
+
+  -- ---- what holds between two events
+
+  module _ (tab : IsTab run (req ∷ []) [] w) (flows : Flows w) where
+    other : is_this run req ≡ false
+    other = sym (tab.asked.only req asked there)
+
+    tab_then : IsTab run [] [] n
+    tab_then = first_refused_tab run req [] [] w e.event tab other actors.Ui reason tt
+
+    left : AreLeft run s.requests n.requests
+    left =
+        others_left run s.requests n.requests req other
+        (λ r apart. on_else w.requests req refuse r apart ∙ others_before s.requests asked req nr r (let turned : (req.0 == r.0) ≡ false = grind (arith, nat_tests, apart) in turned))
+        (λ q at. (let is : lost ≡ q = some_same (sym own_one ∙ at) in sym (ap is_ongoing_load is)))
+        (λ q at. let never : None ≡ Some q = sym none ∙ at in absurd cc)
+      where
+        own_one : request_in n.requests req ≡ Some lost
+        own_one = ap (λ (l : List Asked). request_in l req) requests_are ∙ new_there s n lost req nr
+
+    between : IsBetween t.kept.keep run n
+    between =
+        between_left t.kept.keep run s n stands.between tab_then
+        (record { g = λ x. x; keeps = keeps_all; documents = sym (map-id s.documents); asked = left; history = refl; places = refl; kept = refl; joined = joined_same; parked = parked_same; orders = λ go. ap (list_any has_order) (unrefused s.desks actors.Ui tt) ∙ go })
+        (left_flows w n (refused_left w e.event actors.Ui req reason) refl refl refl (refused_held w e.event actors.Ui req reason unparked) flows)
+        (refused_rests w e.event actors.Ui [] (accepted_rests s e.event actors.Ui [] stands.between.rests req None what) req reason)
+
+    -- ---- what goes on
+
+    going : IsGoing run [] [] n
+    going =
+        refused_going run (req ∷ []) [] w e.event actors.Ui going_w req asked there refl reason [] [] tab_then (refused_lasting w e.event actors.Ui going_w.lasting req reason)
+      where
+        going_w : IsGoing run (req ∷ []) [] w
+        going_w =
+            subst (λ (x : Seen). IsGoing run (req ∷ []) [] x) (now e req None what by_user own nr) (goes_on e req None what by_user own nr t queue blame stands room (λ x never. absurd cc) (req ∷ []) tab)
+
+    -- ---- the tables
+
+    tied : AreTied n t
+    tied =
+        record {
+          holds = left_holds (sights_of w run) (sights_of n run) t refl refl refl moved refl refl refl tied_w.holds;
+          runs = runs_ended_apart w.requests run req (endings.Refused reason) other tied_w.runs;
+          goal = goal_same w.requests n.requests run t.goal (on_read goal_read w.requests req refuse (λ q. refl)) tied_w.goal;
+          few = tied_w.few;
+          initial = tied_w.initial;
+          loads = other_ends w n req (refused_ended w e.event actors.Ui req reason) t.loads tied_w.loads (unstarted_no_load w req asked there refl);
+          kept = tied_w.kept;
+        }
+      where
+        tied_w : AreTied w t
+        tied_w =
+            subst (λ (x : Seen). AreTied x t) (now e req None what by_user own nr) (tied_now e req None what by_user own nr t queue blame stands (req ∷ []) tab)
+
+        moved : moved_by n.requests run ≡ moved_by w.requests run
+        moved =
+            moved_same w.requests n.requests run (ended_moved w e.event actors.Ui req (endings.Refused reason))
+
+    -- ---- the queue
+
+    queued : HasQueue n run queue.waiting
+    queued =
+        record { traversals = joined_still run (filter is_traverse queue.waiting) stands.queue.traversals; ready = await; steps = stands.queue.steps }
+      where
+        stay : (r : ReqId) (q : Asked) → request_in s.requests r ≡ Some q → request_in n.requests r ≡ Some q
+        stay r q at = ap (λ (l : List Asked). request_in l r) requests_are ∙ old_stays s n lost req nr r q at
+
+        joined_still : (o : Option ReqId) (steps : List QueueStep) → HaveJoined s o steps → HaveJoined n o steps
+        joined_still None steps have =
+            subst (λ (l : List ReqId). AreStepsOf n.requests l steps) (sym joined_same) (steps_stay s.requests n.requests stay s.joined steps have)
+        joined_still (Some r) steps have =
+            record { rest = have.rest; joined = joined_same ∙ have.joined; steps_ = steps_stay s.requests n.requests stay have.rest steps have.steps_ }
+
+        await : AwaitTurns n queue.waiting
+        await r q nav at ready its =
+            by_old (one_of s n lost req nr r q (ap (λ (l : List Asked). request_in l r) (sym requests_are) ∙ at))
+          where
+            by_old : (request_in s.requests r ≡ Some q) ⊎ ((r ≡ req) × (q ≡ lost)) → Has queue.waiting (Ready r nav)
+            by_old (inl old) = stands.queue.ready r q nav old ready its
+            by_old (inr it) =
+                let never : false ≡ true = ap (λ (x : Asked). is_ready_load n x) (sym it.1) ∙ ready in absurd cc
+
+    held : HoldsParked n queue.parked
+    held =
+        stands.parked
+        ∙ sym (refused_held w e.event actors.Ui req reason unparked ∙ accepted_held s e.event actors.Ui req None what)
+
+    strays : AreLeftStrays n blame
+    strays =
+        subst (λ (x : Seen). AreLeftStrays x blame) (sym n_is) (strays_more s n lost req nr refl refl refl refl t queue blame stands)
+
+    makes : MakesServe n
+    makes =
+        subst (λ (x : Seen). MakesServe x) now_refused
+        (put_makes e run [] out (subst (λ (x : Seen). ArePlain run x) (sym now_refused) tab_then.asked) (refusal_put e req reason)
+        (makes_first e (ap (λ (k : RowKind). leads k) own) (comes_now e req None what by_user own nr t queue blame stands).serves stands.lasts.makes))
+
+    pub denied_stands : StandsFor (now_of e out) t queue blame
+    denied_stands =
+        subst (λ (x : Seen). StandsFor x t queue blame) (sym now_refused) (stands_still e t queue blame stands n comes between going tied makes strays queued held)

@@ -1,0 +1,109 @@
+-- An event of the coordinator ends as the tab has come to rest: the coordinator stands for what the log has come to, and each row passes.
+use Rattle.frame_rows.proofs.LawfulLaws.{lawful_end}
+use Rattle.frame_whole.proofs.FlowsAlike.{EachIsTold, flows_told}
+use Rattle.hang_facts.proofs.Members.{find_has}
+use Rattle.load_doors.specs.Tied.{AreTied}
+use Rattle.log_model.specs.ActsAtOnce.{ends_told, is_told}
+use Rattle.log_model.specs.Equal.{holds, same_pair}
+use Rattle.log_model.specs.Places.{due_pair}
+use Rattle.log_model.specs.Seen.{Document, Place, Seen, document_of}
+use Rattle.log_model.specs.declared.job.Why.{Why}
+use Rattle.log_model.specs.declared.made.Made.{Made}
+use Rattle.log_model.specs.declared.row_kind.RowKind.{RowKind}
+use Rattle.move_queue.specs.Queue.{Queue}
+use Rattle.owed_facts.proofs.Ends.{owed_paid}
+use Rattle.rest_facts.proofs.Seated.{all_has}
+use Rattle.seen_laws.specs.InEvent.{IsTakenIn, now_of, row_of}
+use Rattle.std.proofs.Common.{List, None, Option, Some, [], map, subst, refl, true, ℕ, ◌==◌, ◌≡◌}
+use Rattle.std.specs.List.{list_all}
+use Rattle.std.specs.Prelude.{is_some, option_and_then}
+use Rattle.tab_doors.proofs.Ahead.{none_lawful}
+use Rattle.tab_doors.specs.Working.{IsAtWork}
+use Rattle.tab_doors.specs.declared.tables.Tables.{Tables}
+use Rattle.tab_events.specs.Between.{IsBetween}
+use Rattle.tab_ids.specs.declared.DocId.{DocId}
+use Rattle.tab_ids.specs.declared.ReqId.{ReqId}
+use Rattle.tab_ids.specs.declared.StateId.{StateId}
+use Rattle.tab_settles.specs.PassedOn.{InPass, IsTab}
+use Rattle.tab_settles.proofs.PassedOn.{stepped}
+use Rattle.tab_settles.proofs.Ended.{IsNoneDue}
+use Rattle.tab_settles.specs.Settling.{HasSettled, MakesServe}
+use Rattle.tab_stands.specs.Standing.{HasActed, Lasts}
+
+-- where all were told what is due, each was told something
+each_told : (s : Seen) → ends_told s ≡ true → EachIsTold s
+unfolding ends_told
+each_told s told nav place doc d found wakes its =
+    some_pair (due_pair s place.nav) d.told
+    (subst (λ (o : Option Document). holds (same_pair (due_pair s place.nav)) (option_and_then (λ (y : Document). y.told) o) ≡ true) its woken)
+  where
+    all : list_all (is_told s) s.places ≡ true
+    all = told
+
+    woken : holds (same_pair (due_pair s place.nav)) (option_and_then (λ (x : DocId). option_and_then (λ (y : Document). y.told) (document_of s x)) (Some doc)) ≡ true
+    woken = (let h = all_has (is_told s) s.places all place (find_has (λ (p : Place). p.nav.0 == nav.0) s.places place found).0 in rw wakes at h)
+
+    some_pair : (due : ℕ × ℕ) (o : Option (ℕ × ℕ)) → holds (same_pair due) o ≡ true → is_some o ≡ true
+    some_pair due None never = absurd cc
+    some_pair due (Some pair) is = refl
+
+-- what a coordinator at work has of its tables
+pub work_tied : (p : InPass) (out : List RowKind) (t : Tables) → IsAtWork p.event out t → AreTied (now_of p.event out) t
+work_tied p out t work =
+    record { holds = work.holds; runs = work.runs; goal = work.goal; few = work.few; initial = work.initial; loads = work.loads; kept = work.kept }
+
+module _ (p : InPass) (out : List RowKind) (t : Tables) (queue : Queue) (blame : List (StateId × ReqId)) (cause : Why) (none : p.loads ≡ []) (at : HasSettled p out t queue blame cause) (makes : MakesServe (now_of p.event out)) where
+  abbrev s : Seen
+  s = now_of p.event out
+
+  tab : IsTab t.running [] [] s
+  tab =
+      subst (λ (l : List ReqId). IsTab t.running l [] s) none
+      (subst (λ (hand : List Made). IsTab t.running p.loads hand s) at.empty at.passing.going.tab)
+
+  -- what holds between two events
+  between : IsNoneDue s t.running queue.waiting → IsBetween t.kept.keep t.running s
+  between due =
+      record {
+        tab = tab;
+        flows = flows_told s tab.flows (each_told s at.told) at.passed.rows_;
+        served = at.served;
+        told = at.told;
+        stepped = stepped s t.running tab.asked queue.waiting at.queueing.queued due;
+        held = at.queueing.held;
+        rows_ = at.passed.rows_;
+        rests = at.passing.rests;
+        swept = at.swept;
+        stands = at.passed.walked.loads;
+        loading = at.live.loading;
+        few = at.passing.few;
+      }
+
+  lasts : Lasts t.running s
+  lasts =
+      record {
+        lasting = at.passing.going.lasting;
+        counted = at.passing.going.counted;
+        steps = at.passing.going.steps;
+        held = at.passing.going.held;
+        were = at.passed.walked.were;
+        parents = at.passed.walked.parents;
+        takers = at.passed.takers;
+        calm = at.calm;
+        made = at.theirs;
+        makes = makes;
+      }
+
+  pub acted : IsNoneDue s t.running queue.waiting → IsTakenIn p.event (map (row_of p.event) out) → HasActed p.event out t queue blame
+  acted due taken =
+      record {
+        stands = record {
+          between = between due;
+          lasts = lasts;
+          tied = work_tied p out t at.passing.work;
+          strays = at.strays;
+          queue = at.queueing.queued;
+          parked = at.queueing.parked;
+        };
+        passes = lawful_end p.event out (none_lawful p.event out at.passing.work.lawful) (owed_paid p.event out at.passing.owed) taken at.queueing.over;
+      }

@@ -1,0 +1,89 @@
+-- A load is accepted: it is at hand, and all goes on; and where a reason stands against it, too, the tables stand for what the log has come to.
+use Rattle.load_doors.specs.Tied.{AreTied}
+use Rattle.load_rows.proofs.Accepts.{load_passes}
+use Rattle.log_model.specs.Causes.{denial_at_acceptance}
+use Rattle.log_model.specs.Places.{aim_of}
+use Rattle.log_model.specs.Seen.{Asked, Seen, request_in, request_of}
+use Rattle.log_model.specs.declared.request.Mode.{Mode}
+use Rattle.log_model.specs.declared.request.Request.{Request}
+use Rattle.log_model.specs.declared.row_kind.Actor.{Actor}
+use Rattle.log_model.specs.declared.row_kind.LogRow.{LogRow}
+use Rattle.log_model.specs.declared.row_kind.RowKind.{RowKind}
+use Rattle.move_queue.specs.Queue.{Queue}
+use Rattle.request_facts.specs.Knowns.{AreKnown}
+use Rattle.seen_laws.specs.Blocks.{EachPass}
+use Rattle.seen_laws.specs.InEvent.{AreLegal, InEvent, now_of, start_of}
+use Rattle.seen_laws.specs.Sending.{leads}
+use Rattle.std.proofs.Common.{List, None, Some, [], ap, arith, false, inl, inr, length, refl, subst, sym, ℕ, ◌+◌, ◌∙◌, ◌∷◌, ◌≡◌, ◌≤◌, ◌⊎◌}
+use Rattle.std.proofs.lemmas.Bool.Decides.{nat_tests}
+use Rattle.std.specs.Prelude.{nat_lt}
+use Rattle.tab_settles.specs.PassedOn.{HasQueue, InPass, IsTab}
+use Rattle.tab_doors.specs.Working.{IsWorker}
+use Rattle.tab_doors.specs.declared.tables.Tables.{Tables}
+use Rattle.tab_ids.specs.declared.NavId.{NavId}
+use Rattle.tab_ids.specs.declared.ReqId.{ReqId}
+use Rattle.tab_ids.specs.declared.StateId.{StateId}
+use Rattle.tab_settles.specs.Settling.{IsTurning}
+use Rattle.tab_stands.proofs.Accepting.{comes_now, goes_on, its_row, new, now, number_low, old_or_new, rests_now, tied_now}
+use Rattle.tab_stands.proofs.Begun.{begun}
+use Rattle.tab_stands.proofs.Coming.{aim_same}
+use Rattle.tab_stands.proofs.Waiting.{queued_still, queueing_now}
+use Rattle.tab_stands.specs.Standing.{HasBegun, HasRoomFor, StandsFor}
+use Rattle.tab_settles.proofs.PassedOn.{load_accepted, load_accepted_tab, turning_first}
+use Rattle.log_model.specs.declared.request.Request.TheVariants as requests
+use Rattle.log_model.specs.declared.row_kind.Actor.TheVariants as actors
+use Rattle.log_model.specs.declared.row_kind.RowKind.TheVariants as rows
+
+module _ (e : InEvent) (t : Tables) (queue : Queue) (blame : List (StateId × ReqId)) (stands : StandsFor e.start t queue blame) (room : HasRoomFor e.start) (header : t.kept.keep ≡ e.header.keep) (req : ReqId) (nav : NavId) (mode : Mode) (address : List ℕ) (by_user : e.actor ≡ actors.Ui) (own : e.own ≡ rows.Accepted req None (requests.Load nav mode address)) (nr : req.0 ≡ length e.start.requests + 1) where
+  abbrev load : Request
+  load = requests.Load nav mode address
+
+  abbrev n : Seen
+  n = load_accepted t.running e.start e.event actors.Ui stands.between.tab stands.between.flows req nr nav mode address
+
+  tab : IsTab t.running (req ∷ []) [] n
+  tab =
+      load_accepted_tab t.running e.start e.event actors.Ui stands.between.tab stands.between.flows req nr nav mode address
+
+  pub load_tied : AreTied (now_of e []) t
+  load_tied = tied_now e req None load by_user own nr t queue blame stands (req ∷ []) tab
+
+  -- ---- where no reason stands against it
+
+  module _ (admitted : denial_at_acceptance e.start (requests.Load nav mode address) ≡ None) where
+    legal : AreLegal e []
+    unfolding AreLegal
+    legal later rest =
+        subst (λ (row : LogRow). EachPass (start_of e) (row ∷ []) later) (sym (its_row e req None load by_user own nr)) (load_passes e.header e.start e.event req nav mode address later nr admitted, tt)
+
+    -- what joined isn't refused as it is accepted
+    early : (r : ReqId) (q : Asked) → request_in n.requests r ≡ Some q → denial_at_acceptance e.start q.what ≡ None ⊎ (nat_lt (length e.start.requests) r.0 ≡ false)
+    early r q at = by_old (old_or_new e req None load by_user own nr r q at)
+      where
+        by_old : (request_in e.start.requests r ≡ Some q) ⊎ ((r ≡ req) × (q ≡ new e req None load by_user own nr)) → denial_at_acceptance e.start q.what ≡ None ⊎ (nat_lt (length e.start.requests) r.0 ≡ false)
+        by_old (inl old) =
+            let low : r.0 ≤ length e.start.requests = number_low e.start.requests r q old in inr (grind (arith, nat_tests, low))
+        by_old (inr it) = inl (ap (λ (x : Asked). denial_at_acceptance e.start x.what) it.1 ∙ admitted)
+
+    turning : IsTurning e []
+    turning =
+        turning_first e (subst (λ (x : Seen). AreKnown x) (sym (now e req None load by_user own nr)) tab.known) (λ r q has at. early r q (ap (λ (x : Seen). request_of x r) (sym (now e req None load by_user own nr)) ∙ at))
+
+    queued : HasQueue (now_of e []) t.running queue.waiting
+    queued =
+        subst (λ (x : Seen). HasQueue x t.running queue.waiting) (sym (now e req None load by_user own nr)) (queued_still e req None load by_user own nr t queue blame stands refl)
+
+    abbrev p : InPass
+    p = record { event = e; loads = req ∷ []; hand = [] }
+
+    aim : aim_of (now_of e []) ≡ aim_of e.start
+    aim =
+        aim_same e t.running t.kept.keep t.goal blame (now_of e []) stands.between stands.lasts stands.tied.goal (req ∷ []) [] (subst (λ (x : Seen). IsTab t.running (req ∷ []) [] x) (sym (now e req None load by_user own nr)) tab) load_tied.goal (comes_now e req None load by_user own nr t queue blame stands)
+
+    pub load_begun : HasBegun (record { event = e; loads = req ∷ []; hand = [] }) t queue blame
+    load_begun =
+        begun p t queue blame stands.between stands.lasts stands.tied.goal header (ap (λ (k : RowKind). leads k) own) (subst (λ (a : Actor). IsWorker a) (sym by_user) tt) legal load_tied
+        (goes_on e req None load by_user own nr t queue blame stands room (λ x never. absurd cc) (req ∷ []) tab)
+        (rests_now e req None load by_user own nr t queue blame stands)
+        (comes_now e req None load by_user own nr t queue blame stands)
+        (queueing_now e req None load by_user own nr t queue blame stands (req ∷ []) queue aim turning queued refl)

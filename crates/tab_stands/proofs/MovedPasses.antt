@@ -1,0 +1,125 @@
+-- Where a traversal runs, who is awake and was moved by it was shown a document by it, over a pass: no row but an order of the walk shows a document, which is for the traversal then, and no request but a load is dropped.
+use Rattle.calm_facts.proofs.Moves.{AreUnmoved, unmoved_dropped, unmoved_sent}
+use Rattle.calm_facts.specs.Calm.{ShowsOne}
+use Rattle.tab_stands.proofs.MovedRows.{shown_dropped, shown_sent}
+use Rattle.tab_stands.specs.Delivering.{MovedAreShown}
+use Rattle.hang_facts.proofs.Members.{has_map}
+use Rattle.hang_facts.specs.Members.{Has}
+use Rattle.load_facts.proofs.Rows.{req_same}
+use Rattle.load_facts.specs.Loading.{Look, look, look_of}
+use Rattle.log_model.specs.After.{after}
+use Rattle.log_model.specs.Places.{is_load, is_traversal}
+use Rattle.log_model.specs.Seen.{Seen}
+use Rattle.log_model.specs.declared.job.Job.{Job}
+use Rattle.log_model.specs.declared.job.Task.{Task}
+use Rattle.log_model.specs.declared.job.Why.{Why}
+use Rattle.log_model.specs.declared.outcome.Cause.{Cause}
+use Rattle.log_model.specs.declared.request.Request.{Request}
+use Rattle.log_model.specs.declared.row_kind.RowKind.{RowKind}
+use Rattle.seen_laws.specs.InEvent.{InEvent, now_of, row_of}
+use Rattle.std.proofs.Common.{Bool, List, Some, ap, false, map, refl, subst, sym, true, ◌&&◌, ◌==◌, ◌∙◌, ◌≡◌}
+use Rattle.std.proofs.lemmas.Bool.{and_parts}
+use Rattle.std.specs.Prelude.{is_none, option_map}
+use Rattle.tab_settles.specs.PassedOn.{Drop, HasOnly, HasOnlyDropped, HasOnlySwept, HasPutOut, IsLoadOf, IsServeFor, IsSweepOf, IsUpdateFor, length_index, row_of_drop}
+use Rattle.tab_ids.specs.declared.NavId.{NavId}
+use Rattle.tab_ids.specs.declared.ReqId.{ReqId}
+use Rattle.tab_ids.specs.declared.StateId.{StateId}
+use Rattle.tab_settles.proofs.PassedOn.{only_as, over_each}
+use Rattle.log_model.specs.declared.job.Task.TheVariants as tasks
+use Rattle.log_model.specs.declared.job.Why.TheVariants as whys
+use Rattle.log_model.specs.declared.request.Request.TheVariants as requests
+use Rattle.log_model.specs.declared.row_kind.RowKind.TheVariants as rows
+
+-- ---- rows that leave them
+
+-- an order that shows a document only for the traversal
+record IsOrderFor (run : ReqId) (row : RowKind) : Type 0 where
+  job : Job
+  is : row ≡ rows.Sent job
+  shows : ShowsOne job.task → job.why ≡ whys.Req run
+
+-- another request is dropped
+record IsOtherDrop (run : ReqId) (row : RowKind) : Type 0 where
+  req : ReqId
+  cause : Cause
+  is : row ≡ rows.Dropped req cause
+  apart : (run.0 == req.0) ≡ false
+
+-- the traversal runs, and whom it hasn't moved is where it is to be; and who is awake and was moved by it was shown a document by it
+abbrev pub BothSo : ReqId → Seen → Type 0
+BothSo run s = AreUnmoved run s × MovedAreShown (Some run) s
+
+module _ (e : InEvent) (run : ReqId) where
+  orders_shown : (was out : List RowKind) → HasOnly (IsOrderFor run) was out → BothSo run (now_of e was) → BothSo run (now_of e out)
+  orders_shown = over_each (IsOrderFor run) (BothSo run) e one
+    where
+      one : (x : Seen) (row : RowKind) → IsOrderFor run row → BothSo run x → BothSo run (after x (row_of e row))
+      one x row it are =
+          subst (λ (k : RowKind). BothSo run (after x (row_of e k))) (sym it.is) (unmoved_sent x e.event e.actor it.job run are.0 it.shows, shown_sent x e.event e.actor it.job run are.0.q are.0.found are.1 it.shows)
+
+  drops_shown : (was out : List RowKind) → HasOnly (IsOtherDrop run) was out → BothSo run (now_of e was) → BothSo run (now_of e out)
+  drops_shown = over_each (IsOtherDrop run) (BothSo run) e one
+    where
+      one : (x : Seen) (row : RowKind) → IsOtherDrop run row → BothSo run x → BothSo run (after x (row_of e row))
+      one x row it are =
+          subst (λ (k : RowKind). BothSo run (after x (row_of e k))) (sym it.is) (unmoved_dropped x e.event e.actor it.req it.cause run it.apart are.0, shown_dropped x e.event e.actor it.req run it.apart it.cause are.1)
+
+  -- ---- those of a pass
+
+  -- a load isn't the traversal that runs
+  load_apart : (s : Seen) → BothSo run s → (req : ReqId) (nav : NavId) → IsLoadOf s req nav → (run.0 == req.0) ≡ false
+  load_apart s are req nav load = by_test (run.0 == req.0) refl
+    where
+      apart : (what : Request) → is_load what ≡ true → is_traversal what ≡ true → ⊥
+      apart (requests.Load n mode address) is goes = let never : false ≡ true = goes in cc
+      apart _ is goes = let never : false ≡ true = is in cc
+
+      by_test : (b : Bool) → (run.0 == req.0) ≡ b → (run.0 == req.0) ≡ false
+      by_test false is = is
+      by_test true is =
+          let one : run ≡ req = req_same run req is in
+          let both : Some (look are.0.q) ≡ Some load.look = sym (ap (option_map look) are.0.found) ∙ ap (λ (r : ReqId). look_of s r) one ∙ load.at in
+          let same : look are.0.q ≡ load.look = cc in
+          absurd (apart are.0.q.what (ap (λ (l : Look). is_load l.what) same ∙ (and_parts (load.look.is_started && is_none load.look.ending) (is_load load.look.what) load.ongoing).1) are.0.traverses)
+
+  dropped_shown : (Is : Drop → Type 0) (was out : List RowKind) → HasOnlyDropped Is was out → ((d : Drop) → Is d → (run.0 == d.req.0) ≡ false) → BothSo run (now_of e was) → BothSo run (now_of e out)
+  dropped_shown Is was out only apart = drops_shown was out (record { more = map row_of_drop only.drops; is = only.is; each = each })
+    where
+      each : (row : RowKind) → Has (map row_of_drop only.drops) row → IsOtherDrop run row
+      each row has =
+          let b = has_map row_of_drop only.drops row has in
+          record { req = b.it.req; cause = b.it.cause; is = sym b.is; apart = apart b.it (only.each b.it b.there) }
+
+  swept_shown : (s : Seen) (blame : List (StateId × ReqId)) (was out : List RowKind) → HasOnlySwept s blame was out → BothSo run (now_of e was) → BothSo run (now_of e out)
+  swept_shown s blame was out only = orders_shown was out (record { more = only.more; is = only.is; each = λ row has. one row (only.each row has) })
+    where
+      one : (row : RowKind) → IsSweepOf s blame row → IsOrderFor run row
+      one row it =
+          record { job = it.job; is = it.is; shows = λ shows. absurd (subst (λ (k : Task). ShowsOne k) it.discards shows) }
+
+  told_shown : (why : Why) (was out : List RowKind) → HasOnly (IsUpdateFor why) was out → BothSo run (now_of e was) → BothSo run (now_of e out)
+  told_shown why was out only = orders_shown was out (only_as (IsUpdateFor why) (IsOrderFor run) was out one only)
+    where
+      tells : (task : Task) → length_index task ≡ true → ShowsOne task → ⊥
+      tells (tasks.Activate entry epoch long at memo address) is shows = let never : false ≡ true = is in cc
+      tells _ is shows = absurd shows
+
+      one : (row : RowKind) → IsUpdateFor why row → IsOrderFor run row
+      one (rows.Sent job) it = record { job = job; is = refl; shows = λ shows. absurd (tells job.task it.1 shows) }
+      one _ it = absurd it
+
+  pub put_shown : (cause tells : Why) (was out : List RowKind) → HasPutOut e (Some run) cause tells was out → BothSo run (now_of e was) → BothSo run (now_of e out)
+  put_shown cause tells was out puts are =
+      told_shown tells puts.served out puts.told
+      (orders_shown puts.cleared puts.served (only_as (IsServeFor (Some run) cause) (IsOrderFor run) puts.cleared puts.served (λ row it. record { job = it.job; is = it.is; shows = it.shows }) puts.serves) cleared)
+    where
+      given : BothSo run (now_of e puts.given)
+      given =
+          dropped_shown _ was puts.given puts.gives (λ d it. load_apart (now_of e was) are d.req it.nav it.load) are
+
+      swept : BothSo run (now_of e puts.clears.swept)
+      swept = swept_shown (now_of e puts.given) puts.blame puts.given puts.clears.swept puts.clears.sweeps given
+
+      cleared : BothSo run (now_of e puts.cleared)
+      cleared =
+          dropped_shown _ puts.clears.swept puts.cleared puts.clears.destroys (λ d it. load_apart (now_of e puts.clears.swept) swept d.req it.nav it.load) swept

@@ -1,0 +1,34 @@
+-- Where what came leaves all that goes on from event to event as it was, the coordinator that stood for the log stands for it still.
+use Rattle.load_doors.specs.Tied.{AreTied}
+use Rattle.log_model.specs.Seen.{Seen}
+use Rattle.move_queue.specs.Queue.{Queue}
+use Rattle.seen_laws.specs.InEvent.{InEvent}
+use Rattle.std.proofs.Common.{List, []}
+use Rattle.tab_settles.specs.PassedOn.{AreLeftStrays, HasQueue, IsGoing}
+use Rattle.tab_doors.specs.declared.tables.Tables.{Tables}
+use Rattle.tab_events.specs.Between.{IsBetween}
+use Rattle.tab_ids.specs.declared.ReqId.{ReqId}
+use Rattle.tab_ids.specs.declared.StateId.{StateId}
+use Rattle.tab_settles.specs.Settling.{HoldsParked, MakesServe}
+use Rattle.tab_stands.proofs.Coming.{IsComing, calm_then, parents_then, takers_then}
+use Rattle.tab_stands.specs.Standing.{Lasts, StandsFor}
+
+module _ (e : InEvent) (t : Tables) (queue : Queue) (blame : List (StateId × ReqId)) (stands : StandsFor e.start t queue blame) (n : Seen) (comes : IsComing blame e.start n) (between : IsBetween t.kept.keep t.running n) (going : IsGoing t.running [] [] n) (tied : AreTied n t) (makes : MakesServe n) where
+  lasts : Lasts t.running n
+  lasts =
+      record {
+        lasting = going.lasting;
+        counted = going.counted;
+        steps = going.steps;
+        held = going.held;
+        were = comes.were;
+        parents = parents_then e t.running t.kept.keep t.goal blame n stands.between stands.lasts stands.tied.goal [] [] between.tab tied.goal comes;
+        takers = takers_then e t.running t.kept.keep t.goal blame n stands.between stands.lasts stands.tied.goal [] [] between.tab tied.goal comes;
+        calm = calm_then e t.running t.kept.keep t.goal blame n stands.between stands.lasts stands.tied.goal [] [] between.tab tied.goal comes;
+        made = comes.theirs;
+        makes = makes;
+      }
+
+  pub stands_still : AreLeftStrays n blame → HasQueue n t.running queue.waiting → HoldsParked n queue.parked → StandsFor n t queue blame
+  stands_still strays queued parked =
+      record { between = between; lasts = lasts; tied = tied; strays = strays; queue = queued; parked = parked }

@@ -1,0 +1,152 @@
+-- What a document made was taken up, refused or dropped as its report was delivered: the tab may be brought to rest.
+use Rattle.coord_facts.proofs.Held.{held_alike, without_same}
+use Rattle.coord_facts.specs.Leading.{held_back}
+use Rattle.each_facts.proofs.Courses.{was_asked}
+use Rattle.entry_facts.proofs.Skips.{without_made}
+use Rattle.frame_facts.specs.Lasting.{Wish, wish}
+use Rattle.frame_rows.specs.Lawful.{has_traversed}
+use Rattle.log_model.specs.AfterRequests.{changes_history, is_held_back}
+use Rattle.log_model.specs.Equal.{has_req, implies}
+use Rattle.log_model.specs.Places.{is_load}
+use Rattle.log_model.specs.Points.{is_taken_up_in, nav_of_request}
+use Rattle.log_model.specs.Queue.{is_delivered_duly, is_taken_up_at_once}
+use Rattle.log_model.specs.Seen.{Asked, Document, Place, Seen, document_of, request_in}
+use Rattle.log_model.specs.declared.made.Made.{Made}
+use Rattle.log_model.specs.declared.made.Report.{Report}
+use Rattle.log_model.specs.declared.row_kind.LogRow.{LogRow}
+use Rattle.log_model.specs.declared.row_kind.RowKind.{RowKind}
+use Rattle.move_queue.specs.Queue.{Queue}
+use Rattle.request_facts.proofs.Times.{itself}
+use Rattle.seen_laws.proofs.InEvents.{now_more}
+use Rattle.seen_laws.specs.Blocks.{point_at}
+use Rattle.seen_laws.specs.InEvent.{InEvent, IsTakenIn, now_of, row_of, start_of}
+use Rattle.std.proofs.Common.{Bool, List, None, Option, Some, [], ap, false, inl, map, refl, subst, sym, true, ◌++◌, ◌||◌, ◌∙◌, ◌∷◌, ◌≡◌}
+use Rattle.std.proofs.lemmas.Bool.{or_left}
+use Rattle.std.specs.List.{list_any}
+use Rattle.std.specs.Prelude.{option_map}
+use Rattle.tab_settles.proofs.PassedOn.{queue_over, turning_on}
+use Rattle.tab_settles.specs.PassedOn.{HasQueue, HasTaken, IsByItsOwn, IsPassing, LoadsMadeOwn, is_new_entry}
+use Rattle.tab_doors.specs.declared.tables.Tables.{Tables}
+use Rattle.tab_ids.specs.declared.ProcId.{ProcId}
+use Rattle.tab_ids.specs.declared.ReqId.{ReqId}
+use Rattle.tab_ids.specs.declared.StateId.{StateId}
+use Rattle.tab_settles.proofs.Ended.{IsEnding, is_ending, mades_same}
+use Rattle.tab_settles.specs.Settling.{IsQueueing, IsReady, MayRelease}
+use Rattle.tab_stands.proofs.Hands.{hand_release}
+use Rattle.tab_stands.proofs.Mades.{heard, heard_documents, heard_now, heard_places, heard_requests}
+use Rattle.tab_stands.proofs.Ready.{calm_before}
+use Rattle.tab_stands.proofs.Reports.{told_row}
+use Rattle.tab_stands.proofs.Taking.{begun, unparked_now}
+use Rattle.tab_stands.specs.Delivering.{IsDelivery, IsToldOf}
+use Rattle.tab_stands.specs.Standing.{HasBegun, HasRoomFor, IsTakenUp, StandsFor}
+use Rattle.log_model.specs.declared.job.Why.TheVariants as whys
+
+-- what was made of each load is by a document of its navigable still, once one request more has ended
+pub theirs_ended : (s n : Seen) (req : ReqId) → IsEnding s n req → LoadsMadeOwn s → LoadsMadeOwn n
+theirs_ended s n req its theirs r q made at load makes =
+    (by_home (document_of n made.doc) refl (its.homes made.doc ∙ ap (λ (o : Option Document). option_map (λ (d : Document). d.nav) o) had.found), both.1)
+  where
+    asked : (x : Asked) × (request_in s.requests r ≡ Some x) × (wish x ≡ wish q)
+    asked = was_asked wish s.requests n.requests its.wishes r q at
+
+    both : IsByItsOwn s asked.0 made × (is_new_entry made.what ≡ true)
+    both = theirs r asked.0 made asked.1 (ap (λ (w : Wish). is_load w.what) asked.2 ∙ load) (ap (λ (w : Wish). w.made) asked.2 ∙ makes)
+
+    had : IsByItsOwn s asked.0 made
+    had = both.0
+
+    by_home : (o : Option Document) → document_of n made.doc ≡ o → option_map (λ (d : Document). d.nav) o ≡ Some had.d.nav → IsByItsOwn n q made
+    by_home None there same = absurd cc
+    by_home (Some d) there same =
+        record { d = d; found = there; nav_is = ap (λ (w : Wish). nav_of_request w.what) (sym asked.2) ∙ had.nav_is ∙ sym same }
+
+module _ (e : InEvent) (proc : ProcId) (report : Report) (made : Made) (del : IsDelivery e proc report) (tells : IsToldOf report made) (t : Tables) (queue : Queue) (blame : List (StateId × ReqId)) (stands : StandsFor e.start t queue blame) (changes : changes_history made.what ≡ true) (free : is_held_back e.start made ≡ false) (room : HasRoomFor e.start) (header : t.kept.keep ≡ e.header.keep) (out : List RowKind) (u : Tables) (noted : List (StateId × ReqId)) (taken : HasTaken (record { event = e; loads = []; hand = made ∷ [] }) t made [] out u noted) where
+  abbrev s : Seen
+  s = e.start
+
+  abbrev f : Seen
+  f = now_of e []
+
+  abbrev n : Seen
+  n = now_of e out
+
+  first : HasBegun (record { event = e; loads = []; hand = made ∷ [] }) t queue blame
+  first = begun e proc report made del tells t queue blame stands changes free room header
+
+  its : IsEnding f n made.req
+  its =
+      subst (λ (x : Seen). IsEnding f x made.req) (sym (ap (λ (l : List RowKind). now_of e l) taken.ended.out ∙ now_more e [] taken.ended.kind)) (is_ending f e taken.ended.kind made.req taken.ended.ends)
+
+  apart : has_req f.parked made.req ≡ false
+  apart = unparked_now e proc report made del tells t queue blame stands changes free room header
+
+  parked_out : n.parked ≡ f.parked
+  parked_out = its.parked ∙ without_same f.parked made.req apart
+
+  joined_out : n.joined ≡ f.joined
+  joined_out = taken.queue.joined
+
+  release : MayRelease e []
+  release = hand_release e proc report made del tells t queue blame stands free
+
+  queueing : IsQueueing (record { event = e; loads = []; hand = [] }) out u queue
+  queueing =
+      record {
+        turning = turning_on e [] out (inl parked_out) its.wishes (λ req has. ap (λ (l : List ReqId). has_req l req) (sym joined_out) ∙ has) first.queueing.turning;
+        queued = subst (λ (r : Option ReqId). HasQueue n r queue.waiting) (sym taken.kept.running) (queue_over f n taken.queue t.running queue.waiting first.queueing.queued);
+        parked = first.queueing.parked ∙ sym (held_alike f.requests n.requests f.parked (mades_same f n its.wishes)) ∙ ap (λ (l : List ReqId). held_back n.requests l) (sym parked_out);
+        held = λ idle. parked_out ∙ first.queueing.held (sym taken.kept.running ∙ idle);
+        over = λ ended. absurd (never ended);
+        releasing = λ some all. record {
+          by_coord = release.by_coord;
+          takes = release.takes;
+          many = its.long ∙ release.many;
+          old = λ req has. release.old req (ap (λ (l : List ReqId). has_req l req) (sym parked_out) ∙ has);
+        };
+      }
+    where
+      never : has_traversed e out ≡ true → ⊥
+      never ended =
+          let none : has_traversed e out ≡ false = ap (λ (l : List RowKind). has_traversed e l) taken.ended.out ∙ ap (λ (b : Bool). b || false) taken.ended.no_turn in
+          let never_ : true ≡ false = sym ended ∙ none in cc
+
+  passing : IsPassing (record { event = e; loads = []; hand = [] }) out u
+  passing = subst (λ (l : List Made). IsPassing (record { event = e; loads = []; hand = l }) out u) none_left taken.passing
+    where
+      none_left : without_made made.req (made ∷ []) ≡ []
+      none_left = rw (itself made.req) refl
+
+  pub taken_ready : IsReady (record { event = e; loads = []; hand = [] }) out u queue noted (whys.Req made.req)
+  taken_ready =
+      record {
+        passing = passing;
+        empty = refl;
+        header = taken.kept.keep ∙ header;
+        open_ = taken.open_.open_ (whys.Req made.req) taken.cause;
+        loads = taken.open_.loads;
+        blamed = taken.open_.blamed;
+        calm = calm_before u.running n taken.open_.calm taken.open_.unmoved taken.open_.rooted;
+        live = taken.open_.live;
+        theirs = theirs_ended f n made.req its first.theirs;
+        queueing = queueing;
+      }
+
+  -- ---- what is delivered is taken up by that row, where it is to be taken up at once
+
+  abbrev h : Seen
+  h = heard e proc report made del tells t queue blame stands
+
+  same_up : is_taken_up_at_once f made ≡ is_taken_up_at_once s made
+  same_up =
+      ap (λ (x : Seen). is_taken_up_at_once x made) (heard_now e proc report made del tells t queue blame stands)
+      ∙ ap (λ (l : List Document). is_taken_up_at_once (record h { documents = l }) made) (heard_documents e proc report made del tells t queue blame stands)
+      ∙ ap (λ (l : List Place). is_taken_up_at_once (record h { documents = s.documents; places = l }) made) (heard_places e proc report made del tells t queue blame stands)
+      ∙ ap (λ (l : List Asked). is_taken_up_at_once (record h { documents = s.documents; places = s.places; requests = l }) made) (heard_requests e proc report made del tells t queue blame stands)
+
+  pub taken_up : IsTakenUp e out
+  taken_up later =
+      subst (λ (l : List RowKind). IsTakenIn e (map (row_of e) l ++ later)) (sym taken.ended.out) (subst (λ (r : LogRow). is_delivered_duly (point_at (start_of e) (row_of e taken.ended.kind ∷ later)) r ≡ true) (sym (told_row e proc del.by_coord del.own t queue blame stands report del.first)) (rw (del.first) (rw tells (by_up (is_taken_up_at_once s made) refl))))
+    where
+      by_up : (b : Bool) → is_taken_up_at_once s made ≡ b → implies b (is_taken_up_in made.req (row_of e taken.ended.kind) || list_any (is_taken_up_in made.req) later) ≡ true
+      by_up false is = refl
+      by_up true is = or_left _ _ (taken.ended.up (same_up ∙ is))

@@ -1,0 +1,4 @@
+pub mod Standing
+pub mod Delivering
+pub mod Poking
+pub mod PassedOn

@@ -1,0 +1,91 @@
+-- What a coordinator of a tab with loads keeps between two events, and how an event of it begins and ends.
+-- HTML Standard, "session history traversal queue" and "apply the history step"; that nobody dies and nobody is asked in such a tab is this project's own premise.
+use Rattle.last_facts.specs.Lasting.{AreLasting}
+use Rattle.left_facts.specs.Left.{WereShown}
+use Rattle.load_doors.specs.Tied.{AreTied}
+use Rattle.load_ends.specs.Standing.{LoadsStand}
+use Rattle.log_model.specs.After.{after}
+use Rattle.log_model.specs.Seen.{Seen, nothing}
+use Rattle.log_model.specs.declared.row_kind.LogRow.{LogRow}
+use Rattle.log_model.specs.declared.row_kind.RowKind.{RowKind}
+use Rattle.move_queue.specs.Queue.{Queue}
+use Rattle.owed_facts.specs.Owed.{IsLoose}
+use Rattle.seen_laws.specs.Blocks.{EachPass}
+use Rattle.seen_laws.specs.InEvent.{InEvent, IsTakenIn, now_of, row_of, start_of}
+use Rattle.std.specs.Prelude.{List, None, Option, [], length, map, ℕ, ◌++◌, ◌+◌, ◌<◌, ◌∷◌, ◌≡◌}
+use Rattle.tab_settles.specs.PassedOn.{AreCounted, AreHeldUp, AreLeftStrays, AreSteps, HasQueue, InPass, IsPassing, IsTaking, LoadsMadeOwn, ParentsShown, TakersServe}
+use Rattle.tab_doors.specs.declared.tables.Tables.{Tables}
+use Rattle.tab_events.specs.Between.{IsBetween}
+use Rattle.tab_ids.specs.declared.ProcId.{ProcId}
+use Rattle.tab_ids.specs.declared.ReqId.{ReqId}
+use Rattle.tab_ids.specs.declared.StateId.{StateId}
+use Rattle.tab_settles.specs.Settling.{HoldsParked, IsCalmAfter, MakesServe}
+pub use Rattle.tab_settles.specs.Settling.{IsQueueing}
+use Rattle.log_model.specs.declared.row_kind.Actor.TheVariants as actors
+use Rattle.log_model.specs.declared.row_kind.RowKind.TheVariants as rows
+
+-- ---- between two events
+
+-- what lasts from event to event beside what holds between two, with this traversal running
+pub record Lasts (run : Option ReqId) (s : Seen) : Type 0 where
+  pub lasting : AreLasting s
+  pub counted : AreCounted s
+  pub steps : AreSteps s
+  pub held : AreHeldUp run s
+  -- who was shown last was shown, and who is above another was shown a document
+  pub were : WereShown s
+  pub parents : ParentsShown s
+  -- orders may be for each request that took a navigable's last entries
+  pub takers : TakersServe s
+  -- where no traversal runs the tab is calm; where one does, whom it hasn't moved is where it is to be
+  pub calm : IsCalmAfter run s
+  -- what was made of a load is a new entry, by a document of its navigable
+  pub made : LoadsMadeOwn s
+  -- orders on their way that make documents are for what orders may be for
+  pub makes : MakesServe s
+
+-- the coordinator's tables, its queue and the requests that are noted for stray documents stand for what the log has come to
+pub record StandsFor (s : Seen) (t : Tables) (moves : Queue) (blame : List (StateId × ReqId)) : Type 0 where
+  pub between : IsBetween t.kept.keep t.running s
+  pub lasts : Lasts t.running s
+  pub tied : AreTied s t
+  pub strays : AreLeftStrays s blame
+  pub queue : HasQueue s t.running moves.waiting
+  pub parked : HoldsParked s moves.parked
+
+-- a tab that was just opened at an address, with its document in a process: what its log has come to
+abbrev pub opened_at : List ℕ → ProcId → Seen
+opened_at address proc =
+    after nothing (record {
+      event = 0;
+      actor = actors.Start;
+      row = rows.Opened (record { maker = 0; nr = 1 }) (record { 0 = 1 }) (record { 0 = 1 }) proc None address;
+    })
+
+-- ---- an event begins
+
+-- there is room for the requests that an event may accept
+abbrev pub HasRoomFor : Seen → Type 0
+HasRoomFor s = length s.requests + 3 < 4294967296
+
+-- the event's own row was logged, and nothing was put out yet: all goes on with what is at hand, what a document made may be taken or a load may begin, and ongoing loads stand
+pub record HasBegun (p : InPass) (t : Tables) (queue : Queue) (blame : List (StateId × ReqId)) : Type 0 where
+  pub passing : IsPassing p [] t
+  pub header : t.kept.keep ≡ p.event.header.keep
+  pub taking : IsTaking p.event t.running blame (now_of p.event [])
+  pub loose : IsLoose p.event []
+  pub stand : LoadsStand (now_of p.event [])
+  pub theirs : LoadsMadeOwn (now_of p.event [])
+  pub makes : MakesServe (now_of p.event [])
+  pub queueing : IsQueueing p [] t queue
+
+-- ---- an event ends
+
+-- where the event delivers a report that is to be taken up at once, these rows take it up, whatever comes later
+abbrev pub IsTakenUp : InEvent → List RowKind → Type 0
+IsTakenUp e out = (later : List LogRow) → IsTakenIn e (map (row_of e) out ++ later)
+
+-- the event ends with these rows, each of which passes, and the coordinator stands for what the log has come to
+pub record HasActed (e : InEvent) (out : List RowKind) (t : Tables) (queue : Queue) (blame : List (StateId × ReqId)) : Type 0 where
+  pub stands : StandsFor (now_of e out) t queue blame
+  pub passes : EachPass (start_of e) (row_of e e.own ∷ map (row_of e) out) []
