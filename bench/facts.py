@@ -2,9 +2,9 @@
 each awake navigable's document is, what is on its way, that what isn't shown rests, that each visited navigable is
 served, that ongoing loads stand (`load_ends`); and how often all of it stands at once with nothing loaded, reloaded or
 dead, in transit or not. On runs of the profile `frames` it tries, after each row, what `frame_tab` says of a tab of
-frames; on those of `loads` and `kept`, what `load_facts`, `kept_facts`, `desk_facts`, `entry_facts`, `mover_facts` and
-`load_whereabouts` say, and what a tab of frames and loads is to keep of documents and places; and that their rows are as
-`load_rows` and `leave_rows` ask.
+frames; on those of `loads` and `kept`, what `load_facts`, `kept_facts`, `desk_facts`, `entry_facts`, `mover_facts`,
+`load_whereabouts` and `running_facts` say, and what a tab of frames and loads is to keep of documents and places; and
+that their rows are as `load_rows` and `leave_rows` ask.
 
     python3 bench/facts.py MODEL [FIRST COUNT [PROFILE ...]]
 
@@ -442,6 +442,28 @@ def try_whereabouts(b, at_hand, ends):
         at_hand.missed = []
 
 
+def try_running(s, is_told):
+    """Each fragment order that is on its way finds its document running as its turn comes, and who is awake runs once all orders are done; where what is made of an order is told, each report of a fragment order tells of that."""
+    for p in s.procs.values():
+        for r in p.reports if is_told else []:
+            if r[0] == 'done' and s.jobs[r[1]].task.kind == 'fragment':
+                count('fragment told', s.jobs[r[1]].made is not None, r[1])
+        orders = [s.jobs[j] for j in ([p.hand] if p.hand is not None else []) + list(p.mail)]
+        for i, job in enumerate(orders):
+            if job.task.kind == 'fragment':
+                view = s.views.get(job.doc)
+                runs = None if view is None else view.running
+                for ahead in orders[:i]:
+                    if ahead.doc == job.doc:
+                        kind = ahead.task.kind
+                        runs = {MAKES: False, 'discard': None}.get(kind, runs)
+                        if kind in (SHOWS, 'freeze') and runs is not None:
+                            runs = kind == SHOWS
+                count('finds it running', runs is True, (job.nr, job.doc, runs))
+    for n, p in s.place.items():
+        count('awake runs', p.status != 'awake' or will_run(s, s.docs[p.doc]) is True, (n, p.doc))
+
+
 def try_loads(log, keep):
     b, at_hand = Beside(log), AtHand()
     for i, row in enumerate(log):
@@ -465,6 +487,7 @@ def try_loads(log, keep):
         try_load_desks(b)
         if ends or log[i + 1].kind != 'made':
             try_fragments(b.s)
+        try_running(b.s, ends or log[i + 1].kind != 'made')
         try_lasting(b)
         try_past(b)
         if ends:

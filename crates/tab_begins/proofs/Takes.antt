@@ -24,6 +24,7 @@ use Rattle.tab_one_pass.proofs.Dropped.{EndsLoads, moved_blamed}
 use Rattle.tab_one_pass.specs.PassedOn.{AreBlamed, InPass, IsBelowNav, IsLoadApplied, IsPassing, StandOr}
 use Rattle.tab_one_pass.specs.Passing.{AreUnheld, HasOnlyDroppedBy, IsBare, IsLoadOf, IsOpen, KeepsAwake, MayServe}
 pub use Rattle.tab_one_pass.specs.Passing.{StandOrBare}
+use Rattle.tab_drops.proofs.Turns.{applied_on}
 use Rattle.tab_ids.specs.declared.NavId.{NavId}
 use Rattle.tab_ids.specs.declared.ReqId.{ReqId}
 use Rattle.tab_ids.specs.declared.StateId.{StateId}
@@ -127,6 +128,10 @@ module _ (p : InPass) (out : List RowKind) (t : Tables) (passing : IsPassing p o
       taken_around =
           (drops_calm y x left).around (aim_then p out t passing nav load at idle may.may mid m mid_pass it) nav
           (subst (λ (o : NavId). IsCalmAround y o) own (around_then p out t passing nav load at idle may.may mid m mid_pass it may.passed.rows_))
+
+      -- the load is the last that was applied
+      pub taken_last : IsLoadApplied x nav req
+      taken_last = applied_on y x left nav req (mid_pass.going.tab.movers.unasked) mid_last
 
       -- who is awake stays so
       pub taken_awake : KeepsAwake s x

@@ -39,7 +39,7 @@ use Rattle.tab_begins.proofs.Queues.{ahead, queue_passed, queue_traversed}
 use Rattle.calm_facts.specs.Calm.{AreRooted, IsCalmAround, UnmovedAreHere}
 use Rattle.calm_facts.proofs.Awakes.{calm_stood}
 use Rattle.tab_begins.proofs.Stood.{calm_begun}
-use Rattle.tab_begins.specs.Queueing.{HadTurn, HasGrown, HasQueue, IsAppliedNext, IsAtRest, IsCalmFor, IsOfTurn, IsPassedOver, MayFollow, is_ready_in, is_there, is_traverse, load_in}
+use Rattle.tab_begins.specs.Queueing.{HadTurn, HasGrown, HasQueue, IsAppliedNext, IsAtRest, IsCalmFor, IsLoadApplied, IsOfTurn, IsPassedOver, MayFollow, is_ready_in, is_there, is_traverse, load_in}
 use Rattle.tab_begins.specs.Taking.{AreOldLoads, GoesOn, HasBegun, HasTaken, IsOver, KeepsMade, KeepsQueue, KeepsStrays, MayTake}
 use Rattle.tab_doors.specs.declared.tables.Tables.{Tables}
 use Rattle.tab_ids.specs.declared.NavId.{NavId}
@@ -106,7 +106,7 @@ module _ (p : InPass) (out : List RowKind) (t : Tables) (passing : IsPassing p o
           open_ = subst (λ (r : Option ReqId). IsOpen p.event r (whys.Req req) n) (sym ran) (begun.open_ (whys.Req req) its);
           loads = subst (λ (r : Option ReqId). MayStand r n) (sym ran) begun.loads;
           blamed = strays.blamed blame rests.strays;
-          calm = subst (λ (r : Option ReqId). IsCalmFor r n) (sym ran) calm;
+          calm = subst (λ (r : Option ReqId). IsCalmFor r req n) (sym ran) calm;
           live = live;
         }
       where
@@ -262,14 +262,14 @@ module _ (p : InPass) (out : List RowKind) (t : Tables) (passing : IsPassing p o
 -- ---- whose turn it was
 
 -- the load's that was applied, and a pass may follow for it
-pub after_applied : (p : InPass) (out : List RowKind) (t : Tables) → t.running ≡ None → (nav : NavId) (load : Load) (more : List RowKind) → HasTaken p.event t nav load out more → (req : ReqId) → load.req ≡ req → (u : Tables) → KeepsRun t u → (noted : List (StateId × ReqId)) → IsOpen p.event u.running (whys.Req req) (now_of p.event more) → StandOrBare (now_of p.event more) → AreBlamed (now_of p.event more) noted → IsCalmAround (now_of p.event more) nav → LoadsLive (now_of p.event more) → HadTurn out more req u.running × MayFollow p.event u.running noted req (now_of p.event more)
-after_applied p out t idle nav load more taken req is u keeps noted open_ stand blamed around live = (
+pub after_applied : (p : InPass) (out : List RowKind) (t : Tables) → t.running ≡ None → (nav : NavId) (load : Load) (more : List RowKind) → HasTaken p.event t nav load out more → (req : ReqId) → load.req ≡ req → (u : Tables) → KeepsRun t u → (noted : List (StateId × ReqId)) → IsOpen p.event u.running (whys.Req req) (now_of p.event more) → StandOrBare (now_of p.event more) → AreBlamed (now_of p.event more) noted → IsCalmAround (now_of p.event more) nav → IsLoadApplied (now_of p.event more) nav req → LoadsLive (now_of p.event more) → HadTurn out more req u.running × MayFollow p.event u.running noted req (now_of p.event more)
+after_applied p out t idle nav load more taken req is u keeps noted open_ stand blamed around last live = (
   subst (HadTurn out more req) (sym runs) applied,
   record {
     open_ = open_;
     loads = subst (λ (r : Option ReqId). MayStand r n) (sym runs) stand;
     blamed = blamed;
-    calm = subst (λ (r : Option ReqId). IsCalmFor r n) (sym runs) (nav, around);
+    calm = subst (λ (r : Option ReqId). IsCalmFor r req n) (sym runs) (nav, (around, last));
     live = live;
   },
 )

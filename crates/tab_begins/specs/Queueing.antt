@@ -27,7 +27,7 @@ use Rattle.tab_ids.specs.declared.NavId.{NavId}
 use Rattle.tab_ids.specs.declared.ReqId.{ReqId}
 use Rattle.tab_ids.specs.declared.StateId.{StateId}
 use Rattle.std.specs.Option.{option_map_or}
-pub use Rattle.tab_one_pass.specs.PassedOn.{AreBlamed}
+pub use Rattle.tab_one_pass.specs.PassedOn.{AreBlamed, IsLoadApplied}
 use Rattle.load_table.specs.declared.phase.Phase.TheVariants as phases
 use Rattle.log_model.specs.declared.job.Why.TheVariants as whys
 use Rattle.log_model.specs.declared.row_kind.RowKind.TheVariants as rows
@@ -98,17 +98,17 @@ pub record LeavesQueue (s t : Seen) : Type 0 where
 
 -- ---- once steps have had their turns
 
--- how calm the tab is then: but for a load's navigable and those below, or for whom the traversal has moved
-abbrev pub IsCalmFor : Option ReqId → Seen → Type 0
-IsCalmFor None s = (at : NavId) × IsCalmAround s at
-IsCalmFor (Some run) s = UnmovedAreHere s × AreRooted s
+-- how calm the tab is then: but for the navigable of the load that the request is, which was just applied, and those below, or for whom the traversal has moved
+abbrev pub IsCalmFor : Option ReqId → ReqId → Seen → Type 0
+IsCalmFor None req s = (at : NavId) × (IsCalmAround s at × IsLoadApplied s at req)
+IsCalmFor (Some run) req s = UnmovedAreHere s × AreRooted s
 
 -- a pass may follow, for the request that has begun or was applied; and ongoing loads live on
 pub record MayFollow (e : InEvent) (run : Option ReqId) (blame : List (StateId × ReqId)) (req : ReqId) (s : Seen) : Type 0 where
   pub open_ : IsOpen e run (whys.Req req) s
   pub loads : MayStand run s
   pub blamed : AreBlamed s blame
-  pub calm : IsCalmFor run s
+  pub calm : IsCalmFor run req s
   pub live : LoadsLive s
 
 -- no traversal runs, and all is as after a pass
@@ -191,6 +191,12 @@ pub record IsAppliedNext (old new : List RowKind) (req : ReqId) : Type 0 where
 abbrev pub HadTurn : List RowKind → List RowKind → ReqId → Option ReqId → Type 0
 HadTurn old new req None = IsAppliedNext old new req
 HadTurn old new req (Some run) = run ≡ req
+
+-- where a step had its turn, all stood at the current step
+abbrev pub HasStood : Seen → Turn → Type 0
+HasStood s Rests = Unit {0}
+HasStood s Refused = all_stand s s.history.current ≡ true
+HasStood s (Went req) = all_stand s s.history.current ≡ true
 
 -- what the turn came to: nothing was done; or a traversal was refused, and all is as after a pass; or the request whose turn it was has begun or was applied, so that a pass may follow for it
 abbrev pub CameTo : InEvent → Tables → Tables → List (StateId × ReqId) → List (StateId × ReqId) → List RowKind → List RowKind → List QueueStep → Turn → Type 0

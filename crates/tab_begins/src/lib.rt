@@ -10,3 +10,7 @@ pub use nexting::begin_next;
 pub use taking::take_load;
 pub use traversing::take_traversal;
 pub use turn::Turn;
+
+// What is passed on of the crates below, for those above.
+pub use tab_one_pass::{note_entries, note_loads, pass};
+pub use tab_turns::end_running;

@@ -1,7 +1,7 @@
 //! The next step of the queue has its turn, where one may.
 ghost use Rattle.std.specs.Prelude.{◌≡◌, [], None, OnOk, IfOk, IfNone, IfSome};
 ghost use Rattle.seen_laws.specs.InEvent.{now_of};
-ghost use Rattle.tab_begins.specs.Queueing.{AreUndue, CameTo, FewerWait, HasGrown, HasQueue, IsAtRest, IsFirstDue, is_due_in, is_ready_in, is_there};
+ghost use Rattle.tab_begins.specs.Queueing.{AreUndue, CameTo, FewerWait, HasGrown, HasQueue, HasStood, IsAtRest, IsFirstDue, is_due_in, is_ready_in, is_there};
 ghost use Rattle.tab_begins.specs.Taking.{KeepsMade};
 ghost use Rattle.tab_one_pass.specs.PassedOn.{InPass, IsPassing};
 ghost use Rattle.tab_applies.specs.PassedOn.{IsTurning};
@@ -85,6 +85,7 @@ pub fn begin_next(
     ensures queued { OnOk result (HasQueue (now_of p.event out.new) tables.new.running queue.new.waiting) }
     ensures came { IfOk result (λ turn. CameTo p.event tables.old tables.new blame.old.entries blame.new.entries out.old out.new queue.new.waiting turn) }
     ensures fewer { IfOk result (λ turn. FewerWait queue.old.waiting queue.new.waiting turn) }
+    ensures stood { IfOk result (λ turn. HasStood (now_of p.event out.old) turn) }
     ensures made { OnOk result (KeepsMade (now_of p.event out.old) (now_of p.event out.new)) }
     ensures keep { OnOk result (tables.new.kept.keep ≡ tables.old.kept.keep) }
     ensures grown { OnOk result (HasGrown out.old out.new) }

@@ -8,7 +8,7 @@ ghost use Rattle.tab_applies.specs.Applying.{InReady};
 ghost use Rattle.tab_begins.specs.Taking.{HasTaken, IsOver, KeepsMade, KeepsQueue, MayTake, NoneBelow};
 ghost use Rattle.tab_doors.specs.Working.{KeepsRun};
 ghost use Rattle.tab_one_pass.specs.Passing.{IsOpen, KeepsAwake, StandOrBare};
-ghost use Rattle.tab_one_pass.specs.PassedOn.{AreBlamed, IsPassing};
+ghost use Rattle.tab_one_pass.specs.PassedOn.{AreBlamed, IsLoadApplied, IsPassing};
 ghost use Rattle.tab_applies.specs.PassedOn.{IsTurning};
 
 use address::OutOfMemory;
@@ -48,6 +48,7 @@ pub fn take_load(
     ensures blamed { OnOk result (AreBlamed (now_of r.pass.event out.new) blame.new.entries) }
     ensures made { OnOk result (KeepsMade (now_of r.pass.event out.old) (now_of r.pass.event out.new)) }
     ensures around { OnOk result (IsCalmAround (now_of r.pass.event out.new) nav) }
+    ensures last { OnOk result (IsLoadApplied (now_of r.pass.event out.new) nav req) }
     ensures wakes { OnOk result (KeepsAwake (now_of r.pass.event out.old) (now_of r.pass.event out.new)) }
     ensures kept { OnOk result (KeepsRun tables.old tables.new) }
 {

@@ -11,8 +11,8 @@ use Rattle.log_model.specs.History.{has_nav}
 use Rattle.log_model.specs.Places.{aim_of, is_placed, way_of, way_to}
 use Rattle.log_model.specs.Seen.{Place, Seen, place_in, place_of}
 use Rattle.log_model.specs.Soundness.{IsSound}
-use Rattle.std.proofs.Common.{Bool, List, None, Option, Some, [], ap, arith, false, fold, inl, inr, length, refl, suc, sym, true, zero, ℕ, ◌&&◌, ◌+◌, ◌-◌, ◌<◌, ◌==◌, ◌∙◌, ◌∷◌, ◌≡◌, ◌≤◌, ◌⊎◌}
-use Rattle.std.specs.List.{list_all}
+use Rattle.std.proofs.Common.{Bool, List, None, Option, Some, [], ap, arith, cond, false, filter, inl, inr, length, map, not, refl, suc, sym, true, zero, ℕ, ◌&&◌, ◌+◌, ◌-◌, ◌<◌, ◌==◌, ◌∙◌, ◌∷◌, ◌≡◌, ◌≤◌, ◌⊎◌}
+use Rattle.std.specs.List.{last_or, list_all}
 use Rattle.std.specs.Option.{option_map_or}
 use Rattle.std.specs.Prelude.{if◌then◌else◌, is_some, slice_get}
 use Rattle.tab_doors.proofs.Holding.{its_node}
@@ -22,39 +22,55 @@ use Rattle.tab_doors.specs.declared.tables.Tables.{Tables}
 use Rattle.tab_ids.specs.declared.NavId.{NavId}
 use Rattle.tab_ids.specs.declared.ReqId.{ReqId}
 use Rattle.tab_loads.proofs.Reached.{placed_is}
-use Rattle.tab_loads.specs.Telling.{aim_at, away_among, away_in, away_or, is_placed_in}
+use Rattle.tab_loads.specs.Telling.{aim_at, away_in, away_or, is_placed_in}
 use Rattle.tab_passes.proofs.Stand.{depth_is}
 use Rattle.walk_facts.proofs.Placed.{found_nav}
 
 -- ---- the loop
 
+-- the last of these that isn't; else the one found before
+abbrev away_of : Tables → Option NavId → List NavId → Option NavId
+away_of t found navs = last_or found (filter (λ (n : NavId). not (is_placed_in t n)) navs)
+
+away_step : (t : Tables) (found : Option NavId) (nav : NavId) (navs : List NavId) → away_of t found (nav ∷ navs) ≡ away_of t (away_or t found nav) navs
+away_step t found nav navs = by_test (is_placed_in t nav)
+  where
+    gone : List NavId
+    gone = filter (λ (n : NavId). not (is_placed_in t n)) navs
+
+    by_test : (b : Bool) → last_or found (let l : List NavId = cond (not b) (nav ∷ gone) gone in l) ≡ last_or (if b then found else Some nav) gone
+    by_test true = refl
+    by_test false = refl
+
 -- the last of the navigable and so many above it
 abbrev pub away_within : ℕ → Tables → Option NavId → NavId → Option NavId
-away_within n t found nav = away_among t found (nav.0 ∷ rest n t.tree nav)
+away_within n t found nav = away_of t found (nav ∷ map (λ (k : ℕ). record { 0 = k }) (rest n t.tree nav))
 
 pub away_past : (n i : ℕ) (t : Tables) (found : Option NavId) (nav parent : NavId) → i < n → parent_in t.tree nav ≡ Some parent → away_within (n - i) t found nav ≡ away_within (n - (i + 1)) t (away_or t found nav) parent
 away_past n i t found nav parent low is =
     let one : n - i ≡ suc (n - (i + 1)) = omega (arith, low) in
-    ap (λ (k : ℕ). away_within k t found nav) one ∙ rw is refl
+    ap (λ (k : ℕ). away_within k t found nav) one
+    ∙ ap (λ (o : Option NavId). away_of t found (nav ∷ map (λ (k : ℕ). record { 0 = k }) (option_map_or (λ (up : NavId). up.0 ∷ rest (n - (i + 1)) t.tree up) o []))) is
+    ∙ away_step t found nav (parent ∷ map (λ (k : ℕ). record { 0 = k }) (rest (n - (i + 1)) t.tree parent))
 
 pub away_top : (n : ℕ) (t : Tables) (found : Option NavId) (nav : NavId) → parent_in t.tree nav ≡ None → away_within n t found nav ≡ away_or t found nav
-away_top zero t found nav is = refl
-away_top (suc n) t found nav is = rw is refl
+away_top zero t found nav is = away_step t found nav []
+away_top (suc n) t found nav is =
+    ap (λ (o : Option NavId). away_of t found (nav ∷ map (λ (k : ℕ). record { 0 = k }) (option_map_or (λ (up : NavId). up.0 ∷ rest n t.tree up) o []))) is
+    ∙ away_step t found nav []
 
 pub away_end : (n i : ℕ) (t : Tables) (found : Option NavId) (nav : NavId) → n ≤ i → away_within (n - i) t found nav ≡ away_or t found nav
 away_end n i t found nav past =
     let none : n - i ≡ 0 = omega (arith, past) in
-    ap (λ (k : ℕ). away_within k t found nav) none
+    ap (λ (k : ℕ). away_within k t found nav) none ∙ away_step t found nav []
 
 -- ---- what it finds
-
-abbrev away_of : Tables → Option NavId → List NavId → Option NavId
-away_of t found navs = fold (λ (o : Option NavId) (nav : NavId). away_or t o nav) found navs
 
 -- one was found, and another one may be instead
 some_stays : (t : Tables) (nav : NavId) (navs : List NavId) → is_some (away_of t (Some nav) navs) ≡ true
 some_stays t nav [] = refl
-some_stays t nav (n ∷ navs) = by_test (is_placed_in t n) (some_stays t nav navs) (some_stays t n navs)
+some_stays t nav (n ∷ navs) =
+    ap is_some (away_step t (Some nav) n navs) ∙ by_test (is_placed_in t n) (some_stays t nav navs) (some_stays t n navs)
   where
     by_test : (b : Bool) → is_some (away_of t (Some nav) navs) ≡ true → is_some (away_of t (Some n) navs) ≡ true → is_some (away_of t (if b then Some nav else Some n) navs) ≡ true
     by_test true old new = old
@@ -62,7 +78,7 @@ some_stays t nav (n ∷ navs) = by_test (is_placed_in t n) (some_stays t nav nav
 
 none_away : (t : Tables) (navs : List NavId) → away_of t None navs ≡ None → list_all (is_placed_in t) navs ≡ true
 none_away t [] is = refl
-none_away t (n ∷ navs) is = by_test (is_placed_in t n) is (none_away t navs)
+none_away t (n ∷ navs) is = by_test (is_placed_in t n) (sym (away_step t None n navs) ∙ is) (none_away t navs)
   where
     by_test : (b : Bool) → away_of t (if b then None else Some n) navs ≡ None → (away_of t None navs ≡ None → list_all (is_placed_in t) navs ≡ true) → (b && list_all (is_placed_in t) navs) ≡ true
     by_test true none rest = rest none
@@ -70,7 +86,8 @@ none_away t (n ∷ navs) is = by_test (is_placed_in t n) is (none_away t navs)
 
 one_away : (t : Tables) (navs : List NavId) (found : Option NavId) (nav : NavId) → away_of t found navs ≡ Some nav → (found ≡ Some nav) ⊎ (Has navs nav × (is_placed_in t nav ≡ false))
 one_away t [] found nav is = inl is
-one_away t (n ∷ navs) found nav is = by_test (is_placed_in t n) refl is (one_away t navs)
+one_away t (n ∷ navs) found nav is =
+    by_test (is_placed_in t n) refl (sym (away_step t found n navs) ∙ is) (one_away t navs)
   where
     more : (found ≡ Some nav) ⊎ (Has navs nav × (is_placed_in t nav ≡ false)) → (found ≡ Some nav) ⊎ (Has (n ∷ navs) nav × (is_placed_in t nav ≡ false))
     more (inl same) = inl same
@@ -104,11 +121,13 @@ module _ (s : Seen) (run : Option ReqId) (t : Tables) (holds : Holds (look_of s 
 
   away_way : (above : List NavId) (x : NavId) (own : Place) (n : ℕ) (found : Option NavId) → place_of s x ≡ Some own → own.above ≡ above → IsChain s.places above → length above ≤ n → away_within n t found x ≡ away_of t found (x ∷ above)
   away_way [] x own n found at is chain low =
-      ap (λ (l : List ℕ). away_among t found (x.0 ∷ l)) (up_none n t.tree x (parent_is x own at ∙ ap (λ (l : List NavId). slice_get l 0) is))
+      ap (λ (l : List ℕ). away_of t found (x ∷ map (λ (k : ℕ). record { 0 = k }) l)) (up_none n t.tree x (parent_is x own at ∙ ap (λ (l : List NavId). slice_get l 0) is))
   away_way (parent ∷ others) x own zero found at is chain low = absurd (omega (arith, low))
   away_way (parent ∷ others) x own (suc n) found at is chain low =
-      ap (λ (o : Option NavId). away_among t found (x.0 ∷ option_map_or (λ (up : NavId). up.0 ∷ rest n t.tree up) o [])) (parent_is x own at ∙ ap (λ (l : List NavId). slice_get l 0) is)
+      ap (λ (o : Option NavId). away_of t found (x ∷ map (λ (k : ℕ). record { 0 = k }) (option_map_or (λ (up : NavId). up.0 ∷ rest n t.tree up) o []))) (parent_is x own at ∙ ap (λ (l : List NavId). slice_get l 0) is)
+      ∙ away_step t found x (parent ∷ map (λ (k : ℕ). record { 0 = k }) (rest n t.tree parent))
       ∙ away_way others parent chain.0.place n (away_or t found x) chain.0.found chain.0.above_is chain.1 (omega (arith, low))
+      ∙ sym (away_step t found x (parent ∷ others))
 
   chain : IsChain s.places place.above
   chain = place_chain s sound hangs nav place placed

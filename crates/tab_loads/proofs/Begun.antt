@@ -28,7 +28,6 @@ use Rattle.std.proofs.lemmas.Bool.Decides.{nat_tests}
 use Rattle.std.proofs.lemmas.Bool.{and_parts}
 use Rattle.std.specs.List.{list_all, list_any}
 use Rattle.std.specs.Prelude.{is_some, nat_lt, option_map, slice_get}
-use Rattle.tab_begins.proofs.Takes.{reached_same}
 use Rattle.tab_doors.specs.Working.{IsAtWork, KeepsRun, KeepsStore}
 use Rattle.tab_doors.specs.declared.tables.Tables.{Tables}
 use Rattle.tab_drops.specs.Dropping.{AreUnheld}
@@ -51,7 +50,7 @@ use Rattle.tab_moves.specs.Making.{home_in}
 use Rattle.tab_one_pass.proofs.Lives.{placed_awake}
 use Rattle.tab_passes.proofs.Aims.{aim_is}
 use Rattle.tab_passes.specs.Passing.{IsPassing, aim_in}
-use Rattle.tab_serves.proofs.Reached.{IsReachedAt, reached_at}
+use Rattle.tab_stands.proofs.PassedOn.{IsReachedAt, reached_at, reached_same}
 use Rattle.tab_whole.proofs.Beginning.{load_begun_tab}
 use Rattle.tab_whole.specs.Tab.{IsTab}
 use Rattle.walk_facts.specs.Serving.{is_in_place, is_stopping}

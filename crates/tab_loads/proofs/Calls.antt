@@ -36,11 +36,11 @@ use Rattle.tab_stands.proofs.Loads.{load_begun, load_tied}
 use Rattle.tab_stands.proofs.Waiting.{off_where_runs}
 use Rattle.tab_loads.specs.Asking.{InLoad, IsAsked}
 use Rattle.tab_loads.specs.Loading.{CameTo, IsLoadAsk, pass_of}
-use Rattle.tab_loads.specs.Offs.{AreOffKnown, IsOffSince, is_new_place}
 use Rattle.tab_loads.specs.Telling.{denial_in}
 use Rattle.tab_loads.specs.declared.loaded.Loaded.TheVariants.{Refused}
 use Rattle.tab_passes.proofs.Aims.{aim_is}
 use Rattle.tab_passes.specs.Passing.{aim_in}
+use Rattle.tab_stands.specs.Offs.{AreOffKnown, IsOffSince, is_new_place}
 use Rattle.tab_stands.specs.PassedOn.{IsReady}
 use Rattle.tab_stands.specs.Standing.{HasBegun, HasRoomFor, StandsFor}
 use Rattle.log_model.specs.declared.job.Why.TheVariants as whys
@@ -97,14 +97,17 @@ module _ (e : InEvent) (t : Tables) (queue : Queue) (blame : List (StateId × Re
 
     pub refused_ready : (out : List RowKind) → out ≡ rows.Refused req reason ∷ [] → IsAtWork e out t → IsReady (pass_of e) out t queue blame whys.Start
     refused_ready out out_is work =
-        row_ready e req nav mode address asks t queue blame its.going its.taking its.theirs header its.queueing (rows.Refused req reason)
+        row_ready e req nav mode address asks t queue blame its.going its.taking its.moved its.late its.theirs header its.queueing (rows.Refused req reason) tt tt
         (refused_changes (now_of e []) e.event e.actor req (idle e req nav mode address asks) (unjoined e req nav mode address asks t.running its.going.tab) (unparked e req nav mode address asks t.running its.going.tab) reason)
         (refused_tab e req nav mode address asks t its.going its.rests its.few reason) refl out t out_is refl refl
         (refused_passing e req nav mode address asks t its.going its.rests its.few reason (loose_owed e (rows.Refused req reason ∷ []) loose) (λ all. loose) out t out_is refl work)
 
   -- ---- no reason stands against it
 
-  module _ (admitted : denial_at_acceptance e.start (requests.Load nav mode address) ≡ None) (off : AreOffKnown t.running e.start) where
+  module _ (admitted : denial_at_acceptance e.start (requests.Load nav mode address) ≡ None) where
+    off : AreOffKnown t.running e.start
+    off = stands.lasts.off
+
     begun : HasBegun (record { event = e; loads = req ∷ []; hand = [] }) t queue blame
     begun = load_begun e t queue blame stands room header req nav mode address asks.by_user asks.own asks.next admitted
 

@@ -128,8 +128,8 @@ module _ (l : InLoad) (t : Tables) (asked : IsAsked l t) where
       cut_come =
           record {
             came = (asked.undenied, record { by = by; away = away; is = out_is });
-            ready = row_ready l.event l.req l.nav l.mode l.address asked.asks t l.queue l.noted pass.going asked.begun.taking asked.begun.theirs asked.begun.header asked.begun.queueing
-                (rows.Dropped l.req (drops.By by)) (dropped_changes s l.event.event l.event.actor l.req (idle l.event l.req l.nav l.mode l.address asked.asks) (unjoined l.event l.req l.nav l.mode l.address asked.asks t.running pass.going.tab) (unparked l.event l.req l.nav l.mode l.address asked.asks t.running pass.going.tab) (drops.By by))
+            ready = row_ready l.event l.req l.nav l.mode l.address asked.asks t l.queue l.noted pass.going asked.begun.taking asked.begun.moved asked.begun.late asked.begun.theirs asked.begun.header asked.begun.queueing
+                (rows.Dropped l.req (drops.By by)) tt tt (dropped_changes s l.event.event l.event.actor l.req (idle l.event l.req l.nav l.mode l.address asked.asks) (unjoined l.event l.req l.nav l.mode l.address asked.asks t.running pass.going.tab) (unparked l.event l.req l.nav l.mode l.address asked.asks t.running pass.going.tab) (drops.By by))
                 (dropped_tab l.event l.req l.nav l.mode l.address asked.asks t pass.going pass.rests pass.few (drops.By by)) refl out u out_is (ap (λ (y : Tables). y.running) same) (ap (λ (y : Tables). y.kept.keep) same) passing;
             kept = runs_on u same;
           }
@@ -166,9 +166,9 @@ module _ (l : InLoad) (t : Tables) (asked : IsAsked l t) where
       pub sent_come : (u : Tables) (out : List RowKind) → IsAtWork l.event out u → out ≡ rows.Sent (order_to s doc (whys.Req l.req) (tasks.DoFragment l.req l.mode l.address)) ∷ [] → KeepsStore t u → HasCome l t u out l.noted ToFragment
       sent_come u out work out_is keeps =
           record {
-            came = (asked.undenied, record { fragment = record { place = place; there = placed; placed = all; is_it = sent.is }; job = order; task = refl; why = refl; is = out_is });
-            ready = row_ready l.event l.req l.nav l.mode l.address asked.asks t l.queue l.noted pass.going asked.begun.taking asked.begun.theirs asked.begun.header asked.begun.queueing
-                (rows.Sent order) (sent_changes s l.event.event l.event.actor (λ r q at. (pass.going.tab.asked.each r q at).unasked) (reckoned_now l.event []) order l.req l.mode l.address)
+            came = (asked.undenied, record { fragment = record { place = place; there = placed; placed = all; is_it = sent.is }; job = order; task = refl; why = refl; doc = sent.wakes; is = out_is });
+            ready = row_ready l.event l.req l.nav l.mode l.address asked.asks t l.queue l.noted pass.going asked.begun.taking asked.begun.moved asked.begun.late asked.begun.theirs asked.begun.header asked.begun.queueing
+                (rows.Sent order) tt tt (sent_changes s l.event.event l.event.actor (λ r q at. (pass.going.tab.asked.each r q at).unasked) (reckoned_now l.event []) order l.req l.mode l.address)
                 (tab_then l.event l.req l.nav l.mode l.address asked.asks t pass asked.begun.loose place placed standing doc sent.wakes sent.leads) refl out u out_is keeps.running keeps.keep
                 (sent_passing l.event l.req l.nav l.mode l.address asked.asks t pass asked.begun.loose place placed standing doc sent.wakes sent.leads out u out_is keeps work);
             kept = record { running = keeps.running; goal = keeps.goal; keep = keeps.keep };

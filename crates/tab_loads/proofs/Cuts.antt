@@ -45,11 +45,11 @@ use Rattle.tab_ids.specs.declared.NavId.{NavId}
 use Rattle.tab_ids.specs.declared.ReqId.{ReqId}
 use Rattle.tab_loads.proofs.Firsts.{accepted_here, found, idle, q}
 use Rattle.tab_loads.specs.Loading.{IsLoadAsk}
-use Rattle.tab_loads.specs.Offs.{AreOffKnown, IsOffSince, is_new_place}
 use Rattle.tab_loads.specs.Telling.{cut_by, cut_by_in, is_new_nav, mover_of}
 use Rattle.tab_passes.proofs.Aims.{aim_is}
 use Rattle.tab_passes.specs.Passing.{InPass, IsPassing, aim_in}
 use Rattle.walk_rows.proofs.Needs.{dropped_stood}
+use Rattle.tab_stands.specs.Offs.{AreOffKnown, IsOffSince, is_new_place}
 use Rattle.log_model.specs.declared.outcome.Cause.TheVariants as drops
 use Rattle.log_model.specs.declared.row_kind.RowKind.TheVariants as rows
 

@@ -12,7 +12,6 @@ use Rattle.seen_laws.specs.InEvent.{InEvent, now_of}
 use Rattle.std.proofs.Common.{List, None, Option, Some, [], ap, arith, false, inl, inr, length, refl, subst, sym, true, ℕ, ◌<◌, ◌∙◌, ◌∷◌, ◌≡◌, ◌≤◌, ◌⊎◌}
 use Rattle.std.proofs.lemmas.Bool.Decides.{nat_tests}
 use Rattle.std.specs.Prelude.{nat_lt}
-use Rattle.tab_begins.specs.Queueing.{HasQueue}
 use Rattle.tab_doors.specs.declared.tables.Tables.{Tables}
 use Rattle.tab_drops.proofs.Loads.{IsAskedFor, asked_for}
 use Rattle.tab_drops.specs.Dropping.{AreUnheld}
@@ -22,13 +21,14 @@ use Rattle.tab_ids.specs.declared.ReqId.{ReqId}
 use Rattle.tab_ids.specs.declared.StateId.{StateId}
 use Rattle.tab_loads.proofs.Firsts.{unjoined}
 use Rattle.tab_loads.specs.Loading.{IsLoadAsk}
-use Rattle.tab_releases.specs.Releasing.{IsTurning}
+use Rattle.tab_stands.specs.PassedOn.{HasQueue, IsTaking, IsTurning, LateKnown, LoadsMadeOwn, MovedAreShown}
 use Rattle.tab_stands.specs.Standing.{HasRoomFor, IsQueueing, StandsFor}
 use Rattle.tab_stands.proofs.Accepting.{comes_now, goes_on, new, now, number_low, old_or_new, rests_now}
 use Rattle.tab_stands.proofs.Coming.{IsComing, aim_same, taking_then}
 use Rattle.tab_stands.proofs.Loads.{load_tied}
+use Rattle.tab_stands.proofs.LateEvents.{late_first}
+use Rattle.tab_stands.proofs.MovedEvents.{moved_coming}
 use Rattle.tab_stands.proofs.Waiting.{queued_still, queueing_now}
-use Rattle.tab_takes.specs.Taking.{IsTaking, LoadsMadeOwn}
 use Rattle.tab_turns.proofs.Turned.{turning_first}
 use Rattle.tab_whole.proofs.Accepting.{load_accepted_tab}
 use Rattle.tab_whole.proofs.Where.{way_unheld}
@@ -42,6 +42,8 @@ pub record HasDenied (e : InEvent) (req : ReqId) (t : Tables) (queue : Queue) (b
   pub rests : AllRest (now_of e [])
   pub few : length (now_of e []).kept ≤ t.kept.keep
   pub taking : IsTaking e t.running blame (now_of e [])
+  pub moved : MovedAreShown t.running (now_of e [])
+  pub late : LateKnown t.running (now_of e [])
   pub theirs : LoadsMadeOwn (now_of e [])
   pub queueing : IsQueueing (record { event = e; loads = req ∷ []; hand = [] }) [] t queue
 
@@ -105,6 +107,8 @@ module _ (e : InEvent) (t : Tables) (queue : Queue) (blame : List (StateId × Re
         rests = rests_now e req None load asks.by_user asks.own asks.next t queue blame stands;
         few = subst (λ (k : ℕ). k ≤ t.kept.keep) (sym (ap length comes.kept)) stands.between.few;
         taking = taking;
+        late = late_first blame e.start (now_of e []) comes t.running tab.standing stands.lasts.off;
+        moved = moved_coming blame e.start (now_of e []) comes t.running stands.between.tab.asked stands.lasts.moved;
         theirs = comes.theirs;
         queueing = queueing_now e req None load asks.by_user asks.own asks.next t queue blame stands (req ∷ []) queue aim turning queued refl;
       }

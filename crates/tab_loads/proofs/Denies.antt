@@ -83,7 +83,7 @@ module _ (s : Seen) (run : Option ReqId) (t : Tables) (holds_ : Holds (look_of s
       let few : count_of has_ended s.requests ≤ length s.requests = count_few has_ended s.requests in
       omega (arith, step, few, room)
 
-  none_is : has_none (history_held t.store).rows nav ≡ not (has_row nav s.history.rows)
+  pub none_is : has_none (history_held t.store).rows nav ≡ not (has_row nav s.history.rows)
   none_is = ap not (held_begins t.store s.history holds_.history nav) ∙ ap not (sym (any_is s.history.rows low nav))
 
   -- nobody above is known lost

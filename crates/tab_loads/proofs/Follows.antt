@@ -3,6 +3,7 @@ use Rattle.asked_facts.specs.Asking.{ArePlain}
 use Rattle.coord_facts.proofs.Unread.{next}
 use Rattle.frame_facts.specs.Lasting.{wish}
 use Rattle.frame_rows.specs.Lawful.{has_traversed}
+use Rattle.hang_facts.specs.Members.{Has}
 use Rattle.load_rows.specs.Beginning.{is_to_fragment}
 use Rattle.log_model.specs.Places.{aim_of}
 use Rattle.log_model.specs.Seen.{Asked, Document, Place, Seen, document_of, place_of}
@@ -11,9 +12,6 @@ use Rattle.log_model.specs.declared.row_kind.RowKind.{RowKind}
 use Rattle.request_facts.proofs.Readers.{SameReads, reads_then}
 use Rattle.seen_laws.specs.InEvent.{now_of}
 use Rattle.std.proofs.Common.{List, None, Option, Some, [], ap, append_assoc, false, inl, inr, refl, subst, sym, ℕ, ◌++◌, ◌+◌, ◌∙◌, ◌∷◌, ◌≡◌, ◌⊎◌}
-use Rattle.tab_begins.proofs.Queues.{leaves_then}
-use Rattle.tab_begins.specs.Queueing.{AreBlamed, LeavesQueue, LoadsLive}
-use Rattle.tab_begins.specs.Taking.{IsLoadOf as LoadOf}
 use Rattle.tab_doors.specs.Orders.{next_order}
 use Rattle.tab_doors.specs.Working.{IsAtWork, KeepsRun, KeepsStore}
 use Rattle.tab_doors.specs.declared.tables.Tables.{Tables}
@@ -32,7 +30,7 @@ use Rattle.tab_loads.proofs.Firsts.{q}
 use Rattle.tab_loads.proofs.Gives.{IsMadeWay, theirs_more}
 use Rattle.tab_loads.proofs.Leaving.{IsFresh, LeavesMost, taking_by}
 use Rattle.tab_loads.proofs.Orders.{order_of}
-use Rattle.tab_loads.proofs.Readies.{calm_before, queueing_then}
+use Rattle.tab_loads.proofs.Readies.{queueing_then}
 use Rattle.tab_loads.specs.Asking.{HasCome, InLoad, IsAsked}
 use Rattle.tab_loads.specs.Giving.{HasDropped, HasMadeWay, HasNone}
 use Rattle.tab_loads.specs.Loading.{HasGivenWay, HasLoadBegun, pass_of}
@@ -41,11 +39,13 @@ use Rattle.tab_loads.specs.declared.loaded.Loaded.TheVariants.{Begun}
 use Rattle.tab_moves.specs.Making.{home_in}
 use Rattle.tab_passes.specs.Causes.{MayCause}
 use Rattle.tab_passes.specs.Passing.{IsPassing}
-use Rattle.tab_stands.specs.PassedOn.{IsReady}
-use Rattle.tab_takes.specs.Taking.{IsTaking, LoadsMadeOwn}
+use Rattle.tab_stands.proofs.PassedOn.{IsUnapplied, IsUnmoving, late_put, leaves_then, shown_put}
+use Rattle.tab_stands.proofs.Ready.{calm_before}
+use Rattle.tab_stands.specs.PassedOn.{AreBlamed, IsLoadOf as LoadOf, IsReady, IsTaking, LateKnown, LeavesQueue, LoadsLive, LoadsMadeOwn, MovedAreShown}
 use Rattle.tab_turns.proofs.Turned.{causes_on}
 use Rattle.log_model.specs.declared.job.Task.TheVariants as tasks
 use Rattle.log_model.specs.declared.job.Why.TheVariants as whys
+use Rattle.log_model.specs.declared.outcome.Cause.TheVariants as drops
 use Rattle.log_model.specs.declared.row_kind.RowKind.TheVariants as rows
 use Rattle.tab_loads.proofs.Begun as begun
 use Rattle.tab_loads.proofs.Kept as kept
@@ -200,6 +200,38 @@ module _ (l : InLoad) (t : Tables) (asked : IsAsked l t) (placed_ : away_in t l.
   causes_last =
       subst (λ (x : Seen). MayCause x (whys.Req l.req)) (sym is_fin) (causes_on m fin w.running going_fin.tab.asked (λ r. refl) (λ this each. each) (whys.Req l.req) causes)
 
+  pub places_last : (now_of l.event last).places ≡ s.places
+  places_last = ap (λ (x : Seen). x.places) is_fin ∙ places_same ∙ made.places
+
+  pub history_last : (now_of l.event last).history ≡ s.history
+  history_last = ap (λ (x : Seen). x.history) is_fin ∙ history_same ∙ made.history
+
+  -- none of the rows moves anybody, or applies anything
+  quiet : (kind : RowKind) → Has last kind → IsUnmoving kind × IsUnapplied kind
+  quiet = by_case way.which
+    where
+      each : (first : RowKind) → IsUnmoving first × IsUnapplied first → (kind : RowKind) → (first ≡ kind) ⊎ ((rows.Started l.req None ≡ kind) ⊎ ((rows.Sent order ≡ kind) ⊎ ⊥)) → IsUnmoving kind × IsUnapplied kind
+      each first its kind (inl same) = subst (λ (k : RowKind). IsUnmoving k × IsUnapplied k) same its
+      each first its kind (inr (inl same)) =
+          subst (λ (k : RowKind). IsUnmoving k × IsUnapplied k) same (tt, tt)
+      each first its kind (inr (inr (inl same))) =
+          subst (λ (k : RowKind). IsUnmoving k × IsUnapplied k) same (tt, tt)
+      each first its kind (inr (inr (inr never))) = absurd never
+
+      by_case : HasNone l.nav t v out l.noted noted ⊎ HasDropped l.req l.nav t v out l.noted noted → (kind : RowKind) → Has last kind → IsUnmoving kind × IsUnapplied kind
+      by_case (inl it) =
+          subst (λ (o : List RowKind). (kind : RowKind) → Has o kind → IsUnmoving kind × IsUnapplied kind) (sym (last_all ∙ ap (λ (o : List RowKind). whole o) it.out_is)) (λ kind has. each (rows.Started l.req None) (tt, tt) kind (inr has))
+      by_case (inr it) =
+          subst (λ (o : List RowKind). (kind : RowKind) → Has o kind → IsUnmoving kind × IsUnapplied kind) (sym (last_all ∙ ap (λ (o : List RowKind). whole o) it.out_is)) (λ kind has. each (rows.Dropped it.old.req (drops.By l.req)) (tt, tt) kind has)
+
+  moved_last : MovedAreShown y.running (now_of l.event last)
+  moved_last =
+      subst (λ (r : Option ReqId). MovedAreShown r (now_of l.event last)) (sym run_y) (shown_put l.event t.running [] last (record { more = last; is = refl; each = λ kind has. (quiet kind has).0 }) places_last asked.begun.moved)
+
+  late_last : LateKnown y.running (now_of l.event last)
+  late_last =
+      subst (λ (r : Option ReqId). LateKnown r (now_of l.event last)) (sym run_y) (late_put l.event t.running [] last (record { more = last; is = refl; each = λ kind has. (quiet kind has).1 }) places_last history_last asked.begun.late)
+
   pub ready_last : IsReady (pass_of l.event) last y l.queue noted (whys.Req l.req)
   ready_last =
       record {
@@ -209,10 +241,12 @@ module _ (l : InLoad) (t : Tables) (asked : IsAsked l t) (placed_ : away_in t l.
         open_ = taken_last.open_ (whys.Req l.req) causes_last;
         loads = taken_last.loads;
         blamed = taken_last.blamed;
-        calm = calm_before y.running (now_of l.event last) taken_last.calm taken_last.unmoved taken_last.rooted;
+        calm = calm_before y.running (whys.Req l.req) (now_of l.event last) taken_last.calm taken_last.unmoved taken_last.rooted;
+        late = late_last;
+        moved = moved_last;
         live = taken_last.live;
         theirs = theirs_last;
-        queueing = queueing_then l.event asked.asks.by_user (pass_of l.event) (first_pass l.event l.req) refl refl t l.queue asked.begun.queueing last y run_y left_last parked_last wishes_last unapplied (ap (λ (x : Seen). x.places) is_fin ∙ places_same ∙ made.places) (ap (λ (x : Seen). x.history) is_fin ∙ history_same ∙ made.history) (ap (λ (x : Seen). aim_of x) is_fin ∙ aim_fin ∙ made.aim);
+        queueing = queueing_then l.event asked.asks.by_user (pass_of l.event) (first_pass l.event l.req) refl refl t l.queue asked.begun.queueing last y run_y left_last parked_last wishes_last unapplied places_last history_last (ap (λ (x : Seen). aim_of x) is_fin ∙ aim_fin ∙ made.aim);
       }
 
   -- ---- it has begun

@@ -31,10 +31,6 @@ use Rattle.std.proofs.Common.{Bool, List, None, Option, Some, [], ap, arith, con
 use Rattle.std.proofs.lemmas.Bool.Decides.{nat_tests}
 use Rattle.std.proofs.lemmas.Option.{slice_get_past}
 use Rattle.std.specs.Prelude.{option_map, slice_get}
-use Rattle.tab_begins.proofs.Queues.{queue_leaves}
-use Rattle.tab_begins.proofs.Turns.{live_then}
-use Rattle.tab_begins.specs.Queueing.{AreBlamed, LeavesQueue, LoadsLive}
-use Rattle.tab_begins.specs.Taking.{IsLoadOf}
 use Rattle.tab_doors.specs.Working.{IsAtWork}
 use Rattle.tab_doors.specs.declared.tables.Tables.{Tables}
 use Rattle.tab_drops.proofs.Drops.{apart, ended_then, going_then, leaves_then_dropped, open_here, other_request}
@@ -55,7 +51,8 @@ use Rattle.tab_one_pass.proofs.Dropped.{moved_blamed}
 use Rattle.tab_passes.proofs.Goings.{goes_on}
 use Rattle.tab_passes.specs.Causes.{MayServe}
 use Rattle.tab_passes.specs.Passing.{InPass, IsPassing}
-use Rattle.tab_takes.specs.Taking.{IsByItsOwn, IsTaking, LoadsMadeOwn}
+use Rattle.tab_stands.proofs.PassedOn.{live_then, queue_leaves}
+use Rattle.tab_stands.specs.PassedOn.{AreBlamed, IsByItsOwn, IsLoadOf, IsTaking, LeavesQueue, LoadsLive, LoadsMadeOwn}
 use Rattle.log_model.specs.declared.outcome.Cause.TheVariants as drops
 use Rattle.log_model.specs.declared.outcome.Ending.TheVariants as endings
 use Rattle.log_model.specs.declared.row_kind.RowKind.TheVariants as rows

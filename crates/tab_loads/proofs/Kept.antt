@@ -22,8 +22,6 @@ use Rattle.seen_laws.specs.InEvent.{now_of}
 use Rattle.std.proofs.Common.{Bool, List, None, Option, Some, [], ap, arith, cond, false, inl, inr, refl, subst, sym, true, ℕ, ◌++◌, ◌+◌, ◌==◌, ◌∙◌, ◌∷◌, ◌≡◌, ◌⊎◌}
 use Rattle.std.proofs.lemmas.Bool.Decides.{nat_tests}
 use Rattle.std.specs.Prelude.{find, option_map}
-use Rattle.tab_begins.proofs.Takes.{reached_same}
-use Rattle.tab_begins.specs.Taking.{IsLoadOf as LoadOf}
 use Rattle.tab_doors.specs.Orders.{next_order}
 use Rattle.tab_doors.specs.Working.{IsAtWork, KeepsStore}
 use Rattle.tab_doors.specs.declared.tables.Tables.{Tables}
@@ -43,6 +41,8 @@ use Rattle.tab_loads.specs.Giving.{HasMadeWay}
 use Rattle.tab_loads.specs.Telling.{away_in, fragment_in}
 use Rattle.tab_moves.specs.Making.{home_in}
 use Rattle.tab_passes.specs.Causes.{MayCause}
+use Rattle.tab_stands.proofs.PassedOn.{reached_same}
+use Rattle.tab_stands.specs.PassedOn.{IsLoadOf as LoadOf}
 use Rattle.tab_turns.proofs.Turned.{KeepBegun, begun_with, causes_on}
 use Rattle.walk_facts.proofs.Turns.{make_aim}
 use Rattle.walk_rows.proofs.Moved.{sent_moved, started_moved}

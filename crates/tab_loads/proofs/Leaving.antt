@@ -19,19 +19,12 @@ use Rattle.request_facts.proofs.Readers.{SameReads}
 use Rattle.seen_laws.specs.InEvent.{InEvent}
 use Rattle.std.proofs.Common.{Bool, List, None, Option, Some, ap, arith, false, inl, inr, refl, subst, sym, true, ◌∙◌, ◌≡◌, ◌≤◌, ◌⊎◌}
 use Rattle.std.specs.Prelude.{option_map}
-use Rattle.tab_begins.proofs.Afters.{MayServe, ParentsShown, TakersServe}
-use Rattle.tab_begins.proofs.Begins.{IsBare, IsUnsettled, show_causes, takers_on}
-use Rattle.tab_begins.proofs.PassedOn.{visited_same}
-use Rattle.tab_begins.proofs.Takes.{StandOrBare, reached_same}
-use Rattle.tab_begins.specs.PassedOn.{show_why}
-use Rattle.tab_begins.specs.Queueing.{AreBlamed, IsOpen, LoadsLive, MayCause, MayStand}
-use Rattle.tab_begins.specs.Taking.{IsLoadOf, StandOrMove}
 use Rattle.tab_ids.specs.declared.DocId.{DocId}
 use Rattle.tab_ids.specs.declared.NavId.{NavId}
 use Rattle.tab_ids.specs.declared.ReqId.{ReqId}
 use Rattle.tab_ids.specs.declared.StateId.{StateId}
-use Rattle.tab_takes.proofs.Opens.{new_of}
-use Rattle.tab_takes.specs.Taking.{IsTaking}
+use Rattle.tab_stands.proofs.PassedOn.{IsBare, IsUnsettled, StandOrBare, new_of, reached_same, show_causes, takers_on, visited_same}
+use Rattle.tab_stands.specs.PassedOn.{AreBlamed, IsLoadOf, IsOpen, IsTaking, LoadsLive, MayCause, MayServe, MayStand, ParentsShown, StandOrMove, TakersServe, show_why}
 use Rattle.walk_rows.proofs.Moved.{run_moves}
 use Rattle.walk_rows.specs.Since.{MovesVisited}
 use Rattle.log_model.specs.declared.job.Why.TheVariants as whys

@@ -17,10 +17,6 @@ use Rattle.seen_laws.specs.InEvent.{now_of}
 use Rattle.std.proofs.Common.{Bool, List, None, Option, Some, [], ap, arith, cond, false, inl, inr, refl, subst, sym, true, ℕ, ◌++◌, ◌+◌, ◌==◌, ◌||◌, ◌∙◌, ◌∷◌, ◌≡◌, ◌⊎◌}
 use Rattle.std.proofs.lemmas.Bool.Decides.{nat_tests}
 use Rattle.std.specs.Prelude.{find}
-use Rattle.tab_begins.proofs.Begins.{loaded_never, of_load, serve_on}
-use Rattle.tab_begins.proofs.Strays.{IsBlamed}
-use Rattle.tab_begins.specs.Queueing.{AreBlamed, LoadsLive}
-use Rattle.tab_begins.specs.Taking.{IsLoadOf as LoadOf}
 use Rattle.tab_doors.specs.Orders.{next_order}
 use Rattle.tab_doors.specs.Working.{IsAtWork, KeepsStore}
 use Rattle.tab_doors.specs.declared.tables.Tables.{Tables}
@@ -42,7 +38,8 @@ use Rattle.tab_moves.specs.Making.{home_in}
 use Rattle.tab_one_pass.proofs.Lives.{placed_awake}
 use Rattle.tab_passes.specs.Causes.{MayCause}
 use Rattle.tab_passes.specs.Passing.{IsPassing}
-use Rattle.tab_serves.proofs.Reached.{IsReachedAt}
+use Rattle.tab_stands.proofs.PassedOn.{IsReachedAt, loaded_never, of_load, serve_on}
+use Rattle.tab_stands.specs.PassedOn.{AreBlamed, IsBlamed, IsLoadOf as LoadOf, LoadsLive}
 use Rattle.walk_rows.specs.Since.{WasAwake}
 use Rattle.log_model.specs.declared.job.Task.TheVariants as tasks
 use Rattle.log_model.specs.declared.job.Why.TheVariants as whys

@@ -8,18 +8,13 @@ use Rattle.log_model.specs.declared.job.Why.{Why}
 use Rattle.seen_laws.specs.InEvent.{InEvent}
 use Rattle.std.proofs.Common.{List, Option, Some, ap, false, inl, sym, ◌∙◌, ◌≡◌}
 use Rattle.std.specs.List.{list_any}
-use Rattle.tab_begins.proofs.Begins.{serve_on}
-use Rattle.tab_begins.proofs.PassedOn.{begun_as_it_was, causes_on}
-use Rattle.tab_begins.proofs.Strays.{IsBlamed}
-use Rattle.tab_begins.proofs.Turns.{live_then}
-use Rattle.tab_begins.specs.Queueing.{AreBlamed, LeavesQueue, LoadsLive, MayCause}
 use Rattle.tab_ids.specs.declared.NavId.{NavId}
 use Rattle.tab_ids.specs.declared.ReqId.{ReqId}
 use Rattle.tab_ids.specs.declared.StateId.{StateId}
 use Rattle.tab_loads.proofs.Changes.{ChangesOne}
 use Rattle.tab_loads.proofs.Leaving.{LeavesMost, taking_by}
-use Rattle.tab_takes.proofs.Ended.{load_back, look_back, ready_back, unloaded_back}
-use Rattle.tab_takes.specs.Taking.{IsTaking}
+use Rattle.tab_stands.proofs.PassedOn.{begun_as_it_was, causes_on, live_then, load_back, look_back, ready_back, serve_on, unloaded_back}
+use Rattle.tab_stands.specs.PassedOn.{AreBlamed, IsBlamed, IsTaking, LeavesQueue, LoadsLive, MayCause}
 use Rattle.log_model.specs.declared.job.Why.TheVariants as whys
 
 module _ (e : InEvent) (run : Option ReqId) (blame : List (StateId × ReqId)) (s n : Seen) (at : IsTaking e run blame s) (plain_s : ArePlain run s) (plain : ArePlain run n) (homes : AreHomed s) (req : ReqId) (q : Asked) (found : request_of s req ≡ Some q) (unstarted : q.is_started ≡ false) (it : ChangesOne s n req) where

@@ -27,7 +27,7 @@ use Rattle.tab_moves.specs.Making.{home_in}
 use Rattle.tab_passes.proofs.Goings.{is_passed_for}
 use Rattle.tab_passes.specs.Causes.{MayCause}
 use Rattle.tab_passes.specs.Passing.{IsPassing}
-use Rattle.tab_serves.proofs.Reached.{IsReachedAt}
+use Rattle.tab_stands.proofs.PassedOn.{IsReachedAt}
 use Rattle.walk_facts.specs.Serving.{is_stopping}
 use Rattle.log_model.specs.declared.job.Task.TheVariants as tasks
 use Rattle.log_model.specs.declared.job.Why.TheVariants as whys

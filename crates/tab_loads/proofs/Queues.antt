@@ -16,7 +16,6 @@ use Rattle.std.proofs.Common.{Bool, List, None, Option, Some, [], ap, arith, fal
 use Rattle.std.proofs.lemmas.Bool.Decides.{nat_tests}
 use Rattle.std.proofs.lemmas.Bool.{and_parts}
 use Rattle.std.specs.List.{list_any}
-use Rattle.tab_begins.specs.Queueing.{IsReadyLoadOf, LeavesQueue}
 use Rattle.tab_doors.specs.Orders.{next_order}
 use Rattle.tab_doors.specs.Working.{IsAtWork, KeepsStore}
 use Rattle.tab_doors.specs.declared.tables.Tables.{Tables}
@@ -31,13 +30,14 @@ use Rattle.tab_loads.specs.Asking.{InLoad, IsAsked}
 use Rattle.tab_loads.specs.Giving.{HasMadeWay}
 use Rattle.tab_loads.specs.Telling.{away_in, fragment_in}
 use Rattle.tab_moves.specs.Making.{home_in}
-use Rattle.tab_serves.proofs.Reached.{IsReachedAt}
 use Rattle.log_model.specs.declared.job.Task.TheVariants as tasks
 use Rattle.log_model.specs.declared.job.Why.TheVariants as whys
 use Rattle.log_model.specs.declared.row_kind.RowKind.TheVariants as rows
 use Rattle.tab_loads.proofs.Begun as begun
 use Rattle.tab_loads.proofs.Kept as kept
 use Rattle.tab_loads.proofs.Makes as makes
+use Rattle.tab_stands.proofs.PassedOn.{IsReachedAt}
+use Rattle.tab_stands.specs.PassedOn.{IsReadyLoadOf, LeavesQueue}
 
 -- one more that doesn't pass
 any_more : (test : Document → Bool) (xs : List Document) (y : Document) → test y ≡ false → list_any test (xs ++ y ∷ []) ≡ list_any test xs

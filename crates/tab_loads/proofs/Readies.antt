@@ -1,5 +1,4 @@
 -- A pass may follow once the load was refused or dropped, or a document was sent to a fragment for it, by the first row that was put out.
-use Rattle.calm_facts.specs.Calm.{AreRooted, CalmUnless, IsCalmYet, UnmovedAreHere}
 use Rattle.coord_facts.proofs.Held.{held_alike}
 use Rattle.coord_facts.proofs.Unread.{next}
 use Rattle.coord_facts.specs.Leading.{held_back}
@@ -16,8 +15,7 @@ use Rattle.move_queue.specs.Queue.{Queue}
 use Rattle.request_facts.proofs.Readers.{SameReads}
 use Rattle.seen_laws.proofs.InEvents.{now_more}
 use Rattle.seen_laws.specs.InEvent.{InEvent, now_of, row_of}
-use Rattle.std.proofs.Common.{Bool, List, None, Option, Some, [], ap, false, inl, refl, subst, sym, true, ℕ, ◌||◌, ◌∙◌, ◌∷◌, ◌≡◌}
-use Rattle.tab_begins.specs.Queueing.{HasQueue, LeavesQueue}
+use Rattle.std.proofs.Common.{Bool, List, Option, [], ap, false, inl, inr, refl, subst, sym, true, ℕ, ◌||◌, ◌∙◌, ◌∷◌, ◌≡◌, ◌⊎◌}
 use Rattle.tab_doors.specs.declared.tables.Tables.{Tables}
 use Rattle.tab_going.specs.Going.{IsGoing}
 use Rattle.tab_ids.specs.declared.NavId.{NavId}
@@ -29,22 +27,14 @@ use Rattle.tab_loads.proofs.Firsts.{found, q}
 use Rattle.tab_loads.proofs.Ones.{one_leaves, one_taking}
 use Rattle.tab_loads.specs.Loading.{IsLoadAsk, pass_of}
 use Rattle.tab_passes.specs.Passing.{InPass, IsPassing}
-use Rattle.tab_releases.proofs.Releases.{mades_same}
-use Rattle.tab_stands.proofs.PassedOn.{theirs_over}
 use Rattle.tab_stands.proofs.Dones.{MayRelease}
-use Rattle.tab_stands.proofs.Ready.{IsCalmBefore}
-use Rattle.tab_stands.specs.PassedOn.{IsReady}
+use Rattle.tab_stands.proofs.PassedOn.{IsUnapplied, IsUnmoving, late_put, mades_same, queue_over, shown_put, theirs_over, turning_on}
+use Rattle.tab_stands.proofs.Ready.{calm_before}
+use Rattle.tab_stands.specs.PassedOn.{HasQueue, IsReady, IsTaking, LateKnown, LeavesQueue, LoadsMadeOwn, MovedAreShown}
 use Rattle.tab_stands.specs.Standing.{IsQueueing}
-use Rattle.tab_takes.proofs.PassedOn.{queue_over, turning_on}
-use Rattle.tab_takes.specs.Taking.{IsTaking, LoadsMadeOwn}
 use Rattle.tab_whole.specs.Tab.{IsTab}
 use Rattle.log_model.specs.declared.job.Why.TheVariants as whys
 use Rattle.log_model.specs.declared.row_kind.Actor.TheVariants as actors
-
--- how calm the tab is before a pass
-pub calm_before : (run : Option ReqId) (s : Seen) → CalmUnless IsCalmYet run s → UnmovedAreHere s → AreRooted s → IsCalmBefore run s
-calm_before None s calm unmoved rooted = inl calm
-calm_before (Some req) s calm unmoved rooted = (unmoved, rooted)
 
 -- what is held back isn't released in an event of the user
 pub held_stays : (e : InEvent) → e.actor ≡ actors.Ui → MayRelease e [] → ⊥
@@ -84,11 +74,11 @@ module _ (e : InEvent) (by : e.actor ≡ actors.Ui) (p one : InPass) (same_p : p
 
 -- ---- one row
 
-module _ (e : InEvent) (req : ReqId) (nav : NavId) (mode : Mode) (address : List ℕ) (asks : IsLoadAsk e req nav mode address) (t : Tables) (queue : Queue) (blame : List (StateId × ReqId)) (going : IsGoing t.running (req ∷ []) [] (now_of e [])) (taking : IsTaking e t.running blame (now_of e [])) (theirs : LoadsMadeOwn (now_of e [])) (header : t.kept.keep ≡ e.header.keep) (queueing : IsQueueing (first_pass e req) [] t queue) where
+module _ (e : InEvent) (req : ReqId) (nav : NavId) (mode : Mode) (address : List ℕ) (asks : IsLoadAsk e req nav mode address) (t : Tables) (queue : Queue) (blame : List (StateId × ReqId)) (going : IsGoing t.running (req ∷ []) [] (now_of e [])) (taking : IsTaking e t.running blame (now_of e [])) (moved : MovedAreShown t.running (now_of e [])) (late : LateKnown t.running (now_of e [])) (theirs : LoadsMadeOwn (now_of e [])) (header : t.kept.keep ≡ e.header.keep) (queueing : IsQueueing (first_pass e req) [] t queue) where
   abbrev s : Seen
   s = now_of e []
 
-  module _ (row : RowKind) (change : ChangesOne s (next s e.event e.actor row) req) (tab : IsTab t.running [] [] (next s e.event e.actor row)) (unapplied : is_traverse (row_of e row) ≡ false) (new : List RowKind) (u : Tables) (out_is : new ≡ row ∷ []) (run : u.running ≡ t.running) (keep : u.kept.keep ≡ t.kept.keep) (passing : IsPassing (pass_of e) new u) where
+  module _ (row : RowKind) (unmoving : IsUnmoving row) (steady : IsUnapplied row) (change : ChangesOne s (next s e.event e.actor row) req) (tab : IsTab t.running [] [] (next s e.event e.actor row)) (unapplied : is_traverse (row_of e row) ≡ false) (new : List RowKind) (u : Tables) (out_is : new ≡ row ∷ []) (run : u.running ≡ t.running) (keep : u.kept.keep ≡ t.kept.keep) (passing : IsPassing (pass_of e) new u) where
     abbrev n : Seen
     n = next s e.event e.actor row
 
@@ -115,6 +105,25 @@ module _ (e : InEvent) (req : ReqId) (nav : NavId) (mode : Mode) (address : List
     open_now =
         subst (λ (x : Seen). IsTaking e u.running blame x) (sym now_is) (subst (λ (r : Option ReqId). IsTaking e r blame n) (sym run) taken)
 
+    places_same : (now_of e new).places ≡ s.places
+    places_same = ap (λ (x : Seen). x.places) now_is ∙ change.places
+
+    moved_now : MovedAreShown u.running (now_of e new)
+    moved_now =
+        subst (λ (r : Option ReqId). MovedAreShown r (now_of e new)) (sym run) (shown_put e t.running [] new (record { more = row ∷ []; is = out_is; each = each }) places_same moved)
+      where
+        each : (kind : RowKind) → (row ≡ kind) ⊎ ⊥ → IsUnmoving kind
+        each kind (inl same) = subst IsUnmoving same unmoving
+        each kind (inr never) = absurd never
+
+    late_now : LateKnown u.running (now_of e new)
+    late_now =
+        subst (λ (r : Option ReqId). LateKnown r (now_of e new)) (sym run) (late_put e t.running [] new (record { more = row ∷ []; is = out_is; each = each }) places_same (ap (λ (x : Seen). x.history) now_is ∙ change.history) late)
+      where
+        each : (kind : RowKind) → (row ≡ kind) ⊎ ⊥ → IsUnapplied kind
+        each kind (inl same) = subst IsUnapplied same steady
+        each kind (inr never) = absurd never
+
     pub row_ready : IsReady (pass_of e) new u queue blame whys.Start
     row_ready =
         record {
@@ -124,8 +133,10 @@ module _ (e : InEvent) (req : ReqId) (nav : NavId) (mode : Mode) (address : List
           open_ = open_now.open_ whys.Start (λ r never. absurd cc);
           loads = open_now.loads;
           blamed = open_now.blamed;
-          calm = calm_before u.running (now_of e new) open_now.calm open_now.unmoved open_now.rooted;
+          calm = calm_before u.running whys.Start (now_of e new) open_now.calm open_now.unmoved open_now.rooted;
+          late = late_now;
+          moved = moved_now;
           live = open_now.live;
           theirs = subst (λ (x : Seen). LoadsMadeOwn x) (sym now_is) (theirs_over s n change.wishes change.documents theirs);
-          queueing = queueing_then e asks.by_user (pass_of e) (first_pass e req) refl refl t queue queueing new u run (subst (λ (x : Seen). LeavesQueue s x) (sym now_is) left) (ap (λ (x : Seen). x.parked) now_is ∙ change.parked) (subst (λ (x : Seen). SameReads wish s.requests x.requests) (sym now_is) change.wishes) none_applied (ap (λ (x : Seen). x.places) now_is ∙ change.places) (ap (λ (x : Seen). x.history) now_is ∙ change.history) (ap (λ (x : Seen). aim_of x) now_is ∙ change.aim);
+          queueing = queueing_then e asks.by_user (pass_of e) (first_pass e req) refl refl t queue queueing new u run (subst (λ (x : Seen). LeavesQueue s x) (sym now_is) left) (ap (λ (x : Seen). x.parked) now_is ∙ change.parked) (subst (λ (x : Seen). SameReads wish s.requests x.requests) (sym now_is) change.wishes) none_applied places_same (ap (λ (x : Seen). x.history) now_is ∙ change.history) (ap (λ (x : Seen). aim_of x) now_is ∙ change.aim);
         }

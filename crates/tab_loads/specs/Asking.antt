@@ -13,9 +13,9 @@ use Rattle.tab_ids.specs.declared.NavId.{NavId}
 use Rattle.tab_ids.specs.declared.ReqId.{ReqId}
 use Rattle.tab_ids.specs.declared.StateId.{StateId}
 use Rattle.tab_loads.specs.Loading.{CameTo, IsLoadAsk, cause_of, pass_of}
-use Rattle.tab_loads.specs.Offs.{AreOffKnown}
 use Rattle.tab_loads.specs.declared.loaded.Loaded.{Loaded}
 use Rattle.tab_passes.specs.Passing.{InPass}
+use Rattle.tab_stands.specs.Offs.{AreOffKnown}
 use Rattle.tab_stands.specs.PassedOn.{IsReady}
 use Rattle.tab_stands.specs.Standing.{HasBegun}
 use Rattle.log_model.specs.declared.request.Request.TheVariants as requests

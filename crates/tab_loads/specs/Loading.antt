@@ -3,7 +3,7 @@
 use Rattle.load_rows.specs.Beginning.{is_to_fragment}
 use Rattle.log_model.specs.Causes.{denial_at_acceptance}
 use Rattle.log_model.specs.Places.{aim_of, is_placed, way_to}
-use Rattle.log_model.specs.Seen.{Place, Seen, place_of}
+use Rattle.log_model.specs.Seen.{Place, Seen, awake, place_of}
 use Rattle.log_model.specs.declared.job.Job.{Job}
 use Rattle.log_model.specs.declared.job.Why.{Why}
 use Rattle.log_model.specs.declared.outcome.Denial.{Denial}
@@ -62,12 +62,13 @@ pub record IsToFragment (s : Seen) (nav : NavId) (address : List ℕ) (is : Bool
   pub placed : is_way_placed s nav ≡ true
   pub is_it : is_to_fragment s address place ≡ is
 
--- its document was sent to the fragment
+-- the document that it is awake on was sent to the fragment
 pub record WasSent (s : Seen) (req : ReqId) (nav : NavId) (mode : Mode) (address : List ℕ) (out : List RowKind) : Type 0 where
   pub fragment : IsToFragment s nav address true
   pub job : Job
   pub task : job.task ≡ tasks.DoFragment req mode address
   pub why : job.why ≡ whys.Req req
+  pub doc : fragment.place.status ≡ awake job.doc
   pub is : out ≡ rows.Sent job ∷ []
 
 -- the navigable's ongoing load, if there is one, was dropped for it

@@ -12,7 +12,8 @@ use Rattle.log_model.specs.declared.outcome.Denial.{Denial}
 use Rattle.log_model.specs.declared.row.Row.{Row}
 use Rattle.nav_tree.specs.Tree.{nav_of}
 use Rattle.nav_tree.specs.declared.nav.Nav.{Nav}
-use Rattle.std.specs.Prelude.{Bool, List, None, Option, Some, fold, if◌then◌else◌, length, not, option_and_then, ℕ, ◌&&◌, ◌==◌, ◌||◌, ◌∷◌}
+use Rattle.std.specs.List.{last_or}
+use Rattle.std.specs.Prelude.{Bool, List, None, Option, Some, filter, if◌then◌else◌, length, map, not, option_and_then, ℕ, ◌&&◌, ◌==◌, ◌||◌, ◌∷◌}
 use Rattle.step_index.specs.Held.{history_held}
 use Rattle.tab_doors.specs.Dues.{has_none}
 use Rattle.tab_doors.specs.declared.tables.Tables.{Tables}
@@ -52,13 +53,13 @@ is_placed_in t nav = is_placed_at t (aim_at t) nav
 abbrev pub away_or : Tables → Option NavId → NavId → Option NavId
 away_or t found nav = if is_placed_in t nav then found else Some nav
 
--- the last of these navigables that isn't; else the one found before
-abbrev pub away_among : Tables → Option NavId → List ℕ → Option NavId
-away_among t found navs = fold (λ (o : Option NavId) (n : ℕ). away_or t o (record { 0 = n })) found navs
+-- the navigable and those above it, upwards
+abbrev pub way_in : Tables → NavId → List NavId
+way_in t nav = nav ∷ map (λ (n : ℕ). record { 0 = n }) (rest (length t.tree.navs) t.tree nav)
 
--- the topmost of the navigable and those above it that isn't
+-- the topmost of them that isn't, which is the last
 abbrev pub away_in : Tables → NavId → Option NavId
-away_in t nav = away_among t None (nav.0 ∷ rest (length t.tree.navs) t.tree nav)
+away_in t nav = last_or None (filter (λ (n : NavId). not (is_placed_in t n)) (way_in t nav))
 
 -- ---- for which request it is dropped
 

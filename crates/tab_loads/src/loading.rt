@@ -4,7 +4,6 @@ ghost use Rattle.seen_laws.specs.InEvent.{InEvent};
 ghost use Rattle.tab_doors.specs.Working.{KeepsRun};
 ghost use Rattle.tab_loads.specs.Asking.{HasCome, InLoad, IsAsked};
 ghost use Rattle.tab_loads.specs.Loading.{CameTo, IsLoadAsk, cause_of, pass_of};
-ghost use Rattle.tab_loads.specs.Offs.{AreOffKnown};
 ghost use Rattle.tab_stands.specs.PassedOn.{IsReady};
 ghost use Rattle.tab_stands.specs.Standing.{HasRoomFor, StandsFor};
 
@@ -84,7 +83,6 @@ pub fn load(
     requires asks { IsLoadAsk e req nav mode address.now }
     requires room { HasRoomFor e.start }
     requires stands { StandsFor e.start tables.old queue.now blame.old.entries }
-    requires off { AreOffKnown tables.old.running e.start }
     ensures came { IfOk result (λ loaded. CameTo e req nav mode address.now out.new loaded) }
     ensures ready { IfOk result (λ loaded. IsReady (pass_of e) out.new tables.new queue.now blame.new.entries (cause_of req loaded)) }
     ensures kept { OnOk result (KeepsRun tables.old tables.new) }

@@ -41,7 +41,7 @@ use Rattle.tab_ids.specs.declared.StateId.{StateId}
 use Rattle.tab_one_pass.specs.Passing.{HasPassed, HasPutOut, LeavesCalm, LeavesPass}
 pub use Rattle.tab_serves.proofs.PassedOn.{aim_is}
 pub use Rattle.tab_serves.proofs.Calms.{only_as}
-use Rattle.tab_serves.specs.Serving.{HasOnly, InPass, IsPassing}
+use Rattle.tab_serves.specs.Serving.{HasOnly, InPass, IsPassing, IsUp, KeepsUp}
 use Rattle.tab_serves.proofs.Orders.{IsOrderOf, over_orders}
 pub use Rattle.tab_sweeps.proofs.Loads.{loaded_never}
 use Rattle.tab_sweeps.specs.Sweeping.{IsNoStray, IsOnStray, IsStray, IsSweptTurn, but_status}
@@ -205,6 +205,20 @@ module _ (run : Option ReqId) (loads : List ReqId) (hand : List Made) (s t : See
         by_case (inl out) = not_out (closed nav old on.over at shown way out)
         by_case (inr here) = here_off on.over on.own on.doc on.state on.there on.wakes here on.stray
 
+    -- who is up, and not excepted, is as it was
+    up_but : (nav : NavId) (place : Place) (doc : DocId) → IsUp t nav place doc → Except nav ⊎ (place_of s nav ≡ Some place)
+    up_but nav place doc up = by_out (either nav)
+      where
+        was : WasAwake s nav doc
+        was = turn.awake_ nav place doc refl up.placed up.wakes
+
+        visible : is_shown s.history.rows s.history.current nav ≡ true
+        visible = ap (λ (h : History). is_shown h.rows h.current nav) (sym turn.history) ∙ up.shown
+
+        by_out : Except nav ⊎ (Except nav → ⊥) → Except nav ⊎ (place_of s nav ≡ Some place)
+        by_out (inl out) = inl out
+        by_out (inr not_out) = inr (sym (turn.stays nav (off nav was.place was.placed visible not_out)) ∙ up.placed)
+
     wakes_then : (nav : NavId) (place : Place) → place_of t nav ≡ Some place → is_shown t.history.rows t.history.current place.nav ≡ true → 1 ≤ place.epoch.0 → Except nav ⊎ (is_awake place ≡ true)
     wakes_then nav place placed shown epoch =
         by_out (either nav) (calm.wakes nav was.old was.placed (ap (λ (n : NavId). is_shown s.history.rows s.history.current n) (found_nav s.places nav was.old was.placed) ∙ visible) (subst (λ (p : Place). 1 ≤ p.epoch.0) was.same epoch))
@@ -241,15 +255,26 @@ module _ (run : Option ReqId) (loads : List ReqId) (hand : List Made) (s t : See
   test_on true = inl refl
   test_on false = inr (λ is. let never : false ≡ true = is in cc)
 
+  closed_bare : (nav : NavId) (place : Place) (over : NavId) → place_of s nav ≡ Some place → is_shown s.history.rows s.history.current nav ≡ true → has_nav (nav ∷ place.above) over ≡ true → has_row over s.history.rows ≡ false → has_row nav s.history.rows ≡ false
+  closed_bare nav place over placed shown way none =
+      let up = shown_on_way s tab.sound tab.hangs s.history.current nav place placed shown over way in
+      let never : true ≡ false = sym (shown_row s tab.sound tab.hangs s.history.current over up) ∙ none in
+      absurd cc
+
   swept_yet : IsCalmYet s → IsCalmYet t
   swept_yet calm =
-      yet_same s t turn.history (swept_but (λ (nav : NavId). has_row nav s.history.rows ≡ false) (λ nav. test (has_row nav s.history.rows)) closed calm)
+      yet_same s t turn.history (swept_but (λ (nav : NavId). has_row nav s.history.rows ≡ false) (λ nav. test (has_row nav s.history.rows)) closed_bare calm)
+
+  up_yet : IsCalmYet s → (nav : NavId) (place : Place) (doc : DocId) → IsUp t nav place doc → place_of s nav ≡ Some place
+  up_yet calm nav place doc up =
+      by_case (up_but (λ (n : NavId). has_row n s.history.rows ≡ false) (λ n. test (has_row n s.history.rows)) closed_bare calm nav place doc up)
     where
-      closed : (nav : NavId) (place : Place) (over : NavId) → place_of s nav ≡ Some place → is_shown s.history.rows s.history.current nav ≡ true → has_nav (nav ∷ place.above) over ≡ true → has_row over s.history.rows ≡ false → has_row nav s.history.rows ≡ false
-      closed nav place over placed shown way none =
-          let up = shown_on_way s tab.sound tab.hangs s.history.current nav place placed shown over way in
-          let never : true ≡ false = sym (shown_row s tab.sound tab.hangs s.history.current over up) ∙ none in
+      by_case : (has_row nav s.history.rows ≡ false) ⊎ (place_of s nav ≡ Some place) → place_of s nav ≡ Some place
+      by_case (inl none) =
+          let shown : is_shown s.history.rows s.history.current nav ≡ true = ap (λ (h : History). is_shown h.rows h.current nav) (sym turn.history) ∙ up.shown in
+          let never : true ≡ false = sym (shown_row s tab.sound tab.hangs s.history.current nav shown) ∙ none in
           absurd cc
+      by_case (inr same) = same
 
   ways_then : (nav : NavId) → option_map (λ (p : Place). p.above) (place_of t nav) ≡ option_map (λ (p : Place). p.above) (place_of s nav)
   ways_then nav =
@@ -313,6 +338,18 @@ module _ (run : Option ReqId) (loads : List ReqId) (hand : List Made) (s t : See
     swept_around : IsCalmAround t by
     swept_around =
         around_by s t turn.history by calm (but_more t Under (λ (nav : NavId). has_nav (way_to t nav) by ≡ true) (λ nav has. ap (λ (l : List NavId). has_nav l by) (way_same s t ways_then nav) ∙ has) (swept_but Under (λ nav. test_on (has_nav (way_to s nav) by)) closed calm.but)) calm.doc (record { d = calm.document; found = turn.others calm.doc no_stray ∙ calm.found; usable = calm.usable })
+
+    up_around : (nav : NavId) (place : Place) (doc : DocId) → IsUp t nav place doc → (place_of s nav ≡ Some place) ⊎ (has_nav (nav ∷ place.above) by ≡ true)
+    up_around nav place doc up =
+        by_case (up_but Under (λ n. test_on (has_nav (way_to s n) by)) closed calm.but nav place doc up)
+      where
+        by_case : Under nav ⊎ (place_of s nav ≡ Some place) → (place_of s nav ≡ Some place) ⊎ (has_nav (nav ∷ place.above) by ≡ true)
+        by_case (inl under) =
+            inr (ap (λ (l : List NavId). has_nav l by) (sym (way_at t nav place up.placed) ∙ way_same s t ways_then nav) ∙ under)
+        by_case (inr same) = inl same
+
+  pub swept_up : KeepsUp s t
+  swept_up = record { yet = λ now. up_yet; around = λ now. up_around }
 
   swept_rooted : AreRooted s → AreRooted t
   swept_rooted are nav place doc d placed wakes found has =

@@ -18,7 +18,7 @@ use Rattle.tab_drops.proofs.ForCallers.{tab_placed}
 use Rattle.tab_drops.specs.Dropping.{ArePlaced, AreUnheld, EndsLoads, HasOnlyDestroyed, HasOnlyDroppedBy, IsBare, IsUnsettled, LeavesAll, StandOrBare, StandOrMove}
 use Rattle.tab_ids.specs.declared.ReqId.{ReqId}
 use Rattle.tab_ids.specs.declared.StateId.{StateId}
-use Rattle.tab_one_pass.proofs.Calms.{swept_calm}
+use Rattle.tab_one_pass.proofs.Calms.{swept_calm, swept_up}
 use Rattle.tab_one_pass.proofs.Dropped.{destroyed_left, moved_blamed}
 use Rattle.tab_one_pass.proofs.Opens.{open_left, open_swept, place_same, swept_orders}
 use Rattle.tab_one_pass.proofs.Orphans.{stray_sent}
@@ -28,7 +28,7 @@ use Rattle.tab_one_pass.specs.Noting.{AreNoted}
 use Rattle.tab_one_pass.specs.Passing.{AreLeftStrays, HasClearedOut, HasGivenWay, IsOpen, LeavesPass, MayStand, SendsForStrays, WereLoaded}
 pub use Rattle.tab_serves.proofs.PassedOn.{show_causes}
 use Rattle.tab_serves.specs.PassedOn.{MayServe, IsTab}
-use Rattle.tab_serves.specs.Serving.{HasOnly, InPass, IsOfWalk, IsPassing, MayCause, show_why}
+use Rattle.tab_serves.specs.Serving.{HasOnly, InPass, IsOfWalk, IsPassing, MayCause, show_why, KeepsUp}
 use Rattle.tab_serves.proofs.Orders.{IsOrderOf}
 use Rattle.tab_sweeps.specs.Sweeping.{AreBlamed, HasOnlySwept, IsSweptTurn, NoneStray}
 
@@ -83,6 +83,9 @@ module _ (p : InPass) (out : List RowKind) (t : Tables) (pass : IsPassing p out 
     mid_calm : KeepsCalm s y
     mid_calm = swept_calm t.running p.loads p.hand s y pass.going.tab turn
 
+    mid_up : KeepsUp s y
+    mid_up = swept_up t.running p.loads p.hand s y pass.going.tab turn
+
     mid_open : IsOpen p.event t.running cause y
     mid_open = open_swept p t.running cause out mid pass.going.tab tab_then turn swept orders so
 
@@ -126,14 +129,14 @@ module _ (p : InPass) (out : List RowKind) (t : Tables) (pass : IsPassing p out 
           by_load None is =
               absurd (swept doc state (record { document = stray.document; found = before; its_state = stray.its_state; ready = stray.ready; undiscarded = stray.undiscarded; bare = bare; unloaded = is }))
           by_load (Some q) is =
-              loaded_before s y (swept_left p.event out mid orders turn mid_calm) state (ap (λ (o : Option Asked). is_some o) is)
+              loaded_before s y (swept_left p.event out mid orders turn mid_calm mid_up) state (ap (λ (o : Option Asked). is_some o) is)
 
       pub cleared_rows : AreAwakeWithRows x
       cleared_rows nav place doc at wakes =
           ap (λ (h : History). has_row place.nav h.rows) left.history ∙ mid_rows nav place doc (sym (place_same y x left.places left.history left.aim nav) ∙ at) wakes
 
       pub cleared_left : LeavesPass s x
-      cleared_left = left_then s y x (swept_left p.event out mid orders turn mid_calm) (left_drops y x left)
+      cleared_left = left_then s y x (swept_left p.event out mid orders turn mid_calm mid_up) (left_drops y x left)
 
       pub cleared_only : HasOnlyDestroyed y mid new → HasClearedOut p.event blame out new
       cleared_only destroys = record { swept = mid; sweeps = only; destroys = destroys }

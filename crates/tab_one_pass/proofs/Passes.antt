@@ -34,7 +34,8 @@ use Rattle.tab_one_pass.proofs.Sents.{IsAnyTask, WasStray, joined_same, looks_sa
 use Rattle.tab_one_pass.specs.Passing.{AreLeftStrays, HasPassed, IsLeftStray, IsOpen, LeavesPass}
 pub use Rattle.tab_serves.proofs.PassedOn.{goes_on}
 use Rattle.tab_serves.proofs.Calms.{only_as}
-use Rattle.tab_serves.specs.Serving.{HasOnly, HasOnlyServed, HasWalked, IsOfWalk, LeavesLog, MayCause, MayWalk}
+use Rattle.tab_serves.proofs.Ups.{up_places, up_then}
+use Rattle.tab_serves.specs.Serving.{HasOnly, HasOnlyServed, HasWalked, IsOfWalk, KeepsUp, LeavesLog, MayCause, MayWalk}
 use Rattle.tab_serves.specs.PassedOn.{HasOnlyTold, IsToldMore, IsUpdateFor}
 use Rattle.tab_serves.proofs.Orders.{IsOrderOf, taken_over, walk_orders}
 pub use Rattle.tab_drops.proofs.Turns.{reached_same}
@@ -57,7 +58,7 @@ look_what (Some q) = refl
 
 pub left_none : (s : Seen) → LeavesPass s s
 left_none s =
-    record { history = refl; aim = refl; parked = refl; joined = refl; loads = λ req l at on. at; others = λ req l at off. at; whats = λ r. refl; causes = λ why may. may; ready = λ state some. some; calms = keeps_none s; loading = λ are. are }
+    record { history = refl; aim = refl; parked = refl; joined = refl; loads = λ req l at on. at; others = λ req l at off. at; whats = λ r. refl; causes = λ why may. may; ready = λ state some. some; calms = keeps_none s; up = up_places s s refl; loading = λ are. are }
 
 pub left_then : (s t u : Seen) → LeavesPass s t → LeavesPass t u → LeavesPass s u
 left_then s t u one two =
@@ -72,6 +73,7 @@ left_then s t u one two =
       causes = λ why may. two.causes why (one.causes why may);
       ready = λ state some. one.ready state (two.ready state some);
       calms = keeps_then s t u one.history one.aim one.calms two.calms;
+      up = up_then s t u one.history one.aim two.history one.calms one.up two.up;
       loading = λ are. two.loading (one.loading are);
     }
 
@@ -89,6 +91,7 @@ left_drops s t left =
       causes = left.orders;
       ready = λ state some. ap (λ (l : List Document). list_any (λ (d : Document). is_usable d state) l) (sym left.documents) ∙ some;
       calms = drops_calm s t left;
+      up = up_places s t left.places;
       loading = loads_same s t left.loads (λ doc. ap (λ (l : List Document). document_in l doc) left.documents);
     }
   where
@@ -121,8 +124,8 @@ loaded_before s t left state some = by_load (ongoing_load s state) refl
         absurd cc
 
 -- where orders were sent
-pub left_orders : (e : InEvent) (was out : List RowKind) → HasOnly (IsOrderOf IsAnyTask) was out → (now_of e out).history ≡ (now_of e was).history → aim_of (now_of e out) ≡ aim_of (now_of e was) → (now_of e out).parked ≡ (now_of e was).parked → ((why : Why) → MayCause (now_of e was) why → MayCause (now_of e out) why) → KeepsCalm (now_of e was) (now_of e out) → (LoadsHaveDocuments (now_of e was) → LoadsHaveDocuments (now_of e out)) → LeavesPass (now_of e was) (now_of e out)
-left_orders e was out only history aim parked causes calms loading =
+pub left_orders : (e : InEvent) (was out : List RowKind) → HasOnly (IsOrderOf IsAnyTask) was out → (now_of e out).history ≡ (now_of e was).history → aim_of (now_of e out) ≡ aim_of (now_of e was) → (now_of e out).parked ≡ (now_of e was).parked → ((why : Why) → MayCause (now_of e was) why → MayCause (now_of e out) why) → KeepsCalm (now_of e was) (now_of e out) → KeepsUp (now_of e was) (now_of e out) → (LoadsHaveDocuments (now_of e was) → LoadsHaveDocuments (now_of e out)) → LeavesPass (now_of e was) (now_of e out)
+left_orders e was out only history aim parked causes calms up loading =
     record {
       history = history;
       aim = aim;
@@ -134,6 +137,7 @@ left_orders e was out only history aim parked causes calms loading =
       causes = causes;
       ready = λ state. usable_before e was out only state;
       calms = calms;
+      up = up;
       loading = loading;
     }
 
@@ -259,7 +263,7 @@ module _ (e : InEvent) (run : Option ReqId) (why : Why) (was out : List RowKind)
 
   pub told_left : LeavesPass s t
   told_left =
-      left_orders e was out orders more.history more.aim more.parked told_causes (told_calm e why was out only more) (told_loads e why was out only)
+      left_orders e was out orders more.history more.aim more.parked told_causes (told_calm e why was out only more) (up_places s t more.places) (told_loads e why was out only)
 
 -- ---- those who need it are served
 
@@ -278,13 +282,13 @@ module _ (e : InEvent) (run : Option ReqId) (cause : Why) (was out : List RowKin
 
   pub walked_left : LeavesPass (now_of e was) (now_of e out)
   walked_left =
-      left_orders e was out walked_orders left.history left.aim left.parked left.causes left.calms left.loading
+      left_orders e was out walked_orders left.history left.aim left.parked left.causes left.calms left.up left.loading
 
   pub walked_strays : (blame : List (StateId × ReqId)) → AreLeftStrays (now_of e was) blame → AreLeftStrays (now_of e out) blame
   walked_strays blame = strays_left e was out blame walked_orders left.history left.causes
 
 -- ---- documents were discarded
 
-pub swept_left : (e : InEvent) (was out : List RowKind) → HasOnly (IsOrderOf IsOfWalk) was out → IsSweptTurn (now_of e was) (now_of e out) → KeepsCalm (now_of e was) (now_of e out) → LeavesPass (now_of e was) (now_of e out)
-swept_left e was out only turn calms =
-    left_orders e was out (any_orders was out only) turn.history turn.aim turn.parked turn.causes calms (swept_loads (now_of e was) (now_of e out) turn)
+pub swept_left : (e : InEvent) (was out : List RowKind) → HasOnly (IsOrderOf IsOfWalk) was out → IsSweptTurn (now_of e was) (now_of e out) → KeepsCalm (now_of e was) (now_of e out) → KeepsUp (now_of e was) (now_of e out) → LeavesPass (now_of e was) (now_of e out)
+swept_left e was out only turn calms up =
+    left_orders e was out (any_orders was out only) turn.history turn.aim turn.parked turn.causes calms up (swept_loads (now_of e was) (now_of e out) turn)

@@ -22,7 +22,7 @@ use Rattle.tab_ids.specs.declared.DocId.{DocId}
 use Rattle.tab_ids.specs.declared.NavId.{NavId}
 use Rattle.tab_ids.specs.declared.ReqId.{ReqId}
 use Rattle.tab_ids.specs.declared.StateId.{StateId}
-use Rattle.tab_serves.specs.Serving.{HasOnlyServed, HasWalked, IsSince}
+use Rattle.tab_serves.specs.Serving.{HasOnlyServed, HasWalked, IsSince, KeepsUp}
 pub use Rattle.tab_serves.specs.PassedOn.{MayServe}
 pub use Rattle.tab_serves.specs.Serving.{MayCause, ParentsShown, show_why}
 use Rattle.tab_serves.specs.PassedOn.{HasOnlyTold}
@@ -137,7 +137,7 @@ pub record HasPassed (e : InEvent) (s : Seen) : Type 0 where
   pub takers : TakersServe s
   pub rows_ : AreAwakeWithRows s
 
--- the history and its aim, what is held back and what has joined, and what each request asks; only ongoing loads ended; orders may be for whom they might be; no document was made usable; the tab is as calm as it was; and each ongoing load has its document, if it had
+-- the history and its aim, what is held back and what has joined, and what each request asks; only ongoing loads ended; orders may be for whom they might be; no document was made usable; the tab is as calm as it was, and who is up in a calm one is as it was; and each ongoing load has its document, if it had
 pub record LeavesPass (s t : Seen) : Type 0 where
   pub history : t.history ≡ s.history
   pub aim : aim_of t ≡ aim_of s
@@ -149,6 +149,7 @@ pub record LeavesPass (s t : Seen) : Type 0 where
   pub causes : (why : Why) → MayCause s why → MayCause t why
   pub ready : (state : StateId) → HasUsable t state → HasUsable s state
   pub calms : KeepsCalm s t
+  pub up : KeepsUp s t
   pub loading : LoadsHaveDocuments s → LoadsHaveDocuments t
 
 -- where a traversal runs, whom it hasn't moved is where it is to be, if that was so; where none does, the tab is calm, if it was so but for navigables without an entry, or around one of which a load was just applied; and whatever runs, who is awake is rooted, if they were

@@ -1,3 +1,4 @@
 pub mod Rests
 pub mod Ended
 pub mod Stepped
+pub mod PassedOn

@@ -3,3 +3,6 @@
 
 /// Holds the crate's place: all that it gives stands in its definitions and lemmas.
 pub fn nothing() {}
+
+// What is passed on of the crates below, for those above.
+pub use tab_begins::{Turn, begin_next, end_running, note_entries, note_loads, pass};

@@ -79,6 +79,14 @@ module _ (header : Header) (t : Tables) (nav : NavId) (entry : EntryId) (cause :
       subst (λ (l : List RowKind). IsCalmTurn s (now_of e l) nav place) (sym made.is)
       (subst (λ (x : Seen). IsCalmTurn s x nav place) (sym (now_more e was (rows.Sent made.job))) (populate_calm made.job _ _ _ made.task place placed))
 
+-- its place stays
+pub made_place : (header : Header) (t : Tables) (nav : NavId) (entry : EntryId) (cause : Why) (e : InEvent) (was out : List RowKind) → HasMade header t nav entry cause was out → place_of (now_of e out) nav ≡ place_of (now_of e was) nav
+made_place header t nav entry cause e was out (inl making) = ap (λ (l : List RowKind). place_of (now_of e l) nav) making.1
+made_place header t nav entry cause e was out (inr made) =
+    ap (λ (l : List RowKind). place_of (now_of e l) nav) made.is
+    ∙ ap (λ (x : Seen). place_of x nav) (now_more e was (rows.Sent made.job))
+    ∙ (let task = made.task in rw task refl)
+
 -- ---- it is moved
 
 module _ (e : InEvent) (nav : NavId) (was out : List RowKind) (moved : HasBeenMoved e nav was out) (others : LeavesOthers (now_of e was) (now_of e out) nav) (place : Place) (placed : place_of (now_of e was) nav ≡ Some place) (first : place.epoch.0 ≡ 0 → place.last ≡ None) where
@@ -124,6 +132,18 @@ module _ (e : InEvent) (nav : NavId) (was out : List RowKind) (moved : HasBeenMo
           ap (λ (n : NavId). n.0 == moved.wanted.document.nav.0) ((slept_same (sleepers_of m moved.job.doc moved.wanted.document.nav) moved.job.why moved.wanted.place).0 ∙ found_nav m.places nav moved.wanted.place moved.wanted.placed ∙ sym moved.wanted.nav_is)
           ∙ nat_eq_refl moved.wanted.document.nav.0
 
+  -- what its place becomes
+  place_is : (p : Place) → place_of x nav ≡ Some p → activated moved.job moved.entry moved.epoch moved.wanted.document old ≡ p
+  place_is p there =
+      let both : Some (become moved.wanted.place) ≡ Some p = sym (place_becomes m e.event e.actor moved.job moved.wanted.document moved.entry moved.epoch moved.long moved.at moved.memo moved.address moved.task moved.wanted.found nav ∙ ap (option_map become) moved.wanted.placed) ∙ there in
+      let same : become moved.wanted.place ≡ p = cc in
+      sym new ∙ same
+
+  -- under its first epoch, if it was never shown a document
+  pub moved_first : (p : Place) → place_of (now_of e out) nav ≡ Some p → place.last ≡ None → p.epoch.0 ≡ 1
+  moved_first p there none =
+      ap (λ (q : Place). q.epoch.0) (sym (place_is p (ap (λ (y : Seen). place_of y nav) (sym then_) ∙ there))) ∙ moved.one place placed none
+
   -- it is awake on its target
   put : (p : Place) → place_of x nav ≡ Some p → aim_of b ≡ b.history.current → IsInPlace b p
   put p there now =
@@ -136,10 +156,7 @@ module _ (e : InEvent) (nav : NavId) (was out : List RowKind) (moved : HasBeenMo
       }
     where
       is : activated moved.job moved.entry moved.epoch moved.wanted.document old ≡ p
-      is =
-          let both : Some (become moved.wanted.place) ≡ Some p = sym (place_becomes m e.event e.actor moved.job moved.wanted.document moved.entry moved.epoch moved.long moved.at moved.memo moved.address moved.task moved.wanted.found nav ∙ ap (option_map become) moved.wanted.placed) ∙ there in
-          let same : become moved.wanted.place ≡ p = cc in
-          sym new ∙ same
+      is = place_is p there
 
       navs : p.nav ≡ nav
       navs = found_nav x.places nav p there

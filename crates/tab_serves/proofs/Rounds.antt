@@ -22,6 +22,7 @@ use Rattle.tab_walk.proofs.Ends.{only_one}
 use Rattle.tab_walk.proofs.Overs.{only_as}
 pub use Rattle.tab_walk.proofs.PassedOn.{only_none}
 pub use Rattle.tab_walk.proofs.Puts.{only_then}
+use Rattle.tab_serves.proofs.Ups.{up_places, up_then}
 use Rattle.tab_walk.specs.Cutting.{InPass, show_why}
 use Rattle.tab_serves.specs.Serving.{HasOnlyServed, InWalk, IsOfWalk, IsServeFor, IsServing, IsWalking, LeavesLog, MayWalk, walk_by}
 use Rattle.tab_walk.specs.Moving.{HasOnlyMoved, IsMoveFor, IsOfMove}
@@ -85,6 +86,7 @@ left_then s t u first then_ =
       causes = λ why may. then_.causes why (first.causes why may);
       rows_ = λ are. then_.rows_ (first.rows_ are);
       calms = keeps_then s t u first.history first.aim first.calms then_.calms;
+      up = up_then s t u first.history first.aim then_.history first.calms first.up then_.up;
       loading = λ are. then_.loading (first.loading are);
     }
 
@@ -113,7 +115,7 @@ module _ (p : InPass) (cause : Why) (navs : List NavId) where
           order = walk_here p out t passing navs is;
           served = record { each = λ k nav low at. absurd (omega (arith, low)) };
         };
-        left = record { history = refl; aim = refl; parked = refl; looks = refl; causes = λ why so. so; rows_ = λ are. are; calms = keeps_none (now_of p.event out); loading = λ are. are };
+        left = record { history = refl; aim = refl; parked = refl; looks = refl; causes = λ why so. so; rows_ = λ are. are; calms = keeps_none (now_of p.event out); up = up_places (now_of p.event out) (now_of p.event out) refl; loading = λ are. are };
         only = only_none (IsServeFor t.running cause) out;
         kept = kept_none t;
       }

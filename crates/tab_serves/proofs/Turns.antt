@@ -21,7 +21,7 @@ use Rattle.nav_tree.specs.Tree.{document_of}
 use Rattle.owed_facts.specs.Owed.{AreUnasked}
 use Rattle.plan_laws.proofs.NeedLaws.{needs_is}
 use Rattle.seen_laws.specs.InEvent.{InEvent, now_of}
-use Rattle.std.proofs.Common.{Bool, List, None, Option, Some, [], ap, arith, false, inl, inr, not, refl, subst, suc, sym, take, true, zero, ℕ, ◌&&◌, ◌+◌, ◌<◌, ◌==◌, ◌||◌, ◌∙◌, ◌∷◌, ◌≡◌, ◌≤◌}
+use Rattle.std.proofs.Common.{Bool, List, None, Option, Some, [], ap, arith, false, inl, inr, not, refl, subst, suc, sym, take, true, zero, ℕ, ◌&&◌, ◌+◌, ◌<◌, ◌==◌, ◌||◌, ◌∙◌, ◌∷◌, ◌≡◌, ◌≤◌, ◌⊎◌}
 use Rattle.std.specs.List.{list_any}
 use Rattle.std.specs.Prelude.{if◌then◌else◌, is_some, option_map, slice_get}
 use Rattle.tab_doors.specs.Working.{KeepsStore}
@@ -37,7 +37,8 @@ use Rattle.tab_walk.proofs.Froms.{IsTurn}
 use Rattle.tab_walk.specs.Cutting.{show_why}
 use Rattle.tab_walk.specs.Moving.{HasBeenMoved, HasOnly, MayMoveTo}
 use Rattle.tab_serves.proofs.Below.{kept_loads, left_loads}
-use Rattle.tab_serves.proofs.Calms.{made_calm, made_loads, moved_calm, moved_loads}
+use Rattle.tab_serves.proofs.Calms.{made_calm, made_loads, made_place, moved_calm, moved_first, moved_loads}
+use Rattle.tab_serves.proofs.Ups.{turn_up, up_places}
 use Rattle.tab_serves.proofs.Orders.{IsOrderOf, looks_over, moved_over, parents_over, stood_over, walk_orders, ways_over, were_over}
 use Rattle.tab_serves.proofs.Reached.{loads_stand_still, reached_still}
 use Rattle.tab_serves.specs.Serving.{HasOnlyServed, HasWalked, InWalk, IsOfWalk, IsWalking, LeavesLog}
@@ -131,7 +132,7 @@ module _ (w : InWalk) (n : ℕ) (out : List RowKind) (t : Tables) (walking : IsW
 
   pub idle_left : LeavesLog s s
   idle_left =
-      record { history = refl; aim = refl; parked = refl; looks = refl; causes = λ why may. may; rows_ = λ are. are; calms = keeps_none s; loading = λ are. are }
+      record { history = refl; aim = refl; parked = refl; looks = refl; causes = λ why may. may; rows_ = λ are. are; calms = keeps_none s; up = up_places s s refl; loading = λ are. are }
 
   -- ---- it needs something
 
@@ -319,8 +320,8 @@ module _ (w : InWalk) (n : ℕ) (out : List RowKind) (t : Tables) (walking : IsW
       raised_below other q there below =
           raised (walking.walked.parents other nav q needing.place there below needing.placed)
 
-      left_by : IsCalmTurn s x nav needing.place → (LoadsHaveDocuments s → LoadsHaveDocuments x) → LeavesLog s x
-      left_by calm loading =
+      left_by : IsCalmTurn s x nav needing.place → ((q : Place) → place_of x nav ≡ Some q → (q ≡ needing.place) ⊎ (needing.place.last ≡ None → q.epoch.0 ≡ 1)) → (LoadsHaveDocuments s → LoadsHaveDocuments x) → LeavesLog s x
+      left_by calm first loading =
           record {
             history = turn.others.history;
             aim = turn.others.aim;
@@ -329,15 +330,16 @@ module _ (w : InWalk) (n : ℕ) (out : List RowKind) (t : Tables) (walking : IsW
             causes = turn.causes;
             rows_ = rows_then;
             calms = turn_keeps s x passing.going.tab.sound passing.going.tab.hangs passing.going.tab.homes passing.going.tab.standing nav needing.place needing.placed visited turn.others raised_below calm;
+            up = turn_up s x passing.going.tab.sound passing.going.tab.hangs passing.going.tab.standing nav needing.place needing.placed visited turn.others calm.own raised_below first;
             loading = loading;
           }
 
       -- what it leaves, where it was moved
       pub moved_left : HasBeenMoved e nav out new → LeavesLog s x
       moved_left moved =
-          left_by (moved_calm e nav out new moved turn.others needing.place needing.placed (λ none. (needing.standing.told.0 none).last)) (moved_loads e nav out new moved)
+          left_by (moved_calm e nav out new moved turn.others needing.place needing.placed (λ none. (needing.standing.told.0 none).last)) (λ q there. inr (moved_first e nav out new moved turn.others needing.place needing.placed (λ none. (needing.standing.told.0 none).last) q there)) (moved_loads e nav out new moved)
 
       -- and where its document is made
       pub made_left : (header : Header) (entry : EntryId) (cause : Why) → HasMade header t nav entry cause out new → LeavesLog s x
       made_left header entry cause made =
-          left_by (made_calm header t nav entry cause e out new made needing.place needing.placed) (made_loads header t nav entry cause e out new made)
+          left_by (made_calm header t nav entry cause e out new made needing.place needing.placed) (λ q there. inl (let both : Some q ≡ Some needing.place = sym there ∙ made_place header t nav entry cause e out new made ∙ needing.placed in cc)) (made_loads header t nav entry cause e out new made)

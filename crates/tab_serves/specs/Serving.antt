@@ -1,22 +1,23 @@
 -- What the walk of a coordinator of a tab with loads asks for, and what it leaves.
 -- HTML Standard, "apply the history step"; orders and reasons are this project's own.
-use Rattle.calm_facts.specs.Calm.{KeepsCalm, ShowsOne}
+use Rattle.calm_facts.specs.Calm.{IsCalmAround, IsCalmYet, KeepsCalm, ShowsOne}
 use Rattle.calm_facts.specs.Loads.{LoadsHaveDocuments}
 use Rattle.frame_whole.specs.Tab.{AreAwakeWithRows}
 use Rattle.left_facts.specs.Left.{WereShown}
 use Rattle.load_ends.specs.Standing.{LoadsStand}
 use Rattle.load_facts.specs.Loading.{look}
 use Rattle.log_model.specs.History.{has_nav}
-use Rattle.log_model.specs.Places.{aim_of, all_stand}
-use Rattle.log_model.specs.Seen.{Place, Seen, place_of}
+use Rattle.log_model.specs.Places.{aim_of, all_stand, is_shown}
+use Rattle.log_model.specs.Seen.{Place, Seen, awake, place_of}
 use Rattle.log_model.specs.declared.job.Job.{Job}
 use Rattle.log_model.specs.declared.job.Task.{Task}
 use Rattle.log_model.specs.declared.job.Why.{Why}
 use Rattle.log_model.specs.declared.row_kind.RowKind.{RowKind}
 use Rattle.seen_laws.specs.InEvent.{InEvent, now_of}
-use Rattle.std.specs.Prelude.{List, Option, Some, [], is_some, map, take, true, ℕ, ◌≡◌, ◌⊎◌}
+use Rattle.std.specs.Prelude.{List, Option, Some, [], is_some, map, take, true, ℕ, ◌∷◌, ◌≡◌, ◌≤◌, ◌⊎◌}
 use Rattle.tab_doors.specs.Working.{KeepsStore}
 use Rattle.tab_doors.specs.declared.tables.Tables.{Tables}
+use Rattle.tab_ids.specs.declared.DocId.{DocId}
 use Rattle.tab_ids.specs.declared.NavId.{NavId}
 use Rattle.tab_ids.specs.declared.ReqId.{ReqId}
 pub use Rattle.tab_walk.specs.PassedOn.{IsPassing, IsSince}
@@ -70,7 +71,19 @@ HasOnlyServed run cause was out = HasOnly (IsServeFor run cause) was out
 
 -- ---- what it leaves
 
--- the history and its aim, what is held back, what is read of the requests, for what orders may be sent, that who is awake has an entry, how calm the tab is, and that each ongoing load has its document
+-- the navigable is shown at the current step and awake on the document, and not under its first epoch
+pub record IsUp (s : Seen) (nav : NavId) (place : Place) (doc : DocId) : Type 0 where
+  pub placed : place_of s nav ≡ Some place
+  pub wakes : place.status ≡ awake doc
+  pub shown : is_shown s.history.rows s.history.current nav ≡ true
+  pub later : 2 ≤ place.epoch.0
+
+-- who is so is as it was, where the tab was calm but for navigables without an entry; and where it was so around a load's navigable, who isn't that one or below it
+pub record KeepsUp (s t : Seen) : Type 0 where
+  pub yet : aim_of s ≡ s.history.current → IsCalmYet s → (nav : NavId) (place : Place) (doc : DocId) → IsUp t nav place doc → place_of s nav ≡ Some place
+  pub around : aim_of s ≡ s.history.current → (at : NavId) → IsCalmAround s at → (nav : NavId) (place : Place) (doc : DocId) → IsUp t nav place doc → (place_of s nav ≡ Some place) ⊎ (has_nav (nav ∷ place.above) at ≡ true)
+
+-- the history and its aim, what is held back, what is read of the requests, for what orders may be sent, that who is awake has an entry, how calm the tab is, who is up, and that each ongoing load has its document
 pub record LeavesLog (s t : Seen) : Type 0 where
   pub history : t.history ≡ s.history
   pub aim : aim_of t ≡ aim_of s
@@ -79,6 +92,7 @@ pub record LeavesLog (s t : Seen) : Type 0 where
   pub causes : (why : Why) → MayCause s why → MayCause t why
   pub rows_ : AreAwakeWithRows s → AreAwakeWithRows t
   pub calms : KeepsCalm s t
+  pub up : KeepsUp s t
   pub loading : LoadsHaveDocuments s → LoadsHaveDocuments t
 
 -- what it asked of the log is so still; but where not all stand, some may have been woken

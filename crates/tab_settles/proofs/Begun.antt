@@ -1,23 +1,30 @@
 -- The next step of the queue had its turn, or none was due.
 use Rattle.tab_releases.specs.Releasing.{InPass, IsPassing, IsTurning, LoadsMadeOwn, Tables}
+use Rattle.asked_facts.specs.Asking.{ArePlain}
 use Rattle.calm_facts.proofs.Awakes.{calm_stood}
 use Rattle.calm_facts.proofs.Calms.{calm_but}
 use Rattle.calm_facts.specs.Calm.{IsCalmYet}
 use Rattle.coord_facts.specs.Leading.{held_back}
 use Rattle.log_model.specs.History.{has_row}
-use Rattle.tab_releases.specs.PassedOn.{HasRested, IsCalmFor, CameTo, HasQueue, IsAtRest, IsPassedOver, KeepsMade, MayFollow, Refused, Rests, Turn, Went}
+use Rattle.log_model.specs.Places.{all_stand}
+use Rattle.tab_releases.specs.PassedOn.{HasGrown, HasRested, HasStood, IsCalmFor, CameTo, HasQueue, IsAtRest, IsPassedOver, KeepsMade, MayFollow, Refused, Rests, Turn, Went}
 use Rattle.tab_ids.specs.declared.NavId.{NavId}
 use Rattle.log_model.specs.Seen.{Seen}
 use Rattle.log_model.specs.declared.job.Why.{Why}
 use Rattle.log_model.specs.declared.row_kind.RowKind.{RowKind}
 use Rattle.move_queue.specs.Queue.{Queue}
 use Rattle.seen_laws.specs.InEvent.{now_of}
-use Rattle.std.proofs.Common.{List, None, Option, Some, [], ap, false, inl, inr, subst, sym, ◌∙◌, ◌≡◌}
+use Rattle.std.proofs.Common.{List, None, Option, Some, [], ap, false, inl, inr, refl, subst, sym, true, ◌∙◌, ◌≡◌}
 use Rattle.tab_ids.specs.declared.ReqId.{ReqId}
 use Rattle.tab_ids.specs.declared.StateId.{StateId}
-use Rattle.tab_rests.proofs.Rests.{rest_blamed, rest_loads, rest_open}
+use Rattle.tab_releases.proofs.PassedOn.{rest_blamed, rest_loads, rest_open}
+use Rattle.tab_settles.proofs.Awakes.{stood_told, turns_told}
+use Rattle.tab_settles.proofs.Lates.{told_known}
+use Rattle.tab_settles.proofs.MovedRows.{shown_idle}
+use Rattle.tab_settles.proofs.MovedTurns.{shown_began}
 use Rattle.tab_settles.proofs.Stood.{stood_live, theirs_over}
-use Rattle.tab_settles.specs.Settling.{HasSettled, IsCalmBefore, IsQueueing, IsReady}
+use Rattle.tab_settles.specs.Offs.{LateKnown}
+use Rattle.tab_settles.specs.Settling.{HasSettled, IsCalmAfter, IsCalmBefore, IsQueueing, IsReady, MovedAreShown}
 use Rattle.log_model.specs.declared.job.Why.TheVariants as whys
 
 module _ (p : InPass) (out : List RowKind) (t : Tables) (queue : Queue) (blame : List (StateId × ReqId)) (cause : Why) (at : HasSettled p out t queue blame cause) (idle : t.running ≡ None) where
@@ -51,17 +58,23 @@ module _ (p : InPass) (out : List RowKind) (t : Tables) (queue : Queue) (blame :
         theirs_over s n made.wishes made.documents at.theirs
 
     -- how calm the tab is then
-    calm_for : (r : Option ReqId) → IsCalmFor r n → IsCalmBefore r n
-    calm_for None around = inr around
-    calm_for (Some run) calm = calm
+    calm_for : (r : Option ReqId) (req : ReqId) → IsCalmFor r req n → IsCalmBefore r (whys.Req req) n
+    calm_for None req around =
+        inr (around.0, (around.1.0, record { req = req; for_ = refl; last = around.1.1 }))
+    calm_for (Some run) req calm = calm
+
+    -- of each that is awake it is told that it is shown, since all stood
+    late_n : HasGrown out new → all_stand s s.history.current ≡ true → LateKnown u.running n
+    late_n grown stand =
+        told_known u.running n (turns_told p.event out new (record { more = grown.more; is = grown.is; each = grown.each }) (stood_told s at.passing.going.tab.standing (subst (λ (r : Option ReqId). IsCalmAfter r s) idle at.calm) stand))
 
     rested_yet : IsAtRest p.event u.running noted n → IsPassedOver s n → IsCalmYet n
     rested_yet rest over =
         calm_but n (calm_stood n passing.going.tab.sound passing.going.tab.hangs passing.going.tab.homes passing.going.tab.standing rest.passed.rows_ over.stand) (λ (nav : NavId). has_row nav n.history.rows ≡ false)
 
     -- it has begun, or was applied
-    pub went_ready : (turn : Turn) (req : ReqId) → turn ≡ Went req → CameTo p.event t u blame noted out new left.waiting turn → (why : Why) → why ≡ whys.Req req → IsReady p new u left noted why
-    went_ready turn req is came why same =
+    pub went_ready : HasGrown out new → (turn : Turn) → HasStood s turn → (req : ReqId) → turn ≡ Went req → CameTo p.event t u blame noted out new left.waiting turn → (why : Why) → why ≡ whys.Req req → IsReady p new u left noted why
+    went_ready grown turn stood req is came why same =
         (let may : MayFollow p.event u.running noted req n = (subst (λ (x : Turn). CameTo p.event t u blame noted out new left.waiting x) is came).1 in subst (λ (w : Why). IsReady p new u left noted w) (sym same) (record {
           passing = passing;
           empty = at.empty;
@@ -69,15 +82,17 @@ module _ (p : InPass) (out : List RowKind) (t : Tables) (queue : Queue) (blame :
           open_ = may.open_;
           loads = may.loads;
           blamed = may.blamed;
-          calm = calm_for u.running may.calm;
+          calm = calm_for u.running req may.calm;
+          late = late_n grown (subst (λ (x : Turn). HasStood s x) is stood);
+          moved = shown_began p.event out new grown u.running (subst (λ (r : Option ReqId). ArePlain r s) idle at.passing.going.tab.asked) at.passing.going.lasting.moves passing.going.tab.asked;
           live = may.live;
           theirs = theirs_n;
           queueing = queueing_n;
         }))
 
     -- it was refused
-    pub refused_ready : (turn : Turn) → turn ≡ Refused → CameTo p.event t u blame noted out new left.waiting turn → IsReady p new u left noted cause
-    refused_ready turn is came =
+    pub refused_ready : HasGrown out new → (turn : Turn) → HasStood s turn → turn ≡ Refused → CameTo p.event t u blame noted out new left.waiting turn → IsReady p new u left noted cause
+    refused_ready grown turn stood is came =
         (let both : IsAtRest p.event u.running noted n × IsPassedOver s n = subst (λ (x : Turn). CameTo p.event t u blame noted out new left.waiting x) is came in let rest = both.0 in let over = both.1 in record {
           passing = passing;
           empty = at.empty;
@@ -85,7 +100,9 @@ module _ (p : InPass) (out : List RowKind) (t : Tables) (queue : Queue) (blame :
           open_ = rest_open p new u passing rest.idle rest.passed over.stand cause (over.causes cause at.may);
           loads = rest_loads p new u passing rest.idle rest.passed over.stand;
           blamed = rest_blamed p new u passing rest.passed noted rest.strays;
-          calm = subst (λ (r : Option ReqId). IsCalmBefore r n) (sym rest.idle) (inl (rested_yet rest over));
+          calm = subst (λ (r : Option ReqId). IsCalmBefore r cause n) (sym rest.idle) (inl (rested_yet rest over));
+          late = late_n grown (subst (λ (x : Turn). HasStood s x) is stood);
+          moved = subst (λ (r : Option ReqId). MovedAreShown r n) (sym rest.idle) (shown_idle n);
           live = stood_live p new u passing rest.idle rest.passed over.stand rest.loading;
           theirs = theirs_n;
           queueing = queueing_n;
@@ -114,6 +131,8 @@ module _ (p : InPass) (out : List RowKind) (t : Tables) (queue : Queue) (blame :
               told = at.told;
               swept = at.swept;
               calm = at.calm;
+              late = at.late;
+              moved = at.moved;
               live = at.live;
               theirs = at.theirs;
               queueing = going;

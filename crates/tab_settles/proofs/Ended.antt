@@ -1,4 +1,5 @@
 -- The traversal that ran has ended: what was held back for it may be taken up, and then a pass may follow.
+use Rattle.calm_facts.proofs.Awakes.{calm_stood}
 use Rattle.calm_facts.proofs.Loads.{loads_same}
 use Rattle.calm_facts.specs.Calm.{CalmUnless, IsCalmYet}
 use Rattle.calm_facts.specs.Loads.{LoadsHaveDocuments}
@@ -18,7 +19,7 @@ use Rattle.move_queue.specs.Queue.{Queue}
 use Rattle.owed_facts.specs.Owed.{IsLoose}
 use Rattle.seen_laws.proofs.InEvents.{now_more}
 use Rattle.seen_laws.specs.InEvent.{InEvent, now_of, row_of}
-use Rattle.std.proofs.Common.{Bool, List, None, Option, Some, [], ap, append-nil, arith, false, inl, inr, length, map, refl, subst, sym, true, ◌++◌, ◌+◌, ◌∙◌, ◌∷◌, ◌≡◌, ◌≤◌, ◌⊎◌}
+use Rattle.std.proofs.Common.{Bool, List, None, Option, Some, [], ap, append-nil, arith, false, inl, inr, length, map, refl, subst, sym, true, ◌++◌, ◌∙◌, ◌∷◌, ◌≡◌, ◌≤◌, ◌⊎◌}
 use Rattle.std.proofs.lemmas.Bool.{and_parts, or_right}
 use Rattle.std.proofs.lemmas.List.Folds.{list_any-append}
 use Rattle.std.proofs.lemmas.List.{map-append}
@@ -31,16 +32,19 @@ use Rattle.tab_ids.specs.declared.ReqId.{ReqId}
 use Rattle.tab_ids.specs.declared.StateId.{StateId}
 pub use Rattle.tab_releases.proofs.Endings.{IsEnding, is_ending}
 pub use Rattle.tab_releases.proofs.Releases.{mades_same}
-use Rattle.tab_rests.proofs.Ended.{ended_loads, ended_passed, ended_queue, ended_stand, ended_strays}
-pub use Rattle.tab_rests.specs.Resting.{IsNoneDue}
+use Rattle.tab_releases.proofs.PassedOn.{ended_loads, ended_passed, ended_queue, ended_stand, ended_strays, rest_stand}
+pub use Rattle.tab_releases.specs.PassedOn.{IsNoneDue}
 use Rattle.asked_facts.specs.Asking.{ArePlain}
 use Rattle.hang_facts.specs.Members.{Has}
 use Rattle.log_model.specs.Points.{ends_in}
 use Rattle.std.specs.List.{cons_option, filter_map}
+use Rattle.tab_settles.proofs.Awakes.{AllTold, stood_told, turns_told}
+use Rattle.tab_settles.proofs.Lates.{told_known}
+use Rattle.tab_settles.proofs.MovedRows.{shown_idle}
 use Rattle.tab_settles.proofs.Puts.{put_then, turn_put}
 use Rattle.tab_settles.proofs.Stood.{stood_taking, theirs_over}
-use Rattle.tab_rests.proofs.Rests.{rest_stand}
-use Rattle.tab_settles.specs.Settling.{HasPut, HasSettled, IsCalmBefore, IsQueueing, IsReady, MayRelease}
+use Rattle.tab_settles.specs.Offs.{LateKnown}
+use Rattle.tab_settles.specs.Settling.{HasPut, HasSettled, IsCalmBefore, IsQueueing, IsReady, MayRelease, MovedAreShown}
 use Rattle.log_model.specs.declared.change.Change.TheVariants as changes
 use Rattle.log_model.specs.declared.row_kind.RowKind.TheVariants as rows
 
@@ -57,6 +61,38 @@ none_last (x ∷ xs) e = absurd (some_last x xs e)
 none_long : {A : Type 0} (xs : List A) → length xs ≡ 0 → xs ≡ []
 none_long [] e = refl
 none_long (x ∷ xs) e = absurd (omega (arith, e))
+
+-- ---- rows that end a request
+
+-- a row that ends a request is of a turn
+pub ends_turn : (e : InEvent) (kind : RowKind) (req : ReqId) → ends_in (row_of e kind) ≡ Some req → IsOfTurn kind
+ends_turn e (rows.Applied r change) req is = tt
+ends_turn e (rows.Refused r reason) req is = tt
+ends_turn e (rows.Dropped r cause) req is = tt
+ends_turn e (rows.Started r goal) req is = tt
+ends_turn e _ req is = absurd cc
+
+-- where as many requests end as there are rows, each row ends one
+each_ends : (e : InEvent) (more : List RowKind) → length (filter_map ends_in (map (row_of e) more)) ≡ length more → (row : RowKind) → Has more row → IsOfTurn row
+each_ends e [] long row never = absurd never
+each_ends e (kind ∷ more) long row has =
+    by_end (ends_in (row_of e kind)) refl long has (λ same has_. each_ends e more same row has_)
+  where
+    short : (l : List RowKind) → length (filter_map ends_in (map (row_of e) l)) ≤ length l
+    short [] = omega arith
+    short (x ∷ l) = by_one (ends_in (row_of e x)) (short l)
+      where
+        by_one : (o : Option ReqId) → length (filter_map ends_in (map (row_of e) l)) ≤ length l → length (cons_option o (filter_map ends_in (map (row_of e) l))) ≤ length (x ∷ l)
+        by_one None low = omega (arith, low)
+        by_one (Some r) low = omega (arith, low)
+
+    by_end : (o : Option ReqId) → ends_in (row_of e kind) ≡ o → length (cons_option o (filter_map ends_in (map (row_of e) more))) ≡ length (kind ∷ more) → (kind ≡ row) ⊎ Has more row → (length (filter_map ends_in (map (row_of e) more)) ≡ length more → Has more row → IsOfTurn row) → IsOfTurn row
+    by_end None is long_ has_ later = (let low = short more in absurd (omega (arith, low, long_)))
+    by_end (Some req) is long_ (inl same) later = subst IsOfTurn same (ends_turn e kind req is)
+    by_end (Some req) is long_ (inr has_) later =
+        later (let same : length (filter_map ends_in (map (row_of e) more)) ≡ length more = omega (arith, long_) in same) has_
+
+-- ---- the traversal has ended
 
 module _ (p : InPass) (out : List RowKind) (t : Tables) (queue : Queue) (blame : List (StateId × ReqId)) (cause : Why) (at : HasSettled p out t queue blame cause) (mid : List RowKind) (m : Tables) (then_ : IsPassing p mid m) (turning : IsTurning p.event mid) (ended : HasEnded p.event out mid t m) (through : is_through (now_of p.event out) t.running ≡ true) where
   abbrev e : InEvent
@@ -165,6 +201,12 @@ module _ (p : InPass) (out : List RowKind) (t : Tables) (queue : Queue) (blame :
           releasing = λ some all. absurd (some none);
         }
 
+    -- of each that is awake it is told that it is shown, since all stood
+    told_n : AllTold (now_of e new)
+    told_n =
+        turns_told e mid new (record { more = each.more; is = each.out; each = each_ends e each.more (ap (λ (l : List ReqId). length l) each.ends ∙ sym each.long) })
+        (stood_told y then_.going.tab.standing (calm_stood y then_.going.tab.sound then_.going.tab.hangs then_.going.tab.homes then_.going.tab.standing passed_m.rows_ stand_m) stand_m)
+
     pub ready_n : (why : Why) → why ≡ show_why last cause → IsReady p new u left noted why
     ready_n why is =
         subst (λ (w : Why). IsReady p new u left noted w) (sym is) (record {
@@ -174,41 +216,15 @@ module _ (p : InPass) (out : List RowKind) (t : Tables) (queue : Queue) (blame :
           open_ = taking.open_ (show_why last cause) may_n;
           loads = taking.loads;
           blamed = taking.blamed;
-          calm = subst (λ (r : Option ReqId). IsCalmBefore r (now_of e new)) (sym idle_n) (inl (subst (λ (r : Option ReqId). CalmUnless IsCalmYet r (now_of e new)) idle_n taking.calm));
+          calm = subst (λ (r : Option ReqId). IsCalmBefore r (show_why last cause) (now_of e new)) (sym idle_n) (inl (subst (λ (r : Option ReqId). CalmUnless IsCalmYet r (now_of e new)) idle_n taking.calm));
+          late = subst (λ (r : Option ReqId). LateKnown r (now_of e new)) (sym idle_n) (told_known None (now_of e new) told_n);
+          moved = subst (λ (r : Option ReqId). MovedAreShown r (now_of e new)) (sym idle_n) (shown_idle (now_of e new));
           live = taking.live;
           theirs = theirs;
           queueing = queueing_n;
         })
 
 -- ---- what was put out
-
--- a row that ends a request is of a turn
-ends_turn : (e : InEvent) (kind : RowKind) (req : ReqId) → ends_in (row_of e kind) ≡ Some req → IsOfTurn kind
-ends_turn e (rows.Applied r change) req is = tt
-ends_turn e (rows.Refused r reason) req is = tt
-ends_turn e (rows.Dropped r cause) req is = tt
-ends_turn e (rows.Started r goal) req is = tt
-ends_turn e _ req is = absurd cc
-
--- where as many requests end as there are rows, each row ends one
-each_ends : (e : InEvent) (more : List RowKind) → length (filter_map ends_in (map (row_of e) more)) ≡ length more → (row : RowKind) → Has more row → IsOfTurn row
-each_ends e [] long row never = absurd never
-each_ends e (kind ∷ more) long row has =
-    by_end (ends_in (row_of e kind)) refl long has (λ same has_. each_ends e more same row has_)
-  where
-    short : (l : List RowKind) → length (filter_map ends_in (map (row_of e) l)) ≤ length l
-    short [] = omega arith
-    short (x ∷ l) = by_one (ends_in (row_of e x)) (short l)
-      where
-        by_one : (o : Option ReqId) → length (filter_map ends_in (map (row_of e) l)) ≤ length l → length (cons_option o (filter_map ends_in (map (row_of e) l))) ≤ length (x ∷ l)
-        by_one None low = omega (arith, low)
-        by_one (Some r) low = omega (arith, low)
-
-    by_end : (o : Option ReqId) → ends_in (row_of e kind) ≡ o → length (cons_option o (filter_map ends_in (map (row_of e) more))) ≡ length (kind ∷ more) → (kind ≡ row) ⊎ Has more row → (length (filter_map ends_in (map (row_of e) more)) ≡ length more → Has more row → IsOfTurn row) → IsOfTurn row
-    by_end None is long_ has_ later = (let low = short more in absurd (omega (arith, low, long_)))
-    by_end (Some req) is long_ (inl same) later = subst IsOfTurn same (ends_turn e kind req is)
-    by_end (Some req) is long_ (inr has_) later =
-        later (let same : length (filter_map ends_in (map (row_of e) more)) ≡ length more = omega (arith, long_) in same) has_
 
 -- the traversal's row, and one for each request that was held back
 pub finish_put : (e : InEvent) (run : Option ReqId) (out mid new : List RowKind) (t m : Tables) (reqs : List ReqId) → ArePlain run (now_of e new) → HasEnded e out mid t m → EndsEach e mid new reqs → HasPut e out new

@@ -1,6 +1,12 @@
 pub mod PutOuts
 pub mod Sweeps
 pub mod Puts
+pub mod Awakes
+pub mod Lates
+pub mod Sounds
+pub mod MovedRows
+pub mod MovedPasses
+pub mod MovedTurns
 pub mod Passed
 pub mod Stood
 pub mod Ended

@@ -1,4 +1,7 @@
 -- After a pass: the queue waits on, and what is held back is.
+use Rattle.asked_facts.specs.Asking.{IsThere}
+use Rattle.calm_facts.proofs.Moves.{AreUnmoved}
+use Rattle.each_facts.specs.Runs.{OnlyRuns}
 use Rattle.log_model.specs.History.{History}
 use Rattle.coord_facts.proofs.Held.{held_alike}
 use Rattle.coord_facts.specs.Leading.{held_back}
@@ -14,18 +17,22 @@ use Rattle.log_model.specs.declared.row_kind.RowKind.{RowKind}
 use Rattle.move_queue.specs.Queue.{Queue}
 use Rattle.seen_laws.specs.InEvent.{now_of}
 use Rattle.std.proofs.Common.{List, None, Option, Some, ap, inl, inr, refl, subst, sym, true, ◌∙◌, ◌≡◌, ◌⊎◌, Bool, false, ℕ}
-use Rattle.tab_releases.proofs.PassedOn.{queue_left, turning_passed, stand_awake}
+use Rattle.tab_releases.proofs.PassedOn.{aim_is, queue_left, turning_passed, stand_awake}
 use Rattle.tab_releases.proofs.Releases.{IsByItsOwn, mades_same, queue_over}
 use Rattle.tab_events.specs.Between.{AreSwept, orders_go}
-use Rattle.tab_releases.specs.PassedOn.{AreBlamed, AreLeftStrays, HasOnly, HasPassed, HasPutOut, HasQueue, KeepsStore, LeavesCalm, LeavesPass, LoadsLive, MayPass, SendsForStrays}
+use Rattle.tab_releases.specs.PassedOn.{AreBlamed, AreLeftStrays, HasOnly, HasPassed, HasPutOut, HasQueue, KeepsStore, LeavesCalm, LeavesPass, LoadsLive, MayPass, SendsForStrays, aim_in}
 use Rattle.tab_releases.specs.Releasing.{HoldsParked, InPass, IsPassing, LoadsMadeOwn, Tables}
 use Rattle.tab_ids.specs.declared.NavId.{NavId}
 use Rattle.tab_ids.specs.declared.ReqId.{ReqId}
 use Rattle.tab_ids.specs.declared.StateId.{StateId}
+use Rattle.tab_settles.proofs.Lates.{late_after}
+use Rattle.tab_settles.proofs.MovedPasses.{put_shown}
+use Rattle.tab_settles.proofs.MovedRows.{shown_idle}
 use Rattle.tab_settles.proofs.PutOuts.{only_applies_none, only_leaves, put_only, KeepsOff, only_off}
 use Rattle.tab_settles.proofs.Sweeps.{swept_or}
 use Rattle.tab_settles.proofs.Puts.{pass_put, put_then}
-use Rattle.tab_settles.specs.Settling.{HasPut, HasSettled, IsCalmAfter, IsCalmBefore, IsOrderOrDrop, IsQueueing, IsReady, LeavesPut, MayRelease}
+use Rattle.tab_settles.specs.Offs.{LateKnown}
+use Rattle.tab_settles.specs.Settling.{HasPut, HasSettled, IsCalmAfter, IsCalmBefore, IsOrderOrDrop, IsQueueing, IsReady, LeavesPut, MayRelease, MovedAreShown}
 use Rattle.walk_facts.specs.Serving.{AreServed}
 
 module _ (p : InPass) (out : List RowKind) (t : Tables) (queue : Queue) (blame : List (StateId × ReqId)) (cause : Why) (ready : IsReady p out t queue blame cause) where
@@ -107,10 +114,44 @@ module _ (p : InPass) (out : List RowKind) (t : Tables) (queue : Queue) (blame :
     calm_then =
         subst (λ (r : Option ReqId). IsCalmAfter r n) (sym kept.running) (by_run t.running calm ready.calm)
       where
-        by_run : (r : Option ReqId) → LeavesCalm r s n → IsCalmBefore r s → IsCalmAfter r n
+        by_run : (r : Option ReqId) → LeavesCalm r s n → IsCalmBefore r cause s → IsCalmAfter r n
         by_run None leaves_ (inl yet) = leaves_.yet yet
-        by_run None leaves_ (inr around) = leaves_.around around.0 around.1
+        by_run None leaves_ (inr around) = leaves_.around around.0 around.1.0
         by_run (Some run) leaves_ before = (leaves_.unmoved run refl before.0, leaves_.rooted before.1)
+
+    -- ---- whom the traversal has moved
+
+    moved_then : MovedAreShown u.running n
+    moved_then =
+        subst (λ (r : Option ReqId). MovedAreShown r n) (sym kept.running) (by_run t.running refl ready.calm ready.moved only)
+      where
+        by_run : (r : Option ReqId) → t.running ≡ r → IsCalmBefore r cause s → MovedAreShown r s → HasPutOut p.event r cause tells out new → MovedAreShown r n
+        by_run None is before shown puts = shown_idle n
+        by_run (Some run) is before shown puts = (put_shown p.event run cause tells out new puts (unmoved, shown)).1
+          where
+            it : IsThere s run
+            it = ready.passing.going.tab.asked.runs run is
+
+            unmoved : AreUnmoved run s
+            unmoved =
+                record {
+                  only = subst (λ (r : Option ReqId). OnlyRuns r s) is ready.passing.going.tab.asked.only;
+                  q = it.q;
+                  found = it.found;
+                  traverses = it.traverses;
+                  here = before.0;
+                }
+
+    -- ---- who is late
+
+    late_then : LateKnown u.running n
+    late_then =
+        subst (λ (r : Option ReqId). LateKnown r n) (sym kept.running) (by_run t.running refl ready.calm ready.late only)
+      where
+        by_run : (r : Option ReqId) → t.running ≡ r → IsCalmBefore r cause s → LateKnown r s → HasPutOut p.event r cause tells out new → LateKnown r n
+        by_run None is before late puts =
+            late_after p.event cause tells out new puts left.history (aim_is s t.running ready.passing.going.tab.asked t.goal ready.passing.work.goal ∙ ap (λ (r : Option ReqId). aim_in s.history r t.goal) is) left.up before late
+        by_run (Some run) is before late puts = tt
 
     -- ---- ongoing loads, and stray documents
 
@@ -138,6 +179,8 @@ module _ (p : InPass) (out : List RowKind) (t : Tables) (queue : Queue) (blame :
           told = told;
           swept = swept_then;
           calm = calm_then;
+          late = late_then;
+          moved = moved_then;
           live = live_then;
           theirs = theirs_then;
           queueing = queueing_then;

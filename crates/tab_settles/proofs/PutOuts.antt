@@ -6,6 +6,7 @@ use Rattle.coord_facts.proofs.Unread.{next}
 use Rattle.frame_facts.proofs.Orders.{wish_blind}
 use Rattle.frame_facts.specs.Lasting.{wish}
 use Rattle.frame_rows.specs.Lawful.{has_traversed}
+use Rattle.hang_facts.proofs.Members.{has_map}
 use Rattle.hang_facts.specs.Members.{Has}
 use Rattle.log_model.specs.AfterDocuments.{addressed, documents_sent, new_document, on_document}
 use Rattle.log_model.specs.AfterRequests.{on_served, request_served, requests_sent}
@@ -68,7 +69,7 @@ more_home (x ∷ documents) new d doc found = by_test (x.nr.0 == doc.0) found (m
     by_test true h later = h
     by_test false h later = later h
 
-sent_homes : (s : Seen) (job : Job) (task : Task) (doc : DocId) (d : Document) → document_in s.documents doc ≡ Some d → IsHomeStill (documents_sent s job task) doc d
+pub sent_homes : (s : Seen) (job : Job) (task : Task) (doc : DocId) (d : Document) → document_in s.documents doc ≡ Some d → IsHomeStill (documents_sent s job task) doc d
 sent_homes s job (tasks.Populate nav of address initial) doc d found = (d, more_home s.documents (new_document s job nav of) d doc found, refl)
 sent_homes s job tasks.Discard doc d found =
     changed_home s.documents job.doc doc (λ (x : Document). record x { is_discarded = true }) (λ x. refl) (λ x. refl) d found
@@ -190,19 +191,24 @@ applied_none e was more each =
 
 -- ---- what a pass puts out
 
--- drops
-dropped_only : (Is : Drop → Type 0) (was out : List RowKind) → HasOnlyDropped Is was out → HasOnly IsOrderOrDrop was out
-dropped_only Is was out only =
-    record { more = map row_of_drop only.drops; is = only.is; each = λ row there. each only.drops row there }
+-- each of a kind, where drops are, orders that discard, those of the walk and those that tell length and index
+pub put_each : (Is : RowKind → Type 0) (e : InEvent) (run : Option ReqId) (cause tells : Why) (was out : List RowKind) → ((d : Drop) → Is (row_of_drop d)) → ((job : Job) → job.task ≡ tasks.Discard → Is (rows.Sent job)) → ((row : RowKind) → IsServeFor run cause row → Is row) → ((row : RowKind) → IsUpdateFor tells row → Is row) → HasPutOut e run cause tells was out → HasOnly Is was out
+put_each Is e run cause tells was out drops discards serves told put =
+    only_then Is was put.given out (given run put.gives)
+    (only_then Is put.given put.cleared out (only_then Is put.given put.clears.swept put.cleared swept (dropped _ put.clears.swept put.cleared put.clears.destroys))
+    (only_then Is put.cleared put.served out (only_as (IsServeFor run cause) Is put.cleared put.served serves put.serves) (only_as (IsUpdateFor tells) Is put.served out told put.told)))
   where
-    each : (drops : List Drop) (row : RowKind) → Has (map row_of_drop drops) row → IsOrderOrDrop row
-    each [] row there = absurd there
-    each (d ∷ drops) row (inl same) = subst (λ (x : RowKind). IsOrderOrDrop x) same tt
-    each (d ∷ drops) row (inr there) = each drops row there
+    dropped : (Gone : Drop → Type 0) (first last : List RowKind) → HasOnlyDropped Gone first last → HasOnly Is first last
+    dropped Gone first last only =
+        record { more = map row_of_drop only.drops; is = only.is; each = λ row there. (let b = has_map row_of_drop only.drops row there in subst Is b.is (drops b.it)) }
 
-given_only : (run : Option ReqId) (s : Seen) (was out : List RowKind) → HasGivenWay s run was out → HasOnly IsOrderOrDrop was out
-given_only None s was out same = subst (λ (l : List RowKind). HasOnly IsOrderOrDrop was l) (sym same) (only_none IsOrderOrDrop was)
-given_only (Some by) s was out only = dropped_only _ was out only
+    given : (by : Option ReqId) → HasGivenWay (now_of e was) by was put.given → HasOnly Is was put.given
+    given None same = subst (λ (l : List RowKind). HasOnly Is was l) (sym same) (only_none Is was)
+    given (Some by) only = dropped _ was put.given only
+
+    swept : HasOnly Is put.given put.clears.swept
+    swept =
+        record { more = put.clears.sweeps.more; is = put.clears.sweeps.is; each = λ row there. (let it = put.clears.sweeps.each row there in subst Is (sym it.is) (discards it.job it.discards)) }
 
 told_only : (why : Why) (row : RowKind) → IsUpdateFor why row → IsOrderOrDrop row
 told_only why (rows.Sent job) is = tt
@@ -210,14 +216,8 @@ told_only why row is = elim is [ ]
 
 -- a pass puts out orders and drops alone
 pub put_only : (e : InEvent) (run : Option ReqId) (cause tells : Why) (was out : List RowKind) → HasPutOut e run cause tells was out → HasOnly IsOrderOrDrop was out
-put_only e run cause tells was out put =
-    only_then IsOrderOrDrop was put.given out (given_only run (now_of e was) was put.given put.gives)
-    (only_then IsOrderOrDrop put.given put.cleared out (only_then IsOrderOrDrop put.given put.clears.swept put.cleared swept (dropped_only _ put.clears.swept put.cleared put.clears.destroys))
-    (only_then IsOrderOrDrop put.cleared put.served out (only_as (IsServeFor run cause) IsOrderOrDrop put.cleared put.served (λ row it. subst (λ (x : RowKind). IsOrderOrDrop x) (sym it.is) tt) put.serves) (only_as (IsUpdateFor tells) IsOrderOrDrop put.served out (told_only tells) put.told)))
-  where
-    swept : HasOnly IsOrderOrDrop put.given put.clears.swept
-    swept =
-        record { more = put.clears.sweeps.more; is = put.clears.sweeps.is; each = λ row there. (let it = put.clears.sweeps.each row there in subst (λ (x : RowKind). IsOrderOrDrop x) (sym it.is) tt) }
+put_only e run cause tells was out =
+    put_each IsOrderOrDrop e run cause tells was out (λ d. tt) (λ job is. tt) (λ row it. subst (λ (x : RowKind). IsOrderOrDrop x) (sym it.is) tt) (told_only tells)
 
 -- and so it leaves these
 pub only_leaves : (e : InEvent) (was out : List RowKind) → HasOnly IsOrderOrDrop was out → LeavesPut (now_of e was) (now_of e out)

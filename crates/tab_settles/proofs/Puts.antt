@@ -15,13 +15,13 @@ use Rattle.order_facts.specs.Orders.{IsOfCoord, AreOrders}
 use Rattle.owed_facts.specs.Owed.{IsStill}
 use Rattle.seen_laws.specs.InEvent.{InEvent, now_of}
 use Rattle.std.proofs.Common.{Bool, List, None, Option, Some, [], ap, append_assoc, false, inl, inr, refl, subst, sym, true, ◌++◌, ◌∙◌, ◌∷◌, ◌≡◌, ◌⊎◌}
-use Rattle.tab_releases.specs.PassedOn.{HasGrown, IsOfTurn, MayServe, length_index, Drop, HasGivenWay, HasOnly, HasOnlyDropped, HasPutOut, IsServeFor, IsUpdateFor, row_of_drop, show_why}
+use Rattle.tab_releases.specs.PassedOn.{HasGrown, IsOfTurn, MayServe, length_index, HasOnly, HasPutOut, IsServeFor, IsUpdateFor, show_why}
 use Rattle.tab_ids.specs.declared.ReqId.{ReqId}
-use Rattle.tab_releases.proofs.PassedOn.{show_causes, only_as, only_none, only_then}
+use Rattle.tab_releases.proofs.PassedOn.{show_causes}
 use Rattle.tab_releases.specs.Releasing.{MayCause}
-use Rattle.tab_settles.specs.Settling.{HasPut, IsMake, MakesServe}
+use Rattle.tab_settles.proofs.PutOuts.{put_each}
+use Rattle.tab_settles.specs.Settling.{HasPut, IsMake, IsPlainTask, MakesServe}
 use Rattle.log_model.specs.declared.job.Task.TheVariants as tasks
-use Rattle.log_model.specs.declared.job.Why.TheVariants as whys
 use Rattle.log_model.specs.declared.row_kind.RowKind.TheVariants as rows
 
 -- ---- what orders may be for, over rows of a coordinator
@@ -102,9 +102,14 @@ put_then e run a b c plain one two =
       more = one.more ++ two.more;
       is = two.is ∙ ap (λ (l : List RowKind). l ++ two.more) one.is ∙ append_assoc a one.more two.more;
       each = λ row has. by_each row (among one.more two.more row has);
+      plain = λ job has. by_plain job (among one.more two.more (rows.Sent job) has);
       makes = λ job has makes. by_makes job makes (among one.more two.more (rows.Sent job) has);
     }
   where
+    by_plain : (job : Job) → Has one.more (rows.Sent job) ⊎ Has two.more (rows.Sent job) → IsPlainTask job.task
+    by_plain job (inl has) = one.plain job has
+    by_plain job (inr has) = two.plain job has
+
     by_each : (row : RowKind) → Has one.more row ⊎ Has two.more row → IsOfCoord row
     by_each row (inl has) = one.each row has
     by_each row (inr has) = two.each row has
@@ -131,63 +136,49 @@ turn_put e was out grown =
       more = grown.more;
       is = grown.is;
       each = λ row has. turn_coord row (grown.each row has);
+      plain = λ job has. absurd (grown.each (rows.Sent job) has);
       makes = λ job has makes. absurd (grown.each (rows.Sent job) has);
     }
 
 -- ---- a pass
 
--- an order that makes a document is for the traversal that runs, or for the cause
+-- an order asks nobody and sends no document to a fragment, and one that makes a document is for the traversal that runs, or for the cause
 abbrev MakesFor : Option ReqId → Why → RowKind → Type 0
-MakesFor run cause (rows.Sent job) = IsMake job.task → (job.why ≡ show_why run cause) ⊎ (job.why ≡ cause)
+MakesFor run cause (rows.Sent job) = IsPlainTask job.task × (IsMake job.task → (job.why ≡ show_why run cause) ⊎ (job.why ≡ cause))
 MakesFor run cause (rows.Dropped req because) = Unit {0}
 MakesFor run cause _ = ⊥
 
-module _ (run : Option ReqId) (cause : Why) where
-  dropped_for : (Is : Drop → Type 0) (was out : List RowKind) → HasOnlyDropped Is was out → HasOnly (MakesFor run cause) was out
-  dropped_for Is was out only =
-      record { more = map_rows only.drops; is = only.is; each = λ row there. each only.drops row there }
-    where
-      map_rows : List Drop → List RowKind
-      map_rows [] = []
-      map_rows (d ∷ drops) = row_of_drop d ∷ map_rows drops
+makes_for : (e : InEvent) (run : Option ReqId) (cause tells : Why) (was out : List RowKind) → HasPutOut e run cause tells was out → HasOnly (MakesFor run cause) was out
+makes_for e run cause tells was out =
+    put_each (MakesFor run cause) e run cause tells was out (λ d. tt) (λ job is. (plain job.task is, λ makes. absurd (discards job.task is makes))) served told
+  where
+    plain : (task : Task) → task ≡ tasks.Discard → IsPlainTask task
+    plain task is = subst (λ (k : Task). IsPlainTask k) (sym is) tt
 
-      each : (drops : List Drop) (row : RowKind) → Has (map_rows drops) row → MakesFor run cause row
-      each [] row there = absurd there
-      each (d ∷ drops) row (inl same) = subst (λ (x : RowKind). MakesFor run cause x) same tt
-      each (d ∷ drops) row (inr there) = each drops row there
+    discards : (task : Task) → task ≡ tasks.Discard → IsMake task → ⊥
+    discards (tasks.Populate nav state address initial) is makes = cc
+    discards _ is makes = absurd makes
 
-  given_for : (by : Option ReqId) (s : Seen) (was out : List RowKind) → HasGivenWay s by was out → HasOnly (MakesFor run cause) was out
-  given_for None s was out same = subst (λ (l : List RowKind). HasOnly (MakesFor run cause) was l) (sym same) (only_none (MakesFor run cause) was)
-  given_for (Some by) s was out only = dropped_for _ was out only
+    served : (row : RowKind) → IsServeFor run cause row → MakesFor run cause row
+    served row it = subst (λ (x : RowKind). MakesFor run cause x) (sym it.is) (of_walk it.job.task refl, λ makes. it.why_is)
+      where
+        of_walk : (task : Task) → it.job.task ≡ task → IsPlainTask task
+        of_walk (tasks.Ask slot asks) is = absurd (let walks = it.serves in rw is at walks)
+        of_walk (tasks.DoFragment req mode address) is = absurd (let walks = it.serves in rw is at walks)
+        of_walk _ is = tt
 
-  served_for : (row : RowKind) → IsServeFor run cause row → MakesFor run cause row
-  served_for row it = subst (λ (x : RowKind). MakesFor run cause x) (sym it.is) (λ makes. it.why_is)
+    lengths : (task : Task) → length_index task ≡ true → IsPlainTask task
+    lengths (tasks.Ask slot asks) is = let no_ : false ≡ true = is in cc
+    lengths (tasks.DoFragment req mode address) is = let no_ : false ≡ true = is in cc
+    lengths _ is = tt
 
-  told_for : (tells : Why) (row : RowKind) → IsUpdateFor tells row → MakesFor run cause row
-  told_for tells (rows.Sent job) is = λ makes. absurd (never job.task is.1 makes)
-    where
-      never : (task : Task) → length_index task ≡ true → IsMake task → ⊥
-      never (tasks.Populate nav state address initial) is_ makes = let no_ : false ≡ true = is_ in cc
-      never _ is_ makes = absurd makes
-  told_for tells row is = elim is [ ]
+    never : (task : Task) → length_index task ≡ true → IsMake task → ⊥
+    never (tasks.Populate nav state address initial) is makes = let no_ : false ≡ true = is in cc
+    never _ is makes = absurd makes
 
-  makes_for : (e : InEvent) (tells : Why) (was out : List RowKind) → HasPutOut e run cause tells was out → HasOnly (MakesFor run cause) was out
-  makes_for e tells was out put =
-      only_then (MakesFor run cause) was put.given out (given_for run (now_of e was) was put.given put.gives)
-      (only_then (MakesFor run cause) put.given put.cleared out (only_then (MakesFor run cause) put.given put.clears.swept put.cleared swept (dropped_for _ put.clears.swept put.cleared put.clears.destroys))
-      (only_then (MakesFor run cause) put.cleared put.served out (only_as (IsServeFor run cause) (MakesFor run cause) put.cleared put.served served_for put.serves) (only_as (IsUpdateFor tells) (MakesFor run cause) put.served out (told_for tells) put.told)))
-    where
-      discards : (task : Task) → task ≡ tasks.Discard → IsMake task → ⊥
-      discards (tasks.Populate nav state address initial) is makes = cc
-      discards _ is makes = absurd makes
-
-      swept : HasOnly (MakesFor run cause) put.given put.clears.swept
-      swept =
-          record {
-            more = put.clears.sweeps.more;
-            is = put.clears.sweeps.is;
-            each = λ row there. (let it = put.clears.sweeps.each row there in subst (λ (x : RowKind). MakesFor run cause x) (sym it.is) (λ makes. absurd (discards it.job.task it.discards makes)));
-          }
+    told : (row : RowKind) → IsUpdateFor tells row → MakesFor run cause row
+    told (rows.Sent job) is = (lengths job.task is.1, λ makes. absurd (never job.task is.1 makes))
+    told row is = elim is [ ]
 
 for_coord : (run : Option ReqId) (cause : Why) (row : RowKind) → MakesFor run cause row → IsOfCoord row
 for_coord run cause (rows.Sent job) its = tt
@@ -200,11 +191,12 @@ pass_put e run cause tells was out put plain may causes =
       more = only.more;
       is = only.is;
       each = λ row has. for_coord run cause row (only.each row has);
-      makes = λ job has makes. by_why job.why (only.each (rows.Sent job) has makes);
+      plain = λ job has. (only.each (rows.Sent job) has).0;
+      makes = λ job has makes. by_why job.why ((only.each (rows.Sent job) has).1 makes);
     }
   where
     only : HasOnly (MakesFor run cause) was out
-    only = makes_for run cause e tells was out put
+    only = makes_for e run cause tells was out put
 
     by_why : (why : Why) → (why ≡ show_why run cause) ⊎ (why ≡ cause) → MayCause (now_of e out) why
     by_why why (inl is) = causes why (subst (MayCause (now_of e was)) (sym is) (show_causes (now_of e was) run plain cause may))

@@ -2,7 +2,7 @@
 use Rattle.calm_facts.proofs.Calms.{calm_but, calm_rooted}
 use Rattle.calm_facts.specs.Calm.{CalmUnless, IsCalm, IsCalmYet}
 use Rattle.calm_facts.specs.Loads.{LoadsHaveDocuments}
-use Rattle.tab_releases.proofs.PassedOn.{stand_awake, calm_unmoved}
+use Rattle.tab_releases.proofs.PassedOn.{calm_unmoved, rest_blamed, rest_loads, rest_open, stand_awake}
 use Rattle.log_model.specs.History.{has_row}
 use Rattle.each_facts.proofs.Courses.{was_asked}
 use Rattle.frame_facts.specs.Lasting.{Wish, wish}
@@ -20,7 +20,6 @@ use Rattle.tab_ids.specs.declared.NavId.{NavId}
 use Rattle.tab_ids.specs.declared.ReqId.{ReqId}
 use Rattle.tab_ids.specs.declared.StateId.{StateId}
 use Rattle.tab_releases.specs.PassedOn.{AreLeftStrays, HasPassed, LoadsLive}
-use Rattle.tab_rests.proofs.Rests.{rest_blamed, rest_loads, rest_open}
 use Rattle.tab_releases.proofs.Releases.{IsByItsOwn}
 
 -- where documents are as they were, what was made of each load is by a document of its navigable still

@@ -1,2 +1,3 @@
+pub mod Offs
 pub mod Settling
 pub mod PassedOn

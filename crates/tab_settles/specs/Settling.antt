@@ -12,7 +12,9 @@ use Rattle.frame_tab.specs.Asking.{NoneHeld}
 use Rattle.log_model.specs.ActsAtOnce.{ends_told}
 use Rattle.log_model.specs.Causes.{takes_report}
 use Rattle.log_model.specs.Equal.{has_req}
-use Rattle.log_model.specs.Seen.{Document, Seen, document_of}
+use Rattle.log_model.specs.History.{has_nav}
+use Rattle.log_model.specs.Points.{nav_of_request}
+use Rattle.log_model.specs.Seen.{Asked, Document, Place, Seen, awake, document_of, place_of, request_of}
 use Rattle.log_model.specs.declared.job.Job.{Job}
 use Rattle.log_model.specs.declared.job.Task.{Task}
 use Rattle.log_model.specs.declared.job.Why.{Why}
@@ -22,15 +24,17 @@ use Rattle.move_queue.specs.declared.queue_step.QueueStep.{QueueStep}
 use Rattle.request_facts.proofs.Readers.{SameReads}
 use Rattle.seen_laws.specs.InEvent.{InEvent, now_of}
 use Rattle.std.specs.Prelude.{List, None, Option, Some, [], length, true, ℕ, ◌++◌, ◌+◌, ◌≡◌, ◌⊎◌}
-use Rattle.tab_releases.specs.PassedOn.{AreBlamed, AreLeftStrays, HasPassed, HasQueue, IsOpen, LoadsLive, MayStand, show_why}
+use Rattle.tab_releases.specs.PassedOn.{AreBlamed, AreLeftStrays, HasPassed, HasQueue, IsLoadApplied, IsOpen, LoadsLive, MayStand, show_why}
 use Rattle.tab_events.specs.Between.{AreSwept, orders_go}
 use Rattle.tab_ids.specs.declared.DocId.{DocId}
 use Rattle.tab_ids.specs.declared.NavId.{NavId}
 use Rattle.tab_ids.specs.declared.ReqId.{ReqId}
 use Rattle.tab_ids.specs.declared.StateId.{StateId}
+use Rattle.tab_settles.specs.Offs.{LateKnown}
 use Rattle.tab_settles.specs.declared.reasons.Reasons.{Reasons}
 use Rattle.walk_facts.specs.Serving.{AreServed}
 use Rattle.log_model.specs.declared.job.Task.TheVariants as tasks
+use Rattle.log_model.specs.declared.job.Why.TheVariants as whys
 use Rattle.log_model.specs.declared.row_kind.Actor.TheVariants as actors
 use Rattle.log_model.specs.declared.row_kind.RowKind.TheVariants as rows
 
@@ -63,16 +67,41 @@ abbrev pub IsMake : Task → Type 0
 IsMake (tasks.Populate nav state address initial) = Unit {0}
 IsMake _ = ⊥
 
--- rows of a coordinator were put out, behind those that were there; and each order among them that makes a document is for what orders may be for
+-- the order asks nobody, and sends no document to a fragment
+abbrev pub IsPlainTask : Task → Type 0
+IsPlainTask (tasks.Ask slot cause) = ⊥
+IsPlainTask (tasks.DoFragment req mode address) = ⊥
+IsPlainTask _ = Unit {0}
+
+-- rows of a coordinator were put out, behind those that were there; each order among them asks nobody and sends no document to a fragment, and each that makes a document is for what orders may be for
 pub record HasPut (e : InEvent) (was out : List RowKind) : Type 0 where
   pub more : List RowKind
   pub is : out ≡ was ++ more
   pub each : (row : RowKind) → Has more row → IsOfCoord row
+  pub plain : (job : Job) → Has more (rows.Sent job) → IsPlainTask job.task
   pub makes : (job : Job) → Has more (rows.Sent job) → IsMake job.task → MayCause (now_of e out) job.why
 
 -- each order on its way that makes a document, or of which a report tells, is for what orders may be for
 abbrev pub MakesServe : Seen → Type 0
 MakesServe s = AreOrders (λ (job : Job). IsMake job.task → MayCause s job.why) s
+
+-- the document is of the navigable of the request, which is there
+pub record IsOfItsLoad (s : Seen) (doc : DocId) (req : ReqId) : Type 0 where
+  pub q : Asked
+  pub found : request_of s req ≡ Some q
+  pub d : Document
+  pub there : document_of s doc ≡ Some d
+  pub its : nav_of_request q.what ≡ Some d.nav
+
+-- the order to the document asks nobody, and sends it to a fragment for a load of its own navigable
+abbrev pub IsSoundTask : Seen → DocId → Task → Type 0
+IsSoundTask s doc (tasks.Ask slot cause) = ⊥
+IsSoundTask s doc (tasks.DoFragment req mode address) = IsOfItsLoad s doc req
+IsSoundTask s doc _ = Unit {0}
+
+-- so it is of each order on its way, or of which a report tells
+abbrev pub OrdersAreSound : Seen → Type 0
+OrdersAreSound s = AreOrders (λ (job : Job). IsSoundTask s job.doc job.task) s
 
 -- ---- the queue, and what is held back
 
@@ -99,15 +128,28 @@ turns_left (Some run) waiting = 1 + (length waiting + length waiting)
 
 -- ---- how calm the tab is
 
--- before a pass: where no traversal runs it is calm but for navigables without an entry, or around one of which a load was just applied; where one does, whom it hasn't moved is where it is to be, and who is awake is rooted
-abbrev pub IsCalmBefore : Option ReqId → Seen → Type 0
-IsCalmBefore None s = IsCalmYet s ⊎ ((at : NavId) × IsCalmAround s at)
-IsCalmBefore (Some run) s = UnmovedAreHere s × AreRooted s
+-- the cause is a load that was applied last, of this navigable
+pub record IsAppliedFor (cause : Why) (s : Seen) (at : NavId) : Type 0 where
+  pub req : ReqId
+  pub for_ : cause ≡ whys.Req req
+  pub last : IsLoadApplied s at req
+
+-- before a pass for a cause: where no traversal runs it is calm but for navigables without an entry, or around one of which a load, the cause, was just applied; where one does, whom it hasn't moved is where it is to be, and who is awake is rooted
+abbrev pub IsCalmBefore : Option ReqId → Why → Seen → Type 0
+IsCalmBefore None cause s = IsCalmYet s ⊎ ((at : NavId) × (IsCalmAround s at × IsAppliedFor cause s at))
+IsCalmBefore (Some run) cause s = UnmovedAreHere s × AreRooted s
 
 -- after it: where no traversal runs the tab is calm
 abbrev pub IsCalmAfter : Option ReqId → Seen → Type 0
 IsCalmAfter None s = IsCalm s
 IsCalmAfter (Some run) s = UnmovedAreHere s × AreRooted s
+
+-- ---- whom a traversal has moved
+
+-- who is awake, and was moved by the traversal that runs, was shown a document by it
+abbrev pub MovedAreShown : Option ReqId → Seen → Type 0
+MovedAreShown run s =
+    (req : ReqId) (q : Asked) (nav : NavId) (place : Place) (doc : DocId) → run ≡ Some req → request_of s req ≡ Some q → place_of s nav ≡ Some place → place.status ≡ awake doc → has_nav q.moved nav ≡ true → has_nav q.activated nav ≡ true
 
 -- ---- from pass to pass
 
@@ -119,7 +161,9 @@ pub record IsReady (p : InPass) (out : List RowKind) (t : Tables) (queue : Queue
   pub open_ : IsOpen p.event t.running cause (now_of p.event out)
   pub loads : MayStand t.running (now_of p.event out)
   pub blamed : AreBlamed (now_of p.event out) blame
-  pub calm : IsCalmBefore t.running (now_of p.event out)
+  pub calm : IsCalmBefore t.running cause (now_of p.event out)
+  pub late : LateKnown t.running (now_of p.event out)
+  pub moved : MovedAreShown t.running (now_of p.event out)
   pub live : LoadsLive (now_of p.event out)
   pub theirs : LoadsMadeOwn (now_of p.event out)
   pub queueing : IsQueueing p out t queue
@@ -136,6 +180,8 @@ pub record HasSettled (p : InPass) (out : List RowKind) (t : Tables) (queue : Qu
   pub told : ends_told (now_of p.event out) ≡ true
   pub swept : AreSwept (now_of p.event out) ⊎ (orders_go (now_of p.event out) ≡ true)
   pub calm : IsCalmAfter t.running (now_of p.event out)
+  pub late : LateKnown t.running (now_of p.event out)
+  pub moved : MovedAreShown t.running (now_of p.event out)
   pub live : LoadsLive (now_of p.event out)
   pub theirs : LoadsMadeOwn (now_of p.event out)
   pub queueing : IsQueueing p out t queue

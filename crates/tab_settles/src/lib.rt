@@ -7,3 +7,6 @@ mod turning;
 
 pub use reasons::Reasons;
 pub use resting::settle;
+
+// What is passed on of the crates below, for those above.
+pub use tab_releases::{judged, note_loads, take};

@@ -2,7 +2,7 @@
 ghost use Rattle.std.specs.Prelude.{◌≡◌, OnOk};
 ghost use Rattle.seen_laws.specs.InEvent.{now_of};
 ghost use Rattle.tab_releases.specs.Releasing.{InPass};
-ghost use Rattle.tab_rests.specs.Resting.{IsNoneDue};
+ghost use Rattle.tab_releases.specs.PassedOn.{IsNoneDue};
 ghost use Rattle.tab_settles.specs.Settling.{HasPut, HasSettled, IsReady};
 
 use crate::reasons::Reasons;
@@ -14,7 +14,7 @@ use move_queue::MoveQueue;
 use std::alloc::Global;
 use tab_doors::Tables;
 use tab_ids::{ReqId, StateId};
-use tab_one_pass::pass;
+use tab_releases::pass;
 
 /// Brings the tab to rest: loads give way, stray documents are discarded, who needs it is shown a document or has one made, who is awake is told length and index; the traversal that runs ends where all stand, with what was held back for it, and the next step of the queue has its turn; then once more, until nothing is due. HTML Standard, "apply the history step" and "session history traversal queue".
 pub fn settle(

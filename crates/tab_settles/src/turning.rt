@@ -2,7 +2,7 @@
 ghost use Rattle.std.specs.Prelude.{◌≡◌, ◌<◌, IfOk, None, OnOk, false, is_some, true};
 ghost use Rattle.seen_laws.specs.InEvent.{now_of};
 ghost use Rattle.tab_releases.specs.Releasing.{InPass};
-ghost use Rattle.tab_rests.specs.Resting.{IsNoneDue};
+ghost use Rattle.tab_releases.specs.PassedOn.{IsNoneDue};
 ghost use Rattle.tab_settles.specs.Settling.{HasPut, HasSettled, IsReady, turns_left};
 
 use crate::reasons::Reasons;
@@ -11,11 +11,9 @@ use indexmap::IndexMap;
 use log_model::Out;
 use move_queue::MoveQueue;
 use std::alloc::Global;
-use tab_begins::{Turn, begin_next};
 use tab_doors::Tables;
 use tab_ids::{ReqId, StateId};
-use tab_releases::release;
-use tab_turns::end_running;
+use tab_releases::{Turn, begin_next, end_running, release};
 
 /// The traversal that runs ends where all stand at the step that it leads to, and what was held back for it is taken up. Answers whether it ended; else nothing is done.
 fn finish(

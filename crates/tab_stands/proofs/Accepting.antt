@@ -7,7 +7,7 @@ use Rattle.left_facts.proofs.Rows.{were_shown}
 use Rattle.load_doors.specs.Tied.{AreTied}
 use Rattle.load_ties.proofs.Rows.{accepted_tied}
 use Rattle.log_model.specs.After.{new_request}
-use Rattle.log_model.specs.Equal.{has_req, holds}
+use Rattle.log_model.specs.Equal.{has_req}
 use Rattle.log_model.specs.History.{has_nav}
 use Rattle.log_model.specs.Places.{is_load}
 use Rattle.log_model.specs.Points.{nav_of_request}
@@ -33,6 +33,7 @@ use Rattle.tab_doors.specs.Look.{look_of as sights_of, moved_by}
 use Rattle.tab_doors.specs.Ties.{IsRunning}
 use Rattle.tab_doors.specs.Working.{HasGoal}
 use Rattle.tab_doors.specs.declared.tables.Tables.{Tables}
+use Rattle.tab_settles.proofs.Lates.{unstood_by}
 use Rattle.tab_settles.proofs.PassedOn.{steps_still}
 use Rattle.tab_settles.specs.PassedOn.{AreHeldUp, AreLeftStrays, IsGoing, IsTab, count_of, has_ended, has_spent}
 use Rattle.tab_ids.specs.declared.DocId.{DocId}
@@ -115,7 +116,7 @@ module _ (e : InEvent) (req : ReqId) (doc : Option DocId) (what : Request) (by_u
 
     coming : IsComing blame s went
     coming =
-        coming_more s went new req nr refl refl refl refl t queue blame stands (were_shown s e.event actors.Ui stands.lasts.were (rows.Accepted req doc what) tt)
+        coming_more s went new req nr refl refl refl refl t queue blame stands (were_shown s e.event actors.Ui stands.lasts.were (rows.Accepted req doc what) tt) refl (λ off away. unstood_by s (record { event = e.event; actor = actors.Ui; row = rows.Accepted req doc what }) refl away off)
 
     pub comes_now : IsComing blame s (now_of e [])
     comes_now = subst (λ (x : Seen). IsComing blame s x) (sym now) coming

@@ -1,25 +1,34 @@
 -- An event of the coordinator begins: all goes on once its own row was logged, whatever it leaves of a tab as one is between two events.
-use Rattle.tab_stands.proofs.Orders.{makes_first}
+use Rattle.tab_stands.proofs.Orders.{keeps_coming, makes_first, sound_first}
 use Rattle.frame_rows.proofs.LawfulLaws.{lawful_legal}
+use Rattle.desk_facts.proofs.Stays.{NoDeath}
 use Rattle.load_doors.specs.Tied.{AreTied}
+use Rattle.log_model.specs.Seen.{desk_of}
+use Rattle.log_model.specs.declared.made.Report.{Report}
 use Rattle.move_queue.specs.Queue.{Queue}
 use Rattle.owed_facts.proofs.Ends.{loose_first, loose_owed}
 use Rattle.rest_rows.specs.Moving.{AllRest}
 use Rattle.seen_laws.specs.InEvent.{AreLegal, InEvent, now_of}
 use Rattle.seen_laws.specs.Sending.{leads}
-use Rattle.std.proofs.Common.{List, [], ap, length, subst, sym, true, ◌≡◌, ◌≤◌, ℕ}
+use Rattle.std.proofs.Common.{List, None, Option, Some, [], ap, length, refl, subst, sym, true, ◌≡◌, ◌≤◌, ℕ}
+use Rattle.std.specs.Prelude.{slice_get}
 use Rattle.tab_doors.proofs.Ahead.{lawful_none}
 use Rattle.tab_doors.specs.Working.{HasGoal, IsAtWork, IsWorker}
 use Rattle.tab_doors.specs.declared.tables.Tables.{Tables}
-use Rattle.tab_settles.proofs.PassedOn.{unheld_first}
+use Rattle.tab_settles.proofs.PassedOn.{fine, unheld_first}
 use Rattle.tab_events.specs.Between.{IsBetween}
 use Rattle.tab_settles.specs.PassedOn.{InPass, IsGoing, IsPassing}
 use Rattle.tab_ids.specs.declared.DocId.{DocId}
+use Rattle.tab_ids.specs.declared.ProcId.{ProcId}
 use Rattle.tab_ids.specs.declared.ReqId.{ReqId}
 use Rattle.tab_ids.specs.declared.StateId.{StateId}
 use Rattle.tab_settles.specs.Settling.{IsQueueing}
 use Rattle.tab_stands.proofs.Coming.{IsComing, stand_then, taking_then}
+use Rattle.tab_stands.proofs.EpochRows.{own_under}
+use Rattle.tab_stands.proofs.LateEvents.{late_first}
+use Rattle.tab_stands.proofs.MovedEvents.{moved_coming}
 use Rattle.tab_stands.specs.Standing.{HasBegun, Lasts}
+use Rattle.log_model.specs.declared.row_kind.RowKind.TheVariants as rows
 
 -- a coordinator is at work once the own row was logged, whose tables stand for what the log has come to
 pub work_first : (e : InEvent) (t : Tables) → leads e.own ≡ true → IsWorker e.actor → AreLegal e [] → AreTied (now_of e []) t → IsAtWork e [] t
@@ -49,6 +58,14 @@ module _ (p : InPass) (t : Tables) (queue : Queue) (blame : List (StateId × Req
         few = subst (λ (k : ℕ). k ≤ t.kept.keep) (sym (ap (λ (l : List DocId). length l) comes.kept)) between.few;
       }
 
+  -- no report tells of a death
+  alive : (proc : ProcId) → p.event.own ≡ rows.Delivered proc → NoDeath (slice_get (desk_of p.event.start proc).reports 0)
+  alive proc is = by_first (slice_get (desk_of p.event.start proc).reports 0) refl
+    where
+      by_first : (o : Option Report) → slice_get (desk_of p.event.start proc).reports 0 ≡ o → NoDeath (slice_get (desk_of p.event.start proc).reports 0)
+      by_first None none = subst (λ (o : Option Report). NoDeath o) (sym none) tt
+      by_first (Some report) first = fine t.running p.event.start p.event.event proc between.tab between.flows report first
+
   pub begun : IsQueueing p [] t queue → HasBegun p t queue blame
   begun queueing =
       record {
@@ -57,7 +74,11 @@ module _ (p : InPass) (t : Tables) (queue : Queue) (blame : List (StateId × Req
         taking = taking_then p.event t.running t.kept.keep t.goal blame (now_of p.event []) between lasts goal p.loads p.hand going.tab tied.goal comes (unheld_first p t passing);
         loose = loose_first p.event own;
         stand = stand_then p.event t.running t.kept.keep t.goal blame (now_of p.event []) between lasts goal p.loads p.hand going.tab tied.goal comes;
+        moved = moved_coming blame p.event.start (now_of p.event []) comes t.running between.tab.asked lasts.moved;
         theirs = comes.theirs;
+        late = late_first blame p.event.start (now_of p.event []) comes t.running going.tab.standing lasts.off;
+        shows = own_under p.event own alive lasts.shows;
         makes = makes_first p.event own comes.serves lasts.makes;
+        sound = sound_first p.event own (keeps_coming blame p.event.start (now_of p.event []) comes) lasts.sound;
         queueing = queueing;
       }

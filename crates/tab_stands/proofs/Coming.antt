@@ -11,8 +11,8 @@ use Rattle.load_ends.specs.Standing.{LoadsStand, is_reached}
 use Rattle.load_facts.specs.Loading.{Look, is_ongoing, look_of}
 use Rattle.log_model.specs.Equal.{holds}
 use Rattle.log_model.specs.History.{History, has_nav, has_row}
-use Rattle.log_model.specs.Places.{aim_of, has_arrived, is_given_target, is_lost_in, is_moved, is_placed, is_shown, is_standing, way_to}
-use Rattle.log_model.specs.Seen.{Place, Seen, awake, place_in, place_of}
+use Rattle.log_model.specs.Places.{aim_of, all_stand, has_arrived, is_given_target, is_lost_in, is_moved, is_placed, is_shown, is_standing, way_to}
+use Rattle.log_model.specs.Seen.{Asked, Document, Place, Seen, document_of, place_in, place_of, request_of}
 use Rattle.log_model.specs.declared.job.Why.{Why}
 use Rattle.mover_facts.proofs.Places.{WasThere, place_then, was_there, ways_mapped}
 use Rattle.mover_facts.proofs.Stays.{KeepWays}
@@ -47,25 +47,40 @@ pub record OnlyArrives (g : Place → Place) : Type 0 where
   pub nav : (p : Place) → (g p).nav ≡ p.nav
   pub sight : (p : Place) → sight_of (g p) ≡ sight_of p
   pub last : (p : Place) → (g p).last ≡ p.last
+  pub why : (p : Place) → (g p).why ≡ p.why
   pub taken : (p : Place) → (g p).taken_by ≡ p.taken_by
   pub ever : (p : Place) → (g p).ever_given ≡ p.ever_given
   pub arrived : (p : Place) → has_arrived p ≡ true → has_arrived (g p) ≡ true
 
--- the history and the kept documents are as they were; a navigable may have arrived; each ongoing load was one, and has its document; orders may be for whom they might be, the traversal that runs has moved whom it had, each document is of its state, and for each stray document a request is noted
+-- a request but for how it ended, and what documents answered and made
+abbrev pub bare : Asked → Asked
+bare q = record q { ending = None; made = None; fragment = None; is_not_found = false; asks = [] }
+
+-- the request is there still, and read as the same but for that
+pub record IsAlike (n : Seen) (req : ReqId) (q : Asked) : Type 0 where
+  pub now : Asked
+  pub at : request_of n req ≡ Some now
+  pub same : bare now ≡ bare q
+
+-- the history and the kept documents are as they were, and each request that was there but for how it ended and what documents answered and made; a navigable may have arrived; each ongoing load was one, and has its document; orders may be for whom they might be, the traversal that runs has moved whom it had, each document is of its state, and for each stray document a request is noted; the load that was applied last is, and where not all have stood since, they haven't, if not all stand
 pub record IsComing (blame : List (StateId × ReqId)) (s n : Seen) : Type 0 where
   pub g : Place → Place
   pub arrives : OnlyArrives g
   pub places : n.places ≡ map g s.places
   pub history : n.history ≡ s.history
   pub kept : n.kept ≡ s.kept
+  pub asked : (req : ReqId) (q : Asked) → request_of s req ≡ Some q → IsAlike n req q
   pub loads : (req : ReqId) (l : Look) → look_of n req ≡ Some l → is_ongoing l ≡ true → look_of s req ≡ Some l
   pub loading : LoadsHaveDocuments n
   pub serves : (req : ReqId) → MayServe s req → MayServe n req
   pub moved : (nav : NavId) → is_moved n nav ≡ is_moved s nav
   pub states : KeepStates s.documents n.documents
+  pub homes : (doc : DocId) (d : Document) → document_of s doc ≡ Some d → (now : Document) × (document_of n doc ≡ Some now) × (now.nav ≡ d.nav)
   pub strays : (doc : DocId) (state : StateId) → IsStray n doc state → IsLeftStray n blame doc state ⊎ IsBlamed n blame doc state
   pub were : WereShown n
   pub theirs : LoadsMadeOwn n
+  pub step : n.last_step ≡ s.last_step
+  pub unstood : s.has_stood ≡ false → all_stand n n.history.current ≡ false → n.has_stood ≡ false
 
 -- ---- what is so then
 

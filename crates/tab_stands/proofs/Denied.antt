@@ -1,8 +1,10 @@
 -- A request of the user is accepted, and refused in the same event: the coordinator stands for the log still.
 use Rattle.asked_facts.specs.Asking.{ArePlain}
 use Rattle.tab_settles.proofs.Puts.{put_makes}
+use Rattle.tab_settles.proofs.Sounds.{put_sound}
+use Rattle.tab_settles.specs.Settling.{OrdersAreSound}
 use Rattle.seen_laws.specs.Sending.{leads}
-use Rattle.tab_stands.proofs.Orders.{makes_first, refusal_put}
+use Rattle.tab_stands.proofs.Orders.{keeps_coming, makes_first, refusal_put, sound_first}
 use Rattle.coord_facts.proofs.Flowings.{left_flows}
 use Rattle.coord_facts.proofs.Held.{on_else, without_same}
 use Rattle.coord_facts.proofs.Unread.{accepted_held, next, refused_held, refused_left}
@@ -16,7 +18,7 @@ use Rattle.load_ties.proofs.Ends.{other_ends, refused_ended}
 use Rattle.log_model.specs.AfterRequests.{joined_accepted, without_req}
 use Rattle.log_model.specs.ActsAtOnce.{is_ready_load}
 use Rattle.log_model.specs.Equal.{has_req}
-use Rattle.log_model.specs.Places.{is_ongoing_load}
+use Rattle.log_model.specs.Places.{all_stand, is_ongoing_load}
 use Rattle.log_model.specs.Seen.{Asked, Seen, request_in}
 use Rattle.log_model.specs.declared.outcome.Denial.{Denial}
 use Rattle.log_model.specs.declared.request.Request.{Request}
@@ -32,7 +34,7 @@ use Rattle.request_facts.specs.Whereabouts.{times_found}
 use Rattle.rest_rows.proofs.Rows.{accepted_rests, refused_rests}
 use Rattle.seen_laws.proofs.InEvents.{now_more}
 use Rattle.seen_laws.specs.InEvent.{InEvent, now_of}
-use Rattle.std.proofs.Common.{List, None, Option, Some, [], ap, arith, false, filter, inl, inr, length, map, refl, subst, sym, true, ℕ, ◌++◌, ◌+◌, ◌-◌, ◌==◌, ◌∙◌, ◌∷◌, ◌≡◌, ◌⊎◌}
+use Rattle.std.proofs.Common.{List, None, Option, Some, [], ap, arith, false, filter, inl, inr, length, refl, subst, sym, true, ℕ, ◌++◌, ◌+◌, ◌-◌, ◌==◌, ◌∙◌, ◌∷◌, ◌≡◌, ◌⊎◌}
 use Rattle.std.proofs.lemmas.Bool.Decides.{nat_tests}
 use Rattle.std.proofs.lemmas.List.{map-id}
 use Rattle.std.specs.List.{list_any}
@@ -55,9 +57,12 @@ use Rattle.tab_ids.specs.declared.StateId.{StateId}
 use Rattle.tab_settles.specs.Settling.{HoldsParked, MakesServe}
 use Rattle.tab_stands.proofs.Accepting.{goes_on, new, now, tied_now, went, comes_now}
 use Rattle.tab_stands.proofs.Coming.{IsComing}
+use Rattle.tab_settles.proofs.Lates.{unstood_by}
+use Rattle.tab_stands.proofs.EpochRows.{accepted_under, refused_under}
 use Rattle.tab_stands.proofs.More.{coming_more, more, new_there, old_stays, one_of, strays_more}
 use Rattle.tab_stands.proofs.Stays.{stands_still}
 use Rattle.tab_stands.proofs.Waiting.{steps_stay}
+use Rattle.tab_stands.specs.Offs.{AreShownUnder}
 use Rattle.tab_stands.specs.Standing.{HasRoomFor, StandsFor}
 use Rattle.log_model.specs.declared.outcome.Ending.TheVariants as endings
 use Rattle.log_model.specs.declared.row_kind.Actor.{Actor}
@@ -125,8 +130,12 @@ module _ (e : InEvent) (t : Tables) (queue : Queue) (blame : List (StateId × Re
 
   comes : IsComing blame s n
   comes =
-      subst (λ (x : Seen). IsComing blame s x) (sym n_is) (coming_more s n lost req nr refl refl refl refl t queue blame stands (subst (λ (x : Seen). WereShown x) n_is were))
+      subst (λ (x : Seen). IsComing blame s x) (sym n_is) (coming_more s n lost req nr refl refl refl refl t queue blame stands (subst (λ (x : Seen). WereShown x) n_is were) refl unstood)
     where
+      unstood : s.has_stood ≡ false → all_stand m m.history.current ≡ false → n.has_stood ≡ false
+      unstood off away =
+          unstood_by w (record { event = e.event; actor = actors.Ui; row = rows.Refused req reason }) refl away (unstood_by s (record { event = e.event; actor = actors.Ui; row = rows.Accepted req None what }) refl away off)
+
       were : WereShown n
       were =
           were_shown w e.event actors.Ui (were_shown s e.event actors.Ui stands.lasts.were (rows.Accepted req None what) tt) (rows.Refused req reason) tt
@@ -248,6 +257,15 @@ module _ (e : InEvent) (t : Tables) (queue : Queue) (blame : List (StateId × Re
         (put_makes e run [] out (subst (λ (x : Seen). ArePlain run x) (sym now_refused) tab_then.asked) (refusal_put e req reason)
         (makes_first e (ap (λ (k : RowKind). leads k) own) (comes_now e req None what by_user own nr t queue blame stands).serves stands.lasts.makes))
 
+    sound : OrdersAreSound n
+    sound =
+        subst (λ (x : Seen). OrdersAreSound x) now_refused
+        (put_sound e [] out (refusal_put e req reason) (sound_first e (ap (λ (k : RowKind). leads k) own) (keeps_coming blame s (now_of e []) (comes_now e req None what by_user own nr t queue blame stands)) stands.lasts.sound))
+
+    shows : AreShownUnder n
+    shows =
+        refused_under w e.event actors.Ui req reason (accepted_under s e.event actors.Ui req None what stands.lasts.shows)
+
     pub denied_stands : StandsFor (now_of e out) t queue blame
     denied_stands =
-        subst (λ (x : Seen). StandsFor x t queue blame) (sym now_refused) (stands_still e t queue blame stands n comes between going tied makes strays queued held)
+        subst (λ (x : Seen). StandsFor x t queue blame) (sym now_refused) (stands_still e t queue blame stands n comes between going tied makes sound shows strays queued held)

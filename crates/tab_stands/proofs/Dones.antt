@@ -58,7 +58,7 @@ unchanged = record { running = refl; goal = refl; keep = refl }
 -- a place as it was
 pub itself : OnlyArrives (λ (p : Place). p)
 itself =
-    record { nav = λ p. refl; sight = λ p. refl; last = λ p. refl; taken = λ p. refl; ever = λ p. refl; arrived = λ p is. is }
+    record { nav = λ p. refl; sight = λ p. refl; last = λ p. refl; why = λ p. refl; taken = λ p. refl; ever = λ p. refl; arrived = λ p is. is }
 
 -- the order asks nothing
 abbrev pub AsksNone : Task → Type 0

@@ -2,6 +2,7 @@
 use Rattle.frame_rows.proofs.LawfulLaws.{lawful_end}
 use Rattle.frame_whole.proofs.FlowsAlike.{EachIsTold, flows_told}
 use Rattle.hang_facts.proofs.Members.{find_has}
+use Rattle.hang_facts.specs.Members.{Has}
 use Rattle.load_doors.specs.Tied.{AreTied}
 use Rattle.log_model.specs.ActsAtOnce.{ends_told, is_told}
 use Rattle.log_model.specs.Equal.{holds, same_pair}
@@ -11,10 +12,12 @@ use Rattle.log_model.specs.declared.job.Why.{Why}
 use Rattle.log_model.specs.declared.made.Made.{Made}
 use Rattle.log_model.specs.declared.row_kind.RowKind.{RowKind}
 use Rattle.move_queue.specs.Queue.{Queue}
+use Rattle.order_facts.specs.Orders.{IsOfCoord}
 use Rattle.owed_facts.proofs.Ends.{owed_paid}
 use Rattle.rest_facts.proofs.Seated.{all_has}
-use Rattle.seen_laws.specs.InEvent.{IsTakenIn, now_of, row_of}
-use Rattle.std.proofs.Common.{List, None, Option, Some, [], map, subst, refl, true, ℕ, ◌==◌, ◌≡◌}
+use Rattle.seen_laws.specs.Blocks.{EachPass}
+use Rattle.seen_laws.specs.InEvent.{IsTakenIn, now_of, row_of, start_of}
+use Rattle.std.proofs.Common.{List, None, Option, Some, [], map, subst, refl, true, ℕ, ◌==◌, ◌∷◌, ◌≡◌}
 use Rattle.std.specs.List.{list_all}
 use Rattle.std.specs.Prelude.{is_some, option_and_then}
 use Rattle.tab_doors.proofs.Ahead.{none_lawful}
@@ -27,7 +30,10 @@ use Rattle.tab_ids.specs.declared.StateId.{StateId}
 use Rattle.tab_settles.specs.PassedOn.{InPass, IsTab}
 use Rattle.tab_settles.proofs.PassedOn.{stepped}
 use Rattle.tab_settles.proofs.Ended.{IsNoneDue}
-use Rattle.tab_settles.specs.Settling.{HasSettled, MakesServe}
+use Rattle.tab_settles.specs.Settling.{HasSettled, MakesServe, OrdersAreSound}
+use Rattle.tab_stands.proofs.EpochRows.{event_under}
+use Rattle.tab_stands.proofs.LateEvents.{off_of}
+use Rattle.tab_stands.specs.Offs.{AreShownUnder}
 use Rattle.tab_stands.specs.Standing.{HasActed, Lasts}
 
 -- where all were told what is due, each was told something
@@ -52,7 +58,7 @@ pub work_tied : (p : InPass) (out : List RowKind) (t : Tables) → IsAtWork p.ev
 work_tied p out t work =
     record { holds = work.holds; runs = work.runs; goal = work.goal; few = work.few; initial = work.initial; loads = work.loads; kept = work.kept }
 
-module _ (p : InPass) (out : List RowKind) (t : Tables) (queue : Queue) (blame : List (StateId × ReqId)) (cause : Why) (none : p.loads ≡ []) (at : HasSettled p out t queue blame cause) (makes : MakesServe (now_of p.event out)) where
+module _ (p : InPass) (out : List RowKind) (t : Tables) (queue : Queue) (blame : List (StateId × ReqId)) (cause : Why) (none : p.loads ≡ []) (at : HasSettled p out t queue blame cause) (makes : MakesServe (now_of p.event out)) (sound : OrdersAreSound (now_of p.event out)) (of_coord : (row : RowKind) → Has out row → IsOfCoord row) (shows : AreShownUnder (now_of p.event [])) where
   abbrev s : Seen
   s = now_of p.event out
 
@@ -79,8 +85,13 @@ module _ (p : InPass) (out : List RowKind) (t : Tables) (queue : Queue) (blame :
         few = at.passing.few;
       }
 
-  lasts : Lasts t.running s
-  lasts =
+  -- each row passes
+  passes : IsTakenIn p.event (map (row_of p.event) out) → EachPass (start_of p.event) (row_of p.event p.event.own ∷ map (row_of p.event) out) []
+  passes taken =
+      lawful_end p.event out (none_lawful p.event out at.passing.work.lawful) (owed_paid p.event out at.passing.owed) taken at.queueing.over
+
+  lasts : AreShownUnder s → Lasts t.running s
+  lasts shown =
       record {
         lasting = at.passing.going.lasting;
         counted = at.passing.going.counted;
@@ -90,8 +101,12 @@ module _ (p : InPass) (out : List RowKind) (t : Tables) (queue : Queue) (blame :
         parents = at.passed.walked.parents;
         takers = at.passed.takers;
         calm = at.calm;
+        moved = at.moved;
         made = at.theirs;
         makes = makes;
+        sound = sound;
+        shows = shown;
+        off = off_of s shown at.passing.going.tab.standing t.running at.calm at.late;
       }
 
   pub acted : IsNoneDue s t.running queue.waiting → IsTakenIn p.event (map (row_of p.event) out) → HasActed p.event out t queue blame
@@ -99,11 +114,11 @@ module _ (p : InPass) (out : List RowKind) (t : Tables) (queue : Queue) (blame :
       record {
         stands = record {
           between = between due;
-          lasts = lasts;
+          lasts = lasts (event_under p.event out (passes taken).1 of_coord shows);
           tied = work_tied p out t at.passing.work;
           strays = at.strays;
           queue = at.queueing.queued;
           parked = at.queueing.parked;
         };
-        passes = lawful_end p.event out (none_lawful p.event out at.passing.work.lawful) (owed_paid p.event out at.passing.owed) taken at.queueing.over;
+        passes = passes taken;
       }

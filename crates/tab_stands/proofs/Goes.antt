@@ -2,7 +2,7 @@
 use Rattle.hang_facts.proofs.Members.{has_more, into_more}
 use Rattle.hang_facts.specs.Members.{Has}
 use Rattle.log_model.specs.Causes.{denial_at_acceptance}
-use Rattle.log_model.specs.Once.{delta_of, loads}
+use Rattle.log_model.specs.Once.{delta_of}
 use Rattle.log_model.specs.Places.{aim_of}
 use Rattle.log_model.specs.Seen.{Asked, Seen, request_in, request_of}
 use Rattle.log_model.specs.declared.request.Request.{Request}

@@ -2,6 +2,11 @@ pub mod Orders
 pub mod Ended
 pub mod Ready
 pub mod Coming
+pub mod MovedEvents
+pub mod Epochs
+pub mod EpochRows
+pub mod LateEvents
+pub mod LateEnds
 pub mod Begun
 pub mod More
 pub mod Accepting
@@ -23,8 +28,5 @@ pub mod Mades
 pub mod Hands
 pub mod Taking
 pub mod Parks
-pub mod MovedRows
-pub mod MovedPasses
-pub mod MovedEvents
 pub mod Taken
 pub mod PassedOn

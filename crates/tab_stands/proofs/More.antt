@@ -7,10 +7,10 @@ use Rattle.log_model.specs.Checks.{is_checked}
 use Rattle.log_model.specs.Equal.{holds, implies}
 use Rattle.log_model.specs.History.{has_nav}
 use Rattle.log_model.specs.Orders.{ongoing_load}
-use Rattle.log_model.specs.Places.{has_passed, is_moved, is_ongoing_load, is_traversal, is_under_way}
+use Rattle.log_model.specs.Places.{all_stand, has_passed, is_moved, is_ongoing_load, is_traversal, is_under_way}
 use Rattle.log_model.specs.Seen.{Asked, Seen, request_in, request_of}
 use Rattle.request_facts.proofs.LookUps.{one_more, others_before}
-use Rattle.std.proofs.Common.{Bool, List, None, Option, Some, [], ap, arith, cond, eqb-true, false, filter, inl, inr, length, map, refl, sym, true, ℕ, ◌&&◌, ◌++◌, ◌+◌, ◌-◌, ◌==◌, ◌∙◌, ◌∷◌, ◌≡◌, ◌⊎◌}
+use Rattle.std.proofs.Common.{Bool, List, None, Option, Some, [], ap, arith, cond, eqb-true, false, filter, inl, inr, length, refl, sym, true, ℕ, ◌&&◌, ◌++◌, ◌+◌, ◌==◌, ◌∙◌, ◌∷◌, ◌≡◌, ◌⊎◌}
 use Rattle.std.proofs.lemmas.List.{map-id}
 use Rattle.std.specs.Prelude.{find, option_map}
 use Rattle.tab_doors.specs.declared.tables.Tables.{Tables}
@@ -21,8 +21,6 @@ use Rattle.tab_ids.specs.declared.StateId.{StateId}
 use Rattle.move_queue.specs.Queue.{Queue}
 use Rattle.tab_stands.proofs.Coming.{IsComing}
 use Rattle.tab_stands.specs.Standing.{StandsFor}
-use Rattle.log_model.specs.declared.row_kind.Actor.TheVariants as actors
-use Rattle.log_model.specs.declared.row_kind.RowKind.TheVariants as rows
 
 -- ---- one more request that doesn't pass a test
 
@@ -134,20 +132,24 @@ module _ (s rest : Seen) (new : Asked) (req : ReqId) (nr : req.0 ≡ length s.re
           by_old (inr it) =
               let never : None ≡ Some made = sym none_made ∙ ap (λ (x : Asked). x.made) (sym it.1) ∙ makes in absurd cc
 
-      pub coming_more : WereShown more → IsComing blame s more
-      coming_more were =
+      pub coming_more : WereShown more → rest.last_step ≡ s.last_step → (s.has_stood ≡ false → all_stand more more.history.current ≡ false → rest.has_stood ≡ false) → IsComing blame s more
+      coming_more were step unstood =
           record {
             g = λ p. p;
-            arrives = record { nav = λ p. refl; sight = λ p. refl; last = λ p. refl; taken = λ p. refl; ever = λ p. refl; arrived = λ p is. is };
+            arrives = record { nav = λ p. refl; sight = λ p. refl; last = λ p. refl; why = λ p. refl; taken = λ p. refl; ever = λ p. refl; arrived = λ p is. is };
             places = sym (map-id s.places);
             history = refl;
             kept = refl;
+            asked = λ r q at. record { now = q; at = old_stays r q at; same = refl };
             loads = loads_were;
             loading = loads_same s more loads_were (λ doc. refl) stands.between.loading;
             serves = serves_still;
             moved = moved_same;
             states = λ doc. refl;
+            homes = λ doc d found. (d, found, refl);
             strays = λ doc state stray. inl (strays_more doc state stray);
             were = were;
             theirs = theirs_more;
+            step = step;
+            unstood = unstood;
           }

@@ -1,7 +1,8 @@
 -- The coordinator of a tab that was just opened stands for its log.
 use Rattle.log_model.specs.declared.job.Job.{Job}
-use Rattle.order_facts.specs.Orders.{EachOrder}
-use Rattle.tab_settles.specs.Settling.{MakesServe, IsMake}
+use Rattle.place_facts.specs.Standing.{AreStanding}
+use Rattle.order_facts.specs.Orders.{AreOrders, EachOrder}
+use Rattle.tab_settles.specs.Settling.{IsMake, IsSoundTask}
 use Rattle.calm_facts.specs.Calm.{IsCalm}
 use Rattle.hang_facts.specs.Members.{Has}
 use Rattle.last_facts.proofs.Rows.{opened_lasting}
@@ -37,6 +38,10 @@ use Rattle.tab_ids.specs.declared.ProcId.{ProcId}
 use Rattle.tab_ids.specs.declared.ReqId.{ReqId}
 use Rattle.tab_ids.specs.declared.StateId.{StateId}
 use Rattle.tab_settles.specs.PassedOn.{AreLeftStrays, IsLeftStray, MayCause}
+use Rattle.tab_settles.proofs.Lates.{told_known}
+use Rattle.tab_settles.proofs.MovedRows.{shown_idle}
+use Rattle.tab_stands.proofs.LateEvents.{off_of}
+use Rattle.tab_stands.specs.Offs.{AreShownUnder, IsUnderEpoch, is_new_place}
 use Rattle.tab_stands.specs.Standing.{Lasts, StandsFor, opened_at}
 use Rattle.log_model.specs.declared.row_kind.Actor.TheVariants as actors
 
@@ -210,14 +215,26 @@ module _ (address : List ℕ) (proc : ProcId) where
 
   -- ---- no order is on its way
 
-  no_orders : MakesServe s
-  no_orders other = by_test (proc.0 == other.0)
+  no_orders : (F : Job → Type 0) → AreOrders F s
+  no_orders F other = by_test (proc.0 == other.0)
     where
-      by_test : (b : Bool) → EachOrder (λ (job : Job). IsMake job.task → MayCause s job.why) (cond b (empty_desk proc) (empty_desk other))
+      by_test : (b : Bool) → EachOrder F (cond b (empty_desk proc) (empty_desk other))
       by_test true = record { orders = tt; told = tt }
       by_test false = record { orders = tt; told = tt }
 
   -- ---- all of it
+
+  shows : AreShownUnder s
+  shows =
+      record {
+        orders = no_orders (λ (job : Job). IsUnderEpoch s.documents s.places job job.task);
+        unshown = λ nav p found new. absurd (let never : true ≡ false = sym new ∙ ap (λ (x : Place). is_new_place x) (sym (only_place nav p found)) in cc);
+        top_ = record { place = place; placed = refl; shown = refl };
+      }
+
+  standing : AreStanding s
+  standing =
+      (opened_between 0 0 actors.Start (record { maker = 0; nr = 1 }) (record { 0 = 1 }) (record { 0 = 1 }) proc address (record { maker = refl; entry_nr = refl; state_nr = refl; doc_nr = refl })).tab.standing
 
   lasts : Lasts None s
   lasts =
@@ -237,8 +254,12 @@ module _ (address : List ℕ) (proc : ProcId) where
         parents = λ nav above p up found has over. (let never : false ≡ true = ap (λ (x : Place). has_nav x.above above) (only_place nav p found) ∙ has in absurd cc);
         takers = λ nav p req found taken. (let never : None ≡ Some req = ap (λ (x : Place). x.taken_by) (only_place nav p found) ∙ taken in absurd cc);
         calm = calm;
+        moved = shown_idle s;
         made = λ req q made there load makes. absurd (none_asked req q there);
-        makes = no_orders;
+        makes = no_orders (λ (job : Job). IsMake job.task → MayCause s job.why);
+        sound = no_orders (λ (job : Job). IsSoundTask s job.doc job.task);
+        shows = shows;
+        off = off_of s shows standing None calm (told_known None s (λ nav p doc found wakes. ap (λ (x : Place). x.is_delivered) (sym (only_place nav p found))));
       }
 
   pub fresh_stands : (keep : ℕ) (t : Tables) (queue : Queue) → IsFresh address proc keep t → queue ≡ record { waiting = []; parked = [] } → StandsFor s t queue []

@@ -33,7 +33,7 @@ use Rattle.tab_ids.specs.declared.ReqId.{ReqId}
 use Rattle.tab_ids.specs.declared.StateId.{StateId}
 use Rattle.tab_settles.proofs.PassedOn.{running_is}
 use Rattle.tab_stands.proofs.Mades.{its_asked, its_nav}
-use Rattle.tab_stands.specs.Delivering.{IsDelivery, IsToldOf, MovedAreShown}
+use Rattle.tab_stands.specs.Delivering.{IsDelivery, IsToldOf}
 use Rattle.tab_stands.specs.Standing.{StandsFor}
 use Rattle.tab_settles.specs.PassedOn.{HasNode, IsByItsOwn, judged_in, nav_found}
 use Rattle.sync_core.specs.declared.judging.Judged.TheVariants as verdicts
@@ -155,9 +155,9 @@ module _ (e : InEvent) (proc : ProcId) (report : Report) (made : Made) (del : Is
   all_three true true false u ea ep never eu = absurd cc
   all_three true true true false ea ep er never = absurd cc
 
-  -- what is judged to wait is held back, where whoever is awake and was moved by the traversal was shown a document by it
-  pub parks_held : MovedAreShown t.running e.start → changes_history made.what ≡ true → judged_in t made ≡ Some verdicts.Park → is_held_back e.start made ≡ true
-  parks_held shown changes is =
+  -- what is judged to wait is held back, since who is awake and was moved by the traversal that runs was shown a document by it
+  pub parks_held : changes_history made.what ≡ true → judged_in t made ≡ Some verdicts.Park → is_held_back e.start made ≡ true
+  parks_held changes is =
       all_three (changes_history made.what) (is_present s made) (holds (λ (x : Document). has_row x.nav s.history.rows) (document_of s made.doc)) (is_held_up s made) changes (present_is ∙ waits.now_) (row_is ∙ has_entry (sym node_.tied.destroyed_by ∙ waits.none)) (by_run t.running refl)
     where
       waits : Waits
@@ -173,7 +173,7 @@ module _ (e : InEvent) (proc : ProcId) (report : Report) (made : Made) (del : Is
       by_run (Some run) at =
           let ran : IsThere s run = stands.between.tab.asked.runs run at in
           let moved : has_nav ran.q.moved d.nav ≡ true = sym (ap (λ (o : Option ReqId). has_nav (moved_by s.requests o) d.nav) at ∙ (rw (ran.found) refl)) ∙ sym moved_at ∙ waits.moves in
-          held_is (Some run) at ∙ ap (λ (o : Option Asked). holds (λ (q : Asked). has_nav q.activated d.nav) o) ran.found ∙ shown run ran.q d.nav place wakes.0 at ran.found has.found wakes.1 moved
+          held_is (Some run) at ∙ ap (λ (o : Option Asked). holds (λ (q : Asked). has_nav q.activated d.nav) o) ran.found ∙ stands.lasts.moved run ran.q d.nav place wakes.0 at ran.found has.found wakes.1 moved
 
   -- what is held back is judged to wait
   pub held_parks : is_held_back e.start made ≡ true → judged_in t made ≡ Some verdicts.Park

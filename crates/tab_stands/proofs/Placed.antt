@@ -28,6 +28,7 @@ use Rattle.tab_ids.specs.declared.NavId.{NavId}
 use Rattle.tab_ids.specs.declared.ProcId.{ProcId}
 use Rattle.tab_ids.specs.declared.ReqId.{ReqId}
 use Rattle.tab_ids.specs.declared.StateId.{StateId}
+use Rattle.tab_settles.proofs.Lates.{unstood_by}
 use Rattle.tab_settles.proofs.PassedOn.{serve_on}
 use Rattle.tab_settles.specs.PassedOn.{IsBlamed, IsLeftStray, IsStray, LoadsMadeOwn, MayServe}
 use Rattle.tab_stands.proofs.Coming.{IsComing}
@@ -250,14 +251,18 @@ module _ (e : InEvent) (proc : ProcId) (job : Job) (outcome : Outcome) (del : Is
           places = places_same ∙ sym (map-id s.places);
           history = refl;
           kept = told_kept e proc del.by_coord del.own t queue blame stands (reports.Done job outcome None) del.first;
+          asked = λ r q at. record { now = q; at = ap (λ (l : List Asked). request_in l r) same ∙ at; same = refl };
           loads = λ r l at on. ap (λ (asked : List Asked). option_map look (request_in asked r)) (sym same) ∙ at;
           loading = loading_then;
           serves = serves_still;
           moved = λ x. ap (λ (asked : List Asked). is_moved_in asked x) same;
           states = states_kept;
+          homes = λ doc x found. (made_if x, made_then doc ∙ ap (λ (o : Option Document). option_map made_if o) found, made_nav x);
           strays = strays_then;
           were = were_shown s e.event actors.Coord stands.lasts.were (rows.Delivered proc) tt;
           theirs = theirs_then;
+          step = refl;
+          unstood = λ off away. unstood_by s (record { event = e.event; actor = actors.Coord; row = rows.Delivered proc }) refl away off;
         }
 
     pub made_comes : IsComing noted e.start (now_of e [])

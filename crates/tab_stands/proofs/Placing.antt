@@ -60,7 +60,6 @@ use Rattle.tab_stands.specs.Standing.{HasBegun, HasRoomFor, StandsFor}
 use Rattle.load_table.specs.declared.phase.Phase.TheVariants as phases
 use Rattle.log_model.specs.declared.job.Task.TheVariants as tasks
 use Rattle.log_model.specs.declared.made.Report.TheVariants as reports
-use Rattle.log_model.specs.declared.outcome.Outcome.TheVariants as outcomes
 use Rattle.log_model.specs.declared.row_kind.Actor.TheVariants as actors
 
 -- among the first of two lists, and the second
@@ -73,7 +72,7 @@ behind : {A : Type 0} (xs ys : List A) (x : A) → Has ys x → Has (xs ++ ys) x
 behind [] ys x there = there
 behind (y ∷ xs) ys x there = inr (behind xs ys x there)
 
-either_of : {A : Type 0} (xs ys : List A) (x : A) → Has (xs ++ ys) x → Has xs x ⊎ Has ys x
+pub either_of : {A : Type 0} (xs ys : List A) (x : A) → Has (xs ++ ys) x → Has xs x ⊎ Has ys x
 either_of [] ys x there = inr there
 either_of (y ∷ xs) ys x (inl same) = inl (inl same)
 either_of (y ∷ xs) ys x (inr there) = by_rest (either_of xs ys x there)

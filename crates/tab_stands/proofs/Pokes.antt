@@ -1,7 +1,7 @@
 -- A poke is accepted by the document that it reaches: the event ends with that, and the coordinator stands for the log still.
 use Rattle.log_model.specs.declared.row_kind.RowKind.{RowKind}
 use Rattle.seen_laws.specs.Sending.{leads}
-use Rattle.tab_stands.proofs.Orders.{makes_first}
+use Rattle.tab_stands.proofs.Orders.{keeps_coming, makes_first, sound_first}
 use Rattle.frame_facts.specs.Lasting.{IsOfItsNav, wish}
 use Rattle.asked_facts.specs.Asking.{IsNoEditing}
 use Rattle.log_model.specs.After.{new_request}
@@ -23,8 +23,10 @@ use Rattle.tab_ids.specs.declared.ReqId.{ReqId}
 use Rattle.tab_ids.specs.declared.StateId.{StateId}
 use Rattle.tab_settles.specs.PassedOn.{AreLeftStrays, HasQueue}
 use Rattle.tab_stands.proofs.Accepting.{comes_now, goes_on, its_row, now, parked_now, strays_still, tied_now, went}
+use Rattle.tab_stands.proofs.EpochRows.{accepted_under}
 use Rattle.tab_stands.proofs.Stays.{stands_still}
 use Rattle.tab_stands.proofs.Waiting.{queued_still}
+use Rattle.tab_stands.specs.Offs.{AreShownUnder}
 use Rattle.tab_stands.specs.Poking.{ReachesOne}
 use Rattle.tab_stands.specs.Standing.{HasActed, HasRoomFor, StandsFor}
 use Rattle.log_model.specs.declared.request.Request.TheVariants as requests
@@ -62,6 +64,8 @@ module _ (e : InEvent) (t : Tables) (queue : Queue) (blame : List (StateId × Re
       (goes_on e req doc poke by_user own nr t queue blame stands room its_own [] between.tab)
       (tied_now e req doc poke by_user own nr t queue blame stands [] between.tab)
       (makes_first e (ap (λ (k : RowKind). leads k) own) (comes_now e req doc poke by_user own nr t queue blame stands).serves stands.lasts.makes)
+      (sound_first e (ap (λ (k : RowKind). leads k) own) (keeps_coming blame e.start (now_of e []) (comes_now e req doc poke by_user own nr t queue blame stands)) stands.lasts.sound)
+      (subst (λ (x : Seen). AreShownUnder x) (sym then_) (accepted_under e.start e.event actors.Ui req doc poke stands.lasts.shows))
       (subst (λ (x : Seen). AreLeftStrays x blame) (sym then_) (strays_still e req doc poke by_user own nr t queue blame stands))
       (subst (λ (x : Seen). HasQueue x t.running queue.waiting) (sym then_) (queued_still e req doc poke by_user own nr t queue blame stands unjoined))
       (parked_now e req doc poke by_user own nr t queue blame stands)

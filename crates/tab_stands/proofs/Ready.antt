@@ -14,9 +14,9 @@ pub use Rattle.tab_settles.specs.Settling.{IsCalmBefore}
 use Rattle.tab_stands.specs.Standing.{HasBegun}
 
 -- how calm the tab is before a pass
-pub calm_before : (run : Option ReqId) (s : Seen) → CalmUnless IsCalmYet run s → UnmovedAreHere s → AreRooted s → IsCalmBefore run s
-calm_before None s calm unmoved rooted = inl calm
-calm_before (Some req) s calm unmoved rooted = (unmoved, rooted)
+pub calm_before : (run : Option ReqId) (cause : Why) (s : Seen) → CalmUnless IsCalmYet run s → UnmovedAreHere s → AreRooted s → IsCalmBefore run cause s
+calm_before None cause s calm unmoved rooted = inl calm
+calm_before (Some req) cause s calm unmoved rooted = (unmoved, rooted)
 
 pub ready : (p : InPass) (t : Tables) (queue : Queue) (blame : List (StateId × ReqId)) → HasBegun p t queue blame → p.hand ≡ [] → (cause : Why) → MayCause (now_of p.event []) cause → IsReady p [] t queue blame cause
 ready p t queue blame begun empty cause may =
@@ -27,7 +27,9 @@ ready p t queue blame begun empty cause may =
       open_ = begun.taking.open_ cause may;
       loads = begun.taking.loads;
       blamed = begun.taking.blamed;
-      calm = calm_before t.running (now_of p.event []) begun.taking.calm begun.taking.unmoved begun.taking.rooted;
+      calm = calm_before t.running cause (now_of p.event []) begun.taking.calm begun.taking.unmoved begun.taking.rooted;
+      late = begun.late;
+      moved = begun.moved;
       live = begun.taking.live;
       theirs = begun.theirs;
       queueing = begun.queueing;

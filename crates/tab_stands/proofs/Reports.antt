@@ -45,6 +45,7 @@ use Rattle.tab_doors.specs.Ties.{AreInitial, Holds, IsRunning}
 use Rattle.tab_doors.specs.Working.{HasGoal, KeepsRun}
 use Rattle.tab_doors.specs.declared.tables.Tables.{Tables}
 use Rattle.tab_events.specs.Between.{IsBetween}
+use Rattle.tab_settles.proofs.Lates.{unstood_by}
 use Rattle.tab_settles.proofs.PassedOn.{AreUpTo, IsBegun, causes_on, fine, serve_on, steps_still, turning_first}
 use Rattle.tab_settles.specs.PassedOn.{AreHeldUp, AreLeftStrays, IsGoing, IsStray, IsTab, LoadsMadeOwn, MayCause, count_of, has_ended, has_spent}
 use Rattle.tab_ids.specs.declared.NavId.{NavId}
@@ -218,14 +219,18 @@ module _ (e : InEvent) (proc : ProcId) (by_coord : e.actor ≡ actors.Coord) (ow
             places = places;
             history = refl;
             kept = told_kept;
+            asked = λ req q at. record { now = q; at = ap (λ (l : List Asked). request_in l req) same ∙ at; same = refl };
             loads = loads_were;
             loading = loads_same s told loads_were (λ doc. ap (λ (l : List Document). document_in l doc) documents) stands.between.loading;
             serves = λ req may. serve_on s told req told_causes may;
             moved = moved_same;
             states = λ doc. ap (λ (l : List Document). option_map (λ (d : Document). d.state) (document_in l doc)) documents;
+            homes = λ doc d found. (d, ap (λ (l : List Document). document_in l doc) documents ∙ found, refl);
             strays = λ doc state stray. inl (strays_still doc state stray);
             were = were_shown s e.event actors.Coord stands.lasts.were (rows.Delivered proc) tt;
             theirs = theirs_still;
+            step = refl;
+            unstood = λ off away. unstood_by s (record { event = e.event; actor = actors.Coord; row = rows.Delivered proc }) refl away off;
           }
 
       pub told_comes : IsComing blame e.start (now_of e [])

@@ -61,6 +61,7 @@ arrives_at nav job =
       nav = λ p. elim (p.nav.0 == nav.0) as (λ b. (let x : Place = cond b (place_arrived job p) p in x).nav ≡ p.nav) [ true ↦ refl | false ↦ refl ];
       sight = λ p. elim (p.nav.0 == nav.0) as (λ b. sight_of (let x : Place = cond b (place_arrived job p) p in x) ≡ sight_of p) [ true ↦ refl | false ↦ refl ];
       last = λ p. elim (p.nav.0 == nav.0) as (λ b. (let x : Place = cond b (place_arrived job p) p in x).last ≡ p.last) [ true ↦ refl | false ↦ refl ];
+      why = λ p. elim (p.nav.0 == nav.0) as (λ b. (let x : Place = cond b (place_arrived job p) p in x).why ≡ p.why) [ true ↦ refl | false ↦ refl ];
       taken = λ p. elim (p.nav.0 == nav.0) as (λ b. (let x : Place = cond b (place_arrived job p) p in x).taken_by ≡ p.taken_by) [ true ↦ refl | false ↦ refl ];
       ever = λ p. elim (p.nav.0 == nav.0) as (λ b. (let x : Place = cond b (place_arrived job p) p in x).ever_given ≡ p.ever_given) [ true ↦ refl | false ↦ refl ];
       arrived = λ p is. by_test p (p.nav.0 == nav.0) is;

@@ -9,11 +9,18 @@ use Rattle.tab_doors.specs.declared.tables.Tables.{Tables}
 use Rattle.tab_events.specs.Between.{IsBetween}
 use Rattle.tab_ids.specs.declared.ReqId.{ReqId}
 use Rattle.tab_ids.specs.declared.StateId.{StateId}
-use Rattle.tab_settles.specs.Settling.{HoldsParked, MakesServe}
+use Rattle.tab_settles.specs.Settling.{HoldsParked, IsCalmAfter, MakesServe, OrdersAreSound}
 use Rattle.tab_stands.proofs.Coming.{IsComing, calm_then, parents_then, takers_then}
+use Rattle.tab_stands.proofs.MovedEvents.{moved_coming}
+use Rattle.tab_stands.proofs.LateEvents.{late_first, off_of}
+use Rattle.tab_stands.specs.Offs.{AreShownUnder}
 use Rattle.tab_stands.specs.Standing.{Lasts, StandsFor}
 
-module _ (e : InEvent) (t : Tables) (queue : Queue) (blame : List (StateId × ReqId)) (stands : StandsFor e.start t queue blame) (n : Seen) (comes : IsComing blame e.start n) (between : IsBetween t.kept.keep t.running n) (going : IsGoing t.running [] [] n) (tied : AreTied n t) (makes : MakesServe n) where
+module _ (e : InEvent) (t : Tables) (queue : Queue) (blame : List (StateId × ReqId)) (stands : StandsFor e.start t queue blame) (n : Seen) (comes : IsComing blame e.start n) (between : IsBetween t.kept.keep t.running n) (going : IsGoing t.running [] [] n) (tied : AreTied n t) (makes : MakesServe n) (sound : OrdersAreSound n) (shows : AreShownUnder n) where
+  calm : IsCalmAfter t.running n
+  calm =
+      calm_then e t.running t.kept.keep t.goal blame n stands.between stands.lasts stands.tied.goal [] [] between.tab tied.goal comes
+
   lasts : Lasts t.running n
   lasts =
       record {
@@ -24,9 +31,13 @@ module _ (e : InEvent) (t : Tables) (queue : Queue) (blame : List (StateId × Re
         were = comes.were;
         parents = parents_then e t.running t.kept.keep t.goal blame n stands.between stands.lasts stands.tied.goal [] [] between.tab tied.goal comes;
         takers = takers_then e t.running t.kept.keep t.goal blame n stands.between stands.lasts stands.tied.goal [] [] between.tab tied.goal comes;
-        calm = calm_then e t.running t.kept.keep t.goal blame n stands.between stands.lasts stands.tied.goal [] [] between.tab tied.goal comes;
+        calm = calm;
+        shows = shows;
+        off = off_of n shows between.tab.standing t.running calm (late_first blame e.start n comes t.running between.tab.standing stands.lasts.off);
+        moved = moved_coming blame e.start n comes t.running stands.between.tab.asked stands.lasts.moved;
         made = comes.theirs;
         makes = makes;
+        sound = sound;
       }
 
   pub stands_still : AreLeftStrays n blame → HasQueue n t.running queue.waiting → HoldsParked n queue.parked → StandsFor n t queue blame

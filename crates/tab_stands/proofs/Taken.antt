@@ -1,5 +1,8 @@
 -- What a document made was taken up, refused or dropped as its report was delivered: the tab may be brought to rest.
+use Rattle.asked_facts.specs.Asking.{IsTabRequest}
+use Rattle.calm_facts.specs.Calm.{IsCalm, IsHere}
 use Rattle.coord_facts.proofs.Held.{held_alike, without_same}
+use Rattle.coord_facts.proofs.Unread.{next}
 use Rattle.coord_facts.specs.Leading.{held_back}
 use Rattle.each_facts.proofs.Courses.{was_asked}
 use Rattle.entry_facts.proofs.Skips.{without_made}
@@ -7,38 +10,55 @@ use Rattle.frame_facts.specs.Lasting.{Wish, wish}
 use Rattle.frame_rows.specs.Lawful.{has_traversed}
 use Rattle.log_model.specs.AfterRequests.{changes_history, is_held_back}
 use Rattle.log_model.specs.Equal.{has_req, implies}
-use Rattle.log_model.specs.Places.{is_load}
+use Rattle.log_model.specs.History.{History}
+use Rattle.log_model.specs.Places.{all_stand, is_load, is_reload, is_shown}
 use Rattle.log_model.specs.Points.{is_taken_up_in, nav_of_request}
 use Rattle.log_model.specs.Queue.{is_delivered_duly, is_taken_up_at_once}
-use Rattle.log_model.specs.Seen.{Asked, Document, Place, Seen, document_of, request_in}
+use Rattle.log_model.specs.Seen.{Asked, Document, Place, Seen, awake, document_of, place_in, place_of, request_in}
 use Rattle.log_model.specs.declared.made.Made.{Made}
 use Rattle.log_model.specs.declared.made.Report.{Report}
+use Rattle.log_model.specs.declared.request.Request.{Request}
 use Rattle.log_model.specs.declared.row_kind.LogRow.{LogRow}
 use Rattle.log_model.specs.declared.row_kind.RowKind.{RowKind}
 use Rattle.move_queue.specs.Queue.{Queue}
+use Rattle.request_facts.proofs.Readers.{SameReads}
 use Rattle.request_facts.proofs.Times.{itself}
 use Rattle.seen_laws.proofs.InEvents.{now_more}
 use Rattle.seen_laws.specs.Blocks.{point_at}
 use Rattle.seen_laws.specs.InEvent.{InEvent, IsTakenIn, now_of, row_of, start_of}
-use Rattle.std.proofs.Common.{Bool, List, None, Option, Some, [], ap, false, inl, map, refl, subst, sym, true, ◌++◌, ◌||◌, ◌∙◌, ◌∷◌, ◌≡◌}
+use Rattle.std.proofs.Common.{Bool, List, None, Option, Some, [], ap, false, inl, inr, map, refl, subst, sym, true, ◌++◌, ◌||◌, ◌∙◌, ◌∷◌, ◌≡◌, ◌≤◌, ◌⊎◌}
 use Rattle.std.proofs.lemmas.Bool.{or_left}
 use Rattle.std.specs.List.{list_any}
 use Rattle.std.specs.Prelude.{option_map}
 use Rattle.tab_settles.proofs.PassedOn.{queue_over, turning_on}
 use Rattle.tab_settles.specs.PassedOn.{HasQueue, HasTaken, IsByItsOwn, IsPassing, LoadsMadeOwn, is_new_entry}
 use Rattle.tab_doors.specs.declared.tables.Tables.{Tables}
+use Rattle.tab_ids.specs.declared.DocId.{DocId}
+use Rattle.tab_ids.specs.declared.Epoch.{Epoch}
+use Rattle.tab_ids.specs.declared.NavId.{NavId}
 use Rattle.tab_ids.specs.declared.ProcId.{ProcId}
 use Rattle.tab_ids.specs.declared.ReqId.{ReqId}
 use Rattle.tab_ids.specs.declared.StateId.{StateId}
-use Rattle.tab_settles.proofs.Ended.{IsEnding, is_ending, mades_same}
-use Rattle.tab_settles.specs.Settling.{IsQueueing, IsReady, MayRelease}
+use Rattle.tab_settles.proofs.Awakes.{WasBefore, turn_before}
+use Rattle.tab_settles.proofs.Lates.{KeepsStep, late_epoch, off_still, step_then}
+use Rattle.tab_settles.proofs.Ended.{IsEnding, ends_turn, is_ending, mades_same}
+use Rattle.tab_settles.proofs.MovedTurns.{IsUnmoving, only_reach, reach, shown_over, turn_unmoving}
+use Rattle.tab_settles.specs.Offs.{IsLate, LateKnown}
+use Rattle.tab_settles.specs.Settling.{IsCalmAfter, IsQueueing, IsReady, MayRelease, MovedAreShown}
+use Rattle.tab_stands.proofs.Coming.{IsComing}
+use Rattle.tab_stands.proofs.Epochs.{old_by}
 use Rattle.tab_stands.proofs.Hands.{hand_release}
-use Rattle.tab_stands.proofs.Mades.{heard, heard_documents, heard_now, heard_places, heard_requests}
+use Rattle.tab_stands.proofs.LateEnds.{IsNoStep, step_ended}
+use Rattle.tab_stands.proofs.LateEvents.{late_not_all, late_off, step_coming}
+use Rattle.tab_stands.proofs.Mades.{IsMadeFor, heard, heard_comes, heard_documents, heard_now, heard_places, heard_requests, its_asked, its_plain}
 use Rattle.tab_stands.proofs.Ready.{calm_before}
 use Rattle.tab_stands.proofs.Reports.{told_row}
-use Rattle.tab_stands.proofs.Taking.{begun, unparked_now}
+use Rattle.tab_stands.proofs.Taking.{begun, there_now, unparked_now, unstarted}
 use Rattle.tab_stands.specs.Delivering.{IsDelivery, IsToldOf}
+use Rattle.tab_stands.specs.Offs.{AreOffKnown, IsOffSince}
 use Rattle.tab_stands.specs.Standing.{HasBegun, HasRoomFor, IsTakenUp, StandsFor}
+use Rattle.walk_facts.proofs.Placed.{found_nav}
+use Rattle.log_model.specs.declared.request.Request.TheVariants as requests
 use Rattle.log_model.specs.declared.job.Why.TheVariants as whys
 
 -- what was made of each load is by a document of its navigable still, once one request more has ended
@@ -116,6 +136,101 @@ module _ (e : InEvent) (proc : ProcId) (report : Report) (made : Made) (del : Is
       none_left : without_made made.req (made ∷ []) ≡ []
       none_left = rw (itself made.req) refl
 
+  -- ---- whom the traversal that runs has moved
+
+  reach_s : SameReads reach s.requests n.requests
+  reach_s =
+      subst (λ (l : List Asked). SameReads reach l n.requests) (ap (λ (x : Seen). x.requests) (heard_now e proc report made del tells t queue blame stands) ∙ heard_requests e proc report made del tells t queue blame stands)
+      (only_reach e [] out (record { more = taken.ended.kind ∷ []; is = taken.ended.out; each = each }))
+    where
+      each : (kind : RowKind) → (taken.ended.kind ≡ kind) ⊎ ⊥ → IsUnmoving kind
+      each kind (inl same) = subst IsUnmoving same (turn_unmoving taken.ended.kind (ends_turn e taken.ended.kind made.req taken.ended.ends))
+      each kind (inr never) = absurd never
+
+  moved : MovedAreShown u.running n
+  moved =
+      subst (λ (r : Option ReqId). MovedAreShown r n) (sym taken.kept.running)
+      (shown_over t.running s n reach_s (λ nav place doc placed wakes. (taken.open_.open_ (whys.Req made.req) taken.cause).unwoken nav place doc refl placed wakes) stands.lasts.moved)
+
+  -- ---- who is late
+
+  abbrev asked : IsMadeFor s made
+  asked = its_asked e proc report made del tells t queue blame stands
+
+  now_is : n ≡ next f e.event e.actor taken.ended.kind
+  now_is = ap (λ (l : List RowKind). now_of e l) taken.ended.out ∙ now_more e [] taken.ended.kind
+
+  places_f : f.places ≡ s.places
+  places_f =
+      ap (λ (x : Seen). x.places) (heard_now e proc report made del tells t queue blame stands) ∙ heard_places e proc report made del tells t queue blame stands
+
+  no_step : IsNoStep f made.req
+  no_step =
+      record {
+        q = asked.q;
+        there = there_now e proc report made del tells t queue blame stands changes free room header;
+        unstarted = unstarted e proc report made del tells t queue blame stands changes free room header;
+        no_reload = by_what asked.q.what (its_plain e proc report made del tells t queue blame stands).what;
+        unchanged = (stands.between.tab.movers.unasked made.req asked.q asked.there).unchanged asked.open_;
+      }
+    where
+      by_what : (what : Request) → IsTabRequest what → is_reload what ≡ false
+      by_what (requests.Go delta) is = refl
+      by_what (requests.Poke nav action) is = refl
+      by_what (requests.Load nav mode address) is = refl
+      by_what (requests.Reload nav) never = absurd never
+
+  late_one : IsCalm s → AreOffKnown None s → (nav : NavId) (place : Place) (doc : DocId) → IsLate n nav place doc → is_shown n.history.rows n.history.current nav ≡ true → IsOffSince n nav place
+  late_one calm off nav place doc now shown =
+      off_still s n nav w.old place (step_then s f n first_step (subst (λ (x : Seen). KeepsStep f x) (sym now_is) last_step)) at_s now.placed w.same.above w.same.why
+      (off.since refl nav w.old at_s shown_s (late_off s nav w.old doc late_s) late_s.old)
+    where
+      w : WasBefore f.places nav place
+      w =
+          turn_before f e.event e.actor taken.ended.kind (ends_turn e taken.ended.kind made.req taken.ended.ends) nav place doc now.wakes (ap (λ (x : Seen). place_of x nav) (sym now_is) ∙ now.placed)
+
+      at_s : place_of s nav ≡ Some w.old
+      at_s = ap (λ (l : List Place). place_in l nav) (sym places_f) ∙ w.at
+
+      wakes : w.old.status ≡ awake doc
+      wakes = sym w.same.status ∙ now.wakes
+
+      late_s : IsLate s nav w.old doc
+      late_s =
+          record {
+            placed = at_s;
+            wakes = wakes;
+            untold = sym w.same.told ∙ now.untold;
+            old = old_by w.old (subst (λ (x : Epoch). 2 ≤ x.0) w.same.epoch (late_epoch n nav place doc now));
+          }
+
+      shown_s : is_shown s.history.rows s.history.current nav ≡ true
+      shown_s = by_here (calm.here nav w.old doc at_s wakes)
+        where
+          by_here : ⊥ ⊎ IsHere s w.old → is_shown s.history.rows s.history.current nav ≡ true
+          by_here (inl never) = absurd never
+          by_here (inr here) =
+              ap (λ (x : NavId). is_shown s.history.rows s.history.current x) (sym (found_nav s.places nav w.old at_s)) ∙ here.shown
+
+      comes : IsComing blame s f
+      comes = heard_comes e proc report made del tells t queue blame stands
+
+      first_step : KeepsStep s f
+      first_step =
+          step_coming blame s f comes (late_not_all f first.passing.going.tab.standing nav w.old doc (record { placed = w.at; wakes = wakes; untold = late_s.untold; old = late_s.old }) (ap (λ (h : History). is_shown h.rows h.current nav) comes.history ∙ shown_s))
+
+      last_step : KeepsStep f (next f e.event e.actor taken.ended.kind)
+      last_step =
+          step_ended e f taken.ended.kind made.req taken.ended.ends no_step (subst (λ (x : Seen). all_stand x x.history.current ≡ false) now_is (late_not_all n passing.going.tab.standing nav place doc now shown))
+
+  late : LateKnown u.running n
+  late =
+      subst (λ (r : Option ReqId). LateKnown r n) (sym taken.kept.running) (by_run t.running stands.lasts.calm stands.lasts.off)
+    where
+      by_run : (r : Option ReqId) → IsCalmAfter r s → AreOffKnown r s → LateKnown r n
+      by_run (Some run) calm off = tt
+      by_run None calm off = late_one calm off
+
   pub taken_ready : IsReady (record { event = e; loads = []; hand = [] }) out u queue noted (whys.Req made.req)
   taken_ready =
       record {
@@ -125,7 +240,9 @@ module _ (e : InEvent) (proc : ProcId) (report : Report) (made : Made) (del : Is
         open_ = taken.open_.open_ (whys.Req made.req) taken.cause;
         loads = taken.open_.loads;
         blamed = taken.open_.blamed;
-        calm = calm_before u.running n taken.open_.calm taken.open_.unmoved taken.open_.rooted;
+        calm = calm_before u.running (whys.Req made.req) n taken.open_.calm taken.open_.unmoved taken.open_.rooted;
+        late = late;
+        moved = moved;
         live = taken.open_.live;
         theirs = theirs_ended f n made.req its first.theirs;
         queueing = queueing;

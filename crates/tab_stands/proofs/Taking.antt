@@ -133,7 +133,7 @@ module _ (e : InEvent) (proc : ProcId) (report : Report) (made : Made) (del : Is
       either true b h = absurd cc
       either false b h = refl
 
-  unstarted : asked.q.is_started ≡ false
+  pub unstarted : asked.q.is_started ≡ false
   unstarted = by_load (is_load asked.q.what) refl
     where
       by_started : is_load asked.q.what ≡ true → (b : Bool) → asked.q.is_started ≡ b → b ≡ false

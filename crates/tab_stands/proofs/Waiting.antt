@@ -4,7 +4,7 @@ use Rattle.frame_tab.specs.Asking.{NoneHeld}
 use Rattle.hang_facts.specs.Members.{Has}
 use Rattle.log_model.specs.ActsAtOnce.{ends_stepped, has_reason_to_run, is_ready_load}
 use Rattle.log_model.specs.Equal.{implies}
-use Rattle.log_model.specs.Once.{delta_of, loads}
+use Rattle.log_model.specs.Once.{delta_of}
 use Rattle.log_model.specs.Places.{aim_of, all_stand, all_stand_in, passed_traversal}
 use Rattle.log_model.specs.Seen.{Asked, Seen, request_in}
 use Rattle.log_model.specs.declared.request.Request.{Request}

@@ -3,8 +3,7 @@
 use Rattle.load_table.specs.Loads.{is_populating}
 use Rattle.load_table.specs.declared.load.Load.{Load}
 use Rattle.log_model.specs.AfterRequests.{made_of_report}
-use Rattle.log_model.specs.History.{has_nav}
-use Rattle.log_model.specs.Seen.{Asked, Place, Seen, awake, desk_of, place_of, request_of}
+use Rattle.log_model.specs.Seen.{Seen, desk_of}
 use Rattle.log_model.specs.declared.job.Task.{Task}
 use Rattle.log_model.specs.declared.made.Made.{Made}
 use Rattle.log_model.specs.declared.made.Report.{Report}
@@ -14,9 +13,8 @@ use Rattle.nav_tree.specs.Tree.{is_state}
 use Rattle.seen_laws.specs.InEvent.{InEvent}
 use Rattle.std.specs.Map.{lookup}
 use Rattle.std.specs.Option.{option_map_or}
-use Rattle.std.specs.Prelude.{List, Option, Some, [], false, find, slice_get, true, ◌==◌, ◌∷◌, ◌≡◌}
+use Rattle.std.specs.Prelude.{List, Some, [], false, find, slice_get, ◌==◌, ◌∷◌, ◌≡◌}
 use Rattle.tab_ids.specs.declared.DocId.{DocId}
-use Rattle.tab_ids.specs.declared.NavId.{NavId}
 use Rattle.tab_ids.specs.declared.ProcId.{ProcId}
 use Rattle.tab_ids.specs.declared.ReqId.{ReqId}
 use Rattle.tab_ids.specs.declared.StateId.{StateId}
@@ -68,8 +66,3 @@ pub record IsMadeNoted (s : Seen) (was noted : List (StateId × ReqId)) (doc : D
 -- the report tells of what a document made, of a poke or of a fragment order
 abbrev pub IsToldOf : Report → Made → Type 0
 IsToldOf report made = made_of_report report ≡ Some made
-
--- who is awake, and was moved by the traversal that runs, was shown a document by it
-abbrev pub MovedAreShown : Option ReqId → Seen → Type 0
-MovedAreShown run s =
-    (req : ReqId) (q : Asked) (nav : NavId) (place : Place) (doc : DocId) → run ≡ Some req → request_of s req ≡ Some q → place_of s nav ≡ Some place → place.status ≡ awake doc → has_nav q.moved nav ≡ true → has_nav q.activated nav ≡ true

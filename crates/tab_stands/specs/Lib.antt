@@ -1,3 +1,4 @@
+pub mod Offs
 pub mod Standing
 pub mod Delivering
 pub mod Poking

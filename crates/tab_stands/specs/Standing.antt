@@ -19,7 +19,9 @@ use Rattle.tab_events.specs.Between.{IsBetween}
 use Rattle.tab_ids.specs.declared.ProcId.{ProcId}
 use Rattle.tab_ids.specs.declared.ReqId.{ReqId}
 use Rattle.tab_ids.specs.declared.StateId.{StateId}
-use Rattle.tab_settles.specs.Settling.{HoldsParked, IsCalmAfter, MakesServe}
+use Rattle.tab_settles.specs.Settling.{HoldsParked, IsCalmAfter, MakesServe, MovedAreShown, OrdersAreSound}
+use Rattle.tab_settles.specs.Offs.{LateKnown}
+use Rattle.tab_stands.specs.Offs.{AreOffKnown, AreShownUnder}
 pub use Rattle.tab_settles.specs.Settling.{IsQueueing}
 use Rattle.log_model.specs.declared.row_kind.Actor.TheVariants as actors
 use Rattle.log_model.specs.declared.row_kind.RowKind.TheVariants as rows
@@ -39,10 +41,16 @@ pub record Lasts (run : Option ReqId) (s : Seen) : Type 0 where
   pub takers : TakersServe s
   -- where no traversal runs the tab is calm; where one does, whom it hasn't moved is where it is to be
   pub calm : IsCalmAfter run s
+  -- who is awake, and was moved by the traversal that runs, was shown a document by it
+  pub moved : MovedAreShown run s
   -- what was made of a load is a new entry, by a document of its navigable
   pub made : LoadsMadeOwn s
-  -- orders on their way that make documents are for what orders may be for
+  -- orders on their way that make documents are for what orders may be for; nobody is asked, and documents are sent to fragments for loads of their own navigables
   pub makes : MakesServe s
+  pub sound : OrdersAreSound s
+  -- which navigables were shown a document, as their epochs tell; and why one that is shown may not stand
+  pub shows : AreShownUnder s
+  pub off : AreOffKnown run s
 
 -- the coordinator's tables, its queue and the requests that are noted for stray documents stand for what the log has come to
 pub record StandsFor (s : Seen) (t : Tables) (moves : Queue) (blame : List (StateId × ReqId)) : Type 0 where
@@ -68,15 +76,19 @@ opened_at address proc =
 abbrev pub HasRoomFor : Seen → Type 0
 HasRoomFor s = length s.requests + 3 < 4294967296
 
--- the event's own row was logged, and nothing was put out yet: all goes on with what is at hand, what a document made may be taken or a load may begin, and ongoing loads stand
+-- the event's own row was logged, and nothing was put out yet: all goes on with what is at hand, what a document made may be taken or a load may begin, and ongoing loads stand; who is awake and was moved by the traversal that runs was shown a document by it, and who is shown and late is so for the load that was applied last
 pub record HasBegun (p : InPass) (t : Tables) (queue : Queue) (blame : List (StateId × ReqId)) : Type 0 where
   pub passing : IsPassing p [] t
   pub header : t.kept.keep ≡ p.event.header.keep
   pub taking : IsTaking p.event t.running blame (now_of p.event [])
   pub loose : IsLoose p.event []
   pub stand : LoadsStand (now_of p.event [])
+  pub moved : MovedAreShown t.running (now_of p.event [])
   pub theirs : LoadsMadeOwn (now_of p.event [])
   pub makes : MakesServe (now_of p.event [])
+  pub late : LateKnown t.running (now_of p.event [])
+  pub shows : AreShownUnder (now_of p.event [])
+  pub sound : OrdersAreSound (now_of p.event [])
   pub queueing : IsQueueing p [] t queue
 
 -- ---- an event ends

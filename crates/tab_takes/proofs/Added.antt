@@ -42,19 +42,13 @@ pub use Rattle.tab_doors.specs.Look.{moved_by}
 use Rattle.tab_doors.specs.Ties.{AreTied}
 use Rattle.tab_doors.specs.Working.{IsAtWork, KeepsRun}
 use Rattle.tab_doors.specs.declared.tables.Tables.{Tables}
-use Rattle.tab_begins.proofs.PassedOn.{tab_placed, added_going, added_tab, count_few, new_state, new_to}
-use Rattle.tab_begins.proofs.Begins.{IsBare, IsUnsettled, serve_on}
-use Rattle.tab_begins.proofs.Takes.{StandOrBare}
-use Rattle.tab_begins.specs.Taking.{IsLoadOf, StandOrMove}
-use Rattle.tab_begins.specs.PassedOn.{IsGoing, count_of, has_ended, has_spent, InPass, aim_in}
+use Rattle.tab_rests.proofs.PassedOn.{IsBare, IsBlamed, IsUnsettled, MayServe, ParentsShown, StandOrBare, TakersServe, added_going, added_tab, count_few, fresh, new_state, new_to, serve_on, tab_placed}
+use Rattle.tab_rests.specs.PassedOn.{AreBlamed, InPass, IsGoing, IsLoadOf, IsOpen, MayStand, StandOrMove, aim_in, count_of, has_ended, has_spent}
 use Rattle.tab_ids.specs.declared.DocId.{DocId}
 use Rattle.tab_ids.specs.declared.EntryId.{EntryId}
 use Rattle.tab_ids.specs.declared.NavId.{NavId}
 use Rattle.tab_ids.specs.declared.ReqId.{ReqId}
 use Rattle.tab_ids.specs.declared.StateId.{StateId}
-use Rattle.tab_begins.proofs.Afters.{MayServe, ParentsShown, TakersServe, fresh}
-use Rattle.tab_begins.specs.Queueing.{AreBlamed, IsOpen, MayStand}
-use Rattle.tab_begins.proofs.Strays.{IsBlamed}
 use Rattle.tab_takes.proofs.Adds.{apart, old_place, reached_on, shown_same, given_same, visited_on, was_or_new}
 use Rattle.tab_takes.proofs.Applied.{IsAfter, aim_then, aim_was, causes, has_applied, loads_back, moved_on, moved_same, n as after_change, stray_unloaded}
 use Rattle.tab_takes.proofs.Asks.{free_is, unlike, what_is}
@@ -64,7 +58,7 @@ use Rattle.tab_takes.proofs.Now.{due, e, has, may_change, now_, own, q, rest, ta
 use Rattle.tab_takes.proofs.Verdicts.{IsOfIt, Tells, apart as apart_run}
 use Rattle.tab_takes.proofs.Where.{carried, its_hand, loads_same}
 use Rattle.tab_takes.specs.Taking.{HasTaken, IsToTake, asked_in, nav_found}
-pub use Rattle.tab_begins.specs.PassedOn.{IsTab}
+pub use Rattle.tab_rests.specs.PassedOn.{IsTab}
 use Rattle.walk_facts.proofs.Placed.{found_nav}
 use Rattle.log_model.specs.declared.change.Change.TheVariants as changes
 use Rattle.log_model.specs.declared.job.Why.TheVariants as whys

@@ -15,8 +15,8 @@ use Rattle.left_facts.proofs.Rows.{were_shown}
 use Rattle.log_model.specs.Places.{aim_of, is_moved}
 use Rattle.mover_facts.specs.Movers.{IsMovedBy}
 use Rattle.tab_doors.specs.Working.{HasGoal}
-use Rattle.tab_begins.proofs.Afters.{KeepsAwake, MayServe, ParentsShown, TakersServe, aim_is}
-use Rattle.tab_begins.specs.PassedOn.{InPass, IsPassing, aim_in, IsGoing, IsTab}
+use Rattle.tab_rests.proofs.PassedOn.{KeepsAwake, MayServe, ParentsShown, TakersServe, aim_is, live_then}
+use Rattle.tab_rests.specs.PassedOn.{AreBlamed, InPass, IsGoing, IsLoadOf, IsOpen, IsPassing, IsTab, LeavesQueue, LoadsLive, MayCause, MayStand, aim_in}
 use Rattle.walk_rows.proofs.Moved.{applied_moved, open_none}
 use Rattle.log_model.proofs.Refl.{nat_eq_refl}
 use Rattle.log_model.specs.After.{ended}
@@ -43,11 +43,8 @@ use Rattle.seen_laws.specs.InEvent.{InEvent, now_of, row_of}
 use Rattle.std.proofs.Common.{Bool, List, None, Option, Some, [], ap, false, inl, inr, length, not, refl, subst, sym, true, ℕ, ◌&&◌, ◌++◌, ◌==◌, ◌∙◌, ◌∷◌, ◌≡◌, ◌≤◌, ◌⊎◌}
 use Rattle.std.specs.List.{list_any}
 use Rattle.std.specs.Prelude.{option_map}
-use Rattle.tab_begins.proofs.Turns.{live_then}
-use Rattle.tab_begins.specs.Queueing.{AreBlamed, IsOpen, LeavesQueue, LoadsLive, MayCause, MayStand}
 use Rattle.tab_doors.specs.Working.{IsAtWork, KeepsRun}
 use Rattle.tab_doors.specs.declared.tables.Tables.{Tables}
-use Rattle.tab_begins.specs.Taking.{IsLoadOf}
 use Rattle.tab_ids.specs.declared.DocId.{DocId}
 use Rattle.tab_ids.specs.declared.NavId.{NavId}
 use Rattle.tab_ids.specs.declared.ReqId.{ReqId}

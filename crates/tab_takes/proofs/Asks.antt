@@ -16,7 +16,7 @@ use Rattle.nav_tree.specs.Tree.{state_of}
 use Rattle.sync_core.specs.declared.judging.Judged.TheVariants as verdicts
 use Rattle.tab_doors.specs.declared.tables.Tables.{Tables}
 use Rattle.tab_ids.specs.declared.ReqId.{ReqId}
-use Rattle.tab_begins.specs.PassedOn.{InPass}
+use Rattle.tab_rests.specs.PassedOn.{InPass}
 use Rattle.tab_takes.proofs.Now.{now_, own, state_listed}
 use Rattle.tab_takes.proofs.Verdicts.{IsOfIt, Tells}
 use Rattle.tab_takes.specs.Taking.{IsToTake, asked_in, nav_found}

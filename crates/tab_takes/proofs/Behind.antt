@@ -19,11 +19,11 @@ use Rattle.std.proofs.lemmas.Bool.{or_right}
 use Rattle.std.specs.Prelude.{filter, option_and_then}
 use Rattle.sync_core.specs.declared.judging.Judged.TheVariants as verdicts
 use Rattle.tab_doors.specs.declared.tables.Tables.{Tables}
-use Rattle.tab_begins.specs.PassedOn.{AreHeldUp, IsTab, InPass}
+use Rattle.tab_rests.specs.PassedOn.{AreHeldUp, IsTab, InPass}
 use Rattle.tab_ids.specs.declared.DocId.{DocId}
 use Rattle.tab_ids.specs.declared.ReqId.{ReqId}
 use Rattle.tab_ids.specs.declared.StateId.{StateId}
-use Rattle.tab_begins.proofs.PassedOn.{running_is}
+use Rattle.tab_rests.proofs.PassedOn.{running_is}
 use Rattle.tab_takes.proofs.Verdicts.{IsOfIt, Tells, its, s, tab, unmoved}
 use Rattle.tab_takes.specs.Taking.{IsByItsOwn, IsToTake}
 use Rattle.log_model.specs.declared.request.Request.TheVariants as requests

@@ -20,12 +20,11 @@ use Rattle.rest_rows.specs.Moving.{AllRest}
 use Rattle.seen_laws.proofs.InEvents.{now_more}
 use Rattle.seen_laws.specs.InEvent.{InEvent, now_of}
 use Rattle.std.proofs.Common.{List, Some, [], ap, length, refl, subst, sym, ◌++◌, ◌∙◌, ◌∷◌, ◌≡◌, ◌≤◌}
-use Rattle.tab_begins.specs.Queueing.{LeavesQueue, MayCause}
+use Rattle.tab_rests.specs.PassedOn.{InPass, IsGoing, IsPassing, IsTab, LeavesQueue, MayCause}
 use Rattle.tab_doors.specs.Dues.{IsDenyDue}
 use Rattle.tab_doors.specs.Working.{IsAtWork, KeepsRun}
 use Rattle.tab_doors.specs.declared.tables.Tables.{Tables}
-pub use Rattle.tab_begins.proofs.PassedOn.{refused_going}
-use Rattle.tab_begins.specs.PassedOn.{IsGoing, IsTab, InPass, IsPassing}
+pub use Rattle.tab_rests.proofs.PassedOn.{refused_going}
 use Rattle.tab_ids.specs.declared.DocId.{DocId}
 use Rattle.tab_ids.specs.declared.ReqId.{ReqId}
 use Rattle.tab_ids.specs.declared.StateId.{StateId}
@@ -34,7 +33,7 @@ use Rattle.tab_takes.proofs.Leaving.{cause_then, queue_then, taking_then}
 use Rattle.tab_takes.proofs.Verdicts.{s, tab}
 use Rattle.tab_takes.proofs.Where.{loads_same, made_at_hand}
 use Rattle.tab_takes.specs.Taking.{HasTaken, IsTaking, IsToTake}
-use Rattle.tab_begins.proofs.PassedOn.{IsNoProcess, denied_tab}
+use Rattle.tab_rests.proofs.PassedOn.{IsNoProcess, denied_tab}
 use Rattle.walk_rows.proofs.Moved.{refused_moved}
 use Rattle.log_model.specs.declared.job.Why.TheVariants as whys
 use Rattle.log_model.specs.declared.outcome.Ending.TheVariants as endings

@@ -24,7 +24,7 @@ use Rattle.log_model.specs.declared.row_kind.RowKind.{RowKind}
 use Rattle.frame_tab.proofs.Goings.{begun_of}
 use Rattle.mover_facts.specs.Movers.{IsMovedBy, moves_away, was_moved}
 use Rattle.request_facts.proofs.Readers.{on_read}
-use Rattle.tab_begins.specs.Queueing.{LeavesQueue, MayCause}
+use Rattle.tab_rests.specs.PassedOn.{InPass, IsGoing, IsPassing, IsTab, LeavesQueue, MayCause}
 use Rattle.owed_facts.proofs.Ends.{loose_more, loose_owed}
 use Rattle.owed_facts.proofs.Rows.{dropped_lasts}
 use Rattle.owed_facts.specs.Owed.{IsLoose}
@@ -43,8 +43,7 @@ use Rattle.tab_doors.specs.Dues.{IsDestroyDue, IsDropDue}
 use Rattle.tab_doors.specs.Keeping.{IsNoLoad}
 use Rattle.tab_doors.specs.Working.{IsAtWork, KeepsRun}
 use Rattle.tab_doors.specs.declared.tables.Tables.{Tables}
-use Rattle.tab_begins.proofs.PassedOn.{absent_tab, bare_tab, dropped_going}
-use Rattle.tab_begins.specs.PassedOn.{IsGoing, IsTab, InPass, IsPassing}
+use Rattle.tab_rests.proofs.PassedOn.{absent_tab, bare_tab, dropped_going}
 use Rattle.tab_ids.specs.declared.Death.{Death}
 use Rattle.tab_ids.specs.declared.DocId.{DocId}
 use Rattle.tab_ids.specs.declared.ReqId.{ReqId}

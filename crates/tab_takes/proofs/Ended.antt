@@ -12,12 +12,11 @@ use Rattle.std.proofs.Common.{Bool, None, Option, Some, ap, false, refl, sym, tr
 use Rattle.std.proofs.lemmas.Bool.{and_parts}
 use Rattle.std.specs.List.{list_any}
 use Rattle.std.specs.Prelude.{is_none, option_map}
-use Rattle.tab_begins.specs.Queueing.{IsReadyLoadOf}
-use Rattle.tab_begins.specs.Taking.{IsLoadOf}
+use Rattle.tab_rests.specs.PassedOn.{IsLoadOf, IsReadyLoadOf}
 use Rattle.tab_ids.specs.declared.NavId.{NavId}
 use Rattle.tab_ids.specs.declared.ReqId.{ReqId}
 use Rattle.tab_ids.specs.declared.StateId.{StateId}
-use Rattle.tab_begins.proofs.Begins.{loaded_never, of_load}
+use Rattle.tab_rests.proofs.PassedOn.{loaded_never, of_load}
 
 module _ (s n : Seen) (req : ReqId) (q : Asked) (at : request_of s req ≡ Some q) (unstarted : q.is_started ≡ false) (other : (r : ReqId) → (r.0 == req.0) ≡ false → request_of n r ≡ request_of s r) (starts : SameReads (λ (x : Asked). x.is_started) s.requests n.requests) where
   -- it is no ongoing load, before and then

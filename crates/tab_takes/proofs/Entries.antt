@@ -40,7 +40,7 @@ use Rattle.tab_ids.specs.declared.EntryId.{EntryId}
 use Rattle.tab_ids.specs.declared.NavId.{NavId}
 use Rattle.tab_ids.specs.declared.ReqId.{ReqId}
 use Rattle.tab_ids.specs.declared.StateId.{StateId}
-use Rattle.tab_begins.specs.PassedOn.{InPass}
+use Rattle.tab_rests.specs.PassedOn.{InPass}
 use Rattle.tab_takes.proofs.Now.{e, given, has, list, now_, own, ready, rest, target, then_, wakes, whole}
 use Rattle.tab_takes.proofs.Verdicts.{Tells}
 use Rattle.tab_takes.specs.Taking.{IsToTake}

@@ -11,13 +11,12 @@ use Rattle.std.proofs.Common.{Bool, List, None, Option, Some, [], ap, false, inl
 use Rattle.std.proofs.lemmas.Bool.{and_parts}
 use Rattle.std.specs.List.{list_all, list_any}
 use Rattle.std.specs.Option.{option_map_or}
-use Rattle.tab_begins.proofs.Begins.{IsBare}
-use Rattle.tab_begins.proofs.Takes.{StandOrBare}
+use Rattle.tab_rests.proofs.PassedOn.{IsBare, StandOrBare}
 use Rattle.tab_ids.specs.declared.DocId.{DocId}
 use Rattle.tab_ids.specs.declared.NavId.{NavId}
 use Rattle.tab_ids.specs.declared.ReqId.{ReqId}
 use Rattle.tab_takes.specs.Taking.{ArrivedWhere, IsArrived, LoadsArrived}
-use Rattle.tab_begins.specs.PassedOn.{IsTab}
+use Rattle.tab_rests.specs.PassedOn.{IsTab}
 use Rattle.walk_facts.proofs.Placed.{found_nav}
 
 -- each of these passes

@@ -14,7 +14,7 @@ use Rattle.tab_ids.specs.declared.EntryId.{EntryId}
 use Rattle.tab_ids.specs.declared.NavId.{NavId}
 use Rattle.tab_ids.specs.declared.ReqId.{ReqId}
 use Rattle.tab_ids.specs.declared.StateId.{StateId}
-use Rattle.tab_begins.proofs.Afters.{ParentsShown}
+use Rattle.tab_rests.proofs.PassedOn.{ParentsShown}
 
 -- ---- places
 

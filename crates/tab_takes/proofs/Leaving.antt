@@ -30,20 +30,13 @@ use Rattle.request_facts.proofs.Readers.{SameReads, on_read}
 use Rattle.std.proofs.Common.{Bool, List, None, Option, Some, [], ap, false, inl, inr, refl, subst, sym, true, ◌&&◌, ◌==◌, ◌∙◌, ◌≡◌, ◌≤◌, ◌⊎◌}
 use Rattle.std.specs.List.{list_any}
 use Rattle.std.specs.Prelude.{option_map}
-use Rattle.tab_begins.proofs.Turns.{live_then}
-use Rattle.tab_begins.specs.Queueing.{AreBlamed, IsOpen, LeavesQueue, LoadsLive, MayCause, MayStand}
+use Rattle.tab_rests.proofs.PassedOn.{IsBare, IsBlamed, IsUnsettled, MayServe, ParentsShown, StandOrBare, TakersServe, begun_as_it_was, causes_on, goes_on, live_then, reached_same, serve_on, takers_on, visited_same}
+use Rattle.tab_rests.specs.PassedOn.{AreBlamed, InPass, IsLoadOf, IsOpen, IsTab, LeavesQueue, LoadsLive, MayCause, MayStand, StandOrMove}
 use Rattle.tab_doors.specs.declared.tables.Tables.{Tables}
-use Rattle.tab_begins.proofs.PassedOn.{begun_as_it_was, causes_on, visited_same}
-use Rattle.tab_begins.proofs.Takes.{StandOrBare, reached_same}
-use Rattle.tab_begins.proofs.Begins.{IsBare, IsUnsettled, serve_on, takers_on}
-use Rattle.tab_begins.specs.Taking.{IsLoadOf, StandOrMove}
 use Rattle.tab_ids.specs.declared.DocId.{DocId}
 use Rattle.tab_ids.specs.declared.NavId.{NavId}
 use Rattle.tab_ids.specs.declared.ReqId.{ReqId}
 use Rattle.tab_ids.specs.declared.StateId.{StateId}
-use Rattle.tab_begins.proofs.Afters.{MayServe, ParentsShown, TakersServe, goes_on}
-use Rattle.tab_begins.specs.PassedOn.{InPass, IsTab}
-use Rattle.tab_begins.proofs.Strays.{IsBlamed}
 use Rattle.tab_takes.proofs.Ended.{load_back, look_back, ready_back, unloaded_back}
 use Rattle.tab_takes.proofs.Opens.{new_of, open_then}
 use Rattle.tab_takes.proofs.Verdicts.{s, tab}

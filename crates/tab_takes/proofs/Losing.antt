@@ -15,18 +15,12 @@ use Rattle.std.proofs.Common.{Bool, List, None, Option, Some, ap, false, inl, in
 use Rattle.std.specs.Prelude.{is_some, option_map}
 use Rattle.step_index.specs.Held.{history_held}
 use Rattle.tab_doors.specs.declared.tables.Tables.{Tables}
-use Rattle.tab_begins.proofs.PassedOn.{tab_placed}
-use Rattle.tab_begins.proofs.Begins.{IsBare, IsUnsettled, serve_on}
-use Rattle.tab_begins.proofs.Takes.{StandOrBare}
-use Rattle.tab_begins.specs.Taking.{IsLoadOf, StandOrMove}
+use Rattle.tab_rests.proofs.PassedOn.{EntriesAreNoted, IsBare, IsBlamed, IsStray, IsUnsettled, MayServe, ParentsShown, StandOrBare, TakersServe, entered_in, held, in_table, leaving_none, listed_here, serve_on, tab_placed}
+use Rattle.tab_rests.specs.PassedOn.{AreBlamed, InPass, IsLoadOf, IsOpen, IsTab, MayStand, StandOrMove}
 use Rattle.tab_ids.specs.declared.DocId.{DocId}
 use Rattle.tab_ids.specs.declared.NavId.{NavId}
 use Rattle.tab_ids.specs.declared.ReqId.{ReqId}
 use Rattle.tab_ids.specs.declared.StateId.{StateId}
-use Rattle.tab_begins.proofs.Strays.{EntriesAreNoted, IsBlamed, IsStray, entered_in, held, in_table, leaving_none, listed_here}
-use Rattle.tab_begins.proofs.Afters.{MayServe, ParentsShown, TakersServe}
-use Rattle.tab_begins.specs.Queueing.{AreBlamed, IsOpen, MayStand}
-use Rattle.tab_begins.specs.PassedOn.{InPass, IsTab}
 use Rattle.tab_takes.proofs.Applied.{causes, loads_back, moved_on, moved_same, n as after_change, serves, stray_unloaded}
 use Rattle.tab_takes.proofs.Stays.{but_given, reached_same, shown_same, visited_on, way_rows}
 use Rattle.tab_takes.proofs.Verdicts.{s as before_change, tab}

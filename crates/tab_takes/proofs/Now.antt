@@ -39,21 +39,19 @@ use Rattle.nav_tree.specs.declared.status.NavStatus.{NavStatus}
 use Rattle.nav_tree.specs.declared.status.NavStatus.TheVariants as kept
 use Rattle.tab_doors.specs.Dues.{IsTakeDue, MayChange}
 use Rattle.tab_doors.specs.Ties.{IsAwakeIn, status_of}
-use Rattle.tab_begins.proofs.PassedOn.{IsToTakeUp, count_few, none_at, running_is}
-use Rattle.tab_begins.specs.PassedOn.{IsTab, has_ended, InPass}
+use Rattle.tab_rests.proofs.PassedOn.{IsToTakeUp, at_most_once, count_few, leaving_none, listed_here, none_at, running_is}
+use Rattle.tab_rests.specs.PassedOn.{IsTab, has_ended, InPass}
 use Rattle.tab_doors.specs.declared.tables.Tables.{Tables}
 use Rattle.tab_ids.specs.declared.DocId.{DocId}
 use Rattle.tab_ids.specs.declared.EntryId.{EntryId}
 use Rattle.tab_ids.specs.declared.NavId.{NavId}
 use Rattle.tab_ids.specs.declared.ReqId.{ReqId}
 use Rattle.tab_ids.specs.declared.StateId.{StateId}
-use Rattle.tab_begins.proofs.Strays.{leaving_none, listed_here}
 use Rattle.tab_takes.proofs.Behind.{none_behind}
 use Rattle.tab_takes.proofs.Sorts.{made_for, unbegun}
 use Rattle.tab_takes.proofs.Verdicts.{IsOfIt, Tells, apart, has_entry, its, s, tab, unmoved}
 use Rattle.tab_takes.proofs.Where.{carried}
 use Rattle.tab_takes.specs.Taking.{IsToTake}
-use Rattle.tab_begins.proofs.Afters.{at_most_once}
 use Rattle.log_model.specs.declared.row_kind.RowKind.TheVariants as rows
 
 some_same : {A : Type 0} {a b : A} → (let o : Option A = Some a in o) ≡ Some b → a ≡ b

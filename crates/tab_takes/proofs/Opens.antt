@@ -9,13 +9,11 @@ use Rattle.mover_facts.proofs.Stays.{KeepWays}
 use Rattle.mover_facts.specs.Movers.{IsMovedBy}
 use Rattle.seen_laws.specs.InEvent.{InEvent}
 use Rattle.std.proofs.Common.{None, Option, Some, [], arith, refl, subst, zero, suc, ℕ, ◌≡◌}
-use Rattle.tab_begins.specs.Taking.{IsLoadOf}
+use Rattle.tab_rests.specs.PassedOn.{IsLoadOf, IsOpen, MayCause, show_why}
 use Rattle.tab_ids.specs.declared.NavId.{NavId}
 use Rattle.tab_ids.specs.declared.ReqId.{ReqId}
-use Rattle.tab_begins.proofs.Afters.{MayServe, ParentsShown, TakersServe}
-use Rattle.tab_begins.specs.Queueing.{IsOpen, MayCause}
-pub use Rattle.tab_begins.proofs.Begins.{show_causes}
-use Rattle.tab_begins.specs.PassedOn.{show_why}
+use Rattle.tab_rests.proofs.PassedOn.{MayServe, ParentsShown, TakersServe}
+pub use Rattle.tab_rests.proofs.PassedOn.{show_causes}
 use Rattle.walk_rows.proofs.Moved.{run_moves}
 use Rattle.walk_rows.specs.Since.{AwakeSince, MovesVisited}
 use Rattle.log_model.specs.declared.job.Why.TheVariants as whys

@@ -41,21 +41,17 @@ use Rattle.std.specs.Option.{option_map_or}
 use Rattle.std.specs.Prelude.{filter, nat_le, option_map}
 use Rattle.sync_core.specs.declared.judging.Judged.TheVariants as verdicts
 use Rattle.frame_tab.proofs.Aims.{others_pushed, own_pushed}
-use Rattle.tab_begins.proofs.PassedOn.{sees, tab_placed, pushed_going, pushed_tab}
+use Rattle.tab_rests.proofs.PassedOn.{EntriesAreNoted, IsBare, IsUnsettled, pushed_going, pushed_tab, sees, tab_placed}
 use Rattle.tab_doors.specs.Dues.{IsTakeDue, MayChange, SeesRows}
 use Rattle.tab_doors.specs.Ties.{IsAwakeIn}
 use Rattle.tab_doors.specs.Working.{IsAtWork, KeepsRun}
 use Rattle.tab_doors.specs.declared.tables.Tables.{Tables}
-use Rattle.tab_begins.proofs.Begins.{IsBare, IsUnsettled}
-use Rattle.tab_begins.specs.Taking.{IsLoadOf}
-use Rattle.tab_begins.specs.PassedOn.{IsGoing, IsTab, InPass, aim_in}
+use Rattle.tab_rests.specs.PassedOn.{InPass, IsGoing, IsLoadOf, IsTab, MayStand, aim_in}
 use Rattle.tab_ids.specs.declared.DocId.{DocId}
 use Rattle.tab_ids.specs.declared.EntryId.{EntryId}
 use Rattle.tab_ids.specs.declared.NavId.{NavId}
 use Rattle.tab_ids.specs.declared.ReqId.{ReqId}
 use Rattle.tab_ids.specs.declared.StateId.{StateId}
-use Rattle.tab_begins.proofs.Strays.{EntriesAreNoted}
-use Rattle.tab_begins.specs.Queueing.{MayStand}
 use Rattle.tab_takes.proofs.Applied.{IsAfter, aim_then, aim_was, has_applied, loads_back, n as after_change, own_then, then_q}
 use Rattle.tab_takes.proofs.Asks.{unlike, what_is}
 use Rattle.tab_takes.proofs.Entries.{entry_fresh, entry_later, entry_maker, entry_new, its_next, its_own, state_of_it}

@@ -34,17 +34,15 @@ use Rattle.std.specs.List.{list_any}
 use Rattle.std.specs.Option.{option_map_or}
 use Rattle.std.specs.Prelude.{option_and_then, option_map}
 use Rattle.sync_core.specs.declared.judging.Judged.TheVariants as verdicts
-use Rattle.tab_begins.proofs.PassedOn.{sees, removed_going, removed_tab}
+use Rattle.tab_rests.proofs.PassedOn.{EntriesAreNoted, removed_going, removed_tab, sees}
 use Rattle.tab_doors.specs.Dues.{IsTakeDue, MayChange, SeesRows}
 use Rattle.tab_doors.specs.Working.{IsAtWork, KeepsRun}
 use Rattle.tab_doors.specs.declared.tables.Tables.{Tables}
-use Rattle.tab_begins.specs.PassedOn.{IsGoing, IsTab, InPass, aim_in}
+use Rattle.tab_rests.specs.PassedOn.{InPass, IsGoing, IsTab, MayStand, aim_in}
 use Rattle.tab_ids.specs.declared.DocId.{DocId}
 use Rattle.tab_ids.specs.declared.NavId.{NavId}
 use Rattle.tab_ids.specs.declared.ReqId.{ReqId}
 use Rattle.tab_ids.specs.declared.StateId.{StateId}
-use Rattle.tab_begins.proofs.Strays.{EntriesAreNoted}
-use Rattle.tab_begins.specs.Queueing.{MayStand}
 use Rattle.tab_takes.proofs.Applied.{IsAfter, aim_then, aim_was, has_applied, n as after_change, own_then, then_q}
 use Rattle.tab_takes.proofs.Asks.{hangs_is, what_is}
 use Rattle.tab_takes.proofs.Lefts.{loses_below, row_stays, target_goal, target_now, used_by, was_row}

@@ -34,11 +34,8 @@ use Rattle.tab_doors.specs.Dues.{IsTakeDue, KeepsRows, MayChange}
 use Rattle.tab_doors.specs.Ties.{IsAwakeIn}
 use Rattle.tab_doors.specs.Working.{IsAtWork, KeepsRun}
 use Rattle.tab_doors.specs.declared.tables.Tables.{Tables}
-use Rattle.tab_begins.proofs.Begins.{IsBare, IsUnsettled, serve_on}
-use Rattle.tab_begins.proofs.Takes.{StandOrBare}
-use Rattle.tab_begins.specs.Taking.{IsLoadOf, StandOrMove}
-use Rattle.tab_begins.proofs.PassedOn.{replaced_going, replaced_tab}
-use Rattle.tab_begins.specs.PassedOn.{IsGoing, IsTab, InPass, aim_in}
+use Rattle.tab_rests.proofs.PassedOn.{IsBare, IsBlamed, IsUnsettled, MayServe, StandOrBare, TakersServe, replaced_going, replaced_tab, serve_on}
+use Rattle.tab_rests.specs.PassedOn.{AreBlamed, InPass, IsGoing, IsLoadOf, IsTab, MayStand, StandOrMove, aim_in}
 use Rattle.tab_ids.specs.declared.DocId.{DocId}
 use Rattle.tab_ids.specs.declared.EntryId.{EntryId}
 use Rattle.tab_ids.specs.declared.Epoch.{Epoch}
@@ -46,9 +43,6 @@ use Rattle.tab_ids.specs.declared.NavId.{NavId}
 use Rattle.tab_ids.specs.declared.ReqId.{ReqId}
 use Rattle.tab_ids.specs.declared.StateId.{StateId}
 use Rattle.tab_ids.specs.declared.Step.{Step}
-use Rattle.tab_begins.proofs.Afters.{MayServe, TakersServe}
-use Rattle.tab_begins.specs.Queueing.{AreBlamed, MayStand}
-use Rattle.tab_begins.proofs.Strays.{IsBlamed}
 use Rattle.tab_takes.proofs.Applied.{IsAfter, aim_then, aim_was, causes, has_applied, loads_back, moved_on, moved_same, n as after_change, stray_unloaded}
 use Rattle.tab_takes.proofs.Asks.{unlike, what_is}
 use Rattle.tab_takes.proofs.Entries.{entry_fresh, entry_later, entry_maker, entry_new, its_next, its_own, state_of_it}

@@ -14,7 +14,7 @@ use Rattle.tab_doors.specs.Dues.{IsMadeFor}
 use Rattle.tab_doors.specs.declared.tables.Tables.{Tables}
 use Rattle.tab_ids.specs.declared.ReqId.{ReqId}
 use Rattle.tab_ids.specs.declared.StateId.{StateId}
-use Rattle.tab_begins.specs.PassedOn.{InPass}
+use Rattle.tab_rests.specs.PassedOn.{InPass}
 use Rattle.tab_takes.proofs.Verdicts.{s}
 use Rattle.tab_takes.specs.Taking.{IsOfFragment, IsOfPoke, IsToTake, is_new_entry}
 

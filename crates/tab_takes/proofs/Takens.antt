@@ -23,7 +23,7 @@ use Rattle.tab_ids.specs.declared.NavId.{NavId}
 use Rattle.tab_ids.specs.declared.ReqId.{ReqId}
 use Rattle.tab_ids.specs.declared.StateId.{StateId}
 use Rattle.tab_takes.proofs.Entered.{above_entered}
-use Rattle.tab_begins.specs.PassedOn.{IsTab}
+use Rattle.tab_rests.specs.PassedOn.{IsTab}
 use Rattle.walk_facts.proofs.Placed.{found_nav}
 
 some_same : {A : Type 0} {a b : A} → (let o : Option A = Some a in o) ≡ Some b → a ≡ b

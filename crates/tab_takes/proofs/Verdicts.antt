@@ -26,8 +26,8 @@ use Rattle.tab_doors.specs.declared.tables.Tables.{Tables}
 use Rattle.tab_ids.specs.declared.Epoch.{Epoch}
 use Rattle.tab_ids.specs.declared.ReqId.{ReqId}
 use Rattle.tab_ids.specs.declared.StateId.{StateId}
-use Rattle.tab_begins.proofs.PassedOn.{moved_is}
-use Rattle.tab_begins.specs.PassedOn.{InPass, IsTab}
+use Rattle.tab_rests.proofs.PassedOn.{moved_is}
+use Rattle.tab_rests.specs.PassedOn.{InPass, IsTab}
 use Rattle.tab_takes.specs.Taking.{HasNode, IsByItsOwn, IsToTake, judged_in, nav_found}
 use Rattle.walk_facts.proofs.Placed.{found_nav}
 

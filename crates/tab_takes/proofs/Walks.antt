@@ -25,14 +25,13 @@ use Rattle.std.proofs.lemmas.Bool.{and_parts, eqb-true}
 use Rattle.std.specs.List.{list_all, list_any}
 use Rattle.std.specs.Option.{option_map_or}
 use Rattle.std.specs.Prelude.{is_some, slice_get}
-use Rattle.tab_begins.proofs.Standings.{in_place, none_of}
-use Rattle.tab_begins.proofs.Begins.{IsUnsettled}
+use Rattle.tab_rests.proofs.PassedOn.{IsUnsettled, in_place, none_of}
 use Rattle.tab_ids.specs.declared.NavId.{NavId}
 use Rattle.tab_ids.specs.declared.ReqId.{ReqId}
 use Rattle.tab_ids.specs.declared.StateId.{StateId}
 use Rattle.tab_takes.proofs.Stays.{up_rows}
 use Rattle.tab_takes.specs.Taking.{IsArrived}
-use Rattle.tab_begins.specs.PassedOn.{IsTab}
+use Rattle.tab_rests.specs.PassedOn.{IsTab}
 use Rattle.walk_facts.proofs.Placed.{found_nav}
 use Rattle.walk_facts.specs.Serving.{is_in_place, is_needing, is_stopping}
 use Rattle.walk_rows.specs.Since.{IsVisitedInNeed}

@@ -17,11 +17,10 @@ use Rattle.std.proofs.Common.{Bool, List, [], ap, arith, false, inl, inr, refl, 
 use Rattle.tab_doors.specs.declared.tables.Tables.{Tables}
 use Rattle.tab_ids.specs.declared.ReqId.{ReqId}
 use Rattle.tab_ids.specs.declared.StateId.{StateId}
-use Rattle.tab_begins.specs.PassedOn.{InPass, IsTab}
+use Rattle.tab_rests.specs.PassedOn.{InPass, IsTab}
 use Rattle.tab_takes.proofs.Verdicts.{apart, s, tab}
 use Rattle.tab_takes.specs.Taking.{IsToTake}
-use Rattle.tab_begins.proofs.PassedOn.{IsCarried, IsMadeAtHand, none_at}
-use Rattle.tab_begins.proofs.Afters.{at_most_once}
+use Rattle.tab_rests.proofs.PassedOn.{IsCarried, IsMadeAtHand, at_most_once, none_at}
 
 module _ (p : InPass) (out : List RowKind) (t : Tables) (blame : List (StateId × ReqId)) (made : Made) (at : IsToTake p out t blame made) where
   abbrev now_ : Seen

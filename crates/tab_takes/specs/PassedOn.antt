@@ -1,7 +1,4 @@
 -- What is passed on of the crates below, for those above.
-pub use Rattle.tab_begins.specs.PassedOn.{AreBlamed, AreCounted, AreHeldUp, AreSteps, AreUnheld, Drop, HasEnded, HasGivenWay, HasOnly, HasOnlyDestroyed, HasOnlyDropped, HasOnlyDroppedBy, HasOnlySwept, HasPutOut, HasSent, InPass, IsBlamed, IsGoing, IsLeftStray, IsPassing, IsServeFor, IsStray, IsSweepOf, IsTab, IsTurning, IsUpdateFor, LeavesCalm, LeavesPass, MayHaveEnded, MayPass, MayServe, ParentsShown, SendsForStrays, TakersServe, aim_in, at_hand, count_of, has_ended, has_spent, is_through, length_index, row_of_drop, show_why}
-pub use Rattle.tab_begins.specs.Queueing.{AreLeftStrays, AreStepsOf, AwaitTurns, CameTo, HasGrown, HasPassed, HasQueue, HasRested, HaveJoined, IsAtRest, IsCalmFor, IsOfTab, IsOfTurn, IsOpen, IsPassedOver, IsReadyLoadOf, LoadsLive, MayCause, MayFollow, MayStand, delta_in, is_traverse}
-pub use Rattle.tab_begins.specs.Taking.{IsLoadOf, KeepsMade}
-pub use Rattle.tab_begins.specs.declared.turn.Turn.{Turn}
-pub use Rattle.tab_begins.specs.declared.turn.Turn.TheVariants.{Refused, Rests, Went}
+pub use Rattle.tab_rests.specs.PassedOn.{AreBlamed, AreCounted, AreHeldUp, AreLeftStrays, AreSteps, AreStepsOf, AreUnheld, AwaitTurns, CameTo, Drop, HasEnded, HasGivenWay, HasGrown, HasOnly, HasOnlyDestroyed, HasOnlyDropped, HasOnlyDroppedBy, HasOnlySwept, HasPassed, HasPutOut, HasQueue, HasRested, HasSent, HasStood, HaveJoined, InPass, IsAtRest, IsBlamed, IsByLoad, IsCalmFor, IsGoing, IsLeftStray, IsLoadApplied, IsLoadOf, IsOfTab, IsOfTurn, IsOpen, IsPassedOver, IsPassing, IsReadyLoadOf, IsServeFor, IsStray, IsSweepOf, IsTab, IsTurning, IsUp, IsUpdateFor, KeepsMade, KeepsUp, LeavesCalm, LeavesPass, LeavesQueue, LoadsLive, MayCause, MayFollow, MayHaveEnded, MayPass, MayServe, MayStand, ParentsShown, Refused, Rests, SendsForStrays, StandOrMove, TakersServe, Turn, Went, aim_in, at_hand, count_of, delta_in, has_ended, has_spent, is_through, is_traverse, length_index, row_of_drop, show_why}
 pub use Rattle.tab_doors.specs.Working.{KeepsStore}
+pub use Rattle.tab_rests.specs.Resting.{IsNoneDue}

@@ -29,16 +29,14 @@ use Rattle.sync_core.specs.Changes.{asked_change}
 use Rattle.sync_core.specs.Judging.{judged}
 use Rattle.sync_core.specs.declared.judging.Judged.{Judged}
 use Rattle.tab_doors.specs.Ties.{nav_in}
-pub use Rattle.tab_begins.specs.Queueing.{LeavesQueue, LoadsLive, MayCause}
+pub use Rattle.tab_rests.specs.PassedOn.{InPass, IsPassing, LeavesQueue, LoadsLive, MayCause}
 pub use Rattle.tab_doors.specs.Working.{KeepsRun}
 pub use Rattle.tab_doors.specs.declared.tables.Tables.{Tables}
-use Rattle.tab_begins.specs.Taking.{IsLoadOf}
+use Rattle.tab_rests.specs.PassedOn.{AreBlamed, IsLoadOf, IsOpen, MayStand}
 use Rattle.tab_ids.specs.declared.DocId.{DocId}
 use Rattle.tab_ids.specs.declared.NavId.{NavId}
 use Rattle.tab_ids.specs.declared.ReqId.{ReqId}
 use Rattle.tab_ids.specs.declared.StateId.{StateId}
-use Rattle.tab_begins.specs.Queueing.{AreBlamed, IsOpen, MayStand}
-pub use Rattle.tab_begins.specs.PassedOn.{InPass, IsPassing}
 use Rattle.log_model.specs.declared.job.Why.TheVariants as whys
 use Rattle.log_model.specs.declared.made.What.TheVariants as whats
 use Rattle.log_model.specs.declared.request.Request.TheVariants as requests

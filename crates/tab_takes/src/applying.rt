@@ -11,7 +11,7 @@ use log_model::{Change, Made, Out};
 use std::alloc::Global;
 use tab_doors::Tables;
 use tab_ids::{EntryId, NavId, ReqId, StateId};
-use tab_one_pass::note_entries;
+use tab_rests::note_entries;
 
 /// What a document made that is taken up now is applied, by the change that it asks.
 pub(crate) fn apply(

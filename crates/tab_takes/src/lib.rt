@@ -7,3 +7,6 @@ mod taking;
 
 pub use judging::judged;
 pub use taking::take;
+
+// What is passed on of the crates below, for those above.
+pub use tab_rests::{Turn, begin_next, end_running, note_loads, pass};

@@ -8,9 +8,8 @@ ghost use Rattle.nav_tree.specs.Tree.{state_of};
 ghost use Rattle.owed_facts.specs.Owed.{IsLoose};
 ghost use Rattle.seen_laws.specs.InEvent.{now_of};
 ghost use Rattle.sync_core.specs.declared.judging.Judged.TheVariants as verdicts;
-ghost use Rattle.tab_begins.specs.Queueing.{LeavesQueue, MayCause};
+ghost use Rattle.tab_rests.specs.PassedOn.{InPass, IsPassing, LeavesQueue, MayCause};
 ghost use Rattle.tab_doors.specs.Working.{KeepsRun};
-ghost use Rattle.tab_begins.specs.PassedOn.{InPass, IsPassing};
 ghost use Rattle.tab_takes.specs.Taking.{ArrivedWhere, EndsAlone, HasTaken, InTake, IsForTaking, IsTaking, IsToTake, judged_in};
 
 use crate::applying::apply;

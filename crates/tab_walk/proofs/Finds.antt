@@ -9,18 +9,22 @@ use Rattle.log_model.specs.Seen.{Document, Place, Seen, document_of, place_of}
 use Rattle.log_model.specs.declared.job.Why.{Why}
 use Rattle.log_model.specs.declared.row.Row.{Row}
 use Rattle.log_model.specs.declared.row_kind.RowKind.{RowKind}
-use Rattle.nav_tree.specs.Tree.{document_of as document_at}
+use Rattle.nav_tree.specs.Tree.{document_of as document_at, nav_of}
+use Rattle.nav_tree.specs.declared.nav.Nav.{Nav}
+use Rattle.nav_tree.specs.declared.node.Node.{Node}
 use Rattle.nav_tree.specs.declared.place.Place as live_place
 use Rattle.seen_laws.specs.InEvent.{now_of}
-use Rattle.std.proofs.Common.{subst, List, None, Option, Some, ap, map, refl, sym, true, ℕ, ◌∙◌, ◌≡◌, ◌≤◌}
+use Rattle.std.proofs.Common.{subst, List, None, Option, Some, ap, arith, map, refl, suc, sym, true, zero, ℕ, ◌+◌, ◌∙◌, ◌≡◌, ◌≤◌}
 use Rattle.std.specs.Prelude.{IsSome, if◌then◌else◌, is_some, option_and_then, option_map}
 use Rattle.step_index.specs.Held.{history_held}
 use Rattle.tab_doors.proofs.Sights.{IsSeen, seen_of}
-use Rattle.tab_doors.specs.Look.{Sight, is_live_for, sight}
+use Rattle.tab_doors.proofs.Holding.{HasNode, its_node}
+use Rattle.tab_doors.specs.Look.{Sight, is_live_for, look_of, sight}
 use Rattle.tab_doors.specs.Ties.{IsListed}
 use Rattle.tab_doors.specs.declared.tables.Tables.{Tables}
 use Rattle.tab_ids.specs.declared.DocId.{DocId}
 use Rattle.tab_ids.specs.declared.EntryId.{EntryId}
+use Rattle.tab_ids.specs.declared.Epoch.{Epoch}
 use Rattle.tab_ids.specs.declared.NavId.{NavId}
 use Rattle.tab_ids.specs.declared.StateId.{StateId}
 use Rattle.tab_moves.proofs.Lasts.{LeavesNothing, left_none, left_some, live_parts}
@@ -35,6 +39,25 @@ use Rattle.tab_walk.specs.Cutting.{MayCutFrom}
 use Rattle.tab_walk.specs.Moving.{IsBound, MayMoveFrom, MayMoveTo, in_move}
 use Rattle.walk_rows.specs.Since.{IsVisitedInNeed}
 use Rattle.apply_plan.specs.declared.need.Need.TheVariants as needs
+
+-- the epoch after that of a navigable that was never shown a document is the first
+pub first_epoch : (p : InPass) (out : List RowKind) (t : Tables) → IsPassing p out t → (nav : NavId) (epoch : ℕ) → option_map (λ (n : Nav). n.epoch.0 + 1) (nav_of nav t.tree) ≡ Some epoch → (place : Place) → place_of (now_of p.event out) nav ≡ Some place → place.last ≡ None → epoch ≡ 1
+first_epoch p out t pass nav epoch raised place placed none =
+    let told : place.epoch.0 ≡ 0 = none_yet place.epoch.0 refl in
+    let same : its.node.nav.epoch.0 ≡ place.epoch.0 = ap (λ (x : Epoch). x.0) its.tied.epoch in
+    let both : Some (its.node.nav.epoch.0 + 1) ≡ Some epoch = sym (ap (λ (o : Option Node). option_map (λ (n : Nav). n.epoch.0 + 1) (option_map (λ (x : Node). x.nav) o)) its.there) ∙ raised in
+    let one : its.node.nav.epoch.0 + 1 ≡ epoch = cc in
+    omega (arith, one, same, told)
+  where
+    its : HasNode (look_of (now_of p.event out) t.running) t.tree nav place
+    its = its_node (look_of (now_of p.event out) t.running) t.tree nav place pass.work.holds.navs placed
+
+    none_yet : (k : ℕ) → place.epoch.0 ≡ k → place.epoch.0 ≡ 0
+    none_yet zero is = is
+    none_yet (suc k) is =
+        let shown = (pass.going.tab.standing nav place placed).told.1 (omega (arith, is)) in
+        let never : None ≡ Some shown.doc = sym none ∙ shown.last in
+        absurd cc
 
 module _ (p : InPass) (out : List RowKind) (t : Tables) (pass : IsPassing p out t) (nav : NavId) (entry : EntryId) (is : need_in t nav ≡ Some (needs.Move nav entry)) where
   abbrev s : Seen

@@ -101,17 +101,18 @@ woken_as m nav doc entry navs docs entries e why for_ was mid out move run keep 
 -- ---- all of it
 
 -- what was left, and what is shown
-pub moved_by : (e : InEvent) (why for_ : Why) (was mid out : List RowKind) (move : Option Move) (run : Option ReqId) (keep : ℕ) (t : Tables) (nav : NavId) (doc : DocId) (entry : EntryId) (cause : Why) → HasOnlyLeft why was mid → IsToShow move run keep (now_of e mid) nav doc entry cause → IsShownBy (now_of e mid) t nav doc entry for_ mid out → ((place : Place) → place_of (now_of e was) nav ≡ Some place → place.last ≡ None → mid ≡ was) → (LoadsHaveDocuments (now_of e was) → LoadsHaveDocuments (now_of e mid)) → HasBeenMoved e nav was out
+pub moved_by : (e : InEvent) (why for_ : Why) (was mid out : List RowKind) (move : Option Move) (run : Option ReqId) (keep : ℕ) (t : Tables) (nav : NavId) (doc : DocId) (entry : EntryId) (cause : Why) → HasOnlyLeft why was mid → IsToShow move run keep (now_of e mid) nav doc entry cause → (shown : IsShownBy (now_of e mid) t nav doc entry for_ mid out) → ((place : Place) → place_of (now_of e was) nav ≡ Some place → place.last ≡ None → (mid ≡ was) × (shown.epoch.0 ≡ 1)) → (LoadsHaveDocuments (now_of e was) → LoadsHaveDocuments (now_of e mid)) → HasBeenMoved e nav was out
 moved_by e why for_ was mid out move run keep t nav doc entry cause left shows shown first loading =
     record {
       mid = mid;
       for_ = why;
       left = left;
-      first = first;
+      first = λ place placed none. (first place placed none).0;
       loading = loading;
       job = order_to (now_of e mid) doc for_ (tasks.Activate entry shown.epoch shown.long shown.at shown.target.memo shown.target.address);
       entry = entry;
       epoch = shown.epoch;
+      one = λ place placed none. (first place placed none).1;
       long = shown.long;
       at = shown.at;
       memo = shown.target.memo;
@@ -122,9 +123,12 @@ moved_by e why for_ was mid out move run keep t nav doc entry cause left shows s
     }
 
 -- where it leaves a document, it was shown one
-pub left_first_not : (m : InMove) (run : Option ReqId) (s : Seen) (nav : NavId) → nav ≡ m.nav → IsBound m run s → (was mid : List RowKind) (place : Place) → place_of s nav ≡ Some place → place.last ≡ None → mid ≡ was
-left_first_not m run s nav navs bound was mid place placed none =
-    absurd (let both : Some bound.place ≡ Some place = sym bound.placed ∙ ap (λ (n : NavId). place_of s n) (sym navs) ∙ placed in let same : bound.place ≡ place = cc in let never : Some m.left ≡ None = sym bound.last ∙ ap (λ (p : Place). p.last) same ∙ none in cc)
+pub left_first_not : (m : InMove) (run : Option ReqId) (s : Seen) (nav : NavId) → nav ≡ m.nav → IsBound m run s → (place : Place) → place_of s nav ≡ Some place → place.last ≡ None → ⊥
+left_first_not m run s nav navs bound place placed none =
+    let both : Some bound.place ≡ Some place = sym bound.placed ∙ ap (λ (n : NavId). place_of s n) (sym navs) ∙ placed in
+    let same : bound.place ≡ place = cc in
+    let never : Some m.left ≡ None = sym bound.last ∙ ap (λ (p : Place). p.last) same ∙ none in
+    cc
 
 -- the same of a move, by the names of a call
 pub moved_as : (m : InMove) (nav : NavId) (doc : DocId) (entry : EntryId) → nav ≡ m.nav → doc ≡ m.doc → entry ≡ m.entry → (e : InEvent) (why for_ : Why) (was mid out : List RowKind) (move : Option Move) (run first_run : Option ReqId) (keep : ℕ) (t : Tables) → IsBound m first_run (now_of e was) → HasOnlyLeft why was mid → IsToShow move run keep (now_of e mid) m.nav m.doc m.entry m.cause → IsShownBy (now_of e mid) t nav doc entry for_ mid out → (LoadsHaveDocuments (now_of e was) → LoadsHaveDocuments (now_of e mid)) → HasBeenMoved e nav was out
@@ -134,5 +138,5 @@ moved_as m nav doc entry navs docs entries e why for_ was mid out move run first
     (subst (λ (d : DocId). IsToShow move run keep (now_of e mid) m.nav d entry m.cause) (sym docs)
     (subst (λ (x : EntryId). IsToShow move run keep (now_of e mid) m.nav m.doc x m.cause) (sym entries) shows)))
     shown
-    (left_first_not m first_run (now_of e was) nav navs bound was mid)
+    (λ place placed none. absurd (left_first_not m first_run (now_of e was) nav navs bound place placed none))
     loading

@@ -147,7 +147,7 @@ pub record IsMoveFor (why : Why) (row : RowKind) : Type 0 where
 abbrev pub HasOnlyMoved : Why → List RowKind → List RowKind → Type 0
 HasOnlyMoved why was out = HasOnly (IsMoveFor why) was out
 
--- the navigable left what it was shown last, which it hadn't if it was never shown a document, and by which each ongoing load kept its document; and last an order was put out that shows it its target's entry, by the document that is there for it
+-- the navigable left what it was shown last, which it hadn't if it was never shown a document, and by which each ongoing load kept its document; and last an order was put out that shows it its target's entry, by the document that is there for it, under the first epoch if it was never shown one
 pub record HasBeenMoved (e : InEvent) (nav : NavId) (was out : List RowKind) : Type 0 where
   pub mid : List RowKind
   pub for_ : Why
@@ -157,6 +157,7 @@ pub record HasBeenMoved (e : InEvent) (nav : NavId) (was out : List RowKind) : T
   pub job : Job
   pub entry : EntryId
   pub epoch : Epoch
+  pub one : (place : Place) → place_of (now_of e was) nav ≡ Some place → place.last ≡ None → epoch.0 ≡ 1
   pub long : ℕ
   pub at : ℕ
   pub memo : Option (List ℕ)

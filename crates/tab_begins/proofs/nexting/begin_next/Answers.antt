@@ -60,7 +60,7 @@ returns-in_ok-take_load-in-Ready-clause-queued g c =
 
 pub returns-in_ok-take_load-in-Ready-clause-came : goal.returns-in_ok-take_load-in-Ready-clause-came
 returns-in_ok-take_load-in-Ready-clause-came g c =
-    after_applied g.p _ _ c.requires.1.1.1.0.idle _ _ _ c.in_ok-take_load-in-Ready.ensures.taken _ ((load_asks g.p _ _ c.requires.0 c.requires.1.0 (sym (stand_here g.p _ _ c.requires.0 _ c.current-current.ensures _ c.stand_at.ensures) ∙ c.if-not-stand_at.false) c.requires.1.1.0 _ c.requires.1.1.1.0 _ _ (first_queue g.p _ _ c.requires.0 c.requires.1.0 (sym (stand_here g.p _ _ c.requires.0 _ c.current-current.ensures _ c.stand_at.ensures) ∙ c.if-not-stand_at.false) c.requires.1.1.0 _ c.requires.1.1.1.0 _ c.requires.1.1.1.1 _ _ (first_from _ _ _ _ c.in-Some.ensures.next)) _ _ c.in-Ready.is (sym (ap (is_due_in c.args.tables.now.loads) c.in-Ready.is) ∙ due_first _ _ _ _ (first_from _ _ _ _ c.in-Some.ensures.next))).1.1.1.0) _ c.in_ok-take_load-in-Ready.ensures.kept _ c.in_ok-take_load-in-Ready.ensures.open_ c.in_ok-take_load-in-Ready.ensures.loads c.in_ok-take_load-in-Ready.ensures.blamed c.in_ok-take_load-in-Ready.ensures.around (load_live g.p _ _ c.requires.0 c.requires.1.0 (sym (stand_here g.p _ _ c.requires.0 _ c.current-current.ensures _ c.stand_at.ensures) ∙ c.if-not-stand_at.false) c.requires.1.1.0 _ c.requires.1.1.1.0 _ _ (first_queue g.p _ _ c.requires.0 c.requires.1.0 (sym (stand_here g.p _ _ c.requires.0 _ c.current-current.ensures _ c.stand_at.ensures) ∙ c.if-not-stand_at.false) c.requires.1.1.0 _ c.requires.1.1.1.0 _ c.requires.1.1.1.1 _ _ (first_from _ _ _ _ c.in-Some.ensures.next)) _ c.in_ok-take_load-in-Ready.ensures.queue c.in_ok-take_load-in-Ready.ensures.wakes)
+    after_applied g.p _ _ c.requires.1.1.1.0.idle _ _ _ c.in_ok-take_load-in-Ready.ensures.taken _ ((load_asks g.p _ _ c.requires.0 c.requires.1.0 (sym (stand_here g.p _ _ c.requires.0 _ c.current-current.ensures _ c.stand_at.ensures) ∙ c.if-not-stand_at.false) c.requires.1.1.0 _ c.requires.1.1.1.0 _ _ (first_queue g.p _ _ c.requires.0 c.requires.1.0 (sym (stand_here g.p _ _ c.requires.0 _ c.current-current.ensures _ c.stand_at.ensures) ∙ c.if-not-stand_at.false) c.requires.1.1.0 _ c.requires.1.1.1.0 _ c.requires.1.1.1.1 _ _ (first_from _ _ _ _ c.in-Some.ensures.next)) _ _ c.in-Ready.is (sym (ap (is_due_in c.args.tables.now.loads) c.in-Ready.is) ∙ due_first _ _ _ _ (first_from _ _ _ _ c.in-Some.ensures.next))).1.1.1.0) _ c.in_ok-take_load-in-Ready.ensures.kept _ c.in_ok-take_load-in-Ready.ensures.open_ c.in_ok-take_load-in-Ready.ensures.loads c.in_ok-take_load-in-Ready.ensures.blamed c.in_ok-take_load-in-Ready.ensures.around c.in_ok-take_load-in-Ready.ensures.last (load_live g.p _ _ c.requires.0 c.requires.1.0 (sym (stand_here g.p _ _ c.requires.0 _ c.current-current.ensures _ c.stand_at.ensures) ∙ c.if-not-stand_at.false) c.requires.1.1.0 _ c.requires.1.1.1.0 _ _ (first_queue g.p _ _ c.requires.0 c.requires.1.0 (sym (stand_here g.p _ _ c.requires.0 _ c.current-current.ensures _ c.stand_at.ensures) ∙ c.if-not-stand_at.false) c.requires.1.1.0 _ c.requires.1.1.1.0 _ c.requires.1.1.1.1 _ _ (first_from _ _ _ _ c.in-Some.ensures.next)) _ c.in_ok-take_load-in-Ready.ensures.queue c.in_ok-take_load-in-Ready.ensures.wakes)
 
 pub returns-in_ok-take_load-in-Ready-clause-fewer : goal.returns-in_ok-take_load-in-Ready-clause-fewer
 returns-in_ok-take_load-in-Ready-clause-fewer g c =
@@ -96,3 +96,12 @@ returns-in-None-clause-grown g c =
 
 pub returns-in_ok-take_load-in-Ready-clause-grown : goal.returns-in_ok-take_load-in-Ready-clause-grown
 returns-in_ok-take_load-in-Ready-clause-grown g c = load_grown g.p _ _ _ _ _ c.in_ok-take_load-in-Ready.ensures.taken
+
+pub returns-in-Some-running-clause-stood : goal.returns-in-Some-running-clause-stood
+returns-in-Some-running-clause-stood g c = sym (stand_here g.p _ _ c.requires.0 _ c.current-current.ensures _ c.stand_at.ensures) ∙ c.if-not-stand_at.false
+
+pub returns-in-None-clause-stood : goal.returns-in-None-clause-stood
+returns-in-None-clause-stood g c = sym (stand_here g.p _ _ c.requires.0 _ c.current-current.ensures _ c.stand_at.ensures) ∙ c.if-not-stand_at.false
+
+pub returns-in_ok-take_load-in-Ready-clause-stood : goal.returns-in_ok-take_load-in-Ready-clause-stood
+returns-in_ok-take_load-in-Ready-clause-stood g c = sym (stand_here g.p _ _ c.requires.0 _ c.current-current.ensures _ c.stand_at.ensures) ∙ c.if-not-stand_at.false

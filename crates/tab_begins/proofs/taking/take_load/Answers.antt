@@ -1,4 +1,4 @@
-use Rattle.tab_begins.proofs.Takes.{apply_asks, drop_asks, has_taken, taken_around, taken_awake, taken_blamed, taken_gone, taken_kept, taken_loads, taken_made, taken_open, taken_over, taken_queue, taken_turning}
+use Rattle.tab_begins.proofs.Takes.{apply_asks, drop_asks, has_taken, taken_around, taken_awake, taken_blamed, taken_gone, taken_kept, taken_last, taken_loads, taken_made, taken_open, taken_over, taken_queue, taken_turning}
 use Rattle.tab_begins.proofs.taking.take_load.Goals as goal
 
 pub apply_ready-requires : goal.apply_ready-requires
@@ -47,6 +47,10 @@ returns-clause-kept g c =
 pub returns-clause-around : goal.returns-clause-around
 returns-clause-around g c =
     taken_around g.r.pass _ _ c.requires.0 _ g.r.load c.requires.1.1.0 c.requires.1.1.1.1.0 _ c.requires.1.1.1.1.1 _ c.requires.1.1.1.0 _ c.in_ok-note_entries.ensures _ _ c.in_ok-apply_ready.ensures.passing c.in_ok-apply_ready.ensures.applied _ _ c.in_ok-drop_below.ensures.gone c.in_ok-drop_below.ensures.left c.in_ok-drop_below.ensures.kept
+
+pub returns-clause-last : goal.returns-clause-last
+returns-clause-last g c =
+    taken_last g.r.pass _ _ c.requires.0 _ g.r.load c.requires.1.1.0 c.requires.1.1.1.1.0 _ c.requires.1.1.1.1.1 _ c.requires.1.1.1.0 _ c.in_ok-note_entries.ensures _ _ c.in_ok-apply_ready.ensures.passing c.in_ok-apply_ready.ensures.applied _ _ c.in_ok-drop_below.ensures.gone c.in_ok-drop_below.ensures.left c.in_ok-drop_below.ensures.kept
 
 pub returns-clause-wakes : goal.returns-clause-wakes
 returns-clause-wakes g c =

@@ -5,11 +5,11 @@ use Rattle.tab_settles.specs.declared.reasons.Reasons.{Reasons}
 
 pub returns-in-Refused-clause-ready : goal.returns-in-Refused-clause-ready
 returns-in-Refused-clause-ready g c did =
-    refused_ready g.p _ _ _ _ _ c.requires.0 c.requires.1 _ _ _ _ c.in_ok-begin_next.ensures.passing c.in_ok-begin_next.ensures.turning c.in_ok-begin_next.ensures.none c.in_ok-begin_next.ensures.queued c.in_ok-begin_next.ensures.parked c.in_ok-begin_next.ensures.keep c.in_ok-begin_next.ensures.made _ c.in-Refused.is c.in_ok-begin_next.ensures.came
+    refused_ready g.p _ _ _ _ _ c.requires.0 c.requires.1 _ _ _ _ c.in_ok-begin_next.ensures.passing c.in_ok-begin_next.ensures.turning c.in_ok-begin_next.ensures.none c.in_ok-begin_next.ensures.queued c.in_ok-begin_next.ensures.parked c.in_ok-begin_next.ensures.keep c.in_ok-begin_next.ensures.made c.in_ok-begin_next.ensures.grown _ c.in_ok-begin_next.ensures.stood c.in-Refused.is c.in_ok-begin_next.ensures.came
 
 pub returns-after-is_none-clause-ready : goal.returns-after-is_none-clause-ready
 returns-after-is_none-clause-ready g c did =
-    went_ready g.p _ _ _ _ _ c.requires.0 c.requires.1 _ _ _ _ c.in_ok-begin_next.ensures.passing c.in_ok-begin_next.ensures.turning c.in_ok-begin_next.ensures.none c.in_ok-begin_next.ensures.queued c.in_ok-begin_next.ensures.parked c.in_ok-begin_next.ensures.keep c.in_ok-begin_next.ensures.made _ _ c.in-Went.is c.in_ok-begin_next.ensures.came _ (ap (λ (r : Reasons). r.cause) c.follow.ensures)
+    went_ready g.p _ _ _ _ _ c.requires.0 c.requires.1 _ _ _ _ c.in_ok-begin_next.ensures.passing c.in_ok-begin_next.ensures.turning c.in_ok-begin_next.ensures.none c.in_ok-begin_next.ensures.queued c.in_ok-begin_next.ensures.parked c.in_ok-begin_next.ensures.keep c.in_ok-begin_next.ensures.made c.in_ok-begin_next.ensures.grown _ c.in_ok-begin_next.ensures.stood _ c.in-Went.is c.in_ok-begin_next.ensures.came _ (ap (λ (r : Reasons). r.cause) c.follow.ensures)
 
 pub returns-in-Rests-clause-rested : goal.returns-in-Rests-clause-rested
 returns-in-Rests-clause-rested g c did =

@@ -2,7 +2,7 @@ use Rattle.log_model.specs.declared.header.Header.{Header}
 use Rattle.std.proofs.Common.{ap, arith, refl, sym, ◌∙◌, ◌≤◌, ◌≡◌}
 use Rattle.std.proofs.lemmas.Bool.Decides.{nat_tests}
 use Rattle.tab_moves.proofs.PassedOn.{leaving_none, only_none}
-use Rattle.tab_walk.proofs.Finds.{doc_there, found_cut, found_from, found_none, row_there}
+use Rattle.tab_walk.proofs.Finds.{doc_there, first_epoch, found_cut, found_from, found_none, row_there}
 use Rattle.tab_walk.proofs.Puts.{moved_by, moved_for, woken}
 use Rattle.tab_walk.proofs.moving.move_to.Goals as goal
 
@@ -36,4 +36,4 @@ returns-in_ok-show_target-in-None-clause-wakes g c =
 
 pub returns-in_ok-show_target-in-None-clause-moved : goal.returns-in_ok-show_target-in-None-clause-moved
 returns-in_ok-show_target-in-None-clause-moved g c =
-    moved_by _ c.args.cause _ _ _ _ _ _ _ _ _ _ _ _ (only_none _ _) (found_none g.p c.args.out.now c.args.tables.now c.requires.0 c.args.nav c.args.entry c.requires.1.1.0 c.row_there.result.now c.row_there.ensures c.doc_there-doc.result c.doc_there-doc.ensures c.args.cause c.requires.1.1.1 (sym c.left_by.ensures ∙ c.in-None.is)) c.in_ok-show_target-in-None.ensures.shown (λ place placed none. refl) (λ are. are)
+    moved_by _ c.args.cause _ _ _ _ _ _ _ _ _ _ _ _ (only_none _ _) (found_none g.p c.args.out.now c.args.tables.now c.requires.0 c.args.nav c.args.entry c.requires.1.1.0 c.row_there.result.now c.row_there.ensures c.doc_there-doc.result c.doc_there-doc.ensures c.args.cause c.requires.1.1.1 (sym c.left_by.ensures ∙ c.in-None.is)) c.in_ok-show_target-in-None.ensures.shown (λ place placed none. (refl, first_epoch g.p c.args.out.now c.args.tables.now c.requires.0 c.args.nav _ c.in_ok-show_target-in-None.ensures.shown.raised place placed none)) (λ are. are)

@@ -1,11 +1,12 @@
 -- Why a navigable that is shown may not stand: no document was ever shown in it, or the last load that was applied, of it or one above, has given it another one, and not all have stood since.
 -- This project's own; HTML Standard, "apply the history step" and "finalize a cross-document navigation".
-use Rattle.log_model.specs.Places.{is_awake, is_shown, stands, top}
-use Rattle.log_model.specs.Seen.{Place, Seen, place_of}
+use Rattle.log_model.specs.Places.{is_awake, is_shown}
+use Rattle.log_model.specs.Seen.{Place, Seen, awake, place_of}
 use Rattle.std.specs.Prelude.{Bool, None, Option, Some, false, not, true, ◌&&◌, ◌==◌, ◌||◌, ◌≡◌}
-use Rattle.tab_drops.specs.Turns.{IsByLoad}
+use Rattle.tab_ids.specs.declared.DocId.{DocId}
 use Rattle.tab_ids.specs.declared.NavId.{NavId}
 use Rattle.tab_ids.specs.declared.ReqId.{ReqId}
+use Rattle.tab_releases.specs.PassedOn.{IsByLoad}
 use Rattle.log_model.specs.declared.job.Why.TheVariants as whys
 
 -- no order showed the navigable a document yet, or the report of the first that did isn't delivered
@@ -18,8 +19,19 @@ pub record IsOffSince (s : Seen) (nav : NavId) (place : Place) : Type 0 where
   pub why : place.why ≡ whys.Req req
   pub by : IsByLoad s req nav
 
--- no document was ever shown in a new navigable, which the top isn't; and where no traversal runs, each other one that is shown and doesn't stand is so for the last load that was applied
-pub record AreOffKnown (run : Option ReqId) (s : Seen) : Type 0 where
-  pub unshown : (nav : NavId) (place : Place) → place_of s nav ≡ Some place → is_new_place place ≡ true → place.was_activated ≡ false
-  pub top_shown : (place : Place) → place_of s top ≡ Some place → is_new_place place ≡ false
-  pub since : run ≡ None → (nav : NavId) (place : Place) → place_of s nav ≡ Some place → is_shown s.history.rows s.history.current nav ≡ true → stands s s.history.current nav ≡ false → is_new_place place ≡ false → IsOffSince s nav place
+-- the navigable was shown a document before, and is awake on another one, or on that one again, of which isn't told yet that it is shown
+pub record IsLate (s : Seen) (nav : NavId) (place : Place) (doc : DocId) : Type 0 where
+  pub placed : place_of s nav ≡ Some place
+  pub wakes : place.status ≡ awake doc
+  pub untold : place.is_delivered ≡ false
+  pub old : is_new_place place ≡ false
+
+-- each such navigable that is shown is so for the last load that was applied
+abbrev pub AreLateKnown : Seen → Type 0
+AreLateKnown s =
+    (nav : NavId) (place : Place) (doc : DocId) → IsLate s nav place doc → is_shown s.history.rows s.history.current nav ≡ true → IsOffSince s nav place
+
+-- that is asked only where no traversal runs
+abbrev pub LateKnown : Option ReqId → Seen → Type 0
+LateKnown None s = AreLateKnown s
+LateKnown (Some run) s = Unit {0}

@@ -1,8 +1,6 @@
 -- Where a traversal runs, who is awake and was moved by it was shown a document by it, over a pass: no row but an order of the walk shows a document, which is for the traversal then, and no request but a load is dropped.
 use Rattle.calm_facts.proofs.Moves.{AreUnmoved, unmoved_dropped, unmoved_sent}
 use Rattle.calm_facts.specs.Calm.{ShowsOne}
-use Rattle.tab_stands.proofs.MovedRows.{shown_dropped, shown_sent}
-use Rattle.tab_stands.specs.Delivering.{MovedAreShown}
 use Rattle.hang_facts.proofs.Members.{has_map}
 use Rattle.hang_facts.specs.Members.{Has}
 use Rattle.load_facts.proofs.Rows.{req_same}
@@ -20,11 +18,13 @@ use Rattle.seen_laws.specs.InEvent.{InEvent, now_of, row_of}
 use Rattle.std.proofs.Common.{Bool, List, Some, ap, false, map, refl, subst, sym, true, ◌&&◌, ◌==◌, ◌∙◌, ◌≡◌}
 use Rattle.std.proofs.lemmas.Bool.{and_parts}
 use Rattle.std.specs.Prelude.{is_none, option_map}
-use Rattle.tab_settles.specs.PassedOn.{Drop, HasOnly, HasOnlyDropped, HasOnlySwept, HasPutOut, IsLoadOf, IsServeFor, IsSweepOf, IsUpdateFor, length_index, row_of_drop}
+use Rattle.tab_releases.specs.PassedOn.{Drop, HasOnly, HasOnlyDropped, HasOnlySwept, HasPutOut, IsLoadOf, IsServeFor, IsSweepOf, IsUpdateFor, length_index, row_of_drop}
 use Rattle.tab_ids.specs.declared.NavId.{NavId}
 use Rattle.tab_ids.specs.declared.ReqId.{ReqId}
 use Rattle.tab_ids.specs.declared.StateId.{StateId}
-use Rattle.tab_settles.proofs.PassedOn.{only_as, over_each}
+use Rattle.tab_releases.proofs.PassedOn.{only_as, over_each}
+use Rattle.tab_settles.proofs.MovedRows.{shown_dropped, shown_sent}
+use Rattle.tab_settles.specs.Settling.{MovedAreShown}
 use Rattle.log_model.specs.declared.job.Task.TheVariants as tasks
 use Rattle.log_model.specs.declared.job.Why.TheVariants as whys
 use Rattle.log_model.specs.declared.request.Request.TheVariants as requests

@@ -28,7 +28,7 @@ use Rattle.tab_ids.specs.declared.Epoch.{Epoch}
 use Rattle.tab_ids.specs.declared.NavId.{NavId}
 use Rattle.tab_ids.specs.declared.ReqId.{ReqId}
 use Rattle.tab_ids.specs.declared.Step.{Step}
-use Rattle.tab_stands.specs.Delivering.{MovedAreShown}
+use Rattle.tab_settles.specs.Settling.{MovedAreShown}
 use Rattle.walk_facts.proofs.Placed.{found_nav}
 use Rattle.walk_facts.proofs.Sleepers.{becomes, place_becomes, sleepers_of, slept}
 use Rattle.walk_rows.proofs.Sleeping.{place_sleeps}

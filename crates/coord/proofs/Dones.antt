@@ -1,0 +1,77 @@
+-- An order was done of which nothing was made, and which made no document: the tab may be brought to rest.
+use Rattle.coord.proofs.Causes.{for_none}
+use Rattle.coord.specs.Delivering.{InDone, IsDone}
+use Rattle.coord.specs.Standing.{IsOpenTo, IsToSettle}
+use Rattle.coord.specs.declared.coordinator.Coordinator.{Coordinator}
+use Rattle.each_facts.proofs.Eaches.{each_first}
+use Rattle.log_model.specs.Seen.{desk_of}
+use Rattle.log_model.specs.declared.header.Header.{Header}
+use Rattle.log_model.specs.declared.job.Job.{Job}
+use Rattle.log_model.specs.declared.handler.LeaveCause.{LeaveCause}
+use Rattle.log_model.specs.declared.job.Task.{Task}
+use Rattle.log_model.specs.declared.job.Why.{Why}
+use Rattle.nav_tree.specs.Tree.{node_of}
+use Rattle.order_facts.specs.Orders.{TellsOf}
+use Rattle.seen_laws.specs.InEvent.{InEvent, now_of}
+use Rattle.std.proofs.Common.{None, Some, [], ap, refl, subst, ℕ, ◌∙◌, ◌≡◌}
+use Rattle.std.specs.Option.{IsSome}
+use Rattle.tab_doors.specs.Noting.{shown_tree}
+use Rattle.tab_doors.specs.Ties.{nav_in}
+use Rattle.tab_doors.specs.declared.tables.Tables.{Tables}
+use Rattle.tab_ids.specs.declared.NavId.{NavId}
+use Rattle.tab_loads.specs.Loading.{pass_of}
+use Rattle.tab_stands.proofs.Dones.{did_takes, quiet_begun}
+use Rattle.tab_stands.proofs.Ready.{ready}
+use Rattle.tab_stands.proofs.Shown.{nav_there, shown_begun}
+use Rattle.tab_stands.specs.Delivering.{IsQuietTask, IsShowTask}
+use Rattle.tab_stands.specs.PassedOn.{IsSoundTask, MayCause}
+use Rattle.tab_stands.specs.Standing.{HasBegun, IsTakenUp}
+use Rattle.log_model.specs.declared.job.Task.TheVariants as tasks
+use Rattle.log_model.specs.declared.job.Why.TheVariants as whys
+use Rattle.log_model.specs.declared.made.Report.TheVariants as reports
+
+-- the tables keep as many documents as the event's settings say
+pub keep_now : (e : InEvent) (c : Coordinator) → IsOpenTo e c → c.tables.kept.keep ≡ e.header.keep
+keep_now e c open_ = open_.stands.keep ∙ ap (λ (h : Header). h.keep) open_.header
+
+-- where an event has begun, and what it delivers is taken up, the tab may be brought to rest
+pub to_settle : (e : InEvent) (c : Coordinator) → c.header ≡ e.header → HasBegun (pass_of e) c.tables c.queue c.blame.entries → (cause : Why) → MayCause (now_of e []) cause → IsTakenUp e [] → IsToSettle e [] c cause
+to_settle e c header begun cause may taken =
+    record {
+      header = header;
+      ready = ready (pass_of e) c.tables c.queue c.blame.entries begun refl cause may;
+      makes = begun.makes;
+      sound = begun.sound;
+      coord = λ row has. absurd has;
+      shows = begun.shows;
+      taken = taken;
+    }
+
+module _ (d : InDone) (c : Coordinator) (job : Job) (done : IsDone d c job) where
+  abbrev e : InEvent
+  e = d.event
+
+  pub done_taken : IsTakenUp d.event []
+  done_taken later =
+      did_takes e d.proc job d.outcome done.delivery c.tables c.queue c.blame.entries done.open_.stands.stands later
+
+  pub quiet_settles : IsQuietTask job.task → IsToSettle d.event [] c whys.Start
+  quiet_settles quiet =
+      to_settle e c done.open_.header (quiet_begun e d.proc job d.outcome done.delivery c.tables c.queue c.blame.entries done.open_.stands.stands quiet done.open_.room (keep_now e c done.open_)) whys.Start (for_none (now_of e [])) done_taken
+
+  -- its document's navigable is there
+  pub shown_there : (nav : NavId) → nav_in c.tables.whose.entries job.doc ≡ Some nav → IsSome (node_of nav c.tables.tree)
+  shown_there =
+      nav_there e d.proc job d.outcome done.delivery c.tables c.queue c.blame.entries done.open_.stands.stands
+
+  pub shown_settles : IsShowTask job.task → (u : Tables) → u ≡ record c.tables { tree = shown_tree c.tables job.doc job.nr } → IsToSettle d.event [] (record c { tables = u }) whys.Start
+  shown_settles shows u is =
+      to_settle e (record c { tables = u }) done.open_.header (shown_begun e d.proc job d.outcome done.delivery c.tables c.queue c.blame.entries done.open_.stands.stands shows done.open_.room (keep_now e c done.open_) u is) whys.Start (for_none (now_of e [])) done_taken
+
+  -- no order asks anybody
+  pub no_ask : (slot : ℕ) (cause : LeaveCause) → job.task ≡ tasks.Ask slot cause → ⊥
+  no_ask slot cause is = subst (λ (k : Task). IsSoundTask e.start job.doc k) is sound
+    where
+      sound : IsSoundTask e.start job.doc job.task
+      sound =
+          each_first (TellsOf (λ (x : Job). IsSoundTask e.start x.doc x.task)) (desk_of e.start d.proc).reports (reports.Done job d.outcome None) done.delivery.first (done.open_.stands.stands.lasts.sound d.proc).told

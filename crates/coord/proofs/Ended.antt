@@ -1,0 +1,44 @@
+-- The tab has come to rest, and the event ends.
+use Rattle.coord.specs.Standing.{HasActed, IsToSettle}
+use Rattle.coord.specs.declared.coordinator.Coordinator.{Coordinator}
+use Rattle.hang_facts.specs.Members.{Has}
+use Rattle.log_model.specs.declared.header.Header.{Header}
+use Rattle.log_model.specs.declared.job.Why.{Why}
+use Rattle.log_model.specs.declared.row_kind.LogRow.{LogRow}
+use Rattle.log_model.specs.declared.row_kind.RowKind.{RowKind}
+use Rattle.order_facts.specs.Orders.{IsOfCoord}
+use Rattle.seen_laws.specs.InEvent.{InEvent, IsTakenIn, now_of, row_of}
+use Rattle.std.proofs.Common.{List, ap, inl, inr, map, refl, subst, sym, ◌∙◌, ◌≡◌, ◌⊎◌}
+use Rattle.std.proofs.lemmas.List.{map-append}
+use Rattle.tab_loads.specs.Loading.{pass_of}
+use Rattle.tab_stands.proofs.Ended.{acted}
+use Rattle.tab_stands.proofs.PassedOn.{IsNoneDue, put_makes, put_sound}
+use Rattle.tab_stands.proofs.Placing.{either_of}
+use Rattle.tab_stands.specs.PassedOn.{HasPut, HasSettled}
+use Rattle.tab_stands.specs.Standing as tab
+
+-- what is taken up among the rows so far is so among more
+taken_in : (e : InEvent) (was out : List RowKind) → HasPut e was out → tab.IsTakenUp e was → IsTakenIn e (map (row_of e) out)
+taken_in e was out put taken =
+    subst (λ (l : List LogRow). IsTakenIn e l) (sym (ap (λ (l : List RowKind). map (row_of e) l) put.is ∙ map-append (row_of e) was put.more)) (taken (map (row_of e) put.more))
+
+-- the rows are a coordinator's
+of_coord : (e : InEvent) (was out : List RowKind) → HasPut e was out → ((row : RowKind) → Has was row → IsOfCoord row) → (row : RowKind) → Has out row → IsOfCoord row
+of_coord e was out put first row has =
+    by_part (either_of was put.more row (subst (λ (l : List RowKind). Has l row) put.is has))
+  where
+    by_part : Has was row ⊎ Has put.more row → IsOfCoord row
+    by_part (inl there) = first row there
+    by_part (inr there) = put.each row there
+
+pub settled_acts : (e : InEvent) (was out : List RowKind) (c after : Coordinator) (cause last : Why) → IsToSettle e was c cause → after.header ≡ c.header → HasSettled (pass_of e) out after.tables after.queue after.blame.entries last → IsNoneDue (now_of e out) after.tables.running after.queue.waiting → HasPut e was out → HasActed e out after
+settled_acts e was out c after cause last to header at due put =
+    record {
+      stands = record { stands = all.stands; keep = at.header ∙ ap (λ (h : Header). h.keep) (sym (header ∙ to.header)) };
+      header = header ∙ to.header;
+      passes = all.passes;
+    }
+  where
+    all : tab.HasActed e out after.tables after.queue after.blame.entries
+    all =
+        acted (pass_of e) out after.tables after.queue after.blame.entries last refl at (put_makes e after.tables.running was out at.passing.going.tab.asked put to.makes) (put_sound e was out put to.sound) (of_coord e was out put to.coord) to.shows due (taken_in e was out put to.taken)

@@ -1,0 +1,83 @@
+-- The document that is kept longest was discarded as the user evicts it, with those below it: the tab may be brought to rest.
+use Rattle.coord.proofs.Fines.{IsFine, fine_discard, makes_over, sound_over}
+use Rattle.coord.specs.Evicting.{longest_in}
+use Rattle.coord.specs.Standing.{IsOpenTo, IsToSettle, StandsFor}
+use Rattle.coord.specs.declared.coordinator.Coordinator.{Coordinator}
+use Rattle.desk_facts.proofs.Stays.{NoDeath}
+use Rattle.hang_facts.specs.Members.{Has}
+use Rattle.log_model.specs.Seen.{Seen, desk_of}
+use Rattle.log_model.specs.declared.row_kind.RowKind.{RowKind}
+use Rattle.move_queue.specs.Queue.{Queue}
+use Rattle.page_cache.specs.Kept.{oldest_of}
+use Rattle.seen_laws.specs.InEvent.{InEvent, now_of, row_of}
+use Rattle.seen_laws.specs.Sending.{leads}
+use Rattle.std.proofs.Common.{List, [], ap, map, subst, sym, true, ◌++◌, ◌∙◌, ◌≡◌}
+use Rattle.std.specs.Prelude.{slice_get}
+use Rattle.tab_doors.specs.declared.tables.Tables.{Tables}
+use Rattle.tab_evicts.specs.Evicting.{IsDiscardFor}
+use Rattle.tab_ids.specs.declared.ProcId.{ProcId}
+use Rattle.tab_ids.specs.declared.ReqId.{ReqId}
+use Rattle.tab_ids.specs.declared.StateId.{StateId}
+use Rattle.tab_loads.specs.Loading.{pass_of}
+use Rattle.tab_stands.proofs.Coming.{IsComing}
+use Rattle.tab_stands.proofs.EpochRows.{own_under}
+use Rattle.tab_stands.proofs.Orders.{keeps_coming, makes_first, sound_first}
+use Rattle.tab_stands.specs.Offs.{AreShownUnder}
+use Rattle.tab_stands.specs.PassedOn.{IsReady, MakesServe, OrdersAreSound}
+use Rattle.tab_stands.specs.Standing as tab
+use Rattle.user_evicts.proofs.Owns.{comes_own, evicted_takes}
+use Rattle.user_evicts.specs.Evicting.{HasEvicted, IsEvictAsk}
+use Rattle.log_model.specs.declared.job.Why.TheVariants as whys
+use Rattle.log_model.specs.declared.row_kind.RowKind.TheVariants as rows
+
+-- what is kept longest by the tables is so in the log
+pub longest_is : (s : Seen) (c : Coordinator) → StandsFor s c → oldest_of c.tables.kept.states ≡ longest_in s
+longest_is s c its = ap oldest_of its.stands.tied.kept
+
+module _ (e : InEvent) (state : StateId) (c : Coordinator) (open_ : IsOpenTo e c) (asks : IsEvictAsk e state) where
+  abbrev stands : tab.StandsFor e.start c.tables c.queue c.blame.entries
+  stands = open_.stands.stands
+
+  leads_own : leads e.own ≡ true
+  leads_own = ap (λ (k : RowKind). leads k) asks.own
+
+  comes : IsComing c.blame.entries e.start (now_of e [])
+  comes = comes_own e state asks c.tables c.queue c.blame.entries stands
+
+  -- no report is taken
+  alive : (proc : ProcId) → e.own ≡ rows.Delivered proc → NoDeath (slice_get (desk_of e.start proc).reports 0)
+  alive proc is = let never : rows.Evicted state ≡ rows.Delivered proc = sym asks.own ∙ is in absurd cc
+
+  module _ (out : List RowKind) (came : HasEvicted e state out) (u : Tables) (ready : IsReady (pass_of e) out u c.queue c.blame.entries whys.Evict) where
+    discards : (row : RowKind) → IsDiscardFor whys.Evict row → IsFine (now_of e out) whys.Evict row
+    discards row it =
+        subst (λ (r : RowKind). IsFine (now_of e out) whys.Evict r) (sym it.is) (fine_discard (now_of e out) whys.Evict it.job it.discards)
+
+    fine : (row : RowKind) → Has out row → IsFine (now_of e out) whys.Evict row
+    fine row has = discards row (came.only.each row (subst (λ (l : List RowKind). Has l row) came.only.is has))
+
+    makes : MakesServe (now_of e out)
+    makes =
+        makes_over e u.running out whys.Evict ready.passing.going.tab.asked ready.open_.may fine (makes_first e leads_own comes.serves stands.lasts.makes)
+
+    sound : OrdersAreSound (now_of e out)
+    sound =
+        sound_over e u.running out whys.Evict ready.passing.going.tab.asked ready.open_.may fine (sound_first e leads_own (keeps_coming c.blame.entries e.start (now_of e []) comes) stands.lasts.sound)
+
+    shows : AreShownUnder (now_of e [])
+    shows = own_under e leads_own alive stands.lasts.shows
+
+    pub evicted_settles : (after : Coordinator) → after.header ≡ c.header → after.tables ≡ u → after.queue ≡ c.queue → after.blame.entries ≡ c.blame.entries → IsToSettle e out after whys.Evict
+    evicted_settles after header tables queue noted =
+        record {
+          header = header ∙ open_.header;
+          ready =
+              subst (λ (l : List (StateId × ReqId)). IsReady (pass_of e) out after.tables after.queue l whys.Evict) (sym noted)
+              (subst (λ (q : Queue). IsReady (pass_of e) out after.tables q c.blame.entries whys.Evict) (sym queue)
+              (subst (λ (x : Tables). IsReady (pass_of e) out x c.queue c.blame.entries whys.Evict) (sym tables) ready));
+          makes = makes;
+          sound = sound;
+          coord = λ row has. (fine row has).coord;
+          shows = shows;
+          taken = λ later. evicted_takes e state asks (map (row_of e) out ++ later);
+        }

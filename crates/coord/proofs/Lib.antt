@@ -1,0 +1,12 @@
+pub mod Causes
+pub mod Ended
+pub mod Opened
+pub mod Dones
+pub mod Goes
+pub mod Fines
+pub mod Loads
+pub mod Mades
+pub mod Placed
+pub mod Unneeded
+pub mod Readings
+pub mod Evicted

@@ -1,0 +1,182 @@
+-- A load was refused, dropped, sent to a fragment or has begun: the tab may be brought to rest.
+use Rattle.coord.proofs.Fines.{IsFine, fine_fragment, fine_populate, makes_over, more_fine, no_job, one_fine, sound_over}
+use Rattle.coord.specs.Standing.{IsAsk, IsOpenTo, IsToSettle}
+use Rattle.coord.specs.declared.ask.Ask.TheVariants as asks
+use Rattle.coord.specs.declared.coordinator.Coordinator.{Coordinator}
+use Rattle.hang_facts.specs.Members.{Has}
+use Rattle.home_facts.specs.Homes.{IsHomed}
+use Rattle.log_model.specs.Points.{ends_in, nav_of_request}
+use Rattle.log_model.specs.Seen.{Seen, document_of, place_of, request_of}
+use Rattle.log_model.specs.declared.job.Job.{Job}
+use Rattle.log_model.specs.declared.job.Why.{Why}
+use Rattle.log_model.specs.declared.made.Made.{Made}
+use Rattle.log_model.specs.declared.request.Mode.{Mode}
+use Rattle.log_model.specs.declared.request.Request.{Request}
+use Rattle.log_model.specs.declared.row_kind.RowKind.{RowKind}
+use Rattle.move_queue.specs.Queue.{Queue}
+use Rattle.order_facts.proofs.Stills.{still_over}
+use Rattle.order_facts.specs.Orders.{IsOfCoord}
+use Rattle.seen_laws.proofs.InEvents.{now_more}
+use Rattle.seen_laws.specs.InEvent.{InEvent, now_of, row_of}
+use Rattle.seen_laws.specs.Sending.{leads}
+use Rattle.std.proofs.Common.{List, None, Option, Some, [], ap, inl, inr, map, subst, sym, ℕ, ◌++◌, ◌∙◌, ◌∷◌, ◌≡◌}
+use Rattle.tab_doors.specs.declared.tables.Tables.{Tables}
+use Rattle.tab_ids.specs.declared.NavId.{NavId}
+use Rattle.tab_ids.specs.declared.ReqId.{ReqId}
+use Rattle.tab_ids.specs.declared.StateId.{StateId}
+use Rattle.tab_loads.specs.Loading.{CameTo, HasGivenWay, HasLoadBegun, IsLoadAsk, WasSent, cause_of, pass_of}
+use Rattle.tab_loads.specs.declared.loaded.Loaded.{Loaded}
+use Rattle.tab_loads.specs.declared.loaded.Loaded.TheVariants.{Begun, CutOff, Refused, ToFragment}
+use Rattle.tab_stands.proofs.Accepting.{comes_now, new, now, takes_none, there_now}
+use Rattle.tab_stands.proofs.Coming.{IsComing}
+use Rattle.tab_stands.proofs.EpochRows.{own_under}
+use Rattle.tab_stands.proofs.Orders.{keeps_coming, makes_first, sound_first}
+use Rattle.tab_stands.proofs.PassedOn.{KeepsWhat, sent_homes}
+use Rattle.tab_stands.specs.Offs.{AreShownUnder}
+use Rattle.tab_stands.specs.PassedOn.{Ends, EndsAlone, HasPut, IsOfItsLoad, IsReady, IsTab, MakesServe, OrdersAreSound}
+use Rattle.tab_stands.specs.Standing.{IsTakenUp, StandsFor}
+use Rattle.log_model.specs.declared.outcome.Cause.TheVariants as drops
+use Rattle.log_model.specs.declared.request.Request.TheVariants as requests
+use Rattle.log_model.specs.declared.row_kind.RowKind.TheVariants as rows
+use Rattle.walk_facts.proofs.Placed.{found_nav}
+
+-- ---- a load
+
+module _ (e : InEvent) (t : Tables) (queue : Queue) (blame : List (StateId × ReqId)) (stands : StandsFor e.start t queue blame) (req : ReqId) (nav : NavId) (mode : Mode) (address : List ℕ) (its : IsLoadAsk e req nav mode address) where
+  abbrev load : Request
+  load = requests.Load nav mode address
+
+  comes : IsComing blame e.start (now_of e [])
+  comes = comes_now e req None load its.by_user its.own its.next t queue blame stands
+
+  -- each document shown was shown under its navigable's epoch as the event began
+  pub load_shows : AreShownUnder (now_of e [])
+  load_shows =
+      own_under e (ap (λ (k : RowKind). leads k) its.own) (λ proc is. (let never : rows.Accepted req None load ≡ rows.Delivered proc = sym its.own ∙ is in absurd cc)) stands.lasts.shows
+
+  pub load_taken : (out : List RowKind) → IsTakenUp e out
+  load_taken out later = takes_none e req None load its.by_user its.own its.next (map (row_of e) out ++ later)
+
+  -- its request is there
+  there : request_of (now_of e []) req ≡ Some (new e req None load its.by_user its.own its.next)
+  there = ap (λ (x : Seen). request_of x req) (now e req None load its.by_user its.own its.next) ∙ there_now e req None load its.by_user its.own its.next
+
+  module _ (out : List RowKind) (u : Tables) (noted : List (StateId × ReqId)) where
+    abbrev n : Seen
+    n = now_of e out
+
+    abbrev Fine : Loaded → List RowKind → Type 0
+    Fine loaded l = (row : RowKind) → Has l row → IsFine (now_of e out) (cause_of req loaded) row
+
+    fine_begun : HasLoadBegun (now_of e []) req nav address out → Fine Begun out
+    fine_begun its = subst (λ (l : List RowKind). Fine Begun l) (sym its.is) (by_gives its.gives)
+      where
+        own : Fine Begun (rows.Started req None ∷ rows.Sent its.job ∷ [])
+        own =
+            more_fine n (cause_of req Begun) (rows.Started req None) (rows.Sent its.job ∷ []) (no_job n (cause_of req Begun) (rows.Started req None) tt (λ job is. cc))
+            (one_fine n (cause_of req Begun) (rows.Sent its.job) (fine_populate n (cause_of req Begun) its.job nav _ address its.task its.why))
+
+        by_gives : HasGivenWay (now_of e []) req nav its.gave → Fine Begun (its.gave ++ rows.Started req None ∷ rows.Sent its.job ∷ [])
+        by_gives (inl none) = subst (λ (l : List RowKind). Fine Begun (l ++ rows.Started req None ∷ rows.Sent its.job ∷ [])) (sym none.0) own
+        by_gives (inr old) =
+            subst (λ (l : List RowKind). Fine Begun (l ++ rows.Started req None ∷ rows.Sent its.job ∷ [])) (sym old.2)
+            (more_fine n (cause_of req Begun) (rows.Dropped old.0 (drops.By req)) (rows.Started req None ∷ rows.Sent its.job ∷ []) (no_job n (cause_of req Begun) (rows.Dropped old.0 (drops.By req)) tt (λ job is. cc)) own)
+
+    -- the document that is sent to a fragment is its navigable's
+    fragment_own : (sent : WasSent (now_of e []) req nav mode address out) → IsOfItsLoad (now_of e out) sent.job.doc req
+    fragment_own sent =
+        let placed : place_of e.start nav ≡ Some sent.fragment.place = ap (λ (x : Seen). place_of x nav) (sym (now e req None load its.by_user its.own its.next)) ∙ sent.fragment.there in
+        let home : IsHomed e.start.documents sent.fragment.place sent.job.doc = stands.between.tab.homes.homed nav sent.fragment.place sent.job.doc placed sent.doc in
+        let first = (keeps_coming blame e.start (now_of e []) comes).homes sent.job.doc home.home.document home.home.found in
+        let d = over.homes sent.job.doc first.0 first.1 in
+        let q = over.asked req (new e req None load its.by_user its.own its.next) there in
+        let navs : d.0.nav ≡ nav = d.2 ∙ first.2 ∙ home.home.nav_is ∙ found_nav e.start.places nav sent.fragment.place placed in
+        record {
+          q = q.0;
+          found = q.1;
+          d = d.0;
+          there = d.1;
+          its = ap nav_of_request q.2 ∙ ap (λ (x : NavId). let o : Option NavId = Some x in o) (sym navs);
+        }
+      where
+        one : (row : RowKind) → Has (rows.Sent sent.job ∷ []) row → IsOfCoord row
+        one row (inl is) = subst (λ (r : RowKind). IsOfCoord r) is tt
+        one row (inr never) = absurd never
+
+        over : KeepsWhat (now_of e []) (now_of e out)
+        over =
+            subst (λ (l : List RowKind). KeepsWhat (now_of e []) (now_of e l)) (sym sent.is) (record {
+              asked = λ r q at. (let still = still_over e (rows.Sent sent.job ∷ []) [] one r q at in (still.r, still.at, still.what));
+              homes = λ doc d found. (let h = sent_homes (now_of e []) sent.job sent.job.task doc d found in (h.0, ap (λ (x : Seen). document_of x doc) (now_more e [] (rows.Sent sent.job)) ∙ h.1, h.2));
+            })
+
+    fine_came : (loaded : Loaded) → CameTo e req nav mode address out loaded → Fine loaded out
+    fine_came Refused came =
+        subst (λ (l : List RowKind). Fine Refused l) (sym came.is) (one_fine n (cause_of req Refused) (rows.Refused req came.reason) (no_job n (cause_of req Refused) (rows.Refused req came.reason) tt (λ job is. cc)))
+    fine_came CutOff came =
+        subst (λ (l : List RowKind). Fine CutOff l) (sym came.1.is) (one_fine n (cause_of req CutOff) (rows.Dropped req (drops.By came.1.by)) (no_job n (cause_of req CutOff) (rows.Dropped req (drops.By came.1.by)) tt (λ job is. cc)))
+    fine_came ToFragment came =
+        subst (λ (l : List RowKind). Fine ToFragment l) (sym came.1.is) (one_fine n (cause_of req ToFragment) (rows.Sent came.1.job) (fine_fragment n (cause_of req ToFragment) came.1.job req mode address came.1.task (fragment_own came.1)))
+    fine_came Begun came = fine_begun came.1
+
+    module _ (loaded : Loaded) (came : CameTo e req nav mode address out loaded) (moves : Queue) (ready : IsReady (pass_of e) out u moves noted (cause_of req loaded)) where
+      abbrev tab : IsTab u.running [] [] (now_of e out)
+      tab = ready.passing.going.tab
+
+      pub load_makes : MakesServe (now_of e out)
+      load_makes =
+          makes_over e u.running out (cause_of req loaded) tab.asked ready.open_.may (fine_came loaded came) (makes_first e (ap (λ (k : RowKind). leads k) its.own) comes.serves stands.lasts.makes)
+
+      pub load_coord : (row : RowKind) → Has out row → IsOfCoord row
+      load_coord row has = (fine_came loaded came row has).coord
+
+      pub load_sound : OrdersAreSound (now_of e out)
+      load_sound =
+          sound_over e u.running out (cause_of req loaded) tab.asked ready.open_.may (fine_came loaded came) (sound_first e (ap (λ (k : RowKind). leads k) its.own) (keeps_coming blame e.start (now_of e []) comes) stands.lasts.sound)
+
+-- the tab may be brought to rest then
+module _ (e : InEvent) (c : Coordinator) (open_ : IsOpenTo e c) (req : ReqId) (nav : NavId) (mode : Mode) (address : List ℕ) (asked : IsAsk e req (asks.Load nav mode address)) where
+  pub load_asks : IsLoadAsk e req nav mode address
+  load_asks = record { by_user = asked.by_user; own = asked.own; next = asked.next }
+
+  pub load_settles : (loaded : Loaded) (out : List RowKind) (after : Coordinator) → after.header ≡ c.header → CameTo e req nav mode address out loaded → IsReady (pass_of e) out after.tables after.queue after.blame.entries (cause_of req loaded) → (cause : Why) → cause ≡ cause_of req loaded → IsToSettle e out after cause
+  load_settles loaded out after header came ready cause is =
+      record {
+        header = header ∙ open_.header;
+        ready = subst (λ (w : Why). IsReady (pass_of e) out after.tables after.queue after.blame.entries w) (sym is) ready;
+        makes = load_makes e c.tables c.queue c.blame.entries open_.stands.stands req nav mode address load_asks out after.tables after.blame.entries loaded came after.queue ready;
+        sound = load_sound e c.tables c.queue c.blame.entries open_.stands.stands req nav mode address load_asks out after.tables after.blame.entries loaded came after.queue ready;
+        coord = load_coord e c.tables c.queue c.blame.entries open_.stands.stands req nav mode address load_asks out after.tables after.blame.entries loaded came after.queue ready;
+        shows = load_shows e c.tables c.queue c.blame.entries open_.stands.stands req nav mode address load_asks;
+        taken = load_taken e c.tables c.queue c.blame.entries open_.stands.stands req nav mode address load_asks out;
+      }
+
+-- ---- what was put out for what a document made: one row, which ends its request
+
+ends_coord : (e : InEvent) (kind : RowKind) (req : ReqId) → Ends e kind req → IsOfCoord kind
+ends_coord e (rows.Applied r change) req ends = tt
+ends_coord e (rows.Refused r reason) req ends = tt
+ends_coord e (rows.Dropped r cause) req ends = tt
+ends_coord e _ req ends = absurd cc
+
+ends_no_order : (e : InEvent) (kind : RowKind) (req : ReqId) → Ends e kind req → (job : Job) → kind ≡ rows.Sent job → ⊥
+ends_no_order e kind req ends job is =
+    let never : None ≡ Some req = sym (ap (λ (k : RowKind). ends_in (row_of e k)) is) ∙ ends in cc
+
+pub ended_put : (e : InEvent) (out : List RowKind) (made : Made) → EndsAlone e [] out made → HasPut e [] out
+ended_put e out made ended =
+    record {
+      more = ended.kind ∷ [];
+      is = ended.out;
+      each = coord;
+      plain = λ job has. absurd (none job has);
+      makes = λ job has make. absurd (none job has);
+    }
+  where
+    coord : (row : RowKind) → Has (ended.kind ∷ []) row → IsOfCoord row
+    coord row (inl is) = subst (λ (r : RowKind). IsOfCoord r) is (ends_coord e ended.kind made.req ended.ends)
+    coord row (inr never) = absurd never
+
+    none : (job : Job) → Has (ended.kind ∷ []) (rows.Sent job) → ⊥
+    none job (inl is) = ends_no_order e ended.kind made.req ended.ends job is
+    none job (inr never) = never

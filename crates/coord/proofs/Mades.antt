@@ -1,0 +1,121 @@
+-- A document made something: a traversal that has joined the queue, or a change that is held back or was taken; and the tab may be brought to rest.
+use Rattle.coord.proofs.Causes.{for_none}
+use Rattle.coord.proofs.Dones.{keep_now, to_settle}
+use Rattle.coord.proofs.Loads.{ended_put}
+use Rattle.coord.specs.Delivering.{InDelivery, IsMade}
+use Rattle.coord.specs.Standing.{IsOpenTo, IsToSettle}
+use Rattle.coord.specs.declared.coordinator.Coordinator.{Coordinator}
+use Rattle.desk_facts.proofs.Stays.{NoDeath}
+use Rattle.desk_facts.specs.Own.{IsItsOwn}
+use Rattle.hang_facts.specs.Members.{Has}
+use Rattle.log_model.specs.AfterRequests.{changes_history, is_held_back}
+use Rattle.log_model.specs.declared.made.Made.{Made}
+use Rattle.log_model.specs.declared.made.Report.{Report}
+use Rattle.log_model.specs.declared.made.What.{What}
+use Rattle.log_model.specs.declared.row_kind.RowKind.{RowKind}
+use Rattle.move_queue.specs.Queue.{Queue}
+use Rattle.move_queue.specs.declared.queue_step.QueueStep.TheVariants.{Traverse}
+use Rattle.seen_laws.specs.InEvent.{InEvent, now_of}
+use Rattle.std.proofs.Common.{List, Option, Some, [], false, subst, sym, true, ℤ, ◌++◌, ◌∙◌, ◌∷◌, ◌≡◌}
+use Rattle.sync_core.specs.declared.judging.Judged.{Judged}
+use Rattle.sync_core.specs.declared.judging.Judged.TheVariants as verdicts
+use Rattle.tab_doors.specs.declared.tables.Tables.{Tables}
+use Rattle.tab_ids.specs.declared.Death.{Death}
+use Rattle.tab_ids.specs.declared.ReqId.{ReqId}
+use Rattle.tab_ids.specs.declared.StateId.{StateId}
+use Rattle.tab_loads.specs.Loading.{pass_of}
+use Rattle.tab_stands.proofs.Hands.{hand_begun, joined_begun, parked_begun}
+use Rattle.tab_stands.proofs.Mades.{held_takes, of_own, went_takes}
+use Rattle.tab_stands.proofs.Parks.{has_node, judged_free, parks_held}
+use Rattle.tab_stands.proofs.PassedOn.{put_makes, put_sound}
+use Rattle.tab_stands.proofs.Reports.{told_fine}
+use Rattle.tab_stands.proofs.Taken.{taken_ready, taken_up}
+use Rattle.tab_stands.proofs.Taking.{changes_no_go, hand_to_take}
+use Rattle.tab_stands.specs.PassedOn.{HasNode, HasPut, HasTaken, IsReady, IsToTake, MakesServe, OrdersAreSound, judged_in}
+use Rattle.tab_stands.specs.Delivering.{IsDelivery}
+use Rattle.tab_stands.specs.Standing.{HasBegun, StandsFor}
+use Rattle.log_model.specs.declared.job.Why.TheVariants as whys
+use Rattle.log_model.specs.declared.made.Report.TheVariants as reports
+use Rattle.log_model.specs.declared.made.What.TheVariants as whats
+
+module _ (d : InDelivery) (c : Coordinator) (made : Made) (its : IsMade d c made) where
+  abbrev e : InEvent
+  e = d.event
+
+  abbrev stands : StandsFor e.start c.tables c.queue c.blame.entries
+  stands = its.open_.stands.stands
+
+  -- ---- a traversal
+
+  pub joined_settles : (delta : ℤ) → made.what ≡ whats.Go delta → (left : Queue) → left ≡ record c.queue { waiting = c.queue.waiting ++ Traverse made.req delta ∷ [] } → IsToSettle d.event [] (record c { queue = left }) whys.Start
+  joined_settles delta goes left pushed =
+      to_settle e (record c { queue = left }) its.open_.header (joined_begun e d.proc d.report made its.delivery its.tells c.tables c.queue c.blame.entries stands delta goes its.open_.room (keep_now e c its.open_) left pushed) whys.Start (for_none (now_of e []))
+      (went_takes e d.proc d.report made its.delivery its.tells c.tables c.queue c.blame.entries stands delta goes)
+
+  -- ---- a change
+
+  pub node_there : HasNode c.tables made
+  node_there =
+      has_node e d.proc d.report made its.delivery its.tells c.tables c.queue c.blame.entries stands
+
+  module _ (changes : changes_history made.what ≡ true) where
+    -- it waits for the traversal that runs
+    module _ (waits : judged_in c.tables made ≡ Some verdicts.Park) where
+      held : is_held_back e.start made ≡ true
+      held =
+          parks_held e d.proc d.report made its.delivery its.tells c.tables c.queue c.blame.entries stands changes waits
+
+      pub parked_settles : (left : Queue) → left ≡ record c.queue { parked = c.queue.parked ++ made ∷ [] } → IsToSettle d.event [] (record c { queue = left }) whys.Start
+      parked_settles left parked =
+          to_settle e (record c { queue = left }) its.open_.header (parked_begun e d.proc d.report made its.delivery its.tells c.tables c.queue c.blame.entries stands (changes_no_go made.what changes) held its.open_.room (keep_now e c its.open_) left parked) whys.Start (for_none (now_of e []))
+          (held_takes e d.proc d.report made its.delivery its.tells c.tables c.queue c.blame.entries stands held)
+
+    -- it doesn't
+    module _ (verdict : Judged) (judged : judged_in c.tables made ≡ Some verdict) (apart : verdict ≡ verdicts.Park → ⊥) where
+      free : is_held_back e.start made ≡ false
+      free =
+          judged_free e d.proc d.report made its.delivery its.tells c.tables c.queue c.blame.entries stands verdict judged apart
+
+      pub to_take : IsToTake (record { event = d.event; loads = []; hand = made ∷ [] }) [] c.tables c.blame.entries made
+      to_take =
+          hand_to_take e d.proc d.report made its.delivery its.tells c.tables c.queue c.blame.entries stands changes free its.open_.room (keep_now e c its.open_)
+
+      begun : HasBegun (record { event = d.event; loads = []; hand = made ∷ [] }) c.tables c.queue c.blame.entries
+      begun =
+          hand_begun e d.proc d.report made its.delivery its.tells c.tables c.queue c.blame.entries stands (changes_no_go made.what changes) free its.open_.room (keep_now e c its.open_)
+
+      module _ (out : List RowKind) (u : Tables) (noted : List (StateId × ReqId)) (taken : HasTaken (record { event = d.event; loads = []; hand = made ∷ [] }) c.tables made [] out u noted) where
+        put : HasPut d.event [] out
+        put = ended_put e out made taken.ended
+
+        taken_makes : MakesServe (now_of d.event out)
+        taken_makes =
+            put_makes e u.running [] out taken.passing.going.tab.asked put begun.makes
+
+        taken_sound : OrdersAreSound (now_of d.event out)
+        taken_sound = put_sound e [] out put begun.sound
+
+        pub taken_settles : (after : Coordinator) → after.header ≡ c.header → after.tables ≡ u → after.queue ≡ c.queue → after.blame.entries ≡ noted → IsToSettle d.event out after (whys.Req made.req)
+        taken_settles after header tables queue blame =
+            record {
+              header = header ∙ its.open_.header;
+              ready =
+                  subst (λ (l : List (StateId × ReqId)). IsReady (pass_of d.event) out after.tables after.queue l (whys.Req made.req)) (sym blame)
+                  (subst (λ (q : Queue). IsReady (pass_of d.event) out after.tables q noted (whys.Req made.req)) (sym queue)
+                  (subst (λ (t : Tables). IsReady (pass_of d.event) out t c.queue noted (whys.Req made.req)) (sym tables)
+                  (taken_ready e d.proc d.report made its.delivery its.tells c.tables c.queue c.blame.entries stands changes free its.open_.room (keep_now e c its.open_) out u noted taken)));
+              makes = taken_makes;
+              sound = taken_sound;
+              coord = λ row has. put.each row (subst (λ (l : List RowKind). Has l row) put.is has);
+              shows = begun.shows;
+              taken = taken_up e d.proc d.report made its.delivery its.tells c.tables c.queue c.blame.entries stands changes free its.open_.room (keep_now e c its.open_) out u noted taken;
+            }
+
+-- no document reports an edit
+pub no_edit : (d : InDelivery) (c : Coordinator) (made : Made) → IsMade d c made → made.what ≡ whats.Edit → ⊥
+no_edit d c made its is = subst (λ (w : What). IsItsOwn made.doc w) is (of_own d.event d.proc d.report made its.delivery its.tells c.tables c.queue c.blame.entries its.open_.stands.stands).own.own
+
+-- no report tells of a death
+pub no_death : (d : InDelivery) (c : Coordinator) (death : Death) → IsDelivery d.event d.proc (reports.Died death) → IsOpenTo d.event c → ⊥
+no_death d c death delivery open_ =
+    subst (λ (o : Option Report). NoDeath o) delivery.first (told_fine d.event d.proc delivery.by_coord delivery.own c.tables c.queue c.blame.entries open_.stands.stands (reports.Died death) delivery.first)

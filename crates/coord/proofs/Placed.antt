@@ -1,0 +1,264 @@
+-- A document was made: the load that waits for it, if one does, is its navigable's, and the request for which it was made is noted for it; so the tab may be brought to rest.
+use Rattle.coord.proofs.Dones.{done_taken, keep_now, to_settle}
+use Rattle.coord.specs.Delivering.{HasPlaced, InDone, IsDone, steps_of, waiting_in}
+use Rattle.coord.specs.Standing.{IsToSettle}
+use Rattle.coord.specs.declared.coordinator.Coordinator.{Coordinator}
+use Rattle.hang_facts.specs.Members.{Has}
+use Rattle.load_table.specs.Loads.{HasOneEach, is_populating, makes, ongoing_load}
+use Rattle.load_table.specs.declared.load.Load.{Load}
+use Rattle.load_ties.proofs.Begins.{found_nav}
+use Rattle.load_ties.proofs.Waits.{found_itself, waits_once}
+use Rattle.load_ties.specs.Tying.{IsLoadTied, is_for_state, made_for, phase_with}
+use Rattle.log_model.specs.Seen.{Document, Seen, document_of}
+use Rattle.log_model.specs.declared.job.Job.{Job}
+use Rattle.log_model.specs.declared.job.Task.{Task}
+use Rattle.log_model.specs.declared.job.Why.TheVariants as whys
+use Rattle.move_queue.specs.Queue.{Queue}
+use Rattle.move_queue.specs.declared.queue_step.QueueStep.{QueueStep}
+use Rattle.move_queue.specs.declared.queue_step.QueueStep.TheVariants.{Ready}
+use Rattle.nav_tree.specs.Tree.{is_state}
+use Rattle.hang_facts.proofs.Members.{find_has}
+use Rattle.seen_laws.specs.InEvent.{InEvent, now_of}
+use Rattle.std.proofs.Common.{Bool, List, None, Option, Some, [], ap, cond, eqb-true, false, not, refl, subst, sym, true, ℕ, ◌&&◌, ◌++◌, ◌==◌, ◌||◌, ◌∙◌, ◌∷◌, ◌≡◌}
+use Rattle.std.specs.Map.{lookup}
+use Rattle.std.specs.Option.{IsSome}
+use Rattle.std.specs.Prelude.{find, is_some, option_and_then, option_map}
+use Rattle.tab_doors.proofs.Keyed.{put_other, put_same}
+use Rattle.tab_doors.proofs.Sights.{sight_of}
+use Rattle.tab_doors.specs.Look.{Sight, sight}
+use Rattle.tab_doors.specs.Noting.{PlacesOne}
+use Rattle.tab_doors.specs.Ties.{birth_of, is_doc, nav_in, proc_in}
+use Rattle.tab_doors.specs.Working.{KeepsRun}
+use Rattle.tab_doors.specs.declared.birth.Birth.{Birth}
+use Rattle.tab_doors.specs.declared.tables.Tables.{Tables}
+use Rattle.tab_ids.specs.declared.DocId.{DocId}
+use Rattle.tab_ids.specs.declared.NavId.{NavId}
+use Rattle.tab_ids.specs.declared.ReqId.{ReqId}
+use Rattle.tab_ids.specs.declared.StateId.{StateId}
+use Rattle.tab_loads.specs.Loading.{pass_of}
+use Rattle.tab_stands.proofs.Placing.{placed_begun}
+use Rattle.tab_stands.proofs.Dones.{AsksNone, did_now, did_requests}
+use Rattle.tab_stands.proofs.Reports.{told_causes}
+use Rattle.tab_stands.proofs.Unmade.{d as its_document, its_found, the_one}
+use Rattle.order_facts.specs.Orders.{TellsOf}
+use Rattle.each_facts.proofs.Eaches.{each_first}
+use Rattle.load_facts.specs.Loading.{IsLoading, Look, look}
+use Rattle.log_model.specs.Seen.{Asked, desk_of}
+use Rattle.log_model.specs.declared.made.Report.TheVariants as reports
+use Rattle.log_model.specs.declared.request.Request.TheVariants as requests
+use Rattle.tab_stands.specs.Delivering.{IsMadeNoted, IsMakeTask, step_ready}
+use Rattle.tab_stands.specs.PassedOn.{IsMake, IsStray, MayCause}
+use Rattle.tab_stands.specs.Standing.{HasBegun, StandsFor}
+use Rattle.tab_unneeded.proofs.Strays.{needed_is}
+use Rattle.tab_unneeded.specs.Telling.{is_unneeded_in}
+use Rattle.load_table.specs.declared.phase.Phase.{Phase}
+use Rattle.load_table.specs.declared.phase.Phase.TheVariants as phases
+use Rattle.log_model.specs.declared.job.Task.TheVariants as tasks
+use Rattle.indexmap.specs.IndexMap.{insert_entry}
+
+-- what an order that makes a document for a state asks
+pub record Makes (job : Job) (state : StateId) : Type 0 where
+  pub nav : NavId
+  pub address : List ℕ
+  pub initial : Bool
+  pub task : job.task ≡ tasks.Populate nav state address initial
+
+pub makes_of : (job : Job) (state : StateId) → IsMakeTask state job.task → Makes job state
+makes_of job state is = by_task job.task refl is
+  where
+    by_task : (task : Task) → job.task ≡ task → IsMakeTask state task → Makes job state
+    by_task (tasks.Populate nav of address initial) at same =
+        record { nav = nav; address = address; initial = initial; task = at ∙ ap (λ (x : StateId). tasks.Populate nav x address initial) same }
+    by_task (tasks.Activate entry epoch long index memo address) at never = absurd never
+    by_task (tasks.Update long index) at never = absurd never
+    by_task tasks.Freeze at never = absurd never
+    by_task tasks.Discard at never = absurd never
+    by_task (tasks.Ask slot cause) at never = absurd never
+    by_task (tasks.DoFragment req mode address) at never = absurd never
+
+-- the document that is made for a load that waits for it
+record IsDocOf (documents : List Document) (doc : DocId) (state : StateId) : Type 0 where
+  d : Document
+  has : Has documents d
+  number : (d.nr.0 == doc.0) ≡ true
+  state_is : d.state.0 ≡ state.0
+
+doc_of : (documents : List Document) (doc : DocId) (state : StateId) → makes doc (phase_with (made_for documents state)) ≡ true → IsDocOf documents doc state
+doc_of documents doc state waits = by_made (made_for documents state) refl waits
+  where
+    first : (a b : Bool) → (a && b) ≡ true → a ≡ true
+    first true b is = refl
+    first false b is = absurd cc
+
+    by_ready : (d : Document) → made_for documents state ≡ Some d → (b : Bool) → makes doc (let p : Phase = cond b (phases.Ready d.nr) (phases.Populating d.nr) in p) ≡ true → IsDocOf documents doc state
+    by_ready d at true never = absurd cc
+    by_ready d at false is =
+        let its = find_has (is_for_state state) documents d at in
+        record { d = d; has = its.0; number = is; state_is = eqb-true d.state.0 state.0 (first (d.state.0 == state.0) (not (d.is_discarded || d.is_known_dead)) its.1) }
+
+    by_made : (o : Option Document) → made_for documents state ≡ o → makes doc (phase_with o) ≡ true → IsDocOf documents doc state
+    by_made None at never = absurd cc
+    by_made (Some d) at is = by_ready d at d.is_ready is
+
+module _ (d : InDone) (c : Coordinator) (job : Job) (done : IsDone d c job) (state : StateId) (is_make : IsMakeTask state job.task) where
+  abbrev e : InEvent
+  e = d.event
+
+  abbrev s : Seen
+  s = e.start
+
+  abbrev t : Tables
+  t = c.tables
+
+  abbrev stands : StandsFor s c.tables c.queue c.blame.entries
+  stands = done.open_.stands.stands
+
+  abbrev its : Makes job state
+  its = makes_of job state is_make
+
+  abbrev own : Document
+  own = its_document e d.proc job d.outcome done.delivery t c.queue c.blame.entries stands its.nav state its.address its.initial its.task
+
+  found : document_of s job.doc ≡ Some own
+  found = its_found e d.proc job d.outcome done.delivery t c.queue c.blame.entries stands its.nav state its.address its.initial its.task
+
+  birth : lookup (is_doc job.doc) t.whose.entries ≡ Some (birth_of (sight own))
+  birth =
+      stands.tied.holds.whose job.doc ∙ ap (λ (o : Option Sight). option_map birth_of o) (sight_of s job.doc own found)
+
+  nav_is : nav_in t.whose.entries job.doc ≡ Some own.nav
+  nav_is = ap (λ (o : Option Birth). option_map (λ (b : Birth). b.nav) o) birth
+
+  pub nav_known : IsSome (nav_in c.tables.whose.entries job.doc)
+  nav_known = ap (λ (o : Option NavId). is_some o) nav_is
+
+  pub proc_known : IsSome (proc_in c.tables.whose.entries job.doc)
+  proc_known = ap (λ (o : Option Birth). is_some (option_map (λ (b : Birth). b.proc) o)) birth
+
+  -- ---- the load that waits
+
+  module _ (one_each : HasOneEach c.tables.loads) (nav : NavId) (at_nav : nav_in c.tables.whose.entries job.doc ≡ Some nav) where
+    same_nav : own.nav ≡ nav
+    same_nav = let both : Some own.nav ≡ Some nav = sym nav_is ∙ at_nav in cc
+
+    -- a load that waits for the document is its navigable's
+    of_nav : (load : Load) → Has t.loads load → is_populating job.doc load ≡ true → ongoing_load nav t.loads ≡ Some load
+    of_nav load there waits =
+        let at : ongoing_load load.nav t.loads ≡ Some load = found_itself t.loads load one_each there in
+        let tied : IsLoadTied s load = stands.tied.loads.there load.nav load at in
+        let made : IsDocOf s.documents job.doc load.state = doc_of s.documents job.doc load.state (ap (makes job.doc) (sym tied.phase) ∙ waits) in
+        let it : made.d ≡ own = its_one made.d made.has made.number in
+        let state_is : own.state.0 ≡ load.state.0 = ap (λ (x : Document). x.state.0) (sym it) ∙ made.state_is in
+        let navs : own.nav ≡ load.nav = its_load load tied state_is in
+        ap (λ (x : NavId). ongoing_load x t.loads) (sym same_nav ∙ navs) ∙ at
+      where
+        its_one : (x : Document) → Has s.documents x → (x.nr.0 == job.doc.0) ≡ true → x ≡ own
+        its_one =
+            the_one e d.proc job d.outcome done.delivery t c.queue c.blame.entries stands its.nav state its.address its.initial its.task
+
+        its_load : (load : Load) (tied : IsLoadTied s load) → own.state.0 ≡ load.state.0 → own.nav ≡ load.nav
+        its_load load tied state_is =
+            let l : Look = look tied.q in
+            let loading : IsLoading s l = stands.between.tab.loading.each load.req l (ap (λ (o : Option Asked). option_map look o) tied.found) tied.ongoing in
+            let states : Some loading.state ≡ Some load.state = sym loading.state_is ∙ tied.state in
+            let same_state : loading.state ≡ load.state = cc in
+            let what : requests.Load loading.nav loading.mode loading.address ≡ requests.Load load.nav tied.mode load.address = sym loading.what ∙ tied.what in
+            let same_load : loading.nav ≡ load.nav = cc in
+            loading.whose job.doc own found (state_is ∙ ap (λ (x : StateId). x.0) (sym same_state)) ∙ same_load
+
+    waits_here : (load : Load) → ongoing_load nav t.loads ≡ Some load → is_populating job.doc load ≡ true → step_ready t.loads job.doc ≡ Ready load.req nav ∷ []
+    waits_here load at waits =
+        let once : find (is_populating job.doc) t.loads ≡ Some load = waits_once s t.loads stands.between.tab.loading stands.tied.loads one_each stands.between.tab.whose.numbered job.doc nav load at waits in
+        rw once (ap (λ (x : NavId). let l : List QueueStep = Ready load.req x ∷ [] in l) (found_nav nav t.loads load at))
+
+    waits_some : (req : ReqId) → waiting_in c.tables.loads nav job.doc ≡ Some req → step_ready c.tables.loads job.doc ≡ Ready req nav ∷ []
+    waits_some req waits = by_load (ongoing_load nav t.loads) refl waits
+      where
+        by_test : (load : Load) → ongoing_load nav t.loads ≡ Some load → (b : Bool) → is_populating job.doc load ≡ b → (let o : Option ReqId = cond b (Some load.req) None in o) ≡ Some req → step_ready t.loads job.doc ≡ Ready req nav ∷ []
+        by_test load at false is never = absurd cc
+        by_test load at true is same =
+            let one : load.req ≡ req = cc in
+            waits_here load at is ∙ ap (λ (r : ReqId). let l : List QueueStep = Ready r nav ∷ [] in l) one
+
+        by_load : (o : Option Load) → ongoing_load nav t.loads ≡ o → option_and_then (λ (load : Load). let x : Option ReqId = cond (is_populating job.doc load) (Some load.req) None in x) o ≡ Some req → step_ready t.loads job.doc ≡ Ready req nav ∷ []
+        by_load None at never = absurd cc
+        by_load (Some load) at is = by_test load at (is_populating job.doc load) refl is
+
+    waits_none : waiting_in c.tables.loads nav job.doc ≡ None → step_ready c.tables.loads job.doc ≡ []
+    waits_none none = by_found (find (is_populating job.doc) t.loads) refl
+      where
+        by_found : (o : Option Load) → find (is_populating job.doc) t.loads ≡ o → step_ready t.loads job.doc ≡ []
+        by_found None at = rw at refl
+        by_found (Some load) at =
+            let its_ = find_has (is_populating job.doc) t.loads load at in
+            let here : ongoing_load nav t.loads ≡ Some load = of_nav load its_.0 its_.1 in
+            let some : waiting_in t.loads nav job.doc ≡ Some load.req = rw here (rw (its_.1) refl) in
+            let never : None ≡ Some load.req = sym none ∙ some in absurd cc
+
+    pub steps_are : step_ready c.tables.loads job.doc ≡ steps_of (waiting_in c.tables.loads nav job.doc) nav
+    steps_are = by_waits (waiting_in t.loads nav job.doc) refl
+      where
+        by_waits : (o : Option ReqId) → waiting_in t.loads nav job.doc ≡ o → step_ready t.loads job.doc ≡ steps_of o nav
+        by_waits None none = waits_none none
+        by_waits (Some req) is = waits_some req is
+
+    pub has_placed : (waits : Option ReqId) → waits ≡ waiting_in c.tables.loads nav job.doc → (u : Tables) → PlacesOne state job.doc c.tables u → KeepsRun c.tables u → (left : Queue) → left ≡ record c.queue { waiting = c.queue.waiting ++ steps_of waits nav } → HasPlaced c (record c { tables = u; queue = left }) job.doc state
+    has_placed waits is u one run left joined =
+        record {
+          header = refl;
+          one = one;
+          run = run;
+          queue = joined ∙ ap (λ (l : List QueueStep). let q : Queue = record c.queue { waiting = c.queue.waiting ++ l } in q) (ap (λ (o : Option ReqId). steps_of o nav) is ∙ sym steps_are);
+          noted = refl;
+          one_each = one_each;
+        }
+
+  -- ---- the request that is noted
+
+  -- orders may be for what it was made for
+  made_may : MayCause (now_of e []) job.why
+  made_may =
+      subst (λ (x : Seen). MayCause x job.why) (sym (did_now e d.proc job d.outcome done.delivery t c.queue c.blame.entries stands))
+      (told_causes e d.proc done.delivery.by_coord done.delivery.own t c.queue c.blame.entries stands (reports.Done job d.outcome None) done.delivery.first
+      (did_requests e d.proc job d.outcome done.delivery t c.queue c.blame.entries stands asks_none) job.why (before is_it))
+    where
+      asks_none : AsksNone job.task
+      asks_none = subst (λ (k : Task). AsksNone k) (sym its.task) tt
+
+      is_it : IsMake job.task
+      is_it = subst (λ (k : Task). IsMake k) (sym its.task) tt
+
+      before : IsMake job.task → MayCause s job.why
+      before =
+          each_first (TellsOf (λ (x : Job). IsMake x.task → MayCause s x.why)) (desk_of s d.proc).reports (reports.Done job d.outcome None) done.delivery.first (stands.lasts.makes d.proc).told
+
+  pub noted_for : (req : ReqId) → job.why ≡ whys.Req req → (noted : List (StateId × ReqId)) → noted ≡ insert_entry is_state c.blame.entries state req → IsMadeNoted (now_of d.event []) c.blame.entries noted job.doc state
+  noted_for req is noted put =
+      subst (λ (l : List (StateId × ReqId)). IsMadeNoted (now_of e []) c.blame.entries l job.doc state) (sym put)
+      (record {
+        others = λ other apart. put_other c.blame.entries state other req apart;
+        own = λ stray. record { req = req; noted_is = put_same c.blame.entries state req; may = made_may req is };
+      })
+
+  -- where the document isn't stray nobody is to be noted
+  pub noted_none : (noted : List (StateId × ReqId)) → noted ≡ c.blame.entries → (IsStray (now_of d.event []) job.doc state → ⊥) → IsMadeNoted (now_of d.event []) c.blame.entries noted job.doc state
+  noted_none noted same needed =
+      record {
+        others = λ other apart. ap (λ (l : List (StateId × ReqId)). lookup (is_state other) l) same;
+        own = λ stray. absurd (needed stray);
+      }
+
+  -- where the tables tell that it is needed, it isn't stray
+  pub needed : is_unneeded_in c.tables job.doc state ≡ false → IsStray (now_of d.event []) job.doc state → ⊥
+  needed =
+      needed_is e d.proc job d.outcome done.delivery t c.queue c.blame.entries stands its.nav state its.address its.initial its.task
+
+  -- ---- so the tab may be brought to rest
+
+  pub placed_settles : (then_ after : Coordinator) → HasPlaced c then_ job.doc state → after.header ≡ then_.header → after.tables ≡ then_.tables → after.queue ≡ then_.queue → IsMadeNoted (now_of d.event []) c.blame.entries after.blame.entries job.doc state → IsToSettle d.event [] after job.why
+  placed_settles then_ after placed header tables queue noted =
+      to_settle e after (header ∙ placed.header ∙ done.open_.header)
+      (subst (λ (q : Queue). HasBegun (pass_of e) after.tables q after.blame.entries) (sym queue)
+      (subst (λ (x : Tables). HasBegun (pass_of e) x then_.queue after.blame.entries) (sym tables)
+      (placed_begun e d.proc job d.outcome done.delivery t c.queue c.blame.entries stands its.nav state its.address its.initial its.task placed.one_each then_.tables placed.one placed.run done.open_.room (keep_now e c done.open_) then_.queue placed.queue after.blame.entries noted)))
+      job.why made_may (done_taken d c job done)

@@ -1,0 +1,145 @@
+-- A document that nothing needs was made for no request: it is discarded, and the tab may be brought to rest.
+use Rattle.coord.proofs.Dones.{done_taken}
+use Rattle.coord.proofs.Fines.{IsFine, fine_discard, makes_over, one_fine, sound_over}
+use Rattle.coord.proofs.Placed.{Makes, makes_of}
+use Rattle.coord.specs.Delivering.{InDone, IsDone, made_in}
+use Rattle.coord.specs.Standing.{IsToSettle}
+use Rattle.coord.specs.declared.coordinator.Coordinator.{Coordinator}
+use Rattle.desk_facts.proofs.Stays.{NoDeath}
+use Rattle.hang_facts.specs.Members.{Has}
+use Rattle.log_model.specs.Seen.{Asked, Document, Seen, desk_of, request_in}
+use Rattle.log_model.specs.declared.job.Job.{Job}
+use Rattle.log_model.specs.declared.job.Task.{Task}
+use Rattle.log_model.specs.declared.made.Report.{Report}
+use Rattle.log_model.specs.declared.row_kind.RowKind.{RowKind}
+use Rattle.move_queue.specs.Queue.{Queue}
+use Rattle.seen_laws.specs.InEvent.{InEvent, now_of, row_of}
+use Rattle.seen_laws.specs.Sending.{leads}
+use Rattle.std.proofs.Common.{Bool, List, None, Option, [], ap, cond, false, map, refl, subst, sym, true, ◌++◌, ◌==◌, ◌∙◌, ◌∷◌, ◌≡◌}
+use Rattle.std.specs.Prelude.{option_map, slice_get}
+use Rattle.tab_doors.specs.Orders.{order_to}
+use Rattle.tab_doors.specs.declared.tables.Tables.{Tables}
+use Rattle.tab_ids.specs.declared.ProcId.{ProcId}
+use Rattle.tab_ids.specs.declared.ReqId.{ReqId}
+use Rattle.tab_ids.specs.declared.StateId.{StateId}
+use Rattle.tab_loads.specs.Loading.{pass_of}
+use Rattle.tab_stands.proofs.Dones.{AsksNone, did, did_now, did_requests}
+use Rattle.tab_stands.proofs.EpochRows.{own_under}
+use Rattle.tab_stands.proofs.Orders.{makes_first, sound_first}
+use Rattle.tab_stands.proofs.PassedOn.{KeepsWhat, serve_on}
+use Rattle.tab_stands.proofs.Placed.{made_then}
+use Rattle.tab_stands.proofs.Reports.{told_causes}
+use Rattle.tab_stands.proofs.Unmade.{made_at}
+use Rattle.tab_stands.specs.Delivering.{IsMakeTask}
+use Rattle.tab_stands.specs.Offs.{AreShownUnder}
+use Rattle.tab_stands.specs.PassedOn.{IsReady, MakesServe, MayServe, OrdersAreSound}
+use Rattle.tab_stands.specs.Standing.{StandsFor}
+use Rattle.tab_unneeded.proofs.Strays.{unneeded_is}
+use Rattle.tab_unneeded.specs.Made.{IsMadeUnneeded}
+use Rattle.tab_unneeded.specs.Telling.{is_unneeded_in}
+use Rattle.log_model.specs.declared.job.Task.TheVariants as tasks
+use Rattle.log_model.specs.declared.job.Why.TheVariants as whys
+use Rattle.log_model.specs.declared.made.Report.TheVariants as reports
+use Rattle.log_model.specs.declared.row_kind.RowKind.TheVariants as rows
+
+module _ (d : InDone) (c : Coordinator) (job : Job) (done : IsDone d c job) (state : StateId) (is_make : IsMakeTask state job.task) where
+  abbrev e : InEvent
+  e = d.event
+
+  abbrev s : Seen
+  s = e.start
+
+  abbrev t : Tables
+  t = c.tables
+
+  abbrev stands : StandsFor s c.tables c.queue c.blame.entries
+  stands = done.open_.stands.stands
+
+  abbrev its : Makes job state
+  its = makes_of job state is_make
+
+  pub made_unneeded : ((req : ReqId) → job.why ≡ whys.Req req → ⊥) → is_unneeded_in c.tables job.doc state ≡ true → IsMadeUnneeded (made_in d c job) job.doc state job.why
+  made_unneeded unasked tells =
+      record {
+        tells = done.delivery;
+        nav = its.nav;
+        address = its.address;
+        initial = its.initial;
+        task = its.task;
+        doc_is = refl;
+        why_is = refl;
+        unasked = unasked;
+        stray = unneeded_is e d.proc job d.outcome done.delivery t c.queue c.blame.entries stands its.nav state its.address its.initial its.task tells;
+      }
+
+  -- ---- what goes on over the event's own row
+
+  abbrev told : Seen
+  told = did e d.proc job d.outcome done.delivery t c.queue c.blame.entries stands
+
+  now : now_of e [] ≡ told
+  now = did_now e d.proc job d.outcome done.delivery t c.queue c.blame.entries stands
+
+  same : told.requests ≡ s.requests
+  same =
+      did_requests e d.proc job d.outcome done.delivery t c.queue c.blame.entries stands (subst (λ (k : Task). AsksNone k) (sym its.task) tt)
+
+  leads_own : leads e.own ≡ true
+  leads_own = ap (λ (k : RowKind). leads k) done.delivery.own
+
+  serves : (req : ReqId) → MayServe s req → MayServe (now_of e []) req
+  serves req may =
+      subst (λ (x : Seen). MayServe x req) (sym now)
+      (serve_on s told req (told_causes e d.proc done.delivery.by_coord done.delivery.own t c.queue c.blame.entries stands (reports.Done job d.outcome None) done.delivery.first same) may)
+
+  keeps : KeepsWhat s (now_of e [])
+  keeps =
+      subst (λ (x : Seen). KeepsWhat s x) (sym now) (record {
+        asked = λ req q at. (q, ap (λ (l : List Asked). request_in l req) same ∙ at, refl);
+        homes = λ doc x found. (made_at job.doc x, made_then e d.proc job d.outcome done.delivery t c.queue c.blame.entries stands its.nav state its.address its.initial its.task doc ∙ ap (λ (o : Option Document). option_map (λ (y : Document). made_at job.doc y) o) found, nav_same x (x.nr.0 == job.doc.0));
+      })
+    where
+      nav_same : (x : Document) (b : Bool) → (let y : Document = cond b (record x { is_ready = true; is_fresh = true }) x in y).nav ≡ x.nav
+      nav_same x true = refl
+      nav_same x false = refl
+
+  -- no report tells of a death
+  alive : (proc : ProcId) → e.own ≡ rows.Delivered proc → NoDeath (slice_get (desk_of s proc).reports 0)
+  alive proc is =
+      let both : rows.Delivered d.proc ≡ rows.Delivered proc = sym done.delivery.own ∙ is in
+      let one : d.proc ≡ proc = cc in
+      subst (λ (p : ProcId). NoDeath (slice_get (desk_of s p).reports 0)) one (subst (λ (o : Option Report). NoDeath o) (sym done.delivery.first) tt)
+
+  -- ---- so the tab may be brought to rest
+
+  module _ (out : List RowKind) (is : out ≡ rows.Sent (order_to (now_of d.event []) job.doc job.why tasks.Discard) ∷ []) (u : Tables) (ready : IsReady (pass_of d.event) out u c.queue c.blame.entries whys.Start) where
+    fine : (row : RowKind) → Has out row → IsFine (now_of e out) whys.Start row
+    fine =
+        subst (λ (l : List RowKind). (row : RowKind) → Has l row → IsFine (now_of e out) whys.Start row) (sym is)
+        (one_fine (now_of e out) whys.Start (rows.Sent (order_to (now_of e []) job.doc job.why tasks.Discard)) (fine_discard (now_of e out) whys.Start (order_to (now_of e []) job.doc job.why tasks.Discard) refl))
+
+    makes : MakesServe (now_of e out)
+    makes =
+        makes_over e u.running out whys.Start ready.passing.going.tab.asked ready.open_.may fine (makes_first e leads_own serves stands.lasts.makes)
+
+    sound : OrdersAreSound (now_of e out)
+    sound =
+        sound_over e u.running out whys.Start ready.passing.going.tab.asked ready.open_.may fine (sound_first e leads_own keeps stands.lasts.sound)
+
+    shows : AreShownUnder (now_of e [])
+    shows = own_under e leads_own alive stands.lasts.shows
+
+    pub dropped_settles : (after : Coordinator) → after.header ≡ c.header → after.tables ≡ u → after.queue ≡ c.queue → after.blame.entries ≡ c.blame.entries → IsToSettle d.event out after whys.Start
+    dropped_settles after header tables queue noted =
+        record {
+          header = header ∙ done.open_.header;
+          ready =
+              subst (λ (l : List (StateId × ReqId)). IsReady (pass_of e) out after.tables after.queue l whys.Start) (sym noted)
+              (subst (λ (q : Queue). IsReady (pass_of e) out after.tables q c.blame.entries whys.Start) (sym queue)
+              (subst (λ (x : Tables). IsReady (pass_of e) out x c.queue c.blame.entries whys.Start) (sym tables) ready));
+          makes = makes;
+          sound = sound;
+          coord = λ row has. (fine row has).coord;
+          shows = shows;
+          taken = λ later. done_taken d c job done (map (row_of e) out ++ later);
+        }

@@ -1,0 +1,19 @@
+use Rattle.coord.proofs.Dones.{keep_now}
+use Rattle.coord.proofs.Unneeded.{dropped_settles, made_unneeded}
+use Rattle.coord.proofs.coordinator.Coordinator.drop_made.Goals as goal
+use Rattle.coord.specs.Delivering.{done_in}
+use Rattle.std.proofs.Common.{refl, subst, sym}
+use Rattle.tab_stands.specs.PassedOn.{IsReady}
+use Rattle.tab_stands.specs.Standing.{StandsFor}
+use Rattle.tab_unneeded.specs.Made.{InMade, IsMadeUnneeded, pass_in}
+use Rattle.log_model.specs.declared.job.Why.TheVariants as whys
+
+pub discard_made-requires : goal.discard_made-requires
+discard_made-requires g c =
+    (keep_now g.m.event c.args.self.now c.requires.1.0.open_, (c.requires.1.1.1.1.1, (c.requires.1.0.open_.room, (subst (λ (x : InMade). StandsFor x.event.start c.args.self.now.tables x.queue x.noted) (sym c.requires.0) c.requires.1.0.open_.stands.stands, subst (λ (x : InMade). IsMadeUnneeded x c.args.job.now.doc c.args.state c.args.job.now.why) (sym c.requires.0) (made_unneeded (done_in g.m) c.args.self.now c.args.job.now c.requires.1.0 c.args.state c.requires.1.1.0 c.requires.1.1.1.0 c.requires.1.1.1.1.0)))))
+
+pub settle-requires : goal.settle-requires
+settle-requires g c =
+    dropped_settles (done_in g.m) c.args.self.now c.args.job.now c.requires.1.0 c.args.state c.requires.1.1.0 _ c.in_ok-discard_made.ensures.out _
+    (subst (λ (x : InMade). IsReady (pass_in x) c.discard_made.new.out c.discard_made.new.tables x.queue x.noted whys.Start) c.requires.0 c.in_ok-discard_made.ensures.ready)
+    (record c.args.self.now { tables = c.discard_made.new.tables }) refl refl refl refl

@@ -1,0 +1,12 @@
+use Rattle.coord.proofs.Dones.{keep_now}
+use Rattle.coord.proofs.Loads.{load_asks, load_settles}
+use Rattle.coord.proofs.coordinator.Coordinator.load.Goals as goal
+use Rattle.std.proofs.Common.{refl}
+
+pub load-requires : goal.load-requires
+load-requires g c =
+    (c.requires.1.0.header, (keep_now g.e c.args.self.now c.requires.1.0, (c.requires.1.1, (load_asks g.e c.args.self.now c.requires.1.0 c.args.req c.args.nav c.args.mode c.args.address.now c.requires.0, (c.requires.1.0.room, c.requires.1.0.stands.stands)))))
+
+pub settle-requires : goal.settle-requires
+settle-requires g c =
+    load_settles g.e c.args.self.now c.requires.1.0 c.args.req c.args.nav c.args.mode c.args.address.now c.requires.0 _ _ _ refl c.in_ok-loaded.ensures.came c.in_ok-loaded.ensures.ready _ c.cause_of-cause.ensures

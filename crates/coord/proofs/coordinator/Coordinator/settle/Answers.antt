@@ -1,0 +1,7 @@
+use Rattle.coord.proofs.Ended.{settled_acts}
+use Rattle.coord.proofs.coordinator.Coordinator.settle.Goals as goal
+use Rattle.std.proofs.Common.{refl}
+
+pub returns-clause-acted : goal.returns-clause-acted
+returns-clause-acted g c =
+    settled_acts g.e c.args.out.now _ c.args.self.now _ _ _ c.requires refl c.in_ok-settle.ensures.settled c.in_ok-settle.ensures.due c.in_ok-settle.ensures.put

@@ -1,0 +1,82 @@
+-- What a coordinator is told by a report as it is delivered.
+-- HTML Standard, "apply the history step" and "URL and history update steps"; orders and reports are this project's own.
+use Rattle.coord.specs.Standing.{IsOpenTo}
+use Rattle.coord.specs.declared.coordinator.Coordinator.{Coordinator}
+use Rattle.load_table.specs.Loads.{HasOneEach, is_populating, ongoing_load}
+use Rattle.load_table.specs.declared.load.Load.{Load}
+use Rattle.log_model.specs.declared.job.Job.{Job}
+use Rattle.log_model.specs.declared.made.Made.{Made}
+use Rattle.log_model.specs.declared.made.Report.{Report}
+use Rattle.log_model.specs.declared.outcome.Outcome.{Outcome}
+use Rattle.move_queue.specs.declared.queue_step.QueueStep.{QueueStep}
+use Rattle.move_queue.specs.declared.queue_step.QueueStep.TheVariants.{Ready}
+use Rattle.seen_laws.specs.InEvent.{InEvent}
+use Rattle.std.specs.Prelude.{List, None, Option, Some, if◌then◌else◌, option_and_then, [], ◌++◌, ◌∷◌, ◌≡◌}
+use Rattle.tab_doors.specs.Noting.{PlacesOne}
+use Rattle.tab_doors.specs.Working.{KeepsRun}
+use Rattle.tab_ids.specs.declared.DocId.{DocId}
+use Rattle.tab_ids.specs.declared.NavId.{NavId}
+use Rattle.tab_ids.specs.declared.ProcId.{ProcId}
+use Rattle.tab_ids.specs.declared.ReqId.{ReqId}
+use Rattle.tab_ids.specs.declared.StateId.{StateId}
+use Rattle.tab_stands.specs.Delivering.{IsDelivery, IsToldOf, step_ready}
+use Rattle.tab_unneeded.specs.Made.{InMade}
+use Rattle.log_model.specs.declared.made.Report.TheVariants as reports
+use Rattle.log_model.specs.declared.outcome.Outcome.TheVariants as outcomes
+
+-- an event, and the process whose first report it takes, with that report
+pub record InDelivery : Type 0 where
+  pub event : InEvent
+  pub proc : ProcId
+  pub report : Report
+
+-- the same, where the report tells that an order was done: how it went
+pub record InDone : Type 0 where
+  pub event : InEvent
+  pub proc : ProcId
+  pub outcome : Outcome
+
+-- how an order went of which a report tells; of another report it is asked by nobody
+abbrev pub outcome_of : Report → Outcome
+outcome_of (reports.Done job outcome made) = outcome
+outcome_of _ = outcomes.Discarded
+
+-- an order was done, and nothing was made of it
+pub record IsDone (d : InDone) (c : Coordinator) (job : Job) : Type 0 where
+  pub delivery : IsDelivery d.event d.proc (reports.Done job d.outcome None)
+  pub open_ : IsOpenTo d.event c
+
+-- a document made something, of a poke or of an order
+pub record IsMade (d : InDelivery) (c : Coordinator) (made : Made) : Type 0 where
+  pub delivery : IsDelivery d.event d.proc d.report
+  pub tells : IsToldOf d.report made
+  pub open_ : IsOpenTo d.event c
+
+-- what the event makes of a document that nothing needs
+abbrev pub made_in : InDone → Coordinator → Job → InMade
+made_in d c job =
+    record { event = d.event; proc = d.proc; job = job; outcome = d.outcome; queue = c.queue; noted = c.blame.entries }
+
+abbrev pub done_in : InMade → InDone
+done_in m = record { event = m.event; proc = m.proc; outcome = m.outcome }
+
+-- ---- the load that waits for a document
+
+-- the request of the navigable's ongoing load, where that waits for the document
+abbrev pub waiting_in : List Load → NavId → DocId → Option ReqId
+waiting_in loads nav doc =
+    option_and_then (λ (load : Load). if is_populating doc load then Some load.req else None) (ongoing_load nav loads)
+
+-- the step that it takes then
+abbrev pub steps_of : Option ReqId → NavId → List QueueStep
+steps_of (Some req) nav = Ready req nav ∷ []
+steps_of None nav = []
+
+-- the document is there for its state, and the load that waits for it waits for its turn; the rest is as it was
+pub record HasPlaced (c then_ : Coordinator) (doc : DocId) (state : StateId) : Type 0 where
+  pub header : then_.header ≡ c.header
+  pub one : PlacesOne state doc c.tables then_.tables
+  pub run : KeepsRun c.tables then_.tables
+  pub queue : then_.queue ≡ record c.queue { waiting = c.queue.waiting ++ step_ready c.tables.loads doc }
+  pub noted : then_.blame.entries ≡ c.blame.entries
+  pub one_each : HasOneEach c.tables.loads

@@ -1,0 +1,83 @@
+-- What a coordinator keeps between two events, and what it has done as an event ends.
+-- HTML Standard, "session history traversal queue" and "navigate"; that nobody is asked and nobody dies is this project's own premise today.
+use Rattle.coord.specs.declared.ask.Ask.{Ask}
+use Rattle.coord.specs.declared.ask.Ask.TheVariants as asks
+use Rattle.coord.specs.declared.coordinator.Coordinator.{Coordinator}
+use Rattle.hang_facts.specs.Members.{Has}
+use Rattle.log_model.specs.Seen.{Seen}
+use Rattle.log_model.specs.declared.job.Why.{Why}
+use Rattle.log_model.specs.declared.request.Mode.{Mode}
+use Rattle.log_model.specs.declared.request.Request.{Request}
+use Rattle.log_model.specs.declared.row_kind.RowKind.{RowKind}
+use Rattle.order_facts.specs.Orders.{IsOfCoord}
+use Rattle.seen_laws.specs.Blocks.{EachPass}
+use Rattle.seen_laws.specs.InEvent.{InEvent, now_of, row_of, start_of}
+use Rattle.std.specs.Prelude.{List, None, [], length, map, ℕ, ◌++◌, ◌+◌, ◌∷◌, ◌≡◌}
+use Rattle.tab_ids.specs.declared.NavId.{NavId}
+use Rattle.tab_ids.specs.declared.ReqId.{ReqId}
+use Rattle.tab_loads.specs.Loading.{CameTo, pass_of}
+use Rattle.tab_loads.specs.declared.loaded.Loaded.{Loaded}
+use Rattle.tab_stands.specs.Offs.{AreShownUnder}
+use Rattle.tab_stands.specs.PassedOn.{IsReady, MakesServe, OrdersAreSound}
+use Rattle.tab_stands.specs.Standing.{HasRoomFor, IsTakenUp}
+use Rattle.tab_stands.specs.Standing as tab
+use Rattle.log_model.specs.declared.request.Request.TheVariants as requests
+use Rattle.log_model.specs.declared.row_kind.Actor.TheVariants as actors
+use Rattle.log_model.specs.declared.row_kind.RowKind.TheVariants as rows
+
+-- its tables, its queue and the requests that are noted for stray documents stand for what the log has come to, and it keeps as many documents as its settings say
+pub record StandsFor (s : Seen) (c : Coordinator) : Type 0 where
+  pub stands : tab.StandsFor s c.tables c.queue c.blame.entries
+  pub keep : c.tables.kept.keep ≡ c.header.keep
+
+-- ---- an event begins
+
+-- the coordinator stands for what the log had come to as the event began, with the event's settings, and there is room for requests
+pub record IsOpenTo (e : InEvent) (c : Coordinator) : Type 0 where
+  pub header : c.header ≡ e.header
+  pub stands : StandsFor e.start c
+  pub room : HasRoomFor e.start
+
+-- ---- an event ends
+
+-- the event ends with these rows, each of which passes; the coordinator stands for what the log has come to, and its settings are the event's
+pub record HasActed (e : InEvent) (out : List RowKind) (c : Coordinator) : Type 0 where
+  pub stands : StandsFor (now_of e out) c
+  pub header : c.header ≡ e.header
+  pub passes : EachPass (start_of e) (row_of e e.own ∷ map (row_of e) out) []
+
+-- a pass may follow, for this cause; what was delivered was taken up, if it was to be; the rows so far are a coordinator's; orders that make documents are for what orders may be for, and all are sound; and as the event began each document shown was shown under its navigable's epoch
+pub record IsToSettle (e : InEvent) (out : List RowKind) (c : Coordinator) (cause : Why) : Type 0 where
+  pub header : c.header ≡ e.header
+  pub ready : IsReady (pass_of e) out c.tables c.queue c.blame.entries cause
+  pub makes : MakesServe (now_of e out)
+  pub sound : OrdersAreSound (now_of e out)
+  pub coord : (row : RowKind) → Has out row → IsOfCoord row
+  pub shows : AreShownUnder (now_of e [])
+  pub taken : IsTakenUp e out
+
+-- ---- what the user asks for
+
+-- the request
+abbrev pub asked_for : Ask → Request
+asked_for (asks.Load nav mode address) = requests.Load nav mode address
+asked_for (asks.Go delta) = requests.Go delta
+
+-- in this event the user asks for it, by the next number
+pub record IsAsk (e : InEvent) (req : ReqId) (ask : Ask) : Type 0 where
+  pub by_user : e.actor ≡ actors.Ui
+  pub own : e.own ≡ rows.Accepted req None (asked_for ask)
+  pub next : req.0 ≡ length e.start.requests + 1
+
+-- the first rows say what became of the load; others may follow
+pub record LoadCame (e : InEvent) (req : ReqId) (nav : NavId) (mode : Mode) (address : List ℕ) (out : List RowKind) : Type 0 where
+  pub loaded : Loaded
+  pub first : List RowKind
+  pub came : CameTo e req nav mode address first loaded
+  pub more : List RowKind
+  pub is : out ≡ first ++ more
+
+-- what became of a load that was asked for; a traversal has joined the queue
+abbrev pub AskCame : InEvent → ReqId → Ask → List RowKind → Type 0
+AskCame e req (asks.Load nav mode address) out = LoadCame e req nav mode address out
+AskCame e req (asks.Go delta) out = Unit {0}

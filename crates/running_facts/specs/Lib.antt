@@ -1,0 +1,3 @@
+pub mod Running
+pub mod Fitting
+pub mod Telling

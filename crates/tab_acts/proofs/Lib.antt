@@ -1,0 +1,5 @@
+pub mod Left
+pub mod Events
+pub mod Orders
+pub mod Acts
+pub mod Fragments

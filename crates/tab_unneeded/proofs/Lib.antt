@@ -1,0 +1,6 @@
+pub mod Strays
+pub mod Notes
+pub mod Needs
+pub mod Comes
+pub mod Readies
+pub mod Calls

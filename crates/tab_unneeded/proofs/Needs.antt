@@ -1,0 +1,145 @@
+-- A document that was just made was never shown: no navigable was shown it last, it isn't kept, and nobody is awake on it.
+use Rattle.hang_facts.proofs.Hung.{places_distinct}
+use Rattle.hang_facts.proofs.Members.{find_has}
+use Rattle.hang_facts.specs.Members.{Has}
+use Rattle.home_facts.specs.Homes.{IsHomed}
+use Rattle.kept_facts.specs.Keeping.{IsKeptDoc, IsMadeFor}
+use Rattle.leave_rows.specs.Evicting.{is_last}
+use Rattle.log_model.specs.AfterPlaces.{sleepers_with}
+use Rattle.log_model.specs.Equal.{has_doc, holds}
+use Rattle.log_model.specs.Seen.{Document, Place, Seen, awake, document_of, place_in, place_of}
+use Rattle.log_model.specs.declared.job.Job.{Job}
+use Rattle.log_model.specs.declared.made.Report.{Report}
+use Rattle.log_model.specs.declared.outcome.Outcome.{Outcome}
+use Rattle.move_queue.specs.Queue.{Queue}
+use Rattle.rest_rows.proofs.Again.{doc_same}
+use Rattle.seen_laws.specs.InEvent.{InEvent, now_of}
+use Rattle.std.proofs.Common.{Bool, List, None, Option, Some, [], ap, eqb-true, false, refl, subst, sym, true, ℕ, ◌==◌, ◌∙◌, ◌≡◌}
+use Rattle.tab_doors.specs.declared.tables.Tables.{Tables}
+use Rattle.tab_ids.specs.declared.DocId.{DocId}
+use Rattle.tab_ids.specs.declared.NavId.{NavId}
+use Rattle.tab_ids.specs.declared.ProcId.{ProcId}
+use Rattle.tab_ids.specs.declared.ReqId.{ReqId}
+use Rattle.tab_ids.specs.declared.StateId.{StateId}
+use Rattle.tab_passes.proofs.Unders.{IsListedAs, has_docs}
+use Rattle.tab_stands.proofs.Dones.{did_now, did_tab}
+use Rattle.tab_stands.proofs.Reports.{told_kept}
+use Rattle.tab_stands.proofs.Unmade.{d, its_found, its_outcome, not_ready, places_now}
+use Rattle.tab_stands.specs.Delivering.{IsDelivery}
+use Rattle.tab_stands.specs.PassedOn.{IsStray, IsTab}
+use Rattle.tab_stands.specs.Standing.{StandsFor}
+use Rattle.tab_sweeps.specs.Unneeded.{IsUnneeded}
+use Rattle.walk_rows.proofs.Sleeping.{no_shower, nobody_awake}
+use Rattle.log_model.specs.declared.job.Task.TheVariants as tasks
+use Rattle.log_model.specs.declared.made.Report.TheVariants as reports
+use Rattle.log_model.specs.declared.outcome.Outcome.TheVariants as outcomes
+
+module _ (e : InEvent) (proc : ProcId) (job : Job) (outcome : Outcome) (del : IsDelivery e proc (reports.Done job outcome None)) (t : Tables) (queue : Queue) (blame : List (StateId × ReqId)) (stands : StandsFor e.start t queue blame) (nav : NavId) (state : StateId) (address : List ℕ) (initial : Bool) (task : job.task ≡ tasks.Populate nav state address initial) where
+  abbrev s : Seen
+  s = e.start
+
+  abbrev n : Seen
+  n = now_of e []
+
+  abbrev own : Document
+  own = d e proc job outcome del t queue blame stands nav state address initial task
+
+  found : document_of s job.doc ≡ Some own
+  found = its_found e proc job outcome del t queue blame stands nav state address initial task
+
+  new : own.is_ready ≡ false
+  new = not_ready e proc job outcome del t queue blame stands nav state address initial task
+
+  places_same : n.places ≡ s.places
+  places_same =
+      ap (λ (x : Seen). x.places) (did_now e proc job outcome del t queue blame stands) ∙ places_now e proc job outcome del t queue blame stands nav state address initial task
+
+  place_same : (x : NavId) → place_of n x ≡ place_of s x
+  place_same x = ap (λ (l : List Place). place_in l x) places_same
+
+  pub tab_made : IsTab t.running [] [] n
+  tab_made =
+      subst (λ (x : Seen). IsTab t.running [] [] x) (sym (did_now e proc job outcome del t queue blame stands)) (did_tab e proc job outcome del t queue blame stands)
+
+  -- ---- nobody is awake on it
+
+  never_awake : (x : NavId) (place : Place) → place_of n x ≡ Some place → place.status ≡ awake job.doc → ⊥
+  never_awake x place placed wakes =
+      let homed : IsHomed s.documents place job.doc = stands.between.tab.homes.homed x place job.doc (sym (place_same x) ∙ placed) wakes in
+      let both : Some homed.home.document ≡ Some own = sym homed.home.found ∙ found in
+      let one : homed.home.document ≡ own = cc in
+      let never : true ≡ false = sym homed.home.ready ∙ ap (λ (y : Document). y.is_ready) one ∙ new in
+      cc
+
+  pub made_nobody : sleepers_with n job.doc ≡ []
+  made_nobody = nobody_awake n job.doc (no_shower n job.doc (places_distinct n tab_made.sound tab_made.hangs) never_awake)
+
+  -- ---- it isn't kept
+
+  pub made_unkept : has_doc n.kept job.doc ≡ false
+  made_unkept = by_test (has_doc n.kept job.doc) refl
+    where
+      kept_same : n.kept ≡ s.kept
+      kept_same =
+          ap (λ (x : Seen). x.kept) (did_now e proc job outcome del t queue blame stands) ∙ told_kept e proc del.by_coord del.own t queue blame stands (reports.Done job outcome None) del.first
+
+      by_test : (b : Bool) → has_doc n.kept job.doc ≡ b → has_doc n.kept job.doc ≡ false
+      by_test false is = is
+      by_test true is =
+          let listed : IsListedAs s.kept job.doc = has_docs s.kept job.doc (ap (λ (l : List DocId). has_doc l job.doc) (sym kept_same) ∙ is) in
+          let its : IsKeptDoc s.documents s.places job.doc = stands.between.tab.kept.each job.doc (subst (λ (x : DocId). Has s.kept x) (doc_same listed.it job.doc listed.passes) listed.there) in
+          let both : Some its.d ≡ Some own = sym its.found ∙ found in
+          let one : its.d ≡ own = cc in
+          let never : true ≡ false = sym its.ready ∙ ap (λ (y : Document). y.is_ready) one ∙ new in
+          absurd cc
+
+  -- ---- no navigable was shown it last
+
+  unshown : (x : Document) → document_of n job.doc ≡ Some x → is_last n x ≡ false
+  unshown x at = by_place (place_of n x.nav) refl
+    where
+      number : x.nr ≡ job.doc
+      number =
+          ap (λ (k : ℕ). let y : DocId = record { 0 = k } in y) (let passes : (x.nr.0 == job.doc.0) ≡ true = (find_has (λ (y : Document). y.nr.0 == job.doc.0) n.documents x at).1 in eqb-true x.nr.0 job.doc.0 passes)
+
+      by_doc : (place : Place) (last : DocId) → place_of n x.nav ≡ Some place → place.last ≡ Some last → (b : Bool) → (last.0 == job.doc.0) ≡ b → (last.0 == job.doc.0) ≡ false
+      by_doc place last placed is false apart = apart
+      by_doc place last placed is true same =
+          let made : IsMadeFor s.documents x.nav last = stands.between.tab.kept.lasts x.nav place last (sym (place_same x.nav) ∙ placed) is in
+          let both : Some made.d ≡ Some own = sym made.found ∙ ap (λ (y : DocId). document_of s y) (doc_same last job.doc same) ∙ found in
+          let one : made.d ≡ own = cc in
+          let never : true ≡ false = sym made.ready ∙ ap (λ (y : Document). y.is_ready) one ∙ new in
+          absurd cc
+
+      by_last : (place : Place) → place_of n x.nav ≡ Some place → (o : Option DocId) → place.last ≡ o → holds (λ (y : DocId). y.0 == x.nr.0) place.last ≡ false
+      by_last place placed None is = ap (λ (o : Option DocId). holds (λ (y : DocId). y.0 == x.nr.0) o) is
+      by_last place placed (Some last) is =
+          ap (λ (o : Option DocId). holds (λ (y : DocId). y.0 == x.nr.0) o) is
+          ∙ ap (λ (y : DocId). last.0 == y.0) number
+          ∙ by_doc place last placed is (last.0 == job.doc.0) refl
+
+      by_place : (o : Option Place) → place_of n x.nav ≡ o → holds (λ (place : Place). holds (λ (y : DocId). y.0 == x.nr.0) place.last) o ≡ false
+      by_place None none = refl
+      by_place (Some place) placed = by_last place placed place.last refl
+
+  -- ---- so nothing needs it
+
+  pub made_unneeded : IsStray n job.doc state → IsUnneeded e n job.doc state
+  made_unneeded stray =
+      record {
+        taken = record {
+          proc = proc;
+          takes = del.own;
+          populate = job;
+          slot = slot.0;
+          made = None;
+          tells = del.first ∙ ap (λ (o : Outcome). let r : Option Report = Some (reports.Done job o None) in r) slot.1;
+          of = refl;
+        };
+        stray = stray;
+        unshown = unshown stray.document stray.found;
+        unkept = made_unkept;
+      }
+    where
+      slot : (slot : Option ℕ) × (outcome ≡ outcomes.Populated slot)
+      slot = its_outcome e proc job outcome del t queue blame stands nav state address initial task

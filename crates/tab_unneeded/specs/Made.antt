@@ -1,0 +1,43 @@
+-- A document that nothing needs as it is made, and that was made for no request.
+-- HTML Standard, "attempt to populate the history entry's document" and "destroy a document"; that such a document is discarded at once, for what it was made for, is this project's own.
+use Rattle.log_model.specs.declared.job.Job.{Job}
+use Rattle.log_model.specs.declared.job.Why.{Why}
+use Rattle.log_model.specs.declared.outcome.Outcome.{Outcome}
+use Rattle.move_queue.specs.Queue.{Queue}
+use Rattle.seen_laws.specs.InEvent.{InEvent, now_of}
+use Rattle.std.specs.Prelude.{Bool, List, None, [], ℕ, ◌≡◌}
+use Rattle.tab_ids.specs.declared.DocId.{DocId}
+use Rattle.tab_ids.specs.declared.NavId.{NavId}
+use Rattle.tab_ids.specs.declared.ProcId.{ProcId}
+use Rattle.tab_ids.specs.declared.ReqId.{ReqId}
+use Rattle.tab_ids.specs.declared.StateId.{StateId}
+use Rattle.tab_stands.specs.Delivering.{IsDelivery}
+use Rattle.tab_stands.specs.PassedOn.{InPass, IsStray}
+use Rattle.log_model.specs.declared.job.Task.TheVariants as tasks
+use Rattle.log_model.specs.declared.job.Why.TheVariants as whys
+use Rattle.log_model.specs.declared.made.Report.TheVariants as reports
+
+-- the event in which the process's report of an order is taken, the queue, and the requests that are noted for stray documents
+pub record InMade : Type 0 where
+  pub event : InEvent
+  pub proc : ProcId
+  pub job : Job
+  pub outcome : Outcome
+  pub queue : Queue
+  pub noted : List (StateId × ReqId)
+
+-- a pass of it, with nothing at hand
+abbrev pub pass_in : InMade → InPass
+pass_in m = record { event = m.event; loads = []; hand = [] }
+
+-- the report tells that the document was made for the document state, for this reason, which is no request; and the document is stray then
+pub record IsMadeUnneeded (m : InMade) (doc : DocId) (state : StateId) (why : Why) : Type 0 where
+  pub tells : IsDelivery m.event m.proc (reports.Done m.job m.outcome None)
+  pub nav : NavId
+  pub address : List ℕ
+  pub initial : Bool
+  pub task : m.job.task ≡ tasks.Populate nav state address initial
+  pub doc_is : m.job.doc ≡ doc
+  pub why_is : m.job.why ≡ why
+  pub unasked : (req : ReqId) → why ≡ whys.Req req → ⊥
+  pub stray : IsStray (now_of m.event []) doc state

@@ -1,0 +1,44 @@
+//! A document that nothing needs is discarded as it is made.
+ghost use Rattle.std.specs.Prelude.{◌≡◌, ◌∷◌, [], OnOk};
+ghost use Rattle.log_model.specs.declared.job.Task.TheVariants as tasks;
+ghost use Rattle.log_model.specs.declared.job.Why.TheVariants as whys;
+ghost use Rattle.log_model.specs.declared.row_kind.RowKind.TheVariants as rows;
+ghost use Rattle.seen_laws.specs.InEvent.{now_of};
+ghost use Rattle.tab_doors.specs.Orders.{order_to};
+ghost use Rattle.tab_doors.specs.Working.{KeepsRun};
+ghost use Rattle.tab_stands.specs.PassedOn.{IsReady};
+ghost use Rattle.tab_stands.specs.Standing.{HasRoomFor, StandsFor};
+ghost use Rattle.tab_unneeded.specs.Made.{InMade, IsMadeUnneeded, pass_in};
+
+use address::OutOfMemory;
+use log_model::{Out, Why};
+use std::alloc::Global;
+use tab_doors::Tables;
+use tab_ids::{DocId, NavId, StateId};
+use tab_sweeps::discard_unneeded;
+
+/// A document was made for a document state that has neither an entry nor an ongoing load any more, and for no request: it is noted, and discarded at once for what it was made for. A pass may follow then. HTML Standard, "destroy a document".
+pub fn discard_made(
+    alloc: Global,
+    tables: &mut Tables,
+    out: &mut Out,
+    doc: DocId,
+    state: StateId,
+    why: Why,
+) -> Result<(), OutOfMemory>
+    ghost m: { InMade }
+    requires keep { tables.old.kept.keep ≡ m.event.header.keep }
+    requires first { out.old ≡ [] }
+    requires room { HasRoomFor m.event.start }
+    requires stands { StandsFor m.event.start tables.old m.queue m.noted }
+    requires made { IsMadeUnneeded m doc state why }
+    ensures out { OnOk result (out.new ≡ rows.Sent (order_to (now_of m.event []) doc why tasks.Discard) ∷ []) }
+    ensures ready { OnOk result (IsReady (pass_in m) out.new tables.new m.queue m.noted whys.Start) }
+    ensures kept { OnOk result (KeepsRun tables.old tables.new) }
+{
+    // Its clause says that each navigable has one load at most.
+    let _one = tables.loads.of(NavId(0));
+    tables.note_made(state, doc)?;
+    discard_unneeded(alloc, tables, out, doc, state, why)?;
+    Ok(())
+}

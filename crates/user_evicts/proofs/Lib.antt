@@ -1,0 +1,9 @@
+pub mod Lawful
+pub mod Works
+pub mod Owns
+pub mod Kepts
+pub mod Gones
+pub mod Lefts
+pub mod Takings
+pub mod Readies
+pub mod Calls

@@ -1,0 +1,230 @@
+-- The own row of an eviction was logged: all goes on as it was, and what documents made may be taken.
+use Rattle.calm_facts.proofs.Loads.{loads_same}
+use Rattle.coord_facts.proofs.Unread.{next}
+use Rattle.frame_tab.specs.Asking.{NoneHeld}
+use Rattle.last_facts.proofs.Rows.{evicted_lasting}
+use Rattle.leave_rows.specs.Evicting.{IsEvictDue}
+use Rattle.left_facts.proofs.Rows.{were_shown}
+use Rattle.left_facts.specs.Left.{WereShown}
+use Rattle.load_doors.specs.Tied.{AreTied}
+use Rattle.load_ties.proofs.Rows.{evicted_tied}
+use Rattle.load_whereabouts.specs.Whereabouts.{times_on_way, ways_of}
+use Rattle.log_model.specs.Causes.{denial_at_acceptance}
+use Rattle.log_model.specs.Places.{aim_of, all_stand, all_stand_in}
+use Rattle.log_model.specs.Queue.{is_delivered_duly}
+use Rattle.log_model.specs.Seen.{Asked, Seen, request_in, request_of}
+use Rattle.log_model.specs.declared.row_kind.Actor.{Actor}
+use Rattle.log_model.specs.declared.row_kind.LogRow.{LogRow}
+use Rattle.log_model.specs.declared.row_kind.RowKind.{RowKind}
+use Rattle.move_queue.specs.Queue.{Queue}
+use Rattle.rest_rows.proofs.Rows.{evicted_rests}
+use Rattle.rest_rows.specs.Moving.{AllRest}
+use Rattle.seen_laws.proofs.InEvents.{now_own}
+use Rattle.seen_laws.specs.Blocks.{point_at}
+use Rattle.seen_laws.specs.InEvent.{InEvent, IsTakenIn, now_of, row_of, start_of}
+use Rattle.std.proofs.Common.{List, None, Option, Some, [], ap, arith, false, inl, inr, length, refl, subst, sym, true, ℕ, ◌+◌, ◌<◌, ◌∙◌, ◌≡◌, ◌≤◌, ◌⊎◌}
+use Rattle.std.proofs.lemmas.Bool.Decides.{nat_tests}
+use Rattle.std.proofs.lemmas.List.{map-id}
+use Rattle.std.specs.Prelude.{nat_lt}
+use Rattle.tab_doors.proofs.EndLaws.{left_holds}
+use Rattle.tab_doors.specs.Look.{look_of as sights_of}
+use Rattle.tab_doors.specs.declared.tables.Tables.{Tables}
+use Rattle.tab_drops.proofs.Loads.{IsAskedFor, asked_for}
+use Rattle.tab_ids.specs.declared.DocId.{DocId}
+use Rattle.tab_ids.specs.declared.ReqId.{ReqId}
+use Rattle.tab_ids.specs.declared.StateId.{StateId}
+use Rattle.tab_stands.proofs.Accepting.{number_low}
+use Rattle.tab_stands.proofs.Coming.{IsComing, aim_same, taking_then}
+use Rattle.tab_stands.proofs.LateEvents.{late_first}
+use Rattle.tab_stands.proofs.MovedEvents.{moved_coming}
+use Rattle.tab_stands.proofs.PassedOn.{queue_over, steps_still, turning_first, unstood_by}
+use Rattle.tab_stands.proofs.Waiting.{off_where_runs}
+use Rattle.tab_stands.specs.PassedOn.{AreHeldUp, AreUnheld, HasQueue, HoldsParked, IsGoing, IsLeftStray, IsStray, IsTab, IsTaking, IsTurning, LateKnown, LeavesQueue, LoadsMadeOwn, MayServe, MovedAreShown}
+use Rattle.tab_stands.specs.Standing.{HasRoomFor, StandsFor}
+use Rattle.tab_whole.proofs.Beginning.{evicted_tab}
+use Rattle.tab_whole.proofs.Where.{way_unheld}
+use Rattle.user_evicts.specs.Evicting.{IsEvictAsk}
+use Rattle.log_model.specs.declared.row_kind.Actor.TheVariants as actors
+use Rattle.log_model.specs.declared.row_kind.RowKind.TheVariants as rows
+
+-- nothing is delivered in it
+pub evicted_takes : (e : InEvent) (state : StateId) → IsEvictAsk e state → (later : List LogRow) → IsTakenIn e later
+evicted_takes e state asks later =
+    ap (λ (k : RowKind). is_delivered_duly (point_at (start_of e) later) (row_of e k)) asks.own
+
+module _ (e : InEvent) (state : StateId) (asks : IsEvictAsk e state) (t : Tables) (queue : Queue) (blame : List (StateId × ReqId)) (stands : StandsFor e.start t queue blame) where
+  abbrev s : Seen
+  s = e.start
+
+  abbrev went : Seen
+  went = next e.start e.event actors.Ui (rows.Evicted state)
+
+  now : now_of e [] ≡ went
+  now =
+      now_own e
+      ∙ (ap (λ (a : Actor). next e.start e.event a e.own) asks.by_user
+      ∙ ap (λ (k : RowKind). next e.start e.event actors.Ui k) asks.own)
+
+  tab_went : IsTab t.running [] [] went
+  tab_went = evicted_tab t.running s e.event actors.Ui stands.between.tab stands.between.flows state
+
+  pub tab_own : IsTab t.running [] [] (now_of e [])
+  tab_own = subst (λ (x : Seen). IsTab t.running [] [] x) (sym now) tab_went
+
+  pub rests_own : AllRest (now_of e [])
+  rests_own = subst (λ (x : Seen). AllRest x) (sym now) (evicted_rests s e.event actors.Ui [] stands.between.rests state)
+
+  pub few_own : length (now_of e []).kept ≤ t.kept.keep
+  few_own = subst (λ (x : Seen). length x.kept ≤ t.kept.keep) (sym now) stands.between.few
+
+  -- it is kept longest still
+  pub due_own : IsEvictDue (now_of e []) state asks.doc asks.document
+  due_own =
+      subst (λ (x : Seen). IsEvictDue x state asks.doc asks.document) (sym now) (record { last = asks.due.last; found = asks.due.found; state_is = asks.due.state_is })
+
+  -- ---- the tables
+
+  pub tied_own : AreTied (now_of e []) t
+  tied_own = subst (λ (x : Seen). AreTied x t) (sym now) tied
+    where
+      tied : AreTied went t
+      tied =
+          record {
+            holds = left_holds (sights_of s t.running) (sights_of went t.running) t refl refl refl refl refl refl refl stands.tied.holds;
+            runs = record { only = stands.tied.runs.only; there = stands.tied.runs.there };
+            goal = stands.tied.goal;
+            few = stands.tied.few;
+            initial = stands.tied.initial;
+            loads = evicted_tied s e.event actors.Ui t.loads stands.tied.loads state;
+            kept = stands.tied.kept;
+          }
+
+  -- ---- what comes, and goes on
+
+  serves : (req : ReqId) → MayServe s req → MayServe went req
+  serves req may = record { goes = may.goes; begun = may.begun }
+
+  theirs : LoadsMadeOwn went
+  theirs req q made found load makes =
+      let its = stands.lasts.made req q made found load makes in
+      (record { d = its.0.d; found = its.0.found; nav_is = its.0.nav_is }, its.1)
+
+  comes : IsComing blame s went
+  comes =
+      record {
+        g = λ p. p;
+        arrives = record { nav = λ p. refl; sight = λ p. refl; last = λ p. refl; taken = λ p. refl; ever = λ p. refl; why = λ p. refl; arrived = λ p is. is };
+        places = sym (map-id s.places);
+        history = refl;
+        kept = refl;
+        asked = λ req q at. record { now = q; at = at; same = refl };
+        loads = λ req l at on. at;
+        loading = loads_same s went (λ req l at on. at) (λ doc. refl) stands.between.loading;
+        serves = serves;
+        moved = λ nav. refl;
+        homes = λ doc d found. (d, found, refl);
+        states = λ doc. refl;
+        strays = λ doc own stray. inl (left doc own stray (stands.strays doc own (was doc own stray)));
+        were = were_shown s e.event actors.Ui stands.lasts.were (rows.Evicted state) tt;
+        theirs = theirs;
+        step = refl;
+        unstood = λ off away. unstood_by s (record { event = e.event; actor = actors.Ui; row = rows.Evicted state }) refl away off;
+      }
+    where
+      was : (doc : DocId) (own : StateId) → IsStray went doc own → IsStray s doc own
+      was doc own stray =
+          record { document = stray.document; found = stray.found; its_state = stray.its_state; ready = stray.ready; undiscarded = stray.undiscarded; bare = stray.bare; unloaded = stray.unloaded }
+
+      left : (doc : DocId) (own : StateId) → IsStray went doc own → IsLeftStray s blame doc own → IsLeftStray went blame doc own
+      left doc own stray it = record { req = it.req; noted = it.noted; may = serves it.req it.may; bare = it.bare }
+
+  pub comes_own : IsComing blame s (now_of e [])
+  comes_own = subst (λ (x : Seen). IsComing blame s x) (sym now) comes
+
+  pub were_own : WereShown (now_of e [])
+  were_own = comes_own.were
+
+  pub theirs_own : LoadsMadeOwn (now_of e [])
+  theirs_own = comes_own.theirs
+
+  held : AreHeldUp t.running went
+  held = by_run t.running stands.lasts.held
+    where
+      by_run : (o : Option ReqId) → AreHeldUp o s → AreHeldUp o went
+      by_run None is = tt
+      by_run (Some run) is = is
+
+  pub going_own : HasRoomFor e.start → IsGoing t.running [] [] (now_of e [])
+  going_own room = subst (λ (x : Seen). IsGoing t.running [] [] x) (sym now) going
+    where
+      going : IsGoing t.running [] [] went
+      going =
+          record {
+            tab = tab_went;
+            lasting = evicted_lasting s e.event actors.Ui stands.lasts.lasting state;
+            counted = record { states = stands.lasts.counted.states; entries = stands.lasts.counted.entries; epochs = stands.lasts.counted.epochs };
+            steps = steps_still s went stands.lasts.steps refl (omega arith);
+            held = held;
+            room = (let low : length s.requests + 3 < 4294967296 = room in omega (arith, low));
+          }
+
+  -- who is awake and was moved by the traversal that runs was shown a document by it
+  pub moved_own : MovedAreShown t.running (now_of e [])
+  moved_own = moved_coming blame e.start (now_of e []) comes_own t.running stands.between.tab.asked stands.lasts.moved
+
+  pub late_own : LateKnown t.running (now_of e [])
+  late_own = late_first blame e.start (now_of e []) comes_own t.running tab_own.standing stands.lasts.off
+
+  -- an ongoing load is on its way, and so isn't held back
+  unheld : AreUnheld e (now_of e [])
+  unfolding now_of
+  unheld r n load_ =
+      let its : IsAskedFor (now_of e []) r n = asked_for (now_of e []) r n load_ in
+      let way : 0 < times_on_way (request_in (now_of e []).requests r) = subst (λ (o : Option Asked). 0 < times_on_way o) (sym its.at) (let one : 0 < ways_of its.q = rw its.ongoing (omega arith) in one) in
+      (way_unheld t.running [] [] (now_of e []) tab_own r way).parked
+
+  pub taking_own : IsTaking e t.running blame (now_of e [])
+  taking_own =
+      taking_then e t.running t.kept.keep t.goal blame (now_of e []) stands.between stands.lasts stands.tied.goal [] [] tab_own tied_own.goal comes_own unheld
+
+  aim_own : aim_of (now_of e []) ≡ aim_of e.start
+  aim_own =
+      aim_same e t.running t.kept.keep t.goal blame (now_of e []) stands.between stands.lasts stands.tied.goal [] [] tab_own tied_own.goal comes_own
+
+  -- ---- what waits, and what is held back
+
+  pub turning_own : IsTurning e []
+  turning_own = turning_first e tab_own.known (λ req q has at. early req q at)
+    where
+      early : (req : ReqId) (q : Asked) → request_of (now_of e []) req ≡ Some q → denial_at_acceptance e.start q.what ≡ None ⊎ (nat_lt (length e.start.requests) req.0 ≡ false)
+      early req q at =
+          let low : req.0 ≤ length s.requests = number_low s.requests req q (ap (λ (x : Seen). request_of x req) (sym now) ∙ at) in
+          inr (grind (arith, nat_tests, low))
+
+  pub queued_own : HasQueue (now_of e []) t.running queue.waiting
+  queued_own = subst (λ (x : Seen). HasQueue x t.running queue.waiting) (sym now) (queue_over s went leaves t.running queue.waiting stands.queue)
+    where
+      leaves : LeavesQueue s went
+      leaves = record { joined = refl; whats = λ req. refl; ready = λ req nav it. record { q = it.q; at = it.at; ready = it.ready; its = it.its } }
+
+  pub parked_own : HoldsParked (now_of e []) queue.parked
+  parked_own = subst (λ (x : Seen). HoldsParked x queue.parked) (sym now) stands.parked
+
+  pub none_held : NoneHeld t.running (now_of e [])
+  none_held = subst (λ (x : Seen). NoneHeld t.running x) (sym now) stands.between.held
+
+  -- where a report is held back, a traversal runs, and not all stand
+  pub off_own : ((now_of e []).parked ≡ [] → ⊥) → all_stand (now_of e []) (aim_of (now_of e [])) ≡ true → ⊥
+  off_own some all = by_run t.running refl
+    where
+      same : all_stand (now_of e []) (aim_of (now_of e [])) ≡ all_stand s (aim_of s)
+      same =
+          ap (λ (k : ℕ). all_stand (now_of e []) k) aim_own
+          ∙ ap (λ (x : Seen). all_stand_in x.history.rows x.places (aim_of s)) now
+
+      by_run : (o : Option ReqId) → t.running ≡ o → ⊥
+      by_run None is = some (none_held is)
+      by_run (Some run) is =
+          let off : all_stand s (aim_of s) ≡ false = off_where_runs t.kept.keep t.running s stands.between run is in
+          let never : true ≡ false = sym all ∙ same ∙ off in
+          cc

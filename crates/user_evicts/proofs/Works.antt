@@ -1,0 +1,91 @@
+-- The document that the user evicts is discarded by the first row that is put out, and the coordinator is at work then.
+use Rattle.nav_tree.specs.Tree.{discarded}  -- keep
+use Rattle.hang_facts.proofs.Members.{into_map}
+use Rattle.hang_facts.specs.Members.{Has}
+use Rattle.kept_facts.specs.Keeping.{kept_states}
+use Rattle.load_doors.specs.Tied.{AreTied}
+use Rattle.load_table.specs.Loads.{ongoing_load}
+use Rattle.load_table.specs.declared.load.Load.{Load}
+use Rattle.load_ties.specs.Tying.{TiesLoads}
+use Rattle.log_model.specs.After.{after}
+use Rattle.log_model.specs.Seen.{Document, Seen}
+use Rattle.log_model.specs.declared.job.Job.{Job}
+use Rattle.log_model.specs.declared.row_kind.Actor.{Actor}
+use Rattle.log_model.specs.declared.row_kind.RowKind.{RowKind}
+use Rattle.page_cache.specs.Kept.{without}
+use Rattle.each_facts.specs.Runs.{is_run}
+use Rattle.seen_laws.proofs.InEvents.{now_more}
+use Rattle.seen_laws.specs.InEvent.{InEvent, now_of, row_of}
+use Rattle.seen_laws.specs.Sending.{leads}
+use Rattle.std.proofs.Common.{List, None, Option, Some, [], ap, false, length, refl, subst, sym, true, ℕ, ◌++◌, ◌+◌, ◌==◌, ◌∙◌, ◌∷◌, ◌≡◌, ◌≤◌}
+use Rattle.std.proofs.lemmas.List.{length-map}
+use Rattle.tab_doors.proofs.Ahead.{lawful_none}
+use Rattle.tab_doors.proofs.Discarding.{discard_holds}
+use Rattle.tab_doors.proofs.Initial.{initial_same}
+use Rattle.tab_doors.proofs.Keeping.{gone_tied}
+use Rattle.tab_doors.proofs.ShowWorks.{served_same}
+use Rattle.tab_doors.proofs.Telling.{SendsOne}
+use Rattle.tab_doors.proofs.Works.{few_sent, goal_on, goal_read, kept_gone, runs_on}
+use Rattle.tab_doors.specs.Look.{look_of, sight}
+use Rattle.tab_doors.proofs.Whose.{proc_known, proc_same}
+use Rattle.tab_doors.specs.Orders.{numbered_order, order_to, proc_at}
+use Rattle.tab_doors.specs.Ties.{AreInitial, Holds, IsRunning, proc_in}
+use Rattle.tab_doors.specs.Working.{HasGoal, IsAtWork, IsWorker}
+use Rattle.tab_doors.specs.declared.tables.Tables.{Tables}
+use Rattle.tab_ids.specs.declared.DocId.{DocId}
+use Rattle.std.specs.Option.{IsSome}
+use Rattle.tab_ids.specs.declared.NavId.{NavId}
+use Rattle.tab_ids.specs.declared.ProcId.{ProcId}
+use Rattle.tab_ids.specs.declared.ReqId.{ReqId}
+use Rattle.tab_ids.specs.declared.StateId.{StateId}
+use Rattle.user_evicts.proofs.Lawful.{discard, evicted_lawful}
+use Rattle.user_evicts.specs.Discarding.{IsEvicted}
+use Rattle.log_model.specs.declared.job.Task.TheVariants as tasks
+use Rattle.log_model.specs.declared.job.Why.TheVariants as whys
+use Rattle.log_model.specs.declared.row_kind.RowKind.TheVariants as rows
+
+module _ (e : InEvent) (t u : Tables) (doc : DocId) (state : StateId) (tied : AreTied (now_of e []) t) (its : IsEvicted e t doc state) where
+  abbrev n : Seen
+  n = now_of e []
+
+  abbrev order : Job
+  order = discard e t doc state its
+
+  abbrev then_ : Seen
+  then_ = after n (row_of e (rows.Sent order))
+
+  unloaded : (x : Document) (nav : NavId) (load : Load) → Has n.documents x → (x.nr.0 == doc.0) ≡ true → ongoing_load nav t.loads ≡ Some load → (x.state.0 == load.state.0) ≡ false
+  unloaded x nav load has is at =
+      ap (λ (y : StateId). y.0 == load.state.0) (its.gone.its_state (sight x) (into_map sight n.documents x has) is) ∙ its.gone.unloaded nav load at
+
+  now_is : then_ ≡ now_of e (rows.Sent order ∷ [])
+  now_is = sym (now_more e [] (rows.Sent order))
+
+  pub evicted_work : u.tree ≡ discarded state t.tree → SendsOne t u t.shown.entries t.last.entries → u.running ≡ t.running → u.goal ≡ t.goal → u.kept ≡ record t.kept { states = without state t.kept.states } → IsAtWork e (rows.Sent order ∷ []) u
+  evicted_work tree one running goal kept =
+      record {
+        own = ap (λ (k : RowKind). leads k) its.own;
+        worker = subst (λ (a : Actor). IsWorker a) (sym its.by_user) tt;
+        holds = subst (λ (x : Seen). Holds (look_of x u.running) u) now_is (subst (λ (r : Option ReqId). Holds (look_of then_ r) u) (sym running) (discard_holds n t.running e.event e.actor (proc_at n doc) doc whys.Evict state [] t tied.holds tied.runs its.gone.are its.gone.its_state its.gone.its u tree one));
+        runs = subst (λ (x : Seen). IsRunning x.requests u.running) now_is (runs_on n.requests then_.requests t u (served_same is_run n order tasks.Discard whys.Evict (λ q. refl)) running tied.runs);
+        goal = subst (λ (x : Seen). HasGoal x.requests u.running u.goal) now_is (goal_on n.requests then_.requests t u (served_same goal_read n order tasks.Discard whys.Evict (λ q. refl)) running goal tied.goal);
+        few = subst (λ (x : Seen). length x.documents ≤ x.jobs + 1) now_is (few_sent n.documents then_.documents n.jobs (length-map n.documents _) tied.few);
+        initial = subst (λ (x : Seen). AreInitial x.initial_states u.initial.entries) now_is (initial_same n.initial_states t.initial.entries u.initial.entries one.initial tied.initial);
+        loads = subst (λ (x : Seen). TiesLoads x u.loads) now_is (subst (λ (l : List Load). TiesLoads then_ l) (sym one.loads) (gone_tied n e.event e.actor t.loads tied.loads order refl unloaded));
+        kept = kept_gone n doc (λ (x : Document). record x { is_discarded = true }) (λ x. refl) (λ x. refl) state its.own_state None t.kept u.kept tied.kept refl kept ∙ ap (λ (x : Seen). kept_states x) now_is;
+        lawful = lawful_none e (rows.Sent order ∷ []) (evicted_lawful e t doc state its);
+      }
+
+-- ---- the order that is counted and put out
+
+module _ (e : InEvent) (t : Tables) (doc : DocId) (state : StateId) (tied : AreTied (now_of e []) t) (its : IsEvicted e t doc state) where
+  -- the tables have the process to which it goes
+  pub evicted_proc : IsSome (proc_in t.whose.entries doc)
+  evicted_proc = proc_known (now_of e []) t.whose.entries tied.holds.whose doc its.gone.document its.gone.found
+
+  -- it is the next one to the document
+  pub evicted_out : (old new : List RowKind) (job : Job) {proc : ProcId} → old ≡ [] → proc_in t.whose.entries doc ≡ Some proc → new ≡ old ++ rows.Sent job ∷ [] → job ≡ numbered_order (length t.sent.items) proc doc whys.Evict tasks.Discard → new ≡ rows.Sent (order_to (now_of e []) doc whys.Evict tasks.Discard) ∷ []
+  evicted_out old new job {proc} first has is counted =
+      is
+      ∙ ap (λ (l : List RowKind). l ++ rows.Sent job ∷ []) first
+      ∙ ap (λ (j : Job). let l : List RowKind = rows.Sent j ∷ [] in l) (counted ∙ ap (λ (k : ℕ). numbered_order k proc doc whys.Evict tasks.Discard) tied.holds.sent ∙ ap (λ (p : ProcId). numbered_order ((now_of e []).jobs + 1) p doc whys.Evict tasks.Discard) (proc_same (now_of e []) t.whose.entries tied.holds.whose doc its.gone.document its.gone.found proc has))

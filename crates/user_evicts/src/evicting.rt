@@ -1,0 +1,48 @@
+//! The user evicts the document that is kept longest.
+ghost use Rattle.std.specs.Prelude.{◌≡◌, [], OnOk, IsSome, Some};
+ghost use Rattle.page_cache.specs.Kept.{oldest_of};
+ghost use Rattle.tab_doors.specs.Working.{KeepsStore};
+ghost use Rattle.tab_stands.specs.PassedOn.{IsReady};
+ghost use Rattle.tab_stands.specs.Standing.{HasRoomFor, StandsFor};
+ghost use Rattle.user_evicts.specs.Evicting.{HasEvicted, InEvict, IsEvictAsk, pass_in};
+ghost use Rattle.log_model.specs.declared.job.Why.TheVariants as whys;
+
+use crate::discarding::discard_evicted;
+use address::OutOfMemory;
+use log_model::{Out, Why};
+use page_cache::PageCache;
+use std::alloc::Global;
+use tab_doors::Tables;
+use tab_evicts::{discard_below, doc_there};
+use tab_ids::StateId;
+
+/// The state whose document is kept longest.
+fn longest(kept: &PageCache) -> StateId
+    requires { IsSome (oldest_of kept.now.states) }
+    ensures { oldest_of kept.now.states ≡ Some result }
+{
+    match kept.oldest() {
+        Some(state) => state,
+        None => unreachable!(),
+    }
+}
+
+/// The user evicts the document that is kept longest: it is discarded, and then those that are there below it, in the order of their numbers. A pass may follow then.
+pub fn evict_longest(alloc: Global, tables: &mut Tables, out: &mut Out) -> Result<(), OutOfMemory>
+    ghost b: { InEvict }
+    requires keep { tables.old.kept.keep ≡ b.event.header.keep }
+    requires first { out.old ≡ [] }
+    requires asks { IsEvictAsk b.event b.state }
+    requires room { HasRoomFor b.event.start }
+    requires stands { StandsFor b.event.start tables.old b.queue b.noted }
+    ensures came { OnOk result (HasEvicted b.event b.state out.new) }
+    ensures ready { OnOk result (IsReady (pass_in b) out.new tables.new b.queue b.noted whys.Evict) }
+    ensures kept { OnOk result (KeepsStore tables.old tables.new) }
+{
+    let docs = tables.tree.docs()?;
+    let state = longest(&tables.kept);
+    let doc = doc_there(&tables.tree, state);
+    discard_evicted(tables, out, doc, state)?;
+    discard_below(alloc, tables, out, state, &docs, Why::Evict)?;
+    Ok(())
+}
