@@ -5,7 +5,7 @@ for byte.
     python3 bench/logs.py MODEL [FIRST COUNT [PROFILE [PROGRAM]]]
 
 MODEL is a folder with the plain model of the engine. The seeds are 1 to 300, or COUNT from FIRST on. PROFILE
-is `one_document`, or `frames` for a tab of frames. The program is PROGRAM, or the proved one of this repository; each scenario is played with the words `play log`.
+is `one_document`, `frames` for a tab of frames, `loads` for loads between sites, or `kept` for documents that are kept and evicted. The program is PROGRAM, or the proved one of this repository; each scenario is played with the words `play log`.
 """
 import subprocess
 import sys

@@ -3,7 +3,7 @@ use Rattle.coord.proofs.Causes.{for_none}
 use Rattle.coord.specs.Delivering.{InDone, IsDone}
 use Rattle.coord.specs.Standing.{IsOpenTo, IsToSettle}
 use Rattle.coord.specs.declared.coordinator.Coordinator.{Coordinator}
-use Rattle.each_facts.proofs.Eaches.{each_first}
+use Rattle.seen_facts.proofs.Each.Eaches.{each_first}
 use Rattle.log_model.specs.Seen.{desk_of}
 use Rattle.log_model.specs.declared.header.Header.{Header}
 use Rattle.log_model.specs.declared.job.Job.{Job}
@@ -11,7 +11,7 @@ use Rattle.log_model.specs.declared.handler.LeaveCause.{LeaveCause}
 use Rattle.log_model.specs.declared.job.Task.{Task}
 use Rattle.log_model.specs.declared.job.Why.{Why}
 use Rattle.nav_tree.specs.Tree.{node_of}
-use Rattle.order_facts.specs.Orders.{TellsOf}
+use Rattle.tab_facts.specs.Order.Orders.{TellsOf}
 use Rattle.seen_laws.specs.InEvent.{InEvent, now_of}
 use Rattle.std.proofs.Common.{None, Some, [], ap, refl, subst, ℕ, ◌∙◌, ◌≡◌}
 use Rattle.std.specs.Option.{IsSome}
@@ -29,22 +29,28 @@ use Rattle.tab_stands.specs.Standing.{HasBegun, IsTakenUp}
 use Rattle.log_model.specs.declared.job.Task.TheVariants as tasks
 use Rattle.log_model.specs.declared.job.Why.TheVariants as whys
 use Rattle.log_model.specs.declared.made.Report.TheVariants as reports
+use Rattle.coord.proofs.Fragments.{delivered_found, delivered_telling}
+use Rattle.tab_facts.specs.Running.Running.{AreFoundRunning}
+use Rattle.tab_facts.specs.Running.Telling.{AreTelling}
 
 -- the tables keep as many documents as the event's settings say
 pub keep_now : (e : InEvent) (c : Coordinator) → IsOpenTo e c → c.tables.kept.keep ≡ e.header.keep
 keep_now e c open_ = open_.stands.keep ∙ ap (λ (h : Header). h.keep) open_.header
 
 -- where an event has begun, and what it delivers is taken up, the tab may be brought to rest
-pub to_settle : (e : InEvent) (c : Coordinator) → c.header ≡ e.header → HasBegun (pass_of e) c.tables c.queue c.blame.entries → (cause : Why) → MayCause (now_of e []) cause → IsTakenUp e [] → IsToSettle e [] c cause
-to_settle e c header begun cause may taken =
+pub to_settle : (e : InEvent) (c : Coordinator) → c.header ≡ e.header → HasBegun (pass_of e) c.tables c.queue c.blame.entries → (cause : Why) → MayCause (now_of e []) cause → IsTakenUp e [] → AreFoundRunning (now_of e []) → AreTelling (now_of e []) → IsToSettle e [] c cause
+to_settle e c header begun cause may taken found telling =
     record {
       header = header;
       ready = ready (pass_of e) c.tables c.queue c.blame.entries begun refl cause may;
       makes = begun.makes;
       sound = begun.sound;
       coord = λ row has. absurd has;
+      unmoved = λ req change has. absurd has;
       shows = begun.shows;
       taken = taken;
+      found = found;
+      telling = telling;
     }
 
 module _ (d : InDone) (c : Coordinator) (job : Job) (done : IsDone d c job) where
@@ -55,9 +61,16 @@ module _ (d : InDone) (c : Coordinator) (job : Job) (done : IsDone d c job) wher
   done_taken later =
       did_takes e d.proc job d.outcome done.delivery c.tables c.queue c.blame.entries done.open_.stands.stands later
 
+  -- what is so of fragment orders, and of reports of them
+  pub done_found : AreFoundRunning (now_of d.event [])
+  done_found = delivered_found e d.proc (reports.Done job d.outcome None) done.delivery c done.open_
+
+  pub done_telling : AreTelling (now_of d.event [])
+  done_telling = delivered_telling e d.proc (reports.Done job d.outcome None) done.delivery c done.open_
+
   pub quiet_settles : IsQuietTask job.task → IsToSettle d.event [] c whys.Start
   quiet_settles quiet =
-      to_settle e c done.open_.header (quiet_begun e d.proc job d.outcome done.delivery c.tables c.queue c.blame.entries done.open_.stands.stands quiet done.open_.room (keep_now e c done.open_)) whys.Start (for_none (now_of e [])) done_taken
+      to_settle e c done.open_.header (quiet_begun e d.proc job d.outcome done.delivery c.tables c.queue c.blame.entries done.open_.stands.stands quiet done.open_.room (keep_now e c done.open_)) whys.Start (for_none (now_of e [])) done_taken done_found done_telling
 
   -- its document's navigable is there
   pub shown_there : (nav : NavId) → nav_in c.tables.whose.entries job.doc ≡ Some nav → IsSome (node_of nav c.tables.tree)
@@ -66,7 +79,7 @@ module _ (d : InDone) (c : Coordinator) (job : Job) (done : IsDone d c job) wher
 
   pub shown_settles : IsShowTask job.task → (u : Tables) → u ≡ record c.tables { tree = shown_tree c.tables job.doc job.nr } → IsToSettle d.event [] (record c { tables = u }) whys.Start
   shown_settles shows u is =
-      to_settle e (record c { tables = u }) done.open_.header (shown_begun e d.proc job d.outcome done.delivery c.tables c.queue c.blame.entries done.open_.stands.stands shows done.open_.room (keep_now e c done.open_) u is) whys.Start (for_none (now_of e [])) done_taken
+      to_settle e (record c { tables = u }) done.open_.header (shown_begun e d.proc job d.outcome done.delivery c.tables c.queue c.blame.entries done.open_.stands.stands shows done.open_.room (keep_now e c done.open_) u is) whys.Start (for_none (now_of e [])) done_taken done_found done_telling
 
   -- no order asks anybody
   pub no_ask : (slot : ℕ) (cause : LeaveCause) → job.task ≡ tasks.Ask slot cause → ⊥

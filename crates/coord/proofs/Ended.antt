@@ -1,21 +1,22 @@
 -- The tab has come to rest, and the event ends.
 use Rattle.coord.specs.Standing.{HasActed, IsToSettle}
 use Rattle.coord.specs.declared.coordinator.Coordinator.{Coordinator}
-use Rattle.hang_facts.specs.Members.{Has}
+use Rattle.seen_facts.specs.Hang.Members.{Has}
 use Rattle.log_model.specs.declared.header.Header.{Header}
 use Rattle.log_model.specs.declared.job.Why.{Why}
 use Rattle.log_model.specs.declared.row_kind.LogRow.{LogRow}
 use Rattle.log_model.specs.declared.row_kind.RowKind.{RowKind}
-use Rattle.order_facts.specs.Orders.{IsOfCoord}
+use Rattle.tab_facts.specs.Order.Orders.{IsOfCoord}
 use Rattle.seen_laws.specs.InEvent.{InEvent, IsTakenIn, now_of, row_of}
 use Rattle.std.proofs.Common.{List, ap, inl, inr, map, refl, subst, sym, ◌∙◌, ◌≡◌, ◌⊎◌}
 use Rattle.std.proofs.lemmas.List.{map-append}
 use Rattle.tab_loads.specs.Loading.{pass_of}
 use Rattle.tab_stands.proofs.Ended.{acted}
-use Rattle.tab_stands.proofs.PassedOn.{IsNoneDue, put_makes, put_sound}
+use Rattle.tab_stands.proofs.PassedOn.{IsNoneDue, leaves_unsettled, put_makes, put_sound}
 use Rattle.tab_stands.proofs.Placing.{either_of}
-use Rattle.tab_stands.specs.PassedOn.{HasPut, HasSettled}
+use Rattle.tab_stands.specs.PassedOn.{HasPut, HasSettled, LeavesOff}
 use Rattle.tab_stands.specs.Standing as tab
+use Rattle.coord.proofs.Fragments.{put_found, put_telling}
 
 -- what is taken up among the rows so far is so among more
 taken_in : (e : InEvent) (was out : List RowKind) → HasPut e was out → tab.IsTakenUp e was → IsTakenIn e (map (row_of e) out)
@@ -31,12 +32,18 @@ of_coord e was out put first row has =
     by_part (inl there) = first row there
     by_part (inr there) = put.each row there
 
-pub settled_acts : (e : InEvent) (was out : List RowKind) (c after : Coordinator) (cause last : Why) → IsToSettle e was c cause → after.header ≡ c.header → HasSettled (pass_of e) out after.tables after.queue after.blame.entries last → IsNoneDue (now_of e out) after.tables.running after.queue.waiting → HasPut e was out → HasActed e out after
-settled_acts e was out c after cause last to header at due put =
+pub settled_acts : (e : InEvent) (was out : List RowKind) (c after : Coordinator) (cause last : Why) → IsToSettle e was c cause → after.header ≡ c.header → HasSettled (pass_of e) out after.tables after.queue after.blame.entries last → IsNoneDue (now_of e out) after.tables.running after.queue.waiting → HasPut e was out → LeavesOff e was out → HasActed e out after
+settled_acts e was out c after cause last to header at due put left =
     record {
-      stands = record { stands = all.stands; keep = at.header ∙ ap (λ (h : Header). h.keep) (sym (header ∙ to.header)) };
+      stands = record {
+        stands = all.stands;
+        keep = at.header ∙ ap (λ (h : Header). h.keep) (sym (header ∙ to.header));
+        found = put_found e was out put at.passing.going.tab.whose.numbered to.ready.passing.going.tab.desks to.found;
+        telling = put_telling e was out put to.telling;
+      };
       header = header ∙ to.header;
       passes = all.passes;
+      off = leaves_unsettled e was out left to.unmoved;
     }
   where
     all : tab.HasActed e out after.tables after.queue after.blame.entries

@@ -1,10 +1,10 @@
 -- The document that is kept longest was discarded as the user evicts it, with those below it: the tab may be brought to rest.
-use Rattle.coord.proofs.Fines.{IsFine, fine_discard, makes_over, sound_over}
+use Rattle.coord.proofs.Fines.{IsFine, fine_discard, fine_moves, makes_over, sound_over}
 use Rattle.coord.specs.Evicting.{longest_in}
 use Rattle.coord.specs.Standing.{IsOpenTo, IsToSettle, StandsFor}
 use Rattle.coord.specs.declared.coordinator.Coordinator.{Coordinator}
-use Rattle.desk_facts.proofs.Stays.{NoDeath}
-use Rattle.hang_facts.specs.Members.{Has}
+use Rattle.seen_facts.proofs.Desk.Stays.{NoDeath}
+use Rattle.seen_facts.specs.Hang.Members.{Has}
 use Rattle.log_model.specs.Seen.{Seen, desk_of}
 use Rattle.log_model.specs.declared.row_kind.RowKind.{RowKind}
 use Rattle.move_queue.specs.Queue.{Queue}
@@ -29,6 +29,16 @@ use Rattle.user_evicts.proofs.Owns.{comes_own, evicted_takes}
 use Rattle.user_evicts.specs.Evicting.{HasEvicted, IsEvictAsk}
 use Rattle.log_model.specs.declared.job.Why.TheVariants as whys
 use Rattle.log_model.specs.declared.row_kind.RowKind.TheVariants as rows
+use Rattle.coord.proofs.Fragments.{own_found, own_telling, plain_found}
+use Rattle.seen_facts.proofs.Coord.Unread.{next}
+use Rattle.seen_facts.proofs.Desk.Rows.{evicted_desks}
+use Rattle.seen_facts.specs.Desk.Own.{AreDesksIn, IsFragmentTask}
+use Rattle.log_model.specs.declared.job.Job.{Job}
+use Rattle.log_model.specs.declared.job.Task.{Task}
+use Rattle.tab_facts.proofs.Running.Tells.{telling_over}
+use Rattle.tab_facts.specs.Running.Running.{AreFoundRunning}
+use Rattle.tab_facts.specs.Running.Telling.{AreTelling}
+use Rattle.seen_laws.proofs.InEvents.{now_own}
 
 -- what is kept longest by the tables is so in the log
 pub longest_is : (s : Seen) (c : Coordinator) → StandsFor s c → oldest_of c.tables.kept.states ≡ longest_in s
@@ -67,6 +77,27 @@ module _ (e : InEvent) (state : StateId) (c : Coordinator) (open_ : IsOpenTo e c
     shows : AreShownUnder (now_of e [])
     shows = own_under e leads_own alive stands.lasts.shows
 
+    -- no document is sent to a fragment
+    sends_none : (job : Job) → Has out (rows.Sent job) → IsFragmentTask job.task → ⊥
+    sends_none job has fragment =
+        let it = came.only.each (rows.Sent job) (subst (λ (l : List RowKind). Has l (rows.Sent job)) came.only.is has) in
+        let same : job ≡ it.job = the_job job it.job it.is in
+        subst (λ (t : Task). IsFragmentTask t) it.discards (subst (λ (j : Job). IsFragmentTask j.task) same fragment)
+      where
+        the_job : (a b : Job) → rows.Sent a ≡ rows.Sent b → a ≡ b
+        the_job a b is = cc
+
+    desks : AreDesksIn (now_of e [])
+    desks =
+        subst AreDesksIn (sym (now_own e ∙ ap (λ (k : RowKind). next e.start e.event e.actor k) asks.own)) (evicted_desks e.start e.event e.actor stands.between.tab.desks state)
+
+    found : AreFoundRunning (now_of e out)
+    found =
+        plain_found e out [] (λ row has. (fine row has).coord) sends_none ready.passing.going.tab.whose.numbered desks (own_found e leads_own alive open_.stands.found)
+
+    telling : AreTelling (now_of e out)
+    telling = telling_over e out [] (λ row has. (fine row has).coord) (own_telling e leads_own open_.stands.telling)
+
     pub evicted_settles : (after : Coordinator) → after.header ≡ c.header → after.tables ≡ u → after.queue ≡ c.queue → after.blame.entries ≡ c.blame.entries → IsToSettle e out after whys.Evict
     evicted_settles after header tables queue noted =
         record {
@@ -78,6 +109,9 @@ module _ (e : InEvent) (state : StateId) (c : Coordinator) (open_ : IsOpenTo e c
           makes = makes;
           sound = sound;
           coord = λ row has. (fine row has).coord;
+          unmoved = fine_moves (now_of e out) (now_of e out) whys.Evict out fine;
           shows = shows;
           taken = λ later. evicted_takes e state asks (map (row_of e) out ++ later);
+          found = found;
+          telling = telling;
         }

@@ -1,14 +1,15 @@
 -- Rows of a coordinator whose orders are sound, and of which each that makes a document is for one reason: what they leave.
-use Rattle.asked_facts.specs.Asking.{ArePlain}
-use Rattle.hang_facts.specs.Members.{Has}
+use Rattle.seen_facts.specs.Asked.Asking.{ArePlain}
+use Rattle.coord.specs.Standing.{MoveNobody}
+use Rattle.seen_facts.specs.Hang.Members.{Has}
 use Rattle.log_model.specs.Seen.{Seen}
 use Rattle.log_model.specs.declared.job.Job.{Job}
 use Rattle.log_model.specs.declared.job.Task.{Task}
 use Rattle.log_model.specs.declared.job.Why.{Why}
 use Rattle.log_model.specs.declared.request.Mode.{Mode}
 use Rattle.log_model.specs.declared.row_kind.RowKind.{RowKind}
-use Rattle.order_facts.proofs.Rows.{coord_within, orders_on, orders_over}
-use Rattle.order_facts.specs.Orders.{IsOfCoord}
+use Rattle.tab_facts.proofs.Order.Rows.{coord_within, orders_on, orders_over}
+use Rattle.tab_facts.specs.Order.Orders.{IsOfCoord}
 use Rattle.seen_laws.specs.InEvent.{InEvent, now_of}
 use Rattle.std.proofs.Common.{List, Option, [], ap, false, inl, inr, refl, subst, sym, ℕ, ◌∙◌, ◌∷◌, ◌≡◌}
 use Rattle.tab_ids.specs.declared.NavId.{NavId}
@@ -19,8 +20,14 @@ use Rattle.tab_stands.specs.PassedOn.{IsMake, IsOfItsLoad, IsSoundTask, MakesSer
 use Rattle.log_model.specs.declared.job.Task.TheVariants as tasks
 use Rattle.log_model.specs.declared.row_kind.RowKind.TheVariants as rows
 
+-- the row changes nothing
+abbrev pub AppliesNone : RowKind → Type 0
+AppliesNone (rows.Applied req change) = ⊥
+AppliesNone _ = Unit {0}
+
 pub record IsFine (n : Seen) (why : Why) (row : RowKind) : Type 0 where
   pub coord : IsOfCoord row
+  pub plain : AppliesNone row
   pub makes : (job : Job) → row ≡ rows.Sent job → IsMake job.task → job.why ≡ why
   pub sound : (job : Job) → row ≡ rows.Sent job → IsSoundTask n job.doc job.task
 
@@ -28,14 +35,15 @@ same_job : (a b : Job) → rows.Sent a ≡ rows.Sent b → a ≡ b
 same_job a b is = cc
 
 module _ (n : Seen) (why : Why) where
-  pub no_job : (row : RowKind) → IsOfCoord row → ((job : Job) → row ≡ rows.Sent job → ⊥) → IsFine n why row
-  no_job row coord never = record { coord = coord; makes = λ job is make. absurd (never job is); sound = λ job is. absurd (never job is) }
+  pub no_job : (row : RowKind) → IsOfCoord row → AppliesNone row → ((job : Job) → row ≡ rows.Sent job → ⊥) → IsFine n why row
+  no_job row coord plain never = record { coord = coord; plain = plain; makes = λ job is make. absurd (never job is); sound = λ job is. absurd (never job is) }
 
   -- an order that sends the load's document to a fragment
   pub fine_fragment : (job : Job) (req : ReqId) (mode : Mode) (address : List ℕ) → job.task ≡ tasks.DoFragment req mode address → IsOfItsLoad n job.doc req → IsFine n why (rows.Sent job)
   fine_fragment job req mode address task its =
       record {
         coord = tt;
+        plain = tt;
         makes = λ other is make. absurd (subst (λ (t : Task). IsMake t) task (subst (λ (j : Job). IsMake j.task) (sym (same_job job other is)) make));
         sound = λ other is. subst (λ (j : Job). IsSoundTask n j.doc j.task) (same_job job other is) (subst (λ (t : Task). IsSoundTask n job.doc t) (sym task) its);
       }
@@ -45,6 +53,7 @@ module _ (n : Seen) (why : Why) where
   fine_populate job nav state address task its =
       record {
         coord = tt;
+        plain = tt;
         makes = λ other is make. ap (λ (j : Job). j.why) (sym (same_job job other is)) ∙ its;
         sound = λ other is. subst (λ (j : Job). IsSoundTask n j.doc j.task) (same_job job other is) (subst (λ (t : Task). IsSoundTask n job.doc t) (sym task) tt);
       }
@@ -54,6 +63,7 @@ module _ (n : Seen) (why : Why) where
   fine_discard job task =
       record {
         coord = tt;
+        plain = tt;
         makes = λ other is make. absurd (subst (λ (t : Task). IsMake t) task (subst (λ (j : Job). IsMake j.task) (sym (same_job job other is)) make));
         sound = λ other is. subst (λ (j : Job). IsSoundTask n j.doc j.task) (same_job job other is) (subst (λ (t : Task). IsSoundTask n job.doc t) (sym task) tt);
       }
@@ -65,6 +75,10 @@ module _ (n : Seen) (why : Why) where
   pub more_fine : (first : RowKind) (later : List RowKind) → IsFine n why first → ((row : RowKind) → Has later row → IsFine n why row) → (row : RowKind) → Has (first ∷ later) row → IsFine n why row
   more_fine first later fine rest row (inl is) = subst (λ (r : RowKind). IsFine n why r) is fine
   more_fine first later fine rest row (inr has) = rest row has
+
+-- they move nobody
+pub fine_moves : (n s : Seen) (why : Why) (out : List RowKind) → ((row : RowKind) → Has out row → IsFine n why row) → MoveNobody s out
+fine_moves n s why out fine req change has = absurd (fine (rows.Applied req change) has).plain
 
 -- what goes on over such rows
 module _ (e : InEvent) (run : Option ReqId) (out : List RowKind) (why : Why) (plain : ArePlain run (now_of e out)) (may : MayCause (now_of e out) why) (fine : (row : RowKind) → Has out row → IsFine (now_of e out) why row) where

@@ -1,4 +1,6 @@
 pub mod Causes
+pub mod News
+pub mod Fragments
 pub mod Ended
 pub mod Opened
 pub mod Dones
@@ -10,3 +12,4 @@ pub mod Placed
 pub mod Unneeded
 pub mod Readings
 pub mod Evicted
+pub mod Quiet

@@ -1,10 +1,10 @@
 -- A load was refused, dropped, sent to a fragment or has begun: the tab may be brought to rest.
-use Rattle.coord.proofs.Fines.{IsFine, fine_fragment, fine_populate, makes_over, more_fine, no_job, one_fine, sound_over}
-use Rattle.coord.specs.Standing.{IsAsk, IsOpenTo, IsToSettle}
+use Rattle.coord.proofs.Fines.{IsFine, fine_fragment, fine_moves, fine_populate, makes_over, more_fine, no_job, one_fine, sound_over}
+use Rattle.coord.specs.Standing.{IsAsk, IsOpenTo, IsToSettle, MoveNobody}
 use Rattle.coord.specs.declared.ask.Ask.TheVariants as asks
 use Rattle.coord.specs.declared.coordinator.Coordinator.{Coordinator}
-use Rattle.hang_facts.specs.Members.{Has}
-use Rattle.home_facts.specs.Homes.{IsHomed}
+use Rattle.seen_facts.specs.Hang.Members.{Has}
+use Rattle.seen_facts.specs.Home.Homes.{IsHomed}
 use Rattle.log_model.specs.Points.{ends_in, nav_of_request}
 use Rattle.log_model.specs.Seen.{Seen, document_of, place_of, request_of}
 use Rattle.log_model.specs.declared.job.Job.{Job}
@@ -14,12 +14,12 @@ use Rattle.log_model.specs.declared.request.Mode.{Mode}
 use Rattle.log_model.specs.declared.request.Request.{Request}
 use Rattle.log_model.specs.declared.row_kind.RowKind.{RowKind}
 use Rattle.move_queue.specs.Queue.{Queue}
-use Rattle.order_facts.proofs.Stills.{still_over}
-use Rattle.order_facts.specs.Orders.{IsOfCoord}
+use Rattle.tab_facts.proofs.Order.Stills.{still_over}
+use Rattle.tab_facts.specs.Order.Orders.{IsOfCoord}
 use Rattle.seen_laws.proofs.InEvents.{now_more}
 use Rattle.seen_laws.specs.InEvent.{InEvent, now_of, row_of}
 use Rattle.seen_laws.specs.Sending.{leads}
-use Rattle.std.proofs.Common.{List, None, Option, Some, [], ap, inl, inr, map, subst, sym, ℕ, ◌++◌, ◌∙◌, ◌∷◌, ◌≡◌}
+use Rattle.std.proofs.Common.{List, None, Option, Some, [], ap, inl, inr, map, refl, subst, sym, ℕ, ◌++◌, ◌∙◌, ◌∷◌, ◌≡◌}
 use Rattle.tab_doors.specs.declared.tables.Tables.{Tables}
 use Rattle.tab_ids.specs.declared.NavId.{NavId}
 use Rattle.tab_ids.specs.declared.ReqId.{ReqId}
@@ -38,7 +38,20 @@ use Rattle.tab_stands.specs.Standing.{IsTakenUp, StandsFor}
 use Rattle.log_model.specs.declared.outcome.Cause.TheVariants as drops
 use Rattle.log_model.specs.declared.request.Request.TheVariants as requests
 use Rattle.log_model.specs.declared.row_kind.RowKind.TheVariants as rows
-use Rattle.walk_facts.proofs.Placed.{found_nav}
+use Rattle.seen_facts.proofs.Walk.Placed.{found_nav}
+use Rattle.coord.proofs.Fragments.{accepted_found, accepted_telling, plain_found}
+use Rattle.seen_facts.proofs.Coord.Unread.{accepted_held, accepted_left, left_leads, next}
+use Rattle.seen_facts.specs.Coord.Leading.{held_back}
+use Rattle.seen_facts.proofs.Desk.Rows.{unpoked}
+use Rattle.seen_facts.specs.Desk.Own.{AreDesksIn, IsFragmentTask}
+use Rattle.tab_facts.proofs.Running.Over.{running_over}
+use Rattle.tab_facts.proofs.Running.Runs.{awake_run, awake_will_run}
+use Rattle.tab_facts.proofs.Running.Tells.{telling_over}
+use Rattle.tab_facts.specs.Running.Fitting.{IsFittingOrder}
+use Rattle.tab_facts.specs.Running.Running.{AreFoundRunning, AwakeRun}
+use Rattle.tab_facts.specs.Running.Telling.{AreTelling}
+use Rattle.log_model.specs.declared.job.Task.{Task}
+use Rattle.log_model.specs.declared.row_kind.Actor.TheVariants as actors
 
 -- ---- a load
 
@@ -61,6 +74,19 @@ module _ (e : InEvent) (t : Tables) (queue : Queue) (blame : List (StateId × Re
   there : request_of (now_of e []) req ≡ Some (new e req None load its.by_user its.own its.next)
   there = ap (λ (x : Seen). request_of x req) (now e req None load its.by_user its.own its.next) ∙ there_now e req None load its.by_user its.own its.next
 
+  -- what each process has is of its documents, and who is awake runs once all orders are done that come to its document
+  desks_now : AreDesksIn (now_of e [])
+  desks_now =
+      subst AreDesksIn (sym (now e req None load its.by_user its.own its.next)) (unpoked e.start e.event actors.Ui stands.between.tab.desks req load)
+
+  awake_now : AwakeRun (now_of e [])
+  awake_now =
+      subst AwakeRun (sym (now e req None load its.by_user its.own its.next))
+      (awake_run went_.history.rows (held_back went_.requests went_.parked) went_ (left_leads e.start went_ (accepted_left e.start e.event actors.Ui req None load) refl refl refl (accepted_held e.start e.event actors.Ui req None load) stands.between.flows.leads))
+    where
+      went_ : Seen
+      went_ = next e.start e.event actors.Ui (rows.Accepted req None load)
+
   module _ (out : List RowKind) (u : Tables) (noted : List (StateId × ReqId)) where
     abbrev n : Seen
     n = now_of e out
@@ -73,14 +99,14 @@ module _ (e : InEvent) (t : Tables) (queue : Queue) (blame : List (StateId × Re
       where
         own : Fine Begun (rows.Started req None ∷ rows.Sent its.job ∷ [])
         own =
-            more_fine n (cause_of req Begun) (rows.Started req None) (rows.Sent its.job ∷ []) (no_job n (cause_of req Begun) (rows.Started req None) tt (λ job is. cc))
+            more_fine n (cause_of req Begun) (rows.Started req None) (rows.Sent its.job ∷ []) (no_job n (cause_of req Begun) (rows.Started req None) tt tt (λ job is. cc))
             (one_fine n (cause_of req Begun) (rows.Sent its.job) (fine_populate n (cause_of req Begun) its.job nav _ address its.task its.why))
 
         by_gives : HasGivenWay (now_of e []) req nav its.gave → Fine Begun (its.gave ++ rows.Started req None ∷ rows.Sent its.job ∷ [])
         by_gives (inl none) = subst (λ (l : List RowKind). Fine Begun (l ++ rows.Started req None ∷ rows.Sent its.job ∷ [])) (sym none.0) own
         by_gives (inr old) =
             subst (λ (l : List RowKind). Fine Begun (l ++ rows.Started req None ∷ rows.Sent its.job ∷ [])) (sym old.2)
-            (more_fine n (cause_of req Begun) (rows.Dropped old.0 (drops.By req)) (rows.Started req None ∷ rows.Sent its.job ∷ []) (no_job n (cause_of req Begun) (rows.Dropped old.0 (drops.By req)) tt (λ job is. cc)) own)
+            (more_fine n (cause_of req Begun) (rows.Dropped old.0 (drops.By req)) (rows.Started req None ∷ rows.Sent its.job ∷ []) (no_job n (cause_of req Begun) (rows.Dropped old.0 (drops.By req)) tt tt (λ job is. cc)) own)
 
     -- the document that is sent to a fragment is its navigable's
     fragment_own : (sent : WasSent (now_of e []) req nav mode address out) → IsOfItsLoad (now_of e out) sent.job.doc req
@@ -110,11 +136,40 @@ module _ (e : InEvent) (t : Tables) (queue : Queue) (blame : List (StateId × Re
               homes = λ doc d found. (let h = sent_homes (now_of e []) sent.job sent.job.task doc d found in (h.0, ap (λ (x : Seen). document_of x doc) (now_more e [] (rows.Sent sent.job)) ∙ h.1, h.2));
             })
 
+    -- it will run
+    fragment_fits : (sent : WasSent (now_of e []) req nav mode address out) → IsFittingOrder (now_of e []) sent.job sent.job.task
+    fragment_fits sent =
+        subst (λ (t : Task). IsFittingOrder (now_of e []) sent.job t) (sym sent.task)
+        (awake_will_run (now_of e []) sent.job nav sent.fragment.place awake_now sent.fragment.there sent.doc)
+
+    -- as a load begins no document is sent to a fragment
+    begun_sends : (begun : HasLoadBegun (now_of e []) req nav address out) → (job : Job) → Has out (rows.Sent job) → IsFragmentTask job.task → ⊥
+    begun_sends begun job has = by_gives begun.gives (subst (λ (l : List RowKind). Has l (rows.Sent job)) begun.is has)
+      where
+        the_job : (a b : Job) → rows.Sent a ≡ rows.Sent b → a ≡ b
+        the_job a b is = cc
+
+        own : Has (rows.Started req None ∷ rows.Sent begun.job ∷ []) (rows.Sent job) → IsFragmentTask job.task → ⊥
+        own (inl is) fragment = absurd cc
+        own (inr (inl is)) fragment =
+            subst (λ (t : Task). IsFragmentTask t) begun.task (subst (λ (j : Job). IsFragmentTask j.task) (sym (the_job begun.job job is)) fragment)
+        own (inr (inr never)) fragment = never
+
+        by_gives : HasGivenWay (now_of e []) req nav begun.gave → Has (begun.gave ++ rows.Started req None ∷ rows.Sent begun.job ∷ []) (rows.Sent job) → IsFragmentTask job.task → ⊥
+        by_gives (inl none) there =
+            own (subst (λ (l : List RowKind). Has (l ++ rows.Started req None ∷ rows.Sent begun.job ∷ []) (rows.Sent job)) none.0 there)
+        by_gives (inr old) there =
+            behind (subst (λ (l : List RowKind). Has (l ++ rows.Started req None ∷ rows.Sent begun.job ∷ []) (rows.Sent job)) old.2 there)
+          where
+            behind : Has (rows.Dropped old.0 (drops.By req) ∷ rows.Started req None ∷ rows.Sent begun.job ∷ []) (rows.Sent job) → IsFragmentTask job.task → ⊥
+            behind (inl is) = absurd cc
+            behind (inr rest) = own rest
+
     fine_came : (loaded : Loaded) → CameTo e req nav mode address out loaded → Fine loaded out
     fine_came Refused came =
-        subst (λ (l : List RowKind). Fine Refused l) (sym came.is) (one_fine n (cause_of req Refused) (rows.Refused req came.reason) (no_job n (cause_of req Refused) (rows.Refused req came.reason) tt (λ job is. cc)))
+        subst (λ (l : List RowKind). Fine Refused l) (sym came.is) (one_fine n (cause_of req Refused) (rows.Refused req came.reason) (no_job n (cause_of req Refused) (rows.Refused req came.reason) tt tt (λ job is. cc)))
     fine_came CutOff came =
-        subst (λ (l : List RowKind). Fine CutOff l) (sym came.1.is) (one_fine n (cause_of req CutOff) (rows.Dropped req (drops.By came.1.by)) (no_job n (cause_of req CutOff) (rows.Dropped req (drops.By came.1.by)) tt (λ job is. cc)))
+        subst (λ (l : List RowKind). Fine CutOff l) (sym came.1.is) (one_fine n (cause_of req CutOff) (rows.Dropped req (drops.By came.1.by)) (no_job n (cause_of req CutOff) (rows.Dropped req (drops.By came.1.by)) tt tt (λ job is. cc)))
     fine_came ToFragment came =
         subst (λ (l : List RowKind). Fine ToFragment l) (sym came.1.is) (one_fine n (cause_of req ToFragment) (rows.Sent came.1.job) (fine_fragment n (cause_of req ToFragment) came.1.job req mode address came.1.task (fragment_own came.1)))
     fine_came Begun came = fine_begun came.1
@@ -130,9 +185,30 @@ module _ (e : InEvent) (t : Tables) (queue : Queue) (blame : List (StateId × Re
       pub load_coord : (row : RowKind) → Has out row → IsOfCoord row
       load_coord row has = (fine_came loaded came row has).coord
 
+      pub load_moves : MoveNobody (now_of e out) out
+      load_moves = fine_moves n n (cause_of req loaded) out (fine_came loaded came)
+
       pub load_sound : OrdersAreSound (now_of e out)
       load_sound =
           sound_over e u.running out (cause_of req loaded) tab.asked ready.open_.may (fine_came loaded came) (sound_first e (ap (λ (k : RowKind). leads k) its.own) (keeps_coming blame e.start (now_of e []) comes) stands.lasts.sound)
+
+      -- ---- fragment orders, and reports of them
+
+      pub load_found : AreFoundRunning (now_of e []) → AreFoundRunning (now_of e out)
+      load_found found = by_loaded loaded came
+        where
+          by_loaded : (l : Loaded) → CameTo e req nav mode address out l → AreFoundRunning (now_of e out)
+          by_loaded Refused its_ =
+              subst (λ (l : List RowKind). AreFoundRunning (now_of e l)) (sym its_.is) (running_over e (rows.Refused req its_.reason ∷ []) [] (tt, tt) found)
+          by_loaded CutOff its_ =
+              subst (λ (l : List RowKind). AreFoundRunning (now_of e l)) (sym its_.1.is) (running_over e (rows.Dropped req (drops.By its_.1.by) ∷ []) [] (tt, tt) found)
+          by_loaded ToFragment its_ =
+              subst (λ (l : List RowKind). AreFoundRunning (now_of e l)) (sym its_.1.is) (running_over e (rows.Sent its_.1.job ∷ []) [] (fragment_fits its_.1, tt) found)
+          by_loaded Begun its_ =
+              plain_found e out [] load_coord (begun_sends its_.1) tab.whose.numbered desks_now found
+
+      pub load_telling : AreTelling (now_of e []) → AreTelling (now_of e out)
+      load_telling telling = telling_over e out [] load_coord telling
 
 -- the tab may be brought to rest then
 module _ (e : InEvent) (c : Coordinator) (open_ : IsOpenTo e c) (req : ReqId) (nav : NavId) (mode : Mode) (address : List ℕ) (asked : IsAsk e req (asks.Load nav mode address)) where
@@ -147,8 +223,11 @@ module _ (e : InEvent) (c : Coordinator) (open_ : IsOpenTo e c) (req : ReqId) (n
         makes = load_makes e c.tables c.queue c.blame.entries open_.stands.stands req nav mode address load_asks out after.tables after.blame.entries loaded came after.queue ready;
         sound = load_sound e c.tables c.queue c.blame.entries open_.stands.stands req nav mode address load_asks out after.tables after.blame.entries loaded came after.queue ready;
         coord = load_coord e c.tables c.queue c.blame.entries open_.stands.stands req nav mode address load_asks out after.tables after.blame.entries loaded came after.queue ready;
+        unmoved = load_moves e c.tables c.queue c.blame.entries open_.stands.stands req nav mode address load_asks out after.tables after.blame.entries loaded came after.queue ready;
         shows = load_shows e c.tables c.queue c.blame.entries open_.stands.stands req nav mode address load_asks;
         taken = load_taken e c.tables c.queue c.blame.entries open_.stands.stands req nav mode address load_asks out;
+        found = load_found e c.tables c.queue c.blame.entries open_.stands.stands req nav mode address load_asks out after.tables after.blame.entries loaded came after.queue ready (accepted_found e c open_ req None (requests.Load nav mode address) asked.own);
+        telling = load_telling e c.tables c.queue c.blame.entries open_.stands.stands req nav mode address load_asks out after.tables after.blame.entries loaded came after.queue ready (accepted_telling e c open_ req None (requests.Load nav mode address) asked.own);
       }
 
 -- ---- what was put out for what a document made: one row, which ends its request

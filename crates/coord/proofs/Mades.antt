@@ -3,11 +3,11 @@ use Rattle.coord.proofs.Causes.{for_none}
 use Rattle.coord.proofs.Dones.{keep_now, to_settle}
 use Rattle.coord.proofs.Loads.{ended_put}
 use Rattle.coord.specs.Delivering.{InDelivery, IsMade}
-use Rattle.coord.specs.Standing.{IsOpenTo, IsToSettle}
+use Rattle.coord.specs.Standing.{IsOpenTo, IsToSettle, MoveNobody}
 use Rattle.coord.specs.declared.coordinator.Coordinator.{Coordinator}
-use Rattle.desk_facts.proofs.Stays.{NoDeath}
-use Rattle.desk_facts.specs.Own.{IsItsOwn}
-use Rattle.hang_facts.specs.Members.{Has}
+use Rattle.seen_facts.proofs.Desk.Stays.{NoDeath}
+use Rattle.seen_facts.specs.Desk.Own.{IsItsOwn}
+use Rattle.seen_facts.specs.Hang.Members.{Has}
 use Rattle.log_model.specs.AfterRequests.{changes_history, is_held_back}
 use Rattle.log_model.specs.declared.made.Made.{Made}
 use Rattle.log_model.specs.declared.made.Report.{Report}
@@ -27,7 +27,7 @@ use Rattle.tab_loads.specs.Loading.{pass_of}
 use Rattle.tab_stands.proofs.Hands.{hand_begun, joined_begun, parked_begun}
 use Rattle.tab_stands.proofs.Mades.{held_takes, of_own, went_takes}
 use Rattle.tab_stands.proofs.Parks.{has_node, judged_free, parks_held}
-use Rattle.tab_stands.proofs.PassedOn.{put_makes, put_sound}
+use Rattle.tab_stands.proofs.PassedOn.{put_makes, put_sound, taken_moves}
 use Rattle.tab_stands.proofs.Reports.{told_fine}
 use Rattle.tab_stands.proofs.Taken.{taken_ready, taken_up}
 use Rattle.tab_stands.proofs.Taking.{changes_no_go, hand_to_take}
@@ -37,6 +37,9 @@ use Rattle.tab_stands.specs.Standing.{HasBegun, StandsFor}
 use Rattle.log_model.specs.declared.job.Why.TheVariants as whys
 use Rattle.log_model.specs.declared.made.Report.TheVariants as reports
 use Rattle.log_model.specs.declared.made.What.TheVariants as whats
+use Rattle.coord.proofs.Fragments.{delivered_found, delivered_telling, put_found, put_telling}
+use Rattle.tab_facts.specs.Running.Running.{AreFoundRunning}
+use Rattle.tab_facts.specs.Running.Telling.{AreTelling}
 
 module _ (d : InDelivery) (c : Coordinator) (made : Made) (its : IsMade d c made) where
   abbrev e : InEvent
@@ -45,12 +48,19 @@ module _ (d : InDelivery) (c : Coordinator) (made : Made) (its : IsMade d c made
   abbrev stands : StandsFor e.start c.tables c.queue c.blame.entries
   stands = its.open_.stands.stands
 
+  -- what is so of fragment orders, and of reports of them
+  found_now : AreFoundRunning (now_of e [])
+  found_now = delivered_found e d.proc d.report its.delivery c its.open_
+
+  telling_now : AreTelling (now_of e [])
+  telling_now = delivered_telling e d.proc d.report its.delivery c its.open_
+
   -- ---- a traversal
 
   pub joined_settles : (delta : ℤ) → made.what ≡ whats.Go delta → (left : Queue) → left ≡ record c.queue { waiting = c.queue.waiting ++ Traverse made.req delta ∷ [] } → IsToSettle d.event [] (record c { queue = left }) whys.Start
   joined_settles delta goes left pushed =
       to_settle e (record c { queue = left }) its.open_.header (joined_begun e d.proc d.report made its.delivery its.tells c.tables c.queue c.blame.entries stands delta goes its.open_.room (keep_now e c its.open_) left pushed) whys.Start (for_none (now_of e []))
-      (went_takes e d.proc d.report made its.delivery its.tells c.tables c.queue c.blame.entries stands delta goes)
+      (went_takes e d.proc d.report made its.delivery its.tells c.tables c.queue c.blame.entries stands delta goes) found_now telling_now
 
   -- ---- a change
 
@@ -68,7 +78,7 @@ module _ (d : InDelivery) (c : Coordinator) (made : Made) (its : IsMade d c made
       pub parked_settles : (left : Queue) → left ≡ record c.queue { parked = c.queue.parked ++ made ∷ [] } → IsToSettle d.event [] (record c { queue = left }) whys.Start
       parked_settles left parked =
           to_settle e (record c { queue = left }) its.open_.header (parked_begun e d.proc d.report made its.delivery its.tells c.tables c.queue c.blame.entries stands (changes_no_go made.what changes) held its.open_.room (keep_now e c its.open_) left parked) whys.Start (for_none (now_of e []))
-          (held_takes e d.proc d.report made its.delivery its.tells c.tables c.queue c.blame.entries stands held)
+          (held_takes e d.proc d.report made its.delivery its.tells c.tables c.queue c.blame.entries stands held) found_now telling_now
 
     -- it doesn't
     module _ (verdict : Judged) (judged : judged_in c.tables made ≡ Some verdict) (apart : verdict ≡ verdicts.Park → ⊥) where
@@ -95,6 +105,16 @@ module _ (d : InDelivery) (c : Coordinator) (made : Made) (its : IsMade d c made
         taken_sound : OrdersAreSound (now_of d.event out)
         taken_sound = put_sound e [] out put begun.sound
 
+        taken_found : AreFoundRunning (now_of d.event out)
+        taken_found =
+            put_found e [] out put taken.passing.going.tab.whose.numbered begun.passing.going.tab.desks found_now
+
+        taken_telling : AreTelling (now_of d.event out)
+        taken_telling = put_telling e [] out put telling_now
+
+        taken_unmoved : MoveNobody (now_of d.event out) out
+        taken_unmoved = taken_moves e out (made ∷ []) made to_take.taking taken.ended
+
         pub taken_settles : (after : Coordinator) → after.header ≡ c.header → after.tables ≡ u → after.queue ≡ c.queue → after.blame.entries ≡ noted → IsToSettle d.event out after (whys.Req made.req)
         taken_settles after header tables queue blame =
             record {
@@ -107,8 +127,11 @@ module _ (d : InDelivery) (c : Coordinator) (made : Made) (its : IsMade d c made
               makes = taken_makes;
               sound = taken_sound;
               coord = λ row has. put.each row (subst (λ (l : List RowKind). Has l row) put.is has);
+              unmoved = taken_unmoved;
               shows = begun.shows;
               taken = taken_up e d.proc d.report made its.delivery its.tells c.tables c.queue c.blame.entries stands changes free its.open_.room (keep_now e c its.open_) out u noted taken;
+              found = taken_found;
+              telling = taken_telling;
             }
 
 -- no document reports an edit

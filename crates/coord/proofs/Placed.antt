@@ -1,14 +1,12 @@
 -- A document was made: the load that waits for it, if one does, is its navigable's, and the request for which it was made is noted for it; so the tab may be brought to rest.
-use Rattle.coord.proofs.Dones.{done_taken, keep_now, to_settle}
-use Rattle.coord.specs.Delivering.{HasPlaced, InDone, IsDone, steps_of, waiting_in}
+use Rattle.coord.proofs.Dones.{done_found, done_taken, done_telling, keep_now, to_settle}
+use Rattle.coord.specs.Delivering.{HasPlaced, InDone, IsDone, steps_of}
 use Rattle.coord.specs.Standing.{IsToSettle}
 use Rattle.coord.specs.declared.coordinator.Coordinator.{Coordinator}
-use Rattle.hang_facts.specs.Members.{Has}
-use Rattle.load_table.specs.Loads.{HasOneEach, is_populating, makes, ongoing_load}
+use Rattle.load_table.specs.Loads.{HasOneEach, is_populating, ongoing_load}
 use Rattle.load_table.specs.declared.load.Load.{Load}
-use Rattle.load_ties.proofs.Begins.{found_nav}
-use Rattle.load_ties.proofs.Waits.{found_itself, waits_once}
-use Rattle.load_ties.specs.Tying.{IsLoadTied, is_for_state, made_for, phase_with}
+use Rattle.seen_facts.proofs.LoadTies.Begins.{found_nav}
+use Rattle.seen_facts.proofs.LoadTies.Waits.{found_itself, waits_once}
 use Rattle.log_model.specs.Seen.{Document, Seen, document_of}
 use Rattle.log_model.specs.declared.job.Job.{Job}
 use Rattle.log_model.specs.declared.job.Task.{Task}
@@ -17,42 +15,38 @@ use Rattle.move_queue.specs.Queue.{Queue}
 use Rattle.move_queue.specs.declared.queue_step.QueueStep.{QueueStep}
 use Rattle.move_queue.specs.declared.queue_step.QueueStep.TheVariants.{Ready}
 use Rattle.nav_tree.specs.Tree.{is_state}
-use Rattle.hang_facts.proofs.Members.{find_has}
+use Rattle.seen_facts.proofs.Hang.Members.{find_has}
 use Rattle.seen_laws.specs.InEvent.{InEvent, now_of}
-use Rattle.std.proofs.Common.{Bool, List, None, Option, Some, [], ap, cond, eqb-true, false, not, refl, subst, sym, true, ℕ, ◌&&◌, ◌++◌, ◌==◌, ◌||◌, ◌∙◌, ◌∷◌, ◌≡◌}
+use Rattle.std.proofs.Common.{Bool, List, None, Option, Some, [], ap, cond, false, refl, subst, sym, true, ℕ, ◌++◌, ◌∙◌, ◌∷◌, ◌≡◌}
 use Rattle.std.specs.Map.{lookup}
 use Rattle.std.specs.Option.{IsSome}
 use Rattle.std.specs.Prelude.{find, is_some, option_and_then, option_map}
 use Rattle.tab_doors.proofs.Keyed.{put_other, put_same}
 use Rattle.tab_doors.proofs.Sights.{sight_of}
 use Rattle.tab_doors.specs.Look.{Sight, sight}
-use Rattle.tab_doors.specs.Noting.{PlacesOne}
+use Rattle.tab_doors.specs.Noting.{PlacesOne, WaitsAtItsNav, waiting_in}
 use Rattle.tab_doors.specs.Ties.{birth_of, is_doc, nav_in, proc_in}
 use Rattle.tab_doors.specs.Working.{KeepsRun}
 use Rattle.tab_doors.specs.declared.birth.Birth.{Birth}
 use Rattle.tab_doors.specs.declared.tables.Tables.{Tables}
-use Rattle.tab_ids.specs.declared.DocId.{DocId}
 use Rattle.tab_ids.specs.declared.NavId.{NavId}
 use Rattle.tab_ids.specs.declared.ReqId.{ReqId}
 use Rattle.tab_ids.specs.declared.StateId.{StateId}
 use Rattle.tab_loads.specs.Loading.{pass_of}
+use Rattle.tab_stands.proofs.Awaited.{awaited_own}
 use Rattle.tab_stands.proofs.Placing.{placed_begun}
 use Rattle.tab_stands.proofs.Dones.{AsksNone, did_now, did_requests}
 use Rattle.tab_stands.proofs.Reports.{told_causes}
-use Rattle.tab_stands.proofs.Unmade.{d as its_document, its_found, the_one}
-use Rattle.order_facts.specs.Orders.{TellsOf}
-use Rattle.each_facts.proofs.Eaches.{each_first}
-use Rattle.load_facts.specs.Loading.{IsLoading, Look, look}
-use Rattle.log_model.specs.Seen.{Asked, desk_of}
+use Rattle.tab_stands.proofs.Unmade.{d as its_document, its_found}
+use Rattle.tab_facts.specs.Order.Orders.{TellsOf}
+use Rattle.seen_facts.proofs.Each.Eaches.{each_first}
+use Rattle.log_model.specs.Seen.{desk_of}
 use Rattle.log_model.specs.declared.made.Report.TheVariants as reports
-use Rattle.log_model.specs.declared.request.Request.TheVariants as requests
 use Rattle.tab_stands.specs.Delivering.{IsMadeNoted, IsMakeTask, step_ready}
 use Rattle.tab_stands.specs.PassedOn.{IsMake, IsStray, MayCause}
 use Rattle.tab_stands.specs.Standing.{HasBegun, StandsFor}
 use Rattle.tab_unneeded.proofs.Strays.{needed_is}
 use Rattle.tab_unneeded.specs.Telling.{is_unneeded_in}
-use Rattle.load_table.specs.declared.phase.Phase.{Phase}
-use Rattle.load_table.specs.declared.phase.Phase.TheVariants as phases
 use Rattle.log_model.specs.declared.job.Task.TheVariants as tasks
 use Rattle.indexmap.specs.IndexMap.{insert_entry}
 
@@ -75,30 +69,6 @@ makes_of job state is = by_task job.task refl is
     by_task tasks.Discard at never = absurd never
     by_task (tasks.Ask slot cause) at never = absurd never
     by_task (tasks.DoFragment req mode address) at never = absurd never
-
--- the document that is made for a load that waits for it
-record IsDocOf (documents : List Document) (doc : DocId) (state : StateId) : Type 0 where
-  d : Document
-  has : Has documents d
-  number : (d.nr.0 == doc.0) ≡ true
-  state_is : d.state.0 ≡ state.0
-
-doc_of : (documents : List Document) (doc : DocId) (state : StateId) → makes doc (phase_with (made_for documents state)) ≡ true → IsDocOf documents doc state
-doc_of documents doc state waits = by_made (made_for documents state) refl waits
-  where
-    first : (a b : Bool) → (a && b) ≡ true → a ≡ true
-    first true b is = refl
-    first false b is = absurd cc
-
-    by_ready : (d : Document) → made_for documents state ≡ Some d → (b : Bool) → makes doc (let p : Phase = cond b (phases.Ready d.nr) (phases.Populating d.nr) in p) ≡ true → IsDocOf documents doc state
-    by_ready d at true never = absurd cc
-    by_ready d at false is =
-        let its = find_has (is_for_state state) documents d at in
-        record { d = d; has = its.0; number = is; state_is = eqb-true d.state.0 state.0 (first (d.state.0 == state.0) (not (d.is_discarded || d.is_known_dead)) its.1) }
-
-    by_made : (o : Option Document) → made_for documents state ≡ o → makes doc (phase_with o) ≡ true → IsDocOf documents doc state
-    by_made None at never = absurd cc
-    by_made (Some d) at is = by_ready d at d.is_ready is
 
 module _ (d : InDone) (c : Coordinator) (job : Job) (done : IsDone d c job) (state : StateId) (is_make : IsMakeTask state job.task) where
   abbrev e : InEvent
@@ -138,33 +108,16 @@ module _ (d : InDone) (c : Coordinator) (job : Job) (done : IsDone d c job) (sta
   -- ---- the load that waits
 
   module _ (one_each : HasOneEach c.tables.loads) (nav : NavId) (at_nav : nav_in c.tables.whose.entries job.doc ≡ Some nav) where
-    same_nav : own.nav ≡ nav
-    same_nav = let both : Some own.nav ≡ Some nav = sym nav_is ∙ at_nav in cc
+    -- the load that waits for the document, if one does, is its navigable's
+    pub waits_own : WaitsAtItsNav t job.doc
+    waits_own =
+        awaited_own e d.proc job d.outcome done.delivery t c.queue c.blame.entries stands its.nav state its.address its.initial its.task one_each
 
-    -- a load that waits for the document is its navigable's
-    of_nav : (load : Load) → Has t.loads load → is_populating job.doc load ≡ true → ongoing_load nav t.loads ≡ Some load
-    of_nav load there waits =
-        let at : ongoing_load load.nav t.loads ≡ Some load = found_itself t.loads load one_each there in
-        let tied : IsLoadTied s load = stands.tied.loads.there load.nav load at in
-        let made : IsDocOf s.documents job.doc load.state = doc_of s.documents job.doc load.state (ap (makes job.doc) (sym tied.phase) ∙ waits) in
-        let it : made.d ≡ own = its_one made.d made.has made.number in
-        let state_is : own.state.0 ≡ load.state.0 = ap (λ (x : Document). x.state.0) (sym it) ∙ made.state_is in
-        let navs : own.nav ≡ load.nav = its_load load tied state_is in
-        ap (λ (x : NavId). ongoing_load x t.loads) (sym same_nav ∙ navs) ∙ at
-      where
-        its_one : (x : Document) → Has s.documents x → (x.nr.0 == job.doc.0) ≡ true → x ≡ own
-        its_one =
-            the_one e d.proc job d.outcome done.delivery t c.queue c.blame.entries stands its.nav state its.address its.initial its.task
-
-        its_load : (load : Load) (tied : IsLoadTied s load) → own.state.0 ≡ load.state.0 → own.nav ≡ load.nav
-        its_load load tied state_is =
-            let l : Look = look tied.q in
-            let loading : IsLoading s l = stands.between.tab.loading.each load.req l (ap (λ (o : Option Asked). option_map look o) tied.found) tied.ongoing in
-            let states : Some loading.state ≡ Some load.state = sym loading.state_is ∙ tied.state in
-            let same_state : loading.state ≡ load.state = cc in
-            let what : requests.Load loading.nav loading.mode loading.address ≡ requests.Load load.nav tied.mode load.address = sym loading.what ∙ tied.what in
-            let same_load : loading.nav ≡ load.nav = cc in
-            loading.whose job.doc own found (state_is ∙ ap (λ (x : StateId). x.0) (sym same_state)) ∙ same_load
+    of_nav : (load : Load) → find (is_populating job.doc) t.loads ≡ Some load → ongoing_load nav t.loads ≡ Some load
+    of_nav load found =
+        let navs : Some nav ≡ Some load.nav = sym at_nav ∙ waits_own load found in
+        let same : nav ≡ load.nav = cc in
+        ap (λ (x : NavId). ongoing_load x t.loads) same ∙ found_itself t.loads load one_each (find_has (is_populating job.doc) t.loads load found).0
 
     waits_here : (load : Load) → ongoing_load nav t.loads ≡ Some load → is_populating job.doc load ≡ true → step_ready t.loads job.doc ≡ Ready load.req nav ∷ []
     waits_here load at waits =
@@ -191,7 +144,7 @@ module _ (d : InDone) (c : Coordinator) (job : Job) (done : IsDone d c job) (sta
         by_found None at = rw at refl
         by_found (Some load) at =
             let its_ = find_has (is_populating job.doc) t.loads load at in
-            let here : ongoing_load nav t.loads ≡ Some load = of_nav load its_.0 its_.1 in
+            let here : ongoing_load nav t.loads ≡ Some load = of_nav load at in
             let some : waiting_in t.loads nav job.doc ≡ Some load.req = rw here (rw (its_.1) refl) in
             let never : None ≡ Some load.req = sym none ∙ some in absurd cc
 
@@ -261,4 +214,4 @@ module _ (d : InDone) (c : Coordinator) (job : Job) (done : IsDone d c job) (sta
       (subst (λ (q : Queue). HasBegun (pass_of e) after.tables q after.blame.entries) (sym queue)
       (subst (λ (x : Tables). HasBegun (pass_of e) x then_.queue after.blame.entries) (sym tables)
       (placed_begun e d.proc job d.outcome done.delivery t c.queue c.blame.entries stands its.nav state its.address its.initial its.task placed.one_each then_.tables placed.one placed.run done.open_.room (keep_now e c done.open_) then_.queue placed.queue after.blame.entries noted)))
-      job.why made_may (done_taken d c job done)
+      job.why made_may (done_taken d c job done) (done_found d c job done) (done_telling d c job done)

@@ -1,12 +1,12 @@
 -- A document that nothing needs was made for no request: it is discarded, and the tab may be brought to rest.
-use Rattle.coord.proofs.Dones.{done_taken}
-use Rattle.coord.proofs.Fines.{IsFine, fine_discard, makes_over, one_fine, sound_over}
+use Rattle.coord.proofs.Dones.{done_found, done_taken, done_telling}
+use Rattle.coord.proofs.Fines.{IsFine, fine_discard, fine_moves, makes_over, one_fine, sound_over}
 use Rattle.coord.proofs.Placed.{Makes, makes_of}
 use Rattle.coord.specs.Delivering.{InDone, IsDone, made_in}
 use Rattle.coord.specs.Standing.{IsToSettle}
 use Rattle.coord.specs.declared.coordinator.Coordinator.{Coordinator}
-use Rattle.desk_facts.proofs.Stays.{NoDeath}
-use Rattle.hang_facts.specs.Members.{Has}
+use Rattle.seen_facts.proofs.Desk.Stays.{NoDeath}
+use Rattle.seen_facts.specs.Hang.Members.{Has}
 use Rattle.log_model.specs.Seen.{Asked, Document, Seen, desk_of, request_in}
 use Rattle.log_model.specs.declared.job.Job.{Job}
 use Rattle.log_model.specs.declared.job.Task.{Task}
@@ -41,6 +41,10 @@ use Rattle.log_model.specs.declared.job.Task.TheVariants as tasks
 use Rattle.log_model.specs.declared.job.Why.TheVariants as whys
 use Rattle.log_model.specs.declared.made.Report.TheVariants as reports
 use Rattle.log_model.specs.declared.row_kind.RowKind.TheVariants as rows
+use Rattle.tab_facts.proofs.Running.Over.{running_over}
+use Rattle.tab_facts.proofs.Running.Tells.{telling_over}
+use Rattle.tab_facts.specs.Running.Running.{AreFoundRunning}
+use Rattle.tab_facts.specs.Running.Telling.{AreTelling}
 
 module _ (d : InDone) (c : Coordinator) (job : Job) (done : IsDone d c job) (state : StateId) (is_make : IsMakeTask state job.task) where
   abbrev e : InEvent
@@ -129,6 +133,14 @@ module _ (d : InDone) (c : Coordinator) (job : Job) (done : IsDone d c job) (sta
     shows : AreShownUnder (now_of e [])
     shows = own_under e leads_own alive stands.lasts.shows
 
+    found : AreFoundRunning (now_of e out)
+    found =
+        subst (λ (l : List RowKind). AreFoundRunning (now_of e l)) (sym is)
+        (running_over e (rows.Sent (order_to (now_of e []) job.doc job.why tasks.Discard) ∷ []) [] (tt, tt) (done_found d c job done))
+
+    telling : AreTelling (now_of e out)
+    telling = telling_over e out [] (λ row has. (fine row has).coord) (done_telling d c job done)
+
     pub dropped_settles : (after : Coordinator) → after.header ≡ c.header → after.tables ≡ u → after.queue ≡ c.queue → after.blame.entries ≡ c.blame.entries → IsToSettle d.event out after whys.Start
     dropped_settles after header tables queue noted =
         record {
@@ -140,6 +152,9 @@ module _ (d : InDone) (c : Coordinator) (job : Job) (done : IsDone d c job) (sta
           makes = makes;
           sound = sound;
           coord = λ row has. (fine row has).coord;
+          unmoved = fine_moves (now_of e out) (now_of e out) whys.Start out fine;
           shows = shows;
           taken = λ later. done_taken d c job done (map (row_of e) out ++ later);
+          found = found;
+          telling = telling;
         }

@@ -2,8 +2,7 @@
 -- HTML Standard, "apply the history step" and "URL and history update steps"; orders and reports are this project's own.
 use Rattle.coord.specs.Standing.{IsOpenTo}
 use Rattle.coord.specs.declared.coordinator.Coordinator.{Coordinator}
-use Rattle.load_table.specs.Loads.{HasOneEach, is_populating, ongoing_load}
-use Rattle.load_table.specs.declared.load.Load.{Load}
+use Rattle.load_table.specs.Loads.{HasOneEach}
 use Rattle.log_model.specs.declared.job.Job.{Job}
 use Rattle.log_model.specs.declared.made.Made.{Made}
 use Rattle.log_model.specs.declared.made.Report.{Report}
@@ -11,7 +10,7 @@ use Rattle.log_model.specs.declared.outcome.Outcome.{Outcome}
 use Rattle.move_queue.specs.declared.queue_step.QueueStep.{QueueStep}
 use Rattle.move_queue.specs.declared.queue_step.QueueStep.TheVariants.{Ready}
 use Rattle.seen_laws.specs.InEvent.{InEvent}
-use Rattle.std.specs.Prelude.{List, None, Option, Some, if◌then◌else◌, option_and_then, [], ◌++◌, ◌∷◌, ◌≡◌}
+use Rattle.std.specs.Prelude.{List, None, Option, Some, [], ◌++◌, ◌∷◌, ◌≡◌}
 use Rattle.tab_doors.specs.Noting.{PlacesOne}
 use Rattle.tab_doors.specs.Working.{KeepsRun}
 use Rattle.tab_ids.specs.declared.DocId.{DocId}
@@ -60,14 +59,7 @@ made_in d c job =
 abbrev pub done_in : InMade → InDone
 done_in m = record { event = m.event; proc = m.proc; outcome = m.outcome }
 
--- ---- the load that waits for a document
-
--- the request of the navigable's ongoing load, where that waits for the document
-abbrev pub waiting_in : List Load → NavId → DocId → Option ReqId
-waiting_in loads nav doc =
-    option_and_then (λ (load : Load). if is_populating doc load then Some load.req else None) (ongoing_load nav loads)
-
--- the step that it takes then
+-- the step of a load that is ready, if one is
 abbrev pub steps_of : Option ReqId → NavId → List QueueStep
 steps_of (Some req) nav = Ready req nav ∷ []
 steps_of None nav = []

@@ -1,7 +1,7 @@
 -- The user has the document discarded that is kept longest.
 -- HTML Standard, "Documents kept for traversal" and "destroy a document"; that the user evicts is this project's own.
 use Rattle.coord.specs.declared.coordinator.Coordinator.{Coordinator}
-use Rattle.kept_facts.specs.Keeping.{kept_states}
+use Rattle.seen_facts.specs.Kept.Keeping.{kept_states}
 use Rattle.log_model.specs.Seen.{Seen}
 use Rattle.log_model.specs.declared.row_kind.RowKind.{RowKind}
 use Rattle.page_cache.specs.Kept.{oldest_of}

@@ -3,22 +3,26 @@
 use Rattle.coord.specs.declared.ask.Ask.{Ask}
 use Rattle.coord.specs.declared.ask.Ask.TheVariants as asks
 use Rattle.coord.specs.declared.coordinator.Coordinator.{Coordinator}
-use Rattle.hang_facts.specs.Members.{Has}
+use Rattle.seen_facts.specs.Hang.Members.{Has}
+use Rattle.seen_facts.specs.LoadEnds.Standing.{is_change_unsettled}
 use Rattle.log_model.specs.Seen.{Seen}
+use Rattle.log_model.specs.declared.change.Change.{Change}
 use Rattle.log_model.specs.declared.job.Why.{Why}
 use Rattle.log_model.specs.declared.request.Mode.{Mode}
 use Rattle.log_model.specs.declared.request.Request.{Request}
 use Rattle.log_model.specs.declared.row_kind.RowKind.{RowKind}
-use Rattle.order_facts.specs.Orders.{IsOfCoord}
+use Rattle.tab_facts.specs.Order.Orders.{IsOfCoord}
+use Rattle.tab_facts.specs.Running.Running.{AreFoundRunning}
+use Rattle.tab_facts.specs.Running.Telling.{AreTelling}
 use Rattle.seen_laws.specs.Blocks.{EachPass}
 use Rattle.seen_laws.specs.InEvent.{InEvent, now_of, row_of, start_of}
-use Rattle.std.specs.Prelude.{List, None, [], length, map, ℕ, ◌++◌, ◌+◌, ◌∷◌, ◌≡◌}
+use Rattle.std.specs.Prelude.{List, None, [], length, map, true, ℕ, ◌++◌, ◌+◌, ◌∷◌, ◌≡◌}
 use Rattle.tab_ids.specs.declared.NavId.{NavId}
 use Rattle.tab_ids.specs.declared.ReqId.{ReqId}
 use Rattle.tab_loads.specs.Loading.{CameTo, pass_of}
 use Rattle.tab_loads.specs.declared.loaded.Loaded.{Loaded}
 use Rattle.tab_stands.specs.Offs.{AreShownUnder}
-use Rattle.tab_stands.specs.PassedOn.{IsReady, MakesServe, OrdersAreSound}
+use Rattle.tab_stands.specs.PassedOn.{IsReady, MakesServe, OrdersAreSound, moved_by}
 use Rattle.tab_stands.specs.Standing.{HasRoomFor, IsTakenUp}
 use Rattle.tab_stands.specs.Standing as tab
 use Rattle.log_model.specs.declared.request.Request.TheVariants as requests
@@ -29,6 +33,10 @@ use Rattle.log_model.specs.declared.row_kind.RowKind.TheVariants as rows
 pub record StandsFor (s : Seen) (c : Coordinator) : Type 0 where
   pub stands : tab.StandsFor s c.tables c.queue c.blame.entries
   pub keep : c.tables.kept.keep ≡ c.header.keep
+  -- each fragment order on its way finds its document running as its turn comes
+  pub found : AreFoundRunning s
+  -- each report of a fragment order that waits tells of what was made of it
+  pub telling : AreTelling s
 
 -- ---- an event begins
 
@@ -40,21 +48,33 @@ pub record IsOpenTo (e : InEvent) (c : Coordinator) : Type 0 where
 
 -- ---- an event ends
 
--- the event ends with these rows, each of which passes; the coordinator stands for what the log has come to, and its settings are the event's
+-- the navigable that one of the rows reloads, or gives a load's new document, doesn't stand by then
+abbrev pub ChangesLeaveOff : Seen → List RowKind → Type 0
+ChangesLeaveOff s out = (req : ReqId) (change : Change) → Has out (rows.Applied req change) → is_change_unsettled s req change ≡ true
+
+-- none of the rows reloads a navigable, or gives one a load's new document
+abbrev pub MoveNobody : Seen → List RowKind → Type 0
+MoveNobody s out = (req : ReqId) (change : Change) → Has out (rows.Applied req change) → moved_by s req change ≡ None
+
+-- the event ends with these rows, each of which passes, and which leave unsettled whom their changes move; the coordinator stands for what the log has come to, and its settings are the event's
 pub record HasActed (e : InEvent) (out : List RowKind) (c : Coordinator) : Type 0 where
   pub stands : StandsFor (now_of e out) c
   pub header : c.header ≡ e.header
   pub passes : EachPass (start_of e) (row_of e e.own ∷ map (row_of e) out) []
+  pub off : ChangesLeaveOff (now_of e out) out
 
--- a pass may follow, for this cause; what was delivered was taken up, if it was to be; the rows so far are a coordinator's; orders that make documents are for what orders may be for, and all are sound; and as the event began each document shown was shown under its navigable's epoch
+-- a pass may follow, for this cause; what was delivered was taken up, if it was to be; the rows so far are a coordinator's, and move nobody; orders that make documents are for what orders may be for, and all are sound; as the event began each document shown was shown under its navigable's epoch; and fragment orders find their documents running, and reports of them tell of what was made
 pub record IsToSettle (e : InEvent) (out : List RowKind) (c : Coordinator) (cause : Why) : Type 0 where
   pub header : c.header ≡ e.header
   pub ready : IsReady (pass_of e) out c.tables c.queue c.blame.entries cause
   pub makes : MakesServe (now_of e out)
   pub sound : OrdersAreSound (now_of e out)
   pub coord : (row : RowKind) → Has out row → IsOfCoord row
+  pub unmoved : MoveNobody (now_of e out) out
   pub shows : AreShownUnder (now_of e [])
   pub taken : IsTakenUp e out
+  pub found : AreFoundRunning (now_of e out)
+  pub telling : AreTelling (now_of e out)
 
 -- ---- what the user asks for
 

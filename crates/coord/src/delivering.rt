@@ -1,14 +1,22 @@
 //! The first report of a process is taken: an order was done, or a document made something.
-ghost use Rattle.std.specs.Prelude.{◌≡◌, [], OnOk};
+ghost use Rattle.std.specs.Prelude.{◌≡◌, [], OnOk, true};
 ghost use Rattle.coord.specs.Delivering.{InDelivery, InDone, IsDone};
 ghost use Rattle.coord.specs.Standing.{HasActed, IsOpenTo};
 ghost use Rattle.tab_stands.specs.Delivering.{IsDelivery, IsQuietTask, IsShowTask};
 
 use crate::coordinator::Coordinator;
 use address::OutOfMemory;
+use indexmap::IndexMap;
 use log_model::{Job, Out, Report, Task, Why};
 use std::alloc::Global;
-use tab_ids::ProcId;
+use tab_ids::{ProcId, ReqId, StateId};
+
+/// Whether no request is noted for a document that is left to be discarded.
+fn is_none_noted(blame: &IndexMap<StateId, ReqId>) -> bool
+    ensures { result ≡ true → blame.now.entries ≡ [] }
+{
+    blame.len() == 0
+}
 
 impl Coordinator {
     /// The first report of the process is taken. HTML Standard, "apply the history step" and "URL and history update steps".
@@ -54,7 +62,7 @@ impl Coordinator {
         }
     }
 
-    /// The order neither made nor showed a document.
+    /// The order neither made nor showed a document: the tab is at rest as it was, unless a document is left to be discarded.
     fn take_quiet(&mut self, alloc: Global, out: &mut Out, _job: &Job) -> Result<(), OutOfMemory>
         ghost d: { InDone }
         requires done { IsDone d self.old _job.now }
@@ -62,6 +70,9 @@ impl Coordinator {
         requires first { out.old ≡ [] }
         ensures acted { OnOk result (HasActed d.event out.new self.new) }
     {
+        if is_none_noted(&self.blame) {
+            return Ok(());
+        }
         self.settle(alloc, out, Why::Start, None)
     }
 

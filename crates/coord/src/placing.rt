@@ -1,9 +1,8 @@
 //! A document was made.
 ghost use Rattle.std.specs.Prelude.{◌≡◌, [], ◌++◌, OnOk, Some, true};
 ghost use Rattle.std.specs.Option.{IsSome};
-ghost use Rattle.coord.specs.Delivering.{HasPlaced, InDone, IsDone, done_in, made_in, steps_of, waiting_in};
+ghost use Rattle.coord.specs.Delivering.{HasPlaced, InDone, IsDone, done_in, made_in, steps_of};
 ghost use Rattle.coord.specs.Standing.{HasActed};
-ghost use Rattle.load_table.specs.Loads.{HasOneEach};
 ghost use Rattle.log_model.specs.declared.job.Why.TheVariants as whys;
 ghost use Rattle.tab_doors.specs.Ties.{nav_in};
 ghost use Rattle.tab_stands.specs.Delivering.{IsMakeTask};
@@ -12,11 +11,10 @@ ghost use Rattle.tab_unneeded.specs.Telling.{is_unneeded_in};
 
 use crate::coordinator::Coordinator;
 use address::OutOfMemory;
-use load_table::{LoadTable, Phase};
 use log_model::{Job, Out, Why};
 use move_queue::{MoveQueue, QueueStep};
 use std::alloc::Global;
-use tab_doors::Tables;
+use tab_doors::{Tables, waiting_for};
 use tab_ids::{DocId, NavId, ReqId, StateId};
 use tab_unneeded::{discard_made, is_unneeded};
 
@@ -28,26 +26,6 @@ fn nav_there(tables: &Tables, doc: DocId) -> NavId
     match tables.nav_of(doc) {
         Some(nav) => nav,
         None => unreachable!(),
-    }
-}
-
-/// The request of the navigable's ongoing load, where that waits for the document.
-fn waiting_for(loads: &LoadTable, nav: NavId, doc: DocId) -> Option<ReqId>
-    ensures req { result ≡ waiting_in loads.now nav doc }
-    ensures one_each { HasOneEach loads.now }
-{
-    match loads.of(nav) {
-        Some(load) => match load.phase {
-            Phase::Populating(made) => {
-                if made.0 == doc.0 {
-                    Some(load.req)
-                } else {
-                    None
-                }
-            }
-            Phase::Asking | Phase::Ready(_) => None,
-        },
-        None => None,
     }
 }
 

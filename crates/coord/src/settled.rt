@@ -2,7 +2,7 @@
 ghost use Rattle.std.specs.Prelude.{OnOk};
 ghost use Rattle.coord.specs.Standing.{HasActed, IsToSettle};
 ghost use Rattle.seen_laws.specs.InEvent.{InEvent};
-ghost use Rattle.tab_stands.specs.PassedOn.{HasPut};
+ghost use Rattle.tab_stands.specs.PassedOn.{HasPut, LeavesOff};
 
 use crate::coordinator::Coordinator;
 use address::OutOfMemory;
@@ -24,6 +24,7 @@ impl Coordinator {
         requires ready { IsToSettle e out.old self.old cause }
         ensures acted { OnOk result (HasActed e out.new self.new) }
         ensures put { OnOk result (HasPut e out.old out.new) }
+        ensures off { OnOk result (LeavesOff e out.old out.new) }
     {
         let mut reasons = Reasons {
             cause,

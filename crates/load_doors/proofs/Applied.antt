@@ -1,13 +1,13 @@
 -- A load is applied, and the coordinator goes on working.
 use Rattle.apply_plan.specs.Order.{made_in}
-use Rattle.each_facts.specs.Runs.{is_this}
-use Rattle.frame_rows.proofs.LawfulLaws.{ends_other, lawful_plain}
-use Rattle.frame_rows.specs.Lawful.{AreLawful}
+use Rattle.seen_facts.specs.Each.Runs.{is_this}
+use Rattle.row_facts.proofs.FrameRows.LawfulLaws.{ends_other, lawful_plain}
+use Rattle.row_facts.specs.FrameRows.Lawful.{AreLawful}
 use Rattle.load_doors.specs.Applying.{IsApplyDue}
-use Rattle.load_rows.proofs.Loads.{load_may}
+use Rattle.row_facts.proofs.LoadRows.Loads.{load_may}
 use Rattle.load_table.specs.Loads.{KeepsOthers, cancelled, ongoing_load}
 use Rattle.load_table.specs.declared.load.Load.{Load}
-use Rattle.load_ties.proofs.Ends.{applied_ended, cancelled_none, load_ends}
+use Rattle.seen_facts.proofs.LoadTies.Ends.{applied_ended, cancelled_none, load_ends}
 use Rattle.log_model.specs.After.{after}
 use Rattle.log_model.specs.AfterDocuments.{applied_to, told_after_change}
 use Rattle.log_model.specs.AfterPlaces.{places_given, with_taker}

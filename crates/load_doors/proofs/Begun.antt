@@ -1,12 +1,12 @@
 -- A load begins, and the coordinator goes on working; and whether it is to replace the given entry.
-use Rattle.frame_rows.proofs.LawfulLaws.{lawful_more_owing}
-use Rattle.frame_rows.specs.Lawful.{AreLawful}
+use Rattle.row_facts.proofs.FrameRows.LawfulLaws.{lawful_more_owing}
+use Rattle.row_facts.specs.FrameRows.Lawful.{AreLawful}
 use Rattle.load_doors.specs.Loading.{IsToBegin, begun_load}
-use Rattle.load_rows.proofs.Begins.{begin_load_owing}
+use Rattle.row_facts.proofs.LoadRows.Begins.{begin_load_owing}
 use Rattle.load_table.specs.Loads.{KeepsOthers, begun, ongoing_load}
 use Rattle.load_table.specs.declared.load.Load.{Load}
-use Rattle.load_ties.proofs.Begins.{begins_tied, begun_own}
-use Rattle.load_ties.specs.Tying.{HasLoad, TiesLoads, made_for}
+use Rattle.seen_facts.proofs.LoadTies.Begins.{begins_tied, begun_own}
+use Rattle.seen_facts.specs.LoadTies.Tying.{HasLoad, TiesLoads, made_for}
 use Rattle.log_model.proofs.Refl.{nat_eq_refl}
 use Rattle.log_model.specs.After.{after}
 use Rattle.log_model.specs.AfterRequests.{load_replaces, on_request, request_begun}
@@ -15,9 +15,9 @@ use Rattle.log_model.specs.Places.{is_load, is_ongoing_load}
 use Rattle.log_model.specs.Seen.{Asked, Seen, request_in, request_of}
 use Rattle.log_model.specs.declared.request.Request.{Request}
 use Rattle.log_model.specs.declared.row_kind.RowKind.{RowKind}
-use Rattle.request_facts.proofs.LookUps.{on_itself}
-use Rattle.request_facts.proofs.Readers.{SameReads}
-use Rattle.coord_facts.proofs.Held.{on_else}
+use Rattle.seen_facts.proofs.Request.LookUps.{on_itself}
+use Rattle.seen_facts.proofs.Request.Readers.{SameReads}
+use Rattle.seen_facts.proofs.Coord.Held.{on_else}
 use Rattle.seen_laws.proofs.InEvents.{led_here}
 use Rattle.seen_laws.specs.InEvent.{InEvent, here_of, now_of, row_of}
 use Rattle.std.proofs.Common.{Bool, List, None, Option, Some, [], ap, arith, false, refl, subst, sym, true, ℕ, ◌++◌, ◌+◌, ◌==◌, ◌∙◌, ◌∷◌, ◌≡◌}
@@ -35,7 +35,7 @@ use Rattle.tab_ids.specs.declared.NavId.{NavId}
 use Rattle.tab_ids.specs.declared.ReqId.{ReqId}
 use Rattle.tab_ids.specs.declared.StateId.{StateId}
 use Rattle.tab_ids.specs.declared.Step.{Step}
-use Rattle.each_facts.specs.Runs.{is_run, is_this}
+use Rattle.seen_facts.specs.Each.Runs.{is_run, is_this}
 use Rattle.log_model.specs.declared.row_kind.RowKind.TheVariants as rows
 
 -- ---- what is read of requests, but for the one that begins

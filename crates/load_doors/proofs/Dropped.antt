@@ -1,17 +1,17 @@
 -- A load is dropped, and the coordinator goes on working.
-use Rattle.each_facts.specs.Runs.{is_this}
-use Rattle.frame_rows.proofs.LawfulLaws.{ends_other, lawful_more_owing}
-use Rattle.frame_rows.specs.Lawful.{AreLawful}
+use Rattle.seen_facts.specs.Each.Runs.{is_this}
+use Rattle.row_facts.proofs.FrameRows.LawfulLaws.{ends_other, lawful_more_owing}
+use Rattle.row_facts.specs.FrameRows.Lawful.{AreLawful}
 use Rattle.load_doors.specs.Loading.{IsOpenHere}
 use Rattle.load_table.specs.Loads.{KeepsOthers, cancelled, ongoing_load}
 use Rattle.load_table.specs.declared.load.Load.{Load}
-use Rattle.load_ties.proofs.Ends.{cancelled_none, dropped_ended, load_ends, other_ends}
-use Rattle.load_ties.specs.Tying.{HasLoad, TiesLoads}
+use Rattle.seen_facts.proofs.LoadTies.Ends.{cancelled_none, dropped_ended, load_ends, other_ends}
+use Rattle.seen_facts.specs.LoadTies.Tying.{HasLoad, TiesLoads}
 use Rattle.log_model.specs.After.{after, ended}
 use Rattle.log_model.specs.Seen.{Seen}
 use Rattle.log_model.specs.declared.outcome.Cause.{Cause}
 use Rattle.log_model.specs.declared.row_kind.RowKind.{RowKind}
-use Rattle.request_facts.proofs.Readers.{on_read}
+use Rattle.seen_facts.proofs.Request.Readers.{on_read}
 use Rattle.seen_laws.proofs.InEvents.{led_here}
 use Rattle.seen_laws.proofs.Owings.{drop_may}
 use Rattle.seen_laws.specs.InEvent.{InEvent, here_of, now_of, row_of}

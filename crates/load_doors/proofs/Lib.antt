@@ -2,6 +2,5 @@ pub mod Made
 pub mod Dropped
 pub mod FragmentOrders
 pub mod Begun
-pub mod Handling
 pub mod Applied
 pub mod Refused

@@ -1,12 +1,12 @@
 -- The document of a load is sent for, and the coordinator goes on working.
-use Rattle.frame_rows.proofs.LawfulLaws.{lawful_plain}
-use Rattle.frame_rows.specs.Lawful.{AreLawful}
-use Rattle.kept_facts.specs.Keeping.{AreKeptDocs}
-use Rattle.load_rows.proofs.LoadMakes.{make_load_may, make_load_quiet}
-use Rattle.load_rows.specs.LoadMaking.{IsMakeOfLoadDue}
+use Rattle.row_facts.proofs.FrameRows.LawfulLaws.{lawful_plain}
+use Rattle.row_facts.specs.FrameRows.Lawful.{AreLawful}
+use Rattle.seen_facts.specs.Kept.Keeping.{AreKeptDocs}
+use Rattle.row_facts.proofs.LoadRows.LoadMakes.{make_load_may, make_load_quiet}
+use Rattle.row_facts.specs.LoadRows.LoadMaking.{IsMakeOfLoadDue}
 use Rattle.load_table.specs.Loads.{KeepsOthers, in_phase, is_of, moved_on, ongoing_load}
 use Rattle.load_table.specs.declared.load.Load.{Load}
-use Rattle.load_ties.proofs.Makes.{moved_own, own_made}
+use Rattle.seen_facts.proofs.LoadTies.Makes.{moved_own, own_made}
 use Rattle.log_model.specs.After.{after}
 use Rattle.log_model.specs.Seen.{Seen, desk_of}
 use Rattle.log_model.specs.declared.header.Header.{Header}

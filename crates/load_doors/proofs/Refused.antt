@@ -1,12 +1,12 @@
 -- A load is refused as it is accepted: the two rows may be logged together, and the coordinator is at work then.
-use Rattle.each_facts.specs.Runs.{is_this}
-use Rattle.frame_rows.specs.Lawful.{AreLawful}
+use Rattle.seen_facts.specs.Each.Runs.{is_this}
+use Rattle.row_facts.specs.FrameRows.Lawful.{AreLawful}
 use Rattle.load_doors.specs.Refusing.{IsDeniedLoad}
 use Rattle.load_doors.specs.Tied.{AreTied}
-use Rattle.load_rows.proofs.Accepts.{denied_load_may, load_there}
-use Rattle.kept_facts.specs.Keeping.{kept_states}
-use Rattle.load_ties.proofs.Ends.{other_ends, refused_ended}
-use Rattle.load_ties.specs.Tying.{TiesLoads}
+use Rattle.row_facts.proofs.LoadRows.Accepts.{denied_load_may, load_there}
+use Rattle.seen_facts.specs.Kept.Keeping.{kept_states}
+use Rattle.seen_facts.proofs.LoadTies.Ends.{other_ends, refused_ended}
+use Rattle.seen_facts.specs.LoadTies.Tying.{TiesLoads}
 use Rattle.log_model.specs.After.{after, new_request}
 use Rattle.log_model.specs.AfterRequests.{on_request}
 use Rattle.log_model.specs.Seen.{Asked, Seen, request_of}
@@ -14,7 +14,7 @@ use Rattle.log_model.specs.declared.outcome.Denial.{Denial}
 use Rattle.log_model.specs.declared.row_kind.Actor.{Actor}
 use Rattle.log_model.specs.declared.row_kind.LogRow.{LogRow}
 use Rattle.log_model.specs.declared.row_kind.RowKind.{RowKind}
-use Rattle.request_facts.proofs.Readers.{on_read}
+use Rattle.seen_facts.proofs.Request.Readers.{on_read}
 use Rattle.seen_laws.proofs.InEvents.{now_more, now_own}
 use Rattle.seen_laws.specs.Blocks.{MayLog}
 use Rattle.seen_laws.specs.InEvent.{InEvent, now_of, row_of, start_of}

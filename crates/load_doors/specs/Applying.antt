@@ -1,7 +1,7 @@
 -- When a load is applied.
 -- HTML Standard, "finalize a cross-document navigation"; numbers of entries are this project's own.
-use Rattle.frame_rows.specs.Lawful.{held_at_first}
-use Rattle.load_rows.specs.Loaded.{IsLoadToApply}
+use Rattle.row_facts.specs.FrameRows.Lawful.{held_at_first}
+use Rattle.row_facts.specs.LoadRows.Loaded.{IsLoadToApply}
 use Rattle.load_table.specs.declared.load.Load.{Load}
 use Rattle.log_model.specs.Equal.{has_req}
 use Rattle.log_model.specs.Seen.{Asked}

@@ -1,10 +1,10 @@
 -- When a load begins, and when one is dropped for another request, for which the event's end has to pay.
 -- HTML Standard, "navigate" and "Navigables" ("ongoing navigation"); the moments are this project's own.
-use Rattle.frame_rows.specs.Lawful.{held_at_first}
-use Rattle.load_rows.specs.Beginning.{IsLoadToBegin}
+use Rattle.row_facts.specs.FrameRows.Lawful.{held_at_first}
+use Rattle.row_facts.specs.LoadRows.Beginning.{IsLoadToBegin}
 use Rattle.load_table.specs.Loads.{ongoing_load}
 use Rattle.load_table.specs.declared.load.Load.{Load}
-use Rattle.load_ties.specs.Tying.{made_for}
+use Rattle.seen_facts.specs.LoadTies.Tying.{made_for}
 use Rattle.log_model.specs.AfterRequests.{load_replaces}
 use Rattle.log_model.specs.Equal.{has_req}
 use Rattle.log_model.specs.History.{row_of}

@@ -1,7 +1,7 @@
 -- The tables stand for what a log has come to.
 -- This project's own.
-use Rattle.kept_facts.specs.Keeping.{kept_states}
-use Rattle.load_ties.specs.Tying.{TiesLoads}
+use Rattle.seen_facts.specs.Kept.Keeping.{kept_states}
+use Rattle.seen_facts.specs.LoadTies.Tying.{TiesLoads}
 use Rattle.log_model.specs.Seen.{Seen}
 use Rattle.std.specs.Prelude.{length, ◌+◌, ◌≡◌, ◌≤◌}
 use Rattle.tab_doors.specs.Look.{look_of}

@@ -1,7 +1,7 @@
 //! A load is applied.
 ghost use Rattle.std.specs.Option.{IsSome};
 ghost use Rattle.std.specs.Prelude.{◌≡◌, ◌<◌, ◌+◌, ◌^◌, ◌++◌, ◌∷◌, [], false, OnOk, None, Some, map};
-ghost use Rattle.each_facts.specs.Runs.{is_this};
+ghost use Rattle.seen_facts.specs.Each.Runs.{is_this};
 ghost use Rattle.load_doors.specs.Applying.{InApply, IsApplyDue, new_entry};
 ghost use Rattle.load_table.specs.Loads.{ongoing_load};
 ghost use Rattle.log_model.specs.declared.row_kind.RowKind.TheVariants as rows;

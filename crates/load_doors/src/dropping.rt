@@ -1,8 +1,8 @@
 //! A load is dropped.
 ghost use Rattle.std.specs.Prelude.{◌≡◌, ◌++◌, ◌∷◌, [], false, OnOk};
-ghost use Rattle.each_facts.specs.Runs.{is_this};
+ghost use Rattle.seen_facts.specs.Each.Runs.{is_this};
 ghost use Rattle.load_doors.specs.Loading.{IsOpenHere};
-ghost use Rattle.load_ties.specs.Tying.{HasLoad};
+ghost use Rattle.seen_facts.specs.LoadTies.Tying.{HasLoad};
 ghost use Rattle.log_model.specs.declared.outcome.Cause.TheVariants as drops;
 ghost use Rattle.log_model.specs.declared.row_kind.RowKind.TheVariants as rows;
 ghost use Rattle.seen_laws.specs.InEvent.{InEvent, now_of};

@@ -1,8 +1,8 @@
 //! The document of a load is to be made.
 ghost use Rattle.std.specs.Prelude.{◌≡◌, ◌+◌, ◌++◌, ◌∷◌, [], false, OnOk, None, map};
 ghost use Rattle.std.specs.Map.{lookup};
-ghost use Rattle.kept_facts.specs.Keeping.{AreKeptDocs};
-ghost use Rattle.load_rows.specs.LoadMaking.{IsMakeOfLoadDue};
+ghost use Rattle.seen_facts.specs.Kept.Keeping.{AreKeptDocs};
+ghost use Rattle.row_facts.specs.LoadRows.LoadMaking.{IsMakeOfLoadDue};
 ghost use Rattle.log_model.specs.declared.job.Task.TheVariants as tasks;
 ghost use Rattle.log_model.specs.declared.row_kind.RowKind.TheVariants as rows;
 ghost use Rattle.log_model.specs.Seen.{desk_of};

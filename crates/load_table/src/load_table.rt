@@ -70,6 +70,14 @@ impl LoadTable {
         populated_in(&mut self.loads, doc)
     }
 
+    /// Notes that the document for which a navigable's load waits was made: the load is ready.
+    pub fn ready(&mut self, nav: NavId, doc: DocId)
+        ensures ready { self.new ≡ moved_on (is_of nav) (phases.Ready doc) self.old }
+        ensures others { KeepsOthers nav self.old self.new }
+    {
+        set_phase(&mut self.loads, nav, Phase::Ready(doc));
+    }
+
     /// Ends the load of a navigable, and answers its request.
     pub fn cancel(&mut self, nav: NavId) -> Option<ReqId>
         ensures rest { self.new ≡ cancelled nav self.old }

@@ -6,8 +6,9 @@ use std::test::*;
 use tab_ids::{DocId, NavId, ReqId, StateId};
 
 // Calls and their answers, for navigables 1 to 4 and documents 1 to 5; the loads are of requests 1, 2 and so on.
-// b begins a load; p12 is that navigable 1's is populating with document 2; d is that a document was populated; c cancels; o is the load of.
-const RUNS: [(&str, &str); 34] = [
+// b begins a load; p12 is that navigable 1's is populating with document 2; d is that a document was populated; r12 is that navigable 1's document was, and is 2; c cancels; o is the load of.
+const RUNS: [(&str, &str); 35] = [
+    ("b1 b2 p12 r13 r33 o1 o2 o3", "- - 1r3 2a -"),
     ("b1 b1 o1", "- 1 2a"),
     ("b1 b2 p12 d1 d2 o1 o2 c1 o1 o2", "- - - 1 1r2 2a 1 - 2a"),
     (
@@ -178,6 +179,10 @@ fn answer(alloc: Global, table: &mut LoadTable, call: &str, req: ReqId) -> Resul
         }
         Some(b'p') => {
             table.populating(nav, DocId(u64::from(digit(bytes.get(2)))));
+            String::new(alloc)
+        }
+        Some(b'r') => {
+            table.ready(nav, DocId(u64::from(digit(bytes.get(2)))));
             String::new(alloc)
         }
         Some(b'd') => shown(alloc, table.populated(DocId(u64::from(number))))?,

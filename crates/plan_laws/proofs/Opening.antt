@@ -18,7 +18,7 @@ use Rattle.log_model.specs.AfterPlaces.{opening_place}
 use Rattle.nav_tree.specs.declared.place.Place as live
 use Rattle.nav_tree.specs.Tree.{Tree, top_node, document_of}
 use Rattle.plan_laws.specs.Held.{AreAbove, AreHeld, IsKept, StandFor, IsLive, AreLive}
-use Rattle.hang_facts.specs.AsPlaces.{HangsAs, IsChain}
+use Rattle.seen_facts.specs.Hang.AsPlaces.{HangsAs, IsChain}
 
 -- the first entry and document state
 abbrev first_entry : EntryId

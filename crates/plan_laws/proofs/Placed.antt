@@ -5,7 +5,7 @@ use Rattle.std.proofs.lemmas.Bool.Decides.{nat_tests}
 use Rattle.std.proofs.lemmas.Option.{none-some, same_Some}
 use Rattle.tab_ids.specs.declared.NavId.{NavId}
 use Rattle.log_model.specs.Seen.{Place, place_in}
-use Rattle.hang_facts.specs.AsPlaces.{AreDistinct}
+use Rattle.seen_facts.specs.Hang.AsPlaces.{AreDistinct}
 use Rattle.log_model.specs.Walk.{way_from_top, is_way_before, walk_with, walk_of}
 
 -- the first place is another one's

@@ -18,7 +18,7 @@ use Rattle.apply_plan.specs.declared.reach.Reach.{Reach}
 use Rattle.apply_plan.specs.Reaches.{leads_on, way_up, is_reached_within, is_reached}
 use Rattle.apply_plan.specs.Order.{parent_in}
 use Rattle.plan_laws.specs.Held.{AreAbove, IsKept, StandFor}
-use Rattle.hang_facts.specs.AsPlaces.{IsHung, HangsAs, IsLink, IsChain}
+use Rattle.seen_facts.specs.Hang.AsPlaces.{IsHung, HangsAs, IsLink, IsChain}
 use Rattle.plan_laws.proofs.Placed.{found_nav, each_found}
 
 none_reached : (n : ℕ) (reach : Reach) (rows : List Row) (step : ℕ) (tree : Tree) → is_reached_within n reach rows step tree None ≡ false

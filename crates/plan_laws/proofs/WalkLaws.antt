@@ -15,7 +15,7 @@ use Rattle.log_model.specs.Walk.{way_from_top, is_way_before, walk_with, backwar
 use Rattle.nav_tree.specs.Tree.{Tree}
 use Rattle.apply_plan.specs.Order.{rest, way_in, sorted_in, walk_of}
 use Rattle.plan_laws.specs.Held.{AreAbove, AreHeld}
-use Rattle.hang_facts.specs.AsPlaces.{AreDistinct}
+use Rattle.seen_facts.specs.Hang.AsPlaces.{AreDistinct}
 use Rattle.plan_laws.proofs.Ways.{numbers, numbers_back, back_back, Tells, tells}
 use Rattle.plan_laws.proofs.Placed.{none_here, none_walk}
 

@@ -18,7 +18,7 @@ use Rattle.nav_tree.specs.declared.status.NavStatus.{NavStatus}
 use Rattle.nav_tree.specs.declared.status.NavStatus.TheVariants as kept
 use Rattle.nav_tree.specs.declared.place.Place as live
 use Rattle.nav_tree.specs.Tree.{Tree, nav_of, document_of}
-use Rattle.hang_facts.specs.AsPlaces.{AreDistinct, HangsAs, IsChain}
+use Rattle.seen_facts.specs.Hang.AsPlaces.{AreDistinct, HangsAs, IsChain}
 use Rattle.apply_plan.specs.Reaches.{is_awake}
 use Rattle.apply_plan.specs.Needs.{is_pending}
 use Rattle.apply_plan.specs.Order.{parent_in, made_in}

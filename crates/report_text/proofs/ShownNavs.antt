@@ -1,6 +1,6 @@
 -- The line of a shown navigable, by what the world's readers answer: its target, and the view of the document that runs.
-use Rattle.hang_facts.proofs.Members.{has_any}
-use Rattle.hang_facts.proofs.Targets.{target_has}
+use Rattle.seen_facts.proofs.Hang.Members.{has_any}
+use Rattle.seen_facts.proofs.Hang.Targets.{target_has}
 use Rattle.log_model.proofs.Refl.{nat_eq_refl}
 use Rattle.log_model.specs.Causes.{denial_of_poke}
 use Rattle.log_model.specs.Equal.{holds}
@@ -39,6 +39,12 @@ target_row history row is = by_target (target_entry history.rows row.nav history
         has_any (is_of row.nav) history.rows target its.there (subst (λ (n : NavId). (target.nav.0 == n.0) ≡ true) its.nav_is (nat_eq_refl target.nav.0))
 
 -- ---- the document that runs
+
+-- where not exactly one runs, none is there
+pub none_at : (row : Row) (long at : ℕ) (documents : List Document) → (length documents == 1) ≡ false → one_is_at row long at documents ≡ false
+none_at row long at [] many = refl
+none_at row long at (d ∷ []) never = cc
+none_at row long at (d ∷ e ∷ documents) many = refl
 
 pub one_at : (s : Seen) (row : Row) (long at : ℕ) → has_row row.nav s.history.rows ≡ true → length (running_documents s row.nav) ≤ 1 → holds (is_at row long at) (option_and_then (λ (d : Document). d.view) (reached_in s row.nav)) ≡ one_is_at row long at (running_documents s row.nav)
 one_at s row long at there sole = by_list (running_documents s row.nav) refl

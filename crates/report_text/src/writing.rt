@@ -167,6 +167,9 @@ fn shows(world: &World, row: &Row, at: Position) -> bool
     requires target { spec.is_target (history_of world.now.log) row.now ≡ true }
     ensures { result ≡ spec.one_is_at row.now at.length at.index (running_documents (seen_of world.now.log) row.now.nav) }
 {
+    if !world.is_sole(row.nav) {
+        return false;
+    }
     is_shown(row, at, world.view(row.nav))
 }
 

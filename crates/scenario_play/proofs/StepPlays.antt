@@ -33,7 +33,7 @@ use Rattle.world.specs.declared.event.Reply.{Reply}
 use Rattle.world.specs.declared.event.Reply.TheVariants as replies
 use Rattle.world.specs.Kept.{WorldState}
 use Rattle.world.specs.Open.{view_in}
-use Rattle.world.specs.Steps.{actor_of, act_row, acted_row, order_for, row_in, begin_idles, idle_reply, Begins, HasHappened, StepsAs, Steps}
+use Rattle.world.specs.Steps.{actor_of, act_row, acted_row, order_for, row_in, begin_idles, idle_reply, longest_kept, Begins, HasHappened, StepsAs, Steps}
 use Rattle.scenario_play.specs.Courses.{Leads, Cuts, Plays, line_of, order_of, IsOfHand}
 use Rattle.scenario_play.proofs.StepMoves.{idles_without}
 use Rattle.scenario_play.proofs.LeadLaws.{leads_none, leads_event, cuts_here, all_done, all_leads, all_cuts, all_then, all_cut, all_last, all_appended, all_appended_cut, all_cut_front}
@@ -57,22 +57,24 @@ some_event (row ∷ log) opened =
 -- ---- the line of an event
 
 -- an answer that a test tells
-some_if : (b : Bool) → b ≡ is_some (if b then Some replies.Empty else None)
-some_if true = refl
-some_if false = refl
+some_if : (b : Bool) (reply : Reply) → b ≡ is_some (if b then Some reply else None)
+some_if true reply = refl
+some_if false reply = refl
 
 -- the line is passed over where the event logs nothing
 passed_is : (log : List LogRow) (event : Event) → IsOfHand log event → is_passed (seen_of log) (line_of event) ≡ is_some (idle_reply (seen_of log) event)
+passed_is log (events.Load nav mode address) hand = refl
 passed_is log (events.Go delta) hand = refl
 passed_is log (events.Poke nav action) hand = refl
-passed_is log (events.Act proc) hand = some_if (length (desk_of (seen_of log) proc).input == 0)
+passed_is log events.Evict hand = some_if (length (seen_of log).kept == 0) replies.NothingKept
+passed_is log (events.Act proc) hand = some_if (length (desk_of (seen_of log) proc).input == 0) replies.Empty
 passed_is log (events.Begin proc) hand = by_hand (in_hand_of log proc) (length (mail_of log proc))
   where
     by_hand : (order : Option Order) (waiting : ℕ) → (is_some order || waiting == 0) ≡ is_some (begin_idles order waiting)
     by_hand (Some order) waiting = refl
-    by_hand None waiting = some_if (waiting == 0)
+    by_hand None waiting = some_if (waiting == 0) replies.Empty
 passed_is log (events.Finish proc done) hand = rw hand (rw (number_itself done.order.job.nr.0) refl)
-passed_is log (events.Deliver proc) hand = some_if (length (desk_of (seen_of log) proc).reports == 0)
+passed_is log (events.Deliver proc) hand = some_if (length (desk_of (seen_of log) proc).reports == 0) replies.Empty
 
 -- what follows from what is there
 of_some : {A : Type 0} {C : Type 0} (o : Option A) (P : A → Type 0) → ((x : A) → P x → C) → IsSomeAnd o P → C
@@ -81,8 +83,10 @@ of_some (Some x) P f some = f x some
 
 -- its actor is the line's
 actor_is : (event : Event) → is_actor (line_of event) (actor_of event) ≡ true
+actor_is (events.Load nav mode address) = refl
 actor_is (events.Go delta) = refl
 actor_is (events.Poke nav action) = refl
+actor_is events.Evict = refl
 actor_is (events.Act proc) = number_itself proc.0
 actor_is (events.Begin proc) = number_itself proc.0
 actor_is (events.Finish proc done) = number_itself proc.0
@@ -90,8 +94,10 @@ actor_is (events.Deliver proc) = refl
 
 -- and its own row
 own_is : (s : Seen) (event : Event) (reply : Reply) (own : RowKind) (out : List RowKind) → Begins s event reply own out → is_own (line_of event) own ≡ true
+own_is s (events.Load nav mode address) reply own out begins = rw begins.1 (same_request_itself (requests.Load nav mode address))
 own_is s (events.Go delta) reply own out begins = rw begins.1 (same_request_itself (requests.Go delta))
 own_is s (events.Poke nav action) reply own out begins = rw begins.1 (same_request_itself (requests.Poke nav action))
+own_is s events.Evict reply own out begins = of_some (longest_kept s) _ (λ d is. rw is refl) begins.1
 own_is s (events.Act proc) reply own out begins =
     of_some (slice_get (desk_of s proc).input 0) _ (λ poke is. rw is (by_view poke (view_in s poke.doc))) begins.2
   where
@@ -109,7 +115,7 @@ own_is s (events.Act proc) reply own out begins =
 own_is s (events.Begin proc) reply own out begins =
     of_some (slice_get (desk_of s proc).mail 0) _ (λ job is. rw is.1 (number_itself proc.0)) begins.1
 own_is s (events.Finish proc done) reply own out begins =
-    of_some (desk_of s proc).in_hand _ (λ order is. rw is (number_itself proc.0)) begins.2
+    of_some (desk_of s proc).in_hand _ (λ order is. rw is.0 (number_itself proc.0)) begins.1
 own_is s (events.Deliver proc) reply own out begins = rw begins.1 (number_itself proc.0)
 
 -- its rows have its number

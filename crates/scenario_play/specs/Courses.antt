@@ -41,8 +41,10 @@ pub record PlaysRounds (old new : List LogRow) : Type 0 where
 
 -- the line of an event
 abbrev pub line_of : Event → ScenarioLine
+line_of (events.Load nav mode address) = lines.Ask (requests.Load nav mode address)
 line_of (events.Go delta) = lines.Ask (requests.Go delta)
 line_of (events.Poke nav action) = lines.Ask (requests.Poke nav action)
+line_of events.Evict = lines.Evict
 line_of (events.Act proc) = lines.Act proc
 line_of (events.Begin proc) = lines.Begin proc
 line_of (events.Finish proc done) = lines.Finish proc
@@ -50,8 +52,10 @@ line_of (events.Deliver proc) = lines.Deliver proc
 
 -- what is finished is the order in hand
 abbrev pub IsOfHand : List LogRow → Event → Type 0
+IsOfHand log (events.Load nav mode address) = Unit {0}
 IsOfHand log (events.Go delta) = Unit {0}
 IsOfHand log (events.Poke nav action) = Unit {0}
+IsOfHand log events.Evict = Unit {0}
 IsOfHand log (events.Act proc) = Unit {0}
 IsOfHand log (events.Begin proc) = Unit {0}
 IsOfHand log (events.Finish proc done) = in_hand_of log proc ≡ Some done.order

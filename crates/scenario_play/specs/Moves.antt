@@ -2,6 +2,8 @@
 -- This project's own.
 use Rattle.std.specs.Prelude.{◌≡◌, ◌<◌, ◌≤◌, Bool, true, false, ◌==◌, not, ◌&&◌, ◌||◌, List, length, is_some}
 use Rattle.tab_ids.specs.declared.ProcId.{ProcId}
+use Rattle.log_model.specs.declared.header.Header.{Header}
+use Rattle.world.specs.Sited.{IsSited}
 use Rattle.log_model.specs.declared.row_kind.LogRow.{LogRow}
 use Rattle.log_model.specs.Logs.{in_hand_of, input_of, mail_of, reports_of}
 use Rattle.world.specs.declared.error.StepError.{StepError}
@@ -12,6 +14,10 @@ use Rattle.world.specs.Open.{row_limit}
 -- a round has a turn of the process
 abbrev pub HasTurn : ProcId → Type 0
 HasTurn proc = (1 ≤ proc.0) × (proc.0 ≤ 16)
+
+-- so it has of each process of the settings
+abbrev pub HaveTurns : Header → Type 0
+HaveTurns header = (proc : ProcId) → IsSited header proc → HasTurn proc
 
 -- the world is open, its log is no shorter, and where something was due more was logged, from below the limit on, and where nothing was nothing changed
 pub record MovesIf (due : Bool) (old new : WorldState) : Type 0 where

@@ -5,8 +5,7 @@ ghost use Rattle.log_model.specs.Suits.{Suits};
 ghost use Rattle.scenario_text.specs.Follows.{Follows, IsCutShort, does, plays, plays_line};
 ghost use Rattle.scenario_play.specs.Courses.{Plays};
 ghost use Rattle.scenario_play.specs.Lines.{IsBuiltLine, IsBuiltRequest};
-ghost use Rattle.scenario_play.specs.Moves.{HasTurn, IsFault};
-ghost use Rattle.world.specs.Open.{opening_process};
+ghost use Rattle.scenario_play.specs.Moves.{HaveTurns, IsFault};
 
 use crate::round::{act, deliver, finish_in_hand, settle, step, take_up};
 use log_model::Request;
@@ -29,8 +28,8 @@ pub fn play(scenario: &Scenario, world: World) -> Played
     requires header { world.header ≡ scenario.now.header }
     requires suits { Suits scenario.now.header world.log }
     requires pages { scenario.now.header.pages ≡ [] }
-    // A round of a settle has a turn of the document's process.
-    requires turn { HasTurn (opening_process scenario.now.header) }
+    // A round of a settle has a turn of each process of the settings.
+    requires turns { HaveTurns scenario.now.header }
     requires built { All IsBuiltLine scenario.now.lines }
     ensures follows { result.fault ≡ None → IfSome result.world (λ w. Follows w.log scenario.now) }
     ensures open { result.fault ≡ None → IfSome result.world (λ w. w.closed ≡ false) }
@@ -56,7 +55,7 @@ pub fn play(scenario: &Scenario, world: World) -> Played
 
 fn play_lines(world: &mut World, lines: &[ScenarioLine]) -> Result<(), StepError>
     requires open { world.old.closed ≡ false }
-    requires turn { HasTurn (opening_process world.old.header) }
+    requires turns { HaveTurns world.old.header }
     requires built { All IsBuiltLine lines.now }
     ensures open { OnOk result (world.new.closed ≡ false) }
     ensures header { world.new.header ≡ world.old.header }
@@ -72,7 +71,7 @@ fn play_lines(world: &mut World, lines: &[ScenarioLine]) -> Result<(), StepError
 /// Plays one line. An answer that logs nothing is passed over.
 fn play_line(world: &mut World, line: &ScenarioLine) -> Result<(), StepError>
     requires open { world.old.closed ≡ false }
-    requires turn { HasTurn (opening_process world.old.header) }
+    requires turns { HaveTurns world.old.header }
     requires built { IsBuiltLine line.now }
     ensures open { OnOk result (world.new.closed ≡ false) }
     ensures header { world.new.header ≡ world.old.header }
@@ -86,8 +85,8 @@ fn play_line(world: &mut World, line: &ScenarioLine) -> Result<(), StepError>
         ScenarioLine::Finish { proc } => finish_in_hand(world, *proc),
         ScenarioLine::Deliver { proc } => deliver(world, *proc),
         ScenarioLine::Settle => settle(world),
-        ScenarioLine::Answer { .. } | ScenarioLine::Evict | ScenarioLine::Kill { .. } =>
-            unreachable!(),
+        ScenarioLine::Evict => evict(world),
+        ScenarioLine::Answer { .. } | ScenarioLine::Kill { .. } => unreachable!(),
     }
 }
 
@@ -112,6 +111,32 @@ fn ask(world: &mut World, request: &Request) -> Result<(), StepError>
             Ok(_) => Ok(()),
             Err(error) => Err(error),
         },
-        Request::Load { .. } | Request::Reload { .. } => unreachable!(),
+        Request::Load { nav, mode, address } => {
+            let address = address.copy()?;
+            let event = Event::Load {
+                nav: *nav,
+                mode: *mode,
+                address,
+            };
+            match step(world, event) {
+                Ok(_) => Ok(()),
+                Err(error) => Err(error),
+            }
+        }
+        Request::Reload { .. } => unreachable!(),
+    }
+}
+
+/// Has the document discarded that is kept longest.
+fn evict(world: &mut World) -> Result<(), StepError>
+    requires open { world.old.closed ≡ false }
+    ensures open { OnOk result (world.new.closed ≡ false) }
+    ensures header { world.new.header ≡ world.old.header }
+    ensures faults { IfErr result (IsFault world.new) }
+    ensures plays { Plays (does lines.Evict) world.old.log result world.new.log }
+{
+    match step(world, Event::Evict) {
+        Ok(_) => return Ok(()),
+        Err(error) => return Err(error),
     }
 }

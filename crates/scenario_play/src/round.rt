@@ -4,10 +4,11 @@ ghost use Rattle.log_model.specs.Logs.{seen_of, is_still, is_idle, in_hand_of};
 ghost use Rattle.log_model.specs.Seen.{desk_of};
 ghost use Rattle.scenario_text.specs.declared.line.ScenarioLine.TheVariants as lines;
 ghost use Rattle.scenario_text.specs.Follows.{a_round, does, does_all, is_passed, settles, turn_of};
-ghost use Rattle.world.specs.Open.{opening_process, row_limit};
+ghost use Rattle.world.specs.Open.{row_limit};
+ghost use Rattle.world.specs.Sited.{SomeWaits};
 ghost use Rattle.world.specs.Steps.{IsBuilt, Steps};
 ghost use Rattle.scenario_play.specs.Courses.{IsOfHand, Plays, line_of, order_of};
-ghost use Rattle.scenario_play.specs.Moves.{HasTurn, IsFault, MovesIf, has_poke, has_order, has_mail, has_report};
+ghost use Rattle.scenario_play.specs.Moves.{HaveTurns, IsFault, MovesIf, has_poke, has_order, has_mail, has_report};
 
 use log_model::Order;
 use proc_work::work;
@@ -17,7 +18,7 @@ use world::{Event, Reply, StepError, World};
 /// Goes in rounds until nothing is in transit.
 pub(crate) fn settle(world: &mut World) -> Result<(), StepError>
     requires open { world.old.closed ≡ false }
-    requires turn { HasTurn (opening_process world.old.header) }
+    requires turns { HaveTurns world.old.header }
     ensures open { OnOk result (world.new.closed ≡ false) }
     ensures header { world.new.header ≡ world.old.header }
     ensures faults { IfErr result (IsFault world.new) }
@@ -33,8 +34,8 @@ pub(crate) fn settle(world: &mut World) -> Result<(), StepError>
 /// One round, through all processes that a scenario may name.
 fn round(world: &mut World) -> Result<(), StepError>
     requires open { world.old.closed ≡ false }
-    requires turn { HasTurn (opening_process world.old.header) }
-    requires busy { is_idle (desk_of (seen_of world.old.log) (opening_process world.old.header)) ≡ false }
+    requires turns { HaveTurns world.old.header }
+    requires busy { SomeWaits world.old.header (seen_of world.old.log) }
     ensures open { OnOk result (world.new.closed ≡ false) }
     ensures header { world.new.header ≡ world.old.header }
     ensures faults { IfErr result (IsFault world.new) }
@@ -216,6 +217,8 @@ fn taken(reply: Reply) -> Option<Order>
     match reply {
         Reply::Took(order) => Some(order),
         Reply::Accepted(_)
+        | Reply::Evicted
+        | Reply::NothingKept
         | Reply::Acted
         | Reply::Voided
         | Reply::Busy

@@ -43,9 +43,9 @@ NoPageCame (places.Heading stage settings) = settings.pages ≡ []
 NoPageCame (places.Body header lines) = header.pages ≡ []
 
 -- a scenario of a tab of frames names no page
-pub header_played : (in_run : Bool) (bytes : List ℕ) (scenario : Scenario) → scenario_of in_run builts.Frames bytes ≡ Ok scenario → scenario.header.pages ≡ []
+pub header_played : (in_run : Bool) (bytes : List ℕ) (scenario : Scenario) → scenario_of in_run builts.Loads bytes ≡ Ok scenario → scenario.header.pages ≡ []
 header_played in_run bytes scenario read =
-    scenario_stays in_run builts.Frames NoPageCame tt
+    scenario_stays in_run builts.Loads NoPageCame tt
     (record {
       version = refl;
       heading = λ stage settings none. record {

@@ -240,7 +240,7 @@ version_after built = refl
 
 -- a caller of any kind plays `keep`
 keep_played : (built : Built) → plays_stage built stages.Keep ≡ true
-keep_played builts.Frames = refl
+keep_played builts.Loads = refl
 keep_played builts.All = refl
 
 keep_line_read : (built : Built) (keep : ℕ) (rest : List ℕ) → KeepIs keep → read_pieces false built 2 (places.Heading stages.Version plain_settings) (pieces 10 (keep_line keep ++ rest)) ≡ read_pieces false built 3 (places.Heading stages.Keep (settings_with keep [] [])) (pieces 10 rest)

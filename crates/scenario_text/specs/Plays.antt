@@ -27,26 +27,28 @@ abbrev pub is_no_edit : Action → Bool
 is_no_edit actions.Edit = false
 is_no_edit _ = true
 
--- a request of a tab of frames: a traversal, or such an action of a document
-abbrev pub is_request_of_frames : Request → Bool
-is_request_of_frames (requests.Go delta) = true
-is_request_of_frames (requests.Poke nav action) = is_no_edit action
-is_request_of_frames _ = false
+-- a request of a tab with loads: a load, a traversal, or such an action of a document
+abbrev pub is_request_of_loads : Request → Bool
+is_request_of_loads (requests.Load nav mode address) = true
+is_request_of_loads (requests.Go delta) = true
+is_request_of_loads (requests.Poke nav action) = is_no_edit action
+is_request_of_loads _ = false
 
--- a line of a tab of frames
-abbrev pub is_of_frames : ScenarioLine → Bool
-is_of_frames (lines.Ask request) = is_request_of_frames request
-is_of_frames lines.Settle = true
-is_of_frames line = is_step line
+-- a line of a tab with loads, in which nobody is asked and no process dies
+abbrev pub is_of_loads : ScenarioLine → Bool
+is_of_loads (lines.Ask request) = is_request_of_loads request
+is_of_loads lines.Evict = true
+is_of_loads lines.Settle = true
+is_of_loads line = is_step line
 
 -- the caller can play the line
 abbrev pub plays : Built → ScenarioLine → Bool
-plays builts.Frames line = is_of_frames line
+plays builts.Loads line = is_of_loads line
 plays builts.All line = true
 
--- the caller can play a header that has come so far: a tab of frames has no handlers yet
+-- the caller can play a header that has come so far: a tab with loads has no handlers yet
 abbrev pub plays_stage : Built → Stage → Bool
-plays_stage builts.Frames stages.Page = false
+plays_stage builts.Loads stages.Page = false
 plays_stage _ _ = true
 
 -- the caller can play the line that leads here

@@ -9,8 +9,8 @@ use log_model::{Action, Request};
 /// The lines that a caller can play; any other is refused as `unbuilt`, once it has no other fault.
 #[derive(Clone, Copy, PartialEq, Eq, Debug)]
 pub enum Built {
-    /// The lines of a tab of frames: `go`, `push`, `replace`, `fragment`, `frame`, `remove`, `docgo`, `act`, `begin`, `finish`, `deliver` and `settle`.
-    Frames,
+    /// The lines of a tab with loads, in which nobody is asked and no process dies: `load`, `go`, `push`, `replace`, `fragment`, `frame`, `remove`, `docgo`, `evict`, `act`, `begin`, `finish`, `deliver` and `settle`.
+    Loads,
     /// All lines.
     All,
 }
@@ -21,7 +21,7 @@ impl Built {
         ensures { result ≡ spec.plays self line.now }
     {
         match self {
-            Built::Frames => is_of_frames(line),
+            Built::Loads => is_of_loads(line),
             Built::All => true,
         }
     }
@@ -40,8 +40,8 @@ impl Built {
         ensures { result ≡ spec.plays_stage self stage }
     {
         match (self, stage) {
-            (Built::Frames, Stage::Page) => false,
-            (Built::Frames, Stage::Version | Stage::Keep | Stage::Site) | (Built::All, _) => true,
+            (Built::Loads, Stage::Page) => false,
+            (Built::Loads, Stage::Version | Stage::Keep | Stage::Site) | (Built::All, _) => true,
         }
     }
 }
@@ -63,28 +63,29 @@ pub fn is_step(line: &ScenarioLine) -> bool
     }
 }
 
-/// Whether it is a line of a tab of frames.
-fn is_of_frames(line: &ScenarioLine) -> bool
-    ensures { result ≡ spec.is_of_frames line.now }
+/// Whether it is a line of a tab with loads.
+fn is_of_loads(line: &ScenarioLine) -> bool
+    ensures { result ≡ spec.is_of_loads line.now }
 {
     match line {
-        ScenarioLine::Ask(request) => is_request_of_frames(request),
+        ScenarioLine::Ask(request) => is_request_of_loads(request),
         ScenarioLine::Act { .. }
         | ScenarioLine::Begin { .. }
         | ScenarioLine::Finish { .. }
         | ScenarioLine::Deliver { .. }
+        | ScenarioLine::Evict
         | ScenarioLine::Settle => true,
-        ScenarioLine::Answer { .. } | ScenarioLine::Evict | ScenarioLine::Kill { .. } => false,
+        ScenarioLine::Answer { .. } | ScenarioLine::Kill { .. } => false,
     }
 }
 
-fn is_request_of_frames(request: &Request) -> bool
-    ensures { result ≡ spec.is_request_of_frames request.now }
+fn is_request_of_loads(request: &Request) -> bool
+    ensures { result ≡ spec.is_request_of_loads request.now }
 {
     match request {
-        Request::Go { .. } => true,
+        Request::Load { .. } | Request::Go { .. } => true,
         Request::Poke { action, .. } => is_no_edit(action),
-        Request::Load { .. } | Request::Reload { .. } => false,
+        Request::Reload { .. } => false,
     }
 }
 

@@ -1,13 +1,13 @@
 -- A document makes something of the first poke of its process, or the process refuses that poke: the coordinator that stood for the log stands for it still.
-use Rattle.asked_facts.specs.Asking.{IsNoEditing, IsTabRequest}
-use Rattle.coord_facts.proofs.Held.{held_apart, held_on, on_else, without_same}
-use Rattle.coord_facts.proofs.Unread.{next}
-use Rattle.desk_facts.specs.Own as owning
-use Rattle.each_facts.proofs.Eaches.{each_first}
-use Rattle.entry_facts.proofs.Stays.{its_number}
-use Rattle.frame_events.proofs.Processes.{made_of_action}
-use Rattle.last_facts.proofs.Rows.{made_lasting, refused_lasting}
-use Rattle.left_facts.proofs.Rows.{were_shown}
+use Rattle.seen_facts.specs.Asked.Asking.{IsNoEditing, IsTabRequest}
+use Rattle.seen_facts.proofs.Coord.Held.{held_apart, held_on, on_else, without_same}
+use Rattle.seen_facts.proofs.Coord.Unread.{next}
+use Rattle.seen_facts.specs.Desk.Own as owning
+use Rattle.seen_facts.proofs.Each.Eaches.{each_first}
+use Rattle.seen_facts.proofs.Entry.Stays.{its_number}
+use Rattle.tab_facts.proofs.FrameEvents.Processes.{made_of_action}
+use Rattle.tab_facts.proofs.Last.Rows.{made_lasting, refused_lasting}
+use Rattle.row_facts.proofs.Left.Rows.{were_shown}
 use Rattle.log_model.proofs.Refl.{nat_eq_refl}
 use Rattle.log_model.specs.AfterRequests.{is_running}
 use Rattle.log_model.specs.Equal.{has_req}
@@ -22,12 +22,12 @@ use Rattle.log_model.specs.declared.made.What.{What}
 use Rattle.log_model.specs.declared.outcome.Denial.{Denial}
 use Rattle.log_model.specs.declared.request.Poke.{Poke}
 use Rattle.move_queue.specs.Queue.{Queue}
-use Rattle.order_facts.proofs.Rows.{orders_after}
-use Rattle.request_facts.proofs.KnownMoved.{first_poke}
-use Rattle.request_facts.proofs.LookUps.{on_itself}
-use Rattle.request_facts.proofs.Readers.{on_read}
-use Rattle.request_facts.specs.Cores.{Core, core, core_of}
-use Rattle.request_facts.specs.Knowns.{IsPoke}
+use Rattle.tab_facts.proofs.Order.Rows.{orders_after}
+use Rattle.seen_facts.proofs.Request.KnownMoved.{first_poke}
+use Rattle.seen_facts.proofs.Request.LookUps.{on_itself}
+use Rattle.seen_facts.proofs.Request.Readers.{on_read}
+use Rattle.seen_facts.specs.Request.Cores.{Core, core, core_of}
+use Rattle.seen_facts.specs.Request.Knowns.{IsPoke}
 use Rattle.seen_laws.proofs.Makings.{made_passes, refused_passes, unturned}
 use Rattle.seen_laws.specs.Acting.{IsToAct}
 use Rattle.seen_laws.specs.Blocks.{Passes}
@@ -41,13 +41,13 @@ use Rattle.tab_stands.proofs.Coming.{bare}
 use Rattle.tab_doors.proofs.Sights.{seen_of, sight_of, sights_same, unseen_at, IsSeen}
 use Rattle.tab_doors.specs.Look.{Sight, sight, sight_in}
 use Rattle.tab_doors.specs.declared.tables.Tables.{Tables}
-use Rattle.tab_events.proofs.Acting.{acted_between, refused_between}
-use Rattle.tab_events.proofs.Left.{IsLeft, keeps_all}
-use Rattle.tab_events.proofs.Ordered.{orders_on}
-use Rattle.tab_events.proofs.Requests.{others_left}
-use Rattle.tab_events.proofs.Rows.{made_left}
-use Rattle.tab_going.proofs.Counts.{as_many, count_more, count_same}
-use Rattle.tab_going.specs.Going.{count_of, has_ended, has_spent}
+use Rattle.tab_facts.proofs.TabEvents.Acting.{acted_between, refused_between}
+use Rattle.tab_facts.proofs.TabEvents.Left.{IsLeft, but_of, keeps_all}
+use Rattle.tab_facts.proofs.TabEvents.Ordered.{orders_on}
+use Rattle.tab_facts.proofs.TabEvents.Requests.{others_left}
+use Rattle.tab_facts.proofs.TabEvents.Rows.{made_left}
+use Rattle.tab_facts.proofs.TabGoing.Counts.{as_many, count_more, count_same}
+use Rattle.tab_facts.specs.TabGoing.Going.{count_of, has_ended, has_spent}
 use Rattle.tab_ids.specs.declared.DocId.{DocId}
 use Rattle.tab_ids.specs.declared.NavId.{NavId}
 use Rattle.tab_ids.specs.declared.ProcId.{ProcId}
@@ -57,7 +57,7 @@ use Rattle.tab_stands.proofs.EpochRows.{made_under, refused_under}
 use Rattle.tab_stands.proofs.PassedOn.{unstood_by}
 use Rattle.tab_stands.specs.PassedOn.{IsByItsOwn, LoadsMadeOwn, is_new_entry}
 use Rattle.tab_stands.specs.Standing.{HasActed, HasRoomFor, StandsFor}
-use Rattle.tab_whole.proofs.Acting.{IsActing, not_running, unjoined, unparked}
+use Rattle.tab_facts.proofs.TabWhole.Acting.{IsActing, not_running, unjoined, unparked}
 use Rattle.log_model.specs.declared.action.Action.TheVariants as actions
 use Rattle.log_model.specs.declared.made.What.TheVariants as whats
 use Rattle.log_model.specs.declared.outcome.Denial.TheVariants as denials
@@ -210,7 +210,7 @@ module _ (e : InEvent) (t : Tables) (queue : Queue) (blame : List (StateId × Re
 
       pub made_stands : StandsFor (next e.start e.start.events (actors.Proc proc) (rows.Made proc (made_for view poke.req what))) t queue blame
       made_stands =
-          left_stands e t queue blame stands room made_ (made_left t.running s s.events (actors.Proc proc) proc its_made) made_told
+          left_stands e t queue blame stands room made_ (but_of t.running s made_ (made_left t.running s s.events (actors.Proc proc) proc its_made)) made_told
           (acted_between t.kept.keep t.running s proc stands.between poke first d view what acting)
           (made_lasting s s.events (actors.Proc proc) stands.lasts.lasting proc its_made d view to_act.there has runs refl goes)
           (λ F. orders_after F s s.events (actors.Proc proc) (rows.Made proc its_made) tt (λ x is. cc))
@@ -297,7 +297,7 @@ module _ (e : InEvent) (t : Tables) (queue : Queue) (blame : List (StateId × Re
 
     pub refused_stands : StandsFor (next e.start e.event (actors.Proc proc) (rows.Refused poke.req reason)) t queue blame
     refused_stands =
-        left_stands e t queue blame stands room refused refused_left refused_told
+        left_stands e t queue blame stands room refused (but_of t.running s refused refused_left) refused_told
         (refused_between t.kept.keep t.running s proc stands.between poke first e.event reason)
         (refused_lasting s e.event (actors.Proc proc) stands.lasts.lasting poke.req reason)
         (λ F. orders_after F s e.event (actors.Proc proc) (rows.Refused poke.req reason) tt (λ x is. cc))

@@ -1,5 +1,5 @@
 -- The rows of an event of a process, and what the log has come to with them.
-use Rattle.coord_facts.proofs.Unread.{next}
+use Rattle.seen_facts.proofs.Coord.Unread.{next}
 use Rattle.log_model.specs.Seen.{Seen}
 use Rattle.log_model.specs.declared.row_kind.Actor.{Actor}
 use Rattle.log_model.specs.declared.row_kind.LogRow.{LogRow}

@@ -1,13 +1,13 @@
 -- A process finishes an order that sends a document to a fragment, and the document makes an entry of it: the coordinator that stood for the log stands for it still.
-use Rattle.coord_facts.proofs.Held.{held_apart, on_else}
-use Rattle.coord_facts.proofs.Unread.{next}
-use Rattle.entry_facts.proofs.Stays.{its_number}
-use Rattle.fragment_facts.proofs.Knowns.{IsUnmadeLoad, unmade_unheld}
-use Rattle.fragment_facts.specs.Fragments.{fragment_of}
-use Rattle.fragment_orders.proofs.Works.{IsWaiting, in_hand_waits, waiting_load}
-use Rattle.coord_facts.specs.Leading.{held_back}
-use Rattle.last_facts.proofs.Rows.{finished_lasting, made_lasting}
-use Rattle.last_facts.specs.Lasting.{AreLasting}
+use Rattle.seen_facts.proofs.Coord.Held.{held_apart, on_else}
+use Rattle.seen_facts.proofs.Coord.Unread.{next}
+use Rattle.seen_facts.proofs.Entry.Stays.{its_number}
+use Rattle.seen_facts.proofs.Fragment.Knowns.{IsUnmadeLoad, unmade_unheld}
+use Rattle.seen_facts.specs.Fragment.Fragments.{fragment_of}
+use Rattle.tab_facts.proofs.FragmentOrders.Works.{IsWaiting, in_hand_waits, waiting_load}
+use Rattle.seen_facts.specs.Coord.Leading.{held_back}
+use Rattle.tab_facts.proofs.Last.Rows.{finished_lasting, made_lasting}
+use Rattle.tab_facts.specs.Last.Lasting.{AreLasting}
 use Rattle.log_model.specs.AfterDocuments.{documents_finished, slot_finished, view_finished}
 use Rattle.log_model.specs.AfterRequests.{on_request}
 use Rattle.log_model.specs.Points.{nav_of_request}
@@ -15,11 +15,11 @@ use Rattle.log_model.specs.declared.job.Job.{Job}
 use Rattle.log_model.specs.declared.row_kind.Actor.{Actor}
 use Rattle.log_model.specs.declared.row_kind.LogRow.{LogRow}
 use Rattle.log_model.specs.declared.row_kind.RowKind.{RowKind}
-use Rattle.order_facts.proofs.Rows.{orders_after}
+use Rattle.tab_facts.proofs.Order.Rows.{orders_after}
 use Rattle.seen_laws.proofs.Keyed.{find_map}
-use Rattle.leave_rows.proofs.FragmentMakes.{fragment_event_passes}
-use Rattle.leave_rows.specs.Fragments.{IsFragmentInHand}
-use Rattle.left_facts.proofs.Rows.{were_shown}
+use Rattle.row_facts.proofs.LeaveRows.FragmentMakes.{fragment_event_passes}
+use Rattle.row_facts.specs.LeaveRows.Fragments.{IsFragmentInHand}
+use Rattle.row_facts.proofs.Left.Rows.{were_shown}
 use Rattle.log_model.specs.AfterRequests.{is_running, requests_finished}
 use Rattle.log_model.specs.Equal.{has_req}
 use Rattle.log_model.specs.Once.{delta_of}
@@ -32,9 +32,9 @@ use Rattle.log_model.specs.declared.made.Made.{Made}
 use Rattle.log_model.specs.declared.request.Mode.{Mode}
 use Rattle.log_model.specs.declared.request.Request.{Request}
 use Rattle.move_queue.specs.Queue.{Queue}
-use Rattle.each_facts.specs.Items.{Each}
-use Rattle.request_facts.proofs.LookUps.{on_itself}
-use Rattle.request_facts.proofs.Readers.{SameReads, on_read}
+use Rattle.seen_facts.specs.Each.Items.{Each}
+use Rattle.seen_facts.proofs.Request.LookUps.{on_itself}
+use Rattle.seen_facts.proofs.Request.Readers.{SameReads, on_read}
 use Rattle.seen_laws.specs.Blocks.{EachPass}
 use Rattle.seen_laws.proofs.InEvents.{now_more}
 use Rattle.seen_laws.specs.InEvent.{InEvent, now_of, row_of, start_of}
@@ -46,11 +46,11 @@ use Rattle.tab_stands.proofs.Coming.{bare}
 use Rattle.tab_doors.proofs.Sights.{IsSeen, seen_of, sight_of, sights_same, unseen_at}
 use Rattle.tab_doors.specs.Look.{Sight, sight, sight_in}
 use Rattle.tab_doors.specs.declared.tables.Tables.{Tables}
-use Rattle.tab_events.proofs.Left.{left_twice}
-use Rattle.tab_events.proofs.Rows.{finished_left, made_left}
-use Rattle.tab_events.proofs.Working.{fragment_made_between}
-use Rattle.tab_going.proofs.Counts.{as_many, count_same}
-use Rattle.tab_going.specs.Going.{count_of, has_ended, has_spent}
+use Rattle.tab_facts.proofs.TabEvents.Left.{but_of, left_twice}
+use Rattle.tab_facts.proofs.TabEvents.Rows.{finished_left, made_left}
+use Rattle.tab_facts.proofs.TabEvents.Working.{fragment_made_between}
+use Rattle.tab_facts.proofs.TabGoing.Counts.{as_many, count_same}
+use Rattle.tab_facts.specs.TabGoing.Going.{count_of, has_ended, has_spent}
 use Rattle.tab_ids.specs.declared.DocId.{DocId}
 use Rattle.tab_ids.specs.declared.NavId.{NavId}
 use Rattle.tab_ids.specs.declared.ProcId.{ProcId}
@@ -60,9 +60,9 @@ use Rattle.tab_stands.proofs.EpochRows.{finished_under, made_under}
 use Rattle.tab_stands.proofs.PassedOn.{unstood_by}
 use Rattle.tab_stands.specs.PassedOn.{IsByItsOwn, IsOfItsLoad, IsSoundTask, LoadsMadeOwn, is_new_entry}
 use Rattle.tab_stands.specs.Standing.{HasActed, HasRoomFor, StandsFor}
-use Rattle.tab_whole.proofs.Fragments.{IsToFragment}
-use Rattle.tab_whole.proofs.Working.{in_hand_lives}
-use Rattle.transit_facts.specs.Orders.{IsOutcomeOf}
+use Rattle.tab_facts.proofs.TabWhole.Fragments.{IsToFragment}
+use Rattle.tab_facts.proofs.TabWhole.Working.{in_hand_lives}
+use Rattle.seen_facts.specs.Transit.Orders.{IsOutcomeOf}
 use Rattle.log_model.specs.declared.made.What.TheVariants as whats
 use Rattle.log_model.specs.declared.job.Task.TheVariants as tasks
 use Rattle.log_model.specs.declared.outcome.Outcome.TheVariants as outcomes
@@ -277,7 +277,7 @@ module _ (e : InEvent) (t : Tables) (queue : Queue) (blame : List (StateId × Re
   pub fragment_stands : StandsFor (next (next e.start e.event (actors.Proc proc) (rows.Finished proc order.job.nr outcomes.Fragmented)) e.event (actors.Proc proc) (rows.Made proc (made_for view req (fragment_of view mode address)))) t queue blame
   fragment_stands =
       left_stands e t queue blame stands room n
-      (left_twice t.running s half n (finished_left t.running s e.event (actors.Proc proc) proc order outcomes.Fragmented to.in_hand) (made_left t.running half e.event (actors.Proc proc) proc made))
+      (but_of t.running s n (left_twice t.running s half n (finished_left t.running s e.event (actors.Proc proc) proc order outcomes.Fragmented to.in_hand) (made_left t.running half e.event (actors.Proc proc) proc made)))
       told (fragment_made_between t.kept.keep t.running s e.event proc stands.between order req mode address d view to) lasting
       (λ F are. orders_after F half e.event (actors.Proc proc) (rows.Made proc made) tt (λ job is. cc) (orders_after F s e.event (actors.Proc proc) (rows.Finished proc order.job.nr outcomes.Fragmented) tt (λ job is. cc) are)) theirs
       (were_shown half e.event (actors.Proc proc) (were_shown s e.event (actors.Proc proc) stands.lasts.were (rows.Finished proc order.job.nr outcomes.Fragmented) tt) (rows.Made proc made) tt)

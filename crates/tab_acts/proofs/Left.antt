@@ -1,17 +1,17 @@
 -- What a process's rows leave of what a coordinator's tables tell: one that stood for the log stands for it still.
-use Rattle.asked_facts.proofs.Running.{run_in, running_is}
-use Rattle.asked_facts.specs.Asking.{IsAskedPlainly}
-use Rattle.coord_facts.specs.Leading.{held_back}
-use Rattle.each_facts.proofs.Courses.{is_asked, was_asked}
-use Rattle.each_facts.proofs.Runs.{none_passes}
-use Rattle.hang_facts.proofs.Members.{has_found}
-use Rattle.kept_facts.specs.Keeping.{state_in}
-use Rattle.last_facts.specs.Lasting.{AreLasting}
-use Rattle.left_facts.specs.Left.{WereShown}
+use Rattle.seen_facts.proofs.Asked.Running.{run_in, running_is}
+use Rattle.seen_facts.specs.Asked.Asking.{IsAskedPlainly}
+use Rattle.seen_facts.specs.Coord.Leading.{held_back}
+use Rattle.seen_facts.proofs.Each.Courses.{is_asked, was_asked}
+use Rattle.seen_facts.proofs.Each.Runs.{none_passes}
+use Rattle.seen_facts.proofs.Hang.Members.{has_found}
+use Rattle.seen_facts.specs.Kept.Keeping.{state_in}
+use Rattle.tab_facts.specs.Last.Lasting.{AreLasting}
+use Rattle.row_facts.specs.Left.Left.{WereShown}
 use Rattle.load_doors.specs.Tied.{AreTied}
-use Rattle.load_facts.specs.Loading.{Look, is_ongoing, look, look_of}
+use Rattle.seen_facts.specs.Load.Loading.{Look, is_ongoing, look, look_of}
 use Rattle.load_table.specs.declared.load.Load.{Load}
-use Rattle.load_ties.specs.Tying.{IsLoadTied, TiesLoads, is_for_state, made_for, phase_with}
+use Rattle.seen_facts.specs.LoadTies.Tying.{IsLoadTied, TiesLoads, is_for_state, made_for, phase_with}
 use Rattle.log_model.specs.Checks.{is_checked}
 use Rattle.log_model.specs.Equal.{has_req, holds, implies}
 use Rattle.log_model.specs.History.{has_nav, has_row, has_state}
@@ -26,11 +26,11 @@ use Rattle.log_model.specs.History.{History}
 use Rattle.log_model.specs.declared.job.Job.{Job}
 use Rattle.log_model.specs.declared.request.Request.{Request}
 use Rattle.move_queue.specs.Queue.{Queue}
-use Rattle.order_facts.proofs.Rows.{orders_on}
-use Rattle.order_facts.specs.Orders.{AreOrders}
-use Rattle.request_facts.proofs.Readers.{SameReads}
-use Rattle.rest_facts.proofs.Again.{WasOf, was_of}
-use Rattle.rest_facts.proofs.Stands.{request_has}
+use Rattle.tab_facts.proofs.Order.Rows.{orders_on}
+use Rattle.tab_facts.specs.Order.Orders.{AreOrders}
+use Rattle.seen_facts.proofs.Request.Readers.{SameReads}
+use Rattle.seen_facts.proofs.Rest.Again.{WasOf, was_of}
+use Rattle.seen_facts.proofs.Rest.Stands.{request_has}
 use Rattle.seen_laws.proofs.Keyed.{find_map}
 use Rattle.seen_laws.specs.InEvent.{InEvent}
 use Rattle.std.proofs.Common.{Bool, List, None, Option, Some, [], ap, arith, cond, false, inl, length, map, refl, subst, sym, true, ℕ, ◌&&◌, ◌+◌, ◌<◌, ◌==◌, ◌||◌, ◌∙◌, ◌∷◌, ◌≡◌, ◌≤◌}
@@ -44,11 +44,11 @@ use Rattle.tab_doors.specs.Look.{Sight, look_of as sights_of, moved_by, sight, s
 use Rattle.tab_doors.specs.Ties.{AreInitial, IsRunning}
 use Rattle.tab_doors.specs.Working.{HasGoal}
 use Rattle.tab_doors.specs.declared.tables.Tables.{Tables}
-use Rattle.tab_events.proofs.Left.{IsLeft}
-use Rattle.tab_events.proofs.Requests.{IsSo}
-use Rattle.tab_events.specs.Between.{IsBetween}
-use Rattle.tab_going.proofs.Steps.{steps_still}
-use Rattle.tab_going.specs.Going.{AreHeldUp, IsGoing, count_of, has_ended, has_spent}
+use Rattle.tab_facts.proofs.TabEvents.Left.{IsLeftBut}
+use Rattle.tab_facts.proofs.TabEvents.Requests.{IsSo}
+use Rattle.tab_facts.specs.TabEvents.Between.{IsBetween}
+use Rattle.tab_facts.proofs.TabGoing.Steps.{steps_still}
+use Rattle.tab_facts.specs.TabGoing.Going.{AreHeldUp, IsGoing, count_of, has_ended, has_spent}
 use Rattle.tab_ids.specs.declared.DocId.{DocId}
 use Rattle.tab_ids.specs.declared.NavId.{NavId}
 use Rattle.tab_ids.specs.declared.ReqId.{ReqId}
@@ -88,7 +88,7 @@ any_map g test (x ∷ xs) same = rw (same x) (ap (λ (b : Bool). test x || b) (a
 some_same : {A : Type 0} {a b : A} → (let o : Option A = Some a in o) ≡ Some b → a ≡ b
 some_same e = cc
 
-module _ (e : InEvent) (t : Tables) (queue : Queue) (blame : List (StateId × ReqId)) (stands : StandsFor e.start t queue blame) (room : HasRoomFor e.start) (n : Seen) (left : IsLeft t.running e.start n) (told : StaysTold e.start n) (between : IsBetween t.kept.keep t.running n) (lasting : AreLasting n) (rows_ : (F : Job → Type 0) → AreOrders F e.start → AreOrders F n) (theirs : LoadsMadeOwn n) (were : WereShown n) (shows : AreShownUnder n) where
+module _ (e : InEvent) (t : Tables) (queue : Queue) (blame : List (StateId × ReqId)) (stands : StandsFor e.start t queue blame) (room : HasRoomFor e.start) (n : Seen) (left : IsLeftBut t.running e.start n) (told : StaysTold e.start n) (between : IsBetween t.kept.keep t.running n) (lasting : AreLasting n) (rows_ : (F : Job → Type 0) → AreOrders F e.start → AreOrders F n) (theirs : LoadsMadeOwn n) (were : WereShown n) (shows : AreShownUnder n) where
   abbrev s : Seen
   s = e.start
 

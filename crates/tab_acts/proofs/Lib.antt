@@ -3,3 +3,4 @@ pub mod Events
 pub mod Orders
 pub mod Acts
 pub mod Fragments
+pub mod Told

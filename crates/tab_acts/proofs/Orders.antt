@@ -1,12 +1,12 @@
 -- A process takes up an order, or finishes one that is no fragment order: the coordinator that stood for the log stands for it still.
-use Rattle.coord_facts.proofs.Unread.{next}
-use Rattle.coord_facts.specs.Leading.{held_back}
-use Rattle.doc_facts.proofs.Works.{HasNoSlot}
-use Rattle.each_facts.specs.Items.{Each}
-use Rattle.hang_facts.specs.Members.{Has}
-use Rattle.last_facts.proofs.Rows.{finished_lasting, taken_lasting}
-use Rattle.left_facts.proofs.Rows.{were_shown}
-use Rattle.load_whereabouts.proofs.Trips.{IsNoFragment}
+use Rattle.seen_facts.proofs.Coord.Unread.{next}
+use Rattle.seen_facts.specs.Coord.Leading.{held_back}
+use Rattle.seen_facts.proofs.Doc.Works.{HasNoSlot}
+use Rattle.seen_facts.specs.Each.Items.{Each}
+use Rattle.seen_facts.specs.Hang.Members.{Has}
+use Rattle.tab_facts.proofs.Last.Rows.{finished_lasting, taken_lasting}
+use Rattle.row_facts.proofs.Left.Rows.{were_shown}
+use Rattle.seen_facts.proofs.LoadWhereabouts.Trips.{IsNoFragment}
 use Rattle.log_model.specs.AfterDocuments.{documents_finished, slot_finished, view_finished}
 use Rattle.log_model.specs.AfterRequests.{requests_finished}
 use Rattle.log_model.specs.Equal.{holds}
@@ -23,8 +23,8 @@ use Rattle.log_model.specs.declared.outcome.Outcome.{Outcome}
 use Rattle.log_model.specs.declared.row_kind.LogRow.{LogRow}
 use Rattle.log_model.proofs.Refl.{nat_eq_refl}
 use Rattle.move_queue.specs.Queue.{Queue}
-use Rattle.order_facts.proofs.Rows.{orders_after}
-use Rattle.rest_facts.proofs.Still.{found_itself}
+use Rattle.tab_facts.proofs.Order.Rows.{orders_after}
+use Rattle.seen_facts.proofs.Rest.Still.{found_itself}
 use Rattle.seen_laws.proofs.Processes.{taken_passes}
 use Rattle.seen_laws.specs.InEvent.{InEvent}
 use Rattle.seen_laws.specs.Blocks.{Passes}
@@ -38,12 +38,12 @@ use Rattle.tab_acts.specs.Pages.{HasNoPages}
 use Rattle.tab_doors.proofs.Sights.{IsSeen, seen_of, sight_of, sights_same, unseen_at}
 use Rattle.tab_doors.specs.Look.{Sight, sight, sight_in}
 use Rattle.tab_doors.specs.declared.tables.Tables.{Tables}
-use Rattle.tab_events.proofs.Left.{IsLeft, keeps_all}
-use Rattle.tab_events.proofs.Ordered.{taken_orders}
-use Rattle.tab_events.proofs.Requests.{same_left}
-use Rattle.tab_events.proofs.Rows.{finished_left}
-use Rattle.tab_events.proofs.Working.{finished_between, taken_between}
-use Rattle.tab_going.specs.Going.{count_of, has_ended, has_spent}
+use Rattle.tab_facts.proofs.TabEvents.Left.{IsLeft, but_of, keeps_all}
+use Rattle.tab_facts.proofs.TabEvents.Ordered.{taken_orders}
+use Rattle.tab_facts.proofs.TabEvents.Requests.{same_left}
+use Rattle.tab_facts.proofs.TabEvents.Rows.{finished_left}
+use Rattle.tab_facts.proofs.TabEvents.Working.{finished_between, taken_between}
+use Rattle.tab_facts.specs.TabGoing.Going.{count_of, has_ended, has_spent}
 use Rattle.tab_ids.specs.declared.DocId.{DocId}
 use Rattle.tab_ids.specs.declared.NavId.{NavId}
 use Rattle.tab_ids.specs.declared.ProcId.{ProcId}
@@ -53,8 +53,8 @@ use Rattle.tab_stands.proofs.EpochRows.{finished_under, taken_under}
 use Rattle.tab_stands.proofs.PassedOn.{unstood_by}
 use Rattle.tab_stands.specs.PassedOn.{IsSoundTask, LoadsMadeOwn}
 use Rattle.tab_stands.specs.Standing.{HasActed, HasRoomFor, StandsFor}
-use Rattle.tab_whole.proofs.Working.{taken_lives}
-use Rattle.transit_facts.specs.Orders.{IsOutcomeOf}
+use Rattle.tab_facts.proofs.TabWhole.Working.{taken_lives}
+use Rattle.seen_facts.specs.Transit.Orders.{IsOutcomeOf}
 use Rattle.log_model.specs.declared.job.Task.TheVariants as tasks
 use Rattle.log_model.specs.declared.outcome.Outcome.TheVariants as outcomes
 use Rattle.log_model.specs.declared.row_kind.Actor.TheVariants as actors
@@ -87,7 +87,7 @@ module _ (e : InEvent) (t : Tables) (queue : Queue) (blame : List (StateId × Re
 
     pub taken_stands : StandsFor (next e.start e.event (actors.Proc proc) (rows.Taken proc job.nr true dirty)) t queue blame
     taken_stands =
-        left_stands e t queue blame stands room took took_left took_told (taken_between t.kept.keep t.running s e.event proc stands.between job dirty free first) (taken_lasting s e.event (actors.Proc proc) stands.lasts.lasting proc job dirty)
+        left_stands e t queue blame stands room took (but_of t.running s took took_left) took_told (taken_between t.kept.keep t.running s e.event proc stands.between job dirty free first) (taken_lasting s e.event (actors.Proc proc) stands.lasts.lasting proc job dirty)
         (λ F. orders_after F s e.event (actors.Proc proc) (rows.Taken proc job.nr true dirty) tt (λ x is. cc))
         (theirs_same s took refl (λ doc d found. (d, found, refl)) stands.lasts.made)
         (were_shown s e.event (actors.Proc proc) stands.lasts.were (rows.Taken proc job.nr true dirty) tt)
@@ -193,7 +193,7 @@ module _ (e : InEvent) (t : Tables) (queue : Queue) (blame : List (StateId × Re
 
     pub finished_stands : StandsFor (next e.start e.event (actors.Proc proc) (rows.Finished proc order.job.nr outcome)) t queue blame
     finished_stands =
-        left_stands e t queue blame stands room did did_left did_told (finished_between t.kept.keep t.running s e.event proc stands.between order outcome hand its bare other)
+        left_stands e t queue blame stands room did (but_of t.running s did did_left) did_told (finished_between t.kept.keep t.running s e.event proc stands.between order outcome hand its bare other)
         (finished_lasting s e.event (actors.Proc proc) stands.lasts.lasting stands.between.tab.desks proc order outcome)
         (λ F. orders_after F s e.event (actors.Proc proc) (rows.Finished proc order.job.nr outcome) tt (λ x is. cc))
         (theirs_same s did requests_same homes stands.lasts.made)

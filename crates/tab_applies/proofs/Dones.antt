@@ -1,11 +1,11 @@
 -- As a ready load was applied, all goes on, and the rest is as it was.
-use Rattle.coord_facts.proofs.Held.{without_same}
-use Rattle.coord_facts.proofs.Unread.{next}
-use Rattle.entry_facts.proofs.Skips.{without_made}
-use Rattle.frame_facts.proofs.Applied.{applied_wishes}
-use Rattle.frame_tab.proofs.Goings.{begun_of}
-use Rattle.frame_tab.proofs.Plainly.{applied_reads}
-use Rattle.frame_whole.proofs.Refusing.{none_without}
+use Rattle.seen_facts.proofs.Coord.Held.{without_same}
+use Rattle.seen_facts.proofs.Coord.Unread.{next}
+use Rattle.seen_facts.proofs.Entry.Skips.{without_made}
+use Rattle.tab_facts.proofs.Frame.Applied.{applied_wishes}
+use Rattle.tab_facts.proofs.FrameTab.Goings.{begun_of}
+use Rattle.tab_facts.proofs.FrameTab.Plainly.{applied_reads}
+use Rattle.tab_facts.proofs.FrameWhole.Refusing.{none_without}
 use Rattle.tab_turns.proofs.PassedOn.{load_pushed_tab, load_replaced_tab, pushed_going, pushed_lasting, replaced_going, replaced_lasting}
 use Rattle.load_doors.specs.Applying.{new_entry}
 use Rattle.load_table.specs.Loads.{ongoing_load}
@@ -19,11 +19,11 @@ use Rattle.log_model.specs.declared.change.Change.{Change}
 use Rattle.log_model.specs.declared.made.Made.{Made}
 use Rattle.log_model.specs.declared.row_kind.RowKind.{RowKind}
 use Rattle.navigate_core.specs.Navigations.{change_for}
-use Rattle.owed_facts.proofs.Ends.{loose_more, loose_owed}
-use Rattle.owed_facts.proofs.Rows.{applied_lasts}
-use Rattle.owed_facts.specs.Owed.{IsLoose}
-use Rattle.rest_rows.proofs.Rows.{applied_rests}
-use Rattle.rest_rows.specs.Moving.{AllRest}
+use Rattle.row_facts.proofs.Owed.Ends.{loose_more, loose_owed}
+use Rattle.row_facts.proofs.Owed.Rows.{applied_lasts}
+use Rattle.row_facts.specs.Owed.Owed.{IsLoose}
+use Rattle.row_facts.proofs.RestRows.Rows.{applied_rests}
+use Rattle.row_facts.specs.RestRows.Moving.{AllRest}
 use Rattle.seen_laws.proofs.InEvents.{now_more}
 use Rattle.seen_laws.specs.InEvent.{InEvent, now_of}
 use Rattle.std.proofs.Common.{Bool, List, None, Option, Some, [], ap, false, if◌then◌else◌, length, refl, subst, sym, true, ℕ, ◌++◌, ◌∙◌, ◌∷◌, ◌≡◌, ◌≤◌}
@@ -39,8 +39,8 @@ use Rattle.tab_ids.specs.declared.ReqId.{ReqId}
 use Rattle.tab_turns.specs.Turning.{MayCause}
 use Rattle.tab_turns.specs.PassedOn.{InPass, IsPassing}
 pub use Rattle.tab_turns.proofs.Turned.{begun_as_it_was, causes_on}
-use Rattle.walk_rows.proofs.Sinces.{applied_since, since_itself}
-use Rattle.walk_rows.specs.Since.{AwakeSince}
+use Rattle.row_facts.proofs.WalkRows.Sinces.{applied_since, since_itself}
+use Rattle.row_facts.specs.WalkRows.Since.{AwakeSince}
 use Rattle.log_model.specs.declared.change.Change.TheVariants as changes
 use Rattle.log_model.specs.declared.row_kind.RowKind.TheVariants as rows
 

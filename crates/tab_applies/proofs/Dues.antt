@@ -1,17 +1,17 @@
 -- What the door of an applied load asks, of a ready load whose navigable stands.
 use Rattle.history_laws.proofs.Joining.{entry_same}
-use Rattle.frame_whole.proofs.Soundly.{none_entry}
-use Rattle.hang_facts.proofs.Members.{any_has, find_has, has_any}
-use Rattle.hang_facts.proofs.Targets.{IsTarget, target_has}
-use Rattle.hang_facts.specs.Members.{Has}
+use Rattle.tab_facts.proofs.FrameWhole.Soundly.{none_entry}
+use Rattle.seen_facts.proofs.Hang.Members.{any_has, find_has, has_any}
+use Rattle.seen_facts.proofs.Hang.Targets.{IsTarget, target_has}
+use Rattle.seen_facts.specs.Hang.Members.{Has}
 use Rattle.load_doors.specs.Applying.{IsApplyDue, new_entry}
-use Rattle.load_facts.specs.Loading.{IsLoading, look}
-use Rattle.load_rows.proofs.Loads.{load_in_order}
+use Rattle.seen_facts.specs.Load.Loading.{IsLoading, look}
+use Rattle.row_facts.proofs.LoadRows.Loads.{load_in_order}
 use Rattle.load_table.specs.Loads.{ongoing_load}
 use Rattle.load_table.specs.declared.load.Load.{Load}
-use Rattle.load_ties.proofs.Begins.{found_nav}
-use Rattle.walk_facts.proofs.Placed.{found_nav as found_nav_of}
-use Rattle.load_ties.specs.Tying.{IsLoadTied, is_for_state, made_for, phase_with}
+use Rattle.seen_facts.proofs.LoadTies.Begins.{found_nav}
+use Rattle.seen_facts.proofs.Walk.Placed.{found_nav as found_nav_of}
+use Rattle.seen_facts.specs.LoadTies.Tying.{IsLoadTied, is_for_state, made_for, phase_with}
 use Rattle.log_model.proofs.Refl.{nat_eq_refl}
 use Rattle.log_model.specs.Equal.{holds}
 use Rattle.log_model.specs.History.{fits, has_row, is_of, same_entry, target_entry}
@@ -39,23 +39,23 @@ use Rattle.tab_ids.specs.declared.ReqId.{ReqId}
 use Rattle.load_table.specs.declared.phase.Phase.TheVariants as phases
 use Rattle.log_model.specs.declared.change.Change.TheVariants as changes
 use Rattle.log_model.specs.declared.request.Request.TheVariants as requests
-use Rattle.coord_facts.proofs.Unread.{next}
+use Rattle.seen_facts.proofs.Coord.Unread.{next}
 use Rattle.entry_store.specs.Store.{IsStateOf, MayTake}
-use Rattle.hang_facts.specs.Forms.{forms_of}
-use Rattle.load_rows.specs.Loaded.{AreDocumentsNumbered}
+use Rattle.seen_facts.specs.Hang.Forms.{forms_of}
+use Rattle.row_facts.specs.LoadRows.Loaded.{AreDocumentsNumbered}
 use Rattle.load_table.specs.declared.phase.Phase.{Phase}
-use Rattle.load_whereabouts.specs.Whereabouts.{times_on_way}
+use Rattle.seen_facts.specs.LoadWhereabouts.Whereabouts.{times_on_way}
 use Rattle.log_model.specs.ActsAtOnce.{has_document}
 use Rattle.log_model.specs.History.{cleared}
 use Rattle.log_model.specs.Orders.{is_usable}
 use Rattle.log_model.specs.Seen.{request_in}
 use Rattle.log_model.specs.Soundness.{is_entry, is_in_state}
-use Rattle.hang_facts.proofs.Members.{has_found}
+use Rattle.seen_facts.proofs.Hang.Members.{has_found}
 use Rattle.std.proofs.Common.{if◌then◌else◌, inl, inr, map, ◌<◌, ◌^◌, ◌||◌, ◌∷◌}
 use Rattle.std.specs.List.{list_all, list_any}
 use Rattle.std.specs.Prelude.{is_none, nat_lt, option_and_then, option_map}
 use Rattle.std.proofs.lemmas.Bool.Decides.{nat_tests}
-use Rattle.shown_ways.proofs.Cleared.{shown_left}
+use Rattle.tab_facts.proofs.ShownWays.Cleared.{shown_left}
 use Rattle.tab_applies.proofs.Sees.{sees}
 use Rattle.tab_doors.proofs.Sights.{seen_of}
 use Rattle.tab_doors.specs.Dues.{SeesRows}

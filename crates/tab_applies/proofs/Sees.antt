@@ -1,8 +1,8 @@
 -- Each navigable with an entry has one at the last step that there may be, before a change and after it, and has a place.
-use Rattle.hang_facts.proofs.Forms.{IsPlaceOf, nav_is, place_there}
-use Rattle.hang_facts.proofs.Members.{any_has, has_any as any_of}
-use Rattle.hang_facts.proofs.Targets.{target_has, target_there}
-use Rattle.hang_facts.specs.Members.{Has}
+use Rattle.seen_facts.proofs.Hang.Forms.{IsPlaceOf, nav_is, place_there}
+use Rattle.seen_facts.proofs.Hang.Members.{any_has, has_any as any_of}
+use Rattle.seen_facts.proofs.Hang.Targets.{target_has, target_there}
+use Rattle.seen_facts.specs.Hang.Members.{Has}
 use Rattle.log_model.proofs.Refl.{nat_eq_refl}
 use Rattle.log_model.specs.History.{applied, has_nav, has_row, is_of, target_entry}
 use Rattle.log_model.specs.Seen.{Place, Seen, place_in}
@@ -10,7 +10,7 @@ use Rattle.log_model.specs.declared.change.Change.{Change}
 use Rattle.log_model.specs.declared.made.Made.{Made}
 use Rattle.log_model.specs.declared.row.Row.{Row}
 use Rattle.log_model.specs.declared.row_kind.Actor.{Actor}
-use Rattle.coord_facts.proofs.Unread.{next}
+use Rattle.seen_facts.proofs.Coord.Unread.{next}
 use Rattle.std.proofs.Common.{Bool, List, None, Option, Some, [], ap, arith, cond, false, map, refl, sym, true, ℕ, ◌==◌, ◌||◌, ◌∙◌, ◌∷◌, ◌≡◌, ◌≤◌}
 use Rattle.std.specs.Prelude.{is_some}
 use Rattle.tab_doors.specs.Dues.{SeesRows, has_any}

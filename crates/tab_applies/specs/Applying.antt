@@ -1,6 +1,6 @@
 -- When a ready load is applied in its turn, and what is as it was.
 -- HTML Standard, "finalize a cross-document navigation"; that a load waits in the queue until all stand is this project's own.
-use Rattle.frame_rows.specs.Lawful.{held_at_first}
+use Rattle.row_facts.specs.FrameRows.Lawful.{held_at_first}
 use Rattle.load_doors.specs.Applying.{new_entry}
 use Rattle.load_table.specs.declared.load.Load.{Load}
 use Rattle.log_model.specs.Equal.{has_req}
@@ -20,7 +20,7 @@ use Rattle.tab_ids.specs.declared.EntryId.{EntryId}
 use Rattle.tab_ids.specs.declared.NavId.{NavId}
 use Rattle.tab_turns.specs.Turning.{MayCause}
 use Rattle.tab_turns.specs.PassedOn.{InPass}
-use Rattle.walk_rows.specs.Since.{AwakeSince}
+use Rattle.row_facts.specs.WalkRows.Since.{AwakeSince}
 use Rattle.load_table.specs.declared.phase.Phase.TheVariants as phases
 use Rattle.log_model.specs.declared.row_kind.RowKind.TheVariants as rows
 

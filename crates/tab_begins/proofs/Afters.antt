@@ -1,53 +1,53 @@
 -- Right after a load was applied where all stood: its navigable is in need, nobody is but it and those below, and who isn't below it stands where it stood.
-use Rattle.frame_facts.specs.Lasting.{wish}
-use Rattle.request_facts.proofs.Readers.{SameReads, on_read, reads_then}
+use Rattle.tab_facts.specs.Frame.Lasting.{wish}
+use Rattle.seen_facts.proofs.Request.Readers.{SameReads, on_read, reads_then}
 use Rattle.log_model.specs.Equal.{has_req}
 use Rattle.tab_applies.proofs.PassedOn.{still_joined}
-use Rattle.calm_facts.proofs.Around.{usable_found}
-use Rattle.calm_facts.proofs.Awakes.{calm_stood, lost_none, stand_each}
-use Rattle.calm_facts.proofs.Changes.{changed_but, push_childless, replace_childless}
-use Rattle.calm_facts.proofs.Sames.{IsUsableAt, SameSights, Sight, sight_of}
-use Rattle.calm_facts.specs.Calm.{HasUsable, IsCalmAround}
+use Rattle.tab_facts.proofs.Calm.Around.{usable_found}
+use Rattle.tab_facts.proofs.Calm.Awakes.{calm_stood, lost_none, stand_each}
+use Rattle.tab_facts.proofs.Calm.Changes.{changed_but, push_childless, replace_childless}
+use Rattle.tab_facts.proofs.Calm.Sames.{IsUsableAt, SameSights, Sight, sight_of}
+use Rattle.tab_facts.specs.Calm.Calm.{HasUsable, IsCalmAround}
 use Rattle.tab_begins.proofs.Standings.{all_of, in_place, met_none, none_of, third}
 use Rattle.tab_ids.specs.declared.DocId.{DocId}
 pub use Rattle.tab_one_pass.specs.Passing.{KeepsAwake, MayServe, ParentsShown, TakersServe}
-use Rattle.left_facts.specs.Left.{WereShown}
-use Rattle.left_facts.proofs.Rows.{were_shown}
+use Rattle.row_facts.specs.Left.Left.{WereShown}
+use Rattle.row_facts.proofs.Left.Rows.{were_shown}
 use Rattle.tab_one_pass.specs.Passing.{AreUnheld, HasPassed, IsLoadOf, IsOpen, MayCause}
-use Rattle.rest_rows.proofs.Shown.{applied_awake}
-use Rattle.mover_facts.proofs.Places.{ways_both, ways_mapped}
-use Rattle.mover_facts.proofs.Stays.{KeepWays}
+use Rattle.row_facts.proofs.RestRows.Shown.{applied_awake}
+use Rattle.seen_facts.proofs.Mover.Places.{ways_both, ways_mapped}
+use Rattle.seen_facts.proofs.Mover.Stays.{KeepWays}
 pub use Rattle.tab_one_pass.proofs.Passes.{goes_on}
 use Rattle.tab_one_pass.proofs.Stands.{IsReachedAt, reached_at}
 use Rattle.log_model.specs.declared.request.Request.{Request}
-use Rattle.owed_facts.proofs.Requests.{req_same}
+use Rattle.row_facts.proofs.Owed.Requests.{req_same}
 use Rattle.std.specs.Option.{option_map_or}
-use Rattle.walk_rows.proofs.Moved.{changed_moves}
-use Rattle.mover_facts.specs.Movers.{IsMovedBy}
-use Rattle.load_facts.specs.Loading.{look, look_of}
+use Rattle.row_facts.proofs.WalkRows.Moved.{changed_moves}
+use Rattle.seen_facts.specs.Mover.Movers.{IsMovedBy}
+use Rattle.seen_facts.specs.Load.Loading.{look, look_of}
 use Rattle.log_model.specs.AfterRequests.{entries_taken, on_request}
 use Rattle.log_model.specs.Causes.{nav_of_change}
 use Rattle.tab_one_pass.specs.PassedOn.{IsLoadApplied, IsBelowNav, StandOr, IsTab}
 use Rattle.tab_one_pass.proofs.PassedOn.{load_applied, open_of, sole_load}
 pub use Rattle.tab_one_pass.proofs.PassedOn.{stand_reached, at_most_once, fresh}
 use Rattle.tab_one_pass.proofs.Dropped.{IsAskedFor, asked_for, load_now}
-use Rattle.asked_facts.specs.Asking.{ArePlain}
-use Rattle.coord_facts.proofs.Applied.{AreDocuments, all_pushed, all_replaced, push_places, replace_places}
-use Rattle.coord_facts.proofs.Held.{on_else, without_same}
-use Rattle.load_facts.specs.Loading.{IsLoading, Look, is_ongoing}
-use Rattle.load_whereabouts.specs.Whereabouts.{times_on_way}
-use Rattle.request_facts.proofs.Times.{times_none}
-use Rattle.coord_facts.proofs.Unread.{next}
-use Rattle.hang_facts.proofs.Forms.{nav_is}
-use Rattle.hang_facts.proofs.Hung.{has_begun, not_above_itself}
-use Rattle.hang_facts.proofs.Members.{find_has, has_any, has_found}
-use Rattle.hang_facts.specs.Members.{Has}
+use Rattle.seen_facts.specs.Asked.Asking.{ArePlain}
+use Rattle.seen_facts.proofs.Coord.Applied.{AreDocuments, all_pushed, all_replaced, push_places, replace_places}
+use Rattle.seen_facts.proofs.Coord.Held.{on_else, without_same}
+use Rattle.seen_facts.specs.Load.Loading.{IsLoading, Look, is_ongoing}
+use Rattle.seen_facts.specs.LoadWhereabouts.Whereabouts.{times_on_way}
+use Rattle.seen_facts.proofs.Request.Times.{times_none}
+use Rattle.seen_facts.proofs.Coord.Unread.{next}
+use Rattle.seen_facts.proofs.Hang.Forms.{nav_is}
+use Rattle.seen_facts.proofs.Hang.Hung.{has_begun, not_above_itself}
+use Rattle.seen_facts.proofs.Hang.Members.{find_has, has_any, has_found}
+use Rattle.seen_facts.specs.Hang.Members.{Has}
 use Rattle.log_model.specs.AfterDocuments.{applied_to, told_after_change}
 use Rattle.std.proofs.lemmas.Bool.Decides.{nat_tests}
-use Rattle.hang_facts.proofs.Targets.{IsTarget, target_has}
+use Rattle.seen_facts.proofs.Hang.Targets.{IsTarget, target_has}
 use Rattle.history_laws.proofs.Joining.{entry_same}
 use Rattle.load_doors.specs.Applying.{new_entry}
-use Rattle.load_ends.specs.Standing.{is_reached, LoadsStand}
+use Rattle.seen_facts.specs.LoadEnds.Standing.{is_reached, LoadsStand}
 use Rattle.load_table.specs.Loads.{ongoing_load}
 use Rattle.load_table.specs.declared.load.Load.{Load}
 use Rattle.log_model.proofs.Refl.{nat_eq_refl}
@@ -63,9 +63,9 @@ use Rattle.navigate_core.specs.Navigations.{change_for}
 use Rattle.seen_laws.proofs.InEvents.{now_more}
 use Rattle.seen_laws.proofs.Keyed.{find_map}
 use Rattle.seen_laws.specs.InEvent.{InEvent, now_of}
-use Rattle.shown_ways.proofs.Changes.{push_keeps, push_left, push_own, replace_left, replace_new, replace_own, replace_targets}
-use Rattle.shown_ways.proofs.Keeps.{shown_on_way, shown_then, shown_was, way_more, way_there}
-use Rattle.shown_ways.specs.Ways.{KeepsTargets, hanging}
+use Rattle.tab_facts.proofs.ShownWays.Changes.{push_keeps, push_left, push_own, replace_left, replace_new, replace_own, replace_targets}
+use Rattle.tab_facts.proofs.ShownWays.Keeps.{shown_on_way, shown_then, shown_was, way_more, way_there}
+use Rattle.tab_facts.specs.ShownWays.Ways.{KeepsTargets, hanging}
 use Rattle.std.proofs.Common.{Bool, List, None, Option, Some, [], ap, arith, cond, false, if◌then◌else◌, map, not, refl, subst, sym, true, ℕ, ◌&&◌, ◌+◌, ◌==◌, ◌||◌, ◌∙◌, ◌∷◌, ◌≡◌, ◌≤◌, ◌<◌, inl, inr, ◌⊎◌}
 use Rattle.std.proofs.lemmas.Bool.{and_parts}
 use Rattle.std.specs.List.{list_any}
@@ -73,7 +73,7 @@ use Rattle.std.specs.Prelude.{is_some, option_map}
 use Rattle.load_doors.specs.Applying.{IsApplyDue}
 use Rattle.log_model.specs.Orders.{is_usable}
 use Rattle.tab_ids.specs.declared.DocId.{DocId}
-use Rattle.frame_whole.specs.Tab.{AreAwakeWithRows}
+use Rattle.tab_facts.specs.FrameWhole.Tab.{AreAwakeWithRows}
 use Rattle.tab_applies.proofs.Dues.{IsGivenAt, aim_now, apply_due, given, loading, next_is, own_nav, tab, tie, open_, what_is}
 use Rattle.tab_applies.specs.Applying.{HasApplied, MayApply}
 use Rattle.tab_doors.specs.declared.tables.Tables.{Tables}
@@ -83,9 +83,9 @@ use Rattle.tab_ids.specs.declared.ReqId.{ReqId}
 use Rattle.tab_ids.specs.declared.StateId.{StateId}
 pub use Rattle.tab_one_pass.proofs.Calms.{aim_is}
 pub use Rattle.tab_one_pass.specs.PassedOn.{InPass, IsPassing}
-use Rattle.walk_facts.proofs.Placed.{found_nav}
-use Rattle.walk_facts.specs.Serving.{is_in_place, is_needing, is_stopping}
-use Rattle.walk_rows.specs.Since.{IsVisitedInNeed, MovesVisited}
+use Rattle.seen_facts.proofs.Walk.Placed.{found_nav}
+use Rattle.seen_facts.specs.Walk.Serving.{is_in_place, is_needing, is_stopping}
+use Rattle.row_facts.specs.WalkRows.Since.{IsVisitedInNeed, MovesVisited}
 use Rattle.log_model.specs.declared.change.Change.TheVariants as changes
 use Rattle.log_model.specs.declared.job.Why.TheVariants as whys
 use Rattle.log_model.specs.declared.outcome.Ending.TheVariants as endings

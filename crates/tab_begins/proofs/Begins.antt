@@ -1,10 +1,10 @@
 -- A traversal has its turn after a pass: it begins, and a pass may follow; or it is refused, and all is as it was.
-use Rattle.frame_whole.specs.Tab.{AreAwakeWithRows}
-use Rattle.hang_facts.specs.Members.{Has}
-use Rattle.home_facts.specs.Homes.{document_in}
-use Rattle.left_facts.specs.Left.{LastWereShown, OwnersFollow, WasEverShown, WereShown}
-use Rattle.load_ends.specs.Standing.{is_reached}
-use Rattle.load_facts.specs.Loading.{Look, is_ongoing, look, look_of}
+use Rattle.tab_facts.specs.FrameWhole.Tab.{AreAwakeWithRows}
+use Rattle.seen_facts.specs.Hang.Members.{Has}
+use Rattle.seen_facts.specs.Home.Homes.{document_in}
+use Rattle.row_facts.specs.Left.Left.{LastWereShown, OwnersFollow, WasEverShown, WereShown}
+use Rattle.seen_facts.specs.LoadEnds.Standing.{is_reached}
+use Rattle.seen_facts.specs.Load.Loading.{Look, is_ongoing, look, look_of}
 use Rattle.log_model.proofs.Refl.{nat_eq_refl}
 use Rattle.log_model.specs.Equal.{holds}
 use Rattle.log_model.specs.History.{has_nav, has_row, has_state}
@@ -13,14 +13,14 @@ use Rattle.log_model.specs.Places.{aim_of, all_stand, has_arrived, is_awake, is_
 use Rattle.log_model.specs.Seen.{Asked, Document, Place, Seen, Status, asleep, awake, document_of, lost, place_in, place_of, request_in}
 use Rattle.log_model.specs.declared.job.Why.{Why}
 use Rattle.log_model.specs.declared.row.Row.{Row}
-use Rattle.mover_facts.proofs.Stays.{KeepWays}
-use Rattle.rest_facts.specs.Between.{IsOfLoad}
+use Rattle.seen_facts.proofs.Mover.Stays.{KeepWays}
+use Rattle.seen_facts.specs.Rest.Between.{IsOfLoad}
 use Rattle.std.proofs.Common.{Bool, List, None, Option, Some, [], ap, false, inl, inr, not, refl, subst, sym, true, ℕ, ◌&&◌, ◌||◌, ◌∙◌, ◌∷◌, ◌≡◌, ◌⊎◌}
 use Rattle.std.proofs.lemmas.Bool.{and_parts}
 use Rattle.std.specs.List.{list_all, list_any}
 use Rattle.std.specs.Option.{option_map_or}
 use Rattle.std.specs.Prelude.{option_map}
-use Rattle.calm_facts.proofs.Awakes.{awake_shown, lost_none, stand_each}
+use Rattle.tab_facts.proofs.Calm.Awakes.{awake_shown, lost_none, stand_each}
 use Rattle.tab_begins.proofs.Downs.{AllPlaced, IsInNeed, down}
 use Rattle.tab_begins.proofs.Standings.{all_of, in_place}
 use Rattle.tab_one_pass.proofs.PassedOn.{stand_reached}
@@ -38,10 +38,10 @@ use Rattle.tab_one_pass.proofs.Stands.{IsReachedAt, reached_at}
 pub use Rattle.tab_one_pass.proofs.Calms.{loaded_never}
 pub use Rattle.tab_one_pass.proofs.Dropped.{of_load}
 use Rattle.tab_applies.specs.PassedOn.{LeavesAlone}
-use Rattle.walk_facts.proofs.Placed.{found_nav}
-use Rattle.walk_rows.proofs.Moved.{run_moves}
-use Rattle.walk_rows.proofs.Sinces.{places_since}
-use Rattle.walk_rows.specs.Since.{MovesVisited}
+use Rattle.seen_facts.proofs.Walk.Placed.{found_nav}
+use Rattle.row_facts.proofs.WalkRows.Moved.{run_moves}
+use Rattle.row_facts.proofs.WalkRows.Sinces.{places_since}
+use Rattle.row_facts.specs.WalkRows.Since.{MovesVisited}
 use Rattle.log_model.specs.declared.job.Why.TheVariants as whys
 
 -- who is reached is so, where places, entries and the aim are as they were

@@ -1,9 +1,9 @@
 -- At any aim, where all that are awake have arrived, an awake navigable stands with all above it, or it or one above it is visited and in need.
-use Rattle.frame_whole.specs.Tab.{AreAwakeWithRows}
-use Rattle.hang_facts.proofs.Forms.{nav_is}
-use Rattle.hang_facts.proofs.Hung.{place_chain}
-use Rattle.hang_facts.specs.AsPlaces.{IsChain}
-use Rattle.home_facts.specs.Homes.{IsOnAwake}
+use Rattle.tab_facts.specs.FrameWhole.Tab.{AreAwakeWithRows}
+use Rattle.seen_facts.proofs.Hang.Forms.{nav_is}
+use Rattle.seen_facts.proofs.Hang.Hung.{place_chain}
+use Rattle.seen_facts.specs.Hang.AsPlaces.{IsChain}
+use Rattle.seen_facts.specs.Home.Homes.{IsOnAwake}
 use Rattle.log_model.proofs.Refl.{nat_eq_refl}
 use Rattle.log_model.specs.Equal.{holds}
 use Rattle.log_model.specs.History.{has_nav}
@@ -12,15 +12,15 @@ use Rattle.log_model.specs.Seen.{Place, Seen, awake, lost, place_of}
 use Rattle.log_model.specs.declared.made.Made.{Made}
 use Rattle.std.proofs.Common.{Bool, List, None, Option, Some, [], ap, false, inl, inr, not, refl, sym, true, ◌&&◌, ◌==◌, ◌||◌, ◌∙◌, ◌∷◌, ◌≡◌, ◌⊎◌}
 use Rattle.std.proofs.lemmas.Bool.{and_parts}
-use Rattle.calm_facts.proofs.Awakes.{child, given_standing, top_shown}
+use Rattle.tab_facts.proofs.Calm.Awakes.{child, given_standing, top_shown}
 use Rattle.tab_begins.proofs.Standings.{in_place, none_of}
 use Rattle.tab_ids.specs.declared.DocId.{DocId}
 use Rattle.tab_ids.specs.declared.NavId.{NavId}
 use Rattle.tab_ids.specs.declared.ReqId.{ReqId}
 use Rattle.tab_one_pass.specs.PassedOn.{IsTab}
-use Rattle.walk_facts.proofs.Placed.{found_nav}
-use Rattle.walk_facts.specs.Serving.{is_in_place, is_needing, is_stopping}
-use Rattle.walk_rows.specs.Since.{IsVisitedInNeed}
+use Rattle.seen_facts.proofs.Walk.Placed.{found_nav}
+use Rattle.seen_facts.specs.Walk.Serving.{is_in_place, is_needing, is_stopping}
+use Rattle.row_facts.specs.WalkRows.Since.{IsVisitedInNeed}
 
 -- one that has arrived and doesn't stand needs something
 needs_not : (s : Seen) (place : Place) → has_arrived place ≡ true → is_standing s.history.rows (aim_of s) place ≡ false → is_needing s.history.rows (aim_of s) place ≡ true

@@ -9,6 +9,7 @@ pub mod Turnings
 pub mod Readies
 pub mod Queues
 pub mod Turns
+pub mod InNeed
 pub mod Nexts
 pub mod Stood
 pub mod PassedOn

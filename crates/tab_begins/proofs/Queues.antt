@@ -1,9 +1,9 @@
 -- The queue over the turns of its steps: the first one is off, and the others wait on.
-use Rattle.calm_facts.specs.Calm.{HasUsable}
-use Rattle.coord_facts.proofs.Held.{without_same}
-use Rattle.frame_facts.specs.Lasting.{Wish, wish}
-use Rattle.hang_facts.specs.Members.{Has}
-use Rattle.load_facts.specs.Loading.{Look, is_ongoing, look, look_of}
+use Rattle.tab_facts.specs.Calm.Calm.{HasUsable}
+use Rattle.seen_facts.proofs.Coord.Held.{without_same}
+use Rattle.tab_facts.specs.Frame.Lasting.{Wish, wish}
+use Rattle.seen_facts.specs.Hang.Members.{Has}
+use Rattle.seen_facts.specs.Load.Loading.{Look, is_ongoing, look, look_of}
 use Rattle.log_model.proofs.Refl.{nat_eq_refl}
 use Rattle.log_model.specs.ActsAtOnce.{has_document, is_ready_load}
 use Rattle.log_model.specs.AfterRequests.{without_req}
@@ -18,10 +18,10 @@ use Rattle.log_model.specs.declared.row_kind.RowKind.{RowKind}
 use Rattle.log_model.specs.Seen.{Asked, Document, Seen, request_in, request_of}
 use Rattle.move_queue.specs.declared.queue_step.QueueStep.{QueueStep}
 use Rattle.move_queue.specs.declared.queue_step.QueueStep.TheVariants.{Ready, Reload, Traverse}
-use Rattle.request_facts.proofs.Endings.{due_small}
-use Rattle.request_facts.proofs.Readers.{SameReads, reads_then}
-use Rattle.request_facts.proofs.Times.{itself, times_none}
-use Rattle.request_facts.specs.Whereabouts.{is_of_load, times, times_at, times_due}
+use Rattle.seen_facts.proofs.Request.Endings.{due_small}
+use Rattle.seen_facts.proofs.Request.Readers.{SameReads, reads_then}
+use Rattle.seen_facts.proofs.Request.Times.{itself, times_none}
+use Rattle.seen_facts.specs.Request.Whereabouts.{is_of_load, times, times_at, times_due}
 use Rattle.seen_laws.proofs.Sums.{over}
 use Rattle.seen_laws.specs.InEvent.{InEvent, now_of}
 use Rattle.std.proofs.Common.{List, None, Option, Some, [], ap, arith, filter, inl, inr, refl, subst, sym, true, ℕ, ℤ, ◌+◌, ◌==◌, ◌∙◌, ◌∷◌, ◌≡◌}

@@ -1,15 +1,15 @@
 -- A load of the table that is ready in the log is ready by the table: its document is the one that is there for its state.
-use Rattle.doc_facts.specs.Docs.{AreDocs}
-use Rattle.hang_facts.proofs.Members.{Passing, any_has, find_has, has_found}
+use Rattle.seen_facts.specs.Doc.Docs.{AreDocs}
+use Rattle.seen_facts.proofs.Hang.Members.{Passing, any_has, find_has, has_found}
 use Rattle.load_table.specs.declared.load.Load.{Load}
-use Rattle.load_ties.specs.Tying.{IsLoadTied, is_for_state, made_for, phase_with}
+use Rattle.seen_facts.specs.LoadTies.Tying.{IsLoadTied, is_for_state, made_for, phase_with}
 use Rattle.log_model.specs.ActsAtOnce.{has_document, is_ready_load}
 use Rattle.log_model.specs.Equal.{holds}
 use Rattle.log_model.specs.Orders.{is_usable}
 use Rattle.log_model.specs.Places.{is_ongoing_load}
 use Rattle.log_model.specs.Seen.{Document, Seen, document_of}
-use Rattle.rest_facts.proofs.Still.{found_itself}
-use Rattle.rest_facts.specs.Between.{AreKept}
+use Rattle.seen_facts.proofs.Rest.Still.{found_itself}
+use Rattle.seen_facts.specs.Rest.Between.{AreKept}
 use Rattle.std.proofs.Common.{Bool, Option, Some, ap, arith, false, not, refl, sym, true, ℕ, ◌&&◌, ◌==◌, ◌||◌, ◌∙◌, ◌≡◌}
 use Rattle.std.proofs.lemmas.Bool.Decides.{nat_tests}
 use Rattle.std.proofs.lemmas.Bool.{and_parts}

@@ -8,7 +8,7 @@ use Rattle.std.proofs.Common.{Bool, List, [], ap, false, not, refl, true, ℕ, �
 use Rattle.std.proofs.lemmas.Bool.{and_parts}
 use Rattle.std.specs.List.{list_all, list_any}
 use Rattle.tab_ids.specs.declared.NavId.{NavId}
-use Rattle.walk_facts.specs.Serving.{is_in_place, is_needing}
+use Rattle.seen_facts.specs.Walk.Serving.{is_in_place, is_needing}
 
 -- one that stands is awake on its target
 pub in_place : (rows_ : List Row) (step : ℕ) (place : Place) → (place.status ≡ lost → ⊥) → is_standing rows_ step place ≡ true → is_in_place rows_ step place ≡ true

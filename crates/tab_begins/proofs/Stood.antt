@@ -1,7 +1,7 @@
 -- In a calm tab each awake navigable is where it is to be, and so it is as a traversal begins.
-use Rattle.calm_facts.proofs.Calms.{calm_rooted}
-use Rattle.calm_facts.proofs.Sames.{calm_same, sights_same}
-use Rattle.calm_facts.specs.Calm.{AreRooted, IsCalm, IsHere, UnmovedAreHere}
+use Rattle.tab_facts.proofs.Calm.Calms.{calm_rooted}
+use Rattle.tab_facts.proofs.Calm.Sames.{calm_same, sights_same}
+use Rattle.tab_facts.specs.Calm.Calm.{AreRooted, IsCalm, IsHere, UnmovedAreHere}
 use Rattle.log_model.specs.Seen.{Place, Seen, awake, place_of}
 use Rattle.std.proofs.Common.{Some, inl, inr, ◌≡◌, ◌⊎◌}
 use Rattle.tab_ids.specs.declared.DocId.{DocId}

@@ -1,13 +1,13 @@
 -- A load was applied: for each document that is stray then, a request is noted for which it may be discarded.
-use Rattle.frame_whole.specs.Tab.{AreAwakeWithRows}
-use Rattle.hang_facts.proofs.Forms.{nav_is}
-use Rattle.hang_facts.proofs.Members.{has_any}
-use Rattle.hang_facts.proofs.Targets.{IsTarget, target_has}
-use Rattle.home_facts.specs.Homes.{IsAtHome, document_in}
-use Rattle.load_facts.specs.Loading.{Look, is_ongoing, look}
+use Rattle.tab_facts.specs.FrameWhole.Tab.{AreAwakeWithRows}
+use Rattle.seen_facts.proofs.Hang.Forms.{nav_is}
+use Rattle.seen_facts.proofs.Hang.Members.{has_any}
+use Rattle.seen_facts.proofs.Hang.Targets.{IsTarget, target_has}
+use Rattle.seen_facts.specs.Home.Homes.{IsAtHome, document_in}
+use Rattle.seen_facts.specs.Load.Loading.{Look, is_ongoing, look}
 use Rattle.load_table.specs.Loads.{ongoing_load as load_in}
 use Rattle.load_table.specs.declared.load.Load.{Load}
-use Rattle.load_ties.specs.Tying.{IsLoadTied}
+use Rattle.seen_facts.specs.LoadTies.Tying.{IsLoadTied}
 use Rattle.log_model.proofs.Refl.{nat_eq_refl}
 use Rattle.log_model.specs.History.{has_nav, has_row, has_state, target_entry}
 use Rattle.log_model.specs.Orders.{ongoing_load}
@@ -16,19 +16,19 @@ use Rattle.log_model.specs.Seen.{Asked, Document, Place, Seen, awake, document_o
 use Rattle.log_model.specs.declared.row.Row.{Row}
 use Rattle.log_model.specs.declared.row_kind.RowKind.{RowKind}
 use Rattle.nav_tree.specs.Tree.{state_of}
-use Rattle.owed_facts.proofs.Requests.{req_same}
-use Rattle.rest_facts.specs.Between.{IsOfLoad}
+use Rattle.row_facts.proofs.Owed.Requests.{req_same}
+use Rattle.seen_facts.specs.Rest.Between.{IsOfLoad}
 use Rattle.seen_laws.specs.InEvent.{now_of}
-use Rattle.shown_ways.proofs.Keeps.{way_more}
-use Rattle.shown_ways.specs.Ways.{hanging}
+use Rattle.tab_facts.proofs.ShownWays.Keeps.{way_more}
+use Rattle.tab_facts.specs.ShownWays.Ways.{hanging}
 use Rattle.std.proofs.Common.{Bool, List, None, Option, Some, [], ap, false, inl, inr, refl, subst, sym, true, ℕ, ◌==◌, ◌||◌, ◌∙◌, ◌∷◌, ◌≡◌, ◌⊎◌}
 use Rattle.std.specs.Prelude.{option_map}
 use Rattle.step_index.specs.Held.{history_held}
 use Rattle.tab_applies.proofs.Dues.{tie}
 use Rattle.tab_applies.specs.Applying.{HasApplied, MayApply}
 use Rattle.tab_begins.proofs.Afters.{documents_same, hung, moves_at, other_look, same_target, serves, state_entered, tab_n, tab_s, way_is}
-use Rattle.calm_facts.proofs.Awakes.{awake_given, awake_shown}
-use Rattle.calm_facts.proofs.Calms.{IsGivenRow}
+use Rattle.tab_facts.proofs.Calm.Awakes.{awake_given, awake_shown}
+use Rattle.tab_facts.proofs.Calm.Calms.{IsGivenRow}
 use Rattle.tab_doors.specs.declared.tables.Tables.{Tables}
 use Rattle.tab_ids.specs.declared.DocId.{DocId}
 use Rattle.tab_ids.specs.declared.NavId.{NavId}
@@ -42,8 +42,8 @@ use Rattle.tab_one_pass.proofs.Calms.{loaded_never}
 use Rattle.tab_one_pass.proofs.Dropped.{of_load}
 pub use Rattle.tab_one_pass.proofs.Dropped.{IsBlamed}
 pub use Rattle.tab_one_pass.specs.Passing.{IsStray}
-use Rattle.walk_facts.proofs.Placed.{found_nav}
-use Rattle.walk_rows.specs.Since.{WasAwake}
+use Rattle.seen_facts.proofs.Walk.Placed.{found_nav}
+use Rattle.row_facts.specs.WalkRows.Since.{WasAwake}
 use Rattle.log_model.specs.declared.job.Why.TheVariants as whys
 
 module _ (p : InPass) (out : List RowKind) (t : Tables) (passing : IsPassing p out t) (nav : NavId) (load : Load) (at : load_in nav t.loads ≡ Some load) (idle : t.running ≡ None) (may : MayApply p.event (now_of p.event out) nav load) (more : List RowKind) (u : Tables) (then_ : IsPassing p more u) (it : HasApplied p.event nav load out more t u) (with_rows : AreAwakeWithRows (now_of p.event out)) (blame noted : List (StateId × ReqId)) (strays : AreLeftStrays (now_of p.event out) blame) (are : EntriesAreNoted t load.req blame noted) where

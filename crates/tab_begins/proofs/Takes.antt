@@ -1,7 +1,7 @@
 -- The turn of a ready load: it is applied, then the loads below give way, and another pass may follow.
 use Rattle.apply_plan.specs.Order.{made_in}
-use Rattle.load_ends.specs.Standing.{is_reached}
-use Rattle.load_facts.specs.Loading.{is_ongoing, look_of}
+use Rattle.seen_facts.specs.LoadEnds.Standing.{is_reached}
+use Rattle.seen_facts.specs.Load.Loading.{is_ongoing, look_of}
 use Rattle.load_table.specs.Loads.{ongoing_load as load_in}
 use Rattle.load_table.specs.declared.load.Load.{Load}
 use Rattle.log_model.specs.Seen.{Seen}
@@ -10,7 +10,7 @@ use Rattle.seen_laws.specs.InEvent.{now_of}
 use Rattle.std.proofs.Common.{Bool, List, None, Option, Some, ap, refl, subst, sym, inl, inr, ◌∙◌, ◌≡◌, ◌⊎◌, false, true}
 use Rattle.tab_applies.proofs.Dues.{own_nav}
 use Rattle.tab_applies.specs.Applying.{HasApplied, MayApply}
-use Rattle.calm_facts.specs.Calm.{IsCalmAround}
+use Rattle.tab_facts.specs.Calm.Calm.{IsCalmAround}
 use Rattle.tab_one_pass.proofs.Calms.{LeavesAll, drops_calm}
 use Rattle.tab_begins.proofs.Afters.{aim_then, applied_last, around_then, awake_then, documents_same, joined_same, joined_then, look_was, over_then, wishes_then, loads_then, open_then}
 use Rattle.tab_begins.proofs.Strays.{blamed_then}
@@ -30,8 +30,8 @@ use Rattle.tab_ids.specs.declared.ReqId.{ReqId}
 use Rattle.tab_ids.specs.declared.StateId.{StateId}
 use Rattle.tab_one_pass.proofs.Opens.{open_left}
 use Rattle.tab_one_pass.specs.Noting.{AreNoted, EntriesAreNoted}
-use Rattle.frame_facts.specs.Lasting.{wish}
-use Rattle.request_facts.proofs.Readers.{reads_then}
+use Rattle.tab_facts.specs.Frame.Lasting.{wish}
+use Rattle.seen_facts.proofs.Request.Readers.{reads_then}
 use Rattle.log_model.specs.Equal.{has_req}
 pub use Rattle.tab_applies.proofs.PassedOn.{turning_on}
 use Rattle.tab_applies.specs.PassedOn.{IsTurning}

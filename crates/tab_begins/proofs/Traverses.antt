@@ -1,14 +1,14 @@
 -- The turn of a traversal: what it leaves, read off the row that was put out.
-use Rattle.coord_facts.proofs.Held.{on_else}
-use Rattle.frame_facts.specs.Lasting.{Wish, wish}
-use Rattle.load_facts.specs.Loading.{Look, is_ongoing, look, look_of}
+use Rattle.seen_facts.proofs.Coord.Held.{on_else}
+use Rattle.tab_facts.specs.Frame.Lasting.{Wish, wish}
+use Rattle.seen_facts.specs.Load.Loading.{Look, is_ongoing, look, look_of}
 use Rattle.log_model.specs.AfterRequests.{on_request, request_begun}
 use Rattle.log_model.specs.History.{History}
 use Rattle.log_model.specs.Once.{step_at_delta}
 use Rattle.log_model.specs.Places.{aim_of, all_stand, is_load, is_traversal}
 use Rattle.log_model.specs.Seen.{Asked, Seen, request_in}
 use Rattle.log_model.specs.declared.row_kind.RowKind.{RowKind}
-use Rattle.owed_facts.proofs.Requests.{req_same}
+use Rattle.row_facts.proofs.Owed.Requests.{req_same}
 use Rattle.seen_laws.proofs.InEvents.{now_more}
 use Rattle.seen_laws.specs.InEvent.{InEvent, now_of}
 use Rattle.std.proofs.Common.{Bool, List, None, Option, Some, [], ap, false, refl, subst, sym, true, ℕ, ℤ, ◌&&◌, ◌++◌, ◌==◌, ◌∙◌, ◌∷◌, ◌≡◌}

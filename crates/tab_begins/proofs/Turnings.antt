@@ -1,6 +1,6 @@
 -- What is known of the event in which traversals have their turns goes on over a pass.
-use Rattle.each_facts.proofs.Courses.{was_asked}
-use Rattle.frame_rows.specs.Lawful.{held_at_first}
+use Rattle.seen_facts.proofs.Each.Courses.{was_asked}
+use Rattle.row_facts.specs.FrameRows.Lawful.{held_at_first}
 use Rattle.log_model.specs.Causes.{denial_at_acceptance}
 use Rattle.log_model.specs.Equal.{has_req}
 use Rattle.log_model.specs.Places.{is_traversal}

@@ -1,16 +1,16 @@
 -- A step of the queue has its turn: what its kind asks, and what is so then.
-use Rattle.load_facts.specs.Loading.{look}
+use Rattle.seen_facts.specs.Load.Loading.{look}
 use Rattle.load_table.specs.Loads.{ongoing_load}
 use Rattle.load_table.specs.declared.load.Load.{Load}
 use Rattle.load_table.specs.declared.phase.Phase.{Phase}
-use Rattle.load_ties.specs.Tying.{HasLoad, IsLoadTied}
+use Rattle.seen_facts.specs.LoadTies.Tying.{HasLoad, IsLoadTied}
 use Rattle.log_model.proofs.Refl.{nat_eq_refl}
 use Rattle.log_model.specs.ActsAtOnce.{has_document, is_ready_load}
 use Rattle.log_model.specs.Equal.{holds}
 use Rattle.log_model.specs.History.{History, has_nav}
 use Rattle.log_model.specs.Once.{loads, step_at_delta}
 use Rattle.log_model.specs.Places.{all_stand, all_stand_in, is_ongoing_load}
-use Rattle.owed_facts.proofs.Requests.{req_same}
+use Rattle.row_facts.proofs.Owed.Requests.{req_same}
 use Rattle.std.proofs.lemmas.Bool.{and_parts}
 use Rattle.std.specs.Option.{option_map_or}
 use Rattle.std.specs.Prelude.{map, option_map}
@@ -26,8 +26,8 @@ use Rattle.tab_ids.specs.declared.DocId.{DocId}
 pub use Rattle.tab_one_pass.proofs.Lives.{live_then, stand_awake}
 use Rattle.tab_one_pass.proofs.Stands.{IsReachedAt, reached_at}
 use Rattle.load_table.specs.declared.phase.Phase.TheVariants as phases
-use Rattle.hang_facts.specs.Members.{Has}
-use Rattle.home_facts.specs.Homes.{document_in}
+use Rattle.seen_facts.specs.Hang.Members.{Has}
+use Rattle.seen_facts.specs.Home.Homes.{document_in}
 use Rattle.log_model.specs.Seen.{Asked, Document, Place, Seen, place_in, request_of}
 use Rattle.log_model.specs.declared.change.Change.{Change}
 use Rattle.log_model.specs.declared.row_kind.RowKind.{RowKind}
@@ -36,8 +36,8 @@ use Rattle.move_queue.specs.declared.queue_step.QueueStep.TheVariants.{Ready, Re
 use Rattle.seen_laws.specs.InEvent.{now_of}
 use Rattle.std.proofs.Common.{Bool, List, None, Option, Some, [], ap, append-nil, append_assoc, false, filter, inl, inr, refl, subst, sym, true, ℕ, ℤ, ◌&&◌, ◌++◌, ◌==◌, ◌||◌, ◌∙◌, ◌∷◌, ◌≡◌}
 use Rattle.tab_begins.proofs.Queues.{ahead, queue_passed, queue_traversed}
-use Rattle.calm_facts.specs.Calm.{AreRooted, IsCalmAround, UnmovedAreHere}
-use Rattle.calm_facts.proofs.Awakes.{calm_stood}
+use Rattle.tab_facts.specs.Calm.Calm.{AreRooted, IsCalmAround, UnmovedAreHere}
+use Rattle.tab_facts.proofs.Calm.Awakes.{calm_stood}
 use Rattle.tab_begins.proofs.Stood.{calm_begun}
 use Rattle.tab_begins.specs.Queueing.{HadTurn, HasGrown, HasQueue, IsAppliedNext, IsAtRest, IsCalmFor, IsLoadApplied, IsOfTurn, IsPassedOver, MayFollow, is_ready_in, is_there, is_traverse, load_in}
 use Rattle.tab_begins.specs.Taking.{AreOldLoads, GoesOn, HasBegun, HasTaken, IsOver, KeepsMade, KeepsQueue, KeepsStrays, MayTake}
@@ -56,7 +56,7 @@ pub made_same : (s : Seen) → KeepsMade s s
 made_same s = record { wishes = λ req. refl; documents = refl }
 
 -- one row alone was put out
-one_each : (kind : RowKind) → IsOfTurn kind → (row : RowKind) → Has (kind ∷ []) row → IsOfTurn row
+pub one_each : (kind : RowKind) → IsOfTurn kind → (row : RowKind) → Has (kind ∷ []) row → IsOfTurn row
 one_each kind its row (inl is) = subst IsOfTurn is its
 one_each kind its row (inr never) = absurd never
 
@@ -301,7 +301,7 @@ pub grown_none : (out : List RowKind) → HasGrown out out
 grown_none out = record { more = []; is = sym (append-nil out); each = λ row never. absurd never }
 
 -- the load's row, and drops
-drops_each : (drops : List Drop) (row : RowKind) → Has (map row_of_drop drops) row → IsOfTurn row
+pub drops_each : (drops : List Drop) (row : RowKind) → Has (map row_of_drop drops) row → IsOfTurn row
 drops_each [] row never = absurd never
 drops_each (d ∷ drops) row (inl is) = subst IsOfTurn is tt
 drops_each (d ∷ drops) row (inr has) = drops_each drops row has

@@ -1,19 +1,21 @@
 -- The queue of a tab with loads: the traversals that joined, in order, and a step for each ready load; and what is so once steps have had their turns.
 -- HTML Standard, "session history traversal queue" and "traverse the history by a delta"; that ready loads wait in it is this project's own.
-use Rattle.calm_facts.specs.Calm.{AreRooted, IsCalmAround, UnmovedAreHere}
-use Rattle.calm_facts.specs.Loads.{LoadsHaveDocuments}
-use Rattle.hang_facts.specs.Members.{Has}
+use Rattle.tab_facts.specs.Calm.Calm.{AreRooted, IsCalmAround, UnmovedAreHere}
+use Rattle.tab_facts.specs.Calm.Loads.{LoadsHaveDocuments}
+use Rattle.seen_facts.specs.Hang.Members.{Has}
 use Rattle.load_table.specs.Loads.{ongoing_load}
 use Rattle.load_table.specs.declared.load.Load.{Load}
 use Rattle.load_table.specs.declared.phase.Phase.{Phase}
 use Rattle.log_model.specs.ActsAtOnce.{is_ready_load}
+use Rattle.log_model.specs.After.{is_load_request}
+use Rattle.log_model.specs.Causes.{nav_of_change}
 use Rattle.log_model.specs.Equal.{holds}
 use Rattle.log_model.specs.Once.{delta_of, loads}
 use Rattle.log_model.specs.Places.{all_stand}
 use Rattle.log_model.specs.Seen.{Asked, Seen, request_in, request_of}
 use Rattle.move_queue.specs.declared.queue_step.QueueStep.{QueueStep}
 use Rattle.move_queue.specs.declared.queue_step.QueueStep.TheVariants.{Ready, Reload, Traverse}
-use Rattle.request_facts.proofs.Readers.{SameReads}
+use Rattle.seen_facts.proofs.Request.Readers.{SameReads}
 use Rattle.seen_laws.specs.InEvent.{InEvent, now_of}
 use Rattle.std.specs.Prelude.{Bool, List, None, Option, Some, [], false, filter, length, option_and_then, true, ℤ, ◌++◌, ◌&&◌, ◌<◌, ◌==◌, ◌∷◌, ◌≡◌, ◌⊎◌}
 use Rattle.tab_begins.specs.declared.turn.Turn.{Turn}
@@ -26,6 +28,7 @@ use Rattle.tab_doors.specs.declared.tables.Tables.{Tables}
 use Rattle.tab_ids.specs.declared.NavId.{NavId}
 use Rattle.tab_ids.specs.declared.ReqId.{ReqId}
 use Rattle.tab_ids.specs.declared.StateId.{StateId}
+use Rattle.tab_ids.specs.declared.Step.{Step}
 use Rattle.std.specs.Option.{option_map_or}
 pub use Rattle.tab_one_pass.specs.PassedOn.{AreBlamed, IsLoadApplied}
 use Rattle.load_table.specs.declared.phase.Phase.TheVariants as phases
@@ -171,6 +174,12 @@ pub record HasGrown (was out : List RowKind) : Type 0 where
   pub more : List RowKind
   pub is : out ≡ was ++ more
   pub each : (row : RowKind) → Has more row → IsOfTurn row
+
+-- so it is, where no load begins among them, and of each request that is applied the navigable is in need then, since that load was applied last
+pub record LeavesInNeed (e : InEvent) (old new : List RowKind) : Type 0 where
+  pub grown : HasGrown old new
+  pub begins : (req : ReqId) (goal : Option Step) → Has grown.more (rows.Started req goal) → is_load_request (now_of e old) req ≡ false
+  pub needs : (req : ReqId) (change : Change) → Has grown.more (rows.Applied req change) → (nav : NavId) × ((nav_of_change change ≡ Some nav) × IsLoadApplied (now_of e new) nav req)
 
 -- ---- whose turn is next
 

@@ -1,14 +1,14 @@
 -- The turns of a ready load and of a traversal: what they ask of the log, what they put out, and that a pass may follow.
 -- HTML Standard, "finalize a cross-document navigation", "navigate" and "traverse the history by a delta"; that a load waits in the queue until all stand is this project's own.
-use Rattle.frame_facts.specs.Lasting.{wish}
+use Rattle.tab_facts.specs.Frame.Lasting.{wish}
 use Rattle.load_doors.specs.Applying.{new_entry}
-use Rattle.load_facts.specs.Loading.{Look, is_ongoing, look_of}
+use Rattle.seen_facts.specs.Load.Loading.{Look, is_ongoing, look_of}
 use Rattle.load_table.specs.declared.load.Load.{Load}
 use Rattle.log_model.specs.Seen.{Place, Seen, place_of}
 use Rattle.log_model.specs.declared.job.Why.{Why}
 use Rattle.log_model.specs.declared.row_kind.RowKind.{RowKind}
 use Rattle.navigate_core.specs.Navigations.{change_for}
-use Rattle.request_facts.proofs.Readers.{SameReads}
+use Rattle.seen_facts.proofs.Request.Readers.{SameReads}
 use Rattle.seen_laws.specs.InEvent.{InEvent, now_of}
 use Rattle.std.specs.Prelude.{List, None, Option, Some, [], false, true, ◌++◌, ◌∷◌, ◌≡◌}
 use Rattle.tab_applies.specs.Applying.{MayApply}

@@ -1,7 +1,7 @@
 //! The next step of the queue has its turn, where one may.
 ghost use Rattle.std.specs.Prelude.{◌≡◌, [], None, OnOk, IfOk, IfNone, IfSome};
 ghost use Rattle.seen_laws.specs.InEvent.{now_of};
-ghost use Rattle.tab_begins.specs.Queueing.{AreUndue, CameTo, FewerWait, HasGrown, HasQueue, HasStood, IsAtRest, IsFirstDue, is_due_in, is_ready_in, is_there};
+ghost use Rattle.tab_begins.specs.Queueing.{AreUndue, CameTo, FewerWait, HasGrown, HasQueue, HasStood, IsAtRest, IsFirstDue, LeavesInNeed, is_due_in, is_ready_in, is_there};
 ghost use Rattle.tab_begins.specs.Taking.{KeepsMade};
 ghost use Rattle.tab_one_pass.specs.PassedOn.{InPass, IsPassing};
 ghost use Rattle.tab_applies.specs.PassedOn.{IsTurning};
@@ -89,6 +89,7 @@ pub fn begin_next(
     ensures made { OnOk result (KeepsMade (now_of p.event out.old) (now_of p.event out.new)) }
     ensures keep { OnOk result (tables.new.kept.keep ≡ tables.old.kept.keep) }
     ensures grown { OnOk result (HasGrown out.old out.new) }
+    ensures needs { OnOk result (LeavesInNeed p.event out.old out.new) }
     ensures parked { queue.new.parked ≡ queue.old.parked }
 {
     let current = tables.store.current();

@@ -1,6 +1,6 @@
 //! A ready load has its turn, and the loads below give way to it.
 ghost use Rattle.std.specs.Prelude.{◌≡◌, None, OnOk, Some};
-ghost use Rattle.calm_facts.specs.Calm.{IsCalmAround};
+ghost use Rattle.tab_facts.specs.Calm.Calm.{IsCalmAround};
 ghost use Rattle.load_table.specs.Loads.{ongoing_load};
 ghost use Rattle.log_model.specs.declared.job.Why.TheVariants.{Req};
 ghost use Rattle.seen_laws.specs.InEvent.{now_of};

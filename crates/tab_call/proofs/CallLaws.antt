@@ -57,7 +57,7 @@ read_as (Err (statuses.UrlOverflow overflowed)) bytes left rest before now came 
 -- more bytes than the limit spell nothing
 pub read_beyond : (left rest : Option (List ℕ)) → ReadsBeyond left rest 4194304 → ReadsNone left rest (record { line = 0; reason = TooLong }) × Unit {0}
 read_beyond left rest beyond =
-    (record { bytes = beyond.0; came = beyond.1; enough = inr beyond.2; spells_none = scenario_of-too_long false builts.Frames beyond.0 beyond.2 }, tt)
+    (record { bytes = beyond.0; came = beyond.1; enough = inr beyond.2; spells_none = scenario_of-too_long false builts.Loads beyond.0 beyond.2 }, tt)
 
 -- ---- the scenario that was read
 
@@ -115,19 +115,19 @@ told_long bytes read (Some xs) (Some ys) told came =
     omega (arith, ap (λ (l : List ℕ). length l) (sym same ∙ came), length-append read ys)
 
 -- the whole source spells what the bytes read spell
-told_none : (bytes : List ℕ) (left rest : Option (List ℕ)) (refusal : Refusal) → left ≡ Some bytes → ReadsNone left rest refusal → scenario_of false builts.Frames bytes ≡ Err refusal
+told_none : (bytes : List ℕ) (left rest : Option (List ℕ)) (refusal : Refusal) → left ≡ Some bytes → ReadsNone left rest refusal → scenario_of false builts.Loads bytes ≡ Err refusal
 told_none bytes left rest refusal told reads =
     elim reads.enough [
-      | inl whole ↦ ap (λ (l : List ℕ). scenario_of false builts.Frames l) (told_whole bytes reads.bytes left rest told reads.came whole) ∙ reads.spells_none
+      | inl whole ↦ ap (λ (l : List ℕ). scenario_of false builts.Loads l) (told_whole bytes reads.bytes left rest told reads.came whole) ∙ reads.spells_none
       | inr long ↦
-          scenario_of-too_long false builts.Frames bytes (omega (arith, long, told_long bytes reads.bytes left rest told reads.came))
-          ∙ sym (scenario_of-too_long false builts.Frames reads.bytes long)
+          scenario_of-too_long false builts.Loads bytes (omega (arith, long, told_long bytes reads.bytes left rest told reads.came))
+          ∙ sym (scenario_of-too_long false builts.Loads reads.bytes long)
           ∙ reads.spells_none
     ]
 
-told_scenario : (bytes : List ℕ) (left rest : Option (List ℕ)) (IsSuch : Scenario → Type 0) → left ≡ Some bytes → (reads : ReadsSuch left rest IsSuch) → scenario_of false builts.Frames bytes ≡ Ok reads.scenario
+told_scenario : (bytes : List ℕ) (left rest : Option (List ℕ)) (IsSuch : Scenario → Type 0) → left ≡ Some bytes → (reads : ReadsSuch left rest IsSuch) → scenario_of false builts.Loads bytes ≡ Ok reads.scenario
 told_scenario bytes left rest IsSuch told reads =
-    ap (λ (l : List ℕ). scenario_of false builts.Frames l) (told_whole bytes reads.bytes left rest told reads.came reads.whole) ∙ reads.spells
+    ap (λ (l : List ℕ). scenario_of false builts.Loads l) (told_whole bytes reads.bytes left rest told reads.came reads.whole) ∙ reads.spells
 
 -- a result is not both
 not_both : {A E : Type 0} (r : Result A E) (a : A) (e : E) → r ≡ Ok a → r ≡ Err e → ⊥
@@ -179,12 +179,12 @@ makes status asked left rest before now due taken given old new read written n i
 -- ---- done, or refused
 
 -- a call that plays, is heard and unhindered, of bytes that spell a scenario, is done
-played_done : (status : Status) (due : Option (List ℕ)) (words : List (List ℕ)) (left rest : Option (List ℕ)) (before now : ℕ) (taken given : Option (List ℕ)) (old new : ℕ) (log : Option (List LogRow)) → ((status ≡ statuses.Usage) ↔ (work_of words ≡ None)) → HasReadCause status left rest before now → FollowsRead status left rest log → HasWriteCause status due taken given old new → (bytes : List ℕ) (scenario : Scenario) → IsHeard words bytes left before now status → scenario_of false builts.Frames bytes ≡ Ok scenario → IsUnhindered scenario old new log → status ≡ statuses.Done
+played_done : (status : Status) (due : Option (List ℕ)) (words : List (List ℕ)) (left rest : Option (List ℕ)) (before now : ℕ) (taken given : Option (List ℕ)) (old new : ℕ) (log : Option (List LogRow)) → ((status ≡ statuses.Usage) ↔ (work_of words ≡ None)) → HasReadCause status left rest before now → FollowsRead status left rest log → HasWriteCause status due taken given old new → (bytes : List ℕ) (scenario : Scenario) → IsHeard words bytes left before now status → scenario_of false builts.Loads bytes ≡ Ok scenario → IsUnhindered scenario old new log → status ≡ statuses.Done
 played_done statuses.Done due words left rest before now taken given old new log usage read follows written bytes scenario heard spells free = refl
 played_done statuses.Usage due words left rest before now taken given old new log usage read follows written bytes scenario heard spells free =
     absurd (asks_nothing (work_of words) heard.asks (usage.0 refl))
 played_done (statuses.Scenario refusal) due words left rest before now taken given old new log usage read follows written bytes scenario heard spells free =
-    absurd (not_both (scenario_of false builts.Frames bytes) scenario refusal spells (told_none bytes left rest refusal heard.told read))
+    absurd (not_both (scenario_of false builts.Loads bytes) scenario refusal spells (told_none bytes left rest refusal heard.told read))
 played_done statuses.ReadFault due words left rest before now taken given old new log usage read follows written bytes scenario heard spells free = absurd (heard.read read)
 played_done statuses.WriteFault due words left rest before now taken given old new log usage read follows written bytes scenario heard spells free = absurd (free.written written.0)
 played_done statuses.OutOfMemory due words left rest before now taken given old new log usage read follows written bytes scenario heard spells free = elim heard.decided [ ]
@@ -195,9 +195,9 @@ played_done statuses.LogFull due words left rest before now taken given old new 
 played_done (statuses.UrlOverflow overflowed) due words left rest before now taken given old new log usage read follows written bytes scenario heard spells free = elim heard.decided [ ]
 
 -- a call that plays and is heard, of bytes that spell none, names the refusal
-played_refused : (status : Status) (words : List (List ℕ)) (left rest : Option (List ℕ)) (before now : ℕ) → ((status ≡ statuses.Usage) ↔ (work_of words ≡ None)) → HasReadCause status left rest before now → (bytes : List ℕ) (refusal : Refusal) → IsHeard words bytes left before now status → scenario_of false builts.Frames bytes ≡ Err refusal → status ≡ statuses.Scenario refusal
+played_refused : (status : Status) (words : List (List ℕ)) (left rest : Option (List ℕ)) (before now : ℕ) → ((status ≡ statuses.Usage) ↔ (work_of words ≡ None)) → HasReadCause status left rest before now → (bytes : List ℕ) (refusal : Refusal) → IsHeard words bytes left before now status → scenario_of false builts.Loads bytes ≡ Err refusal → status ≡ statuses.Scenario refusal
 played_refused statuses.Done words left rest before now usage read bytes refusal heard none =
-    absurd (not_both (scenario_of false builts.Frames bytes) read.scenario refusal (told_scenario bytes left rest _ heard.told read) none)
+    absurd (not_both (scenario_of false builts.Loads bytes) read.scenario refusal (told_scenario bytes left rest _ heard.told read) none)
 played_refused statuses.Usage words left rest before now usage read bytes refusal heard none =
     absurd (asks_nothing (work_of words) heard.asks (usage.0 refl))
 played_refused (statuses.Scenario given) words left rest before now usage read bytes refusal heard none =
@@ -205,14 +205,14 @@ played_refused (statuses.Scenario given) words left rest before now usage read b
     let same : given ≡ refusal = cc in ap statuses.Scenario same
 played_refused statuses.ReadFault words left rest before now usage read bytes refusal heard none = absurd (heard.read read)
 played_refused statuses.WriteFault words left rest before now usage read bytes refusal heard none =
-    absurd (not_both (scenario_of false builts.Frames bytes) read.scenario refusal (told_scenario bytes left rest _ heard.told read) none)
+    absurd (not_both (scenario_of false builts.Loads bytes) read.scenario refusal (told_scenario bytes left rest _ heard.told read) none)
 played_refused statuses.OutOfMemory words left rest before now usage read bytes refusal heard none = elim heard.decided [ ]
 played_refused statuses.LogFull words left rest before now usage read bytes refusal heard none =
-    absurd (not_both (scenario_of false builts.Frames bytes) read.scenario refusal (told_scenario bytes left rest _ heard.told read) none)
+    absurd (not_both (scenario_of false builts.Loads bytes) read.scenario refusal (told_scenario bytes left rest _ heard.told read) none)
 played_refused (statuses.UrlOverflow overflowed) words left rest before now usage read bytes refusal heard none = elim heard.decided [ ]
 
 -- a call that is heard and unhindered, of bytes that spell a scenario, is done
-pub completes : (status : Status) (due : Option (List ℕ)) (words : List (List ℕ)) (left rest : Option (List ℕ)) (before now : ℕ) (taken given : Option (List ℕ)) (old new : ℕ) (log : Option (List LogRow)) → ((status ≡ statuses.Usage) ↔ (work_of words ≡ None)) → ReadsFor (work_of words) status left rest before now → FollowsFor (work_of words) status left rest log → HasWriteCause status due taken given old new → (bytes : List ℕ) (scenario : Scenario) → IsHeard words bytes left before now status → scenario_of false builts.Frames bytes ≡ Ok scenario → IsUnhindered scenario old new log → status ≡ statuses.Done
+pub completes : (status : Status) (due : Option (List ℕ)) (words : List (List ℕ)) (left rest : Option (List ℕ)) (before now : ℕ) (taken given : Option (List ℕ)) (old new : ℕ) (log : Option (List LogRow)) → ((status ≡ statuses.Usage) ↔ (work_of words ≡ None)) → ReadsFor (work_of words) status left rest before now → FollowsFor (work_of words) status left rest log → HasWriteCause status due taken given old new → (bytes : List ℕ) (scenario : Scenario) → IsHeard words bytes left before now status → scenario_of false builts.Loads bytes ≡ Ok scenario → IsUnhindered scenario old new log → status ≡ statuses.Done
 completes status due words left rest before now taken given old new log usage read follows written bytes scenario heard spells free =
     played_done status due words left rest before now taken given old new log usage
     (plays_read (work_of words) status left rest before now heard.asks read)
@@ -220,6 +220,6 @@ completes status due words left rest before now taken given old new log usage re
     written bytes scenario heard spells free
 
 -- a call that is heard, of bytes that spell none, names the refusal
-pub refuses : (status : Status) (words : List (List ℕ)) (left rest : Option (List ℕ)) (before now : ℕ) → ((status ≡ statuses.Usage) ↔ (work_of words ≡ None)) → ReadsFor (work_of words) status left rest before now → (bytes : List ℕ) (refusal : Refusal) → IsHeard words bytes left before now status → scenario_of false builts.Frames bytes ≡ Err refusal → status ≡ statuses.Scenario refusal
+pub refuses : (status : Status) (words : List (List ℕ)) (left rest : Option (List ℕ)) (before now : ℕ) → ((status ≡ statuses.Usage) ↔ (work_of words ≡ None)) → ReadsFor (work_of words) status left rest before now → (bytes : List ℕ) (refusal : Refusal) → IsHeard words bytes left before now status → scenario_of false builts.Loads bytes ≡ Err refusal → status ≡ statuses.Scenario refusal
 refuses status words left rest before now usage read bytes refusal heard none =
     played_refused status words left rest before now usage (plays_read (work_of words) status left rest before now heard.asks read) bytes refusal heard none

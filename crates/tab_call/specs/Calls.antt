@@ -27,7 +27,7 @@ pub record ReadsSuch (left rest : Option (List ℕ)) (IsSuch : Scenario → Type
   pub scenario : Scenario
   pub came : Consumes left rest bytes
   pub whole : IsAtEnd rest
-  pub spells : scenario_of false builts.Frames bytes ≡ Ok scenario
+  pub spells : scenario_of false builts.Loads bytes ≡ Ok scenario
   pub such : IsSuch scenario
 
 -- the bytes read are all of the source and spell a scenario
@@ -39,7 +39,7 @@ pub record ReadsNone (left rest : Option (List ℕ)) (refusal : Refusal) : Type 
   pub bytes : List ℕ
   pub came : Consumes left rest bytes
   pub enough : IsAtEnd rest ⊎ (byte_limit < length bytes)
-  pub spells_none : scenario_of false builts.Frames bytes ≡ Err refusal
+  pub spells_none : scenario_of false builts.Loads bytes ≡ Err refusal
 
 -- what each status says of what was read and of the counts of faults, where a scenario is to be played
 abbrev pub HasReadCause : Status → Option (List ℕ) → Option (List ℕ) → ℕ → ℕ → Type 0
@@ -174,8 +174,8 @@ ReadsAs (Err status) left rest before now = HasReadCause status left rest before
 
 -- the scenario that bytes spell, or a status that says why there is none
 abbrev pub SpellsAs : Result Scenario Status → List ℕ → Type 0
-SpellsAs (Ok scenario) bytes = scenario_of false builts.Frames bytes ≡ Ok scenario
-SpellsAs (Err (statuses.Scenario refusal)) bytes = scenario_of false builts.Frames bytes ≡ Err refusal
+SpellsAs (Ok scenario) bytes = scenario_of false builts.Loads bytes ≡ Ok scenario
+SpellsAs (Err (statuses.Scenario refusal)) bytes = scenario_of false builts.Loads bytes ≡ Err refusal
 SpellsAs (Err (statuses.UrlOverflow overflowed)) bytes = Unit {0}
 SpellsAs (Err statuses.OutOfMemory) bytes = Unit {0}
 SpellsAs (Err _) bytes = ⊥

@@ -1,6 +1,7 @@
 //! `play_call`, all that the program does with its words, a source and a sink.
 ghost use Rattle.std.specs.Prelude.{◌≡◌, ◌≢◌, ◌↔◌, ℕ, false, List, Some, None, Ok, Err, IfSome, IsSome, map, string_bytes};
 ghost use Rattle.log_model.specs.ActsAtOnce.{ActsAtOnce};
+ghost use Rattle.log_model.specs.LoadsEndInTime.{LoadsEndInTime};
 ghost use Rattle.log_model.specs.Legal.{IsLegal};
 ghost use Rattle.log_model.specs.Limits.{BeginsBelow};
 ghost use Rattle.world.specs.Open.{row_limit};
@@ -50,17 +51,18 @@ pub fn play_call<S: Source, K: Sink>(
     ensures written { HasWriteCause result.status (text_due (work_of (map (λ w. string_bytes w) words.now)) result.log) (K.taken sink.old) (K.taken sink.new) (K.faults sink.old) (K.faults sink.new) }
     ensures legal { IfSome result.log IsLegal }
     ensures at_once { IfSome result.log ActsAtOnce }
+    ensures loads_end { IfSome result.log LoadsEndInTime }
     ensures limited { IfSome result.log (BeginsBelow row_limit) }
 
     // Where nothing is in the way, the call is done, or refuses what is no scenario.
     ensures done { (bytes : List ℕ) → (scenario : Scenario)
         → IsHeard (map (λ w. string_bytes w) words.now) bytes (S.left source.old) (S.faults source.old) (S.faults source.new) result.status
-        → scenario_of false builts.Frames bytes ≡ Ok scenario
+        → scenario_of false builts.Loads bytes ≡ Ok scenario
         → IsUnhindered scenario (K.faults sink.old) (K.faults sink.new) result.log
         → result.status ≡ Status.Done }
     ensures refused { (bytes : List ℕ) → (refusal : Refusal)
         → IsHeard (map (λ w. string_bytes w) words.now) bytes (S.left source.old) (S.faults source.old) (S.faults source.new) result.status
-        → scenario_of false builts.Frames bytes ≡ Err refusal
+        → scenario_of false builts.Loads bytes ≡ Err refusal
         → result.status ≡ Status.Scenario refusal }
     ensures made { (n : ℕ)
         → work_of (map (λ w. string_bytes w) words.now) ≡ Some (Work.Make n)
@@ -84,6 +86,7 @@ fn carry_out<S: Source, K: Sink>(
     ensures written { HasWriteCause result.status (text_due work result.log) (K.taken sink.old) (K.taken sink.new) (K.faults sink.old) (K.faults sink.new) }
     ensures legal { IfSome result.log IsLegal }
     ensures at_once { IfSome result.log ActsAtOnce }
+    ensures loads_end { IfSome result.log LoadsEndInTime }
     ensures limited { IfSome result.log (BeginsBelow row_limit) }
 {
     match work {
@@ -106,6 +109,7 @@ fn play_source<S: Source, K: Sink>(
     ensures written { HasWriteCause result.status (text_of_log output result.log) (K.taken sink.old) (K.taken sink.new) (K.faults sink.old) (K.faults sink.new) }
     ensures legal { IfSome result.log IsLegal }
     ensures at_once { IfSome result.log ActsAtOnce }
+    ensures loads_end { IfSome result.log LoadsEndInTime }
     ensures limited { IfSome result.log (BeginsBelow row_limit) }
 {
     let scenario = match read_scenario(alloc, source) {
@@ -138,7 +142,7 @@ fn read_scenario<S: Source>(alloc: Global, source: &mut S) -> Result<Scenario, S
 fn spelled(alloc: Global, bytes: Vec<u8>) -> Result<Scenario, Status>
     ensures { SpellsAs result bytes.items }
 {
-    match Scenario::read_vec(alloc, bytes, false, Built::Frames) {
+    match Scenario::read_vec(alloc, bytes, false, Built::Loads) {
         Ok(scenario) => Ok(scenario),
         Err(ScenarioError::Refused(refusal)) => Err(Status::Scenario(refusal)),
         Err(ScenarioError::UrlOverflow(overflowed)) => Err(Status::UrlOverflow(overflowed)),
@@ -164,6 +168,7 @@ fn tell<K: Sink>(
     ensures written { HasWriteCause result.status (text_of_log output result.log) (K.taken sink.old) (K.taken sink.new) (K.faults sink.old) (K.faults sink.new) }
     ensures legal { IfSome result.log IsLegal }
     ensures at_once { IfSome result.log ActsAtOnce }
+    ensures loads_end { IfSome result.log LoadsEndInTime }
     ensures limited { IfSome result.log (BeginsBelow row_limit) }
 {
     let Played { world, fault } = played;
@@ -195,6 +200,7 @@ fn write_text<K: Sink>(
     ensures written { HasWriteCause result.status (text_of_log output result.log) (K.taken sink.old) (K.taken sink.new) (K.faults sink.old) (K.faults sink.new) }
     ensures legal { IfSome result.log IsLegal }
     ensures at_once { IfSome result.log ActsAtOnce }
+    ensures loads_end { IfSome result.log LoadsEndInTime }
     ensures limited { IfSome result.log (BeginsBelow row_limit) }
 {
     let text = match report(alloc, &world) {

@@ -1,6 +1,6 @@
 -- The rows so far go on passing with one order more, where a move may have begun: the document that is shown next is then the one that is meant.
-use Rattle.frame_rows.proofs.LawfulLaws.{keeps_held}
-use Rattle.frame_rows.specs.Lawful.{AreLawful, IsRestOf, KeepsHeld, has_traversed}
+use Rattle.row_facts.proofs.FrameRows.LawfulLaws.{keeps_held}
+use Rattle.row_facts.specs.FrameRows.Lawful.{AreLawful, IsRestOf, KeepsHeld, has_traversed}
 use Rattle.log_model.specs.Queue.{is_traverse}
 use Rattle.log_model.specs.declared.job.Job.{Job}
 use Rattle.log_model.specs.declared.row_kind.LogRow.{LogRow}

@@ -1,6 +1,6 @@
 -- A change is put out, and the coordinator goes on working.
 use Rattle.apply_plan.specs.Order.{made_in}
-use Rattle.coord_facts.proofs.Held.{without_same}
+use Rattle.seen_facts.proofs.Coord.Held.{without_same}
 use Rattle.tab_doors.proofs.Ahead.{lawful_none, none_lawful}
 use Rattle.tab_doors.proofs.Changing.{Changes, added_holds, given_holds, given_look, pushed_documents, replaced_documents, untold_sight}
 use Rattle.tab_doors.proofs.EndLaws.{ended_holds}
@@ -20,16 +20,16 @@ use Rattle.tab_doors.specs.Look.{Sight, look_of, moved_by, sight}
 use Rattle.tab_doors.specs.Ties.{AreInitial, Holds, IsAwakeAtHome, IsHome, IsRunning, IsTied, status_of}
 use Rattle.tab_doors.specs.Working.{HasGoal, IsAtWork, look_now}
 use Rattle.tab_doors.specs.declared.tables.Tables.{Tables}
-use Rattle.frame_rows.proofs.LawfulLaws.{AsksOf, ends_other, lawful_more, lawful_plain}
-use Rattle.frame_rows.proofs.Takes.{taken_may}
-use Rattle.leave_rows.proofs.FragmentTakes.{fragment_applied_may}
-use Rattle.frame_rows.proofs.Turns.{end_may}
-use Rattle.frame_rows.specs.Lawful.{AreLawful, KeepsHeld, ends_among, held_at_first}
-use Rattle.kept_facts.specs.Keeping.{kept_states}
+use Rattle.row_facts.proofs.FrameRows.LawfulLaws.{AsksOf, ends_other, lawful_more, lawful_plain}
+use Rattle.row_facts.proofs.FrameRows.Takes.{taken_may}
+use Rattle.row_facts.proofs.LeaveRows.FragmentTakes.{fragment_applied_may}
+use Rattle.row_facts.proofs.FrameRows.Turns.{end_may}
+use Rattle.row_facts.specs.FrameRows.Lawful.{AreLawful, KeepsHeld, ends_among, held_at_first}
+use Rattle.seen_facts.specs.Kept.Keeping.{kept_states}
 use Rattle.load_table.specs.declared.load.Load.{Load}
-use Rattle.load_ties.proofs.Ends.{applied_ended, other_ends}
-use Rattle.load_ties.proofs.Phases.{changed_phase}
-use Rattle.load_ties.specs.Tying.{TiesLoads}
+use Rattle.seen_facts.proofs.LoadTies.Ends.{applied_ended, other_ends}
+use Rattle.seen_facts.proofs.LoadTies.Phases.{changed_phase}
+use Rattle.seen_facts.specs.LoadTies.Tying.{TiesLoads}
 use Rattle.log_model.specs.After.{after, ended}
 use Rattle.log_model.specs.AfterDocuments.{applied_to, told_after_change}
 use Rattle.log_model.specs.AfterRequests.{entries_taken, on_request}
@@ -49,9 +49,9 @@ use Rattle.indexmap.specs.IndexMap.{insert_entry}
 use Rattle.nav_tree.specs.Tree.{Tree, child_node, is_state, node_of, with_nav}
 use Rattle.nav_tree.specs.declared.nav.Nav.{Nav}
 use Rattle.nav_tree.specs.declared.node.Node.{Node}
-use Rattle.each_facts.specs.Runs.{is_this}
+use Rattle.seen_facts.specs.Each.Runs.{is_this}
 use Rattle.page_cache.specs.Kept.{Kept}
-use Rattle.request_facts.proofs.Readers.{SameReads, on_read, reads_then}
+use Rattle.seen_facts.proofs.Request.Readers.{SameReads, on_read, reads_then}
 use Rattle.seen_laws.proofs.InEvents.{led_here, now_more}
 use Rattle.seen_laws.specs.Blocks.{Here, MayLog, point_at}
 use Rattle.seen_laws.specs.InEvent.{Anything, InEvent, here_of, now_of, row_of}

@@ -32,7 +32,7 @@ use Rattle.tab_ids.specs.declared.EntryId.{EntryId}
 use Rattle.tab_ids.specs.declared.NavId.{NavId}
 use Rattle.tab_ids.specs.declared.ReqId.{ReqId}
 use Rattle.tab_ids.specs.declared.StateId.{StateId}
-use Rattle.walk_facts.proofs.Placed.{found_nav}
+use Rattle.seen_facts.proofs.Walk.Placed.{found_nav}
 use Rattle.log_model.specs.declared.change.Change.TheVariants as changes
 use Rattle.log_model.specs.declared.row_kind.RowKind.TheVariants as rows
 use Rattle.tab_doors.proofs.LookUps.{nav_same}

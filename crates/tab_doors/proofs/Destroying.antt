@@ -6,8 +6,8 @@ use Rattle.tab_doors.specs.Dues.{has_any, lost_of}
 use Rattle.tab_doors.specs.Ending.{destroy_all, destroyed}
 use Rattle.tab_doors.specs.declared.tables.Tables.{Tables}
 use Rattle.step_index.specs.Held.{history_held}
-use Rattle.hang_facts.proofs.Members.{has_filter}
-use Rattle.hang_facts.specs.Members.{Has}
+use Rattle.seen_facts.proofs.Hang.Members.{has_filter}
+use Rattle.seen_facts.specs.Hang.Members.{Has}
 use Rattle.log_model.proofs.Refl.{nat_eq_refl}
 use Rattle.log_model.specs.History.{has_nav}
 use Rattle.nav_tree.proofs.Lists.{take-slice_get}

@@ -15,7 +15,7 @@ use Rattle.tab_doors.specs.Orders.{next_order}
 use Rattle.tab_doors.specs.Sleeping.{is_for, sleep_all}
 use Rattle.tab_doors.specs.Ties.{AreHeld, AreListed, AreOnceKeyed, Holds, IsListed, IsOneSuch, IsRunning}
 use Rattle.tab_doors.specs.declared.tables.Tables.{Tables}
-use Rattle.hang_facts.specs.Members.{Has}
+use Rattle.seen_facts.specs.Hang.Members.{Has}
 use Rattle.log_model.specs.After.{after}
 use Rattle.log_model.specs.AfterPlaces.{sleepers_with}
 use Rattle.log_model.specs.History.{History, has_nav}

@@ -1,5 +1,5 @@
 -- What the store finds is what the log has, and it goes on holding that over a change.
-use Rattle.coord_facts.proofs.Held.{fun_ext}
+use Rattle.seen_facts.proofs.Coord.Held.{fun_ext}
 use Rattle.entry_store.proofs.ForCallers.{refused_only_for_memory}
 use Rattle.entry_store.proofs.SameReplay.{may_same, fits_same, applied_same, trans_same}
 use Rattle.entry_store.specs.Store.{MayTake, IsRefused}

@@ -5,7 +5,7 @@ use Rattle.nav_tree.specs.Tree.{document_of}  -- keep
 use Rattle.tab_doors.proofs.Sights.{KeepsNumber, found_more, found_other, found_same, listed_kept, sights_on}
 use Rattle.tab_doors.specs.Look.{Look, Sight, is_live_for, is_made_for, sight_in}
 use Rattle.tab_doors.specs.Ties.{AreHeld, AreListed, AreOnceKeyed, AreTied, IsAwakeAtHome, IsHome, IsListed, IsTied, status_of}
-use Rattle.hang_facts.specs.Members.{Has}
+use Rattle.seen_facts.specs.Hang.Members.{Has}
 use Rattle.log_model.specs.Seen.{Place, Status, asleep, awake, lost, place_in}
 use Rattle.nav_tree.specs.Tree.{Tree, is_state, node_of}
 use Rattle.nav_tree.specs.declared.node.Node.{Node}

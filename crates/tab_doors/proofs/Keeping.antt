@@ -20,17 +20,17 @@ use Rattle.log_model.specs.Orders.{ongoing_load as load_in_log}
 use Rattle.log_model.specs.Places.{is_load, is_ongoing_load, is_traversal}
 use Rattle.log_model.specs.Seen.{Asked, Document, Seen, request_of}
 use Rattle.log_model.proofs.Refl.{nat_eq_refl}
-use Rattle.hang_facts.proofs.Members.{has_filter}
-use Rattle.hang_facts.specs.Members.{Has}
-use Rattle.home_facts.specs.Homes.{document_in}
-use Rattle.request_facts.proofs.Readers.{SameReads, sent_reads}
+use Rattle.seen_facts.proofs.Hang.Members.{has_filter}
+use Rattle.seen_facts.specs.Hang.Members.{Has}
+use Rattle.seen_facts.specs.Home.Homes.{document_in}
+use Rattle.seen_facts.proofs.Request.Readers.{SameReads, sent_reads}
 use Rattle.seen_laws.proofs.Keyed.{find_map}
 use Rattle.load_table.specs.declared.load.Load.{Load}
 use Rattle.load_table.specs.Loads.{ongoing_load}
-use Rattle.load_ties.specs.Tying.{IsLoadTied, TiesLoads, is_for_state, made_for, phase_with}
-use Rattle.load_ties.proofs.Leaves.{has_again, tied_again, traced, traced_blind}
-use Rattle.kept_facts.proofs.States.{AreOfOwnStates, states_left, states_without}
-use Rattle.kept_facts.specs.Keeping.{state_in}
+use Rattle.seen_facts.specs.LoadTies.Tying.{IsLoadTied, TiesLoads, is_for_state, made_for, phase_with}
+use Rattle.seen_facts.proofs.LoadTies.Leaves.{has_again, tied_again, traced, traced_blind}
+use Rattle.seen_facts.proofs.Kept.States.{AreOfOwnStates, states_left, states_without}
+use Rattle.seen_facts.specs.Kept.Keeping.{state_in}
 use Rattle.page_cache.specs.Kept.{left_first, without}
 use Rattle.tab_doors.specs.Keeping.{IsNoLoad, LeavesOne, kept_once_shown}
 

@@ -31,3 +31,4 @@ pub mod ChangeWorks
 pub mod TurnWorks
 pub mod Noted
 pub mod Filtered
+pub mod Readied

@@ -13,8 +13,8 @@ use Rattle.tab_doors.proofs.Whose.{whose_more, whose_on}
 use Rattle.tab_doors.specs.Noting.{PlacesOne}
 use Rattle.tab_doors.specs.Ties.{AreHeld, AreListed, AreTied, Holds, IsListed, IsOneSuch, is_doc}
 use Rattle.tab_doors.specs.declared.tables.Tables.{Tables}
-use Rattle.hang_facts.proofs.Members.{has_any, has_map}
-use Rattle.hang_facts.specs.Members.{Has}
+use Rattle.seen_facts.proofs.Hang.Members.{has_any, has_map}
+use Rattle.seen_facts.specs.Hang.Members.{Has}
 use Rattle.log_model.proofs.Refl.{nat_eq_refl}
 use Rattle.log_model.specs.After.{after}
 use Rattle.log_model.specs.AfterDocuments.{new_document}

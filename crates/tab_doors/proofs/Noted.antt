@@ -3,8 +3,8 @@ use Rattle.page_cache.specs.Kept.{Kept}
 use Rattle.load_table.specs.Loads.{is_populating, moved_on, ongoing_load}
 use Rattle.load_table.specs.declared.load.Load.{Load}
 use Rattle.load_table.specs.declared.phase.Phase.TheVariants as phases
-use Rattle.load_ties.proofs.Reported.{made_tied}
-use Rattle.load_ties.specs.Tying.{TiesLoads}
+use Rattle.seen_facts.proofs.LoadTies.Reported.{made_tied}
+use Rattle.seen_facts.specs.LoadTies.Tying.{TiesLoads}
 use Rattle.log_model.specs.After.{after}
 use Rattle.log_model.specs.Seen.{Seen, desk_of}
 use Rattle.log_model.specs.declared.job.Job.{Job}

@@ -11,14 +11,14 @@ use Rattle.tab_doors.specs.Orders.{IsThere, next_order, order_to, proc_at}
 use Rattle.tab_doors.specs.Ties.{Holds, IsAwakeIn}
 use Rattle.tab_doors.specs.Working.{IsAtWork}
 use Rattle.tab_doors.specs.declared.tables.Tables.{Tables}
-use Rattle.frame_rows.proofs.LawfulLaws.{lawful_plain}
-use Rattle.frame_rows.proofs.Makes.{make_may, make_quiet}
-use Rattle.frame_rows.specs.Lawful.{AreLawful}
-use Rattle.frame_rows.specs.Making.{IsMakeDue}
-use Rattle.kept_facts.specs.Keeping.{AreKeptDocs}
+use Rattle.row_facts.proofs.FrameRows.LawfulLaws.{lawful_plain}
+use Rattle.row_facts.proofs.FrameRows.Makes.{make_may, make_quiet}
+use Rattle.row_facts.specs.FrameRows.Lawful.{AreLawful}
+use Rattle.row_facts.specs.FrameRows.Making.{IsMakeDue}
+use Rattle.seen_facts.specs.Kept.Keeping.{AreKeptDocs}
 use Rattle.load_table.specs.declared.load.Load.{Load}
-use Rattle.load_ties.proofs.Makes.{other_made}
-use Rattle.load_ties.specs.Tying.{TiesLoads}
+use Rattle.seen_facts.proofs.LoadTies.Makes.{other_made}
+use Rattle.seen_facts.specs.LoadTies.Tying.{TiesLoads}
 use Rattle.log_model.specs.After.{after}
 use Rattle.log_model.specs.AfterDocuments.{addressed}
 use Rattle.log_model.specs.Orders.{ongoing_load as load_in_log}

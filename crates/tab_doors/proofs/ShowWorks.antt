@@ -12,9 +12,9 @@ use Rattle.tab_doors.specs.Orders.{MayShow, order_to, proc_at}
 use Rattle.tab_doors.specs.Ties.{Holds, IsRunning}
 use Rattle.tab_doors.specs.Working.{IsAtWork, IsAtWorkFor}
 use Rattle.tab_doors.specs.declared.tables.Tables.{Tables}
-use Rattle.frame_rows.specs.Lawful.{AreLawful}
+use Rattle.row_facts.specs.FrameRows.Lawful.{AreLawful}
 use Rattle.indexmap.specs.IndexMap.{insert_entry}
-use Rattle.kept_facts.proofs.States.{AreOfOwnStates}
+use Rattle.seen_facts.proofs.Kept.States.{AreOfOwnStates}
 use Rattle.log_model.proofs.Refl.{nat_eq_refl}
 use Rattle.log_model.specs.After.{after}
 use Rattle.log_model.specs.AfterDocuments.{addressed}
@@ -28,10 +28,10 @@ use Rattle.log_model.specs.declared.job.Why.{Why}
 use Rattle.log_model.specs.declared.row_kind.RowKind.{RowKind}
 use Rattle.nav_tree.specs.Tree.{Tree, is_nav, nav_of, node_of, with_nav}
 use Rattle.nav_tree.specs.declared.nav.Nav.{Nav}
-use Rattle.each_facts.specs.Runs.{is_run}
+use Rattle.seen_facts.specs.Each.Runs.{is_run}
 use Rattle.page_cache.specs.Kept.{without}
-use Rattle.request_facts.proofs.LookUps.{on_itself}
-use Rattle.request_facts.proofs.Readers.{SameReads, on_read}
+use Rattle.seen_facts.proofs.Request.LookUps.{on_itself}
+use Rattle.seen_facts.proofs.Request.Readers.{SameReads, on_read}
 use Rattle.seen_laws.proofs.InEvents.{led_here, order_quiet}
 use Rattle.seen_laws.proofs.Sendings.{show_may}
 use Rattle.seen_laws.specs.InEvent.{InEvent, here_of, now_of, row_of}

@@ -1,8 +1,8 @@
 -- What becomes of the documents as the tables tell of them, where one of them changes or one more comes.
 use Rattle.tab_doors.specs.Look.{Sight, sight, sight_in}
 use Rattle.tab_doors.specs.Ties.{IsListed, IsOneSuch}
-use Rattle.hang_facts.proofs.Members.{has_any, has_map, has_more}
-use Rattle.hang_facts.specs.Members.{Has}
+use Rattle.seen_facts.proofs.Hang.Members.{has_any, has_map, has_more}
+use Rattle.seen_facts.specs.Hang.Members.{Has}
 use Rattle.log_model.proofs.Refl.{nat_eq_refl}
 use Rattle.log_model.specs.After.{on_document}
 use Rattle.log_model.specs.Seen.{Document, Seen, document_of}

@@ -15,14 +15,14 @@ use Rattle.tab_doors.specs.Sleeping.{is_for, sleep_all}
 use Rattle.tab_doors.specs.Ties.{Holds}
 use Rattle.tab_doors.specs.Working.{IsAtWorkFor, MaySend}
 use Rattle.tab_doors.specs.declared.tables.Tables.{Tables}
-use Rattle.frame_rows.proofs.Discards.{discard_quiet}
-use Rattle.hang_facts.proofs.Members.{into_map}
-use Rattle.hang_facts.specs.Members.{Has}
-use Rattle.kept_facts.proofs.States.{AreOfOwnStates}
-use Rattle.kept_facts.specs.Keeping.{kept_states}
+use Rattle.row_facts.proofs.FrameRows.Discards.{discard_quiet}
+use Rattle.seen_facts.proofs.Hang.Members.{into_map}
+use Rattle.seen_facts.specs.Hang.Members.{Has}
+use Rattle.seen_facts.proofs.Kept.States.{AreOfOwnStates}
+use Rattle.seen_facts.specs.Kept.Keeping.{kept_states}
 use Rattle.load_table.specs.Loads.{ongoing_load}
 use Rattle.load_table.specs.declared.load.Load.{Load}
-use Rattle.load_ties.specs.Tying.{TiesLoads}
+use Rattle.seen_facts.specs.LoadTies.Tying.{TiesLoads}
 use Rattle.log_model.specs.After.{after}
 use Rattle.log_model.specs.AfterDocuments.{addressed}
 use Rattle.log_model.specs.AfterPlaces.{sleepers_with}
@@ -32,7 +32,7 @@ use Rattle.log_model.specs.Seen.{Document, Seen}
 use Rattle.log_model.specs.declared.job.Job.{Job}
 use Rattle.log_model.specs.declared.job.Why.{Why}
 use Rattle.log_model.specs.declared.row_kind.RowKind.{RowKind}
-use Rattle.each_facts.specs.Runs.{is_run}
+use Rattle.seen_facts.specs.Each.Runs.{is_run}
 use Rattle.page_cache.specs.Kept.{without}
 use Rattle.seen_laws.proofs.InEvents.{IsQuiet}
 use Rattle.seen_laws.specs.InEvent.{InEvent, now_of, row_of}

@@ -12,13 +12,13 @@ use Rattle.tab_doors.specs.Look.{look_of, moved_by, sight}
 use Rattle.tab_doors.specs.Ties.{AreInitial, Holds, IsRunning}
 use Rattle.tab_doors.specs.Working.{HasGoal, IsAtWork, look_now}
 use Rattle.tab_doors.specs.declared.tables.Tables.{Tables}
-use Rattle.frame_rows.proofs.LawfulLaws.{lawful_more, lawful_plain}
-use Rattle.frame_rows.proofs.Takes.{denied_may, destroyed_may, moved_may}
-use Rattle.frame_rows.proofs.Turns.{IsTraversalBy, begin_may, nowhere_may, traversal_by}
-use Rattle.frame_rows.specs.Lawful.{AreLawful}
-use Rattle.kept_facts.specs.Keeping.{kept_states}
-use Rattle.load_ties.proofs.Ends.{HasEnded, dropped_ended, other_ends, refused_ended}
-use Rattle.load_ties.proofs.Rows.{begun_tied}
+use Rattle.row_facts.proofs.FrameRows.LawfulLaws.{lawful_more, lawful_plain}
+use Rattle.row_facts.proofs.FrameRows.Takes.{denied_may, destroyed_may, moved_may}
+use Rattle.row_facts.proofs.FrameRows.Turns.{IsTraversalBy, begin_may, nowhere_may, traversal_by}
+use Rattle.row_facts.specs.FrameRows.Lawful.{AreLawful}
+use Rattle.seen_facts.specs.Kept.Keeping.{kept_states}
+use Rattle.seen_facts.proofs.LoadTies.Ends.{HasEnded, dropped_ended, other_ends, refused_ended}
+use Rattle.seen_facts.proofs.LoadTies.Rows.{begun_tied}
 use Rattle.log_model.proofs.Refl.{nat_eq_refl}
 use Rattle.log_model.specs.After.{after, ended, states_after}
 use Rattle.log_model.specs.AfterRequests.{on_request, request_begun}
@@ -32,10 +32,10 @@ use Rattle.log_model.specs.declared.request.Request.{Request}
 use Rattle.log_model.specs.declared.row_kind.Actor.{Actor}
 use Rattle.log_model.specs.declared.row_kind.LogRow.{LogRow}
 use Rattle.log_model.specs.declared.row_kind.RowKind.{RowKind}
-use Rattle.each_facts.proofs.Courses.{runs_begun}
-use Rattle.each_facts.specs.Runs.{EachAsked, is_run, is_this}
-use Rattle.request_facts.proofs.LookUps.{on_itself}
-use Rattle.request_facts.proofs.Readers.{on_read}
+use Rattle.seen_facts.proofs.Each.Courses.{runs_begun}
+use Rattle.seen_facts.specs.Each.Runs.{EachAsked, is_run, is_this}
+use Rattle.seen_facts.proofs.Request.LookUps.{on_itself}
+use Rattle.seen_facts.proofs.Request.Readers.{on_read}
 use Rattle.seen_laws.proofs.InEvents.{led_here}
 use Rattle.seen_laws.specs.Blocks.{point_at}
 use Rattle.seen_laws.specs.InEvent.{InEvent, here_of, now_of, row_of}

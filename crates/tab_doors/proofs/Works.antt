@@ -1,6 +1,6 @@
 -- One row more that the coordinator puts out: what makes it go on working, and what orders leave of loads and of kept documents.
 use Rattle.seen_laws.specs.InEvent.{first_of}  -- keep
-use Rattle.each_facts.proofs.Courses.{was_asked}  -- keep
+use Rattle.seen_facts.proofs.Each.Courses.{was_asked}  -- keep
 use Rattle.tab_doors.proofs.Keeping.{states_on, states_shown}
 use Rattle.tab_doors.proofs.Requests.{runs_same}
 use Rattle.tab_doors.proofs.Whose.{proc_known, proc_same}
@@ -10,14 +10,14 @@ use Rattle.tab_doors.specs.Orders.{next_order, numbered_order, order_to, proc_at
 use Rattle.tab_doors.specs.Ties.{AreInitial, Holds, IsRunning, proc_in}
 use Rattle.tab_doors.specs.Working.{AreLawfulFor, HasGoal, IsAtWork, IsAtWorkFor}
 use Rattle.tab_doors.specs.declared.tables.Tables.{Tables}
-use Rattle.frame_rows.proofs.LawfulLaws.{keeps_held}
-use Rattle.frame_rows.specs.Lawful.{KeepsHeld}
-use Rattle.home_facts.proofs.Again.{all_more}
-use Rattle.kept_facts.proofs.States.{AreOfOwnStates, states_again, states_without}
-use Rattle.kept_facts.specs.Keeping.{AreKeptDocs, kept_states, state_in}
+use Rattle.row_facts.proofs.FrameRows.LawfulLaws.{keeps_held}
+use Rattle.row_facts.specs.FrameRows.Lawful.{KeepsHeld}
+use Rattle.seen_facts.proofs.Home.Again.{all_more}
+use Rattle.seen_facts.proofs.Kept.States.{AreOfOwnStates, states_again, states_without}
+use Rattle.seen_facts.specs.Kept.Keeping.{AreKeptDocs, kept_states, state_in}
 use Rattle.load_table.specs.declared.load.Load.{Load}
-use Rattle.load_ties.proofs.Rows.{KeepsThem, sent_tied}
-use Rattle.load_ties.specs.Tying.{TiesLoads}
+use Rattle.seen_facts.proofs.LoadTies.Rows.{KeepsThem, sent_tied}
+use Rattle.seen_facts.specs.LoadTies.Tying.{TiesLoads}
 use Rattle.log_model.specs.After.{after}
 use Rattle.log_model.specs.AfterDocuments.{new_document, on_document}
 use Rattle.log_model.specs.AfterPlaces.{without_doc}
@@ -27,9 +27,9 @@ use Rattle.log_model.specs.declared.job.Task.{Task}
 use Rattle.log_model.specs.declared.job.Why.{Why}
 use Rattle.log_model.specs.declared.row_kind.LogRow.{LogRow}
 use Rattle.log_model.specs.declared.row_kind.RowKind.{RowKind}
-use Rattle.each_facts.specs.Runs.{is_run}
+use Rattle.seen_facts.specs.Each.Runs.{is_run}
 use Rattle.page_cache.specs.Kept.{Kept, without}
-use Rattle.request_facts.proofs.Readers.{SameReads}
+use Rattle.seen_facts.proofs.Request.Readers.{SameReads}
 use Rattle.seen_laws.proofs.InEvents.{now_more}
 use Rattle.seen_laws.specs.Blocks.{Here, on_row, on_rows}
 use Rattle.seen_laws.specs.InEvent.{InEvent, here_of, now_of, row_of}

@@ -3,9 +3,9 @@
 use Rattle.log_model.specs.declared.change.Change.TheVariants as changes  -- keep
 use Rattle.tab_doors.specs.Look.{moved_by}
 use Rattle.entry_store.specs.Store.{MayTake}
-use Rattle.frame_rows.specs.Lawful.{KeepsHeld, held_at_first}
-use Rattle.frame_rows.specs.Taking.{IsDueNow, IsFree, IsPoked, IsTakenNow}
-use Rattle.leave_rows.specs.Fragments.{IsFragmentMade}
+use Rattle.row_facts.specs.FrameRows.Lawful.{KeepsHeld, held_at_first}
+use Rattle.row_facts.specs.FrameRows.Taking.{IsDueNow, IsFree, IsPoked, IsTakenNow}
+use Rattle.row_facts.specs.LeaveRows.Fragments.{IsFragmentMade}
 use Rattle.log_model.specs.AfterRequests.{changes_history}
 use Rattle.log_model.specs.Causes.{by_mover, denial_at_acceptance, denial_at_delivery, is_destroyed_by, takes_report}
 use Rattle.log_model.specs.Equal.{has_req}

@@ -1,14 +1,14 @@
 -- What a door asks of the ongoing loads and of the documents that are kept for traversal.
 -- HTML Standard, "Navigables" ("ongoing navigation") and "Documents kept for traversal"; that a document that is left is kept, and in which order, is this project's own.
-use Rattle.kept_facts.proofs.States.{AreOfOwnStates}
+use Rattle.seen_facts.proofs.Kept.States.{AreOfOwnStates}
 use Rattle.load_table.specs.Loads.{is_nav, ongoing_load}
 use Rattle.load_table.specs.declared.load.Load.{Load}
-use Rattle.load_ties.specs.Tying.{made_for}
+use Rattle.seen_facts.specs.LoadTies.Tying.{made_for}
 use Rattle.log_model.specs.AfterPlaces.{kept_leaving, without_doc}
 use Rattle.log_model.specs.Places.{is_ongoing_load}
 use Rattle.log_model.specs.Seen.{Asked, Document, Place, Seen, document_of, place_of, request_of}
 use Rattle.page_cache.specs.Kept.{left_first, without}
-use Rattle.kept_facts.specs.Keeping.{kept_states}
+use Rattle.seen_facts.specs.Kept.Keeping.{kept_states}
 use Rattle.std.specs.Prelude.{List, None, Option, Some, false, option_and_then, take, ℕ, ◌==◌, ◌∷◌, ◌≡◌}
 use Rattle.tab_ids.specs.declared.DocId.{DocId}
 use Rattle.tab_ids.specs.declared.NavId.{NavId}

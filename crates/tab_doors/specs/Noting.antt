@@ -3,7 +3,8 @@
 use Rattle.tab_doors.specs.declared.tables.Tables.{Tables}  -- keep
 use Rattle.tab_doors.specs.Ties.{AreInitial, nav_in, proc_in}
 use Rattle.address.specs.Addresses.{blank_text}
-use Rattle.load_table.specs.Loads.{is_populating, moved_on}
+use Rattle.load_table.specs.Loads.{is_populating, moved_on, ongoing_load}
+use Rattle.load_table.specs.declared.load.Load.{Load}
 use Rattle.load_table.specs.declared.phase.Phase.TheVariants as phases
 use Rattle.log_model.specs.Equal.{holds}
 use Rattle.log_model.specs.Opening.{opening_history}
@@ -11,13 +12,27 @@ use Rattle.nav_tree.specs.Tree.{Tree, is_nav, is_state, placed, top_node, with_n
 use Rattle.nav_tree.specs.declared.nav.Nav.{Nav}
 use Rattle.std.specs.Map.{lookup, remove_entry}
 use Rattle.std.specs.Option.{option_map_or}
-use Rattle.std.specs.Prelude.{Bool, List, None, Some, [], bytes_eq, if◌then◌else◌, length, true, ℕ, ◌==◌, ◌∷◌, ◌≡◌}
+use Rattle.std.specs.Prelude.{Bool, List, None, Option, Some, [], bytes_eq, find, if◌then◌else◌, length, option_and_then, true, ℕ, ◌==◌, ◌∷◌, ◌≡◌}
 use Rattle.step_index.specs.Held.{history_held}
 use Rattle.tab_ids.specs.declared.DocId.{DocId}
 use Rattle.tab_ids.specs.declared.JobId.{JobId}
 use Rattle.tab_ids.specs.declared.NavId.{NavId}
 use Rattle.tab_ids.specs.declared.ProcId.{ProcId}
+use Rattle.tab_ids.specs.declared.ReqId.{ReqId}
 use Rattle.tab_ids.specs.declared.StateId.{StateId}
+
+-- the request of the navigable's ongoing load, where that waits for the document
+abbrev pub waiting_in : List Load → NavId → DocId → Option ReqId
+waiting_in loads nav doc =
+    option_and_then (λ (load : Load). if is_populating doc load then Some load.req else None) (ongoing_load nav loads)
+
+-- the load that waits for the document, if one does, is the navigable's
+abbrev pub WaitsAt : NavId → List Load → DocId → Type 0
+WaitsAt nav loads doc = (load : Load) → find (is_populating doc) loads ≡ Some load → nav ≡ load.nav
+
+-- so it is of the navigable that the document was made for
+abbrev pub WaitsAtItsNav : Tables → DocId → Type 0
+WaitsAtItsNav t doc = (load : Load) → find (is_populating doc) t.loads ≡ Some load → nav_in t.whose.entries doc ≡ Some load.nav
 
 -- the document is made, and placed for its state, in its process
 pub record PlacesOne (state : StateId) (doc : DocId) (t u : Tables) : Type 0 where

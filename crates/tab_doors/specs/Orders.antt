@@ -4,7 +4,7 @@ use Rattle.nav_tree.specs.Tree.{document_of}  -- keep
 use Rattle.log_model.specs.Seen.{document_of as document_in_log}  -- keep
 use Rattle.tab_doors.specs.Keeping.{Move}
 use Rattle.tab_doors.specs.Look.{Sight, sight}
-use Rattle.hang_facts.specs.Members.{Has}
+use Rattle.seen_facts.specs.Hang.Members.{Has}
 use Rattle.load_table.specs.Loads.{ongoing_load}
 use Rattle.load_table.specs.declared.load.Load.{Load}
 use Rattle.log_model.specs.AfterPlaces.{sleepers_below, sleepers_with}
@@ -15,7 +15,7 @@ use Rattle.log_model.specs.declared.job.Task.{Task}
 use Rattle.log_model.specs.declared.job.Why.{Why}
 use Rattle.nav_tree.specs.Tree.{Tree, node_of}
 use Rattle.nav_tree.specs.declared.node.Node.{Node}
-use Rattle.each_facts.specs.Runs.{is_run}
+use Rattle.seen_facts.specs.Each.Runs.{is_run}
 use Rattle.seen_laws.specs.InEvent.{InEvent}
 use Rattle.seen_laws.specs.Sending.{IsShowDue, IsTo, is_passed}
 use Rattle.std.specs.Option.{option_map_or}

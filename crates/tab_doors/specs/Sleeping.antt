@@ -2,7 +2,7 @@
 -- This project's own; "asleep" is this project's word.
 use Rattle.std.specs.Prelude.{Bool, List, Option, [], ◌∷◌, ◌||◌, false, fold}
 use Rattle.std.specs.Option.{IsSome}
-use Rattle.each_facts.specs.Runs.{is_this}
+use Rattle.seen_facts.specs.Each.Runs.{is_this}
 use Rattle.tab_ids.specs.declared.NavId.{NavId}
 use Rattle.tab_ids.specs.declared.ReqId.{ReqId}
 use Rattle.log_model.specs.declared.job.Why.{Why}

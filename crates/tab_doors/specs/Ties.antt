@@ -2,14 +2,14 @@
 -- This project's own. Navigables and active documents are the HTML Standard's ("Navigables").
 use Rattle.apply_plan.specs.Needs.{is_pending}
 use Rattle.tab_doors.specs.Look.{Look, Sight, is_live_for, is_made_for, sight_in}
-use Rattle.hang_facts.specs.Members.{Has}
+use Rattle.seen_facts.specs.Hang.Members.{Has}
 use Rattle.log_model.specs.History.{History, has_nav}
 use Rattle.log_model.specs.Order.{SameHistory}
 use Rattle.log_model.specs.Seen.{Asked, Place, Status, asleep, awake, lost, place_in, request_in}
 use Rattle.nav_tree.specs.Tree.{document_of, Tree, is_nav, is_state, node_of}
 use Rattle.nav_tree.specs.declared.node.Node.{Node}
 use Rattle.nav_tree.specs.declared.status.NavStatus.{NavStatus}
-use Rattle.each_facts.specs.Runs.{EachAsked, is_run, is_this}
+use Rattle.seen_facts.specs.Each.Runs.{EachAsked, is_run, is_this}
 use Rattle.std.specs.List.{list_any}
 use Rattle.std.specs.Map.{lookup}
 use Rattle.std.specs.Prelude.{Bool, List, None, Option, Some, [], false, is_some, length, map, option_and_then, option_map, slice_get, true, ℕ, ◌+◌, ◌==◌, ◌∷◌, ◌≡◌}

@@ -4,9 +4,9 @@ use Rattle.tab_doors.specs.Look.{Look, look_of}
 use Rattle.tab_doors.specs.Keeping.{Move, kept_in}
 use Rattle.tab_doors.specs.Ties.{AreInitial, Holds, IsRunning}
 use Rattle.tab_doors.specs.declared.tables.Tables.{Tables}
-use Rattle.frame_rows.specs.Lawful.{IsRestOf}
-use Rattle.kept_facts.specs.Keeping.{kept_states}
-use Rattle.load_ties.specs.Tying.{TiesLoads}
+use Rattle.row_facts.specs.FrameRows.Lawful.{IsRestOf}
+use Rattle.seen_facts.specs.Kept.Keeping.{kept_states}
+use Rattle.seen_facts.specs.LoadTies.Tying.{TiesLoads}
 use Rattle.log_model.specs.Seen.{Asked, request_in}
 use Rattle.log_model.specs.declared.job.Job.{Job}
 use Rattle.log_model.specs.declared.job.Task.{Task}

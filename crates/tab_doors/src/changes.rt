@@ -8,7 +8,7 @@ ghost use Rattle.log_model.specs.Order.{SameHistory};
 ghost use Rattle.log_model.specs.Places.{holder_of};
 ghost use Rattle.log_model.specs.Seen.{place_of};
 ghost use Rattle.log_model.specs.History.{History};
-ghost use Rattle.each_facts.specs.Runs.{is_this};
+ghost use Rattle.seen_facts.specs.Each.Runs.{is_this};
 ghost use Rattle.nav_tree.specs.Tree.{node_of};
 ghost use Rattle.step_index.specs.Held.{history_held};
 ghost use Rattle.seen_laws.specs.InEvent.{InEvent, now_of};

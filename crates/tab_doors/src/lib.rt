@@ -10,5 +10,6 @@ mod turns;
 
 pub use birth::Birth;
 pub use changes::destroy_each;
+pub use notes::waiting_for;
 pub use orders::count_order;
 pub use tables::Tables;

@@ -1,8 +1,10 @@
 //! How the tables begin, and what they note of a report as it is delivered.
 ghost use Rattle.std.specs.Prelude.{ℕ, ◌≡◌, ◌∷◌, [], IfOk, OnOk, Some, IsSome, bytes_eq, if◌then◌else◌};
 ghost use Rattle.address.specs.Addresses.{blank_text};
+ghost use Rattle.load_table.specs.Loads.{HasOneEach, is_populating, moved_on};
+ghost use Rattle.load_table.specs.declared.phase.Phase.TheVariants as phases;
 ghost use Rattle.nav_tree.specs.Tree.{node_of};
-ghost use Rattle.tab_doors.specs.Noting.{IsBare, IsFresh, PlacesOne, is_last, shown_tree};
+ghost use Rattle.tab_doors.specs.Noting.{IsBare, IsFresh, PlacesOne, WaitsAt, WaitsAtItsNav, is_last, shown_tree, waiting_in};
 ghost use Rattle.tab_doors.specs.Ties.{AreInitial, nav_in, proc_in};
 ghost use Rattle.tab_doors.specs.Working.{KeepsRun};
 
@@ -10,12 +12,12 @@ use crate::birth::Birth;
 use crate::tables::Tables;
 use address::{Address, OutOfMemory};
 use indexmap::IndexMap;
-use load_table::LoadTable;
+use load_table::{LoadTable, Phase};
 use nav_tree::NavTree;
 use page_cache::PageCache;
 use std::alloc::Global;
 use step_index::StepIndex;
-use tab_ids::{DocId, JobId, NavId, ProcId, StateId, Step};
+use tab_ids::{DocId, JobId, NavId, ProcId, ReqId, StateId, Step};
 
 /// Notes the document state of the first document, where that is an initial about:blank one.
 fn note_initial(states: &mut IndexMap<StateId, ()>, first: &Address) -> Result<(), OutOfMemory>
@@ -68,6 +70,36 @@ fn note_first(tables: &mut Tables, first: &Address, proc: ProcId) -> Result<(), 
     Ok(())
 }
 
+/// The request of the navigable's ongoing load, where that waits for the document.
+pub fn waiting_for(loads: &LoadTable, nav: NavId, doc: DocId) -> Option<ReqId>
+    ensures req { result ≡ waiting_in loads.now nav doc }
+    ensures one_each { HasOneEach loads.now }
+{
+    match loads.of(nav) {
+        Some(load) => match load.phase {
+            Phase::Populating(made) => {
+                if made.0 == doc.0 {
+                    Some(load.req)
+                } else {
+                    None
+                }
+            }
+            Phase::Asking | Phase::Ready(_) => None,
+        },
+        None => None,
+    }
+}
+
+/// The load that waits for a document, if one does, is ready; it is the navigable's.
+fn make_ready(loads: &mut LoadTable, nav: NavId, doc: DocId)
+    requires { WaitsAt nav loads.old doc }
+    ensures { loads.new ≡ moved_on (is_populating doc) (phases.Ready doc) loads.old }
+{
+    if waiting_for(loads, nav, doc).is_some() {
+        loads.ready(nav, doc);
+    }
+}
+
 impl Tables {
     /// The tables of a tab that was just opened at an address, with its document in a process; at most `keep` documents are to be kept for traversal.
     pub fn fresh(
@@ -83,16 +115,28 @@ impl Tables {
         Ok(tables)
     }
 
+    /// The load that waits for a document, if one does, is ready. It is looked up by the document's navigable, and no table is walked.
+    fn ready_load(&mut self, doc: DocId)
+        requires { WaitsAtItsNav self.old doc }
+        ensures { self.new ≡ record self.old { loads = moved_on (is_populating doc) (phases.Ready doc) self.old.loads } }
+    {
+        match self.nav_of(doc) {
+            Some(nav) => make_ready(&mut self.loads, nav, doc),
+            None => {}
+        }
+    }
+
     /// The document is made: it is there for its document state, in the process to which its order went, and no longer being made. The load that waits for it, if one does, is ready.
     pub fn note_made(&mut self, state: StateId, doc: DocId) -> Result<(), OutOfMemory>
-        requires { IsSome (proc_in self.old.whose.entries doc) }
+        requires known { IsSome (proc_in self.old.whose.entries doc) }
+        requires waits { WaitsAtItsNav self.old doc }
         ensures placed { OnOk result (PlacesOne state doc self.old self.new) }
         ensures kept { OnOk result (KeepsRun self.old self.new) }
     {
         let proc = self.proc_there(doc);
         self.tree.place(state, doc, proc, None)?;
         self.making.shift_remove(&state);
-        self.loads.populated(doc);
+        self.ready_load(doc);
         Ok(())
     }
 

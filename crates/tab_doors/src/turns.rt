@@ -3,7 +3,7 @@ ghost use Rattle.std.specs.Prelude.{◌≡◌, ◌++◌, ◌∷◌, [], false, O
 ghost use Rattle.log_model.specs.declared.outcome.Cause.TheVariants as drops;
 ghost use Rattle.log_model.specs.declared.outcome.Denial.TheVariants as denials;
 ghost use Rattle.log_model.specs.declared.row_kind.RowKind.TheVariants as rows;
-ghost use Rattle.each_facts.specs.Runs.{is_this};
+ghost use Rattle.seen_facts.specs.Each.Runs.{is_this};
 ghost use Rattle.seen_laws.specs.InEvent.{InEvent, now_of};
 ghost use Rattle.tab_doors.specs.Dues.{IsBeginDue, IsNowhere, IsDenyDue, IsDestroyDue, IsDropDue};
 ghost use Rattle.tab_doors.specs.Keeping.{IsNoLoad};

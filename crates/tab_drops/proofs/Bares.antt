@@ -1,10 +1,10 @@
 -- Who has no entry by the tables has none in the log; and a load of such a navigable may be dropped by the request that took the last ones.
-use Rattle.frame_rows.proofs.LawfulLaws.{ends_other}
-use Rattle.frame_rows.specs.Taking.{IsFree}
-use Rattle.hang_facts.proofs.Forms.{nav_is}
-use Rattle.hang_facts.proofs.Members.{any_has, has_any}
-use Rattle.hang_facts.proofs.Targets.{some_is, target_has, target_there}
-use Rattle.hang_facts.specs.Members.{Has}
+use Rattle.row_facts.proofs.FrameRows.LawfulLaws.{ends_other}
+use Rattle.row_facts.specs.FrameRows.Taking.{IsFree}
+use Rattle.seen_facts.proofs.Hang.Forms.{nav_is}
+use Rattle.seen_facts.proofs.Hang.Members.{any_has, has_any}
+use Rattle.seen_facts.proofs.Hang.Targets.{some_is, target_has, target_there}
+use Rattle.seen_facts.specs.Hang.Members.{Has}
 use Rattle.load_table.specs.Loads.{ongoing_load}
 use Rattle.load_table.specs.declared.load.Load.{Load}
 use Rattle.log_model.proofs.Refl.{nat_eq_refl}
@@ -18,10 +18,10 @@ use Rattle.log_model.specs.declared.row.Row.{Row}
 use Rattle.log_model.specs.declared.row_kind.RowKind.{RowKind}
 use Rattle.nav_tree.specs.Tree.{node_of}
 use Rattle.nav_tree.specs.declared.node.Node.{Node}
-use Rattle.owed_facts.proofs.Ends.{loose_more, owed_more}
-use Rattle.owed_facts.proofs.Rows.{dropped_lasts, dropped_stays, reckoned_now}
-use Rattle.owed_facts.specs.Owed.{IsLoose, IsOwed}
-use Rattle.coord_facts.proofs.Unread.{next}
+use Rattle.row_facts.proofs.Owed.Ends.{loose_more, owed_more}
+use Rattle.row_facts.proofs.Owed.Rows.{dropped_lasts, dropped_stays, reckoned_now}
+use Rattle.row_facts.specs.Owed.Owed.{IsLoose, IsOwed}
+use Rattle.seen_facts.proofs.Coord.Unread.{next}
 use Rattle.seen_laws.specs.InEvent.{here_of, now_of}
 use Rattle.std.proofs.Common.{Bool, List, None, Option, Some, [], ap, arith, false, length, not, refl, subst, sym, true, ◌+◌, ◌++◌, ◌<◌, ◌==◌, ◌∙◌, ◌∷◌, ◌≡◌, ◌≤◌}
 use Rattle.std.specs.List.{list_any}
@@ -43,8 +43,8 @@ use Rattle.tab_moves.specs.PassedOn.{IsPassing, count_of, has_ended}
 use Rattle.tab_ids.specs.declared.NavId.{NavId}
 use Rattle.tab_ids.specs.declared.ReqId.{ReqId}
 use Rattle.tab_moves.specs.Moving.{InPass}
-use Rattle.walk_facts.proofs.Placed.{found_nav}
-use Rattle.walk_rows.proofs.Needs.{dropped_stood}
+use Rattle.seen_facts.proofs.Walk.Placed.{found_nav}
+use Rattle.row_facts.proofs.WalkRows.Needs.{dropped_stood}
 use Rattle.log_model.specs.declared.outcome.Cause.TheVariants as causes
 use Rattle.log_model.specs.declared.row_kind.RowKind.TheVariants as rows
 

@@ -1,8 +1,8 @@
 -- A load is dropped for the traversal that runs, or for a load that was applied: each end pays it that undoes nothing which orders leave; and not all stand.
-use Rattle.coord_facts.proofs.Unread.{next}
-use Rattle.each_facts.specs.Runs.{is_run, is_this}
-use Rattle.load_rows.proofs.Drops.{displaced_at, off_at}
-use Rattle.load_rows.specs.Dropping.{IsLoadBy, IsMovedBy, IsStillMovedBy}
+use Rattle.seen_facts.proofs.Coord.Unread.{next}
+use Rattle.seen_facts.specs.Each.Runs.{is_run, is_this}
+use Rattle.row_facts.proofs.LoadRows.Drops.{displaced_at, off_at}
+use Rattle.row_facts.specs.LoadRows.Dropping.{IsLoadBy, IsMovedBy, IsStillMovedBy}
 use Rattle.log_model.proofs.Refl.{nat_eq_refl}
 use Rattle.log_model.specs.Causes.{changed_one_of, nav_of_change}
 use Rattle.log_model.specs.Equal.{holds}
@@ -14,10 +14,10 @@ use Rattle.log_model.specs.declared.change.Change.{Change}
 use Rattle.log_model.specs.declared.outcome.Cause.{Cause}
 use Rattle.log_model.specs.declared.outcome.Ending.{Ending}
 use Rattle.log_model.specs.declared.row_kind.RowKind.{RowKind}
-use Rattle.owed_facts.proofs.Drops.{moved_owes, still_moved_owes}
-use Rattle.owed_facts.proofs.Ends.{owed_more}
-use Rattle.owed_facts.proofs.Rows.{dropped_stays, reckoned_now}
-use Rattle.owed_facts.specs.Owed.{IsLoose, IsOwed}
+use Rattle.row_facts.proofs.Owed.Drops.{moved_owes, still_moved_owes}
+use Rattle.row_facts.proofs.Owed.Ends.{owed_more}
+use Rattle.row_facts.proofs.Owed.Rows.{dropped_stays, reckoned_now}
+use Rattle.row_facts.specs.Owed.Owed.{IsLoose, IsOwed}
 use Rattle.seen_laws.specs.Blocks.{point_at}
 use Rattle.seen_laws.specs.InEvent.{here_of, now_of}
 use Rattle.std.proofs.Common.{List, None, Option, Some, [], ap, false, inl, inr, refl, sym, true, ℕ, ◌++◌, ◌∙◌, ◌∷◌, ◌≡◌, ◌⊎◌}
@@ -36,7 +36,7 @@ use Rattle.tab_moves.proofs.Needing.{aim_is}
 use Rattle.tab_moves.specs.PassedOn.{IsPassing}
 use Rattle.tab_moves.specs.Moving.{InPass}
 use Rattle.tab_moves.specs.Showing.{aim_in}
-use Rattle.walk_rows.proofs.Needs.{dropped_stood, need_not_all_stand, need_stands_not}
+use Rattle.row_facts.proofs.WalkRows.Needs.{dropped_stood, need_not_all_stand, need_stands_not}
 use Rattle.log_model.specs.declared.outcome.Cause.TheVariants as causes
 use Rattle.log_model.specs.declared.row_kind.RowKind.TheVariants as rows
 

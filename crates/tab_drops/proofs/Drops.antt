@@ -1,13 +1,13 @@
 -- An ongoing load is dropped: what that asks, that all goes on then, and that all else is as it was.
-use Rattle.coord_facts.proofs.Held.{on_else, without_same}
-use Rattle.coord_facts.proofs.Unread.{next}
-use Rattle.each_facts.specs.Runs.{is_this}
-use Rattle.entry_facts.proofs.Skips.{without_made}
-use Rattle.frame_facts.specs.Lasting.{wish}
+use Rattle.seen_facts.proofs.Coord.Held.{on_else, without_same}
+use Rattle.seen_facts.proofs.Coord.Unread.{next}
+use Rattle.seen_facts.specs.Each.Runs.{is_this}
+use Rattle.seen_facts.proofs.Entry.Skips.{without_made}
+use Rattle.tab_facts.specs.Frame.Lasting.{wish}
 use Rattle.tab_moves.proofs.PassedOn.{IsUnheld, at_most_once, dropped_going, dropped_lasting, dropped_tab, unheld_end, unheld_hand, unheld_loads, way_unheld}
 use Rattle.load_doors.specs.Loading.{IsOpenHere}
-use Rattle.load_facts.specs.Loading.{Look, is_ongoing, look, look_of}
-use Rattle.load_whereabouts.specs.Whereabouts.{times_on_way}
+use Rattle.seen_facts.specs.Load.Loading.{Look, is_ongoing, look, look_of}
+use Rattle.seen_facts.specs.LoadWhereabouts.Whereabouts.{times_on_way}
 use Rattle.log_model.specs.Checks.{may_go_on}
 use Rattle.log_model.specs.Equal.{has_req, holds}
 use Rattle.log_model.specs.Places.{aim_of, all_stand, is_gone, is_load, is_ongoing_load, is_traversal}
@@ -15,15 +15,15 @@ use Rattle.log_model.specs.Seen.{Asked, Seen, request_in, request_of}
 use Rattle.log_model.specs.declared.made.Made.{Made}
 use Rattle.log_model.specs.declared.outcome.Cause.{Cause}
 use Rattle.log_model.specs.declared.row_kind.RowKind.{RowKind}
-use Rattle.owed_facts.proofs.Aims.{ended_aim}
-use Rattle.owed_facts.proofs.Requests.{req_same}
-use Rattle.owed_facts.proofs.Rows.{IsIdle, dropped_lasts, dropped_stays, load_idle, reckoned_now}
-use Rattle.owed_facts.specs.Owed.{IsLoose, IsOwed}
-use Rattle.request_facts.proofs.LookUps.{on_itself}
-use Rattle.request_facts.proofs.Readers.{on_read, reads_then}
-use Rattle.request_facts.proofs.Times.{times_none}
-use Rattle.rest_rows.proofs.Rows.{dropped_rests}
-use Rattle.rest_rows.specs.Moving.{AllRest}
+use Rattle.row_facts.proofs.Owed.Aims.{ended_aim}
+use Rattle.row_facts.proofs.Owed.Requests.{req_same}
+use Rattle.row_facts.proofs.Owed.Rows.{IsIdle, dropped_lasts, dropped_stays, load_idle, reckoned_now}
+use Rattle.row_facts.specs.Owed.Owed.{IsLoose, IsOwed}
+use Rattle.seen_facts.proofs.Request.LookUps.{on_itself}
+use Rattle.seen_facts.proofs.Request.Readers.{on_read, reads_then}
+use Rattle.seen_facts.proofs.Request.Times.{times_none}
+use Rattle.row_facts.proofs.RestRows.Rows.{dropped_rests}
+use Rattle.row_facts.specs.RestRows.Moving.{AllRest}
 use Rattle.seen_laws.proofs.InEvents.{now_more}
 use Rattle.seen_laws.specs.InEvent.{now_of}
 use Rattle.std.proofs.Common.{Bool, List, None, Option, Some, [], ap, arith, false, inr, length, refl, subst, sym, true, ℕ, ◌&&◌, ◌++◌, ◌<◌, ◌==◌, ◌∙◌, ◌∷◌, ◌≡◌, ◌≤◌}
@@ -38,7 +38,7 @@ use Rattle.tab_ids.specs.declared.ReqId.{ReqId}
 use Rattle.tab_moves.proofs.Frees.{goes_on}
 use Rattle.tab_moves.specs.PassedOn.{IsPassing, IsTab, MayServe}
 use Rattle.tab_moves.specs.Moving.{InPass}
-use Rattle.walk_rows.proofs.Moved.{dropped_moved}
+use Rattle.row_facts.proofs.WalkRows.Moved.{dropped_moved}
 use Rattle.log_model.specs.declared.outcome.Ending.TheVariants as endings
 use Rattle.log_model.specs.declared.row_kind.RowKind.TheVariants as rows
 

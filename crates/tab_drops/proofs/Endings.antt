@@ -1,5 +1,5 @@
 -- A request that had its outcome before an event has it still: so one that runs hadn't.
-use Rattle.coord_facts.proofs.Held.{on_else}
+use Rattle.seen_facts.proofs.Coord.Held.{on_else}
 use Rattle.log_model.specs.After.{after, ended}
 use Rattle.log_model.specs.AfterRequests.{entries_taken, request_begun}
 use Rattle.log_model.specs.Equal.{holds}
@@ -8,9 +8,9 @@ use Rattle.log_model.specs.Seen.{Asked, Seen, desk_of, request_in, request_of}
 use Rattle.log_model.specs.declared.outcome.Ending.{Ending}
 use Rattle.log_model.specs.declared.row_kind.LogRow.{LogRow}
 use Rattle.log_model.specs.declared.row_kind.RowKind.{RowKind}
-use Rattle.owed_facts.proofs.Requests.{req_same}
-use Rattle.request_facts.proofs.LookUps.{on_itself}
-use Rattle.request_facts.proofs.Readers.{IsBlind, SameReads, delivered_reads, finished_reads, on_read, reads_then, sent_reads}
+use Rattle.row_facts.proofs.Owed.Requests.{req_same}
+use Rattle.seen_facts.proofs.Request.LookUps.{on_itself}
+use Rattle.seen_facts.proofs.Request.Readers.{IsBlind, SameReads, delivered_reads, finished_reads, on_read, reads_then, sent_reads}
 use Rattle.seen_laws.specs.Blocks.{Here, on_row, on_rows, point_at}
 use Rattle.seen_laws.specs.InEvent.{InEvent, first_of, here_of, now_of, row_of}
 use Rattle.std.proofs.Common.{Bool, List, None, Option, Some, [], ap, cond, false, map, refl, subst, sym, true, zero, suc, ℕ, ◌++◌, ◌-◌, ◌==◌, ◌∙◌, ◌∷◌, ◌≡◌}

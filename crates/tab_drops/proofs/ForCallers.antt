@@ -1,21 +1,21 @@
 -- What callers can give: that no ongoing load was held back as the event began, that the navigable of each has a place, and that it stands, has no entry or is in need where all stand.
-use Rattle.load_ends.specs.Standing.{LoadsStand, is_reached}
-use Rattle.coord_facts.proofs.Unread.{next}
+use Rattle.seen_facts.specs.LoadEnds.Standing.{LoadsStand, is_reached}
+use Rattle.seen_facts.proofs.Coord.Unread.{next}
 use Rattle.log_model.specs.After.{changed, has_stood_after, has_stood_now, is_new_step}
 use Rattle.log_model.specs.AfterRequests.{entries_taken, on_request}
 use Rattle.log_model.specs.Causes.{nav_of_change}
 use Rattle.log_model.specs.declared.change.Change.{Change}
 use Rattle.log_model.specs.declared.request.Request.{Request}
 use Rattle.log_model.specs.declared.row_kind.Actor.{Actor}
-use Rattle.request_facts.proofs.LookUps.{on_itself}
-use Rattle.walk_rows.proofs.Needs.{need_not_all_stand}
-use Rattle.walk_rows.specs.Since.{IsVisitedInNeed}
+use Rattle.seen_facts.proofs.Request.LookUps.{on_itself}
+use Rattle.row_facts.proofs.WalkRows.Needs.{need_not_all_stand}
+use Rattle.row_facts.specs.WalkRows.Since.{IsVisitedInNeed}
 use Rattle.log_model.specs.Equal.{holds}
 use Rattle.log_model.specs.Places.{aim_of, all_stand, is_load, is_ongoing_load, is_reload}
 use Rattle.log_model.specs.Points.{nav_of_request}
 use Rattle.log_model.specs.Seen.{Asked, Place, Seen, place_of, request_of}
-use Rattle.hang_facts.specs.Members.{Has}
-use Rattle.rest_facts.proofs.Stands.{request_has}
+use Rattle.seen_facts.specs.Hang.Members.{Has}
+use Rattle.seen_facts.proofs.Rest.Stands.{request_has}
 use Rattle.seen_laws.specs.InEvent.{now_of}
 use Rattle.std.proofs.Common.{Bool, List, Option, Some, [], ap, false, inl, inr, not, refl, sym, true, ◌||◌, ◌∙◌, ◌∷◌, ◌≡◌, ◌⊎◌, ℕ}
 use Rattle.std.proofs.lemmas.Bool.{and_parts, or_right}
@@ -29,7 +29,7 @@ use Rattle.tab_ids.specs.declared.NavId.{NavId}
 use Rattle.tab_ids.specs.declared.ReqId.{ReqId}
 use Rattle.tab_moves.specs.PassedOn.{IsPassing, IsTab}
 use Rattle.tab_moves.specs.Moving.{InPass}
-use Rattle.doc_facts.specs.Docs.{HasPlace}
+use Rattle.seen_facts.specs.Doc.Docs.{HasPlace}
 use Rattle.log_model.specs.declared.made.Made.{Made}
 use Rattle.log_model.specs.declared.outcome.Ending.TheVariants as endings
 use Rattle.log_model.specs.declared.row_kind.RowKind.TheVariants as rows

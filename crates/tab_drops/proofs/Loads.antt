@@ -1,7 +1,7 @@
 -- An ongoing load of a navigable: its request, and what others there are.
-use Rattle.hang_facts.proofs.Forms.{nav_is}
-use Rattle.load_facts.specs.Loading.{AreLoading, Look, is_ongoing, look}
-use Rattle.load_ties.specs.Tying.{HasLoad, TiesLoads}
+use Rattle.seen_facts.proofs.Hang.Forms.{nav_is}
+use Rattle.seen_facts.specs.Load.Loading.{AreLoading, Look, is_ongoing, look}
+use Rattle.seen_facts.specs.LoadTies.Tying.{HasLoad, TiesLoads}
 use Rattle.load_table.specs.declared.load.Load.{Load}
 use Rattle.log_model.specs.Once.{loads}
 use Rattle.log_model.specs.Places.{is_load, is_ongoing_load}

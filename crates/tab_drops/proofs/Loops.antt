@@ -8,7 +8,7 @@ use Rattle.tab_doors.specs.Working.{KeepsStore}
 use Rattle.tab_doors.specs.declared.tables.Tables.{Tables}
 use Rattle.tab_drops.proofs.Spans.{drops_end, drops_next, drops_only, unheld_on}
 use Rattle.tab_drops.proofs.Turns.{applied_on, bare_back, bare_on, below_back, below_drop_back, below_on, destroyed_back, entries_then, all_stand_then, moved_drop_back, placed_on, stand_then, unsettled_back, unsettled_on}
-use Rattle.load_ends.specs.Standing.{LoadsStand}
+use Rattle.seen_facts.specs.LoadEnds.Standing.{LoadsStand}
 use Rattle.tab_drops.specs.Dropping.{ArePlaced, AreUnheld, EndsLoads, HasOnlyDestroyed, HasOnlyDroppedBy, HaveEntries, IsBare, IsBelowNav, IsDestroyedLoad, IsDroppedFor, IsLoadApplied, IsUnsettled, StandOrBare, StandOrMove}
 use Rattle.tab_drops.specs.Listing.{AreListed}
 use Rattle.tab_drops.specs.Turns.{IsDropping, IsTurnAt}

@@ -1,9 +1,9 @@
 -- One load is dropped, for another request or by the one that took the entries: what its door asks, and what is so then.
-use Rattle.each_facts.specs.Runs.{is_this}
+use Rattle.seen_facts.specs.Each.Runs.{is_this}
 use Rattle.load_doors.specs.Loading.{IsOpenHere}
 use Rattle.load_table.specs.Loads.{ongoing_load}
 use Rattle.load_table.specs.declared.load.Load.{Load}
-use Rattle.load_ties.specs.Tying.{HasLoad}
+use Rattle.seen_facts.specs.LoadTies.Tying.{HasLoad}
 use Rattle.log_model.specs.Seen.{Seen}
 use Rattle.log_model.specs.declared.row_kind.RowKind.{RowKind}
 use Rattle.seen_laws.specs.InEvent.{now_of}

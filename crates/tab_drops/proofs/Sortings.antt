@@ -1,14 +1,14 @@
 -- Navigables put under the numbers of their loads' requests: each under its own, in their order.
-use Rattle.hang_facts.proofs.Forms.{nav_is}
-use Rattle.hang_facts.proofs.Members.{has_more, slice_has}
-use Rattle.hang_facts.specs.Members.{Has}
+use Rattle.seen_facts.proofs.Hang.Forms.{nav_is}
+use Rattle.seen_facts.proofs.Hang.Members.{has_more, slice_has}
+use Rattle.seen_facts.specs.Hang.Members.{Has}
 use Rattle.load_table.specs.Loads.{ongoing_load}
 use Rattle.load_table.specs.declared.load.Load.{Load}
 use Rattle.nav_tree.proofs.Lists.{take-slice_get}
 use Rattle.nav_tree.specs.Tree.{Tree, is_nav, node_of}
 use Rattle.nav_tree.specs.declared.node.Node.{Node}
 use Rattle.apply_plan.specs.Order.{made_in}
-use Rattle.rest_facts.proofs.Stands.{get_of}
+use Rattle.seen_facts.proofs.Rest.Stands.{get_of}
 use Rattle.std.proofs.Common.{Bool, List, None, Option, Some, [], ap, arith, cond, false, inl, inr, length, map, refl, subst, suc, sym, take, true, zero, ℕ, ◌++◌, ◌+◌, ◌<◌, ◌==◌, ◌∙◌, ◌∷◌, ◌≡◌, ◌≤◌, ◌⊎◌}
 use Rattle.std.proofs.lemmas.Bool.Decides.{nat_tests}
 use Rattle.std.proofs.lemmas.List.{take_all}

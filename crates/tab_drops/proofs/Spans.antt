@@ -1,5 +1,5 @@
 -- Loads that give way, one navigable after the other: what was put out, in which order, and what is left in the end.
-use Rattle.hang_facts.specs.Members.{Has}
+use Rattle.seen_facts.specs.Hang.Members.{Has}
 use Rattle.load_table.specs.Loads.{ongoing_load}
 use Rattle.load_table.specs.declared.load.Load.{Load}
 use Rattle.log_model.specs.Seen.{Place, Seen, place_of, request_of}

@@ -1,10 +1,10 @@
 -- One navigable's turn: its load is dropped, it has none, or it isn't one to give way; and what is said of it as of an earlier row.
-use Rattle.hang_facts.proofs.Forms.{nav_is}
-use Rattle.hang_facts.proofs.Members.{find_has}
-use Rattle.load_ends.specs.Standing.{LoadsStand, is_reached}
+use Rattle.seen_facts.proofs.Hang.Forms.{nav_is}
+use Rattle.seen_facts.proofs.Hang.Members.{find_has}
+use Rattle.seen_facts.specs.LoadEnds.Standing.{LoadsStand, is_reached}
 use Rattle.load_table.specs.Loads.{is_of, ongoing_load}
 use Rattle.load_table.specs.declared.load.Load.{Load}
-use Rattle.load_ties.specs.Tying.{IsLoadTied, TiesLoads}
+use Rattle.seen_facts.specs.LoadTies.Tying.{IsLoadTied, TiesLoads}
 use Rattle.log_model.proofs.Refl.{nat_eq_refl}
 use Rattle.log_model.specs.Equal.{holds}
 use Rattle.log_model.specs.Once.{loads}
@@ -15,9 +15,9 @@ use Rattle.log_model.specs.History.{History, has_nav, has_row}
 use Rattle.log_model.specs.declared.outcome.Cause.{Cause}
 use Rattle.log_model.specs.declared.request.Request.{Request}
 use Rattle.log_model.specs.declared.row_kind.RowKind.{RowKind}
-use Rattle.mover_facts.specs.Movers.{AllUnasked}
-use Rattle.owed_facts.proofs.Requests.{req_same}
-use Rattle.rest_facts.proofs.Stands.{all_requests}
+use Rattle.seen_facts.specs.Mover.Movers.{AllUnasked}
+use Rattle.row_facts.proofs.Owed.Requests.{req_same}
+use Rattle.seen_facts.proofs.Rest.Stands.{all_requests}
 use Rattle.seen_laws.proofs.InEvents.{now_more}
 use Rattle.seen_laws.specs.InEvent.{now_of}
 use Rattle.std.proofs.Common.{Bool, List, None, Option, Some, [], ap, false, inl, inr, not, refl, subst, sym, true, ℕ, ◌&&◌, ◌++◌, ◌==◌, ◌||◌, ◌∙◌, ◌∷◌, ◌≡◌, ◌⊎◌}
@@ -36,8 +36,8 @@ use Rattle.tab_ids.specs.declared.NavId.{NavId}
 use Rattle.tab_ids.specs.declared.ReqId.{ReqId}
 use Rattle.tab_moves.specs.PassedOn.{IsPassing}
 use Rattle.tab_moves.specs.Moving.{InPass}
-use Rattle.walk_facts.specs.Serving.{is_needing, is_stopping}
-use Rattle.walk_rows.specs.Since.{IsVisitedInNeed}
+use Rattle.seen_facts.specs.Walk.Serving.{is_needing, is_stopping}
+use Rattle.row_facts.specs.WalkRows.Since.{IsVisitedInNeed}
 use Rattle.log_model.specs.declared.request.Request.TheVariants as requests
 use Rattle.log_model.specs.declared.row_kind.RowKind.TheVariants as rows
 

@@ -3,11 +3,11 @@ use Rattle.apply_plan.proofs.Walks.{up_none}
 use Rattle.apply_plan.specs.Needs.{need_of}
 use Rattle.apply_plan.specs.Order.{parent_in, rest}
 use Rattle.apply_plan.specs.declared.need.Need.{Need}
-use Rattle.hang_facts.proofs.Forms.{nav_is}
-use Rattle.hang_facts.proofs.Hung.{place_chain}
-use Rattle.hang_facts.proofs.Members.{any_has, find_has, has_any}
-use Rattle.hang_facts.specs.AsPlaces.{IsChain}
-use Rattle.hang_facts.specs.Members.{Has}
+use Rattle.seen_facts.proofs.Hang.Forms.{nav_is}
+use Rattle.seen_facts.proofs.Hang.Hung.{place_chain}
+use Rattle.seen_facts.proofs.Hang.Members.{any_has, find_has, has_any}
+use Rattle.seen_facts.specs.Hang.AsPlaces.{IsChain}
+use Rattle.seen_facts.specs.Hang.Members.{Has}
 use Rattle.log_model.proofs.Refl.{nat_eq_refl}
 use Rattle.log_model.specs.History.{has_nav}
 use Rattle.log_model.specs.Places.{aim_of, is_below, is_shown, way_of}
@@ -16,7 +16,7 @@ use Rattle.log_model.specs.declared.row_kind.RowKind.{RowKind}
 use Rattle.nav_tree.specs.Tree.{node_of}
 use Rattle.nav_tree.specs.declared.node.Node.{Node}
 use Rattle.plan_laws.proofs.NeedLaws.{needs_is}
-use Rattle.rest_facts.proofs.Stands.{get_of}
+use Rattle.seen_facts.proofs.Rest.Stands.{get_of}
 use Rattle.seen_laws.specs.InEvent.{now_of}
 use Rattle.std.proofs.Common.{Bool, List, None, Option, Some, [], ap, arith, false, length, not, refl, subst, suc, sym, true, zero, ℕ, ◌&&◌, ◌==◌, ◌||◌, ◌∙◌, ◌∷◌, ◌≡◌, ◌≤◌}
 use Rattle.std.specs.List.{list_any}
@@ -35,9 +35,9 @@ use Rattle.tab_moves.specs.Showing.{need_in}
 use Rattle.tab_moves.proofs.PassedOn.{below_same, depth_is}
 use Rattle.tab_moves.specs.PassedOn.{IsPassing, is_below_in}
 use Rattle.tab_moves.specs.Moving.{InPass}
-use Rattle.walk_facts.proofs.Placed.{found_nav}
-use Rattle.walk_facts.specs.Serving.{is_needing, is_stopping}
-use Rattle.walk_rows.specs.Since.{IsVisitedInNeed}
+use Rattle.seen_facts.proofs.Walk.Placed.{found_nav}
+use Rattle.seen_facts.specs.Walk.Serving.{is_needing, is_stopping}
+use Rattle.row_facts.specs.WalkRows.Since.{IsVisitedInNeed}
 
 -- what a list of navigables has
 pub into_navs : (navs : List NavId) (nav : NavId) → Has navs nav → has_nav navs nav ≡ true

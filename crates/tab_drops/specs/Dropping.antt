@@ -1,10 +1,10 @@
 -- Ongoing loads that give way: to the traversal that runs, where it moves their navigables, to a load that was applied above them, and to a change that took the last entries of their navigables.
 -- HTML Standard, "navigate" and "Navigables" ("ongoing navigation"), "apply the history step" and "destroy a child navigable"; the moments and their order are this project's own.
-use Rattle.frame_facts.specs.Lasting.{wish}
-use Rattle.frame_rows.specs.Lawful.{held_at_first}
-use Rattle.hang_facts.specs.Members.{Has}
-use Rattle.load_ends.specs.Standing.{is_reached}
-use Rattle.load_facts.specs.Loading.{Look, is_ongoing, look_of}
+use Rattle.tab_facts.specs.Frame.Lasting.{wish}
+use Rattle.row_facts.specs.FrameRows.Lawful.{held_at_first}
+use Rattle.seen_facts.specs.Hang.Members.{Has}
+use Rattle.seen_facts.specs.LoadEnds.Standing.{is_reached}
+use Rattle.seen_facts.specs.Load.Loading.{Look, is_ongoing, look_of}
 use Rattle.log_model.specs.Causes.{nav_of_change}
 use Rattle.log_model.specs.Equal.{has_req}
 use Rattle.log_model.specs.History.{has_nav, has_row}
@@ -15,14 +15,14 @@ use Rattle.log_model.specs.declared.change.Change.{Change}
 use Rattle.log_model.specs.declared.job.Why.{Why}
 use Rattle.log_model.specs.declared.outcome.Cause.{Cause}
 use Rattle.log_model.specs.declared.row_kind.RowKind.{RowKind}
-use Rattle.mover_facts.specs.Movers.{IsMovedBy}
-use Rattle.request_facts.proofs.Readers.{SameReads}
+use Rattle.seen_facts.specs.Mover.Movers.{IsMovedBy}
+use Rattle.seen_facts.proofs.Request.Readers.{SameReads}
 use Rattle.seen_laws.specs.InEvent.{InEvent}
 use Rattle.std.specs.Prelude.{List, Some, [], false, map, true, ◌++◌, ◌<◌, ◌∷◌, ◌≡◌, ◌⊎◌}
 use Rattle.tab_ids.specs.declared.NavId.{NavId}
 use Rattle.tab_ids.specs.declared.ReqId.{ReqId}
 use Rattle.tab_moves.specs.Moving.{MayCause}
-use Rattle.walk_rows.specs.Since.{IsVisitedInNeed}
+use Rattle.row_facts.specs.WalkRows.Since.{IsVisitedInNeed}
 use Rattle.log_model.specs.declared.outcome.Cause.TheVariants as causes
 use Rattle.log_model.specs.declared.row_kind.RowKind.TheVariants as rows
 

@@ -1,6 +1,6 @@
 -- The navigables with an ongoing load, in the order of the loads' requests.
 -- HTML Standard, "Navigables" ("ongoing navigation"); the order is this project's own.
-use Rattle.hang_facts.specs.Members.{Has}
+use Rattle.seen_facts.specs.Hang.Members.{Has}
 use Rattle.load_table.specs.Loads.{ongoing_load}
 use Rattle.load_table.specs.declared.load.Load.{Load}
 use Rattle.nav_tree.specs.Tree.{Tree, node_of}

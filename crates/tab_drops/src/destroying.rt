@@ -1,6 +1,6 @@
 //! Loads of navigables that lost their entries are dropped.
 ghost use Rattle.std.specs.Prelude.{◌≡◌, OnOk};
-ghost use Rattle.load_ends.specs.Standing.{LoadsStand};
+ghost use Rattle.seen_facts.specs.LoadEnds.Standing.{LoadsStand};
 ghost use Rattle.seen_laws.specs.InEvent.{now_of};
 ghost use Rattle.tab_doors.specs.Working.{KeepsStore};
 ghost use Rattle.tab_drops.specs.Dropping.{ArePlaced, AreUnheld, EndsLoads, HasOnlyDestroyed, HaveEntries, IsBare, IsDestroyedLoad, LeavesAll, StandOrBare};

@@ -1,10 +1,10 @@
 -- A document that hangs below a discarded one may be discarded, since nobody is awake on it.
-use Rattle.doc_facts.specs.Docs.{HasPlace}
-use Rattle.hang_facts.proofs.Hung.{places_distinct}
-use Rattle.hang_facts.proofs.Parts.{state_is}
-use Rattle.kept_facts.specs.Keeping.{kept_states}
-use Rattle.leave_rows.proofs.Evicts.{below_discard_may}
-use Rattle.leave_rows.specs.Evicting.{IsBelowDue}
+use Rattle.seen_facts.specs.Doc.Docs.{HasPlace}
+use Rattle.seen_facts.proofs.Hang.Hung.{places_distinct}
+use Rattle.seen_facts.proofs.Hang.Parts.{state_is}
+use Rattle.seen_facts.specs.Kept.Keeping.{kept_states}
+use Rattle.row_facts.proofs.LeaveRows.Evicts.{below_discard_may}
+use Rattle.row_facts.specs.LeaveRows.Evicting.{IsBelowDue}
 use Rattle.log_model.proofs.Refl.{nat_eq_refl}
 use Rattle.log_model.specs.AfterPlaces.{sleepers_with}
 use Rattle.log_model.specs.Orders.{is_below_gone}
@@ -16,7 +16,7 @@ use Rattle.nav_tree.specs.Tree.{state_of}
 use Rattle.page_cache.specs.Kept.{left_first, without}
 use Rattle.seen_laws.proofs.InEvents.{led_here}
 use Rattle.seen_laws.specs.InEvent.{InEvent, here_of, now_of}
-use Rattle.frame_rows.specs.Discarding.{SettlesNone}
+use Rattle.row_facts.specs.FrameRows.Discarding.{SettlesNone}
 use Rattle.seen_laws.specs.InEvent.{row_of}
 use Rattle.std.proofs.Common.{Bool, List, None, Option, Some, [], ap, false, length, map, refl, subst, sym, true, ℕ, ◌++◌, ◌==◌, ◌∙◌, ◌∷◌, ◌≡◌, ◌≤◌}
 use Rattle.std.specs.Prelude.{if◌then◌else◌, option_and_then, option_map}
@@ -33,7 +33,7 @@ use Rattle.tab_evicts.proofs.Cuts.{fitting_fits, fitting_leaves}
 use Rattle.tab_evicts.proofs.Hangings.{hangs_same}
 use Rattle.tab_evicts.proofs.Theres.{there_apart, there_elsewhere, there_gone, there_unloaded}
 use Rattle.tab_evicts.specs.Evicting.{IsThereBelow}
-use Rattle.left_facts.specs.Left.{WereShown}
+use Rattle.row_facts.specs.Left.Left.{WereShown}
 use Rattle.tab_evicts.proofs.Quiets.{IsQuiet, gone_seen, gone_leaving, gone_looks, gone_may, gone_now, gone_other, gone_places, gone_states, gone_stays, gone_were, one_document, one_of_state, quiet_discards, quiet_settles}
 use Rattle.tab_evicts.specs.Evicting.{InEvicting, InLetting, IsBeside, IsGoneFor, IsLetting, NoLoadBelow, NoneBelow, StaysPlaced, below_in, hangs_in, move_in}
 use Rattle.tab_ids.specs.declared.DocId.{DocId}
@@ -43,8 +43,8 @@ use Rattle.tab_passes.proofs.Lives.{live_parts, there_for}
 use Rattle.tab_passes.proofs.Stand.{depth_is}
 use Rattle.tab_passes.specs.Leaving.{IsLeaving, left_then}
 use Rattle.tab_passes.specs.Passing.{InPass}
-use Rattle.walk_facts.proofs.Placed.{found_nav}
-use Rattle.walk_rows.proofs.Sleeping.{no_shower, nobody_awake}
+use Rattle.seen_facts.proofs.Walk.Placed.{found_nav}
+use Rattle.row_facts.proofs.WalkRows.Sleeping.{no_shower, nobody_awake}
 use Rattle.log_model.specs.declared.job.Task.TheVariants as tasks
 use Rattle.log_model.specs.declared.row_kind.RowKind.TheVariants as rows
 

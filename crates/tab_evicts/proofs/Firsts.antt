@@ -1,16 +1,16 @@
 -- The document that is kept longest may be discarded, where too many would be kept with the one that is left.
-use Rattle.hang_facts.proofs.Hung.{place_chain, places_distinct}
-use Rattle.hang_facts.proofs.Members.{has_filter}
-use Rattle.hang_facts.proofs.Parts.{state_is}
-use Rattle.hang_facts.specs.Members.{Has}
-use Rattle.kept_facts.proofs.States.{AreOfOwnStates, sole_states, states_left, states_many, states_oldest}
-use Rattle.kept_facts.specs.Keeping.{IsKeptDoc, is_last, kept_states, state_in}
-use Rattle.leave_rows.specs.Evicting.{IsKeptLast}
-use Rattle.left_facts.specs.Left.{WasEverShown, WereShown}
-use Rattle.load_facts.specs.Loading.{IsLoading, look, look_of}
+use Rattle.seen_facts.proofs.Hang.Hung.{place_chain, places_distinct}
+use Rattle.seen_facts.proofs.Hang.Members.{has_filter}
+use Rattle.seen_facts.proofs.Hang.Parts.{state_is}
+use Rattle.seen_facts.specs.Hang.Members.{Has}
+use Rattle.seen_facts.proofs.Kept.States.{AreOfOwnStates, sole_states, states_left, states_many, states_oldest}
+use Rattle.seen_facts.specs.Kept.Keeping.{IsKeptDoc, is_last, kept_states, state_in}
+use Rattle.row_facts.specs.LeaveRows.Evicting.{IsKeptLast}
+use Rattle.row_facts.specs.Left.Left.{WasEverShown, WereShown}
+use Rattle.seen_facts.specs.Load.Loading.{IsLoading, look, look_of}
 use Rattle.load_table.specs.Loads.{ongoing_load}
 use Rattle.load_table.specs.declared.load.Load.{Load}
-use Rattle.load_ties.specs.Tying.{IsLoadTied}
+use Rattle.seen_facts.specs.LoadTies.Tying.{IsLoadTied}
 use Rattle.log_model.proofs.Refl.{nat_eq_refl}
 use Rattle.log_model.specs.AfterPlaces.{without_doc}
 use Rattle.log_model.specs.Equal.{has_doc, holds}
@@ -20,14 +20,14 @@ use Rattle.log_model.specs.Seen.{Asked, Document, Place, Seen, awake, desk_of, d
 use Rattle.log_model.specs.Suits.{kept_with}
 use Rattle.log_model.specs.declared.job.Why.{Why}
 use Rattle.log_model.specs.declared.row_kind.RowKind.{RowKind}
-use Rattle.leave_rows.specs.Leaving.{IsDiscardOf}
+use Rattle.row_facts.specs.LeaveRows.Leaving.{IsDiscardOf}
 use Rattle.nav_tree.specs.Tree.{document_of as document_at}
 use Rattle.nav_tree.specs.declared.place.Place as live_place
 use Rattle.page_cache.specs.Kept.{left_first, oldest_of, without}
 use Rattle.seen_laws.proofs.InEvents.{led_here}
 use Rattle.seen_laws.proofs.Keyed.{find_has as seen_number, find_on_same}
 use Rattle.seen_laws.specs.InEvent.{InEvent, here_of, now_of, row_of}
-use Rattle.frame_rows.specs.Discarding.{SettlesNone}
+use Rattle.row_facts.specs.FrameRows.Discarding.{SettlesNone}
 use Rattle.std.proofs.Common.{Bool, List, None, Option, Some, [], ap, arith, cond, drop, false, filter_map, inl, inr, length, map, not, refl, subst, suc, sym, true, zero, ℕ, ◌++◌, ◌-◌, ◌==◌, ◌||◌, ◌∙◌, ◌∷◌, ◌≡◌, ◌≤◌}
 use Rattle.std.proofs.lemmas.Bool.Decides.{nat_tests}
 use Rattle.std.specs.Prelude.{IsSome, nat_lt, option_and_then, option_map, slice_get}
@@ -51,7 +51,7 @@ use Rattle.tab_passes.proofs.Lives.{listed_at}
 use Rattle.tab_passes.proofs.Unders.{into_docs}
 use Rattle.tab_passes.specs.Leaving.{IsLeaving, left_then}
 use Rattle.tab_passes.specs.Passing.{InPass}
-use Rattle.walk_rows.proofs.Sleeping.{no_shower, nobody_awake}
+use Rattle.row_facts.proofs.WalkRows.Sleeping.{no_shower, nobody_awake}
 use Rattle.log_model.specs.declared.job.Task.TheVariants as tasks
 use Rattle.log_model.specs.declared.row_kind.RowKind.TheVariants as rows
 

@@ -1,13 +1,13 @@
 -- Who hangs on a document state, as the tables tell, does in the log; and nobody is awake below a document that was left.
 use Rattle.apply_plan.specs.Order.{parent_in}
-use Rattle.hang_facts.proofs.Hung.{place_chain}
-use Rattle.hang_facts.proofs.Parts.{state_is}
-use Rattle.hang_facts.specs.AsPlaces.{IsChain}
-use Rattle.hang_facts.specs.Hanging.{Hangs}
-use Rattle.hang_facts.specs.Members.{Has}
-use Rattle.home_facts.specs.Homes.{IsOnAwake}
-use Rattle.kept_facts.specs.Keeping.{IsKeptDoc, is_last}
-use Rattle.left_facts.specs.Left.{IsOwnedAs, OwnersFollow}
+use Rattle.seen_facts.proofs.Hang.Hung.{place_chain}
+use Rattle.seen_facts.proofs.Hang.Parts.{state_is}
+use Rattle.seen_facts.specs.Hang.AsPlaces.{IsChain}
+use Rattle.seen_facts.specs.Hang.Hanging.{Hangs}
+use Rattle.seen_facts.specs.Hang.Members.{Has}
+use Rattle.seen_facts.specs.Home.Homes.{IsOnAwake}
+use Rattle.seen_facts.specs.Kept.Keeping.{IsKeptDoc, is_last}
+use Rattle.row_facts.specs.Left.Left.{IsOwnedAs, OwnersFollow}
 use Rattle.log_model.proofs.Refl.{nat_eq_refl}
 use Rattle.log_model.specs.Equal.{holds}
 use Rattle.log_model.specs.Places.{hangs_on}
@@ -29,7 +29,7 @@ use Rattle.tab_ids.specs.declared.StateId.{StateId}
 use Rattle.tab_evicts.proofs.Climbs.{within}
 use Rattle.tab_evicts.specs.Evicting.{hangs_in, owner_in}
 use Rattle.tab_passes.specs.PassedOn.{IsTab}
-use Rattle.walk_facts.proofs.Placed.{found_nav}
+use Rattle.seen_facts.proofs.Walk.Placed.{found_nav}
 
 -- ---- the tables
 

@@ -1,6 +1,6 @@
 -- What is left below a document state as documents are discarded: none in the end.
-use Rattle.hang_facts.proofs.Members.{find_has, into_map}
-use Rattle.hang_facts.specs.Members.{Has}
+use Rattle.seen_facts.proofs.Hang.Members.{find_has, into_map}
+use Rattle.seen_facts.specs.Hang.Members.{Has}
 use Rattle.log_model.proofs.Refl.{nat_eq_refl}
 use Rattle.log_model.specs.Equal.{has_doc}
 use Rattle.log_model.specs.Seen.{Document, Place, Seen, document_of, place_in}
@@ -9,7 +9,7 @@ use Rattle.log_model.specs.declared.row_kind.RowKind.{RowKind}
 use Rattle.nav_tree.proofs.Lists.{take-slice_get}
 use Rattle.nav_tree.specs.Tree.{Tree, docs_of, is_placed, state_of}
 use Rattle.nav_tree.specs.declared.place.Place as live_place
-use Rattle.rest_rows.proofs.Again.{doc_same}
+use Rattle.row_facts.proofs.RestRows.Again.{doc_same}
 use Rattle.seen_laws.proofs.Keyed.{find_on_same}
 use Rattle.seen_laws.specs.InEvent.{now_of}
 use Rattle.std.proofs.Common.{inl, inr, ◌⊎◌, Bool, List, None, Option, Some, [], ap, arith, cond, false, length, map, refl, subst, sym, take, true, ℕ, ◌++◌, ◌+◌, ◌==◌, ◌||◌, ◌∙◌, ◌∷◌, ◌≡◌, ◌≤◌}

@@ -1,20 +1,20 @@
 -- A document on which nobody is awake is discarded within a move.
-use Rattle.calm_facts.proofs.Loads.{IsLoads, loads_sent}
-use Rattle.doc_facts.specs.Docs.{AreDocs}
-use Rattle.hang_facts.proofs.Members.{has_map}
-use Rattle.hang_facts.specs.Members.{Has}
-use Rattle.kept_facts.proofs.States.{AreOfOwnStates, sole_states, states_without}
-use Rattle.kept_facts.specs.Keeping.{kept_states}
-use Rattle.leave_rows.proofs.Unasked.{all_answered}
-use Rattle.leave_rows.specs.Leaving.{IsDiscardOf, is_for_one}
-use Rattle.load_facts.proofs.Rows.{look_blind}
-use Rattle.load_facts.specs.Loading.{look, look_of}
+use Rattle.tab_facts.proofs.Calm.Loads.{IsLoads, loads_sent}
+use Rattle.seen_facts.specs.Doc.Docs.{AreDocs}
+use Rattle.seen_facts.proofs.Hang.Members.{has_map}
+use Rattle.seen_facts.specs.Hang.Members.{Has}
+use Rattle.seen_facts.proofs.Kept.States.{AreOfOwnStates, sole_states, states_without}
+use Rattle.seen_facts.specs.Kept.Keeping.{kept_states}
+use Rattle.row_facts.proofs.LeaveRows.Unasked.{all_answered}
+use Rattle.row_facts.specs.LeaveRows.Leaving.{IsDiscardOf, is_for_one}
+use Rattle.seen_facts.proofs.Load.Rows.{look_blind}
+use Rattle.seen_facts.specs.Load.Loading.{look, look_of}
 use Rattle.load_table.specs.Loads.{ongoing_load}
 use Rattle.load_table.specs.declared.load.Load.{Load}
-use Rattle.frame_rows.specs.Discarding.{SettlesNone}
-use Rattle.left_facts.proofs.Rows.{were_shown}
-use Rattle.left_facts.specs.Left.{WereShown}
-use Rattle.load_ties.specs.Tying.{HasLoad, IsLoadTied, TiesLoads}
+use Rattle.row_facts.specs.FrameRows.Discarding.{SettlesNone}
+use Rattle.row_facts.proofs.Left.Rows.{were_shown}
+use Rattle.row_facts.specs.Left.Left.{WereShown}
+use Rattle.seen_facts.specs.LoadTies.Tying.{HasLoad, IsLoadTied, TiesLoads}
 use Rattle.log_model.proofs.Refl.{nat_eq_refl}
 use Rattle.log_model.specs.After.{after}
 use Rattle.log_model.specs.AfterPlaces.{sleepers_with, without_doc}
@@ -31,11 +31,11 @@ use Rattle.nav_tree.specs.Tree.{document_of as document_at}
 use Rattle.std.proofs.lemmas.Bool.{and_parts}
 use Rattle.log_model.specs.declared.request.Request.TheVariants as requests
 use Rattle.nav_tree.specs.declared.place.Place as live_place
-use Rattle.owed_facts.specs.Owed.{AreUnasked}
+use Rattle.row_facts.specs.Owed.Owed.{AreUnasked}
 use Rattle.page_cache.specs.Kept.{without}
-use Rattle.request_facts.proofs.Readers.{sent_reads}
-use Rattle.rest_facts.proofs.Stands.{all_requests}
-use Rattle.rest_facts.proofs.Still.{found_itself}
+use Rattle.seen_facts.proofs.Request.Readers.{sent_reads}
+use Rattle.seen_facts.proofs.Rest.Stands.{all_requests}
+use Rattle.seen_facts.proofs.Rest.Still.{found_itself}
 use Rattle.seen_laws.proofs.InEvents.{now_more}
 use Rattle.seen_laws.proofs.Keyed.{find_has as seen_number, find_on_other}
 use Rattle.seen_laws.specs.InEvent.{now_of, row_of}
@@ -61,7 +61,7 @@ use Rattle.tab_passes.specs.Causes.{MayCause}
 use Rattle.tab_passes.specs.Leaving.{IsGoneAt, IsLeaving, MayLeave, left_then}
 use Rattle.tab_passes.specs.Passing.{InPass}
 use Rattle.log_model.specs.History.{has_nav}
-use Rattle.walk_rows.proofs.Leaves.{discard_none_leaves, none_places}
+use Rattle.row_facts.proofs.WalkRows.Leaves.{discard_none_leaves, none_places}
 use Rattle.log_model.specs.declared.job.Task.TheVariants as tasks
 use Rattle.log_model.specs.declared.job.Why.TheVariants as whys
 use Rattle.log_model.specs.declared.row_kind.RowKind.TheVariants as rows

@@ -2,7 +2,7 @@
 use Rattle.log_model.specs.Seen.{Seen}
 use Rattle.std.proofs.Common.{refl, ◌∙◌}
 use Rattle.tab_evicts.specs.Evicting.{StaysPlaced}
-use Rattle.walk_rows.proofs.Leaves.{leaves_none, leaves_then}
+use Rattle.row_facts.proofs.WalkRows.Leaves.{leaves_none, leaves_then}
 
 pub stays_none : (s : Seen) → StaysPlaced s s
 stays_none s = record { places = refl; leaves = leaves_none s; loading = λ are. are }

@@ -1,10 +1,10 @@
 -- A document that is there below a discarded one.
-use Rattle.hang_facts.proofs.Members.{find_has, has_any}
-use Rattle.hang_facts.proofs.Parts.{state_is}
-use Rattle.load_facts.specs.Loading.{IsLoading, look, look_of}
+use Rattle.seen_facts.proofs.Hang.Members.{find_has, has_any}
+use Rattle.seen_facts.proofs.Hang.Parts.{state_is}
+use Rattle.seen_facts.specs.Load.Loading.{IsLoading, look, look_of}
 use Rattle.load_table.specs.Loads.{ongoing_load}
 use Rattle.load_table.specs.declared.load.Load.{Load}
-use Rattle.load_ties.specs.Tying.{IsLoadTied}
+use Rattle.seen_facts.specs.LoadTies.Tying.{IsLoadTied}
 use Rattle.log_model.proofs.Refl.{nat_eq_refl}
 use Rattle.log_model.specs.Equal.{holds}
 use Rattle.log_model.specs.Once.{loads}
@@ -23,8 +23,8 @@ use Rattle.tab_evicts.specs.Evicting.{IsGoneFor, NoLoadBelow}
 use Rattle.tab_ids.specs.declared.DocId.{DocId}
 use Rattle.tab_ids.specs.declared.NavId.{NavId}
 use Rattle.tab_ids.specs.declared.StateId.{StateId}
-use Rattle.load_facts.specs.Loading.{AreLoading}
-use Rattle.load_ties.specs.Tying.{TiesLoads}
+use Rattle.seen_facts.specs.Load.Loading.{AreLoading}
+use Rattle.seen_facts.specs.LoadTies.Tying.{TiesLoads}
 use Rattle.tab_evicts.specs.Evicting.{IsThereBelow}
 
 module _ (s : Seen) (gone : StateId) (doc : DocId) (it : IsThereBelow s gone doc) where

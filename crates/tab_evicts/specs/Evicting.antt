@@ -1,11 +1,11 @@
 -- The document of a state that is kept no longer is discarded, with all that are there below it.
 -- HTML Standard, "Documents kept for traversal" and "destroy a document"; how many are kept, and that those below go with one, is this project's own.
 use Rattle.apply_plan.specs.Order.{rest}
-use Rattle.calm_facts.specs.Loads.{LoadsHaveDocuments}
-use Rattle.home_facts.specs.Homes.{IsOnAwake}
-use Rattle.kept_facts.specs.Keeping.{kept_states}
-use Rattle.left_facts.specs.Left.{WereShown}
-use Rattle.load_facts.specs.Loading.{is_ongoing, look_of}
+use Rattle.tab_facts.specs.Calm.Loads.{LoadsHaveDocuments}
+use Rattle.seen_facts.specs.Home.Homes.{IsOnAwake}
+use Rattle.seen_facts.specs.Kept.Keeping.{kept_states}
+use Rattle.row_facts.specs.Left.Left.{WereShown}
+use Rattle.seen_facts.specs.Load.Loading.{is_ongoing, look_of}
 use Rattle.log_model.specs.Equal.{has_doc, holds}
 use Rattle.log_model.specs.Places.{hangs_on}
 use Rattle.log_model.specs.Once.{loads}
@@ -13,7 +13,7 @@ use Rattle.log_model.specs.Seen.{Document, Place, Seen, awake, document_of, plac
 use Rattle.log_model.specs.declared.job.Job.{Job}
 use Rattle.log_model.specs.declared.job.Why.{Why}
 use Rattle.log_model.specs.declared.row_kind.RowKind.{RowKind}
-use Rattle.load_facts.specs.Loading.{Look}
+use Rattle.seen_facts.specs.Load.Loading.{Look}
 use Rattle.nav_tree.specs.Tree.{Tree, nav_of, state_of}
 use Rattle.nav_tree.specs.declared.nav.Nav.{Nav}
 use Rattle.page_cache.specs.Kept.{left_first}
@@ -30,7 +30,7 @@ use Rattle.tab_ids.specs.declared.StateId.{StateId}
 use Rattle.tab_passes.specs.Causes.{MayCause}
 use Rattle.tab_passes.specs.Leaving.{IsLeaving}
 use Rattle.tab_passes.specs.Passing.{HasOnly, InPass}
-use Rattle.walk_facts.specs.Walking.{LeavesOthers}
+use Rattle.seen_facts.specs.Walk.Walking.{LeavesOthers}
 use Rattle.log_model.specs.declared.job.Task.TheVariants as tasks
 use Rattle.log_model.specs.declared.row_kind.RowKind.TheVariants as rows
 

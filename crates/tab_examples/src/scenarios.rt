@@ -10,8 +10,8 @@ use world::World;
 /// The scenario as it is printed, or why the bytes are none. `scenario` is read for a caller that plays all lines, `scenario one` for one of one document, `scenario run` for the second where threads run.
 pub fn tell(alloc: Global, out: &mut Vec<u8>, case: &Case) -> Result<(), OutOfMemory> {
     let (in_run, built) = match case.words.get(1) {
-        Some(word) if word.as_str() == "run" => (true, Built::Frames),
-        Some(_) => (false, Built::Frames),
+        Some(word) if word.as_str() == "run" => (true, Built::Loads),
+        Some(_) => (false, Built::Loads),
         None => (false, Built::All),
     };
     match Scenario::read(alloc, case.input.as_slice(), in_run, built) {
@@ -33,7 +33,7 @@ fn put_refusal(alloc: Global, out: &mut Vec<u8>, refusal: Refusal) -> Result<(),
 
 /// The summary of a tab that was opened by the scenario's header, of which no line is played.
 pub fn tell_opened(alloc: Global, out: &mut Vec<u8>, case: &Case) -> Result<(), OutOfMemory> {
-    match Scenario::read(alloc, case.input.as_slice(), false, Built::Frames) {
+    match Scenario::read(alloc, case.input.as_slice(), false, Built::Loads) {
         Ok(scenario) => {
             let world = World::fresh(alloc, &scenario.header)?;
             put(out, summary(alloc, &world)?.bytes())

@@ -1,11 +1,11 @@
 -- The topmost navigable on the way up that isn't shown at the aim or doesn't stand there: the loop that finds it, and what it is in the log.
 use Rattle.apply_plan.proofs.Walks.{up_none}
 use Rattle.apply_plan.specs.Order.{parent_in, rest}
-use Rattle.hang_facts.proofs.Hung.{place_chain}
-use Rattle.hang_facts.proofs.Members.{has_any}
-use Rattle.hang_facts.specs.AsPlaces.{IsChain}
-use Rattle.hang_facts.specs.Hanging.{Hangs}
-use Rattle.hang_facts.specs.Members.{Has}
+use Rattle.seen_facts.proofs.Hang.Hung.{place_chain}
+use Rattle.seen_facts.proofs.Hang.Members.{has_any}
+use Rattle.seen_facts.specs.Hang.AsPlaces.{IsChain}
+use Rattle.seen_facts.specs.Hang.Hanging.{Hangs}
+use Rattle.seen_facts.specs.Hang.Members.{Has}
 use Rattle.log_model.proofs.Refl.{nat_eq_refl}
 use Rattle.log_model.specs.History.{has_nav}
 use Rattle.log_model.specs.Places.{aim_of, is_placed, way_of, way_to}
@@ -24,7 +24,7 @@ use Rattle.tab_ids.specs.declared.ReqId.{ReqId}
 use Rattle.tab_loads.proofs.Reached.{placed_is}
 use Rattle.tab_loads.specs.Telling.{aim_at, away_in, away_or, is_placed_in}
 use Rattle.tab_passes.proofs.Stand.{depth_is}
-use Rattle.walk_facts.proofs.Placed.{found_nav}
+use Rattle.seen_facts.proofs.Walk.Placed.{found_nav}
 
 -- ---- the loop
 

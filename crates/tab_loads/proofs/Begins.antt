@@ -1,7 +1,7 @@
 -- A load begins: what its doors ask, and what has become of it, in the words of the code.
-use Rattle.kept_facts.specs.Keeping.{AreKeptDocs}
+use Rattle.seen_facts.specs.Kept.Keeping.{AreKeptDocs}
 use Rattle.load_doors.specs.Loading.{IsGiven, IsToBegin, begun_load}
-use Rattle.load_rows.specs.LoadMaking.{IsMakeOfLoadDue}
+use Rattle.row_facts.specs.LoadRows.LoadMaking.{IsMakeOfLoadDue}
 use Rattle.load_table.specs.Loads.{ongoing_load}
 use Rattle.log_model.specs.AfterRequests.{load_replaces}
 use Rattle.log_model.specs.Seen.{desk_of}

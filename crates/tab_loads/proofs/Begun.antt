@@ -1,13 +1,13 @@
 -- A load has begun: all goes on, and its navigable stands still.
-use Rattle.asked_facts.specs.Asking.{ArePlain}
-use Rattle.calm_facts.proofs.Awakes.{lost_none}
-use Rattle.coord_facts.proofs.Unread.{next}
-use Rattle.each_facts.proofs.Runs.{at_place}
-use Rattle.last_facts.proofs.Rows.{started_lasting}
-use Rattle.load_ends.specs.Standing.{is_reached}
-use Rattle.load_facts.specs.Loading.{look}
-use Rattle.load_rows.proofs.Earlier.{all_from, no_earlier_stays}
-use Rattle.load_rows.specs.Beginning.{begins_no_earlier, is_out_of_way}
+use Rattle.seen_facts.specs.Asked.Asking.{ArePlain}
+use Rattle.tab_facts.proofs.Calm.Awakes.{lost_none}
+use Rattle.seen_facts.proofs.Coord.Unread.{next}
+use Rattle.seen_facts.proofs.Each.Runs.{at_place}
+use Rattle.tab_facts.proofs.Last.Rows.{started_lasting}
+use Rattle.seen_facts.specs.LoadEnds.Standing.{is_reached}
+use Rattle.seen_facts.specs.Load.Loading.{look}
+use Rattle.row_facts.proofs.LoadRows.Earlier.{all_from, no_earlier_stays}
+use Rattle.row_facts.specs.LoadRows.Beginning.{begins_no_earlier, is_out_of_way}
 use Rattle.log_model.proofs.Refl.{nat_eq_refl}
 use Rattle.log_model.specs.Equal.{holds}
 use Rattle.log_model.specs.History.{History, has_nav}
@@ -16,11 +16,11 @@ use Rattle.log_model.specs.Places.{aim_of, has_arrived, is_below_known_lost, is_
 use Rattle.log_model.specs.Seen.{Asked, Place, Seen, place_of, request_of}
 use Rattle.log_model.specs.declared.header.Header.{Header}
 use Rattle.log_model.specs.declared.row_kind.RowKind.{RowKind}
-use Rattle.owed_facts.proofs.Drops.{sole_owes}
-use Rattle.owed_facts.proofs.Ends.{loose_owed, loose_since}
-use Rattle.owed_facts.specs.Owed.{IsLoose}
-use Rattle.rest_rows.proofs.Rows.{started_rests}
-use Rattle.rest_rows.specs.Moving.{AllRest}
+use Rattle.row_facts.proofs.Owed.Drops.{sole_owes}
+use Rattle.row_facts.proofs.Owed.Ends.{loose_owed, loose_since}
+use Rattle.row_facts.specs.Owed.Owed.{IsLoose}
+use Rattle.row_facts.proofs.RestRows.Rows.{started_rests}
+use Rattle.row_facts.specs.RestRows.Moving.{AllRest}
 use Rattle.seen_laws.proofs.InEvents.{now_more}
 use Rattle.seen_laws.specs.InEvent.{now_of, row_of}
 use Rattle.std.proofs.Common.{Bool, List, None, Option, Some, [], ap, arith, false, length, not, refl, subst, sym, true, ℕ, ◌&&◌, ◌++◌, ◌+◌, ◌==◌, ◌||◌, ◌∙◌, ◌∷◌, ◌≡◌, ◌≤◌}
@@ -31,8 +31,8 @@ use Rattle.std.specs.Prelude.{is_some, nat_lt, option_map, slice_get}
 use Rattle.tab_doors.specs.Working.{IsAtWork, KeepsRun, KeepsStore}
 use Rattle.tab_doors.specs.declared.tables.Tables.{Tables}
 use Rattle.tab_drops.specs.Dropping.{AreUnheld}
-use Rattle.tab_going.proofs.Changes.{load_begun_going}
-use Rattle.tab_going.specs.Going.{IsGoing}
+use Rattle.tab_facts.proofs.TabGoing.Changes.{load_begun_going}
+use Rattle.tab_facts.specs.TabGoing.Going.{IsGoing}
 use Rattle.tab_ids.specs.declared.DocId.{DocId}
 use Rattle.tab_ids.specs.declared.NavId.{NavId}
 use Rattle.tab_ids.specs.declared.ReqId.{ReqId}
@@ -51,9 +51,9 @@ use Rattle.tab_one_pass.proofs.Lives.{placed_awake}
 use Rattle.tab_passes.proofs.Aims.{aim_is}
 use Rattle.tab_passes.specs.Passing.{IsPassing, aim_in}
 use Rattle.tab_stands.proofs.PassedOn.{IsReachedAt, reached_at, reached_same}
-use Rattle.tab_whole.proofs.Beginning.{load_begun_tab}
-use Rattle.tab_whole.specs.Tab.{IsTab}
-use Rattle.walk_facts.specs.Serving.{is_in_place, is_stopping}
+use Rattle.tab_facts.proofs.TabWhole.Beginning.{load_begun_tab}
+use Rattle.tab_facts.specs.TabWhole.Tab.{IsTab}
+use Rattle.seen_facts.specs.Walk.Serving.{is_in_place, is_stopping}
 use Rattle.log_model.specs.declared.row_kind.RowKind.TheVariants as rows
 use Rattle.tab_loads.proofs.Starts as starts
 

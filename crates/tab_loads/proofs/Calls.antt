@@ -2,7 +2,7 @@
 use Rattle.load_doors.specs.Refusing.{IsDeniedLoad}
 use Rattle.load_doors.specs.Tied.{AreTied}
 use Rattle.log_model.specs.Causes.{denial_at_acceptance}
-use Rattle.calm_facts.proofs.Awakes.{stand_each}
+use Rattle.tab_facts.proofs.Calm.Awakes.{stand_each}
 use Rattle.log_model.specs.Equal.{has_req, holds}
 use Rattle.log_model.specs.Places.{aim_of, all_stand, is_shown, is_standing, stands as stands_at}
 use Rattle.log_model.specs.Seen.{Asked, Place, Seen, place_of, request_in}
@@ -10,13 +10,13 @@ use Rattle.log_model.specs.declared.outcome.Denial.{Denial}
 use Rattle.log_model.specs.declared.request.Mode.{Mode}
 use Rattle.log_model.specs.declared.request.Request.{Request}
 use Rattle.log_model.specs.declared.row_kind.RowKind.{RowKind}
-use Rattle.coord_facts.proofs.Unread.{next}
+use Rattle.seen_facts.proofs.Coord.Unread.{next}
 use Rattle.move_queue.specs.Queue.{Queue}
-use Rattle.owed_facts.specs.Owed.{IsLoose}
-use Rattle.owed_facts.proofs.Ends.{loose_owed}
-use Rattle.request_facts.proofs.LookUps.{none_before as none_in, others_before}
-use Rattle.request_facts.proofs.Times.{times_none}
-use Rattle.request_facts.specs.Whereabouts.{times_found}
+use Rattle.row_facts.specs.Owed.Owed.{IsLoose}
+use Rattle.row_facts.proofs.Owed.Ends.{loose_owed}
+use Rattle.seen_facts.proofs.Request.LookUps.{none_before as none_in, others_before}
+use Rattle.seen_facts.proofs.Request.Times.{times_none}
+use Rattle.seen_facts.specs.Request.Whereabouts.{times_found}
 use Rattle.seen_laws.specs.InEvent.{InEvent, now_of}
 use Rattle.std.proofs.Common.{Bool, List, None, Option, Some, [], ap, arith, false, length, refl, subst, sym, true, ℕ, ◌+◌, ◌<◌, ◌==◌, ◌∙◌, ◌∷◌, ◌≡◌}
 use Rattle.std.proofs.lemmas.Bool.Decides.{nat_tests}

@@ -1,8 +1,8 @@
 -- A request that hasn't begun is refused or dropped, or a document is sent to a fragment for it: nothing but that request is changed.
-use Rattle.coord_facts.proofs.Held.{on_else, without_same}
-use Rattle.coord_facts.proofs.Unread.{next}
-use Rattle.frame_facts.specs.Lasting.{wish}
-use Rattle.frame_tab.proofs.Goings.{begun_of}
+use Rattle.seen_facts.proofs.Coord.Held.{on_else, without_same}
+use Rattle.seen_facts.proofs.Coord.Unread.{next}
+use Rattle.tab_facts.specs.Frame.Lasting.{wish}
+use Rattle.tab_facts.proofs.FrameTab.Goings.{begun_of}
 use Rattle.log_model.specs.After.{ended}
 use Rattle.log_model.specs.AfterDocuments.{addressed, on_document}
 use Rattle.log_model.specs.Equal.{has_req}
@@ -15,16 +15,16 @@ use Rattle.log_model.specs.declared.outcome.Ending.{Ending}
 use Rattle.log_model.specs.declared.request.Mode.{Mode}
 use Rattle.log_model.specs.declared.row_kind.Actor.{Actor}
 use Rattle.log_model.specs.declared.job.Why.{Why}
-use Rattle.mover_facts.specs.Movers.{IsMovedBy}
-use Rattle.owed_facts.proofs.Aims.{ended_aim}
-use Rattle.owed_facts.proofs.Rows.{IsIdle, sent_stays}
-use Rattle.owed_facts.specs.Owed.{AreUnasked, IsReckoned}
-use Rattle.request_facts.proofs.Readers.{SameReads, on_read}
+use Rattle.seen_facts.specs.Mover.Movers.{IsMovedBy}
+use Rattle.row_facts.proofs.Owed.Aims.{ended_aim}
+use Rattle.row_facts.proofs.Owed.Rows.{IsIdle, sent_stays}
+use Rattle.row_facts.specs.Owed.Owed.{AreUnasked, IsReckoned}
+use Rattle.seen_facts.proofs.Request.Readers.{SameReads, on_read}
 use Rattle.std.proofs.Common.{Bool, List, Some, [], ap, cond, false, refl, true, ℕ, ◌==◌, ◌∙◌, ◌∷◌, ◌≡◌}
 use Rattle.tab_ids.specs.declared.DocId.{DocId}
 use Rattle.tab_ids.specs.declared.NavId.{NavId}
 use Rattle.tab_ids.specs.declared.ReqId.{ReqId}
-use Rattle.walk_rows.proofs.Moved.{dropped_moved, refused_moved, sent_moved}
+use Rattle.row_facts.proofs.WalkRows.Moved.{dropped_moved, refused_moved, sent_moved}
 use Rattle.log_model.specs.declared.job.Task.TheVariants as tasks
 use Rattle.log_model.specs.declared.outcome.Ending.TheVariants as endings
 use Rattle.log_model.specs.declared.row_kind.RowKind.TheVariants as rows

@@ -1,11 +1,11 @@
 -- What becomes of a load against which there is no reason, where it is dropped, or its document is sent to a fragment: what the doors ask, and that a pass may follow.
-use Rattle.calm_facts.proofs.Sames.{way_at}
-use Rattle.each_facts.specs.Runs.{is_this}
-use Rattle.hang_facts.proofs.Forms.{nav_is}
+use Rattle.tab_facts.proofs.Calm.Sames.{way_at}
+use Rattle.seen_facts.specs.Each.Runs.{is_this}
+use Rattle.seen_facts.proofs.Hang.Forms.{nav_is}
 use Rattle.load_doors.specs.Loading.{IsOpenHere}
 use Rattle.load_table.specs.Loads.{ongoing_load}
 use Rattle.load_table.specs.declared.load.Load.{Load}
-use Rattle.load_ties.specs.Tying.{HasLoad}
+use Rattle.seen_facts.specs.LoadTies.Tying.{HasLoad}
 use Rattle.log_model.specs.Causes.{denial_at_acceptance}
 use Rattle.log_model.specs.Equal.{holds}
 use Rattle.log_model.specs.History.{has_nav}
@@ -15,7 +15,7 @@ use Rattle.log_model.specs.declared.job.Job.{Job}
 use Rattle.log_model.specs.declared.outcome.Denial.{Denial}
 use Rattle.log_model.specs.declared.request.Mode.{Mode}
 use Rattle.log_model.specs.declared.row_kind.RowKind.{RowKind}
-use Rattle.owed_facts.proofs.Rows.{reckoned_now}
+use Rattle.row_facts.proofs.Owed.Rows.{reckoned_now}
 use Rattle.seen_laws.specs.InEvent.{now_of}
 use Rattle.std.proofs.Common.{Bool, List, None, Option, Some, [], ap, false, not, refl, subst, sym, true, ℕ, ◌&&◌, ◌++◌, ◌==◌, ◌||◌, ◌∙◌, ◌∷◌, ◌≡◌}
 use Rattle.std.proofs.lemmas.Bool.{and_parts}
@@ -45,7 +45,7 @@ use Rattle.tab_loads.specs.Telling.{aim_at, away_in, cut_by_in, fragment_in}
 use Rattle.tab_loads.specs.declared.loaded.Loaded.TheVariants.{CutOff, ToFragment}
 use Rattle.tab_passes.proofs.Aims.{aim_is, held_aim}
 use Rattle.tab_passes.specs.Passing.{IsPassing}
-use Rattle.tab_whole.proofs.Refusing.{load_other}
+use Rattle.tab_facts.proofs.TabWhole.Refusing.{load_other}
 use Rattle.log_model.specs.declared.job.Task.TheVariants as tasks
 use Rattle.log_model.specs.declared.job.Why.TheVariants as whys
 use Rattle.log_model.specs.declared.outcome.Cause.TheVariants as drops

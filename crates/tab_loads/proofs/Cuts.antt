@@ -1,13 +1,13 @@
 -- A load is dropped, since its navigable, or one above it, isn't shown at the aim or doesn't stand there: for which request, and that the event's end pays it.
-use Rattle.asked_facts.specs.Asking.{IsAskedPlainly}
+use Rattle.seen_facts.specs.Asked.Asking.{IsAskedPlainly}
 use Rattle.apply_plan.specs.Reaches as tables
-use Rattle.calm_facts.proofs.Awakes.{stand_each}
-use Rattle.calm_facts.proofs.Sames.{way_at}
-use Rattle.coord_facts.proofs.Unread.{next}
-use Rattle.each_facts.specs.Runs.{is_run, is_this}
-use Rattle.hang_facts.proofs.Forms.{nav_is}
-use Rattle.load_rows.proofs.Drops.{displaced_at, off_at}
-use Rattle.load_rows.specs.Dropping.{IsLoadBy, IsMovedBy, IsStillMovedBy, IsUnderAdder}
+use Rattle.tab_facts.proofs.Calm.Awakes.{stand_each}
+use Rattle.tab_facts.proofs.Calm.Sames.{way_at}
+use Rattle.seen_facts.proofs.Coord.Unread.{next}
+use Rattle.seen_facts.specs.Each.Runs.{is_run, is_this}
+use Rattle.seen_facts.proofs.Hang.Forms.{nav_is}
+use Rattle.row_facts.proofs.LoadRows.Drops.{displaced_at, off_at}
+use Rattle.row_facts.specs.LoadRows.Dropping.{IsLoadBy, IsMovedBy, IsStillMovedBy, IsUnderAdder}
 use Rattle.log_model.proofs.Refl.{nat_eq_refl}
 use Rattle.log_model.specs.Causes.{changed_one_of, nav_of_change}
 use Rattle.log_model.specs.Equal.{holds}
@@ -24,14 +24,14 @@ use Rattle.nav_tree.specs.declared.nav.Nav.{Nav}
 use Rattle.nav_tree.specs.declared.node.Node.{Node}
 use Rattle.nav_tree.specs.declared.status.NavStatus.{NavStatus}
 use Rattle.nav_tree.specs.declared.status.NavStatus.TheVariants as kept
-use Rattle.owed_facts.proofs.Drops.{adder_owes, moved_owes, still_moved_owes}
-use Rattle.owed_facts.proofs.Ends.{loose_more, loose_owed, owed_more}
-use Rattle.owed_facts.proofs.Rows.{dropped_lasts, dropped_stays, reckoned_now}
-use Rattle.owed_facts.specs.Owed.{IsLoose, IsOwed}
-use Rattle.place_facts.specs.Standing.{IsAskedBy}
+use Rattle.row_facts.proofs.Owed.Drops.{adder_owes, moved_owes, still_moved_owes}
+use Rattle.row_facts.proofs.Owed.Ends.{loose_more, loose_owed, owed_more}
+use Rattle.row_facts.proofs.Owed.Rows.{dropped_lasts, dropped_stays, reckoned_now}
+use Rattle.row_facts.specs.Owed.Owed.{IsLoose, IsOwed}
+use Rattle.seen_facts.specs.Place.Standing.{IsAskedBy}
 use Rattle.seen_laws.specs.Blocks.{point_at}
 use Rattle.seen_laws.specs.InEvent.{InEvent, here_of, now_of}
-use Rattle.shown_ways.proofs.Keeps.{shown_on_way, way_more}
+use Rattle.tab_facts.proofs.ShownWays.Keeps.{shown_on_way, way_more}
 use Rattle.std.proofs.Common.{Bool, List, None, Option, Some, [], ap, false, inl, inr, not, refl, subst, sym, true, ℕ, ◌&&◌, ◌==◌, ◌||◌, ◌∙◌, ◌∷◌, ◌≡◌, ◌⊎◌}
 use Rattle.std.proofs.lemmas.Bool.{and_parts, or_right}
 use Rattle.std.specs.Prelude.{if◌then◌else◌, is_none, is_some, option_and_then, option_map}
@@ -48,7 +48,7 @@ use Rattle.tab_loads.specs.Loading.{IsLoadAsk}
 use Rattle.tab_loads.specs.Telling.{cut_by, cut_by_in, is_new_nav, mover_of}
 use Rattle.tab_passes.proofs.Aims.{aim_is}
 use Rattle.tab_passes.specs.Passing.{InPass, IsPassing, aim_in}
-use Rattle.walk_rows.proofs.Needs.{dropped_stood}
+use Rattle.row_facts.proofs.WalkRows.Needs.{dropped_stood}
 use Rattle.tab_stands.specs.Offs.{AreOffKnown, IsOffSince, is_new_place}
 use Rattle.log_model.specs.declared.outcome.Cause.TheVariants as drops
 use Rattle.log_model.specs.declared.row_kind.RowKind.TheVariants as rows

@@ -1,5 +1,5 @@
 -- The own row of a load was logged against which a reason stands: all goes on with the load at hand, and a pass may follow once it is refused.
-use Rattle.load_whereabouts.specs.Whereabouts.{times_on_way, ways_of}
+use Rattle.seen_facts.specs.LoadWhereabouts.Whereabouts.{times_on_way, ways_of}
 use Rattle.log_model.specs.Causes.{denial_at_acceptance}
 use Rattle.log_model.specs.Equal.{has_req}
 use Rattle.log_model.specs.Places.{aim_of}
@@ -7,7 +7,7 @@ use Rattle.log_model.specs.Seen.{Asked, Seen, request_in, request_of}
 use Rattle.log_model.specs.declared.request.Mode.{Mode}
 use Rattle.log_model.specs.declared.request.Request.{Request}
 use Rattle.move_queue.specs.Queue.{Queue}
-use Rattle.rest_rows.specs.Moving.{AllRest}
+use Rattle.row_facts.specs.RestRows.Moving.{AllRest}
 use Rattle.seen_laws.specs.InEvent.{InEvent, now_of}
 use Rattle.std.proofs.Common.{List, None, Option, Some, [], ap, arith, false, inl, inr, length, refl, subst, sym, true, ℕ, ◌<◌, ◌∙◌, ◌∷◌, ◌≡◌, ◌≤◌, ◌⊎◌}
 use Rattle.std.proofs.lemmas.Bool.Decides.{nat_tests}
@@ -15,7 +15,7 @@ use Rattle.std.specs.Prelude.{nat_lt}
 use Rattle.tab_doors.specs.declared.tables.Tables.{Tables}
 use Rattle.tab_drops.proofs.Loads.{IsAskedFor, asked_for}
 use Rattle.tab_drops.specs.Dropping.{AreUnheld}
-use Rattle.tab_going.specs.Going.{IsGoing}
+use Rattle.tab_facts.specs.TabGoing.Going.{IsGoing}
 use Rattle.tab_ids.specs.declared.NavId.{NavId}
 use Rattle.tab_ids.specs.declared.ReqId.{ReqId}
 use Rattle.tab_ids.specs.declared.StateId.{StateId}
@@ -30,9 +30,9 @@ use Rattle.tab_stands.proofs.LateEvents.{late_first}
 use Rattle.tab_stands.proofs.MovedEvents.{moved_coming}
 use Rattle.tab_stands.proofs.Waiting.{queued_still, queueing_now}
 use Rattle.tab_turns.proofs.Turned.{turning_first}
-use Rattle.tab_whole.proofs.Accepting.{load_accepted_tab}
-use Rattle.tab_whole.proofs.Where.{way_unheld}
-use Rattle.tab_whole.specs.Tab.{IsTab}
+use Rattle.tab_facts.proofs.TabWhole.Accepting.{load_accepted_tab}
+use Rattle.tab_facts.proofs.TabWhole.Where.{way_unheld}
+use Rattle.tab_facts.specs.TabWhole.Tab.{IsTab}
 use Rattle.log_model.specs.declared.request.Request.TheVariants as requests
 use Rattle.log_model.specs.declared.row_kind.Actor.TheVariants as actors
 

@@ -1,12 +1,12 @@
 -- The reason that the tables tell against a load is that of the log, as the event begins.
 use Rattle.apply_plan.specs.Reaches.{is_reached}
 use Rattle.apply_plan.specs.declared.reach.Reach.TheVariants.{Shown}
-use Rattle.calm_facts.proofs.Awakes.{lost_none}
-use Rattle.hang_facts.proofs.Forms.{IsPlaceOf, nav_is, place_there}
-use Rattle.hang_facts.proofs.Members.{any_has, has_any as any_of}
-use Rattle.hang_facts.proofs.Targets.{target_has, target_there}
-use Rattle.hang_facts.specs.Hanging.{Hangs}
-use Rattle.hang_facts.specs.Members.{Has}
+use Rattle.tab_facts.proofs.Calm.Awakes.{lost_none}
+use Rattle.seen_facts.proofs.Hang.Forms.{IsPlaceOf, nav_is, place_there}
+use Rattle.seen_facts.proofs.Hang.Members.{any_has, has_any as any_of}
+use Rattle.seen_facts.proofs.Hang.Targets.{target_has, target_there}
+use Rattle.seen_facts.specs.Hang.Hanging.{Hangs}
+use Rattle.seen_facts.specs.Hang.Members.{Has}
 use Rattle.log_model.proofs.Refl.{nat_eq_refl}
 use Rattle.log_model.specs.Causes.{denial_at_acceptance, is_unreachable}
 use Rattle.log_model.specs.Equal.{holds}
@@ -17,7 +17,7 @@ use Rattle.log_model.specs.Soundness.{IsSound}
 use Rattle.log_model.specs.declared.outcome.Denial.{Denial}
 use Rattle.log_model.specs.declared.request.Mode.{Mode}
 use Rattle.log_model.specs.declared.row.Row.{Row}
-use Rattle.place_facts.specs.Standing.{AreStanding}
+use Rattle.seen_facts.specs.Place.Standing.{AreStanding}
 use Rattle.std.proofs.Common.{Bool, List, None, Option, Some, ap, arith, false, length, not, refl, sym, true, ℕ, ◌&&◌, ◌<◌, ◌==◌, ◌∙◌, ◌≡◌, ◌≤◌}
 use Rattle.std.specs.Prelude.{if◌then◌else◌, is_some}
 use Rattle.step_index.specs.Held.{history_held}
@@ -26,8 +26,8 @@ use Rattle.tab_doors.specs.Dues.{has_any, has_none}
 use Rattle.tab_doors.specs.Look.{look_of}
 use Rattle.tab_doors.specs.Ties.{Holds}
 use Rattle.tab_doors.specs.declared.tables.Tables.{Tables}
-use Rattle.tab_going.proofs.Counts.{count_few}
-use Rattle.tab_going.specs.Going.{AreSteps, count_of, has_ended}
+use Rattle.tab_facts.proofs.TabGoing.Counts.{count_few}
+use Rattle.tab_facts.specs.TabGoing.Going.{AreSteps, count_of, has_ended}
 use Rattle.tab_ids.specs.declared.NavId.{NavId}
 use Rattle.tab_ids.specs.declared.ReqId.{ReqId}
 use Rattle.tab_loads.proofs.Reached.{shown_is}

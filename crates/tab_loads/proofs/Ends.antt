@@ -1,6 +1,6 @@
 -- All goes on after the load was refused or dropped as the first row that was put out.
-use Rattle.coord_facts.proofs.Unread.{next}
-use Rattle.last_facts.proofs.Rows.{dropped_lasting, refused_lasting}
+use Rattle.seen_facts.proofs.Coord.Unread.{next}
+use Rattle.tab_facts.proofs.Last.Rows.{dropped_lasting, refused_lasting}
 use Rattle.log_model.specs.Places.{aim_of, all_stand}
 use Rattle.log_model.specs.Seen.{Seen}
 use Rattle.log_model.specs.declared.outcome.Cause.{Cause}
@@ -8,25 +8,25 @@ use Rattle.log_model.specs.declared.outcome.Denial.{Denial}
 use Rattle.log_model.specs.declared.request.Mode.{Mode}
 use Rattle.log_model.specs.declared.row_kind.Actor.{Actor}
 use Rattle.log_model.specs.declared.row_kind.RowKind.{RowKind}
-use Rattle.owed_facts.specs.Owed.{IsLoose, IsOwed}
-use Rattle.rest_rows.proofs.Rows.{dropped_rests, refused_rests}
-use Rattle.rest_rows.specs.Moving.{AllRest}
+use Rattle.row_facts.specs.Owed.Owed.{IsLoose, IsOwed}
+use Rattle.row_facts.proofs.RestRows.Rows.{dropped_rests, refused_rests}
+use Rattle.row_facts.specs.RestRows.Moving.{AllRest}
 use Rattle.seen_laws.proofs.InEvents.{now_more}
 use Rattle.seen_laws.specs.InEvent.{InEvent, now_of}
 use Rattle.std.proofs.Common.{List, [], ap, length, refl, subst, sym, true, ℕ, ◌∙◌, ◌∷◌, ◌≡◌, ◌≤◌}
 use Rattle.tab_doors.specs.Working.{IsAtWork}
 use Rattle.tab_doors.specs.declared.tables.Tables.{Tables}
-use Rattle.tab_going.proofs.Rows.{dropped_going, refused_going}
-use Rattle.tab_going.specs.Going.{IsGoing}
+use Rattle.tab_facts.proofs.TabGoing.Rows.{dropped_going, refused_going}
+use Rattle.tab_facts.specs.TabGoing.Going.{IsGoing}
 use Rattle.tab_ids.specs.declared.DocId.{DocId}
 use Rattle.tab_ids.specs.declared.NavId.{NavId}
 use Rattle.tab_ids.specs.declared.ReqId.{ReqId}
 use Rattle.tab_loads.proofs.Firsts.{found, of_load, q}
 use Rattle.tab_loads.specs.Loading.{IsLoadAsk, pass_of}
 use Rattle.tab_passes.specs.Passing.{IsPassing}
-use Rattle.tab_whole.proofs.Ending.{IsNoProcess}
-use Rattle.tab_whole.proofs.Refusing.{hand_load_dropped_tab, load_refused_tab}
-use Rattle.tab_whole.specs.Tab.{IsTab}
+use Rattle.tab_facts.proofs.TabWhole.Ending.{IsNoProcess}
+use Rattle.tab_facts.proofs.TabWhole.Refusing.{hand_load_dropped_tab, load_refused_tab}
+use Rattle.tab_facts.specs.TabWhole.Tab.{IsTab}
 use Rattle.log_model.specs.declared.row_kind.RowKind.TheVariants as rows
 
 module _ (e : InEvent) (req : ReqId) (nav : NavId) (mode : Mode) (address : List ℕ) (asks : IsLoadAsk e req nav mode address) (t : Tables) (going : IsGoing t.running (req ∷ []) [] (now_of e [])) (rests : AllRest (now_of e [])) (few : length (now_of e []).kept ≤ t.kept.keep) where

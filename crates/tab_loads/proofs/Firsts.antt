@@ -1,5 +1,5 @@
 -- The load as its event begins: it is there by the next number, open and unstarted, at hand and nowhere else.
-use Rattle.coord_facts.proofs.Unread.{next}
+use Rattle.seen_facts.proofs.Coord.Unread.{next}
 use Rattle.load_doors.specs.Loading.{IsOpenHere}
 use Rattle.log_model.specs.After.{new_request}
 use Rattle.log_model.specs.Equal.{has_req}
@@ -8,10 +8,10 @@ use Rattle.log_model.specs.Points.{is_accepted_here}
 use Rattle.log_model.specs.Seen.{Asked, Seen, request_in, request_of}
 use Rattle.log_model.specs.declared.request.Mode.{Mode}
 use Rattle.log_model.specs.declared.row_kind.RowKind.{RowKind}
-use Rattle.owed_facts.proofs.Rows.{IsIdle, load_idle}
-use Rattle.request_facts.proofs.LookUps.{one_more}
-use Rattle.request_facts.proofs.Times.{itself, times_none}
-use Rattle.request_facts.specs.Whereabouts.{is_of_load}
+use Rattle.row_facts.proofs.Owed.Rows.{IsIdle, load_idle}
+use Rattle.seen_facts.proofs.Request.LookUps.{one_more}
+use Rattle.seen_facts.proofs.Request.Times.{itself, times_none}
+use Rattle.seen_facts.specs.Request.Whereabouts.{is_of_load}
 use Rattle.seen_laws.specs.Blocks.{point_at}
 use Rattle.seen_laws.specs.InEvent.{InEvent, here_of, now_of}
 use Rattle.std.proofs.Common.{List, None, Option, Some, [], ap, arith, cond, false, length, refl, subst, sym, true, ℕ, ◌==◌, ◌∙◌, ◌∷◌, ◌≡◌}
@@ -21,8 +21,8 @@ use Rattle.tab_doors.specs.Keeping.{IsNoLoad}
 use Rattle.tab_ids.specs.declared.NavId.{NavId}
 use Rattle.tab_ids.specs.declared.ReqId.{ReqId}
 use Rattle.tab_loads.specs.Loading.{IsLoadAsk}
-use Rattle.tab_whole.proofs.Where.{at_most_once}
-use Rattle.tab_whole.specs.Tab.{IsTab}
+use Rattle.tab_facts.proofs.TabWhole.Where.{at_most_once}
+use Rattle.tab_facts.specs.TabWhole.Tab.{IsTab}
 use Rattle.log_model.specs.declared.request.Request.TheVariants as requests
 use Rattle.log_model.specs.declared.row_kind.RowKind.TheVariants as rows
 

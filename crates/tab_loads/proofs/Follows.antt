@@ -1,15 +1,15 @@
 -- A pass may follow once the document of a load that has begun is being made.
-use Rattle.asked_facts.specs.Asking.{ArePlain}
-use Rattle.coord_facts.proofs.Unread.{next}
-use Rattle.frame_facts.specs.Lasting.{wish}
-use Rattle.frame_rows.specs.Lawful.{has_traversed}
-use Rattle.hang_facts.specs.Members.{Has}
-use Rattle.load_rows.specs.Beginning.{is_to_fragment}
+use Rattle.seen_facts.specs.Asked.Asking.{ArePlain}
+use Rattle.seen_facts.proofs.Coord.Unread.{next}
+use Rattle.tab_facts.specs.Frame.Lasting.{wish}
+use Rattle.row_facts.specs.FrameRows.Lawful.{has_traversed}
+use Rattle.seen_facts.specs.Hang.Members.{Has}
+use Rattle.row_facts.specs.LoadRows.Beginning.{is_to_fragment}
 use Rattle.log_model.specs.Places.{aim_of}
 use Rattle.log_model.specs.Seen.{Asked, Document, Place, Seen, document_of, place_of}
 use Rattle.log_model.specs.declared.job.Job.{Job}
 use Rattle.log_model.specs.declared.row_kind.RowKind.{RowKind}
-use Rattle.request_facts.proofs.Readers.{SameReads, reads_then}
+use Rattle.seen_facts.proofs.Request.Readers.{SameReads, reads_then}
 use Rattle.seen_laws.specs.InEvent.{now_of}
 use Rattle.std.proofs.Common.{List, None, Option, Some, [], ap, append_assoc, false, inl, inr, refl, subst, sym, ℕ, ◌++◌, ◌+◌, ◌∙◌, ◌∷◌, ◌≡◌, ◌⊎◌}
 use Rattle.tab_doors.specs.Orders.{next_order}
@@ -18,7 +18,7 @@ use Rattle.tab_doors.specs.declared.tables.Tables.{Tables}
 use Rattle.tab_drops.proofs.Loads.{load_held}
 use Rattle.tab_drops.proofs.Turns.{tied_load}
 use Rattle.tab_drops.specs.Dropping.{AreUnheld}
-use Rattle.tab_going.specs.Going.{IsGoing}
+use Rattle.tab_facts.specs.TabGoing.Going.{IsGoing}
 use Rattle.tab_ids.specs.declared.DocId.{DocId}
 use Rattle.tab_ids.specs.declared.NavId.{NavId}
 use Rattle.tab_ids.specs.declared.ProcId.{ProcId}

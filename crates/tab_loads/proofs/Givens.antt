@@ -1,9 +1,9 @@
 -- The entry that a navigable was given, where it stands, is the same row in the tables and in the log; so whether an address is a fragment navigation from it is told by both.
 use Rattle.apply_plan.proofs.Targets.{target_found}
-use Rattle.calm_facts.proofs.Calms.{IsGivenRow, given_row as target_given}
-use Rattle.hang_facts.proofs.Targets.{IsTarget, target_has}
+use Rattle.tab_facts.proofs.Calm.Calms.{IsGivenRow, given_row as target_given}
+use Rattle.seen_facts.proofs.Hang.Targets.{IsTarget, target_has}
 use Rattle.load_doors.specs.Loading.{IsGiven}
-use Rattle.load_rows.specs.Beginning.{is_to_fragment}
+use Rattle.row_facts.specs.LoadRows.Beginning.{is_to_fragment}
 use Rattle.log_model.proofs.Refl.{nat_eq_refl}
 use Rattle.log_model.specs.Equal.{holds}
 use Rattle.log_model.specs.History.{is_of, row_of, same_entry}

@@ -1,15 +1,15 @@
 -- The navigable's ongoing load gives way to the one that is to begin: what its drop asks, and that all goes on before the other one begins.
-use Rattle.coord_facts.proofs.Unread.{next}
-use Rattle.each_facts.proofs.Courses.{was_asked}
-use Rattle.each_facts.specs.Runs.{is_this}
-use Rattle.frame_facts.specs.Lasting.{Wish, wish}
+use Rattle.seen_facts.proofs.Coord.Unread.{next}
+use Rattle.seen_facts.proofs.Each.Courses.{was_asked}
+use Rattle.seen_facts.specs.Each.Runs.{is_this}
+use Rattle.tab_facts.specs.Frame.Lasting.{Wish, wish}
 use Rattle.load_doors.specs.Loading.{IsOpenHere}
-use Rattle.load_facts.specs.Loading.{look_of}
-use Rattle.load_rows.proofs.Drops.{new_unstarted}
-use Rattle.load_rows.specs.Dropping.{IsLoadBy, IsReplacedBy}
+use Rattle.seen_facts.specs.Load.Loading.{look_of}
+use Rattle.row_facts.proofs.LoadRows.Drops.{new_unstarted}
+use Rattle.row_facts.specs.LoadRows.Dropping.{IsLoadBy, IsReplacedBy}
 use Rattle.load_table.specs.Loads.{ongoing_load}
 use Rattle.load_table.specs.declared.load.Load.{Load}
-use Rattle.load_ties.specs.Tying.{HasLoad}
+use Rattle.seen_facts.specs.LoadTies.Tying.{HasLoad}
 use Rattle.log_model.specs.After.{after}
 use Rattle.log_model.specs.Places.{aim_of, is_load, is_ongoing_load, is_traversal}
 use Rattle.log_model.specs.Points.{nav_of_request}
@@ -17,12 +17,12 @@ use Rattle.log_model.specs.Seen.{Asked, Document, Seen, document_of, request_in,
 use Rattle.log_model.specs.declared.outcome.Cause.{Cause}
 use Rattle.log_model.specs.declared.request.Mode.{Mode}
 use Rattle.log_model.specs.declared.row_kind.RowKind.{RowKind}
-use Rattle.owed_facts.proofs.Drops.{replaced_owes}
-use Rattle.owed_facts.proofs.Ends.{owes_more}
-use Rattle.owed_facts.specs.Owed.{Lasts}
-use Rattle.request_facts.proofs.Readers.{SameReads, on_read}
-use Rattle.rest_rows.proofs.Rows.{dropped_rests}
-use Rattle.rest_rows.specs.Moving.{AllRest}
+use Rattle.row_facts.proofs.Owed.Drops.{replaced_owes}
+use Rattle.row_facts.proofs.Owed.Ends.{owes_more}
+use Rattle.row_facts.specs.Owed.Owed.{Lasts}
+use Rattle.seen_facts.proofs.Request.Readers.{SameReads, on_read}
+use Rattle.row_facts.proofs.RestRows.Rows.{dropped_rests}
+use Rattle.row_facts.specs.RestRows.Moving.{AllRest}
 use Rattle.seen_laws.proofs.InEvents.{now_more}
 use Rattle.seen_laws.specs.Blocks.{point_at}
 use Rattle.seen_laws.specs.InEvent.{InEvent, here_of, now_of, row_of, start_of}
@@ -37,7 +37,7 @@ use Rattle.tab_drops.proofs.Drops.{apart, ended_then, going_then, leaves_then_dr
 use Rattle.tab_drops.proofs.Loads.{IsAskedFor, asked_for, load_back, load_held, sole_load}
 use Rattle.tab_drops.proofs.Turns.{load_found, tied_load}
 use Rattle.tab_drops.specs.Dropping.{AreUnheld, LeavesAll}
-use Rattle.tab_going.specs.Going.{IsGoing}
+use Rattle.tab_facts.specs.TabGoing.Going.{IsGoing}
 use Rattle.tab_ids.specs.declared.DocId.{DocId}
 use Rattle.tab_ids.specs.declared.NavId.{NavId}
 use Rattle.tab_ids.specs.declared.ReqId.{ReqId}

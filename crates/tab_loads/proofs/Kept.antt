@@ -1,12 +1,12 @@
 -- What is as it was before the load began, once its document is being made.
-use Rattle.coord_facts.proofs.Held.{on_else}
-use Rattle.coord_facts.proofs.Unread.{next}
-use Rattle.frame_facts.specs.Lasting.{wish}
-use Rattle.frame_rows.specs.Lawful.{held_at_first}
-use Rattle.hang_facts.proofs.Forms.{nav_is as nav_same}
-use Rattle.home_facts.specs.Homes.{document_in}
-use Rattle.load_ends.specs.Standing.{is_reached}
-use Rattle.load_facts.specs.Loading.{Look, look, look_of}
+use Rattle.seen_facts.proofs.Coord.Held.{on_else}
+use Rattle.seen_facts.proofs.Coord.Unread.{next}
+use Rattle.tab_facts.specs.Frame.Lasting.{wish}
+use Rattle.row_facts.specs.FrameRows.Lawful.{held_at_first}
+use Rattle.seen_facts.proofs.Hang.Forms.{nav_is as nav_same}
+use Rattle.seen_facts.specs.Home.Homes.{document_in}
+use Rattle.seen_facts.specs.LoadEnds.Standing.{is_reached}
+use Rattle.seen_facts.specs.Load.Loading.{Look, look, look_of}
 use Rattle.log_model.specs.AfterDocuments.{new_document}
 use Rattle.log_model.specs.AfterRequests.{on_request, request_begun}
 use Rattle.log_model.specs.Equal.{has_req}
@@ -16,8 +16,8 @@ use Rattle.log_model.specs.Seen.{Asked, Document, Place, Seen, document_of, plac
 use Rattle.log_model.specs.declared.job.Job.{Job}
 use Rattle.log_model.specs.declared.job.Why.{Why}
 use Rattle.log_model.specs.declared.row_kind.RowKind.{RowKind}
-use Rattle.mover_facts.specs.Movers.{IsMovedBy}
-use Rattle.request_facts.proofs.Readers.{SameReads, on_read, reads_then}
+use Rattle.seen_facts.specs.Mover.Movers.{IsMovedBy}
+use Rattle.seen_facts.proofs.Request.Readers.{SameReads, on_read, reads_then}
 use Rattle.seen_laws.specs.InEvent.{now_of}
 use Rattle.std.proofs.Common.{Bool, List, None, Option, Some, [], ap, arith, cond, false, inl, inr, refl, subst, sym, true, ℕ, ◌++◌, ◌+◌, ◌==◌, ◌∙◌, ◌∷◌, ◌≡◌, ◌⊎◌}
 use Rattle.std.proofs.lemmas.Bool.Decides.{nat_tests}
@@ -26,7 +26,7 @@ use Rattle.tab_doors.specs.Orders.{next_order}
 use Rattle.tab_doors.specs.Working.{IsAtWork, KeepsStore}
 use Rattle.tab_doors.specs.declared.tables.Tables.{Tables}
 use Rattle.tab_drops.specs.Dropping.{AreUnheld}
-use Rattle.tab_going.specs.Going.{IsGoing}
+use Rattle.tab_facts.specs.TabGoing.Going.{IsGoing}
 use Rattle.tab_ids.specs.declared.DocId.{DocId}
 use Rattle.tab_ids.specs.declared.NavId.{NavId}
 use Rattle.tab_ids.specs.declared.ProcId.{ProcId}
@@ -44,8 +44,8 @@ use Rattle.tab_passes.specs.Causes.{MayCause}
 use Rattle.tab_stands.proofs.PassedOn.{reached_same}
 use Rattle.tab_stands.specs.PassedOn.{IsLoadOf as LoadOf}
 use Rattle.tab_turns.proofs.Turned.{KeepBegun, begun_with, causes_on}
-use Rattle.walk_facts.proofs.Turns.{make_aim}
-use Rattle.walk_rows.proofs.Moved.{sent_moved, started_moved}
+use Rattle.seen_facts.proofs.Walk.Turns.{make_aim}
+use Rattle.row_facts.proofs.WalkRows.Moved.{sent_moved, started_moved}
 use Rattle.log_model.specs.declared.job.Task.TheVariants as tasks
 use Rattle.log_model.specs.declared.job.Why.TheVariants as whys
 use Rattle.log_model.specs.declared.row_kind.RowKind.TheVariants as rows

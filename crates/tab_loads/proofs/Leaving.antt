@@ -1,21 +1,21 @@
 -- Rows that leave the history, the navigables and the documents that are there: what documents made may be taken after them as before, so that a pass may follow.
-use Rattle.asked_facts.specs.Asking.{ArePlain}
-use Rattle.calm_facts.specs.Calm.{AreRooted, CalmUnless, IsCalmYet, IsHere, IsRooted, UnmovedAreHere}
-use Rattle.frame_rows.specs.Lawful.{held_at_first}
-use Rattle.frame_tab.proofs.Running.{moved_same as moved_in}
-use Rattle.hang_facts.specs.Members.{Has}
-use Rattle.home_facts.specs.Homes.{AreHomed, IsAtHome}
-use Rattle.left_facts.specs.Left.{LastWereShown, OwnersFollow, WasEverShown, WereShown}
-use Rattle.load_ends.specs.Standing.{is_reached}
+use Rattle.seen_facts.specs.Asked.Asking.{ArePlain}
+use Rattle.tab_facts.specs.Calm.Calm.{AreRooted, CalmUnless, IsCalmYet, IsHere, IsRooted, UnmovedAreHere}
+use Rattle.row_facts.specs.FrameRows.Lawful.{held_at_first}
+use Rattle.tab_facts.proofs.FrameTab.Running.{moved_same as moved_in}
+use Rattle.seen_facts.specs.Hang.Members.{Has}
+use Rattle.seen_facts.specs.Home.Homes.{AreHomed, IsAtHome}
+use Rattle.row_facts.specs.Left.Left.{LastWereShown, OwnersFollow, WasEverShown, WereShown}
+use Rattle.seen_facts.specs.LoadEnds.Standing.{is_reached}
 use Rattle.log_model.specs.Equal.{has_req}
 use Rattle.log_model.specs.History.{History, has_row, has_state}
 use Rattle.log_model.specs.Places.{aim_of, is_awake, is_given_target, is_moved, is_shown}
 use Rattle.log_model.specs.Seen.{Asked, Document, Place, Seen, document_of, place_in, place_of}
 use Rattle.log_model.specs.declared.job.Why.{Why}
 use Rattle.log_model.specs.declared.row.Row.{Row}
-use Rattle.mover_facts.proofs.Stays.{KeepWays}
-use Rattle.mover_facts.specs.Movers.{IsMovedBy}
-use Rattle.request_facts.proofs.Readers.{SameReads}
+use Rattle.seen_facts.proofs.Mover.Stays.{KeepWays}
+use Rattle.seen_facts.specs.Mover.Movers.{IsMovedBy}
+use Rattle.seen_facts.proofs.Request.Readers.{SameReads}
 use Rattle.seen_laws.specs.InEvent.{InEvent}
 use Rattle.std.proofs.Common.{Bool, List, None, Option, Some, ap, arith, false, inl, inr, refl, subst, sym, true, ◌∙◌, ◌≡◌, ◌≤◌, ◌⊎◌}
 use Rattle.std.specs.Prelude.{option_map}
@@ -25,8 +25,8 @@ use Rattle.tab_ids.specs.declared.ReqId.{ReqId}
 use Rattle.tab_ids.specs.declared.StateId.{StateId}
 use Rattle.tab_stands.proofs.PassedOn.{IsBare, IsUnsettled, StandOrBare, new_of, reached_same, show_causes, takers_on, visited_same}
 use Rattle.tab_stands.specs.PassedOn.{AreBlamed, IsLoadOf, IsOpen, IsTaking, LoadsLive, MayCause, MayServe, MayStand, ParentsShown, StandOrMove, TakersServe, show_why}
-use Rattle.walk_rows.proofs.Moved.{run_moves}
-use Rattle.walk_rows.specs.Since.{MovesVisited}
+use Rattle.row_facts.proofs.WalkRows.Moved.{run_moves}
+use Rattle.row_facts.specs.WalkRows.Since.{MovesVisited}
 use Rattle.log_model.specs.declared.job.Why.TheVariants as whys
 
 -- what is read of the history of a place

@@ -1,6 +1,6 @@
 -- Ongoing loads live on once the document of one that has begun is being made, and no other document is stray.
-use Rattle.calm_facts.specs.Loads.{LoadsHaveDocuments}
-use Rattle.coord_facts.proofs.Unread.{next}
+use Rattle.tab_facts.specs.Calm.Loads.{LoadsHaveDocuments}
+use Rattle.seen_facts.proofs.Coord.Unread.{next}
 use Rattle.log_model.proofs.Refl.{nat_eq_refl}
 use Rattle.log_model.specs.AfterDocuments.{new_document}
 use Rattle.log_model.specs.AfterRequests.{request_begun}
@@ -11,8 +11,8 @@ use Rattle.log_model.specs.Seen.{Asked, Document, Place, Seen, document_of, plac
 use Rattle.log_model.specs.declared.job.Job.{Job}
 use Rattle.log_model.specs.declared.job.Why.{Why}
 use Rattle.log_model.specs.declared.row_kind.RowKind.{RowKind}
-use Rattle.mover_facts.specs.Movers.{IsMovedBy}
-use Rattle.rest_facts.specs.Between.{HasLoadDocument}
+use Rattle.seen_facts.specs.Mover.Movers.{IsMovedBy}
+use Rattle.seen_facts.specs.Rest.Between.{HasLoadDocument}
 use Rattle.seen_laws.specs.InEvent.{now_of}
 use Rattle.std.proofs.Common.{Bool, List, None, Option, Some, [], ap, arith, cond, false, inl, inr, refl, subst, sym, true, ℕ, ◌++◌, ◌+◌, ◌==◌, ◌||◌, ◌∙◌, ◌∷◌, ◌≡◌, ◌⊎◌}
 use Rattle.std.proofs.lemmas.Bool.Decides.{nat_tests}
@@ -40,7 +40,7 @@ use Rattle.tab_passes.specs.Causes.{MayCause}
 use Rattle.tab_passes.specs.Passing.{IsPassing}
 use Rattle.tab_stands.proofs.PassedOn.{IsReachedAt, loaded_never, of_load, serve_on}
 use Rattle.tab_stands.specs.PassedOn.{AreBlamed, IsBlamed, IsLoadOf as LoadOf, LoadsLive}
-use Rattle.walk_rows.specs.Since.{WasAwake}
+use Rattle.row_facts.specs.WalkRows.Since.{WasAwake}
 use Rattle.log_model.specs.declared.job.Task.TheVariants as tasks
 use Rattle.log_model.specs.declared.job.Why.TheVariants as whys
 use Rattle.log_model.specs.declared.row_kind.RowKind.TheVariants as rows

@@ -1,19 +1,19 @@
 -- The document of a load that has begun is to be made: the load is there, with the next document state, of which no document is there or being made.
-use Rattle.asked_facts.specs.Asking.{IsAskedPlainly}
-use Rattle.coord_facts.proofs.Unread.{next}
-use Rattle.hang_facts.proofs.Members.{find_has}
-use Rattle.hang_facts.proofs.Parts.{state_is as state_same}
-use Rattle.hang_facts.specs.Members.{Has}
-use Rattle.home_facts.specs.Homes.{document_in}
+use Rattle.seen_facts.specs.Asked.Asking.{IsAskedPlainly}
+use Rattle.seen_facts.proofs.Coord.Unread.{next}
+use Rattle.seen_facts.proofs.Hang.Members.{find_has}
+use Rattle.seen_facts.proofs.Hang.Parts.{state_is as state_same}
+use Rattle.seen_facts.specs.Hang.Members.{Has}
+use Rattle.seen_facts.specs.Home.Homes.{document_in}
 use Rattle.load_doors.specs.Loading.{begun_load}
-use Rattle.load_facts.specs.Loading.{look}
-use Rattle.load_rows.proofs.Begins.{begun_there}
-use Rattle.load_rows.proofs.LoadMakes.{needs_first, ongoing_there}
-use Rattle.load_rows.specs.LoadMaking.{IsAloneWith}
+use Rattle.seen_facts.specs.Load.Loading.{look}
+use Rattle.row_facts.proofs.LoadRows.Begins.{begun_there}
+use Rattle.row_facts.proofs.LoadRows.LoadMakes.{needs_first, ongoing_there}
+use Rattle.row_facts.specs.LoadRows.LoadMaking.{IsAloneWith}
 use Rattle.load_table.specs.Loads.{ongoing_load}
 use Rattle.load_table.specs.declared.load.Load.{Load}
-use Rattle.load_ties.proofs.Begins.{found_nav, none_made}
-use Rattle.load_ties.specs.Tying.{IsLoadTied, is_for_state, made_for}
+use Rattle.seen_facts.proofs.LoadTies.Begins.{found_nav, none_made}
+use Rattle.seen_facts.specs.LoadTies.Tying.{IsLoadTied, is_for_state, made_for}
 use Rattle.log_model.proofs.Refl.{nat_eq_refl}
 use Rattle.log_model.specs.AfterRequests.{request_begun}
 use Rattle.log_model.specs.Equal.{holds}
@@ -22,7 +22,7 @@ use Rattle.log_model.specs.Places.{is_ongoing_load, is_traversal}
 use Rattle.log_model.specs.Seen.{Asked, Document, Place, Seen, document_of, place_of, request_of}
 use Rattle.log_model.specs.declared.row_kind.RowKind.{RowKind}
 use Rattle.nav_tree.specs.Tree.{is_nav, is_state}
-use Rattle.rest_facts.proofs.Still.{found_itself}
+use Rattle.seen_facts.proofs.Rest.Still.{found_itself}
 use Rattle.seen_laws.proofs.Keyed.{find_has as seen_number}
 use Rattle.seen_laws.specs.InEvent.{now_of}
 use Rattle.std.proofs.Common.{Bool, List, None, Option, Some, [], ap, arith, false, inl, inr, length, map, not, refl, subst, sym, true, ℕ, ◌&&◌, ◌++◌, ◌+◌, ◌==◌, ◌||◌, ◌∙◌, ◌∷◌, ◌≡◌, ◌≤◌}

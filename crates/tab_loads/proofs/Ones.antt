@@ -1,6 +1,6 @@
 -- A row that changes one request alone, which hasn't begun: what documents made may be taken after it as before, and the queue waits on.
-use Rattle.asked_facts.specs.Asking.{ArePlain}
-use Rattle.home_facts.specs.Homes.{AreHomed, document_in}
+use Rattle.seen_facts.specs.Asked.Asking.{ArePlain}
+use Rattle.seen_facts.specs.Home.Homes.{AreHomed, document_in}
 use Rattle.log_model.specs.History.{History, has_state}
 use Rattle.log_model.specs.Orders.{is_usable}
 use Rattle.log_model.specs.Seen.{Asked, Document, Place, Seen, place_in, place_of, request_of}

@@ -1,7 +1,7 @@
 -- The order that makes the document of a load that has begun.
-use Rattle.asked_facts.specs.Asking.{IsAskedPlainly}
-use Rattle.load_rows.proofs.LoadMakes.{unasked_passed}
-use Rattle.load_rows.specs.LoadMaking.{IsMakeOfLoadDue}
+use Rattle.seen_facts.specs.Asked.Asking.{IsAskedPlainly}
+use Rattle.row_facts.proofs.LoadRows.LoadMakes.{unasked_passed}
+use Rattle.row_facts.specs.LoadRows.LoadMaking.{IsMakeOfLoadDue}
 use Rattle.log_model.specs.AfterRequests.{request_begun}
 use Rattle.log_model.specs.Orders.{needs_document, ongoing_load as load_of_state}
 use Rattle.log_model.specs.Places.{aim_of}
@@ -28,7 +28,7 @@ use Rattle.tab_passes.proofs.Goings.{is_passed_for}
 use Rattle.tab_passes.specs.Causes.{MayCause}
 use Rattle.tab_passes.specs.Passing.{IsPassing}
 use Rattle.tab_stands.proofs.PassedOn.{IsReachedAt}
-use Rattle.walk_facts.specs.Serving.{is_stopping}
+use Rattle.seen_facts.specs.Walk.Serving.{is_stopping}
 use Rattle.log_model.specs.declared.job.Task.TheVariants as tasks
 use Rattle.log_model.specs.declared.job.Why.TheVariants as whys
 use Rattle.log_model.specs.declared.row_kind.RowKind.TheVariants as rows

@@ -1,6 +1,6 @@
 -- The queue waits on once the document of a load that has begun is being made.
-use Rattle.coord_facts.proofs.Unread.{next}
-use Rattle.hang_facts.specs.Members.{Has}
+use Rattle.seen_facts.proofs.Coord.Unread.{next}
+use Rattle.seen_facts.specs.Hang.Members.{Has}
 use Rattle.log_model.specs.ActsAtOnce.{has_document}
 use Rattle.log_model.specs.AfterDocuments.{new_document}
 use Rattle.log_model.specs.AfterRequests.{request_begun}
@@ -10,7 +10,7 @@ use Rattle.log_model.specs.Places.{is_ongoing_load}
 use Rattle.log_model.specs.Seen.{Asked, Document, Seen, document_of, request_of}
 use Rattle.log_model.specs.declared.job.Job.{Job}
 use Rattle.log_model.specs.declared.row_kind.RowKind.{RowKind}
-use Rattle.request_facts.proofs.Readers.{SameReads}
+use Rattle.seen_facts.proofs.Request.Readers.{SameReads}
 use Rattle.seen_laws.specs.InEvent.{now_of}
 use Rattle.std.proofs.Common.{Bool, List, None, Option, Some, [], ap, arith, false, inl, inr, not, refl, sym, true, ℕ, ◌&&◌, ◌++◌, ◌+◌, ◌==◌, ◌||◌, ◌∙◌, ◌∷◌, ◌≡◌}
 use Rattle.std.proofs.lemmas.Bool.Decides.{nat_tests}

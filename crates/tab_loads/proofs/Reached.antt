@@ -3,9 +3,9 @@ use Rattle.apply_plan.specs.Needs.{is_pending}
 use Rattle.apply_plan.specs.Reaches.{is_awake, is_reached, is_reached_within, way_up}
 use Rattle.apply_plan.specs.Standing.{has_arrived, is_standing}
 use Rattle.apply_plan.specs.declared.reach.Reach.TheVariants.{Shown}
-use Rattle.coord_facts.proofs.Held.{fun_ext}
-use Rattle.hang_facts.proofs.Members.{find_has}
-use Rattle.hang_facts.specs.Hanging.{Hangs}
+use Rattle.seen_facts.proofs.Coord.Held.{fun_ext}
+use Rattle.seen_facts.proofs.Hang.Members.{find_has}
+use Rattle.seen_facts.specs.Hang.Hanging.{Hangs}
 use Rattle.log_model.specs.Equal.{holds}
 use Rattle.log_model.specs.History.{same_entry, target_entry}
 use Rattle.log_model.specs.Places.{is_placed, is_shown, stands as stands_at}
@@ -19,7 +19,7 @@ use Rattle.nav_tree.specs.declared.status.NavStatus.{NavStatus}
 use Rattle.nav_tree.specs.declared.status.NavStatus.TheVariants.{Asleep, Awake, Lost}
 use Rattle.plan_laws.proofs.ReachLaws.{GoesOn, reach_is}
 use Rattle.plan_laws.specs.Held.{IsKept, StandFor, status_of}
-use Rattle.rest_facts.proofs.Stands.{get_of}
+use Rattle.seen_facts.proofs.Rest.Stands.{get_of}
 use Rattle.std.proofs.Common.{Bool, List, None, Option, Some, [], ap, false, length, not, refl, subst, suc, sym, true, zero, ℕ, ◌&&◌, ◌==◌, ◌||◌, ◌∙◌, ◌∷◌, ◌≡◌}
 use Rattle.std.specs.List.{list_any}
 use Rattle.std.specs.Prelude.{if◌then◌else◌, is_some, option_and_then}
@@ -33,7 +33,7 @@ use Rattle.tab_ids.specs.declared.ReqId.{ReqId}
 use Rattle.tab_ids.specs.declared.StateId.{StateId}
 use Rattle.tab_loads.specs.Telling.{is_placed_at}
 use Rattle.tab_passes.proofs.Stand.{stands}
-use Rattle.walk_facts.proofs.Placed.{found_nav}
+use Rattle.seen_facts.proofs.Walk.Placed.{found_nav}
 
 -- ---- the way up reads the targets alone
 

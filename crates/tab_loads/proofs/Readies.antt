@@ -1,9 +1,9 @@
 -- A pass may follow once the load was refused or dropped, or a document was sent to a fragment for it, by the first row that was put out.
-use Rattle.coord_facts.proofs.Held.{held_alike}
-use Rattle.coord_facts.proofs.Unread.{next}
-use Rattle.coord_facts.specs.Leading.{held_back}
-use Rattle.frame_facts.specs.Lasting.{wish}
-use Rattle.frame_rows.specs.Lawful.{has_traversed}
+use Rattle.seen_facts.proofs.Coord.Held.{held_alike}
+use Rattle.seen_facts.proofs.Coord.Unread.{next}
+use Rattle.seen_facts.specs.Coord.Leading.{held_back}
+use Rattle.tab_facts.specs.Frame.Lasting.{wish}
+use Rattle.row_facts.specs.FrameRows.Lawful.{has_traversed}
 use Rattle.log_model.specs.Equal.{has_req}
 use Rattle.log_model.specs.History.{History}
 use Rattle.log_model.specs.Places.{aim_of, all_stand, all_stand_in}
@@ -12,12 +12,12 @@ use Rattle.log_model.specs.Seen.{Place, Seen}
 use Rattle.log_model.specs.declared.request.Mode.{Mode}
 use Rattle.log_model.specs.declared.row_kind.RowKind.{RowKind}
 use Rattle.move_queue.specs.Queue.{Queue}
-use Rattle.request_facts.proofs.Readers.{SameReads}
+use Rattle.seen_facts.proofs.Request.Readers.{SameReads}
 use Rattle.seen_laws.proofs.InEvents.{now_more}
 use Rattle.seen_laws.specs.InEvent.{InEvent, now_of, row_of}
 use Rattle.std.proofs.Common.{Bool, List, Option, [], ap, false, inl, inr, refl, subst, sym, true, ℕ, ◌||◌, ◌∙◌, ◌∷◌, ◌≡◌, ◌⊎◌}
 use Rattle.tab_doors.specs.declared.tables.Tables.{Tables}
-use Rattle.tab_going.specs.Going.{IsGoing}
+use Rattle.tab_facts.specs.TabGoing.Going.{IsGoing}
 use Rattle.tab_ids.specs.declared.NavId.{NavId}
 use Rattle.tab_ids.specs.declared.ReqId.{ReqId}
 use Rattle.tab_ids.specs.declared.StateId.{StateId}
@@ -32,7 +32,7 @@ use Rattle.tab_stands.proofs.PassedOn.{IsUnapplied, IsUnmoving, late_put, mades_
 use Rattle.tab_stands.proofs.Ready.{calm_before}
 use Rattle.tab_stands.specs.PassedOn.{HasQueue, IsReady, IsTaking, LateKnown, LeavesQueue, LoadsMadeOwn, MovedAreShown}
 use Rattle.tab_stands.specs.Standing.{IsQueueing}
-use Rattle.tab_whole.specs.Tab.{IsTab}
+use Rattle.tab_facts.specs.TabWhole.Tab.{IsTab}
 use Rattle.log_model.specs.declared.job.Why.TheVariants as whys
 use Rattle.log_model.specs.declared.row_kind.Actor.TheVariants as actors
 

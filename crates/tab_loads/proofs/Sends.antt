@@ -1,9 +1,9 @@
 -- The document of the load's navigable is sent to a fragment: the order may be sent, and all goes on then.
-use Rattle.coord_facts.proofs.Unread.{next}
-use Rattle.home_facts.specs.Homes.{IsAtHome}
-use Rattle.last_facts.proofs.Orders.{fragment_lasting}
-use Rattle.leave_rows.proofs.FragmentSends.{fragment_may}
-use Rattle.leave_rows.specs.Fragments.{IsFragmentDue}
+use Rattle.seen_facts.proofs.Coord.Unread.{next}
+use Rattle.seen_facts.specs.Home.Homes.{IsAtHome}
+use Rattle.tab_facts.proofs.Last.Orders.{fragment_lasting}
+use Rattle.row_facts.proofs.LeaveRows.FragmentSends.{fragment_may}
+use Rattle.row_facts.specs.LeaveRows.Fragments.{IsFragmentDue}
 use Rattle.log_model.proofs.Refl.{nat_eq_refl}
 use Rattle.log_model.specs.Equal.{holds}
 use Rattle.log_model.specs.Places.{aim_of, given_row, is_fragment_navigation, stands}
@@ -12,11 +12,11 @@ use Rattle.log_model.specs.declared.job.Job.{Job}
 use Rattle.log_model.specs.declared.request.Mode.{Mode}
 use Rattle.log_model.specs.declared.row.Row.{Row}
 use Rattle.log_model.specs.declared.row_kind.RowKind.{RowKind}
-use Rattle.owed_facts.proofs.Ends.{loose_more, loose_owed}
-use Rattle.owed_facts.proofs.Rows.{sent_lasts}
-use Rattle.owed_facts.specs.Owed.{IsLoose}
-use Rattle.rest_rows.proofs.Orders.{told_rests}
-use Rattle.rest_rows.specs.Moving.{AllRest}
+use Rattle.row_facts.proofs.Owed.Ends.{loose_more, loose_owed}
+use Rattle.row_facts.proofs.Owed.Rows.{sent_lasts}
+use Rattle.row_facts.specs.Owed.Owed.{IsLoose}
+use Rattle.row_facts.proofs.RestRows.Orders.{told_rests}
+use Rattle.row_facts.specs.RestRows.Moving.{AllRest}
 use Rattle.seen_laws.proofs.InEvents.{now_more}
 use Rattle.seen_laws.specs.InEvent.{InEvent, here_of, now_of}
 use Rattle.std.proofs.Common.{Bool, List, None, Option, Some, [], ap, false, length, refl, subst, sym, true, ℕ, ◌||◌, ◌∙◌, ◌∷◌, ◌≡◌, ◌≤◌}
@@ -25,8 +25,8 @@ use Rattle.tab_doors.proofs.Works.{numbered}
 use Rattle.tab_doors.specs.Orders.{IsThere, order_to}
 use Rattle.tab_doors.specs.Working.{IsAtWork, KeepsStore, MaySend}
 use Rattle.tab_doors.specs.declared.tables.Tables.{Tables}
-use Rattle.tab_going.proofs.Rows.{sent_going}
-use Rattle.tab_going.specs.Going.{IsGoing}
+use Rattle.tab_facts.proofs.TabGoing.Rows.{sent_going}
+use Rattle.tab_facts.specs.TabGoing.Going.{IsGoing}
 use Rattle.tab_ids.specs.declared.DocId.{DocId}
 use Rattle.tab_ids.specs.declared.NavId.{NavId}
 use Rattle.tab_ids.specs.declared.ReqId.{ReqId}
@@ -34,10 +34,10 @@ use Rattle.tab_loads.proofs.Cuts.{first_pass}
 use Rattle.tab_loads.proofs.Firsts.{accepted_here, found, q}
 use Rattle.tab_loads.specs.Loading.{IsLoadAsk, pass_of}
 use Rattle.tab_passes.specs.Passing.{IsPassing}
-use Rattle.tab_whole.proofs.Sending.{IsToMade, sent_home}
-use Rattle.tab_whole.proofs.ToFragments.{send_fragment_tab}
-use Rattle.tab_whole.specs.Tab.{IsTab}
-use Rattle.walk_facts.proofs.Placed.{found_nav}
+use Rattle.tab_facts.proofs.TabWhole.Sending.{IsToMade, sent_home}
+use Rattle.tab_facts.proofs.TabWhole.ToFragments.{send_fragment_tab}
+use Rattle.tab_facts.specs.TabWhole.Tab.{IsTab}
+use Rattle.seen_facts.proofs.Walk.Placed.{found_nav}
 use Rattle.log_model.specs.declared.job.Task.TheVariants as tasks
 use Rattle.log_model.specs.declared.job.Why.TheVariants as whys
 use Rattle.log_model.specs.declared.row_kind.RowKind.TheVariants as rows

@@ -1,25 +1,25 @@
 -- The order that makes the document of a load that has begun is sent: all goes on.
-use Rattle.coord_facts.proofs.Kept.{IsSentHome}
-use Rattle.coord_facts.proofs.Unread.{next}
-use Rattle.last_facts.proofs.Orders.{making_lasting}
+use Rattle.seen_facts.proofs.Coord.Kept.{IsSentHome}
+use Rattle.seen_facts.proofs.Coord.Unread.{next}
+use Rattle.tab_facts.proofs.Last.Orders.{making_lasting}
 use Rattle.log_model.proofs.Refl.{nat_eq_refl}
 use Rattle.log_model.specs.AfterRequests.{request_begun}
 use Rattle.log_model.specs.Seen.{Asked, Document, Seen, document_of, request_of}
 use Rattle.log_model.specs.declared.job.Job.{Job}
 use Rattle.log_model.specs.declared.row_kind.RowKind.{RowKind}
-use Rattle.owed_facts.proofs.Ends.{loose_more, loose_owed}
-use Rattle.owed_facts.proofs.Rows.{sent_lasts}
-use Rattle.owed_facts.specs.Owed.{IsLoose}
-use Rattle.rest_rows.proofs.Orders.{making_rests}
-use Rattle.rest_rows.specs.Moving.{AllRest}
+use Rattle.row_facts.proofs.Owed.Ends.{loose_more, loose_owed}
+use Rattle.row_facts.proofs.Owed.Rows.{sent_lasts}
+use Rattle.row_facts.specs.Owed.Owed.{IsLoose}
+use Rattle.row_facts.proofs.RestRows.Orders.{making_rests}
+use Rattle.row_facts.specs.RestRows.Moving.{AllRest}
 use Rattle.seen_laws.proofs.InEvents.{now_more}
 use Rattle.seen_laws.specs.InEvent.{now_of}
 use Rattle.std.proofs.Common.{List, None, Option, Some, [], ap, false, length, refl, subst, sym, true, ℕ, ◌++◌, ◌+◌, ◌==◌, ◌∙◌, ◌∷◌, ◌≡◌, ◌≤◌}
 use Rattle.tab_doors.specs.Orders.{next_order}
 use Rattle.tab_doors.specs.Working.{IsAtWork, KeepsStore}
 use Rattle.tab_doors.specs.declared.tables.Tables.{Tables}
-use Rattle.tab_going.proofs.Rows.{sent_going}
-use Rattle.tab_going.specs.Going.{IsGoing}
+use Rattle.tab_facts.proofs.TabGoing.Rows.{sent_going}
+use Rattle.tab_facts.specs.TabGoing.Going.{IsGoing}
 use Rattle.tab_ids.specs.declared.DocId.{DocId}
 use Rattle.tab_ids.specs.declared.ProcId.{ProcId}
 use Rattle.tab_ids.specs.declared.ReqId.{ReqId}
@@ -33,8 +33,8 @@ use Rattle.tab_loads.specs.Telling.{away_in, fragment_in}
 use Rattle.tab_moves.specs.Making.{home_in}
 use Rattle.tab_passes.proofs.PassedOn.{lives_first}
 use Rattle.tab_passes.specs.Passing.{IsPassing}
-use Rattle.tab_whole.proofs.Making.{IsMakeOf, make_load_tab}
-use Rattle.tab_whole.specs.Tab.{IsTab}
+use Rattle.tab_facts.proofs.TabWhole.Making.{IsMakeOf, make_load_tab}
+use Rattle.tab_facts.specs.TabWhole.Tab.{IsTab}
 use Rattle.log_model.specs.declared.job.Task.TheVariants as tasks
 use Rattle.log_model.specs.declared.job.Why.TheVariants as whys
 use Rattle.log_model.specs.declared.row_kind.RowKind.TheVariants as rows

@@ -1,18 +1,18 @@
 -- A load begins, in the place of its navigable's ongoing one: what its door asks.
-use Rattle.hang_facts.proofs.Members.{find_has}
+use Rattle.seen_facts.proofs.Hang.Members.{find_has}
 use Rattle.load_doors.specs.Loading.{IsGiven, IsToBegin}
-use Rattle.load_rows.specs.Beginning.{IsLoadToBegin, is_to_fragment}
+use Rattle.row_facts.specs.LoadRows.Beginning.{IsLoadToBegin, is_to_fragment}
 use Rattle.load_table.specs.Loads.{ongoing_load}
 use Rattle.load_table.specs.declared.load.Load.{Load}
-use Rattle.load_ties.proofs.Begins.{none_made}
-use Rattle.load_ties.specs.Tying.{is_for_state, made_for}
+use Rattle.seen_facts.proofs.LoadTies.Begins.{none_made}
+use Rattle.seen_facts.specs.LoadTies.Tying.{is_for_state, made_for}
 use Rattle.log_model.specs.AfterRequests.{load_replaces}
 use Rattle.log_model.specs.History.{History}
 use Rattle.log_model.specs.Places.{aim_of, is_given_target, is_placed, way_to}
 use Rattle.log_model.specs.Points.{is_accepted_here}
 use Rattle.log_model.specs.Seen.{Asked, Document, Place, Seen, document_of, place_in, place_of}
 use Rattle.log_model.specs.declared.row_kind.RowKind.{RowKind}
-use Rattle.rest_facts.proofs.Still.{found_itself}
+use Rattle.seen_facts.proofs.Rest.Still.{found_itself}
 use Rattle.seen_laws.specs.Blocks.{point_at}
 use Rattle.seen_laws.specs.InEvent.{InEvent, here_of, now_of}
 use Rattle.std.proofs.Common.{Bool, List, None, Option, Some, [], ap, arith, false, inl, inr, length, not, refl, sym, true, ℕ, ◌+◌, ◌<◌, ◌==◌, ◌||◌, ◌∙◌, ◌≡◌, ◌≤◌, ◌⊎◌}
@@ -25,8 +25,8 @@ use Rattle.tab_doors.specs.Working.{IsAtWork, KeepsRun}
 use Rattle.tab_doors.specs.declared.tables.Tables.{Tables}
 use Rattle.tab_drops.proofs.Turns.{tied_load}
 use Rattle.tab_drops.specs.Dropping.{AreUnheld}
-use Rattle.tab_going.proofs.Counts.{count_few}
-use Rattle.tab_going.specs.Going.{count_of, has_spent}
+use Rattle.tab_facts.proofs.TabGoing.Counts.{count_few}
+use Rattle.tab_facts.specs.TabGoing.Going.{count_of, has_spent}
 use Rattle.tab_ids.specs.declared.DocId.{DocId}
 use Rattle.tab_ids.specs.declared.NavId.{NavId}
 use Rattle.tab_ids.specs.declared.ReqId.{ReqId}

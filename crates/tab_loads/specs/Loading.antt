@@ -1,6 +1,6 @@
 -- The rule of loads: a load that the user asks for is refused, dropped, sent to a fragment, or begins in the place of the one before, and its document is to be made.
 -- HTML Standard, "navigate", "navigate to a fragment" and "Navigables" ("ongoing navigation"); that the ways up have to stand, and that a load of a way that doesn't is dropped, is this project's own.
-use Rattle.load_rows.specs.Beginning.{is_to_fragment}
+use Rattle.row_facts.specs.LoadRows.Beginning.{is_to_fragment}
 use Rattle.log_model.specs.Causes.{denial_at_acceptance}
 use Rattle.log_model.specs.Places.{aim_of, is_placed, way_to}
 use Rattle.log_model.specs.Seen.{Place, Seen, awake, place_of}

@@ -1,8 +1,8 @@
 -- No more documents are kept than may be, once a navigable is shown another one.
-use Rattle.hang_facts.proofs.Members.{has_filter}
-use Rattle.hang_facts.specs.Members.{Has}
-use Rattle.kept_facts.proofs.States.{AreOfOwnStates, states_many}
-use Rattle.kept_facts.specs.Keeping.{kept_states, state_in}
+use Rattle.seen_facts.proofs.Hang.Members.{has_filter}
+use Rattle.seen_facts.specs.Hang.Members.{Has}
+use Rattle.seen_facts.proofs.Kept.States.{AreOfOwnStates, states_many}
+use Rattle.seen_facts.specs.Kept.Keeping.{kept_states, state_in}
 use Rattle.log_model.specs.AfterPlaces.{without_doc}
 use Rattle.log_model.specs.Seen.{Seen}
 use Rattle.page_cache.specs.Kept.{left_first, without}

@@ -1,7 +1,7 @@
 -- A document that was left is frozen: all at or below its navigable are asleep, and each document below is to be frozen.
-use Rattle.hang_facts.proofs.Hung.{places_distinct}
-use Rattle.hang_facts.specs.AsPlaces.{AreDistinct}
-use Rattle.home_facts.specs.Homes.{AreHomed, IsAtHome}
+use Rattle.seen_facts.proofs.Hang.Hung.{places_distinct}
+use Rattle.seen_facts.specs.Hang.AsPlaces.{AreDistinct}
+use Rattle.seen_facts.specs.Home.Homes.{AreHomed, IsAtHome}
 use Rattle.log_model.proofs.Refl.{nat_eq_refl}
 use Rattle.log_model.specs.After.{after}
 use Rattle.log_model.specs.AfterDocuments.{addressed}
@@ -14,7 +14,7 @@ use Rattle.log_model.specs.Seen.{Asked, Document, Place, Seen, asleep, awake, pl
 use Rattle.log_model.specs.declared.job.Job.{Job}
 use Rattle.log_model.specs.declared.job.Why.{Why}
 use Rattle.log_model.specs.declared.row_kind.RowKind.{RowKind}
-use Rattle.rest_rows.proofs.Again.{rest_more}
+use Rattle.row_facts.proofs.RestRows.Again.{rest_more}
 use Rattle.seen_laws.proofs.InEvents.{now_more}
 use Rattle.seen_laws.proofs.Keyed.{find_on_other}
 use Rattle.seen_laws.specs.InEvent.{InEvent, now_of, row_of}
@@ -42,12 +42,12 @@ use Rattle.tab_passes.specs.Causes.{MayCause, show_why}
 use Rattle.tab_passes.specs.Leaving.{AreLeftBelow, IsFreezing, IsLeaving, IsLeftBelow, IsNewFor, IsStill, IsToFreeze, left_then, without_all}
 pub use Rattle.tab_passes.specs.Leaving.{HasOnlyFrozen, IsFreezeOf}
 pub use Rattle.tab_passes.specs.Sleepers.{docs_below}
-use Rattle.walk_facts.proofs.Placed.{found_nav}
-use Rattle.walk_facts.proofs.Sleepers.{slept}
-use Rattle.walk_facts.specs.Walking.{LeavesOthers}
-use Rattle.walk_rows.proofs.Leaves.{freeze_leaves, leaves_then}
-use Rattle.walk_rows.proofs.Sinces.{ShowsThen}
-use Rattle.walk_rows.proofs.Sleeping.{IsUnder, no_shower, nobody_awake, place_sleeps, slept_under}
+use Rattle.seen_facts.proofs.Walk.Placed.{found_nav}
+use Rattle.seen_facts.proofs.Walk.Sleepers.{slept}
+use Rattle.seen_facts.specs.Walk.Walking.{LeavesOthers}
+use Rattle.row_facts.proofs.WalkRows.Leaves.{freeze_leaves, leaves_then}
+use Rattle.row_facts.proofs.WalkRows.Sinces.{ShowsThen}
+use Rattle.row_facts.proofs.WalkRows.Sleeping.{IsUnder, no_shower, nobody_awake, place_sleeps, slept_under}
 use Rattle.log_model.specs.declared.job.Task.TheVariants as tasks
 use Rattle.log_model.specs.declared.row_kind.RowKind.TheVariants as rows
 

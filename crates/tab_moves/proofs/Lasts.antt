@@ -1,8 +1,8 @@
 -- What a navigable leaves in the tables, it leaves in the log.
-use Rattle.hang_facts.proofs.Forms.{nav_is}
-use Rattle.hang_facts.proofs.Hung.{places_distinct}
-use Rattle.hang_facts.specs.Members.{Has}
-use Rattle.kept_facts.specs.Keeping.{IsMadeFor, is_last}
+use Rattle.seen_facts.proofs.Hang.Forms.{nav_is}
+use Rattle.seen_facts.proofs.Hang.Hung.{places_distinct}
+use Rattle.seen_facts.specs.Hang.Members.{Has}
+use Rattle.seen_facts.specs.Kept.Keeping.{IsMadeFor, is_last}
 use Rattle.log_model.proofs.Refl.{nat_eq_refl}
 use Rattle.log_model.specs.AfterPlaces.{kept_leaving, sleepers_below, without_doc, woken_below}
 use Rattle.log_model.specs.Equal.{holds}
@@ -10,8 +10,8 @@ use Rattle.log_model.specs.Places.{is_asleep, is_below, is_gone}
 use Rattle.log_model.specs.Seen.{Document, Place, Seen, Status, asleep, awake, document_of, lost, place_of}
 use Rattle.log_model.specs.declared.row_kind.RowKind.{RowKind}
 use Rattle.nav_tree.specs.Tree.{is_nav, state_of}
-use Rattle.rest_facts.proofs.Stands.{get_of}
-use Rattle.rest_rows.proofs.Again.{doc_same}
+use Rattle.seen_facts.proofs.Rest.Stands.{get_of}
+use Rattle.row_facts.proofs.RestRows.Again.{doc_same}
 use Rattle.seen_laws.specs.InEvent.{now_of}
 use Rattle.std.proofs.Common.{Bool, List, None, Option, Some, [], ap, cond, false, inl, inr, map, not, refl, subst, sym, true, ℕ, ◌&&◌, ◌==◌, ◌||◌, ◌∙◌, ◌∷◌, ◌≡◌}
 use Rattle.std.specs.Map.{lookup}
@@ -27,7 +27,7 @@ use Rattle.tab_ids.specs.declared.StateId.{StateId}
 use Rattle.tab_moves.specs.Leaving.{IsLeftFor, left_in}
 use Rattle.tab_passes.specs.Passing.{InPass, IsPassing}
 pub use Rattle.tab_passes.proofs.PassedOn.{below_sleeps}
-use Rattle.walk_facts.proofs.Placed.{each_found, found_nav}
+use Rattle.seen_facts.proofs.Walk.Placed.{each_found, found_nav}
 
 -- ---- what the navigable was shown last
 

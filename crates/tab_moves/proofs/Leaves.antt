@@ -1,10 +1,10 @@
 -- A navigable may leave the document that it is awake on: who falls asleep is moved, and the document is to be frozen, as are those below it.
-use Rattle.doc_facts.specs.Docs.{IsDoc}
-use Rattle.frame_tab.specs.Alive.{HasPlace}
-use Rattle.hang_facts.proofs.Forms.{nav_is}
-use Rattle.hang_facts.proofs.Hung.{not_above_itself, places_distinct}
-use Rattle.hang_facts.specs.AsPlaces.{AreDistinct}
-use Rattle.home_facts.specs.Homes.{IsAtHome}
+use Rattle.seen_facts.specs.Doc.Docs.{IsDoc}
+use Rattle.tab_facts.specs.FrameTab.Alive.{HasPlace}
+use Rattle.seen_facts.proofs.Hang.Forms.{nav_is}
+use Rattle.seen_facts.proofs.Hang.Hung.{not_above_itself, places_distinct}
+use Rattle.seen_facts.specs.Hang.AsPlaces.{AreDistinct}
+use Rattle.seen_facts.specs.Home.Homes.{IsAtHome}
 use Rattle.tab_passes.proofs.PassedOn.{slept_placed}
 use Rattle.log_model.proofs.Refl.{nat_eq_refl}
 use Rattle.log_model.specs.AfterPlaces.{sleepers_with}
@@ -13,10 +13,10 @@ use Rattle.log_model.specs.Places.{is_below, way_of}
 use Rattle.log_model.specs.Seen.{Document, Place, Seen, awake, document_of, place_of}
 use Rattle.log_model.specs.declared.job.Why.{Why}
 use Rattle.log_model.specs.declared.row_kind.RowKind.{RowKind}
-use Rattle.mover_facts.proofs.Orders.{MovesEach}
-use Rattle.mover_facts.proofs.Stays.{StaysAt}
-use Rattle.mover_facts.specs.Movers.{IsMovedBy}
-use Rattle.rest_rows.proofs.Again.{doc_same}
+use Rattle.seen_facts.proofs.Mover.Orders.{MovesEach}
+use Rattle.seen_facts.proofs.Mover.Stays.{StaysAt}
+use Rattle.seen_facts.specs.Mover.Movers.{IsMovedBy}
+use Rattle.row_facts.proofs.RestRows.Again.{doc_same}
 use Rattle.seen_laws.specs.InEvent.{now_of}
 use Rattle.std.proofs.Common.{Bool, List, Some, [], ap, false, inl, inr, refl, subst, sym, true, ◌==◌, ◌||◌, ◌∙◌, ◌≡◌, ◌⊎◌}
 use Rattle.tab_doors.specs.Orders.{IsThere, order_to, proc_at}
@@ -29,11 +29,11 @@ use Rattle.tab_passes.proofs.Freezable.{freeze_ahead}
 use Rattle.tab_passes.proofs.Goings.{for_passed, is_passed_for, none_to_begin}
 use Rattle.tab_passes.specs.Leaving.{IsLeaving, IsToFreeze}
 pub use Rattle.tab_passes.specs.Leaving.{MayLeave}
-use Rattle.walk_facts.proofs.Placed.{found_nav}
-use Rattle.walk_rows.proofs.Sinces.{ShowsThen, was_shower}
-use Rattle.walk_rows.proofs.Sleeping.{IsUnder, SleepUnder, shower_is, sleepers_under}
-use Rattle.walk_rows.proofs.Walks.{below_moved}
-use Rattle.walk_rows.specs.Since.{WasAwake}
+use Rattle.seen_facts.proofs.Walk.Placed.{found_nav}
+use Rattle.row_facts.proofs.WalkRows.Sinces.{ShowsThen, was_shower}
+use Rattle.row_facts.proofs.WalkRows.Sleeping.{IsUnder, SleepUnder, shower_is, sleepers_under}
+use Rattle.row_facts.proofs.WalkRows.Walks.{below_moved}
+use Rattle.row_facts.specs.WalkRows.Since.{WasAwake}
 use Rattle.log_model.specs.declared.job.Task.TheVariants as tasks
 
 -- the way of one that was awake as the event began has those above it

@@ -1,15 +1,15 @@
 -- A document may be made for a navigable's target that has none and for which none is being made, and all goes on then.
 use Rattle.apply_plan.specs.declared.need.Need.TheVariants as needs
-use Rattle.coord_facts.proofs.Kept.{IsSentHome}
-use Rattle.coord_facts.proofs.Unread.{next}
-use Rattle.each_facts.proofs.Runs.{at_place}
-use Rattle.frame_rows.specs.Making.{IsMakeDue}
-use Rattle.hang_facts.proofs.Members.{find_has, has_any, into_map}
-use Rattle.hang_facts.proofs.Parts.{state_is}
-use Rattle.hang_facts.proofs.Targets.{IsTarget, target_has}
-use Rattle.hang_facts.specs.Members.{Has}
+use Rattle.seen_facts.proofs.Coord.Kept.{IsSentHome}
+use Rattle.seen_facts.proofs.Coord.Unread.{next}
+use Rattle.seen_facts.proofs.Each.Runs.{at_place}
+use Rattle.row_facts.specs.FrameRows.Making.{IsMakeDue}
+use Rattle.seen_facts.proofs.Hang.Members.{find_has, has_any, into_map}
+use Rattle.seen_facts.proofs.Hang.Parts.{state_is}
+use Rattle.seen_facts.proofs.Hang.Targets.{IsTarget, target_has}
+use Rattle.seen_facts.specs.Hang.Members.{Has}
 use Rattle.tab_passes.proofs.PassedOn.{IsMakeOf, lives_first, make_tab, making_lasting}
-use Rattle.load_facts.specs.Loading.{AreLoading, look}
+use Rattle.seen_facts.specs.Load.Loading.{AreLoading, look}
 use Rattle.log_model.proofs.Refl.{nat_eq_refl}
 use Rattle.log_model.specs.Checks.{may_go_on}
 use Rattle.log_model.specs.History.{row_of, target_entry}
@@ -24,12 +24,12 @@ use Rattle.log_model.specs.declared.row.Row.{Row}
 use Rattle.log_model.specs.declared.row_kind.RowKind.{RowKind}
 use Rattle.nav_tree.specs.Tree.{document_of as document_in_tree, is_state}
 use Rattle.nav_tree.specs.declared.place.Place as live_place
-use Rattle.owed_facts.proofs.Ends.{owed_more}
-use Rattle.owed_facts.proofs.Rows.{reckoned_now, sent_stays}
-use Rattle.owed_facts.specs.Owed.{IsOwed}
-use Rattle.rest_facts.proofs.Stands.{get_of}
-use Rattle.rest_rows.proofs.Orders.{making_rests}
-use Rattle.rest_rows.specs.Moving.{AllRest}
+use Rattle.row_facts.proofs.Owed.Ends.{owed_more}
+use Rattle.row_facts.proofs.Owed.Rows.{reckoned_now, sent_stays}
+use Rattle.row_facts.specs.Owed.Owed.{IsOwed}
+use Rattle.seen_facts.proofs.Rest.Stands.{get_of}
+use Rattle.row_facts.proofs.RestRows.Orders.{making_rests}
+use Rattle.row_facts.specs.RestRows.Moving.{AllRest}
 use Rattle.seen_laws.proofs.InEvents.{now_more}
 use Rattle.seen_laws.proofs.Keyed.{find_has as seen_number}
 use Rattle.seen_laws.specs.InEvent.{now_of}
@@ -63,12 +63,12 @@ pub use Rattle.tab_passes.proofs.Goings.{show_causes}
 use Rattle.tab_passes.proofs.Serveds.{served_causes}
 use Rattle.tab_passes.specs.Causes.{MayCause}
 use Rattle.tab_passes.specs.Passing.{InPass, IsPassing}
-use Rattle.walk_facts.proofs.Placed.{found_nav}
-use Rattle.walk_facts.proofs.Turns.{make_leaves, make_serves}
-use Rattle.walk_facts.specs.Serving.{IsMaking}
-use Rattle.walk_rows.proofs.Leaves.{leaves_none}
-use Rattle.walk_rows.proofs.Needs.{need_not_all_stand}
-use Rattle.walk_rows.specs.Since.{IsVisitedInNeed}
+use Rattle.seen_facts.proofs.Walk.Placed.{found_nav}
+use Rattle.seen_facts.proofs.Walk.Turns.{make_leaves, make_serves}
+use Rattle.seen_facts.specs.Walk.Serving.{IsMaking}
+use Rattle.row_facts.proofs.WalkRows.Leaves.{leaves_none}
+use Rattle.row_facts.proofs.WalkRows.Needs.{need_not_all_stand}
+use Rattle.row_facts.specs.WalkRows.Since.{IsVisitedInNeed}
 use Rattle.log_model.specs.declared.job.Task.TheVariants as tasks
 use Rattle.log_model.specs.declared.row_kind.RowKind.TheVariants as rows
 

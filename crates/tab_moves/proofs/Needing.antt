@@ -5,9 +5,9 @@ use Rattle.apply_plan.specs.Reaches.{is_awake, is_reached, is_reached_within, wa
 use Rattle.apply_plan.specs.declared.need.Need.{Need}
 use Rattle.apply_plan.specs.declared.need.Need.TheVariants as needs
 use Rattle.apply_plan.specs.declared.reach.Reach.TheVariants.{Visited}
-use Rattle.coord_facts.proofs.Held.{fun_ext}
-use Rattle.hang_facts.proofs.Members.{find_has}
-use Rattle.hang_facts.proofs.Targets.{target_has}
+use Rattle.seen_facts.proofs.Coord.Held.{fun_ext}
+use Rattle.seen_facts.proofs.Hang.Members.{find_has}
+use Rattle.seen_facts.proofs.Hang.Targets.{target_has}
 use Rattle.log_model.specs.Equal.{holds}
 use Rattle.log_model.specs.History.{History, row_of, same_entry, target_entry}
 use Rattle.log_model.specs.Places.{aim_of, is_shown}
@@ -19,9 +19,9 @@ use Rattle.nav_tree.specs.declared.nav.Nav.{Nav}
 use Rattle.nav_tree.specs.declared.node.Node.{Node}
 use Rattle.nav_tree.specs.declared.reload.ReloadPhase.{ReloadPhase}
 use Rattle.nav_tree.specs.declared.reload.ReloadPhase.TheVariants as reloads
-use Rattle.place_facts.specs.Standing.{IsStanding}
+use Rattle.seen_facts.specs.Place.Standing.{IsStanding}
 use Rattle.plan_laws.proofs.NeedLaws.{needs_is}
-use Rattle.rest_facts.proofs.Stands.{get_of}
+use Rattle.seen_facts.proofs.Rest.Stands.{get_of}
 use Rattle.seen_laws.specs.InEvent.{now_of}
 use Rattle.std.proofs.Common.{Bool, List, None, Option, Some, ap, false, length, map, not, refl, suc, sym, true, zero, ℕ, ◌&&◌, ◌==◌, ◌||◌, ◌∙◌, ◌≡◌}
 use Rattle.std.specs.List.{list_any}
@@ -40,7 +40,7 @@ use Rattle.tab_passes.proofs.Aims.{held_aim}
 pub use Rattle.tab_passes.proofs.Aims.{aim_is}
 pub use Rattle.tab_passes.proofs.Stand.{stand_for}
 use Rattle.tab_passes.specs.Passing.{InPass, IsPassing, aim_in}
-use Rattle.walk_facts.specs.Serving.{is_needing, is_stopping}
+use Rattle.seen_facts.specs.Walk.Serving.{is_needing, is_stopping}
 
 -- ---- a need reads the targets alone
 

@@ -1,6 +1,6 @@
 -- The process in which a document is to be made, as the tables tell, is the log's.
 use Rattle.address.specs.Addresses.{base_of, blank_text, origin_of}
-use Rattle.home_facts.specs.Homes.{IsAtHome}
+use Rattle.seen_facts.specs.Home.Homes.{IsAtHome}
 use Rattle.log_model.proofs.Refl.{nat_eq_refl}
 use Rattle.log_model.specs.Equal.{holds}
 use Rattle.log_model.specs.Places.{aim_of, awake_document}
@@ -30,9 +30,9 @@ use Rattle.tab_moves.specs.Making.{home_in, parent_proc}
 use Rattle.tab_passes.proofs.Stand.{stand_for}
 use Rattle.tab_passes.specs.Passing.{InPass, IsPassing}
 use Rattle.tab_passes.specs.Telling.{awake_on}
-use Rattle.walk_facts.proofs.Placed.{found_nav}
+use Rattle.seen_facts.proofs.Walk.Placed.{found_nav}
 use Rattle.tab_passes.proofs.PassedOn.{IsUpAt}
-use Rattle.walk_facts.specs.Serving.{is_stopping}
+use Rattle.seen_facts.specs.Walk.Serving.{is_stopping}
 
 module _ (p : InPass) (out : List RowKind) (t : Tables) (pass : IsPassing p out t) (nav : NavId) (place : Place) (placed : place_of (now_of p.event out) nav ≡ Some place) (reached : list_any (is_stopping (now_of p.event out).history.rows (aim_of (now_of p.event out)) (now_of p.event out).places) place.above ≡ false) where
   abbrev s : Seen

@@ -1,11 +1,11 @@
 -- A navigable that is to be shown its target may be, and all goes on then.
-use Rattle.coord_facts.proofs.Unread.{next}
+use Rattle.seen_facts.proofs.Coord.Unread.{next}
 use Rattle.tab_passes.proofs.Goings.{ServesNoneToBegin, for_passed, goes_on, is_passed_for, none_to_begin, show_causes}
-use Rattle.hang_facts.proofs.Hung.{not_above_itself, place_chain, places_distinct}
-use Rattle.hang_facts.proofs.Parts.{state_is}
-use Rattle.hang_facts.proofs.Targets.{IsTarget, target_has}
-use Rattle.hang_facts.specs.AsPlaces.{AreDistinct}
-use Rattle.kept_facts.proofs.States.{AreOfOwnStates, sole_states}
+use Rattle.seen_facts.proofs.Hang.Hung.{not_above_itself, place_chain, places_distinct}
+use Rattle.seen_facts.proofs.Hang.Parts.{state_is}
+use Rattle.seen_facts.proofs.Hang.Targets.{IsTarget, target_has}
+use Rattle.seen_facts.specs.Hang.AsPlaces.{AreDistinct}
+use Rattle.seen_facts.proofs.Kept.States.{AreOfOwnStates, sole_states}
 use Rattle.log_model.proofs.Refl.{nat_eq_refl}
 use Rattle.log_model.specs.AfterPlaces.{activated, sleepers_below}
 use Rattle.log_model.specs.Checks.{may_go_on}
@@ -18,12 +18,12 @@ use Rattle.log_model.specs.declared.job.Job.{Job}
 use Rattle.log_model.specs.declared.job.Why.{Why}
 use Rattle.log_model.specs.declared.row.Row.{Row}
 use Rattle.log_model.specs.declared.row_kind.RowKind.{RowKind}
-use Rattle.mover_facts.specs.Movers.{IsMovedBy}
+use Rattle.seen_facts.specs.Mover.Movers.{IsMovedBy}
 use Rattle.nav_tree.specs.Tree.{nav_of, node_of}
 use Rattle.nav_tree.specs.declared.nav.Nav.{Nav}
 use Rattle.nav_tree.specs.declared.node.Node.{Node}
-use Rattle.rest_rows.proofs.Orders.{shown_alone}
-use Rattle.rest_rows.specs.Moving.{RestBut}
+use Rattle.row_facts.proofs.RestRows.Orders.{shown_alone}
+use Rattle.row_facts.specs.RestRows.Moving.{RestBut}
 use Rattle.seen_laws.proofs.InEvents.{now_more}
 use Rattle.seen_laws.specs.InEvent.{now_of}
 use Rattle.std.proofs.Common.{Bool, List, None, Option, Some, [], ap, arith, cond, false, length, map, not, refl, subst, sym, true, ℕ, ◌&&◌, ◌++◌, ◌+◌, ◌<◌, ◌==◌, ◌||◌, ◌∙◌, ◌∷◌, ◌≡◌, ◌≤◌}
@@ -56,13 +56,13 @@ use Rattle.tab_passes.specs.Causes.{MayCause, show_why}
 use Rattle.tab_passes.specs.Leaving.{IsLeaving}
 use Rattle.tab_passes.specs.Passing.{InPass, IsPassing, aim_in}
 pub use Rattle.tab_passes.proofs.PassedOn.{on_parent}
-use Rattle.walk_facts.proofs.Placed.{found_nav}
-use Rattle.walk_facts.proofs.Sleepers.{becomes, place_becomes, sleepers_of, slept}
-use Rattle.walk_facts.proofs.Turns.{show_leaves, show_serves}
-use Rattle.walk_facts.specs.Serving.{is_stopping}
-use Rattle.walk_facts.specs.Walking.{IsApart, LeavesOthers}
-use Rattle.walk_rows.proofs.Needs.{visited_not_all_stand}
-use Rattle.walk_rows.proofs.Walks.{above_apart, stopping_same}
+use Rattle.seen_facts.proofs.Walk.Placed.{found_nav}
+use Rattle.seen_facts.proofs.Walk.Sleepers.{becomes, place_becomes, sleepers_of, slept}
+use Rattle.seen_facts.proofs.Walk.Turns.{show_leaves, show_serves}
+use Rattle.seen_facts.specs.Walk.Serving.{is_stopping}
+use Rattle.seen_facts.specs.Walk.Walking.{IsApart, LeavesOthers}
+use Rattle.row_facts.proofs.WalkRows.Needs.{visited_not_all_stand}
+use Rattle.row_facts.proofs.WalkRows.Walks.{above_apart, stopping_same}
 use Rattle.log_model.specs.declared.job.Task.TheVariants as tasks
 use Rattle.log_model.specs.declared.job.Why.TheVariants as whys
 use Rattle.log_model.specs.declared.row_kind.RowKind.TheVariants as rows

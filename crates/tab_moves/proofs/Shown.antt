@@ -1,9 +1,9 @@
 -- The documents below a navigable that leaves its own: each of another navigable, none twice; and all that falls to be left is among them.
-use Rattle.hang_facts.proofs.Forms.{nav_is}
-use Rattle.hang_facts.proofs.Members.{has_filter, has_found}
-use Rattle.hang_facts.specs.AsPlaces.{AreDistinct}
-use Rattle.hang_facts.specs.Members.{Has}
-use Rattle.home_facts.specs.Homes.{IsAtHome}
+use Rattle.seen_facts.proofs.Hang.Forms.{nav_is}
+use Rattle.seen_facts.proofs.Hang.Members.{has_filter, has_found}
+use Rattle.seen_facts.specs.Hang.AsPlaces.{AreDistinct}
+use Rattle.seen_facts.specs.Hang.Members.{Has}
+use Rattle.seen_facts.specs.Home.Homes.{IsAtHome}
 use Rattle.log_model.proofs.Refl.{nat_eq_refl}
 use Rattle.log_model.specs.AfterPlaces.{sleepers_with, without_doc}
 use Rattle.log_model.specs.Equal.{has_doc}
@@ -13,8 +13,8 @@ use Rattle.log_model.specs.Seen.{Document, Place, Seen, Status, asleep, awake, l
 use Rattle.log_model.specs.Walk.{walk_of}
 use Rattle.log_model.specs.declared.job.Why.{Why}
 use Rattle.log_model.specs.declared.row_kind.RowKind.{RowKind}
-use Rattle.rest_rows.proofs.Again.{doc_same, turned}
-use Rattle.rest_rows.specs.Left.{left_below, shown_by}
+use Rattle.row_facts.proofs.RestRows.Again.{doc_same, turned}
+use Rattle.row_facts.specs.RestRows.Left.{left_below, shown_by}
 use Rattle.seen_laws.specs.InEvent.{now_of}
 use Rattle.std.proofs.Common.{Bool, List, None, Option, Some, [], ap, append-nil, arith, cond, false, filter_map, inl, inr, not, refl, subst, sym, true, ◌==◌, ◌||◌, ◌∙◌, ◌∷◌, ◌≡◌}
 use Rattle.std.proofs.lemmas.Bool.Decides.{nat_tests}
@@ -29,8 +29,8 @@ use Rattle.tab_passes.proofs.Unders.{ShownBelow, below_has, has_docs, shows_part
 pub use Rattle.tab_passes.proofs.Unders.{below_is, has_filter_map, shows_below, walked_there}
 use Rattle.tab_passes.specs.Leaving.{IsLeaving, IsToFreeze, left_then, without_all}
 use Rattle.tab_passes.specs.Sleepers.{docs_below}
-use Rattle.walk_facts.proofs.Order.{walk_once}
-use Rattle.walk_rows.proofs.Sleeping.{IsUnder}
+use Rattle.seen_facts.proofs.Walk.Order.{walk_once}
+use Rattle.row_facts.proofs.WalkRows.Sleeping.{IsUnder}
 
 -- ---- lists without some documents
 

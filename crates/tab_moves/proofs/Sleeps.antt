@@ -4,13 +4,13 @@ use Rattle.log_model.specs.AfterPlaces.{sleepers_with}
 use Rattle.log_model.specs.Seen.{Place, Seen, place_of}
 use Rattle.log_model.specs.declared.job.Job.{Job}
 use Rattle.log_model.specs.declared.job.Task.{Task}
-use Rattle.mover_facts.proofs.Orders.{PutsToSleep}
+use Rattle.seen_facts.proofs.Mover.Orders.{PutsToSleep}
 use Rattle.seen_laws.specs.InEvent.{InEvent, row_of}
 use Rattle.std.proofs.Common.{None, Option, Some, ap, refl, sym, ◌∙◌, ◌≡◌}
 use Rattle.std.specs.Prelude.{option_map}
 use Rattle.tab_ids.specs.declared.NavId.{NavId}
-use Rattle.walk_facts.proofs.Sleepers.{slept, slept_same}
-use Rattle.walk_rows.proofs.Sleeping.{place_sleeps}
+use Rattle.seen_facts.proofs.Walk.Sleepers.{slept, slept_same}
+use Rattle.row_facts.proofs.WalkRows.Sleeping.{place_sleeps}
 use Rattle.log_model.specs.declared.row_kind.RowKind.TheVariants as rows
 
 -- the place of before, of which this came

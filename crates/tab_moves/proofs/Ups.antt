@@ -1,9 +1,9 @@
 -- What is above a navigable that the walk visits, and the row of its target in the store.
-use Rattle.hang_facts.proofs.Members.{find_has, has_found}
-use Rattle.hang_facts.specs.Members.{Has}
+use Rattle.seen_facts.proofs.Hang.Members.{find_has, has_found}
+use Rattle.seen_facts.specs.Hang.Members.{Has}
 use Rattle.history_laws.proofs.InOrder.{row_of-ordered}
 use Rattle.history_laws.proofs.Joining.{entry_same}
-use Rattle.home_facts.proofs.Shown.{one_row}
+use Rattle.seen_facts.proofs.Home.Shown.{one_row}
 use Rattle.log_model.proofs.Refl.{same_entry_refl}
 use Rattle.log_model.specs.History.{History, row_of, same_entry}
 use Rattle.log_model.specs.Places.{aim_of, is_awake, is_given_target}
@@ -18,7 +18,7 @@ use Rattle.step_index.specs.declared.step_index.StepIndex.{StepIndex}
 use Rattle.tab_doors.specs.Ties.{HoldsHistory}
 use Rattle.tab_ids.specs.declared.NavId.{NavId}
 use Rattle.tab_passes.proofs.PassedOn.{IsUpAt}
-use Rattle.walk_facts.specs.Serving.{is_in_place, is_stopping}
+use Rattle.seen_facts.specs.Walk.Serving.{is_in_place, is_stopping}
 
 -- ---- the row of an entry
 

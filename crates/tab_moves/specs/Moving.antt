@@ -1,14 +1,14 @@
 -- A navigable is moved: it leaves the document that it was shown last, and is shown another one.
 -- HTML Standard, "apply the history step" and "deactivate a document for a cross-document navigation"; asleep navigables, reasons and orders are this project's own.
-use Rattle.hang_facts.specs.AsPlaces.{AreDistinct}
-use Rattle.home_facts.specs.Homes.{EachWake, IsHomed}
-use Rattle.kept_facts.specs.Keeping.{kept_states}
+use Rattle.seen_facts.specs.Hang.AsPlaces.{AreDistinct}
+use Rattle.seen_facts.specs.Home.Homes.{EachWake, IsHomed}
+use Rattle.seen_facts.specs.Kept.Keeping.{kept_states}
 use Rattle.log_model.specs.Equal.{has_doc}
 use Rattle.log_model.specs.Places.{is_below}
 use Rattle.log_model.specs.Seen.{Place, Seen, asleep, awake, document_of, place_of}
 use Rattle.log_model.specs.declared.job.Why.{Why}
-use Rattle.mover_facts.proofs.Stays.{KeepWays}
-use Rattle.mover_facts.specs.Movers.{IsMovedBy}
+use Rattle.seen_facts.proofs.Mover.Stays.{KeepWays}
+use Rattle.seen_facts.specs.Mover.Movers.{IsMovedBy}
 use Rattle.seen_laws.specs.InEvent.{InEvent}
 use Rattle.std.specs.Prelude.{List, Option, Some, false, true, ◌==◌, ◌≡◌, ◌≤◌, ◌⊎◌}
 use Rattle.tab_doors.specs.Keeping.{Move}
@@ -19,8 +19,8 @@ use Rattle.tab_passes.specs.Causes.{show_why}
 pub use Rattle.tab_passes.specs.Causes.{MayCause}
 use Rattle.tab_passes.specs.Leaving.{IsNewFor}
 pub use Rattle.tab_passes.specs.Passing.{InPass}
-use Rattle.walk_facts.specs.Walking.{LeavesOthers}
-use Rattle.walk_rows.specs.Since.{WasAwake}
+use Rattle.seen_facts.specs.Walk.Walking.{LeavesOthers}
+use Rattle.row_facts.specs.WalkRows.Since.{WasAwake}
 
 -- the place is the navigable's, or below it
 abbrev pub IsAtOrBelow : NavId → NavId → Place → Type 0

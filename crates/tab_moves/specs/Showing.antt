@@ -12,7 +12,7 @@ use Rattle.log_model.specs.Seen.{Document, Place, Seen, awake, document_of, plac
 use Rattle.log_model.specs.declared.job.Why.{Why}
 use Rattle.log_model.specs.declared.row.Row.{Row}
 use Rattle.log_model.specs.declared.row_kind.RowKind.{RowKind}
-use Rattle.mover_facts.specs.Movers.{IsMovedBy}
+use Rattle.seen_facts.specs.Mover.Movers.{IsMovedBy}
 use Rattle.std.specs.Prelude.{List, None, Option, Some, [], length, option_map, true, ℕ, ◌++◌, ◌+◌, ◌∷◌, ◌≡◌, ◌≤◌}
 use Rattle.step_index.specs.Held.{history_held}
 use Rattle.tab_doors.specs.Keeping.{LeavesFor, Move}
@@ -27,9 +27,9 @@ use Rattle.tab_ids.specs.declared.StateId.{StateId}
 use Rattle.tab_passes.specs.Causes.{MayCause, show_why}
 use Rattle.tab_passes.specs.Passing.{InPass}
 pub use Rattle.tab_passes.specs.Passing.{aim_in}
-use Rattle.walk_facts.specs.Serving.{IsServedAt}
-use Rattle.walk_facts.specs.Walking.{LeavesOthers}
-use Rattle.walk_rows.specs.Since.{IsVisitedInNeed}
+use Rattle.seen_facts.specs.Walk.Serving.{IsServedAt}
+use Rattle.seen_facts.specs.Walk.Walking.{LeavesOthers}
+use Rattle.row_facts.specs.WalkRows.Since.{IsVisitedInNeed}
 use Rattle.log_model.specs.declared.job.Task.TheVariants as tasks
 use Rattle.log_model.specs.declared.row_kind.RowKind.TheVariants as rows
 

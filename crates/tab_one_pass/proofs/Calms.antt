@@ -1,18 +1,18 @@
 -- How calm a pass leaves the tab: where loads give way, where stray documents are discarded, and where who is awake is told.
-use Rattle.asked_facts.specs.Asking.{IsThere}
-use Rattle.calm_facts.proofs.Around.{around_calm}
-use Rattle.calm_facts.proofs.Calms.{IsGivenRow, calm_rows, given_row, shown_row}
-use Rattle.calm_facts.proofs.Loads.{HasOne, IsLoads, loads_sent, loads_then}
-use Rattle.calm_facts.proofs.Moves.{AreUnmoved}
-use Rattle.calm_facts.proofs.Sames.{IsUsableAt, around_by, but_more, here_same, keeps_same, root_same, sights_same, way_at, way_same, yet_same}
-use Rattle.calm_facts.proofs.Sents.{DiscardsNone, usable_sent}
-use Rattle.calm_facts.specs.Calm.{AreRooted, CalmUnless, IsCalm, IsCalmAround, IsCalmBut, IsCalmYet, IsHere, IsRooted, KeepsCalm, UnmovedAreHere}
-use Rattle.calm_facts.specs.Loads.{LoadsHaveDocuments}
-use Rattle.each_facts.specs.Runs.{OnlyRuns}
-use Rattle.hang_facts.proofs.Forms.{nav_is}
-use Rattle.hang_facts.proofs.Members.{has_any}
-use Rattle.hang_facts.proofs.Parts.{state_is}
-use Rattle.hang_facts.proofs.Targets.{IsTarget, target_has}
+use Rattle.seen_facts.specs.Asked.Asking.{IsThere}
+use Rattle.tab_facts.proofs.Calm.Around.{around_calm}
+use Rattle.tab_facts.proofs.Calm.Calms.{IsGivenRow, calm_rows, given_row, shown_row}
+use Rattle.tab_facts.proofs.Calm.Loads.{HasOne, IsLoads, loads_sent, loads_then}
+use Rattle.tab_facts.proofs.Calm.Moves.{AreUnmoved}
+use Rattle.tab_facts.proofs.Calm.Sames.{IsUsableAt, around_by, but_more, here_same, keeps_same, root_same, sights_same, way_at, way_same, yet_same}
+use Rattle.tab_facts.proofs.Calm.Sents.{DiscardsNone, usable_sent}
+use Rattle.tab_facts.specs.Calm.Calm.{AreRooted, CalmUnless, IsCalm, IsCalmAround, IsCalmBut, IsCalmYet, IsHere, IsRooted, KeepsCalm, UnmovedAreHere}
+use Rattle.tab_facts.specs.Calm.Loads.{LoadsHaveDocuments}
+use Rattle.seen_facts.specs.Each.Runs.{OnlyRuns}
+use Rattle.seen_facts.proofs.Hang.Forms.{nav_is}
+use Rattle.seen_facts.proofs.Hang.Members.{has_any}
+use Rattle.seen_facts.proofs.Hang.Parts.{state_is}
+use Rattle.seen_facts.proofs.Hang.Targets.{IsTarget, target_has}
 use Rattle.log_model.proofs.Refl.{nat_eq_refl}
 use Rattle.log_model.specs.History.{History, has_nav, has_row, has_state}
 use Rattle.log_model.specs.Orders.{is_being_made, is_usable}
@@ -25,10 +25,10 @@ use Rattle.log_model.specs.declared.job.Why.{Why}
 use Rattle.log_model.specs.declared.made.Made.{Made}
 use Rattle.log_model.specs.declared.row.Row.{Row}
 use Rattle.log_model.specs.declared.row_kind.RowKind.{RowKind}
-use Rattle.home_facts.specs.Homes.{document_in}
-use Rattle.place_facts.proofs.Documents.{KeepStates, MakesNone, state_in, states_stay}
+use Rattle.seen_facts.specs.Home.Homes.{document_in}
+use Rattle.seen_facts.proofs.Place.Documents.{KeepStates, MakesNone, state_in, states_stay}
 use Rattle.seen_laws.specs.InEvent.{InEvent, now_of}
-use Rattle.shown_ways.proofs.Keeps.{shown_on_way, way_more, way_there}
+use Rattle.tab_facts.proofs.ShownWays.Keeps.{shown_on_way, way_more, way_there}
 use Rattle.std.proofs.Common.{Bool, List, None, Option, Some, ap, false, inl, inr, not, refl, subst, sym, true, ◌&&◌, ◌==◌, ◌||◌, ◌∙◌, ◌∷◌, ◌≡◌, ◌≤◌, ◌⊎◌}
 use Rattle.std.proofs.lemmas.Bool.{and_parts}
 use Rattle.std.specs.Prelude.{option_map}
@@ -45,9 +45,9 @@ use Rattle.tab_serves.specs.Serving.{HasOnly, InPass, IsPassing, IsUp, KeepsUp}
 use Rattle.tab_serves.proofs.Orders.{IsOrderOf, over_orders}
 pub use Rattle.tab_sweeps.proofs.Loads.{loaded_never}
 use Rattle.tab_sweeps.specs.Sweeping.{IsNoStray, IsOnStray, IsStray, IsSweptTurn, but_status}
-use Rattle.walk_facts.proofs.Placed.{found_nav}
-use Rattle.walk_facts.specs.Serving.{AreServed}
-use Rattle.walk_rows.specs.Since.{WasAwake}
+use Rattle.seen_facts.proofs.Walk.Placed.{found_nav}
+use Rattle.seen_facts.specs.Walk.Serving.{AreServed}
+use Rattle.row_facts.specs.WalkRows.Since.{WasAwake}
 use Rattle.log_model.specs.declared.job.Task.TheVariants as tasks
 use Rattle.log_model.specs.declared.row_kind.RowKind.TheVariants as rows
 

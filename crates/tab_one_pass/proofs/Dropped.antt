@@ -1,12 +1,12 @@
 -- Loads were dropped: the documents that are stray then, and what is noted for their states.
 use Rattle.apply_plan.specs.Order.{made_in}
-use Rattle.hang_facts.proofs.Forms.{nav_is}
-use Rattle.hang_facts.specs.Members.{Has}
-use Rattle.home_facts.specs.Homes.{document_in}
-use Rattle.load_facts.specs.Loading.{IsLoading, Look, look, look_of}
+use Rattle.seen_facts.proofs.Hang.Forms.{nav_is}
+use Rattle.seen_facts.specs.Hang.Members.{Has}
+use Rattle.seen_facts.specs.Home.Homes.{document_in}
+use Rattle.seen_facts.specs.Load.Loading.{IsLoading, Look, look, look_of}
 use Rattle.load_table.specs.Loads.{ongoing_load as load_in}
 use Rattle.load_table.specs.declared.load.Load.{Load}
-use Rattle.load_ties.specs.Tying.{HasLoad, IsLoadTied}
+use Rattle.seen_facts.specs.LoadTies.Tying.{HasLoad, IsLoadTied}
 use Rattle.log_model.proofs.Refl.{nat_eq_refl}
 use Rattle.log_model.specs.History.{History, has_row, has_state}
 use Rattle.log_model.specs.Once.{loads}
@@ -17,7 +17,7 @@ use Rattle.log_model.specs.declared.request.Request.{Request}
 use Rattle.log_model.specs.declared.row_kind.RowKind.{RowKind}
 use Rattle.nav_tree.specs.Tree.{node_of}
 use Rattle.nav_tree.specs.declared.node.Node.{Node}
-use Rattle.rest_facts.specs.Between.{IsOfLoad}
+use Rattle.seen_facts.specs.Rest.Between.{IsOfLoad}
 use Rattle.seen_laws.specs.InEvent.{now_of}
 use Rattle.std.proofs.Common.{Bool, List, None, Option, Some, ap, false, not, refl, subst, sym, true, ◌==◌, ◌∙◌, ◌≡◌}
 use Rattle.std.specs.Prelude.{if◌then◌else◌, option_and_then, option_map}
@@ -44,7 +44,7 @@ use Rattle.tab_sweeps.proofs.Loads.{awake_unloaded, loaded_never, table_unloaded
 pub use Rattle.tab_sweeps.proofs.Loads.{of_load}
 use Rattle.tab_sweeps.specs.Sweeping.{AreBlamed, IsStray, NoneStray}
 pub use Rattle.tab_sweeps.specs.Sweeping.{IsBlamed}
-use Rattle.walk_facts.proofs.Placed.{found_nav}
+use Rattle.seen_facts.proofs.Walk.Placed.{found_nav}
 use Rattle.log_model.specs.declared.job.Why.TheVariants as whys
 
 -- what is to be noted for a navigable's load

@@ -1,9 +1,9 @@
 -- Ongoing loads give way to the traversal that runs; then stray documents are discarded, and loads of navigables without an entry dropped.
 use Rattle.apply_plan.specs.Order.{made_in}
-use Rattle.calm_facts.specs.Calm.{KeepsCalm}
-use Rattle.frame_whole.specs.Tab.{AreAwakeWithRows}
-use Rattle.load_ends.specs.Standing.{LoadsStand}
-use Rattle.home_facts.specs.Homes.{document_in}
+use Rattle.tab_facts.specs.Calm.Calm.{KeepsCalm}
+use Rattle.tab_facts.specs.FrameWhole.Tab.{AreAwakeWithRows}
+use Rattle.seen_facts.specs.LoadEnds.Standing.{LoadsStand}
+use Rattle.seen_facts.specs.Home.Homes.{document_in}
 use Rattle.log_model.specs.History.{History, has_row, has_state}
 use Rattle.log_model.specs.Orders.{ongoing_load}
 use Rattle.log_model.specs.Seen.{Seen, Asked, Document, document_of}

@@ -1,7 +1,7 @@
 -- Each ongoing load lives on: its navigable is awake, since it stands after a pass, and it has its document.
-use Rattle.calm_facts.proofs.Loads.{HasOne, IsLoads, loads_then}
-use Rattle.load_ends.specs.Standing.{LoadsStand}
-use Rattle.load_facts.specs.Loading.{Look, is_ongoing, look_of}
+use Rattle.tab_facts.proofs.Calm.Loads.{HasOne, IsLoads, loads_then}
+use Rattle.seen_facts.specs.LoadEnds.Standing.{LoadsStand}
+use Rattle.seen_facts.specs.Load.Loading.{Look, is_ongoing, look_of}
 use Rattle.log_model.proofs.Refl.{nat_eq_refl}
 use Rattle.log_model.specs.Equal.{holds}
 use Rattle.log_model.specs.History.{has_nav}

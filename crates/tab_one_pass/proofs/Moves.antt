@@ -1,10 +1,10 @@
 -- Where a traversal runs, whom it hasn't moved stays where it is to be over a pass: no row but an order of the walk shows a document, which is for the traversal then, and no request but a load is dropped.
-use Rattle.calm_facts.proofs.Moves.{AreUnmoved, unmoved_dropped, unmoved_sent}
-use Rattle.calm_facts.specs.Calm.{ShowsOne}
-use Rattle.hang_facts.proofs.Members.{has_map}
-use Rattle.hang_facts.specs.Members.{Has}
-use Rattle.load_facts.proofs.Rows.{req_same}
-use Rattle.load_facts.specs.Loading.{Look, look, look_of}
+use Rattle.tab_facts.proofs.Calm.Moves.{AreUnmoved, unmoved_dropped, unmoved_sent}
+use Rattle.tab_facts.specs.Calm.Calm.{ShowsOne}
+use Rattle.seen_facts.proofs.Hang.Members.{has_map}
+use Rattle.seen_facts.specs.Hang.Members.{Has}
+use Rattle.seen_facts.proofs.Load.Rows.{req_same}
+use Rattle.seen_facts.specs.Load.Loading.{Look, look, look_of}
 use Rattle.log_model.specs.After.{after}
 use Rattle.log_model.specs.Places.{is_load, is_traversal}
 use Rattle.log_model.specs.Seen.{Seen}

@@ -1,13 +1,13 @@
 -- One request after the other is noted, each under a document state.
-use Rattle.hang_facts.proofs.Members.{has_more, into_last, into_more}
-use Rattle.hang_facts.specs.Members.{Has}
+use Rattle.seen_facts.proofs.Hang.Members.{has_more, into_last, into_more}
+use Rattle.seen_facts.specs.Hang.Members.{Has}
 use Rattle.indexmap.specs.IndexMap.{insert_entry}
 use Rattle.nav_tree.proofs.Lists.{take-slice_get}
 use Rattle.nav_tree.specs.Tree.{docs_of, is_state, state_of}
 use Rattle.std.specs.Prelude.{IsPermutation}
 use Rattle.std.specs.Map.{lookup}
 use Rattle.log_model.specs.Equal.{has_doc}
-use Rattle.rest_rows.proofs.Again.{doc_same}
+use Rattle.row_facts.proofs.RestRows.Again.{doc_same}
 use Rattle.std.proofs.Common.{Bool, List, None, Option, Some, [], ap, false, inl, inr, length, refl, subst, sym, take, true, ℕ, ◌++◌, ◌+◌, ◌==◌, ◌||◌, ◌∙◌, ◌∷◌, ◌≡◌, ◌≤◌, ◌⊎◌}
 use Rattle.std.proofs.lemmas.List.{take_all}
 use Rattle.std.specs.Prelude.{if◌then◌else◌, option_and_then, option_map, slice_get}

@@ -1,12 +1,12 @@
 -- What goes on through a pass does so over the loads that give way and the documents that are discarded.
-use Rattle.hang_facts.specs.Members.{Has}
-use Rattle.left_facts.specs.Left.{LastWereShown, OwnersFollow, WasEverShown}
+use Rattle.seen_facts.specs.Hang.Members.{Has}
+use Rattle.row_facts.specs.Left.Left.{LastWereShown, OwnersFollow, WasEverShown}
 use Rattle.log_model.specs.Places.{aim_of}
 use Rattle.log_model.specs.Seen.{Place, Seen, place_in, place_of}
 use Rattle.log_model.specs.declared.job.Task.{Task}
 use Rattle.log_model.specs.declared.job.Why.{Why}
 use Rattle.log_model.specs.declared.row_kind.RowKind.{RowKind}
-use Rattle.mover_facts.proofs.Stays.{KeepWays}
+use Rattle.seen_facts.proofs.Mover.Stays.{KeepWays}
 use Rattle.seen_laws.specs.InEvent.{now_of}
 use Rattle.std.proofs.Common.{List, None, Option, Some, [], ap, refl, subst, sym, ◌∙◌, ◌≡◌}
 use Rattle.std.specs.Prelude.{option_map}
@@ -24,8 +24,8 @@ use Rattle.tab_serves.specs.Serving.{HasOnly, InPass, IsOfWalk, MayCause, show_w
 use Rattle.tab_serves.proofs.Orders.{IsOrderOf, parents_over, taken_over, ways_over, were_over}
 use Rattle.tab_sweeps.proofs.ForCallers.{moves_on}
 use Rattle.tab_sweeps.specs.Sweeping.{HasOnlySwept, IsSweepOf, IsSweptTurn, NoneStray}
-use Rattle.walk_rows.proofs.Sinces.{places_since}
-use Rattle.walk_rows.specs.Since.{AwakeSince, IsVisitedInNeed}
+use Rattle.row_facts.proofs.WalkRows.Sinces.{places_since}
+use Rattle.row_facts.specs.WalkRows.Since.{AwakeSince, IsVisitedInNeed}
 use Rattle.log_model.specs.declared.job.Why.TheVariants as whys
 
 -- what orders may be for, of one request

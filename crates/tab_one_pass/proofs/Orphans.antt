@@ -1,9 +1,9 @@
 -- A stray document that a pass leaves has an order on its way: its load's navigable was awake on a stray document, which the sweep discarded.
-use Rattle.hang_facts.proofs.Members.{Passing, any_has, has_any, has_map}
-use Rattle.hang_facts.proofs.Parts.{state_is}
-use Rattle.hang_facts.specs.Members.{Has}
-use Rattle.home_facts.specs.Homes.{IsAtHome}
-use Rattle.load_facts.specs.Loading.{look}
+use Rattle.seen_facts.proofs.Hang.Members.{Passing, any_has, has_any, has_map}
+use Rattle.seen_facts.proofs.Hang.Parts.{state_is}
+use Rattle.seen_facts.specs.Hang.Members.{Has}
+use Rattle.seen_facts.specs.Home.Homes.{IsAtHome}
+use Rattle.seen_facts.specs.Load.Loading.{look}
 use Rattle.log_model.proofs.Refl.{nat_eq_refl}
 use Rattle.log_model.specs.After.{after}
 use Rattle.log_model.specs.History.{History, has_row, has_state, is_of}
@@ -29,8 +29,8 @@ use Rattle.tab_serves.specs.PassedOn.{HasOnlyTold, IsTab}
 use Rattle.tab_serves.specs.Serving.{HasOnlyServed}
 use Rattle.tab_sweeps.proofs.Loads.{awake_unloaded, loaded_never, unloaded_by}
 use Rattle.tab_sweeps.specs.Sweeping.{HasOnlySwept, IsStray, IsSweepOf, NoneStray}
-use Rattle.walk_facts.proofs.Placed.{found_nav}
-use Rattle.walk_rows.specs.Since.{WasAwake}
+use Rattle.seen_facts.proofs.Walk.Placed.{found_nav}
+use Rattle.row_facts.specs.WalkRows.Since.{WasAwake}
 use Rattle.log_model.specs.declared.row_kind.RowKind.TheVariants as rows
 
 -- a request is dropped

@@ -1,16 +1,16 @@
 -- One part of a pass after the other: what it leaves, and what goes on.
-use Rattle.calm_facts.proofs.Loads.{loads_same}
-use Rattle.calm_facts.specs.Loads.{LoadsHaveDocuments}
-use Rattle.frame_facts.specs.Lasting.{Wish, wish}
-use Rattle.home_facts.specs.Homes.{document_in}
-use Rattle.request_facts.proofs.Readers.{reads_then}
+use Rattle.tab_facts.proofs.Calm.Loads.{loads_same}
+use Rattle.tab_facts.specs.Calm.Loads.{LoadsHaveDocuments}
+use Rattle.tab_facts.specs.Frame.Lasting.{Wish, wish}
+use Rattle.seen_facts.specs.Home.Homes.{document_in}
+use Rattle.seen_facts.proofs.Request.Readers.{reads_then}
 use Rattle.tab_sweeps.proofs.Loads.{loaded_never, unloaded_by}
-use Rattle.asked_facts.specs.Asking.{ArePlain}
-use Rattle.calm_facts.proofs.Sames.{keeps_none, keeps_then}
-use Rattle.calm_facts.specs.Calm.{KeepsCalm}
-use Rattle.frame_whole.specs.Tab.{AreAwakeWithRows}
-use Rattle.load_ends.specs.Standing.{LoadsStand, is_reached}
-use Rattle.load_facts.specs.Loading.{Look, is_ongoing, look, look_of}
+use Rattle.seen_facts.specs.Asked.Asking.{ArePlain}
+use Rattle.tab_facts.proofs.Calm.Sames.{keeps_none, keeps_then}
+use Rattle.tab_facts.specs.Calm.Calm.{KeepsCalm}
+use Rattle.tab_facts.specs.FrameWhole.Tab.{AreAwakeWithRows}
+use Rattle.seen_facts.specs.LoadEnds.Standing.{LoadsStand, is_reached}
+use Rattle.seen_facts.specs.Load.Loading.{Look, is_ongoing, look, look_of}
 use Rattle.log_model.specs.Checks.{may_go_on}
 use Rattle.log_model.specs.History.{History, has_row}
 use Rattle.log_model.specs.Orders.{is_usable, ongoing_load}
@@ -18,7 +18,7 @@ use Rattle.log_model.specs.Places.{aim_of, all_stand, all_stand_in, is_ongoing_l
 use Rattle.log_model.specs.Seen.{Asked, Document, Place, Seen, awake, document_of, place_of, request_in, request_of}
 use Rattle.log_model.specs.declared.job.Why.{Why}
 use Rattle.log_model.specs.declared.row_kind.RowKind.{RowKind}
-use Rattle.mover_facts.proofs.Stays.{KeepWays}
+use Rattle.seen_facts.proofs.Mover.Stays.{KeepWays}
 use Rattle.seen_laws.specs.InEvent.{InEvent, now_of}
 use Rattle.std.proofs.Common.{List, None, Option, Some, [], ap, false, map, refl, subst, sym, true, ℕ, ◌∙◌, ◌≡◌}
 use Rattle.std.specs.List.{list_any}
@@ -41,8 +41,8 @@ use Rattle.tab_serves.proofs.Orders.{IsOrderOf, taken_over, walk_orders}
 pub use Rattle.tab_drops.proofs.Turns.{reached_same}
 use Rattle.tab_serves.proofs.Reached.{loads_stand_still}
 use Rattle.tab_sweeps.specs.Sweeping.{AreBlamed, IsSweptTurn}
-use Rattle.walk_rows.proofs.Sinces.{places_since}
-use Rattle.walk_rows.specs.Since.{AwakeSince}
+use Rattle.row_facts.proofs.WalkRows.Sinces.{places_since}
+use Rattle.row_facts.specs.WalkRows.Since.{AwakeSince}
 use Rattle.log_model.specs.declared.row_kind.RowKind.TheVariants as rows
 
 -- ---- what is left

@@ -1,24 +1,24 @@
 -- No order makes a document stray, and what is read of the requests is as before.
-use Rattle.calm_facts.proofs.Sents.{usable_was}
-use Rattle.calm_facts.specs.Calm.{HasUsable}
-use Rattle.load_facts.proofs.Rows.{look_blind}
-use Rattle.load_facts.specs.Loading.{look, look_of}
-use Rattle.home_facts.specs.Homes.{document_in}
+use Rattle.tab_facts.proofs.Calm.Sents.{usable_was}
+use Rattle.tab_facts.specs.Calm.Calm.{HasUsable}
+use Rattle.seen_facts.proofs.Load.Rows.{look_blind}
+use Rattle.seen_facts.specs.Load.Loading.{look, look_of}
+use Rattle.seen_facts.specs.Home.Homes.{document_in}
 use Rattle.log_model.specs.After.{after}
 use Rattle.log_model.specs.AfterDocuments.{addressed, documents_sent, new_document, on_document}
 use Rattle.log_model.specs.Seen.{Document, Seen}
 use Rattle.log_model.specs.declared.job.Job.{Job}
 use Rattle.log_model.specs.declared.job.Task.{Task}
 use Rattle.log_model.specs.declared.row_kind.RowKind.{RowKind}
-use Rattle.request_facts.proofs.Readers.{sent_reads}
-use Rattle.rest_rows.proofs.Again.{doc_same}
+use Rattle.seen_facts.proofs.Request.Readers.{sent_reads}
+use Rattle.row_facts.proofs.RestRows.Again.{doc_same}
 use Rattle.seen_laws.proofs.Keyed.{find_on_other, find_on_same}
 use Rattle.seen_laws.specs.InEvent.{InEvent, now_of, row_of}
 use Rattle.std.proofs.Common.{Bool, List, None, Option, Some, [], ap, cond, false, inl, inr, refl, sym, true, ◌++◌, ◌==◌, ◌∙◌, ◌∷◌, ◌≡◌, ◌⊎◌}
 use Rattle.std.specs.Prelude.{option_map}
 use Rattle.tab_ids.specs.declared.DocId.{DocId}
-use Rattle.left_facts.proofs.Rows.{were_shown}
-use Rattle.left_facts.specs.Left.{WereShown}
+use Rattle.row_facts.proofs.Left.Rows.{were_shown}
+use Rattle.row_facts.specs.Left.Left.{WereShown}
 use Rattle.tab_ids.specs.declared.NavId.{NavId}
 use Rattle.tab_ids.specs.declared.ReqId.{ReqId}
 use Rattle.tab_ids.specs.declared.StateId.{StateId}

@@ -1,11 +1,11 @@
 -- As stray documents are discarded, the navigables of ongoing loads stand where they stood, and then each awake navigable has an entry.
-use Rattle.frame_whole.specs.Tab.{AreAwakeWithRows}
-use Rattle.hang_facts.proofs.Forms.{nav_is}
-use Rattle.hang_facts.proofs.Hung.{place_chain}
-use Rattle.hang_facts.proofs.Members.{any_has, has_any}
-use Rattle.hang_facts.proofs.Parts.{state_is}
-use Rattle.home_facts.specs.Homes.{IsAtHome}
-use Rattle.load_ends.specs.Standing.{is_reached}
+use Rattle.tab_facts.specs.FrameWhole.Tab.{AreAwakeWithRows}
+use Rattle.seen_facts.proofs.Hang.Forms.{nav_is}
+use Rattle.seen_facts.proofs.Hang.Hung.{place_chain}
+use Rattle.seen_facts.proofs.Hang.Members.{any_has, has_any}
+use Rattle.seen_facts.proofs.Hang.Parts.{state_is}
+use Rattle.seen_facts.specs.Home.Homes.{IsAtHome}
+use Rattle.seen_facts.specs.LoadEnds.Standing.{is_reached}
 use Rattle.log_model.proofs.Refl.{nat_eq_refl}
 use Rattle.log_model.specs.Equal.{holds}
 use Rattle.log_model.specs.History.{History, has_nav, has_row, has_state, is_of}
@@ -25,9 +25,9 @@ use Rattle.tab_sweeps.proofs.ForCallers.{needed}
 use Rattle.tab_sweeps.proofs.Loads.{awake_unloaded}
 use Rattle.tab_sweeps.specs.Sweeping.{IsOnStray, IsSweptTurn, NoneStray}
 use Rattle.tab_serves.specs.PassedOn.{IsTab}
-use Rattle.walk_facts.specs.Serving.{is_needing}
-use Rattle.walk_facts.specs.Walking.{IsApart}
-use Rattle.walk_rows.proofs.Walks.{above_apart}
+use Rattle.seen_facts.specs.Walk.Serving.{is_needing}
+use Rattle.seen_facts.specs.Walk.Walking.{IsApart}
+use Rattle.row_facts.proofs.WalkRows.Walks.{above_apart}
 
 -- a place that stands and is awake needs nothing
 needs_not : (rows : List Row) (step : _) (place : Place) (doc : DocId) → place.status ≡ awake doc → is_standing rows step place ≡ true → is_needing rows step place ≡ false

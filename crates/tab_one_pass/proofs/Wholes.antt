@@ -1,7 +1,7 @@
 -- The walk and telling, one after the other, and with them the whole pass.
-use Rattle.asked_facts.specs.Asking.{ArePlain}
-use Rattle.frame_whole.specs.Tab.{AreAwakeWithRows}
-use Rattle.load_ends.specs.Standing.{LoadsStand}
+use Rattle.seen_facts.specs.Asked.Asking.{ArePlain}
+use Rattle.tab_facts.specs.FrameWhole.Tab.{AreAwakeWithRows}
+use Rattle.seen_facts.specs.LoadEnds.Standing.{LoadsStand}
 use Rattle.log_model.specs.History.{History}
 use Rattle.log_model.specs.Places.{aim_of}
 use Rattle.log_model.specs.Seen.{Place, Seen, place_in, place_of}
@@ -21,7 +21,7 @@ use Rattle.tab_one_pass.specs.Passing.{AreLeftStrays, HasClearedOut, HasGivenWay
 use Rattle.tab_serves.proofs.Orders.{walk_orders}
 use Rattle.tab_serves.specs.Serving.{HasOnlyServed, HasWalked, InPass, IsPassing, LeavesLog, MayWalk}
 use Rattle.tab_serves.specs.PassedOn.{HasOnlyTold, IsToldMore}
-use Rattle.walk_facts.specs.Serving.{AreServed, IsServed}
+use Rattle.seen_facts.specs.Walk.Serving.{AreServed, IsServed}
 
 -- who is served is so still once the others were told
 served_told : (s t : Seen) → IsToldMore s t → AreServed s → AreServed t

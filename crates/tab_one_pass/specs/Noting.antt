@@ -1,6 +1,6 @@
 -- For which request the document of a load is discarded once the load has given way: noted under its document state, before it does.
 -- HTML Standard, "Navigables" ("ongoing navigation") and "destroy a document"; that such an order is for a request is this project's own.
-use Rattle.hang_facts.specs.Members.{Has}
+use Rattle.seen_facts.specs.Hang.Members.{Has}
 use Rattle.indexmap.specs.IndexMap.{insert_entry}
 use Rattle.load_table.specs.Loads.{ongoing_load}
 use Rattle.load_table.specs.declared.load.Load.{Load}

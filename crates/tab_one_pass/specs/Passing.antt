@@ -1,10 +1,10 @@
 -- What one pass over a tab with loads asks of the log, what it puts out, and what it leaves, so that another one may follow.
 -- HTML Standard, "apply the history step" and "destroy a document"; that all this goes by passes is this project's own.
-use Rattle.calm_facts.specs.Calm.{AreRooted, CalmUnless, HasUsable, IsCalm, IsCalmAround, IsCalmYet, KeepsCalm, UnmovedAreHere}
-use Rattle.calm_facts.specs.Loads.{LoadsHaveDocuments}
-use Rattle.frame_whole.specs.Tab.{AreAwakeWithRows}
-use Rattle.left_facts.specs.Left.{WereShown}
-use Rattle.load_facts.specs.Loading.{Look, is_ongoing, look_of}
+use Rattle.tab_facts.specs.Calm.Calm.{AreRooted, CalmUnless, HasUsable, IsCalm, IsCalmAround, IsCalmYet, KeepsCalm, UnmovedAreHere}
+use Rattle.tab_facts.specs.Calm.Loads.{LoadsHaveDocuments}
+use Rattle.tab_facts.specs.FrameWhole.Tab.{AreAwakeWithRows}
+use Rattle.row_facts.specs.Left.Left.{WereShown}
+use Rattle.seen_facts.specs.Load.Loading.{Look, is_ongoing, look_of}
 use Rattle.log_model.specs.History.{has_row}
 use Rattle.log_model.specs.Orders.{ongoing_load}
 use Rattle.log_model.specs.Places.{aim_of}
@@ -13,7 +13,7 @@ use Rattle.log_model.specs.declared.job.Job.{Job}
 use Rattle.log_model.specs.declared.job.Why.{Why}
 use Rattle.log_model.specs.declared.row_kind.RowKind.{RowKind}
 use Rattle.nav_tree.specs.Tree.{is_state}
-use Rattle.request_facts.proofs.Readers.{SameReads}
+use Rattle.seen_facts.proofs.Request.Readers.{SameReads}
 use Rattle.seen_laws.specs.InEvent.{InEvent, now_of}
 use Rattle.std.specs.Map.{lookup}
 use Rattle.std.specs.Prelude.{List, None, Option, Some, [], false, is_some, true, ℕ, ◌++◌, ◌∷◌, ◌≡◌}
@@ -27,7 +27,7 @@ pub use Rattle.tab_serves.specs.PassedOn.{MayServe}
 pub use Rattle.tab_serves.specs.Serving.{MayCause, ParentsShown, show_why}
 use Rattle.tab_serves.specs.PassedOn.{HasOnlyTold}
 pub use Rattle.tab_sweeps.specs.Sweeping.{HasOnlySwept, IsStray}
-use Rattle.walk_rows.specs.Since.{AwakeSince, MovesVisited, WasAwake}
+use Rattle.row_facts.specs.WalkRows.Since.{AwakeSince, MovesVisited, WasAwake}
 use Rattle.log_model.specs.declared.row_kind.RowKind.TheVariants as rows
 
 -- ---- what a pass asks for

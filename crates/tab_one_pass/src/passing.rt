@@ -1,7 +1,7 @@
 //! One pass: ongoing loads give way, stray documents are discarded, who needs it is served, who is awake is told.
 ghost use Rattle.std.specs.Prelude.{◌≡◌, OnOk, true};
-ghost use Rattle.frame_whole.specs.Tab.{AreAwakeWithRows};
-ghost use Rattle.load_ends.specs.Standing.{LoadsStand};
+ghost use Rattle.tab_facts.specs.FrameWhole.Tab.{AreAwakeWithRows};
+ghost use Rattle.seen_facts.specs.LoadEnds.Standing.{LoadsStand};
 ghost use Rattle.log_model.specs.ActsAtOnce.{ends_told};
 ghost use Rattle.seen_laws.specs.InEvent.{now_of};
 ghost use Rattle.tab_doors.specs.Working.{KeepsStore};
@@ -9,7 +9,7 @@ ghost use Rattle.tab_drops.specs.Dropping.{StandOrBare};
 ghost use Rattle.tab_one_pass.specs.Passing.{AreLeftStrays, HasClearedOut, HasGivenWay, HasPassed, HasPutOut, IsOpen, LeavesCalm, LeavesPass, MayPass, MayStand, SendsForStrays, WereLoaded};
 ghost use Rattle.tab_serves.specs.Serving.{InPass, IsPassing};
 ghost use Rattle.tab_sweeps.specs.Sweeping.{AreBlamed};
-ghost use Rattle.walk_facts.specs.Serving.{AreServed};
+ghost use Rattle.seen_facts.specs.Walk.Serving.{AreServed};
 
 use crate::noting::note_loads;
 use address::OutOfMemory;

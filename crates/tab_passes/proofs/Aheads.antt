@@ -1,11 +1,11 @@
 -- Orders of a move may be sent, since the order that shows its document comes later: what is left is frozen or discarded, and the one that is kept too long is discarded.
-use Rattle.leave_rows.proofs.Evicts.{activate_leaves, left_then, overflow_may}
-use Rattle.leave_rows.proofs.Freezes.{activate_displaces, displaced_by, freeze_may}
-use Rattle.leave_rows.proofs.Leaves.{activate_shows_another, left_by, unkept_left_may}
-use Rattle.leave_rows.specs.Evicting.{IsKeptLast, LeavesLater, shows_none}
-use Rattle.leave_rows.specs.Freezing.{IsDisplacedLater, IsFreezeDue}
-use Rattle.leave_rows.specs.Leaving.{IsLeaveDue, IsLeftLater, IsTooMany}
-use Rattle.frame_rows.specs.Discarding.{SettlesNone}
+use Rattle.row_facts.proofs.LeaveRows.Evicts.{activate_leaves, left_then, overflow_may}
+use Rattle.row_facts.proofs.LeaveRows.Freezes.{activate_displaces, displaced_by, freeze_may}
+use Rattle.row_facts.proofs.LeaveRows.Leaves.{activate_shows_another, left_by, unkept_left_may}
+use Rattle.row_facts.specs.LeaveRows.Evicting.{IsKeptLast, LeavesLater, shows_none}
+use Rattle.row_facts.specs.LeaveRows.Freezing.{IsDisplacedLater, IsFreezeDue}
+use Rattle.row_facts.specs.LeaveRows.Leaving.{IsLeaveDue, IsLeftLater, IsTooMany}
+use Rattle.row_facts.specs.FrameRows.Discarding.{SettlesNone}
 use Rattle.log_model.specs.Equal.{holds}
 use Rattle.log_model.specs.History.{has_nav}
 use Rattle.log_model.specs.Places.{is_awake_on, way_of}

@@ -1,10 +1,10 @@
 -- The aim, and the length and index that are due, as the tables tell of them.
-use Rattle.each_facts.proofs.Runs.{none_passes, only_passes}  -- keep
+use Rattle.seen_facts.proofs.Each.Runs.{none_passes, only_passes}  -- keep
 use Rattle.tab_doors.proofs.Histories.{log_steps}
 use Rattle.tab_doors.specs.Look.{moved_by}
 use Rattle.tab_doors.specs.Working.{HasGoal}
-use Rattle.asked_facts.specs.Asking.{ArePlain}
-use Rattle.hang_facts.specs.Members.{Has}
+use Rattle.seen_facts.specs.Asked.Asking.{ArePlain}
+use Rattle.seen_facts.specs.Hang.Members.{Has}
 use Rattle.history_laws.proofs.InOrder.{history_index-ordered, history_length-ordered, used_step_at-ordered}
 use Rattle.log_model.specs.Equal.{holds}
 use Rattle.log_model.specs.History.{History, has_nav, history_index, history_length, used_step_at}
@@ -13,9 +13,9 @@ use Rattle.log_model.specs.Places.{aim_of, has_passed_with, is_gone, is_moved_in
 use Rattle.log_model.specs.Seen.{Asked, Seen, request_in}
 use Rattle.log_model.specs.declared.row.Row.{Row}
 use Rattle.tab_passes.specs.Passing.{aim_in}
-use Rattle.each_facts.proofs.Runs.{at_place}
-use Rattle.each_facts.specs.Runs.{OnlyRuns, is_run}
-use Rattle.rest_facts.proofs.Stands.{get_of}
+use Rattle.seen_facts.proofs.Each.Runs.{at_place}
+use Rattle.seen_facts.specs.Each.Runs.{OnlyRuns, is_run}
+use Rattle.seen_facts.proofs.Rest.Stands.{get_of}
 use Rattle.std.proofs.Common.{Bool, List, None, Option, Some, [], ap, cond, false, inl, inr, refl, subst, sym, true, ℕ, ◌&&◌, ◌+◌, ◌∙◌, ◌∷◌, ◌≡◌}
 use Rattle.std.specs.Option.{option_map_or}
 use Rattle.std.specs.Prelude.{option_and_then}

@@ -1,5 +1,5 @@
 -- A document that is left may be frozen, since the one that the move shows comes later.
-use Rattle.leave_rows.specs.Freezing.{IsFreezeDue}
+use Rattle.row_facts.specs.LeaveRows.Freezing.{IsFreezeDue}
 use Rattle.log_model.specs.History.{has_nav}
 use Rattle.log_model.specs.ActsAtOnce.{is_for_passed}
 use Rattle.log_model.specs.Equal.{holds}

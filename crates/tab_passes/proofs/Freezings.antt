@@ -10,7 +10,7 @@ use Rattle.log_model.specs.Seen.{Asked, Document, Place, Seen, desk_of, document
 use Rattle.log_model.specs.declared.job.Why.{Why}
 use Rattle.log_model.specs.declared.row_kind.RowKind.{RowKind}
 use Rattle.nav_tree.proofs.Lists.{drop-slice_get, take-slice_get}
-use Rattle.rest_rows.specs.Left.{left_below, shown_by}
+use Rattle.row_facts.specs.RestRows.Left.{left_below, shown_by}
 use Rattle.seen_laws.proofs.InEvents.{now_more}
 use Rattle.seen_laws.proofs.Keyed.{find_on_other}
 use Rattle.seen_laws.specs.InEvent.{InEvent, now_of, row_of}

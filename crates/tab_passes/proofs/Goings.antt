@@ -3,14 +3,14 @@ use Rattle.log_model.specs.Places.{has_passed_with, is_gone}  -- keep
 use Rattle.tab_passes.proofs.Aims.{passed_is, running_is}  -- keep
 use Rattle.tab_passes.specs.Causes.{MayCause, MayServe, show_why}  -- keep
 use Rattle.log_model.specs.Places.{is_traversal, is_under_way}  -- keep
-use Rattle.each_facts.specs.Runs.{is_run, is_this}  -- keep
+use Rattle.seen_facts.specs.Each.Runs.{is_run, is_this}  -- keep
 use Rattle.log_model.specs.Checks.{is_checked}  -- keep
 use Rattle.log_model.specs.ActsAtOnce.{is_for_passed}  -- keep
 use Rattle.seen_laws.specs.Sending.{is_passed}  -- keep
 use Rattle.log_model.specs.declared.job.Task.TheVariants as tasks  -- keep
 use Rattle.log_model.specs.declared.job.Why.TheVariants as whys  -- keep
-use Rattle.asked_facts.specs.Asking.{ArePlain}
-pub use Rattle.tab_going.proofs.PassedOn.{ServesNoneToBegin}
+use Rattle.seen_facts.specs.Asked.Asking.{ArePlain}
+pub use Rattle.tab_facts.proofs.TabGoing.PassedOn.{ServesNoneToBegin}
 use Rattle.log_model.proofs.Refl.{nat_eq_refl}
 use Rattle.log_model.specs.Checks.{may_go_on}
 use Rattle.log_model.specs.Equal.{implies}

@@ -1,6 +1,6 @@
 -- All goes on as documents are left: frozen or discarded, within a move or not.
-use Rattle.tab_going.proofs.PassedOn.{ServesNoneToBegin, discard_tab, discarded_lasting, freeze_tab, frozen_lasting, show_tab, shown_lasting}
-use Rattle.doc_facts.specs.Docs.{HasPlace}
+use Rattle.tab_facts.proofs.TabGoing.PassedOn.{ServesNoneToBegin, discard_tab, discarded_lasting, freeze_tab, frozen_lasting, show_tab, shown_lasting}
+use Rattle.seen_facts.specs.Doc.Docs.{HasPlace}
 use Rattle.log_model.specs.After.{after}
 use Rattle.log_model.specs.Places.{aim_of, all_stand}
 use Rattle.log_model.specs.Seen.{Document, Place, Seen, document_of}
@@ -8,11 +8,11 @@ use Rattle.log_model.specs.declared.job.Job.{Job}
 use Rattle.log_model.specs.declared.job.Why.{Why}
 use Rattle.log_model.specs.declared.row.Row.{Row}
 use Rattle.log_model.specs.declared.row_kind.RowKind.{RowKind}
-use Rattle.owed_facts.proofs.Ends.{owed_more}
-use Rattle.owed_facts.proofs.Rows.{reckoned_now, sent_stays}
-use Rattle.owed_facts.specs.Owed.{AreUnasked, IsLoose, IsOwed}
-use Rattle.rest_rows.proofs.Orders.{discarded_less, frozen_less}
-use Rattle.rest_rows.specs.Moving.{RestBut}
+use Rattle.row_facts.proofs.Owed.Ends.{owed_more}
+use Rattle.row_facts.proofs.Owed.Rows.{reckoned_now, sent_stays}
+use Rattle.row_facts.specs.Owed.Owed.{AreUnasked, IsLoose, IsOwed}
+use Rattle.row_facts.proofs.RestRows.Orders.{discarded_less, frozen_less}
+use Rattle.row_facts.specs.RestRows.Moving.{RestBut}
 use Rattle.seen_laws.proofs.InEvents.{now_more}
 use Rattle.seen_laws.specs.InEvent.{InEvent, now_of, row_of}
 use Rattle.std.proofs.Common.{List, None, Option, Some, [], length, refl, subst, sym, true, ℕ, ◌++◌, ◌+◌, ◌∙◌, ◌∷◌, ◌≡◌, ◌≤◌, ap}
@@ -22,15 +22,15 @@ use Rattle.tab_doors.specs.Keeping.{Move, with_left}
 use Rattle.tab_doors.specs.Orders.{order_to}
 use Rattle.tab_doors.specs.Working.{IsAtWork, IsAtWorkFor, KeepsStore}
 use Rattle.tab_doors.specs.declared.tables.Tables.{Tables}
-pub use Rattle.tab_going.proofs.Rows.{sent_going}
-use Rattle.tab_going.specs.Going.{IsGoing}
+pub use Rattle.tab_facts.proofs.TabGoing.Rows.{sent_going}
+use Rattle.tab_facts.specs.TabGoing.Going.{IsGoing}
 use Rattle.tab_ids.specs.declared.DocId.{DocId}
 use Rattle.tab_ids.specs.declared.Epoch.{Epoch}
 use Rattle.tab_ids.specs.declared.ReqId.{ReqId}
 use Rattle.tab_ids.specs.declared.StateId.{StateId}
 use Rattle.tab_passes.specs.Leaving.{IsLeaving, MayLeave, left_then}
 use Rattle.tab_passes.specs.Passing.{InPass, IsPassing}
-pub use Rattle.tab_going.proofs.PassedOn.{IsShowOf, IsToMade, sent_home}
+pub use Rattle.tab_facts.proofs.TabGoing.PassedOn.{IsShowOf, IsToMade, sent_home}
 use Rattle.log_model.specs.declared.job.Task.TheVariants as tasks
 use Rattle.log_model.specs.declared.row_kind.RowKind.TheVariants as rows
 

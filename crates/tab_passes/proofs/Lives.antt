@@ -1,11 +1,11 @@
 -- What is there for a document state, as the tables tell, is so in the log.
-use Rattle.hang_facts.proofs.Members.{find_has, has_any, has_found}
-use Rattle.hang_facts.proofs.Parts.{state_is}
-use Rattle.hang_facts.specs.Members.{Has}
+use Rattle.seen_facts.proofs.Hang.Members.{find_has, has_any, has_found}
+use Rattle.seen_facts.proofs.Hang.Parts.{state_is}
+use Rattle.seen_facts.specs.Hang.Members.{Has}
 use Rattle.log_model.proofs.Refl.{nat_eq_refl}
 use Rattle.nav_tree.specs.Tree.{document_of as document_in_tree, is_placed, is_state, state_of}
 use Rattle.nav_tree.specs.declared.place.Place as live_place
-use Rattle.rest_rows.proofs.Again.{doc_same}
+use Rattle.row_facts.proofs.RestRows.Again.{doc_same}
 use Rattle.std.proofs.Common.{Bool, List, None, Option, Some, [], ap, arith, cond, false, inl, inr, not, refl, subst, sym, true, ◌&&◌, ◌==◌, ◌∙◌, ◌∷◌, ◌≡◌}
 use Rattle.std.proofs.lemmas.Bool.Decides.{nat_tests}
 use Rattle.std.specs.List.{list_any}

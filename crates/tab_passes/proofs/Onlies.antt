@@ -1,5 +1,5 @@
 -- Nothing but rows of one kind was put out: one row after the other.
-use Rattle.hang_facts.specs.Members.{Has}
+use Rattle.seen_facts.specs.Hang.Members.{Has}
 use Rattle.log_model.specs.declared.row_kind.RowKind.{RowKind}
 use Rattle.tab_passes.specs.Passing.{HasOnly}
 use Rattle.std.proofs.Common.{List, [], ap, append-nil, append_assoc, inl, inr, subst, sym, ◌++◌, ◌∙◌, ◌∷◌, ◌≡◌, ◌⊎◌}

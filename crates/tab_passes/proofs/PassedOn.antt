@@ -1,7 +1,7 @@
 -- What is passed on of the crates below, for those above.
-pub use Rattle.tab_going.proofs.HeldUp.{applied_wishes}
-pub use Rattle.tab_going.proofs.PassedOn.{IsMakeOf, IsNoProcess, IsUnheld, IsUpAt, at_most_once, begun_tab, below_sleeps, dropped_lasting, dropped_tab, ended_tab, fresh, goes_of, joined_unheld, lives_first, load_pushed_tab, load_replaced_tab, make_tab, making_lasting, no_load, nowhere_tab, on_parent, pushed_lasting, refused_lasting, replaced_lasting, slept_placed, started_lasting, traversed_lasting, unheld_end, unheld_hand, unheld_loads, way_unheld}
-pub use Rattle.tab_going.proofs.Changes.{begun_going, pushed_going, replaced_going, traversed_going}
-pub use Rattle.tab_going.proofs.Counts.{applied_long, count_few}
-pub use Rattle.tab_going.proofs.Rows.{dropped_going, refused_going}
-pub use Rattle.tab_going.proofs.Steps.{pushed_steps, replaced_steps}
+pub use Rattle.tab_facts.proofs.TabGoing.HeldUp.{applied_wishes}
+pub use Rattle.tab_facts.proofs.TabGoing.PassedOn.{IsMakeOf, IsNoProcess, IsUnheld, IsUpAt, at_most_once, begun_tab, below_sleeps, dropped_lasting, dropped_tab, ended_tab, fresh, goes_of, joined_unheld, lives_first, load_pushed_tab, load_replaced_tab, make_tab, making_lasting, no_load, nowhere_tab, on_parent, pushed_lasting, refused_lasting, replaced_lasting, slept_placed, started_lasting, traversed_lasting, unheld_end, unheld_hand, unheld_loads, way_unheld}
+pub use Rattle.tab_facts.proofs.TabGoing.Changes.{begun_going, pushed_going, replaced_going, traversed_going}
+pub use Rattle.tab_facts.proofs.TabGoing.Counts.{applied_long, count_few}
+pub use Rattle.tab_facts.proofs.TabGoing.Rows.{dropped_going, refused_going}
+pub use Rattle.tab_facts.proofs.TabGoing.Steps.{pushed_steps, replaced_steps}

@@ -1,18 +1,18 @@
 -- All goes on after a document was told length and index.
 use Rattle.tab_passes.proofs.Untold.{IsTellDue}  -- keep
-use Rattle.home_facts.specs.Homes.{IsAtHome}
-use Rattle.tab_going.proofs.PassedOn.{IsToMade, sent_home, tell_tab, told_lasting}
+use Rattle.seen_facts.specs.Home.Homes.{IsAtHome}
+use Rattle.tab_facts.proofs.TabGoing.PassedOn.{IsToMade, sent_home, tell_tab, told_lasting}
 use Rattle.log_model.specs.After.{after}
 use Rattle.log_model.specs.Places.{aim_of, all_stand}
 use Rattle.log_model.specs.Seen.{Document, Seen}
 use Rattle.log_model.specs.declared.job.Job.{Job}
 use Rattle.log_model.specs.declared.job.Why.{Why}
 use Rattle.log_model.specs.declared.row_kind.RowKind.{RowKind}
-use Rattle.owed_facts.proofs.Ends.{loose_more, owed_more}
-use Rattle.owed_facts.proofs.Rows.{reckoned_now, sent_lasts, sent_stays}
-use Rattle.owed_facts.specs.Owed.{AreUnasked, IsLoose, IsOwed}
-use Rattle.rest_rows.proofs.Orders.{told_rests}
-use Rattle.rest_rows.specs.Moving.{AllRest}
+use Rattle.row_facts.proofs.Owed.Ends.{loose_more, owed_more}
+use Rattle.row_facts.proofs.Owed.Rows.{reckoned_now, sent_lasts, sent_stays}
+use Rattle.row_facts.specs.Owed.Owed.{AreUnasked, IsLoose, IsOwed}
+use Rattle.row_facts.proofs.RestRows.Orders.{told_rests}
+use Rattle.row_facts.specs.RestRows.Moving.{AllRest}
 use Rattle.seen_laws.proofs.InEvents.{now_more}
 use Rattle.seen_laws.specs.InEvent.{now_of, row_of}
 use Rattle.std.proofs.Common.{List, Option, Some, [], ap, length, refl, subst, sym, true, ℕ, ◌++◌, ◌∙◌, ◌∷◌, ◌≡◌, ◌≤◌}
@@ -20,15 +20,15 @@ use Rattle.tab_doors.proofs.Whose.{proc_found}
 use Rattle.tab_doors.specs.Orders.{order_to}
 use Rattle.tab_doors.specs.Working.{IsAtWork, KeepsStore}
 use Rattle.tab_doors.specs.declared.tables.Tables.{Tables}
-use Rattle.tab_going.proofs.Rows.{sent_going}
-use Rattle.tab_going.specs.Going.{IsGoing}
+use Rattle.tab_facts.proofs.TabGoing.Rows.{sent_going}
+use Rattle.tab_facts.specs.TabGoing.Going.{IsGoing}
 use Rattle.tab_ids.specs.declared.DocId.{DocId}
 use Rattle.tab_ids.specs.declared.NavId.{NavId}
 use Rattle.tab_ids.specs.declared.ReqId.{ReqId}
 use Rattle.tab_passes.proofs.Tellings.{telling_aim, told_turn}
 use Rattle.tab_passes.specs.Passing.{InPass, IsPassing}
 use Rattle.tab_passes.specs.Telling.{IsToldTurn}
-pub use Rattle.tab_going.specs.Going.{IsTab}
+pub use Rattle.tab_facts.specs.TabGoing.Going.{IsTab}
 use Rattle.log_model.specs.declared.job.Task.TheVariants as tasks
 use Rattle.log_model.specs.declared.row_kind.RowKind.TheVariants as rows
 

@@ -8,7 +8,7 @@ use Rattle.log_model.specs.declared.job.Why.{Why}
 use Rattle.seen_laws.specs.InEvent.{InEvent, row_of}
 use Rattle.std.proofs.Common.{Bool, None, Option, Some, ap, false, refl, sym, true, ◌∙◌, ◌≡◌}
 use Rattle.std.specs.Prelude.{option_map}
-use Rattle.request_facts.proofs.Readers.{IsBlind, sent_reads}
+use Rattle.seen_facts.proofs.Request.Readers.{IsBlind, sent_reads}
 use Rattle.tab_ids.specs.declared.ReqId.{ReqId}
 use Rattle.tab_passes.specs.Causes.{MayCause}
 use Rattle.log_model.specs.declared.row_kind.RowKind.TheVariants as rows

@@ -1,9 +1,9 @@
 -- Who falls asleep with a document, as the tables tell, is who does in the log.
 use Rattle.tab_doors.specs.declared.tables.Tables.{Tables}  -- keep
 use Rattle.plan_laws.specs.Held.{AreAbove, StandFor}  -- keep
-use Rattle.rest_facts.proofs.Stands.{get_of}  -- keep
+use Rattle.seen_facts.proofs.Rest.Stands.{get_of}  -- keep
 use Rattle.tab_doors.specs.Sleeping.{AreThere}  -- keep
-use Rattle.hang_facts.proofs.Members.{find_has as found_has}  -- keep
+use Rattle.seen_facts.proofs.Hang.Members.{find_has as found_has}  -- keep
 use Rattle.plan_laws.proofs.Ways.{numbers}  -- keep
 use Rattle.nav_tree.specs.declared.status.NavStatus.TheVariants as kept  -- keep
 use Rattle.tab_doors.specs.Ties.{Holds, status_of}  -- keep
@@ -14,9 +14,9 @@ use Rattle.apply_plan.proofs.Walks.{up_none}
 use Rattle.apply_plan.specs.Order.{rest}
 use Rattle.tab_doors.proofs.Holding.{its_node}
 use Rattle.tab_doors.specs.Look.{look_of}
-use Rattle.hang_facts.proofs.Hung.{places_distinct}
-use Rattle.hang_facts.specs.Hanging.{Hangs}
-use Rattle.hang_facts.specs.Members.{Has}
+use Rattle.seen_facts.proofs.Hang.Hung.{places_distinct}
+use Rattle.seen_facts.specs.Hang.Hanging.{Hangs}
+use Rattle.seen_facts.specs.Hang.Members.{Has}
 use Rattle.log_model.specs.AfterPlaces.{sleepers_with, woken_below}
 use Rattle.log_model.specs.Equal.{holds}
 use Rattle.log_model.specs.History.{has_nav}
@@ -37,7 +37,7 @@ use Rattle.tab_ids.specs.declared.DocId.{DocId}
 use Rattle.tab_ids.specs.declared.NavId.{NavId}
 use Rattle.tab_ids.specs.declared.ReqId.{ReqId}
 use Rattle.tab_ids.specs.declared.StateId.{StateId}
-use Rattle.walk_facts.proofs.Placed.{each_found}
+use Rattle.seen_facts.proofs.Walk.Placed.{each_found}
 
 find_mapped : {A B : Type 0} (f : B → Bool) (h : A → B) (g : A → Bool) (l : List A) → ((x : A) → Has l x → f (h x) ≡ g x) → find f (map h l) ≡ option_map h (find g l)
 find_mapped f h g [] same = refl

@@ -4,17 +4,17 @@ use Rattle.plan_laws.specs.Held.{AreAbove, IsKept, StandFor}  -- keep
 use Rattle.plan_laws.specs.Held as plan  -- keep
 use Rattle.tab_doors.specs.Ties.{Holds, IsTied, status_of}  -- keep
 use Rattle.nav_tree.specs.declared.status.NavStatus.TheVariants as kept  -- keep
-use Rattle.hang_facts.proofs.Depths.{several, ways_differ}  -- keep
-use Rattle.hang_facts.proofs.Hung.{hangs_as, place_chain, places_distinct}  -- keep
+use Rattle.seen_facts.proofs.Hang.Depths.{several, ways_differ}  -- keep
+use Rattle.seen_facts.proofs.Hang.Hung.{hangs_as, place_chain, places_distinct}  -- keep
 use Rattle.apply_plan.specs.Order.{parent_in}
 use Rattle.tab_doors.proofs.Holding.{its_node}
 use Rattle.tab_doors.specs.Look.{look_of, moved_by, sight}
-use Rattle.hang_facts.proofs.Depths.{AreDifferent}
-use Rattle.hang_facts.proofs.Forms.{form_there}
-use Rattle.hang_facts.specs.AsPlaces.{IsChain}
-use Rattle.hang_facts.specs.Forms.{form_of, forms_of}
-use Rattle.hang_facts.specs.Hanging.{Hangs}
-use Rattle.hang_facts.specs.Members.{Has}
+use Rattle.seen_facts.proofs.Hang.Depths.{AreDifferent}
+use Rattle.seen_facts.proofs.Hang.Forms.{form_there}
+use Rattle.seen_facts.specs.Hang.AsPlaces.{IsChain}
+use Rattle.seen_facts.specs.Hang.Forms.{form_of, forms_of}
+use Rattle.seen_facts.specs.Hang.Hanging.{Hangs}
+use Rattle.seen_facts.specs.Hang.Members.{Has}
 use Rattle.log_model.specs.History.{has_nav, has_row}
 use Rattle.log_model.specs.Seen.{Place, Seen, place_in}
 use Rattle.log_model.specs.Soundness.{IsSound}
@@ -30,7 +30,7 @@ use Rattle.std.proofs.lemmas.List.{length-map}
 use Rattle.std.specs.Prelude.{option_map, slice_get}
 use Rattle.tab_ids.specs.declared.NavId.{NavId}
 use Rattle.tab_ids.specs.declared.ReqId.{ReqId}
-use Rattle.walk_facts.proofs.Placed.{each_found, found_nav}
+use Rattle.seen_facts.proofs.Walk.Placed.{each_found, found_nav}
 
 -- ---- navigables that differ aren't more than there are
 

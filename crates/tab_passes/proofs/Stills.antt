@@ -15,7 +15,7 @@ use Rattle.tab_doors.specs.Orders.{order_to}
 use Rattle.tab_ids.specs.declared.DocId.{DocId}
 use Rattle.tab_passes.proofs.Frozen.{has_at, only_it}
 use Rattle.tab_passes.specs.Leaving.{IsStill}
-use Rattle.walk_rows.proofs.Leaves.{freeze_none_leaves, leaves_none, leaves_then, none_places}
+use Rattle.row_facts.proofs.WalkRows.Leaves.{freeze_none_leaves, leaves_none, leaves_then, none_places}
 use Rattle.log_model.specs.declared.job.Task.TheVariants as tasks
 use Rattle.log_model.specs.declared.row_kind.RowKind.TheVariants as rows
 

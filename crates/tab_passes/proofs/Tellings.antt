@@ -1,10 +1,10 @@
 -- Once a document was told the due length and index, its navigable was, and who was told before is so still.
-use Rattle.coord_facts.proofs.Held.{fun_ext}
-use Rattle.coord_facts.specs.Leading.{EachIsOfItsNavigable}
+use Rattle.seen_facts.proofs.Coord.Held.{fun_ext}
+use Rattle.seen_facts.specs.Coord.Leading.{EachIsOfItsNavigable}
 use Rattle.tab_doors.specs.Orders.{next_order}
-use Rattle.hang_facts.proofs.Members.{into_map}
-use Rattle.hang_facts.specs.AsPlaces.{AreDistinct}
-use Rattle.hang_facts.specs.Members.{Has}
+use Rattle.seen_facts.proofs.Hang.Members.{into_map}
+use Rattle.seen_facts.specs.Hang.AsPlaces.{AreDistinct}
+use Rattle.seen_facts.specs.Hang.Members.{Has}
 use Rattle.log_model.proofs.Refl.{same_pair_refl}
 use Rattle.log_model.specs.ActsAtOnce.{ends_told, is_told}
 use Rattle.log_model.specs.After.{after}
@@ -17,7 +17,7 @@ use Rattle.log_model.specs.Seen.{Document, Place, Seen, Status, asleep, awake, d
 use Rattle.log_model.specs.declared.job.Why.{Why}
 use Rattle.log_model.specs.declared.row_kind.Actor.{Actor}
 use Rattle.tab_passes.specs.Telling.{AreToldUpTo, IsToldAt, IsToldMore, IsToldTurn}
-use Rattle.rest_facts.proofs.Stands.{get_of}
+use Rattle.seen_facts.proofs.Rest.Stands.{get_of}
 use Rattle.seen_laws.proofs.Keyed.{find_on_other, find_on_same}
 use Rattle.std.proofs.Common.{Bool, List, None, Option, Some, [], ap, arith, cond, false, inl, inr, map, refl, subst, sym, true, ℕ, ◌+◌, ◌<◌, ◌==◌, ◌∙◌, ◌∷◌, ◌≡◌}
 use Rattle.std.proofs.lemmas.Bool.Decides.{nat_tests}
@@ -27,9 +27,9 @@ use Rattle.tab_ids.specs.declared.DocId.{DocId}
 use Rattle.tab_ids.specs.declared.NavId.{NavId}
 use Rattle.tab_ids.specs.declared.ProcId.{ProcId}
 use Rattle.tab_ids.specs.declared.StateId.{StateId}
-use Rattle.walk_facts.proofs.Aims.{aim_again, blur, gone_on}
-use Rattle.walk_facts.proofs.Placed.{each_found, found_nav}
-use Rattle.walk_facts.specs.Serving.{IsMaking}
+use Rattle.seen_facts.proofs.Walk.Aims.{aim_again, blur, gone_on}
+use Rattle.seen_facts.proofs.Walk.Placed.{each_found, found_nav}
+use Rattle.seen_facts.specs.Walk.Serving.{IsMaking}
 use Rattle.log_model.specs.declared.job.Task.TheVariants as tasks
 use Rattle.log_model.specs.declared.row_kind.RowKind.TheVariants as rows
 

@@ -4,13 +4,13 @@ use Rattle.tab_doors.specs.Working.{KeepsStore}  -- keep
 use Rattle.tab_passes.proofs.Keeps.{kept_none, kept_then}
 use Rattle.tab_passes.specs.Telling.{IsTelling}  -- keep
 use Rattle.apply_plan.specs.Order.{walk_of}  -- keep
-use Rattle.hang_facts.proofs.Hung.{places_distinct}  -- keep
+use Rattle.seen_facts.proofs.Hang.Hung.{places_distinct}  -- keep
 use Rattle.tab_passes.proofs.Tellings.{one_more}  -- keep
 use Rattle.log_model.specs.Walk as log  -- keep
 use Rattle.plan_laws.proofs.WalkLaws.{walk_is}  -- keep
-use Rattle.walk_facts.proofs.Order.{walk_is as is_walk}  -- keep
+use Rattle.seen_facts.proofs.Walk.Order.{walk_is as is_walk}  -- keep
 use Rattle.tab_passes.proofs.Stand.{stand_for}  -- keep
-use Rattle.hang_facts.proofs.Forms.{nav_is}
+use Rattle.seen_facts.proofs.Hang.Forms.{nav_is}
 use Rattle.log_model.specs.ActsAtOnce.{ends_told}
 use Rattle.log_model.specs.History.{has_nav}
 use Rattle.log_model.specs.Seen.{Place, place_in}

@@ -1,8 +1,8 @@
 -- The documents below a navigable, as the tables tell, are those that the navigables below it are awake on in the log.
-use Rattle.hang_facts.proofs.Forms.{nav_is}
-use Rattle.hang_facts.proofs.Members.{any_has, has_map, slice_has}
-use Rattle.hang_facts.specs.Hanging.{Hangs}
-use Rattle.hang_facts.specs.Members.{Has}
+use Rattle.seen_facts.proofs.Hang.Forms.{nav_is}
+use Rattle.seen_facts.proofs.Hang.Members.{any_has, has_map, slice_has}
+use Rattle.seen_facts.specs.Hang.Hanging.{Hangs}
+use Rattle.seen_facts.specs.Hang.Members.{Has}
 use Rattle.log_model.proofs.Refl.{nat_eq_refl}
 use Rattle.log_model.specs.Equal.{has_doc}
 use Rattle.log_model.specs.Places.{awake_document, is_below}
@@ -12,7 +12,7 @@ use Rattle.log_model.specs.Walk.{walk_of}
 use Rattle.nav_tree.specs.declared.status.NavStatus.{NavStatus}
 use Rattle.nav_tree.specs.declared.status.NavStatus.TheVariants as kept
 use Rattle.plan_laws.proofs.WalkLaws.{walk_is as tree_walk}
-use Rattle.rest_facts.proofs.Stands.{get_of}
+use Rattle.seen_facts.proofs.Rest.Stands.{get_of}
 use Rattle.std.proofs.Common.{Bool, List, None, Option, Some, [], ap, cond, false, filter_map, inl, inr, map, refl, subst, sym, true, ◌==◌, ◌||◌, ◌∙◌, ◌∷◌, ◌≡◌, ◌⊎◌}
 use Rattle.std.specs.Prelude.{if◌then◌else◌}
 use Rattle.tab_doors.specs.Look.{look_of}
@@ -24,7 +24,7 @@ use Rattle.tab_ids.specs.declared.ReqId.{ReqId}
 use Rattle.tab_passes.proofs.Sleepers.{at_own, below_same, its, stand}
 use Rattle.tab_passes.specs.Sleepers.{doc_below, doc_on, docs_below}
 use Rattle.tab_passes.specs.Telling.{awake_on}
-use Rattle.walk_facts.proofs.Order.{walk_is as log_walk, walk_member}
+use Rattle.seen_facts.proofs.Walk.Order.{walk_is as log_walk, walk_member}
 
 -- ---- lists of what some items have
 

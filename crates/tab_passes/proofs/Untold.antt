@@ -4,16 +4,16 @@ use Rattle.log_model.specs.declared.job.Task.TheVariants as tasks  -- keep
 use Rattle.tab_doors.proofs.Sights.{seen_of, IsSeen}  -- keep
 use Rattle.tab_doors.specs.Ties.{AreTied, IsHome}  -- keep
 use Rattle.tab_doors.specs.Orders.{IsThere}  -- keep
-use Rattle.hang_facts.proofs.Hung.{places_distinct}  -- keep
+use Rattle.seen_facts.proofs.Hang.Hung.{places_distinct}  -- keep
 use Rattle.tab_doors.specs.declared.tables.Tables.{Tables}  -- keep
 use Rattle.tab_doors.specs.Ties.{IsAwakeIn, status_of}
-use Rattle.coord_facts.specs.Leading.{EachIsOfItsNavigable}
+use Rattle.seen_facts.specs.Coord.Leading.{EachIsOfItsNavigable}
 use Rattle.tab_doors.proofs.Holding.{IsThat, awake_home, its_place}
 use Rattle.tab_doors.specs.Look.{Sight, look_of, moved_by, sight}
 use Rattle.tab_doors.specs.Orders.{order_to}
-use Rattle.hang_facts.specs.AsPlaces.{AreDistinct}
-use Rattle.hang_facts.specs.Members.{Has}
-use Rattle.home_facts.specs.Homes.{IsAtHome}
+use Rattle.seen_facts.specs.Hang.AsPlaces.{AreDistinct}
+use Rattle.seen_facts.specs.Hang.Members.{Has}
+use Rattle.seen_facts.specs.Home.Homes.{IsAtHome}
 use Rattle.log_model.proofs.Refl.{nat_eq_refl}
 use Rattle.log_model.specs.ActsAtOnce.{is_told}
 use Rattle.log_model.specs.Equal.{holds, same_pair}
@@ -29,7 +29,7 @@ use Rattle.tab_passes.proofs.Aims.{aim_is, held_aim, held_pair, moved_is}
 use Rattle.tab_passes.proofs.Tellings.{told_asleep, told_none}
 use Rattle.tab_passes.specs.Passing.{InPass, IsPassing}
 use Rattle.tab_passes.specs.Telling.{IsToldAt, awake_on, if_new, step_in, untold_in}
-use Rattle.rest_facts.proofs.Stands.{get_of}
+use Rattle.seen_facts.proofs.Rest.Stands.{get_of}
 use Rattle.seen_laws.specs.InEvent.{now_of}
 use Rattle.seen_laws.specs.Sending.{IsUpdateDue}
 use Rattle.std.proofs.Common.{Bool, List, None, Option, Some, [], ap, arith, cond, false, inl, inr, map, refl, subst, sym, true, ℕ, ◌==◌, ◌∙◌, ◌∷◌, ◌≡◌}
@@ -38,7 +38,7 @@ use Rattle.std.specs.Prelude.{find, option_and_then, option_map}
 use Rattle.step_index.specs.Held.{history_held}
 use Rattle.tab_ids.specs.declared.DocId.{DocId}
 use Rattle.tab_ids.specs.declared.NavId.{NavId}
-use Rattle.walk_facts.proofs.Placed.{each_found}
+use Rattle.seen_facts.proofs.Walk.Placed.{each_found}
 
 -- ---- who is awake on a document
 

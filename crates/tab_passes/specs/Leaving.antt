@@ -1,7 +1,7 @@
 -- A coordinator in an event of a tab with loads while documents are left: those that ran below one that was frozen or discarded are still to be.
 -- HTML Standard, "apply the history step" and "Documents kept for traversal"; that what is left is frozen or discarded by orders is this project's own.
-use Rattle.hang_facts.specs.Members.{Has}
-use Rattle.kept_facts.specs.Keeping.{kept_states}
+use Rattle.seen_facts.specs.Hang.Members.{Has}
+use Rattle.seen_facts.specs.Kept.Keeping.{kept_states}
 use Rattle.load_table.specs.Loads.{ongoing_load}
 use Rattle.load_table.specs.declared.load.Load.{Load}
 use Rattle.log_model.specs.Equal.{has_doc, holds}
@@ -12,26 +12,26 @@ use Rattle.log_model.specs.AfterPlaces.{sleepers_with, without_doc}
 use Rattle.log_model.specs.declared.row_kind.RowKind.{RowKind}
 use Rattle.log_model.specs.declared.job.Job.{Job}
 use Rattle.log_model.specs.declared.job.Why.{Why}
-use Rattle.tab_going.proofs.PassedOn.{MayMove}
-use Rattle.mover_facts.proofs.Orders.{MovesEach}
-use Rattle.owed_facts.specs.Owed.{IsOwed}
+use Rattle.tab_facts.proofs.TabGoing.PassedOn.{MayMove}
+use Rattle.seen_facts.proofs.Mover.Orders.{MovesEach}
+use Rattle.row_facts.specs.Owed.Owed.{IsOwed}
 use Rattle.nav_tree.specs.Tree.{Tree, document_of as document_at}
 use Rattle.nav_tree.specs.declared.place.Place as live_place
-use Rattle.rest_rows.specs.Left.{left_below}
-use Rattle.rest_rows.specs.Moving.{RestBut}
+use Rattle.row_facts.specs.RestRows.Left.{left_below}
+use Rattle.row_facts.specs.RestRows.Moving.{RestBut}
 use Rattle.seen_laws.specs.InEvent.{InEvent, now_of}
 use Rattle.std.specs.Prelude.{ℕ, List, None, Option, Some, false, map, option_map, true, ◌++◌, ◌==◌, ◌||◌, ◌≡◌, [], fold, ◌∷◌, take, drop, length, ◌+◌, ◌<◌}
 use Rattle.tab_doors.specs.Keeping.{Move}
 use Rattle.tab_doors.specs.Look.{Sight, sight}
 use Rattle.tab_doors.specs.Working.{IsAtWorkFor}
 use Rattle.tab_doors.specs.declared.tables.Tables.{Tables}
-pub use Rattle.tab_going.specs.Going.{IsGoing}
+pub use Rattle.tab_facts.specs.TabGoing.Going.{IsGoing}
 use Rattle.tab_ids.specs.declared.DocId.{DocId}
 use Rattle.tab_ids.specs.declared.NavId.{NavId}
 use Rattle.tab_ids.specs.declared.StateId.{StateId}
 use Rattle.tab_passes.specs.Causes.{MayCause, show_why}
 use Rattle.tab_passes.specs.Passing.{HasOnly, InPass}
-use Rattle.walk_facts.specs.Walking.{LeavesOthers}
+use Rattle.seen_facts.specs.Walk.Walking.{LeavesOthers}
 use Rattle.log_model.specs.declared.job.Task.TheVariants as tasks
 use Rattle.log_model.specs.declared.row_kind.RowKind.TheVariants as rows
 

@@ -1,17 +1,17 @@
 -- A coordinator in an event of a tab with loads: its tables stand for what the log has come to, all that goes on from row to row does, what the rows owe is paid, what isn't shown rests, and no more documents are kept than may be.
 -- This project's own.
-use Rattle.hang_facts.specs.Members.{Has}
+use Rattle.seen_facts.specs.Hang.Members.{Has}
 use Rattle.log_model.specs.History.{History, used_step_at}
 use Rattle.log_model.specs.Places.{aim_of, all_stand}
 use Rattle.log_model.specs.declared.made.Made.{Made}
 use Rattle.log_model.specs.declared.row_kind.RowKind.{RowKind}
-use Rattle.owed_facts.specs.Owed.{IsLoose, IsOwed}
-use Rattle.rest_rows.specs.Moving.{AllRest}
+use Rattle.row_facts.specs.Owed.Owed.{IsLoose, IsOwed}
+use Rattle.row_facts.specs.RestRows.Moving.{AllRest}
 use Rattle.seen_laws.specs.InEvent.{InEvent, now_of}
 use Rattle.std.specs.Prelude.{List, None, Option, Some, length, true, ℕ, ◌++◌, ◌≡◌, ◌≤◌}
 use Rattle.tab_doors.specs.Working.{IsAtWork}
 use Rattle.tab_doors.specs.declared.tables.Tables.{Tables}
-use Rattle.tab_going.specs.Going.{IsGoing}
+use Rattle.tab_facts.specs.TabGoing.Going.{IsGoing}
 use Rattle.tab_ids.specs.declared.ReqId.{ReqId}
 use Rattle.tab_ids.specs.declared.Step.{Step}
 

@@ -23,7 +23,7 @@ use Rattle.tab_ids.specs.declared.NavId.{NavId}
 use Rattle.tab_ids.specs.declared.ReqId.{ReqId}
 use Rattle.tab_ids.specs.declared.StateId.{StateId}
 use Rattle.tab_ids.specs.declared.Step.{Step}
-use Rattle.walk_facts.specs.Serving.{IsMaking}
+use Rattle.seen_facts.specs.Walk.Serving.{IsMaking}
 
 -- the document that a navigable is awake on
 abbrev pub awake_on : NavStatus → Option DocId

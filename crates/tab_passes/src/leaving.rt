@@ -1,8 +1,8 @@
 //! Documents are left: frozen, or discarded.
 ghost use Rattle.std.specs.Prelude.{◌≡◌, ◌+◌, ◌++◌, ◌∷◌, [], IfOk, OnOk, Some, drop};
 ghost use Rattle.std.specs.Option.{option_to_list};
-ghost use Rattle.kept_facts.proofs.States.{AreOfOwnStates};
-ghost use Rattle.kept_facts.specs.Keeping.{kept_states};
+ghost use Rattle.seen_facts.proofs.Kept.States.{AreOfOwnStates};
+ghost use Rattle.seen_facts.specs.Kept.Keeping.{kept_states};
 ghost use Rattle.log_model.specs.declared.job.Task.TheVariants as tasks;
 ghost use Rattle.log_model.specs.declared.row_kind.RowKind.TheVariants as rows;
 ghost use Rattle.seen_laws.specs.InEvent.{now_of};

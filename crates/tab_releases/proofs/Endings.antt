@@ -1,18 +1,18 @@
 -- What a row that ends a request leaves of the others, and of what is held back.
-use Rattle.coord_facts.proofs.Unread.{next}
-use Rattle.frame_facts.proofs.Applied.{applied_wishes}
-use Rattle.frame_facts.specs.Lasting.{wish}
+use Rattle.seen_facts.proofs.Coord.Unread.{next}
+use Rattle.tab_facts.proofs.Frame.Applied.{applied_wishes}
+use Rattle.tab_facts.specs.Frame.Lasting.{wish}
 use Rattle.log_model.specs.After.{ended}
 use Rattle.log_model.specs.AfterRequests.{entries_taken, on_request, parked_after, without_req}
 use Rattle.log_model.specs.Points.{ends_in}
-use Rattle.doc_facts.proofs.Lives.{change_keeps, takes_in}
-use Rattle.home_facts.specs.Homes.{document_in}
+use Rattle.seen_facts.proofs.Doc.Lives.{change_keeps, takes_in}
+use Rattle.seen_facts.specs.Home.Homes.{document_in}
 use Rattle.log_model.specs.Seen.{Asked, Document, Seen, document_of}
 use Rattle.log_model.specs.declared.change.Change.{Change}
 use Rattle.log_model.specs.declared.outcome.Cause.{Cause}
 use Rattle.log_model.specs.declared.outcome.Denial.{Denial}
 use Rattle.log_model.specs.declared.row_kind.RowKind.{RowKind}
-use Rattle.request_facts.proofs.Readers.{SameReads, on_read}
+use Rattle.seen_facts.proofs.Request.Readers.{SameReads, on_read}
 use Rattle.seen_laws.specs.InEvent.{InEvent, row_of}
 pub use Rattle.tab_takes.proofs.PassedOn.{as_many}
 use Rattle.seen_laws.proofs.Keyed.{find_map}

@@ -1,11 +1,13 @@
 -- What was held back is taken up one after the other, until nothing is.
-use Rattle.coord_facts.proofs.Held.{held_alike, made_of, without_same}
-use Rattle.coord_facts.proofs.Unread.{next}
-use Rattle.coord_facts.specs.Leading.{held_back}
-use Rattle.tab_takes.specs.Taking.{ArrivedWhere, EndsAlone, HasTaken, InPass, IsPassing, IsTaking, IsToTake, LoadsMadeOwn, MayCause, Tables, is_new_entry}
-use Rattle.frame_facts.specs.Lasting.{Wish, wish}
-use Rattle.frame_rows.specs.Lawful.{has_traversed, held_at_first}
-use Rattle.entry_facts.proofs.Skips.{without_made}
+use Rattle.seen_facts.proofs.Coord.Held.{held_alike, made_of, without_same}
+use Rattle.seen_facts.proofs.Coord.Unread.{next}
+use Rattle.seen_facts.specs.Coord.Leading.{held_back}
+use Rattle.tab_takes.specs.Taking.{ArrivedWhere, EndsAlone, HasTaken, InPass, IsPassing, IsTaking, IsToTake, LoadsMadeOwn, MayCause, Tables, is_new_entry, is_reloading}
+use Rattle.tab_facts.specs.Frame.Lasting.{Wish, wish}
+use Rattle.row_facts.specs.FrameRows.Lawful.{has_traversed, held_at_first}
+use Rattle.seen_facts.proofs.Entry.Skips.{without_made}
+use Rattle.seen_facts.proofs.Hang.Members.{has_more}
+use Rattle.seen_facts.specs.Hang.Members.{Has}
 use Rattle.log_model.specs.AfterRequests.{without_req}
 use Rattle.log_model.specs.Equal.{has_req}
 use Rattle.log_model.specs.Places.{is_load, is_traversal}
@@ -18,14 +20,14 @@ use Rattle.log_model.specs.declared.made.Made.{Made}
 use Rattle.log_model.specs.declared.row_kind.LogRow.{LogRow}
 use Rattle.log_model.specs.declared.row_kind.RowKind.{RowKind}
 use Rattle.move_queue.specs.declared.queue_step.QueueStep.{QueueStep}
-use Rattle.owed_facts.specs.Owed.{IsLoose}
+use Rattle.row_facts.specs.Owed.Owed.{IsLoose}
 use Rattle.tab_ids.specs.declared.StateId.{StateId}
-use Rattle.each_facts.proofs.Courses.{was_asked}
+use Rattle.seen_facts.proofs.Each.Courses.{was_asked}
 use Rattle.tab_releases.proofs.Endings.{IsEnding, is_ending}
 use Rattle.tab_releases.proofs.Waits.{IsHeldFirst, IsLoadOfIt, IsPokeOfIt, for_taking, held_first, its_doc, its_what, none_held, others_apart, traversed_on}
 use Rattle.tab_releases.specs.Releasing.{EndsEach, HasReleased, HoldsParked, IsReleasing}
-use Rattle.request_facts.proofs.Readers.{SameReads, reads_then}
-use Rattle.request_facts.proofs.Times.{itself}
+use Rattle.seen_facts.proofs.Request.Readers.{SameReads, reads_then}
+use Rattle.seen_facts.proofs.Request.Times.{itself}
 use Rattle.seen_laws.proofs.InEvents.{now_more}
 use Rattle.seen_laws.specs.InEvent.{InEvent, now_of, row_of}
 use Rattle.std.proofs.Common.{Bool, List, None, Option, Some, [], ap, append-nil, append_assoc, false, inl, inr, map, refl, subst, sym, true, ℕ, ◌++◌, ◌+◌, ◌==◌, ◌∙◌, ◌∷◌, ◌≡◌, ◌⊎◌}
@@ -62,7 +64,7 @@ release_begins p t out blame parked passing empty turning idle open_ loose their
       done = [];
       last_is = refl;
       whole = refl;
-      ended = record { more = []; out = sym (append-nil out); ends = refl; long = refl };
+      ended = record { more = []; out = sym (append-nil out); ends = refl; long = refl; no_reload = λ row never. absurd never };
       kept = record { running = refl; goal = refl; keep = refl };
     }
 
@@ -92,8 +94,13 @@ ends_more e was out more done made each one =
           ∙ ap (λ (l : List ReqId). l ++ filter_map ends_in (row_of e one.kind ∷ [])) each.ends
           ∙ ap (λ (l : List ReqId). done ++ l) last;
       long = length-append each.more (one.kind ∷ []) ∙ ap (λ (n : ℕ). n + 1) each.long ∙ sym (length-append done (made.req ∷ []));
+      no_reload = λ row has. by_part row (has_more each.more one.kind row has);
     }
   where
+    by_part : (row : RowKind) → Has each.more row ⊎ (one.kind ≡ row) → is_reloading row ≡ false
+    by_part row (inl has) = each.no_reload row has
+    by_part row (inr is) = subst (λ (k : RowKind). is_reloading k ≡ false) is one.no_reload
+
     last : filter_map ends_in (row_of e one.kind ∷ []) ≡ made.req ∷ []
     last = rw (one.ends) refl
 

@@ -1,16 +1,16 @@
 -- The report that is held back first, once the traversal has ended: it is to be taken up, refused or dropped, and doesn't wait for another traversal.
-use Rattle.coord_facts.proofs.Held.{made_of}
-use Rattle.coord_facts.specs.Leading.{held_back}
+use Rattle.seen_facts.proofs.Coord.Held.{made_of}
+use Rattle.seen_facts.specs.Coord.Leading.{held_back}
 use Rattle.tab_takes.proofs.PassedOn.{all_once, done_here, start_here}
 use Rattle.tab_takes.proofs.Added.{IsTab, moved_by}
 use Rattle.tab_takes.specs.Taking.{Ends, InPass, IsByItsOwn, IsForTaking, IsOfFragment, IsOfPoke, IsPassing, IsToTake, LoadsMadeOwn, Tables, judged_in}
-use Rattle.frame_rows.proofs.LawfulLaws.{ends_first}
-use Rattle.frame_rows.specs.Lawful.{KeepsHeld, has_traversed, held_at_first}
-use Rattle.frame_rows.specs.Taking.{IsTakenNow}
-use Rattle.asked_facts.proofs.Plainly.{plain_passes}
-use Rattle.asked_facts.specs.Asking.{IsAskedPlainly, IsTabRequest}
-use Rattle.load_facts.specs.Loading.{IsLoading, is_ongoing, look}
-use Rattle.load_whereabouts.specs.Whereabouts.{times_on_way}
+use Rattle.row_facts.proofs.FrameRows.LawfulLaws.{ends_first}
+use Rattle.row_facts.specs.FrameRows.Lawful.{KeepsHeld, has_traversed, held_at_first}
+use Rattle.row_facts.specs.FrameRows.Taking.{IsTakenNow}
+use Rattle.seen_facts.proofs.Asked.Plainly.{plain_passes}
+use Rattle.seen_facts.specs.Asked.Asking.{IsAskedPlainly, IsTabRequest}
+use Rattle.seen_facts.specs.Load.Loading.{IsLoading, is_ongoing, look}
+use Rattle.seen_facts.specs.LoadWhereabouts.Whereabouts.{times_on_way}
 use Rattle.log_model.specs.declared.request.Mode.{Mode}
 use Rattle.tab_ids.specs.declared.StateId.{StateId}
 use Rattle.tab_takes.specs.PassedOn.{at_hand}
@@ -28,11 +28,11 @@ use Rattle.log_model.specs.declared.row_kind.LogRow.{LogRow}
 use Rattle.log_model.specs.declared.row_kind.RowKind.{RowKind}
 use Rattle.tab_releases.proofs.Endings.{ends_parked}
 use Rattle.tab_releases.specs.Releasing.{IsReleasing}
-use Rattle.request_facts.proofs.Endings.{due_small}
-use Rattle.request_facts.proofs.Times.{itself, times_none}
-use Rattle.request_facts.specs.Cores.{Core, core, core_of}
-use Rattle.request_facts.specs.Knowns.{AllOf, IsMadeOf, IsParked, req_itself}
-use Rattle.request_facts.specs.Whereabouts.{times, times_at, times_due, times_found}
+use Rattle.seen_facts.proofs.Request.Endings.{due_small}
+use Rattle.seen_facts.proofs.Request.Times.{itself, times_none}
+use Rattle.seen_facts.specs.Request.Cores.{Core, core, core_of}
+use Rattle.seen_facts.specs.Request.Knowns.{AllOf, IsMadeOf, IsParked, req_itself}
+use Rattle.seen_facts.specs.Request.Whereabouts.{times, times_at, times_due, times_found}
 use Rattle.seen_laws.proofs.Sendings.{both}
 use Rattle.seen_laws.proofs.Startings.{implied}
 use Rattle.seen_laws.proofs.Sums.{over}

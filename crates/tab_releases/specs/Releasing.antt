@@ -1,20 +1,21 @@
 -- The reports that were held back for a traversal, once it has ended: they end one after the other, in the order in which they were delivered.
 -- This project's own; the queue is the HTML Standard's "session history traversal queue", what jumps it "synchronous navigation steps".
-use Rattle.coord_facts.specs.Leading.{held_back}
-use Rattle.frame_facts.specs.Lasting.{wish}
-use Rattle.frame_rows.specs.Lawful.{has_traversed, held_at_first}
+use Rattle.seen_facts.specs.Coord.Leading.{held_back}
+use Rattle.tab_facts.specs.Frame.Lasting.{wish}
+use Rattle.row_facts.specs.FrameRows.Lawful.{has_traversed, held_at_first}
+use Rattle.seen_facts.specs.Hang.Members.{Has}
 use Rattle.log_model.specs.Causes.{takes_report}
 use Rattle.log_model.specs.Equal.{has_req}
 use Rattle.log_model.specs.Points.{ends_in}
 use Rattle.log_model.specs.Seen.{Seen}
 use Rattle.log_model.specs.declared.made.Made.{Made}
 use Rattle.log_model.specs.declared.row_kind.RowKind.{RowKind}
-use Rattle.owed_facts.specs.Owed.{IsLoose}
-use Rattle.request_facts.proofs.Readers.{SameReads}
+use Rattle.row_facts.specs.Owed.Owed.{IsLoose}
+use Rattle.seen_facts.proofs.Request.Readers.{SameReads}
 use Rattle.seen_laws.specs.InEvent.{InEvent, now_of, row_of}
 use Rattle.std.specs.List.{last_or}
-use Rattle.std.specs.Prelude.{List, None, Option, Some, [], filter_map, length, map, true, ◌++◌, ◌≡◌}
-use Rattle.tab_takes.specs.Taking.{LeavesQueue}
+use Rattle.std.specs.Prelude.{List, None, Option, Some, [], false, filter_map, length, map, true, ◌++◌, ◌≡◌}
+use Rattle.tab_takes.specs.Taking.{LeavesQueue, is_reloading}
 pub use Rattle.tab_takes.specs.Taking.{InPass, IsPassing, IsTaking, KeepsRun, LoadsMadeOwn, MayCause, Tables}
 use Rattle.tab_ids.specs.declared.ReqId.{ReqId}
 use Rattle.tab_ids.specs.declared.StateId.{StateId}
@@ -34,12 +35,13 @@ pub record IsReleasing (e : InEvent) (out : List RowKind) : Type 0 where
   pub ended : has_traversed e out ≡ true
   pub old : (req : ReqId) → has_req (now_of e out).parked req ≡ true → (has_req (held_at_first e) req ≡ true) × (has_req e.start.parked req ≡ true)
 
--- the rows that were put out end these requests, each by one row, in order
+-- the rows that were put out end these requests, each by one row, in order, and apply no reload
 pub record EndsEach (e : InEvent) (old new : List RowKind) (reqs : List ReqId) : Type 0 where
   pub more : List RowKind
   pub out : new ≡ old ++ more
   pub ends : filter_map ends_in (map (row_of e) more) ≡ reqs
   pub long : length more ≡ length reqs
+  pub no_reload : (row : RowKind) → Has more row → is_reloading row ≡ false
 
 -- an order may be for the request, if there is one
 abbrev pub MayBeFor : Seen → Option ReqId → Type 0

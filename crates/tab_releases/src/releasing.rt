@@ -1,7 +1,7 @@
 //! What was held back for a traversal is taken up, refused or dropped, one report after the other.
 ghost use Rattle.std.specs.List.{last_or};
 ghost use Rattle.std.specs.Prelude.{◌≡◌, None, OnOk, IfOk, []};
-ghost use Rattle.owed_facts.specs.Owed.{IsLoose};
+ghost use Rattle.row_facts.specs.Owed.Owed.{IsLoose};
 ghost use Rattle.seen_laws.specs.InEvent.{now_of};
 ghost use Rattle.tab_takes.specs.PassedOn.{HasQueue, IsTurning};
 ghost use Rattle.tab_takes.specs.Taking.{HasTaken, InPass, IsPassing, IsTaking, IsToTake, KeepsRun, LoadsMadeOwn};

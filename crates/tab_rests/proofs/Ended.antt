@@ -1,18 +1,18 @@
 -- A traversal has ended after a pass: all is as after a pass still, at the step that it led to, and the queue waits on.
-use Rattle.calm_facts.specs.Calm.{HasUsable}
-use Rattle.coord_facts.proofs.Held.{on_else}
-use Rattle.frame_facts.specs.Lasting.{Wish, wish}
-use Rattle.load_facts.specs.Loading.{Look, is_ongoing, look, look_of}
+use Rattle.tab_facts.specs.Calm.Calm.{HasUsable}
+use Rattle.seen_facts.proofs.Coord.Held.{on_else}
+use Rattle.tab_facts.specs.Frame.Lasting.{Wish, wish}
+use Rattle.seen_facts.specs.Load.Loading.{Look, is_ongoing, look, look_of}
 use Rattle.log_model.specs.AfterRequests.{entries_taken, on_request}
 use Rattle.log_model.specs.Orders.{is_usable}
 use Rattle.log_model.specs.Places.{aim_of, all_stand, all_stand_in, is_load, is_traversal}
 use Rattle.log_model.specs.Seen.{Asked, Document, Place, Seen, request_in}
 use Rattle.move_queue.specs.declared.queue_step.QueueStep.{QueueStep}
-use Rattle.asked_facts.specs.Asking.{IsThere}
+use Rattle.seen_facts.specs.Asked.Asking.{IsThere}
 use Rattle.log_model.specs.declared.change.Change.{Change}
 use Rattle.log_model.specs.declared.row.Row.{Row}
 use Rattle.log_model.specs.declared.row_kind.RowKind.{RowKind}
-use Rattle.owed_facts.proofs.Requests.{req_same}
+use Rattle.row_facts.proofs.Owed.Requests.{req_same}
 use Rattle.seen_laws.proofs.InEvents.{now_more}
 use Rattle.seen_laws.specs.InEvent.{InEvent, now_of}
 use Rattle.std.proofs.Common.{Bool, List, None, Option, Some, ap, false, refl, subst, sym, true, ℕ, filter, ◌&&◌, ◌==◌, ◌∙◌, ◌≡◌}
@@ -27,8 +27,8 @@ use Rattle.tab_ids.specs.declared.ReqId.{ReqId}
 use Rattle.tab_ids.specs.declared.StateId.{StateId}
 use Rattle.tab_begins.proofs.Afters.{InPass, IsPassing}
 use Rattle.tab_begins.specs.PassedOn.{HasEnded}
-use Rattle.tab_whole.proofs.Beginning.{no_load}
-use Rattle.tab_whole.specs.Tab.{IsTab}
+use Rattle.tab_facts.proofs.TabWhole.Beginning.{no_load}
+use Rattle.tab_facts.specs.TabWhole.Tab.{IsTab}
 use Rattle.log_model.specs.declared.change.Change.TheVariants as changes
 use Rattle.log_model.specs.declared.outcome.Ending.TheVariants as endings
 use Rattle.log_model.specs.declared.row_kind.RowKind.TheVariants as rows

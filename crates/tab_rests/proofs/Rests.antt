@@ -13,9 +13,9 @@ use Rattle.tab_ids.specs.declared.StateId.{StateId}
 use Rattle.tab_begins.proofs.Traverses.{left_blamed, own_document}
 use Rattle.tab_begins.specs.Queueing.{AreBlamed, AreLeftStrays, HasPassed, IsOpen, MayCause, MayStand}
 use Rattle.tab_begins.proofs.Afters.{InPass, IsPassing, aim_is}
-use Rattle.tab_whole.specs.Tab.{IsTab}
-use Rattle.walk_rows.proofs.Needs.{need_not_all_stand}
-use Rattle.walk_rows.specs.Since.{IsVisitedInNeed}
+use Rattle.tab_facts.specs.TabWhole.Tab.{IsTab}
+use Rattle.row_facts.proofs.WalkRows.Needs.{need_not_all_stand}
+use Rattle.row_facts.specs.WalkRows.Since.{IsVisitedInNeed}
 
 module _ (p : InPass) (out : List RowKind) (t : Tables) (passing : IsPassing p out t) (idle : t.running ≡ None) (passed : HasPassed p.event (now_of p.event out)) (stand : all_stand (now_of p.event out) (now_of p.event out).history.current ≡ true) where
   abbrev s : Seen

@@ -1,7 +1,7 @@
 -- Where no turn of the queue is due, no step is put off.
-use Rattle.asked_facts.specs.Asking.{ArePlain}
-use Rattle.hang_facts.proofs.Members.{find_has}
-use Rattle.hang_facts.specs.Members.{Has}
+use Rattle.seen_facts.specs.Asked.Asking.{ArePlain}
+use Rattle.seen_facts.proofs.Hang.Members.{find_has}
+use Rattle.seen_facts.specs.Hang.Members.{Has}
 use Rattle.log_model.proofs.Refl.{nat_eq_refl}
 use Rattle.log_model.specs.ActsAtOnce.{ends_stepped, has_document, has_no_step_waiting, has_reason_to_run, is_ready_load}
 use Rattle.log_model.specs.Equal.{implies}
@@ -11,8 +11,8 @@ use Rattle.log_model.specs.Queue.{is_queue_free, is_step_under_way}
 use Rattle.log_model.specs.Seen.{Asked, Seen, request_in, request_of}
 use Rattle.log_model.specs.declared.request.Request.{Request}
 use Rattle.move_queue.specs.declared.queue_step.QueueStep.{QueueStep}
-use Rattle.rest_facts.proofs.Seated.{all_has}
-use Rattle.rest_facts.proofs.Stands.{all_requests}
+use Rattle.seen_facts.proofs.Rest.Seated.{all_has}
+use Rattle.seen_facts.proofs.Rest.Stands.{all_requests}
 use Rattle.std.proofs.Common.{Bool, List, None, Option, Some, [], ap, false, inl, inr, length, not, refl, subst, sym, true, ◌&&◌, ◌==◌, ◌∙◌, ◌∷◌, ◌≡◌}
 use Rattle.std.proofs.lemmas.Bool.{and_parts}
 use Rattle.std.specs.List.{list_all}

@@ -1,15 +1,15 @@
 -- No ongoing load is of a navigable below a kept document, nor below one that a navigable in need was shown last: where loads stand.
-use Rattle.hang_facts.proofs.Forms.{nav_is}
-use Rattle.hang_facts.proofs.Hung.{place_chain}
-use Rattle.hang_facts.proofs.Members.{slice_has}
-use Rattle.hang_facts.proofs.Parts.{state_is}
-use Rattle.hang_facts.specs.AsPlaces.{IsChain}
-use Rattle.hang_facts.specs.Members.{Has}
-use Rattle.home_facts.specs.Homes.{IsHomed, IsOnAwake}
-use Rattle.kept_facts.specs.Keeping.{IsMadeFor, state_in}
-use Rattle.left_facts.specs.Left.{IsOwnedAs, OwnersFollow}
-use Rattle.load_ends.specs.Standing.{LoadsStand, is_reached}
-use Rattle.load_facts.specs.Loading.{Look, is_ongoing, look, look_of}
+use Rattle.seen_facts.proofs.Hang.Forms.{nav_is}
+use Rattle.seen_facts.proofs.Hang.Hung.{place_chain}
+use Rattle.seen_facts.proofs.Hang.Members.{slice_has}
+use Rattle.seen_facts.proofs.Hang.Parts.{state_is}
+use Rattle.seen_facts.specs.Hang.AsPlaces.{IsChain}
+use Rattle.seen_facts.specs.Hang.Members.{Has}
+use Rattle.seen_facts.specs.Home.Homes.{IsHomed, IsOnAwake}
+use Rattle.seen_facts.specs.Kept.Keeping.{IsMadeFor, state_in}
+use Rattle.row_facts.specs.Left.Left.{IsOwnedAs, OwnersFollow}
+use Rattle.seen_facts.specs.LoadEnds.Standing.{LoadsStand, is_reached}
+use Rattle.seen_facts.specs.Load.Loading.{Look, is_ongoing, look, look_of}
 use Rattle.log_model.proofs.Refl.{nat_eq_refl}
 use Rattle.log_model.specs.Equal.{holds}
 use Rattle.log_model.specs.History.{has_nav}
@@ -19,8 +19,8 @@ use Rattle.log_model.specs.Points.{nav_of_request}
 use Rattle.log_model.specs.Seen.{Asked, Document, Place, Seen, Status, asleep, awake, document_of, lost, place_of, request_in}
 use Rattle.log_model.specs.declared.made.Made.{Made}
 use Rattle.log_model.specs.declared.request.Request.{Request}
-use Rattle.place_facts.specs.Standing.{IsStanding}
-use Rattle.rest_facts.proofs.Seated.{all_has}
+use Rattle.seen_facts.specs.Place.Standing.{IsStanding}
+use Rattle.seen_facts.proofs.Rest.Seated.{all_has}
 use Rattle.seen_laws.proofs.Keyed.{find_has as seen_number}
 use Rattle.std.proofs.Common.{Bool, List, None, Option, Some, [], ap, cond, false, not, refl, subst, sym, true, ℕ, ◌&&◌, ◌-◌, ◌==◌, ◌||◌, ◌∙◌, ◌∷◌, ◌≡◌}
 use Rattle.std.proofs.lemmas.Bool.{and_parts}
@@ -35,8 +35,8 @@ use Rattle.tab_ids.specs.declared.StateId.{StateId}
 use Rattle.tab_serves.proofs.Reached.{IsReachedAt, need_off, reached_at}
 use Rattle.tab_walk.specs.Moving.{NoLoadBelowKept}
 use Rattle.tab_walk.specs.PassedOn.{IsTab}
-use Rattle.walk_facts.proofs.Placed.{found_nav}
-use Rattle.walk_rows.specs.Since.{IsVisitedInNeed}
+use Rattle.seen_facts.proofs.Walk.Placed.{found_nav}
+use Rattle.row_facts.specs.WalkRows.Since.{IsVisitedInNeed}
 use Rattle.log_model.specs.declared.request.Request.TheVariants as requests
 
 -- ---- the navigable of an ongoing load

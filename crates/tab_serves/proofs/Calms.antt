@@ -1,10 +1,10 @@
 -- What a turn of the walk puts out leaves the tab as calm as it was, and each ongoing load its document.
-use Rattle.calm_facts.proofs.Loads.{loads_sent}
-use Rattle.calm_facts.proofs.Sames.{IsUsableAt}
-use Rattle.calm_facts.proofs.Sents.{DiscardsNone, KeepsSeats, ShowsEntry, seats_none, seats_sent, seats_then, usable_sent}
-use Rattle.calm_facts.proofs.Turns.{IsCalmTurn, IsInPlace}
-use Rattle.calm_facts.specs.Loads.{LoadsHaveDocuments}
-use Rattle.hang_facts.proofs.Targets.{IsTarget, target_has}
+use Rattle.tab_facts.proofs.Calm.Loads.{loads_sent}
+use Rattle.tab_facts.proofs.Calm.Sames.{IsUsableAt}
+use Rattle.tab_facts.proofs.Calm.Sents.{DiscardsNone, KeepsSeats, ShowsEntry, seats_none, seats_sent, seats_then, usable_sent}
+use Rattle.tab_facts.proofs.Calm.Turns.{IsCalmTurn, IsInPlace}
+use Rattle.tab_facts.specs.Calm.Loads.{LoadsHaveDocuments}
+use Rattle.seen_facts.proofs.Hang.Targets.{IsTarget, target_has}
 use Rattle.log_model.proofs.Refl.{nat_eq_refl, same_entry_refl}
 use Rattle.log_model.specs.After.{after}
 use Rattle.log_model.specs.AfterPlaces.{activated}
@@ -19,7 +19,7 @@ use Rattle.log_model.specs.declared.job.Task.{Task}
 use Rattle.log_model.specs.declared.job.Why.{Why}
 use Rattle.log_model.specs.declared.row.Row.{Row}
 use Rattle.log_model.specs.declared.row_kind.RowKind.{RowKind}
-use Rattle.mover_facts.proofs.Orders.{PutsToSleep}
+use Rattle.seen_facts.proofs.Mover.Orders.{PutsToSleep}
 use Rattle.seen_laws.proofs.InEvents.{now_more}
 use Rattle.seen_laws.specs.InEvent.{InEvent, now_of, row_of}
 use Rattle.std.proofs.Common.{Bool, List, None, Option, Some, [], ap, cond, inl, inr, refl, subst, sym, true, ℕ, ◌++◌, ◌==◌, ◌∙◌, ◌∷◌, ◌≡◌}
@@ -33,10 +33,10 @@ use Rattle.tab_walk.specs.PassedOn.{HasMade}
 pub use Rattle.tab_walk.proofs.Overs.{only_as}
 use Rattle.tab_walk.specs.Moving.{HasBeenMoved, HasOnly, IsLeaveFor}
 use Rattle.tab_serves.proofs.Orders.{IsOrderOf, over_orders}
-use Rattle.walk_facts.proofs.Placed.{found_nav}
-use Rattle.walk_facts.proofs.Sleepers.{becomes, place_becomes, sleepers_of, slept, slept_same}
-use Rattle.walk_facts.proofs.Turns.{show_aim}
-use Rattle.walk_facts.specs.Walking.{LeavesOthers}
+use Rattle.seen_facts.proofs.Walk.Placed.{found_nav}
+use Rattle.seen_facts.proofs.Walk.Sleepers.{becomes, place_becomes, sleepers_of, slept, slept_same}
+use Rattle.seen_facts.proofs.Walk.Turns.{show_aim}
+use Rattle.seen_facts.specs.Walk.Walking.{LeavesOthers}
 use Rattle.log_model.specs.declared.job.Task.TheVariants as tasks
 use Rattle.log_model.specs.declared.row_kind.RowKind.TheVariants as rows
 

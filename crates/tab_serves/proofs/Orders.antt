@@ -1,8 +1,8 @@
 -- What the orders of a walk keep, one after the other.
-use Rattle.hang_facts.specs.Members.{Has}
-use Rattle.left_facts.proofs.Rows.{were_shown}
-use Rattle.left_facts.specs.Left.{WereShown}
-use Rattle.load_facts.specs.Loading.{look}
+use Rattle.seen_facts.specs.Hang.Members.{Has}
+use Rattle.row_facts.proofs.Left.Rows.{were_shown}
+use Rattle.row_facts.specs.Left.Left.{WereShown}
+use Rattle.seen_facts.specs.Load.Loading.{look}
 use Rattle.log_model.specs.After.{after}
 use Rattle.log_model.specs.AfterPlaces.{activated, on_place, places_sent, put_to_sleep, sleepers_below, sleepers_with}
 use Rattle.log_model.specs.AfterRequests.{request_served, requests_sent}
@@ -13,11 +13,11 @@ use Rattle.log_model.specs.declared.job.Job.{Job}
 use Rattle.log_model.specs.declared.job.Task.{Task}
 use Rattle.log_model.specs.declared.job.Why.{Why}
 use Rattle.log_model.specs.declared.row_kind.RowKind.{RowKind}
-use Rattle.mover_facts.proofs.Places.{any_behind, same_ways, sleep_ways, ways_both, ways_if, ways_mapped}
-use Rattle.mover_facts.proofs.Stays.{KeepWays}
-use Rattle.mover_facts.specs.Movers.{IsMovedBy}
-use Rattle.owed_facts.proofs.Requests.{AsksNone, sent_asks, still_unasked}
-use Rattle.owed_facts.specs.Owed.{AreUnasked}
+use Rattle.seen_facts.proofs.Mover.Places.{any_behind, same_ways, sleep_ways, ways_both, ways_if, ways_mapped}
+use Rattle.seen_facts.proofs.Mover.Stays.{KeepWays}
+use Rattle.seen_facts.specs.Mover.Movers.{IsMovedBy}
+use Rattle.row_facts.proofs.Owed.Requests.{AsksNone, sent_asks, still_unasked}
+use Rattle.row_facts.specs.Owed.Owed.{AreUnasked}
 use Rattle.seen_laws.proofs.InEvents.{now_more}
 use Rattle.seen_laws.specs.InEvent.{InEvent, now_of, row_of}
 use Rattle.std.proofs.Common.{Bool, List, None, Option, Some, [], ap, append-nil, append_assoc, cond, false, inl, inr, map, refl, subst, sym, true, ◌++◌, ◌==◌, ◌∙◌, ◌∷◌, ◌≡◌}
@@ -28,11 +28,11 @@ use Rattle.tab_ids.specs.declared.ReqId.{ReqId}
 use Rattle.tab_walk.proofs.Overs.{only_as}
 use Rattle.tab_walk.specs.Moving.{HasOnly}
 use Rattle.tab_serves.specs.Serving.{HasOnlyServed, IsOfWalk, IsServeFor, ParentsShown}
-use Rattle.walk_facts.proofs.Aims.{blur, on_served_blur}
-use Rattle.walk_facts.proofs.Sleepers.{becomes, place_becomes, shown_on, sleepers_of, slept, slept_same, shown_same}
-use Rattle.walk_rows.proofs.Moved.{sent_moved}
-use Rattle.walk_rows.proofs.Needs.{sent_stood}
-use Rattle.walk_rows.proofs.Sleeping.{place_sleeps}
+use Rattle.seen_facts.proofs.Walk.Aims.{blur, on_served_blur}
+use Rattle.seen_facts.proofs.Walk.Sleepers.{becomes, place_becomes, shown_on, sleepers_of, slept, slept_same, shown_same}
+use Rattle.row_facts.proofs.WalkRows.Moved.{sent_moved}
+use Rattle.row_facts.proofs.WalkRows.Needs.{sent_stood}
+use Rattle.row_facts.proofs.WalkRows.Sleeping.{place_sleeps}
 use Rattle.log_model.specs.declared.job.Task.TheVariants as tasks
 use Rattle.log_model.specs.declared.row_kind.RowKind.TheVariants as rows
 

@@ -1,10 +1,10 @@
 -- Ongoing loads stand still as a navigable is served that is in need: none is of that one, or of one below it.
-use Rattle.hang_facts.proofs.Forms.{nav_is}
-use Rattle.hang_facts.proofs.Hung.{place_chain}
-use Rattle.hang_facts.specs.Hanging.{Hangs}
-use Rattle.load_ends.proofs.Each.{all_weaker, at_nav}
-use Rattle.load_ends.specs.Standing.{LoadsStand, is_reached}
-use Rattle.load_facts.specs.Loading.{Look, is_ongoing, look}
+use Rattle.seen_facts.proofs.Hang.Forms.{nav_is}
+use Rattle.seen_facts.proofs.Hang.Hung.{place_chain}
+use Rattle.seen_facts.specs.Hang.Hanging.{Hangs}
+use Rattle.seen_facts.proofs.LoadEnds.Each.{all_weaker, at_nav}
+use Rattle.seen_facts.specs.LoadEnds.Standing.{LoadsStand, is_reached}
+use Rattle.seen_facts.specs.Load.Loading.{Look, is_ongoing, look}
 use Rattle.log_model.proofs.Refl.{nat_eq_refl}
 use Rattle.log_model.specs.Equal.{holds}
 use Rattle.log_model.specs.History.{History, has_nav}
@@ -17,11 +17,11 @@ use Rattle.std.proofs.lemmas.Bool.{and_parts, or_parts}
 use Rattle.std.specs.List.{list_all, list_any}
 use Rattle.std.specs.Option.{option_map_or}
 use Rattle.tab_ids.specs.declared.NavId.{NavId}
-use Rattle.walk_facts.proofs.Placed.{found_nav}
-use Rattle.walk_facts.specs.Walking.{IsApart, LeavesOthers}
-use Rattle.walk_rows.proofs.Needs.{need_stands_not}
-use Rattle.walk_rows.proofs.Walks.{above_apart}
-use Rattle.walk_rows.specs.Since.{IsVisitedInNeed}
+use Rattle.seen_facts.proofs.Walk.Placed.{found_nav}
+use Rattle.seen_facts.specs.Walk.Walking.{IsApart, LeavesOthers}
+use Rattle.row_facts.proofs.WalkRows.Needs.{need_stands_not}
+use Rattle.row_facts.proofs.WalkRows.Walks.{above_apart}
+use Rattle.row_facts.specs.WalkRows.Since.{IsVisitedInNeed}
 
 -- ---- tests of several navigables
 

@@ -1,7 +1,7 @@
 -- One turn after the other, all of the walk are served.
 use Rattle.apply_plan.specs.Order.{walk_of}
-use Rattle.calm_facts.proofs.Sames.{keeps_none, keeps_then}
-use Rattle.calm_facts.specs.Calm.{ShowsOne}
+use Rattle.tab_facts.proofs.Calm.Sames.{keeps_none, keeps_then}
+use Rattle.tab_facts.specs.Calm.Calm.{ShowsOne}
 use Rattle.log_model.specs.Seen.{Place}
 use Rattle.log_model.specs.Walk as log
 use Rattle.log_model.specs.declared.header.Header.{Header}
@@ -26,17 +26,17 @@ use Rattle.tab_serves.proofs.Ups.{up_places, up_then}
 use Rattle.tab_walk.specs.Cutting.{InPass, show_why}
 use Rattle.tab_serves.specs.Serving.{HasOnlyServed, InWalk, IsOfWalk, IsServeFor, IsServing, IsWalking, LeavesLog, MayWalk, walk_by}
 use Rattle.tab_walk.specs.Moving.{HasOnlyMoved, IsMoveFor, IsOfMove}
-use Rattle.walk_facts.proofs.Leaving.{all_served}
-use Rattle.walk_facts.proofs.Order.{walk_is as is_walk}
-use Rattle.walk_facts.specs.Serving.{AreServed}
-use Rattle.walk_facts.specs.Walking.{IsWalk}
-use Rattle.walk_rows.proofs.Sinces.{sent_since, since_itself, since_more}
-use Rattle.walk_rows.proofs.Walks.{later_first}
-use Rattle.walk_rows.specs.Since.{AwakeSince}
+use Rattle.seen_facts.proofs.Walk.Leaving.{all_served}
+use Rattle.seen_facts.proofs.Walk.Order.{walk_is as is_walk}
+use Rattle.seen_facts.specs.Walk.Serving.{AreServed}
+use Rattle.seen_facts.specs.Walk.Walking.{IsWalk}
+use Rattle.row_facts.proofs.WalkRows.Sinces.{sent_since, since_itself, since_more}
+use Rattle.row_facts.proofs.WalkRows.Walks.{later_first}
+use Rattle.row_facts.specs.WalkRows.Since.{AwakeSince}
 use Rattle.log_model.specs.declared.job.Task.{Task}
 use Rattle.log_model.specs.declared.job.Task.TheVariants as tasks
 use Rattle.log_model.specs.declared.row_kind.RowKind.TheVariants as rows
-use Rattle.walk_rows.proofs.Wakes.{ShowsNone}
+use Rattle.row_facts.proofs.WalkRows.Wakes.{ShowsNone}
 
 -- ---- what was put out
 

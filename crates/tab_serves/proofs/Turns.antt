@@ -1,14 +1,14 @@
 -- A turn of the walk: what it asks of the move, and what goes on after it.
 use Rattle.apply_plan.specs.Needs.{need_of}
 use Rattle.apply_plan.specs.declared.need.Need.{Need}
-use Rattle.calm_facts.proofs.Sames.{keeps_none}
-use Rattle.calm_facts.proofs.Turns.{IsCalmTurn, turn_keeps}
-use Rattle.calm_facts.specs.Loads.{LoadsHaveDocuments}
-use Rattle.hang_facts.proofs.Forms.{nav_is}
-use Rattle.rest_facts.proofs.Stands.{get_of}
-use Rattle.frame_whole.specs.Tab.{AreAwakeWithRows}
-use Rattle.hang_facts.proofs.Members.{find_has, has_any}
-use Rattle.hang_facts.proofs.Targets.{target_has}
+use Rattle.tab_facts.proofs.Calm.Sames.{keeps_none}
+use Rattle.tab_facts.proofs.Calm.Turns.{IsCalmTurn, turn_keeps}
+use Rattle.tab_facts.specs.Calm.Loads.{LoadsHaveDocuments}
+use Rattle.seen_facts.proofs.Hang.Forms.{nav_is}
+use Rattle.seen_facts.proofs.Rest.Stands.{get_of}
+use Rattle.tab_facts.specs.FrameWhole.Tab.{AreAwakeWithRows}
+use Rattle.seen_facts.proofs.Hang.Members.{find_has, has_any}
+use Rattle.seen_facts.proofs.Hang.Targets.{target_has}
 use Rattle.log_model.proofs.Refl.{nat_eq_refl}
 use Rattle.log_model.specs.History.{History, has_nav, has_row, is_of}
 use Rattle.log_model.specs.Places.{aim_of, is_below, is_shown}
@@ -16,9 +16,9 @@ use Rattle.log_model.specs.Seen.{Place, Seen, place_of}
 use Rattle.log_model.specs.declared.header.Header.{Header}
 use Rattle.log_model.specs.declared.job.Why.{Why}
 use Rattle.log_model.specs.declared.row_kind.RowKind.{RowKind}
-use Rattle.mover_facts.specs.Movers.{IsMovedBy}
+use Rattle.seen_facts.specs.Mover.Movers.{IsMovedBy}
 use Rattle.nav_tree.specs.Tree.{document_of}
-use Rattle.owed_facts.specs.Owed.{AreUnasked}
+use Rattle.row_facts.specs.Owed.Owed.{AreUnasked}
 use Rattle.plan_laws.proofs.NeedLaws.{needs_is}
 use Rattle.seen_laws.specs.InEvent.{InEvent, now_of}
 use Rattle.std.proofs.Common.{Bool, List, None, Option, Some, [], ap, arith, false, inl, inr, not, refl, subst, suc, sym, take, true, zero, ℕ, ◌&&◌, ◌+◌, ◌<◌, ◌==◌, ◌||◌, ◌∙◌, ◌∷◌, ◌≡◌, ◌≤◌, ◌⊎◌}
@@ -42,16 +42,16 @@ use Rattle.tab_serves.proofs.Ups.{turn_up, up_places}
 use Rattle.tab_serves.proofs.Orders.{IsOrderOf, looks_over, moved_over, parents_over, stood_over, walk_orders, ways_over, were_over}
 use Rattle.tab_serves.proofs.Reached.{loads_stand_still, reached_still}
 use Rattle.tab_serves.specs.Serving.{HasOnlyServed, HasWalked, InWalk, IsOfWalk, IsWalking, LeavesLog}
-use Rattle.walk_facts.proofs.Leaving.{one_more, walk_stays}
-use Rattle.walk_facts.proofs.Placed.{found_nav}
-use Rattle.walk_facts.specs.Serving.{IsServedAt, is_needing, is_stopping}
-use Rattle.walk_facts.specs.Walking.{IsApart}
-use Rattle.walk_rows.proofs.Leaves.{leaves_none}
-use Rattle.walk_rows.proofs.Needs.{need_not_all_stand}
-use Rattle.walk_rows.proofs.Sinces.{since_more}
-use Rattle.walk_rows.proofs.Walks.{below_moved, later_here, later_kept, later_more}
-use Rattle.walk_rows.specs.Later.{MovesLater}
-use Rattle.walk_rows.specs.Since.{AwakeSince, IsVisitedInNeed, WasAwake}
+use Rattle.seen_facts.proofs.Walk.Leaving.{one_more, walk_stays}
+use Rattle.seen_facts.proofs.Walk.Placed.{found_nav}
+use Rattle.seen_facts.specs.Walk.Serving.{IsServedAt, is_needing, is_stopping}
+use Rattle.seen_facts.specs.Walk.Walking.{IsApart}
+use Rattle.row_facts.proofs.WalkRows.Leaves.{leaves_none}
+use Rattle.row_facts.proofs.WalkRows.Needs.{need_not_all_stand}
+use Rattle.row_facts.proofs.WalkRows.Sinces.{since_more}
+use Rattle.row_facts.proofs.WalkRows.Walks.{below_moved, later_here, later_kept, later_more}
+use Rattle.row_facts.specs.WalkRows.Later.{MovesLater}
+use Rattle.row_facts.specs.WalkRows.Since.{AwakeSince, IsVisitedInNeed, WasAwake}
 use Rattle.apply_plan.specs.declared.need.Need.TheVariants as needs
 
 -- ---- the first ones of a list

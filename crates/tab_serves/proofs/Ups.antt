@@ -1,21 +1,21 @@
 -- Who is up, that is awake, shown, and not under its first epoch, is as it was over a turn of a walk in a calm tab: who is in need was never shown a document, and is under its first epoch once it is; around a load's navigable it may be that one.
-use Rattle.calm_facts.proofs.Calms.{calm_need}
-use Rattle.calm_facts.proofs.Turns.{IsInPlace, around_need, later_in, own_in}
-use Rattle.calm_facts.specs.Calm.{IsCalmAround, KeepsCalm}
-use Rattle.hang_facts.proofs.Forms.{nav_is}
-use Rattle.hang_facts.specs.Hanging.{Hangs}
+use Rattle.tab_facts.proofs.Calm.Calms.{calm_need}
+use Rattle.tab_facts.proofs.Calm.Turns.{IsInPlace, around_need, later_in, own_in}
+use Rattle.tab_facts.specs.Calm.Calm.{IsCalmAround, KeepsCalm}
+use Rattle.seen_facts.proofs.Hang.Forms.{nav_is}
+use Rattle.seen_facts.specs.Hang.Hanging.{Hangs}
 use Rattle.log_model.specs.History.{History, has_nav}
 use Rattle.log_model.specs.Places.{aim_of, is_below, is_shown}
 use Rattle.log_model.specs.Seen.{Place, Seen, place_in, place_of}
 use Rattle.log_model.specs.Soundness.{IsSound}
-use Rattle.place_facts.specs.Standing.{AreStanding}
+use Rattle.seen_facts.specs.Place.Standing.{AreStanding}
 use Rattle.std.proofs.Common.{Bool, List, None, Option, Some, ap, arith, false, inl, inr, refl, subst, sym, true, ◌==◌, ◌∙◌, ◌∷◌, ◌≡◌, ◌≤◌, ◌⊎◌}
 use Rattle.std.specs.Prelude.{option_map}
 use Rattle.tab_ids.specs.declared.DocId.{DocId}
 use Rattle.tab_ids.specs.declared.NavId.{NavId}
 use Rattle.tab_serves.specs.Serving.{IsUp, KeepsUp}
-use Rattle.walk_facts.specs.Walking.{LeavesOthers}
-use Rattle.walk_rows.specs.Since.{IsVisitedInNeed}
+use Rattle.seen_facts.specs.Walk.Walking.{LeavesOthers}
+use Rattle.row_facts.specs.WalkRows.Since.{IsVisitedInNeed}
 
 -- ---- where no place changes, and one change after the other
 

@@ -1,11 +1,11 @@
 -- What the walk of a coordinator of a tab with loads asks for, and what it leaves.
 -- HTML Standard, "apply the history step"; orders and reasons are this project's own.
-use Rattle.calm_facts.specs.Calm.{IsCalmAround, IsCalmYet, KeepsCalm, ShowsOne}
-use Rattle.calm_facts.specs.Loads.{LoadsHaveDocuments}
-use Rattle.frame_whole.specs.Tab.{AreAwakeWithRows}
-use Rattle.left_facts.specs.Left.{WereShown}
-use Rattle.load_ends.specs.Standing.{LoadsStand}
-use Rattle.load_facts.specs.Loading.{look}
+use Rattle.tab_facts.specs.Calm.Calm.{IsCalmAround, IsCalmYet, KeepsCalm, ShowsOne}
+use Rattle.tab_facts.specs.Calm.Loads.{LoadsHaveDocuments}
+use Rattle.tab_facts.specs.FrameWhole.Tab.{AreAwakeWithRows}
+use Rattle.row_facts.specs.Left.Left.{WereShown}
+use Rattle.seen_facts.specs.LoadEnds.Standing.{LoadsStand}
+use Rattle.seen_facts.specs.Load.Loading.{look}
 use Rattle.log_model.specs.History.{has_nav}
 use Rattle.log_model.specs.Places.{aim_of, all_stand, is_shown}
 use Rattle.log_model.specs.Seen.{Place, Seen, awake, place_of}
@@ -23,9 +23,9 @@ use Rattle.tab_ids.specs.declared.ReqId.{ReqId}
 pub use Rattle.tab_walk.specs.PassedOn.{IsPassing, IsSince}
 pub use Rattle.tab_walk.specs.Cutting.{InPass, MayCause, show_why}
 pub use Rattle.tab_walk.specs.Moving.{HasOnly}
-use Rattle.walk_facts.specs.Walking.{AreServedUpTo, IsWalk}
-use Rattle.walk_rows.specs.Later.{MovesLater}
-use Rattle.walk_rows.specs.Since.{AwakeSince, MovesVisited}
+use Rattle.seen_facts.specs.Walk.Walking.{AreServedUpTo, IsWalk}
+use Rattle.row_facts.specs.WalkRows.Later.{MovesLater}
+use Rattle.row_facts.specs.WalkRows.Since.{AwakeSince, MovesVisited}
 use Rattle.log_model.specs.declared.job.Task.TheVariants as tasks
 use Rattle.log_model.specs.declared.row_kind.RowKind.TheVariants as rows
 

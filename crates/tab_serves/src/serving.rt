@@ -5,7 +5,7 @@ ghost use Rattle.tab_doors.specs.Working.{KeepsStore};
 ghost use Rattle.tab_walk.specs.PassedOn.{IsPassing, need_in};
 ghost use Rattle.tab_walk.specs.Cutting.{InPass};
 ghost use Rattle.tab_serves.specs.Serving.{HasOnlyServed, HasWalked, IsWalking, LeavesLog, MayWalk, walk_by};
-ghost use Rattle.walk_facts.specs.Serving.{AreServed};
+ghost use Rattle.seen_facts.specs.Walk.Serving.{AreServed};
 
 use address::OutOfMemory;
 use apply_plan::{Need, need_of, walk};

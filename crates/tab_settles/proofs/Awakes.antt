@@ -1,7 +1,7 @@
 -- Who is awake after a row was so before it: after an order its place is as it was, or the order shows it its document; after a row of a turn its place is the same but in what it was given and in who took its last entries.
-use Rattle.calm_facts.proofs.Awakes.{stand_each}
-use Rattle.calm_facts.specs.Calm.{IsCalm, IsHere, ShowsOne}
-use Rattle.coord_facts.proofs.Unread.{next}
+use Rattle.tab_facts.proofs.Calm.Awakes.{stand_each}
+use Rattle.tab_facts.specs.Calm.Calm.{IsCalm, IsHere, ShowsOne}
+use Rattle.seen_facts.proofs.Coord.Unread.{next}
 use Rattle.log_model.specs.After.{after}
 use Rattle.log_model.specs.AfterPlaces.{activated, given_entry, new_place, on_place, places_applied, places_given, places_sent, sleepers_with, with_taker}
 use Rattle.log_model.specs.History.{History, applied, has_nav, has_row}
@@ -13,9 +13,9 @@ use Rattle.log_model.specs.declared.job.Task.{Task}
 use Rattle.log_model.specs.declared.made.Made.{Made}
 use Rattle.log_model.specs.declared.row_kind.Actor.{Actor}
 use Rattle.log_model.specs.declared.row_kind.RowKind.{RowKind}
-use Rattle.mover_facts.proofs.Orders.{PutsToSleep}
-use Rattle.mover_facts.proofs.Places.{WasThere, was_there}
-use Rattle.place_facts.specs.Standing.{AreStanding}
+use Rattle.seen_facts.proofs.Mover.Orders.{PutsToSleep}
+use Rattle.seen_facts.proofs.Mover.Places.{WasThere, was_there}
+use Rattle.seen_facts.specs.Place.Standing.{AreStanding}
 use Rattle.seen_laws.specs.InEvent.{InEvent, now_of, row_of}
 use Rattle.std.proofs.Common.{Bool, List, None, Option, Some, [], ap, cond, false, inl, inr, map, not, refl, subst, sym, true, ℕ, ◌&&◌, ◌++◌, ◌==◌, ◌∙◌, ◌∷◌, ◌≡◌, ◌⊎◌}
 use Rattle.std.proofs.lemmas.Bool.{and_parts}
@@ -28,9 +28,9 @@ use Rattle.tab_ids.specs.declared.NavId.{NavId}
 use Rattle.tab_ids.specs.declared.ReqId.{ReqId}
 use Rattle.tab_releases.proofs.PassedOn.{over_each}
 use Rattle.tab_releases.specs.PassedOn.{HasOnly, IsOfTurn}
-use Rattle.walk_facts.proofs.Placed.{found_nav}
-use Rattle.walk_facts.proofs.Sleepers.{becomes, place_becomes, sleepers_of, slept}
-use Rattle.walk_rows.proofs.Sleeping.{place_sleeps}
+use Rattle.seen_facts.proofs.Walk.Placed.{found_nav}
+use Rattle.seen_facts.proofs.Walk.Sleepers.{becomes, place_becomes, sleepers_of, slept}
+use Rattle.row_facts.proofs.WalkRows.Sleeping.{place_sleeps}
 use Rattle.log_model.specs.declared.change.Change.TheVariants as changes
 use Rattle.log_model.specs.declared.job.Task.TheVariants as tasks
 use Rattle.log_model.specs.declared.row_kind.RowKind.TheVariants as rows

@@ -1,30 +1,32 @@
 -- The next step of the queue had its turn, or none was due.
 use Rattle.tab_releases.specs.Releasing.{InPass, IsPassing, IsTurning, LoadsMadeOwn, Tables}
-use Rattle.asked_facts.specs.Asking.{ArePlain}
-use Rattle.calm_facts.proofs.Awakes.{calm_stood}
-use Rattle.calm_facts.proofs.Calms.{calm_but}
-use Rattle.calm_facts.specs.Calm.{IsCalmYet}
-use Rattle.coord_facts.specs.Leading.{held_back}
+use Rattle.seen_facts.specs.Asked.Asking.{ArePlain}
+use Rattle.tab_facts.proofs.Calm.Awakes.{calm_stood}
+use Rattle.tab_facts.proofs.Calm.Calms.{calm_but}
+use Rattle.tab_facts.specs.Calm.Calm.{IsCalmYet}
+use Rattle.seen_facts.specs.Coord.Leading.{held_back}
 use Rattle.log_model.specs.History.{has_row}
-use Rattle.log_model.specs.Places.{all_stand}
-use Rattle.tab_releases.specs.PassedOn.{HasGrown, HasRested, HasStood, IsCalmFor, CameTo, HasQueue, IsAtRest, IsPassedOver, KeepsMade, MayFollow, Refused, Rests, Turn, Went}
+use Rattle.log_model.specs.Places.{aim_of, all_stand}
+use Rattle.tab_releases.specs.PassedOn.{HasGrown, HasRested, HasStood, IsCalmFor, CameTo, HasQueue, IsAtRest, IsPassedOver, KeepsMade, LeavesInNeed, MayFollow, Refused, Rests, Turn, Went, aim_in}
 use Rattle.tab_ids.specs.declared.NavId.{NavId}
 use Rattle.log_model.specs.Seen.{Seen}
 use Rattle.log_model.specs.declared.job.Why.{Why}
 use Rattle.log_model.specs.declared.row_kind.RowKind.{RowKind}
 use Rattle.move_queue.specs.Queue.{Queue}
+use Rattle.move_queue.specs.declared.queue_step.QueueStep.{QueueStep}
 use Rattle.seen_laws.specs.InEvent.{now_of}
-use Rattle.std.proofs.Common.{List, None, Option, Some, [], ap, false, inl, inr, refl, subst, sym, true, ◌∙◌, ◌≡◌}
+use Rattle.std.proofs.Common.{List, None, Option, Some, [], ap, false, inl, inr, refl, subst, sym, true, ℕ, ◌∙◌, ◌≡◌}
 use Rattle.tab_ids.specs.declared.ReqId.{ReqId}
 use Rattle.tab_ids.specs.declared.StateId.{StateId}
-use Rattle.tab_releases.proofs.PassedOn.{rest_blamed, rest_loads, rest_open}
+use Rattle.tab_releases.proofs.PassedOn.{aim_is, rest_blamed, rest_loads, rest_open}
 use Rattle.tab_settles.proofs.Awakes.{stood_told, turns_told}
 use Rattle.tab_settles.proofs.Lates.{told_known}
+use Rattle.tab_settles.proofs.LoadsOff.{need_off}
 use Rattle.tab_settles.proofs.MovedRows.{shown_idle}
 use Rattle.tab_settles.proofs.MovedTurns.{shown_began}
 use Rattle.tab_settles.proofs.Stood.{stood_live, theirs_over}
 use Rattle.tab_settles.specs.Offs.{LateKnown}
-use Rattle.tab_settles.specs.Settling.{HasSettled, IsCalmAfter, IsCalmBefore, IsQueueing, IsReady, MovedAreShown}
+use Rattle.tab_settles.specs.Settling.{HasSettled, HasTurned, IsCalmAfter, IsCalmBefore, IsQueueing, IsReady, MovedAreShown}
 use Rattle.log_model.specs.declared.job.Why.TheVariants as whys
 
 module _ (p : InPass) (out : List RowKind) (t : Tables) (queue : Queue) (blame : List (StateId × ReqId)) (cause : Why) (at : HasSettled p out t queue blame cause) (idle : t.running ≡ None) where
@@ -37,6 +39,27 @@ module _ (p : InPass) (out : List RowKind) (t : Tables) (queue : Queue) (blame :
   pub begin_asks : IsPassing p out t × (IsTurning p.event out × ((s.parked ≡ []) × (IsAtRest p.event t.running blame s × HasQueue s None queue.waiting)))
   begin_asks =
       (at.passing, (at.queueing.turning, (none_s, (record { idle = idle; passed = at.passed; strays = at.strays; loading = at.live.loading }, subst (λ (r : Option ReqId). HasQueue s r queue.waiting) idle at.queueing.queued))))
+
+  -- ---- whom the turn of a step moves
+
+  turned_by : (new : List RowKind) → LeavesInNeed p.event out new → all_stand s s.history.current ≡ true → HasTurned p.event out new
+  turned_by new need stand =
+      record { moved = need_off p.event out new need; stood = ap (λ (k : ℕ). all_stand s k) aim_now ∙ stand }
+    where
+      aim_now : aim_of s ≡ s.history.current
+      aim_now =
+          aim_is s t.running at.passing.going.tab.asked t.goal at.passing.work.goal ∙ ap (λ (r : Option ReqId). aim_in s.history r t.goal) idle
+
+  pub went_turned : (new : List RowKind) → LeavesInNeed p.event out new → (turn : Turn) → HasStood s turn → (req : ReqId) → turn ≡ Went req → HasTurned p.event out new
+  went_turned new need turn stood req is = turned_by new need (subst (λ (x : Turn). HasStood s x) is stood)
+
+  pub refused_turned : (new : List RowKind) → LeavesInNeed p.event out new → (turn : Turn) → HasStood s turn → turn ≡ Refused → HasTurned p.event out new
+  refused_turned new need turn stood is = turned_by new need (subst (λ (x : Turn). HasStood s x) is stood)
+
+  pub rested_still : (new : List RowKind) (u : Tables) (noted : List (StateId × ReqId)) (waiting : List QueueStep) (turn : Turn) → turn ≡ Rests → CameTo p.event t u blame noted out new waiting turn → new ≡ out
+  rested_still new u noted waiting turn is came =
+      let rested : HasRested p.event t u blame noted out new waiting = subst (λ (x : Turn). CameTo p.event t u blame noted out new waiting x) is came in
+      rested.out
 
   module _ (new : List RowKind) (u : Tables) (noted : List (StateId × ReqId)) (left : Queue) (passing : IsPassing p new u) (turning : IsTurning p.event new) (none : (now_of p.event new).parked ≡ []) (queued : HasQueue (now_of p.event new) u.running left.waiting) (parked : left.parked ≡ queue.parked) (keep : u.kept.keep ≡ t.kept.keep) (made : KeepsMade s (now_of p.event new)) where
     abbrev n : Seen

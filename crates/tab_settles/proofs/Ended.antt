@@ -1,13 +1,13 @@
 -- The traversal that ran has ended: what was held back for it may be taken up, and then a pass may follow.
-use Rattle.calm_facts.proofs.Awakes.{calm_stood}
-use Rattle.calm_facts.proofs.Loads.{loads_same}
-use Rattle.calm_facts.specs.Calm.{CalmUnless, IsCalmYet}
-use Rattle.calm_facts.specs.Loads.{LoadsHaveDocuments}
-use Rattle.coord_facts.proofs.Held.{held_alike}
-use Rattle.coord_facts.proofs.Unread.{next}
-use Rattle.coord_facts.specs.Leading.{held_back}
-use Rattle.frame_rows.specs.Lawful.{has_traversed}
-use Rattle.home_facts.specs.Homes.{document_in}
+use Rattle.tab_facts.proofs.Calm.Awakes.{calm_stood}
+use Rattle.tab_facts.proofs.Calm.Loads.{loads_same}
+use Rattle.tab_facts.specs.Calm.Calm.{CalmUnless, IsCalmYet}
+use Rattle.tab_facts.specs.Calm.Loads.{LoadsHaveDocuments}
+use Rattle.seen_facts.proofs.Coord.Held.{held_alike}
+use Rattle.seen_facts.proofs.Coord.Unread.{next}
+use Rattle.seen_facts.specs.Coord.Leading.{held_back}
+use Rattle.row_facts.specs.FrameRows.Lawful.{has_traversed}
+use Rattle.seen_facts.specs.Home.Homes.{document_in}
 use Rattle.log_model.specs.Equal.{has_req}
 use Rattle.log_model.specs.Places.{aim_of, all_stand}
 use Rattle.log_model.specs.Queue.{is_traverse}
@@ -16,7 +16,7 @@ use Rattle.log_model.specs.declared.job.Why.{Why}
 use Rattle.log_model.specs.declared.row_kind.LogRow.{LogRow}
 use Rattle.log_model.specs.declared.row_kind.RowKind.{RowKind}
 use Rattle.move_queue.specs.Queue.{Queue}
-use Rattle.owed_facts.specs.Owed.{IsLoose}
+use Rattle.row_facts.specs.Owed.Owed.{IsLoose}
 use Rattle.seen_laws.proofs.InEvents.{now_more}
 use Rattle.seen_laws.specs.InEvent.{InEvent, now_of, row_of}
 use Rattle.std.proofs.Common.{Bool, List, None, Option, Some, [], ap, append-nil, arith, false, inl, inr, length, map, refl, subst, sym, true, ◌++◌, ◌∙◌, ◌∷◌, ◌≡◌, ◌≤◌, ◌⊎◌}
@@ -34,8 +34,8 @@ pub use Rattle.tab_releases.proofs.Endings.{IsEnding, is_ending}
 pub use Rattle.tab_releases.proofs.Releases.{mades_same}
 use Rattle.tab_releases.proofs.PassedOn.{ended_loads, ended_passed, ended_queue, ended_stand, ended_strays, rest_stand}
 pub use Rattle.tab_releases.specs.PassedOn.{IsNoneDue}
-use Rattle.asked_facts.specs.Asking.{ArePlain}
-use Rattle.hang_facts.specs.Members.{Has}
+use Rattle.seen_facts.specs.Asked.Asking.{ArePlain}
+use Rattle.seen_facts.specs.Hang.Members.{Has}
 use Rattle.log_model.specs.Points.{ends_in}
 use Rattle.std.specs.List.{cons_option, filter_map}
 use Rattle.tab_settles.proofs.Awakes.{AllTold, stood_told, turns_told}
@@ -73,10 +73,10 @@ ends_turn e (rows.Started r goal) req is = tt
 ends_turn e _ req is = absurd cc
 
 -- where as many requests end as there are rows, each row ends one
-each_ends : (e : InEvent) (more : List RowKind) → length (filter_map ends_in (map (row_of e) more)) ≡ length more → (row : RowKind) → Has more row → IsOfTurn row
-each_ends e [] long row never = absurd never
-each_ends e (kind ∷ more) long row has =
-    by_end (ends_in (row_of e kind)) refl long has (λ same has_. each_ends e more same row has_)
+pub ends_some : (e : InEvent) (more : List RowKind) → length (filter_map ends_in (map (row_of e) more)) ≡ length more → (row : RowKind) → Has more row → (req : ReqId) × (ends_in (row_of e row) ≡ Some req)
+ends_some e [] long row never = absurd never
+ends_some e (kind ∷ more) long row has =
+    by_end (ends_in (row_of e kind)) refl long has (λ same has_. ends_some e more same row has_)
   where
     short : (l : List RowKind) → length (filter_map ends_in (map (row_of e) l)) ≤ length l
     short [] = omega arith
@@ -86,11 +86,14 @@ each_ends e (kind ∷ more) long row has =
         by_one None low = omega (arith, low)
         by_one (Some r) low = omega (arith, low)
 
-    by_end : (o : Option ReqId) → ends_in (row_of e kind) ≡ o → length (cons_option o (filter_map ends_in (map (row_of e) more))) ≡ length (kind ∷ more) → (kind ≡ row) ⊎ Has more row → (length (filter_map ends_in (map (row_of e) more)) ≡ length more → Has more row → IsOfTurn row) → IsOfTurn row
+    by_end : (o : Option ReqId) → ends_in (row_of e kind) ≡ o → length (cons_option o (filter_map ends_in (map (row_of e) more))) ≡ length (kind ∷ more) → (kind ≡ row) ⊎ Has more row → (length (filter_map ends_in (map (row_of e) more)) ≡ length more → Has more row → (req : ReqId) × (ends_in (row_of e row) ≡ Some req)) → (req : ReqId) × (ends_in (row_of e row) ≡ Some req)
     by_end None is long_ has_ later = (let low = short more in absurd (omega (arith, low, long_)))
-    by_end (Some req) is long_ (inl same) later = subst IsOfTurn same (ends_turn e kind req is)
+    by_end (Some req) is long_ (inl same) later = (req, ap (λ (k : RowKind). ends_in (row_of e k)) (sym same) ∙ is)
     by_end (Some req) is long_ (inr has_) later =
         later (let same : length (filter_map ends_in (map (row_of e) more)) ≡ length more = omega (arith, long_) in same) has_
+
+each_ends : (e : InEvent) (more : List RowKind) → length (filter_map ends_in (map (row_of e) more)) ≡ length more → (row : RowKind) → Has more row → IsOfTurn row
+each_ends e more long row has = let it = ends_some e more long row has in ends_turn e row it.0 it.1
 
 -- ---- the traversal has ended
 

@@ -1,8 +1,8 @@
 -- Each navigable that is shown and late, that is of whose document, not its first, isn't told yet that it is shown, is so for the load that was applied last: so a pass leaves it where no traversal runs, and so it is where all stood before a turn.
-use Rattle.calm_facts.proofs.Sames.{way_at}
-use Rattle.calm_facts.specs.Calm.{IsCalmAround, IsCalmYet, ShowsOne}
-use Rattle.coord_facts.proofs.Unread.{next}
-use Rattle.each_facts.proofs.Courses.{is_asked}
+use Rattle.tab_facts.proofs.Calm.Sames.{way_at}
+use Rattle.tab_facts.specs.Calm.Calm.{IsCalmAround, IsCalmYet, ShowsOne}
+use Rattle.seen_facts.proofs.Coord.Unread.{next}
+use Rattle.seen_facts.proofs.Each.Courses.{is_asked}
 use Rattle.log_model.specs.After.{after, changed, has_stood_after, has_stood_now}
 use Rattle.log_model.specs.AfterRequests.{on_request, request_begun}
 use Rattle.log_model.specs.History.{History, has_nav}
@@ -15,10 +15,10 @@ use Rattle.log_model.specs.declared.job.Why.{Why}
 use Rattle.log_model.specs.declared.row_kind.Actor.{Actor}
 use Rattle.log_model.specs.declared.row_kind.LogRow.{LogRow}
 use Rattle.log_model.specs.declared.row_kind.RowKind.{RowKind}
-use Rattle.owed_facts.proofs.Rows.{reckoned_after, reckoned_now}
-use Rattle.owed_facts.proofs.Standing.{sent_eased}
-use Rattle.owed_facts.specs.Owed.{IsReckoned}
-use Rattle.request_facts.proofs.Readers.{IsBlind, SameReads, on_read, reads_then, sent_reads}
+use Rattle.row_facts.proofs.Owed.Rows.{reckoned_after, reckoned_now}
+use Rattle.row_facts.proofs.Owed.Standing.{sent_eased}
+use Rattle.row_facts.specs.Owed.Owed.{IsReckoned}
+use Rattle.seen_facts.proofs.Request.Readers.{IsBlind, SameReads, on_read, reads_then, sent_reads}
 use Rattle.seen_laws.specs.InEvent.{InEvent, now_of, row_of}
 use Rattle.std.proofs.Common.{Bool, List, None, Option, Some, ap, arith, false, inl, inr, not, refl, subst, sym, true, zero, suc, ℕ, ◌&&◌, ◌∙◌, ◌∷◌, ◌≡◌, ◌≤◌, ◌⊎◌}
 use Rattle.tab_ids.specs.declared.DocId.{DocId}

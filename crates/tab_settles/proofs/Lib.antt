@@ -3,6 +3,7 @@ pub mod Sweeps
 pub mod Puts
 pub mod Awakes
 pub mod Lates
+pub mod LoadsOff
 pub mod Sounds
 pub mod MovedRows
 pub mod MovedPasses
@@ -10,5 +11,7 @@ pub mod MovedTurns
 pub mod Passed
 pub mod Stood
 pub mod Ended
+pub mod EndedOff
+pub mod Unsettled
 pub mod Begun
 pub mod PassedOn

@@ -1,10 +1,10 @@
 -- Where a traversal runs, who is awake and was moved by it was shown a document by it: an order keeps that, where it shows a document for the traversal, if it shows one, and so does another request that ends. One that has just begun has moved nobody.
-use Rattle.calm_facts.specs.Calm.{ShowsOne}
-use Rattle.coord_facts.proofs.Held.{on_else}
-use Rattle.coord_facts.proofs.Unread.{next}
-use Rattle.load_facts.proofs.Rows.{req_same}
+use Rattle.tab_facts.specs.Calm.Calm.{ShowsOne}
+use Rattle.seen_facts.proofs.Coord.Held.{on_else}
+use Rattle.seen_facts.proofs.Coord.Unread.{next}
+use Rattle.seen_facts.proofs.Load.Rows.{req_same}
 use Rattle.log_model.proofs.Refl.{nat_eq_refl}
-use Rattle.frame_facts.specs.Moving.{AreMoves}
+use Rattle.tab_facts.specs.Frame.Moving.{AreMoves}
 use Rattle.log_model.specs.After.{ended}
 use Rattle.log_model.specs.Places.{is_traversal}
 use Rattle.log_model.specs.AfterPlaces.{activated, places_sent, sleepers_with}
@@ -18,8 +18,8 @@ use Rattle.log_model.specs.declared.change.Change.{Change}
 use Rattle.log_model.specs.declared.outcome.Cause.{Cause}
 use Rattle.log_model.specs.declared.outcome.Denial.{Denial}
 use Rattle.log_model.specs.declared.row_kind.Actor.{Actor}
-use Rattle.mover_facts.proofs.Orders.{PutsToSleep}
-use Rattle.request_facts.proofs.LookUps.{on_itself}
+use Rattle.seen_facts.proofs.Mover.Orders.{PutsToSleep}
+use Rattle.seen_facts.proofs.Request.LookUps.{on_itself}
 use Rattle.std.proofs.Common.{Bool, List, None, Option, Some, [], ap, cond, false, inl, inr, refl, subst, sym, true, ℕ, ◌++◌, ◌==◌, ◌||◌, ◌∙◌, ◌∷◌, ◌≡◌, ◌⊎◌}
 use Rattle.std.specs.Prelude.{option_map}
 use Rattle.tab_ids.specs.declared.DocId.{DocId}
@@ -29,11 +29,11 @@ use Rattle.tab_ids.specs.declared.NavId.{NavId}
 use Rattle.tab_ids.specs.declared.ReqId.{ReqId}
 use Rattle.tab_ids.specs.declared.Step.{Step}
 use Rattle.tab_settles.specs.Settling.{MovedAreShown}
-use Rattle.walk_facts.proofs.Placed.{found_nav}
-use Rattle.walk_facts.proofs.Sleepers.{becomes, place_becomes, sleepers_of, slept}
-use Rattle.walk_rows.proofs.Sleeping.{place_sleeps}
-use Rattle.walk_rows.specs.Since.{WasAwake}
-use Rattle.hang_facts.proofs.Forms.{nav_is}
+use Rattle.seen_facts.proofs.Walk.Placed.{found_nav}
+use Rattle.seen_facts.proofs.Walk.Sleepers.{becomes, place_becomes, sleepers_of, slept}
+use Rattle.row_facts.proofs.WalkRows.Sleeping.{place_sleeps}
+use Rattle.row_facts.specs.WalkRows.Since.{WasAwake}
+use Rattle.seen_facts.proofs.Hang.Forms.{nav_is}
 use Rattle.log_model.specs.declared.job.Task.TheVariants as tasks
 use Rattle.log_model.specs.declared.job.Why.TheVariants as whys
 use Rattle.log_model.specs.declared.outcome.Ending.TheVariants as endings

@@ -1,11 +1,11 @@
 -- Where a traversal runs, who is awake and was moved by it was shown a document by it: rows keep that which move nobody and by which nobody wakes, and it is so as a traversal begins.
-use Rattle.asked_facts.specs.Asking.{ArePlain, IsThere}
-use Rattle.coord_facts.proofs.Held.{on_else}
-use Rattle.coord_facts.proofs.Unread.{next}
-use Rattle.each_facts.proofs.Courses.{was_asked}
-use Rattle.each_facts.specs.Runs.{is_run}
-use Rattle.frame_facts.specs.Moving.{AreMoves}
-use Rattle.load_facts.proofs.Rows.{req_same}
+use Rattle.seen_facts.specs.Asked.Asking.{ArePlain, IsThere}
+use Rattle.seen_facts.proofs.Coord.Held.{on_else}
+use Rattle.seen_facts.proofs.Coord.Unread.{next}
+use Rattle.seen_facts.proofs.Each.Courses.{was_asked}
+use Rattle.seen_facts.specs.Each.Runs.{is_run}
+use Rattle.tab_facts.specs.Frame.Moving.{AreMoves}
+use Rattle.seen_facts.proofs.Load.Rows.{req_same}
 use Rattle.log_model.proofs.Refl.{nat_eq_refl}
 use Rattle.log_model.specs.After.{after, ended}
 use Rattle.log_model.specs.AfterRequests.{entries_taken, on_request, request_begun, requests_sent}
@@ -17,8 +17,8 @@ use Rattle.log_model.specs.declared.outcome.Ending.{Ending}
 use Rattle.log_model.specs.declared.request.Request.{Request}
 use Rattle.log_model.specs.declared.row_kind.Actor.{Actor}
 use Rattle.log_model.specs.declared.row_kind.RowKind.{RowKind}
-use Rattle.request_facts.proofs.LookUps.{on_itself}
-use Rattle.request_facts.proofs.Readers.{SameReads, on_read, reads_then}
+use Rattle.seen_facts.proofs.Request.LookUps.{on_itself}
+use Rattle.seen_facts.proofs.Request.Readers.{SameReads, on_read, reads_then}
 use Rattle.seen_laws.specs.InEvent.{InEvent, now_of, row_of}
 use Rattle.std.proofs.Common.{Bool, List, None, Option, Some, ap, false, refl, sym, true, ℕ, ◌&&◌, ◌==◌, ◌∙◌, ◌≡◌}
 use Rattle.std.proofs.lemmas.Bool.{and_parts}
@@ -30,7 +30,7 @@ use Rattle.tab_releases.proofs.PassedOn.{over_each}
 use Rattle.tab_releases.specs.PassedOn.{HasGrown, HasOnly, IsOfTurn}
 use Rattle.tab_settles.proofs.MovedRows.{shown_back, shown_idle, shown_unmoved}
 use Rattle.tab_settles.specs.Settling.{MovedAreShown}
-use Rattle.walk_rows.specs.Since.{WasAwake}
+use Rattle.row_facts.specs.WalkRows.Since.{WasAwake}
 use Rattle.log_model.specs.declared.job.Task.TheVariants as tasks
 use Rattle.log_model.specs.declared.outcome.Ending.TheVariants as endings
 use Rattle.log_model.specs.declared.row_kind.RowKind.TheVariants as rows

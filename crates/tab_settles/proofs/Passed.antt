@@ -1,12 +1,12 @@
 -- After a pass: the queue waits on, and what is held back is.
-use Rattle.asked_facts.specs.Asking.{IsThere}
-use Rattle.calm_facts.proofs.Moves.{AreUnmoved}
-use Rattle.each_facts.specs.Runs.{OnlyRuns}
+use Rattle.seen_facts.specs.Asked.Asking.{IsThere}
+use Rattle.tab_facts.proofs.Calm.Moves.{AreUnmoved}
+use Rattle.seen_facts.specs.Each.Runs.{OnlyRuns}
 use Rattle.log_model.specs.History.{History}
-use Rattle.coord_facts.proofs.Held.{held_alike}
-use Rattle.coord_facts.specs.Leading.{held_back}
-use Rattle.each_facts.proofs.Courses.{was_asked}
-use Rattle.frame_facts.specs.Lasting.{Wish, wish}
+use Rattle.seen_facts.proofs.Coord.Held.{held_alike}
+use Rattle.seen_facts.specs.Coord.Leading.{held_back}
+use Rattle.seen_facts.proofs.Each.Courses.{was_asked}
+use Rattle.tab_facts.specs.Frame.Lasting.{Wish, wish}
 use Rattle.log_model.specs.ActsAtOnce.{ends_told}
 use Rattle.log_model.specs.Equal.{has_req}
 use Rattle.log_model.specs.Places.{is_load, aim_of, all_stand, all_stand_in}
@@ -15,25 +15,26 @@ use Rattle.log_model.specs.Seen.{Seen}
 use Rattle.log_model.specs.declared.job.Why.{Why}
 use Rattle.log_model.specs.declared.row_kind.RowKind.{RowKind}
 use Rattle.move_queue.specs.Queue.{Queue}
-use Rattle.seen_laws.specs.InEvent.{now_of}
+use Rattle.seen_laws.specs.InEvent.{InEvent, now_of}
 use Rattle.std.proofs.Common.{List, None, Option, Some, ap, inl, inr, refl, subst, sym, true, ◌∙◌, ◌≡◌, ◌⊎◌, Bool, false, ℕ}
 use Rattle.tab_releases.proofs.PassedOn.{aim_is, queue_left, turning_passed, stand_awake}
 use Rattle.tab_releases.proofs.Releases.{IsByItsOwn, mades_same, queue_over}
-use Rattle.tab_events.specs.Between.{AreSwept, orders_go}
+use Rattle.tab_facts.specs.TabEvents.Between.{AreSwept, orders_go}
 use Rattle.tab_releases.specs.PassedOn.{AreBlamed, AreLeftStrays, HasOnly, HasPassed, HasPutOut, HasQueue, KeepsStore, LeavesCalm, LeavesPass, LoadsLive, MayPass, SendsForStrays, aim_in}
 use Rattle.tab_releases.specs.Releasing.{HoldsParked, InPass, IsPassing, LoadsMadeOwn, Tables}
 use Rattle.tab_ids.specs.declared.NavId.{NavId}
 use Rattle.tab_ids.specs.declared.ReqId.{ReqId}
 use Rattle.tab_ids.specs.declared.StateId.{StateId}
 use Rattle.tab_settles.proofs.Lates.{late_after}
+use Rattle.tab_settles.proofs.LoadsOff.{off_passed}
 use Rattle.tab_settles.proofs.MovedPasses.{put_shown}
 use Rattle.tab_settles.proofs.MovedRows.{shown_idle}
 use Rattle.tab_settles.proofs.PutOuts.{only_applies_none, only_leaves, put_only, KeepsOff, only_off}
 use Rattle.tab_settles.proofs.Sweeps.{swept_or}
 use Rattle.tab_settles.proofs.Puts.{pass_put, put_then}
 use Rattle.tab_settles.specs.Offs.{LateKnown}
-use Rattle.tab_settles.specs.Settling.{HasPut, HasSettled, IsCalmAfter, IsCalmBefore, IsOrderOrDrop, IsQueueing, IsReady, LeavesPut, MayRelease, MovedAreShown}
-use Rattle.walk_facts.specs.Serving.{AreServed}
+use Rattle.tab_settles.specs.Settling.{HasPut, HasSettled, IsCalmAfter, IsCalmBefore, IsOrderOrDrop, IsQueueing, IsReady, LeavesOff, LeavesPut, MayRelease, MovedAreShown}
+use Rattle.seen_facts.specs.Walk.Serving.{AreServed}
 
 module _ (p : InPass) (out : List RowKind) (t : Tables) (queue : Queue) (blame : List (StateId × ReqId)) (cause : Why) (ready : IsReady p out t queue blame cause) where
   -- what a pass asks
@@ -192,6 +193,11 @@ module _ (p : InPass) (out : List RowKind) (t : Tables) (queue : Queue) (blame :
 pub pass_ready_put : (p : InPass) (out : List RowKind) (t : Tables) (queue : Queue) (blame : List (StateId × ReqId)) (cause : Why) → IsReady p out t queue blame cause → (new : List RowKind) (tells : Why) → HasPutOut p.event t.running cause tells out new → LeavesPass (now_of p.event out) (now_of p.event new) → HasPut p.event out new
 pass_ready_put p out t queue blame cause ready new tells only left =
     pass_put p.event t.running cause tells out new only ready.passing.going.tab.asked ready.open_.may left.causes
+
+-- so who was moved before is off still
+pub pass_off : (e : InEvent) (first out new : List RowKind) (run : Option ReqId) (cause tells : Why) → LeavesOff e first out → HasPutOut e run cause tells out new → LeavesPass (now_of e out) (now_of e new) → LeavesOff e first new
+pass_off e first out new run cause tells off only left =
+    off_passed e first out new off (put_only e run cause tells out new only) left.history left.aim
 
 -- before, by a pass, and by a turn
 pub put_both : (p : InPass) (first out mid new : List RowKind) (u : Tables) → IsPassing p new u → HasPut p.event first out → HasPut p.event out mid → HasPut p.event mid new → HasPut p.event first new

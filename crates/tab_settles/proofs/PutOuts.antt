@@ -1,16 +1,16 @@
 -- What orders and drops leave, and so a pass: what requests ask and how many there are, and whose each document is; and none of them applies a traversal.
-use Rattle.owed_facts.proofs.Standing.{sent_eased}
+use Rattle.row_facts.proofs.Owed.Standing.{sent_eased}
 use Rattle.log_model.specs.declared.row.Row.{Row}
 use Rattle.log_model.specs.Places.{all_stand_in}
-use Rattle.coord_facts.proofs.Unread.{next}
-use Rattle.frame_facts.proofs.Orders.{wish_blind}
-use Rattle.frame_facts.specs.Lasting.{wish}
-use Rattle.frame_rows.specs.Lawful.{has_traversed}
-use Rattle.hang_facts.proofs.Members.{has_map}
-use Rattle.hang_facts.specs.Members.{Has}
+use Rattle.seen_facts.proofs.Coord.Unread.{next}
+use Rattle.tab_facts.proofs.Frame.Orders.{wish_blind}
+use Rattle.tab_facts.specs.Frame.Lasting.{wish}
+use Rattle.row_facts.specs.FrameRows.Lawful.{has_traversed}
+use Rattle.seen_facts.proofs.Hang.Members.{has_map}
+use Rattle.seen_facts.specs.Hang.Members.{Has}
 use Rattle.log_model.specs.AfterDocuments.{addressed, documents_sent, new_document, on_document}
 use Rattle.log_model.specs.AfterRequests.{on_served, request_served, requests_sent}
-use Rattle.home_facts.specs.Homes.{document_in}
+use Rattle.seen_facts.specs.Home.Homes.{document_in}
 use Rattle.log_model.specs.Queue.{is_traverse}
 use Rattle.log_model.specs.Seen.{Asked, Document, Seen}
 use Rattle.log_model.specs.declared.job.Job.{Job}
@@ -19,7 +19,7 @@ use Rattle.log_model.specs.declared.job.Why.{Why}
 use Rattle.log_model.specs.declared.row_kind.Actor.{Actor}
 use Rattle.log_model.specs.declared.row_kind.LogRow.{LogRow}
 use Rattle.log_model.specs.declared.row_kind.RowKind.{RowKind}
-use Rattle.request_facts.proofs.Readers.{on_read, reads_then, sent_reads}
+use Rattle.seen_facts.proofs.Request.Readers.{on_read, reads_then, sent_reads}
 use Rattle.seen_laws.proofs.InEvents.{now_more}
 use Rattle.seen_laws.specs.InEvent.{InEvent, now_of, row_of}
 use Rattle.std.proofs.Common.{Bool, List, None, Option, Some, [], ap, append-nil, append_assoc, cond, false, inl, inr, length, map, refl, subst, sym, true, ℕ, ◌++◌, ◌==◌, ◌||◌, ◌∙◌, ◌∷◌, ◌≡◌}

@@ -1,7 +1,7 @@
 -- What was put out as a tab is brought to rest: rows of a coordinator, behind those that were there; and each order that makes a document is for what orders may be for.
-use Rattle.order_facts.proofs.Rows.{coord_within, orders_on, orders_over}
-use Rattle.asked_facts.specs.Asking.{ArePlain, IsAskedPlainly}
-use Rattle.hang_facts.specs.Members.{Has}
+use Rattle.tab_facts.proofs.Order.Rows.{coord_within, orders_on, orders_over}
+use Rattle.seen_facts.specs.Asked.Asking.{ArePlain, IsAskedPlainly}
+use Rattle.seen_facts.specs.Hang.Members.{Has}
 use Rattle.log_model.specs.Equal.{holds, implies}
 use Rattle.log_model.specs.Places.{has_passed, is_traversal}
 use Rattle.log_model.specs.Checks.{is_checked}
@@ -10,9 +10,9 @@ use Rattle.log_model.specs.declared.job.Job.{Job}
 use Rattle.log_model.specs.declared.job.Task.{Task}
 use Rattle.log_model.specs.declared.job.Why.{Why}
 use Rattle.log_model.specs.declared.row_kind.RowKind.{RowKind}
-use Rattle.order_facts.proofs.Stills.{still_over}
-use Rattle.order_facts.specs.Orders.{IsOfCoord, AreOrders}
-use Rattle.owed_facts.specs.Owed.{IsStill}
+use Rattle.tab_facts.proofs.Order.Stills.{still_over}
+use Rattle.tab_facts.specs.Order.Orders.{IsOfCoord, AreOrders}
+use Rattle.row_facts.specs.Owed.Owed.{IsStill}
 use Rattle.seen_laws.specs.InEvent.{InEvent, now_of}
 use Rattle.std.proofs.Common.{Bool, List, None, Option, Some, [], ap, append_assoc, false, inl, inr, refl, subst, sym, true, ◌++◌, ◌∙◌, ◌∷◌, ◌≡◌, ◌⊎◌}
 use Rattle.tab_releases.specs.PassedOn.{HasGrown, IsOfTurn, MayServe, length_index, HasOnly, HasPutOut, IsServeFor, IsUpdateFor, show_why}
@@ -87,7 +87,7 @@ put_makes e run was out plain put makes =
 -- ---- one after the other
 
 -- what is among two lists is among the first or the second
-among : {A : Type 0} (xs ys : List A) (z : A) → Has (xs ++ ys) z → Has xs z ⊎ Has ys z
+pub among : {A : Type 0} (xs ys : List A) (z : A) → Has (xs ++ ys) z → Has xs z ⊎ Has ys z
 among [] ys z has = inr has
 among (x ∷ xs) ys z (inl is) = inl (inl is)
 among (x ∷ xs) ys z (inr has) = by_rest (among xs ys z has)

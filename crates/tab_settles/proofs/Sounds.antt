@@ -1,17 +1,17 @@
 -- Orders on their way are sound over the rows that an event puts out: nobody is asked, and documents are sent to fragments for loads of their own navigables.
-use Rattle.coord_facts.proofs.Unread.{next}
-use Rattle.hang_facts.specs.Members.{Has}
-use Rattle.load_facts.proofs.Docs.{AreSame, changed_docs}
+use Rattle.seen_facts.proofs.Coord.Unread.{next}
+use Rattle.seen_facts.specs.Hang.Members.{Has}
+use Rattle.seen_facts.proofs.Load.Docs.{AreSame, changed_docs}
 use Rattle.log_model.specs.Points.{nav_of_request}
 use Rattle.log_model.specs.Seen.{Asked, Document, Seen, document_of, request_of}
 use Rattle.log_model.specs.declared.job.Job.{Job}
 use Rattle.log_model.specs.declared.job.Task.{Task}
 use Rattle.log_model.specs.declared.row_kind.Actor.{Actor}
 use Rattle.log_model.specs.declared.row_kind.RowKind.{RowKind}
-use Rattle.order_facts.proofs.Rows.{coord_within, orders_on, orders_over}
-use Rattle.order_facts.proofs.Stills.{still_over}
-use Rattle.order_facts.specs.Orders.{AreOrders, IsOfCoord}
-use Rattle.owed_facts.specs.Owed.{IsStill}
+use Rattle.tab_facts.proofs.Order.Rows.{coord_within, orders_on, orders_over}
+use Rattle.tab_facts.proofs.Order.Stills.{still_over}
+use Rattle.tab_facts.specs.Order.Orders.{AreOrders, IsOfCoord}
+use Rattle.row_facts.specs.Owed.Owed.{IsStill}
 use Rattle.seen_laws.proofs.InEvents.{now_more}
 use Rattle.seen_laws.proofs.Keyed.{find_map}
 use Rattle.seen_laws.specs.InEvent.{InEvent, now_of}

@@ -1,20 +1,20 @@
 -- Where all stand after a pass and no traversal runs, what documents made may be taken up.
-use Rattle.calm_facts.proofs.Calms.{calm_but, calm_rooted}
-use Rattle.calm_facts.specs.Calm.{CalmUnless, IsCalm, IsCalmYet}
-use Rattle.calm_facts.specs.Loads.{LoadsHaveDocuments}
+use Rattle.tab_facts.proofs.Calm.Calms.{calm_but, calm_rooted}
+use Rattle.tab_facts.specs.Calm.Calm.{CalmUnless, IsCalm, IsCalmYet}
+use Rattle.tab_facts.specs.Calm.Loads.{LoadsHaveDocuments}
 use Rattle.tab_releases.proofs.PassedOn.{calm_unmoved, rest_blamed, rest_loads, rest_open, stand_awake}
 use Rattle.log_model.specs.History.{has_row}
-use Rattle.each_facts.proofs.Courses.{was_asked}
-use Rattle.frame_facts.specs.Lasting.{Wish, wish}
-use Rattle.home_facts.specs.Homes.{document_in}
+use Rattle.seen_facts.proofs.Each.Courses.{was_asked}
+use Rattle.tab_facts.specs.Frame.Lasting.{Wish, wish}
+use Rattle.seen_facts.specs.Home.Homes.{document_in}
 use Rattle.log_model.specs.Places.{all_stand, is_load}
 use Rattle.log_model.specs.Points.{nav_of_request}
 use Rattle.log_model.specs.Seen.{Document, Seen}
-use Rattle.request_facts.proofs.Readers.{SameReads}
+use Rattle.seen_facts.proofs.Request.Readers.{SameReads}
 use Rattle.log_model.specs.declared.row_kind.RowKind.{RowKind}
 use Rattle.seen_laws.specs.InEvent.{now_of}
 use Rattle.std.proofs.Common.{List, None, Option, ap, false, subst, sym, true, ◌∙◌, ◌≡◌}
-use Rattle.calm_facts.proofs.Awakes.{calm_stood}
+use Rattle.tab_facts.proofs.Calm.Awakes.{calm_stood}
 use Rattle.tab_releases.specs.Releasing.{InPass, IsPassing, IsTaking, LoadsMadeOwn, Tables}
 use Rattle.tab_ids.specs.declared.NavId.{NavId}
 use Rattle.tab_ids.specs.declared.ReqId.{ReqId}

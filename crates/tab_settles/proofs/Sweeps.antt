@@ -1,6 +1,6 @@
 -- After a pass no document is stray, or an order is on its way.
-use Rattle.coord_facts.proofs.Unread.{next}
-use Rattle.hang_facts.specs.Members.{Has}
+use Rattle.seen_facts.proofs.Coord.Unread.{next}
+use Rattle.seen_facts.specs.Hang.Members.{Has}
 use Rattle.log_model.specs.After.{desk_dropped}
 use Rattle.log_model.specs.History.{has_state}
 use Rattle.log_model.specs.Orders.{ongoing_load}
@@ -8,14 +8,14 @@ use Rattle.log_model.specs.Seen.{Asked, Desk, Document, Seen, desk_in, document_
 use Rattle.log_model.specs.declared.job.Job.{Job}
 use Rattle.log_model.specs.declared.row_kind.Actor.{Actor}
 use Rattle.log_model.specs.declared.row_kind.RowKind.{RowKind}
-use Rattle.rest_facts.specs.Between.{IsOfLoad}
+use Rattle.seen_facts.specs.Rest.Between.{IsOfLoad}
 use Rattle.seen_laws.proofs.InEvents.{now_more}
 use Rattle.seen_laws.specs.InEvent.{InEvent, now_of}
 use Rattle.std.proofs.Common.{Bool, List, None, Option, Some, [], ap, append-nil, append_assoc, false, inl, inr, length, map, not, refl, subst, sym, true, ℕ, ◌++◌, ◌==◌, ◌||◌, ◌∙◌, ◌∷◌, ◌≡◌, ◌⊎◌}
 use Rattle.std.specs.List.{list_any}
 use Rattle.std.specs.Prelude.{drop, is_some}
-use Rattle.tab_events.proofs.Ordered.{on_itself, one_more}
-use Rattle.tab_events.specs.Between.{AreSwept, has_order, orders_go}
+use Rattle.tab_facts.proofs.TabEvents.Ordered.{on_itself, one_more}
+use Rattle.tab_facts.specs.TabEvents.Between.{AreSwept, has_order, orders_go}
 use Rattle.tab_ids.specs.declared.DocId.{DocId}
 use Rattle.tab_ids.specs.declared.ReqId.{ReqId}
 use Rattle.tab_releases.specs.PassedOn.{HasOnly, HasSent, IsStray}

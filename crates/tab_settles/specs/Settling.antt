@@ -3,36 +3,40 @@
 use Rattle.log_model.specs.Places.{aim_of, all_stand}
 use Rattle.tab_releases.specs.Releasing.{InPass, IsPassing, LoadsMadeOwn, MayCause, Tables}
 pub use Rattle.tab_releases.specs.Releasing.{HoldsParked, IsTurning}
-use Rattle.calm_facts.specs.Calm.{AreRooted, IsCalm, IsCalmAround, IsCalmYet, UnmovedAreHere}
-use Rattle.frame_facts.specs.Lasting.{wish}
-use Rattle.frame_rows.specs.Lawful.{has_traversed, held_at_first}
-use Rattle.hang_facts.specs.Members.{Has}
-use Rattle.order_facts.specs.Orders.{IsOfCoord, AreOrders}
-use Rattle.frame_tab.specs.Asking.{NoneHeld}
+use Rattle.tab_facts.specs.Calm.Calm.{AreRooted, IsCalm, IsCalmAround, IsCalmYet, UnmovedAreHere}
+use Rattle.tab_facts.specs.Frame.Lasting.{wish}
+use Rattle.row_facts.specs.FrameRows.Lawful.{has_traversed, held_at_first}
+use Rattle.seen_facts.specs.Hang.Members.{Has}
+use Rattle.tab_facts.specs.Order.Orders.{IsOfCoord, AreOrders}
+use Rattle.tab_facts.specs.FrameTab.Asking.{NoneHeld}
 use Rattle.log_model.specs.ActsAtOnce.{ends_told}
+use Rattle.seen_facts.specs.LoadEnds.Standing.{is_off}
 use Rattle.log_model.specs.Causes.{takes_report}
 use Rattle.log_model.specs.Equal.{has_req}
 use Rattle.log_model.specs.History.{has_nav}
+use Rattle.log_model.specs.LoadsEndInTime.{is_begun_load}
 use Rattle.log_model.specs.Points.{nav_of_request}
 use Rattle.log_model.specs.Seen.{Asked, Document, Place, Seen, awake, document_of, place_of, request_of}
+use Rattle.log_model.specs.declared.change.Change.{Change}
 use Rattle.log_model.specs.declared.job.Job.{Job}
 use Rattle.log_model.specs.declared.job.Task.{Task}
 use Rattle.log_model.specs.declared.job.Why.{Why}
 use Rattle.log_model.specs.declared.row_kind.RowKind.{RowKind}
 use Rattle.move_queue.specs.Queue.{Queue}
 use Rattle.move_queue.specs.declared.queue_step.QueueStep.{QueueStep}
-use Rattle.request_facts.proofs.Readers.{SameReads}
+use Rattle.seen_facts.proofs.Request.Readers.{SameReads}
 use Rattle.seen_laws.specs.InEvent.{InEvent, now_of}
-use Rattle.std.specs.Prelude.{List, None, Option, Some, [], length, true, ℕ, ◌++◌, ◌+◌, ◌≡◌, ◌⊎◌}
+use Rattle.std.specs.Prelude.{List, None, Option, Some, [], false, length, true, ℕ, ◌++◌, ◌+◌, ◌≡◌, ◌⊎◌, if◌then◌else◌}
 use Rattle.tab_releases.specs.PassedOn.{AreBlamed, AreLeftStrays, HasPassed, HasQueue, IsLoadApplied, IsOpen, LoadsLive, MayStand, show_why}
-use Rattle.tab_events.specs.Between.{AreSwept, orders_go}
+use Rattle.tab_facts.specs.TabEvents.Between.{AreSwept, orders_go}
 use Rattle.tab_ids.specs.declared.DocId.{DocId}
 use Rattle.tab_ids.specs.declared.NavId.{NavId}
 use Rattle.tab_ids.specs.declared.ReqId.{ReqId}
 use Rattle.tab_ids.specs.declared.StateId.{StateId}
 use Rattle.tab_settles.specs.Offs.{LateKnown}
 use Rattle.tab_settles.specs.declared.reasons.Reasons.{Reasons}
-use Rattle.walk_facts.specs.Serving.{AreServed}
+use Rattle.seen_facts.specs.Walk.Serving.{AreServed}
+use Rattle.log_model.specs.declared.change.Change.TheVariants as changes
 use Rattle.log_model.specs.declared.job.Task.TheVariants as tasks
 use Rattle.log_model.specs.declared.job.Why.TheVariants as whys
 use Rattle.log_model.specs.declared.row_kind.Actor.TheVariants as actors
@@ -102,6 +106,32 @@ IsSoundTask s doc _ = Unit {0}
 -- so it is of each order on its way, or of which a report tells
 abbrev pub OrdersAreSound : Seen → Type 0
 OrdersAreSound s = AreOrders (λ (job : Job). IsSoundTask s job.doc job.task) s
+
+-- ---- who is moved
+
+-- the navigable that the change reloads, or to which it gives the new document of the load that the request is
+abbrev pub moved_by : Seen → ReqId → Change → Option NavId
+moved_by s req (changes.Reload nav) = Some nav
+moved_by s req (changes.Push nav entry state address memo) = if is_begun_load s req then Some nav else None
+moved_by s req (changes.Replace nav over entry state address memo) = if is_begun_load s req then Some nav else None
+moved_by s req _ = None
+
+-- the navigable doesn't stand at the aim, and so not all do
+pub record IsAway (s : Seen) (nav : NavId) : Type 0 where
+  pub off : is_off s nav ≡ true
+  pub unsettled : all_stand s (aim_of s) ≡ false
+
+-- the rows that were put out begin no load, and the navigable that one of them reloads, or gives a load's new document, doesn't stand then
+pub record LeavesOff (e : InEvent) (was out : List RowKind) : Type 0 where
+  pub more : List RowKind
+  pub is : out ≡ was ++ more
+  pub begins : (req : ReqId) → is_begun_load (now_of e out) req ≡ is_begun_load (now_of e was) req
+  pub off : (req : ReqId) (change : Change) (nav : NavId) → Has more (rows.Applied req change) → moved_by (now_of e out) req change ≡ Some nav → IsAway (now_of e out) nav
+
+-- so it is of the rows of a turn, before which all stood
+pub record HasTurned (e : InEvent) (old new : List RowKind) : Type 0 where
+  pub moved : LeavesOff e old new
+  pub stood : all_stand (now_of e old) (aim_of (now_of e old)) ≡ true
 
 -- ---- the queue, and what is held back
 

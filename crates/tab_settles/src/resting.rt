@@ -3,7 +3,7 @@ ghost use Rattle.std.specs.Prelude.{◌≡◌, OnOk};
 ghost use Rattle.seen_laws.specs.InEvent.{now_of};
 ghost use Rattle.tab_releases.specs.Releasing.{InPass};
 ghost use Rattle.tab_releases.specs.PassedOn.{IsNoneDue};
-ghost use Rattle.tab_settles.specs.Settling.{HasPut, HasSettled, IsReady};
+ghost use Rattle.tab_settles.specs.Settling.{HasPut, HasSettled, IsReady, LeavesOff};
 
 use crate::reasons::Reasons;
 use crate::turning::take_turn;
@@ -32,6 +32,7 @@ pub fn settle(
     ensures settled { OnOk result (HasSettled p out.new tables.new queue.new blame.new.entries reasons.new.cause) }
     ensures due { OnOk result (IsNoneDue (now_of p.event out.new) tables.new.running queue.new.waiting) }
     ensures put { OnOk result (HasPut p.event out.old out.new) }
+    ensures off { OnOk result (LeavesOff p.event out.old out.new) }
     ensures handled { OnOk result (reasons.new.handled ≡ reasons.old.handled) }
 {
     'passes: loop {

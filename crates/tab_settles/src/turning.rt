@@ -3,7 +3,7 @@ ghost use Rattle.std.specs.Prelude.{◌≡◌, ◌<◌, IfOk, None, OnOk, false,
 ghost use Rattle.seen_laws.specs.InEvent.{now_of};
 ghost use Rattle.tab_releases.specs.Releasing.{InPass};
 ghost use Rattle.tab_releases.specs.PassedOn.{IsNoneDue};
-ghost use Rattle.tab_settles.specs.Settling.{HasPut, HasSettled, IsReady, turns_left};
+ghost use Rattle.tab_settles.specs.Settling.{HasPut, HasSettled, HasTurned, IsReady, turns_left};
 
 use crate::reasons::Reasons;
 use address::OutOfMemory;
@@ -29,6 +29,8 @@ fn finish(
     requires runs { is_some tables.old.running ≡ true }
     ensures ready { IfOk result (λ ended. ended ≡ true → IsReady p out.new tables.new queue.new blame.new.entries reasons.new.cause) }
     ensures fewer { IfOk result (λ ended. ended ≡ true → turns_left tables.new.running queue.new.waiting < turns_left tables.old.running queue.old.waiting) }
+    ensures turned { IfOk result (λ ended. ended ≡ true → HasTurned p.event out.old out.new) }
+    ensures still { IfOk result (λ ended. ended ≡ false → out.new ≡ out.old) }
     ensures rested { IfOk result (λ ended. ended ≡ false → HasSettled p out.new tables.new queue.new blame.new.entries reasons.new.cause) }
     ensures due { IfOk result (λ ended. ended ≡ false → IsNoneDue (now_of p.event out.new) tables.new.running queue.new.waiting) }
     ensures put { OnOk result (HasPut p.event out.old out.new) }
@@ -58,6 +60,8 @@ fn begin(
     requires idle { tables.old.running ≡ None }
     ensures ready { IfOk result (λ did. did ≡ true → IsReady p out.new tables.new queue.new blame.new.entries reasons.new.cause) }
     ensures fewer { IfOk result (λ did. did ≡ true → turns_left tables.new.running queue.new.waiting < turns_left tables.old.running queue.old.waiting) }
+    ensures turned { IfOk result (λ did. did ≡ true → HasTurned p.event out.old out.new) }
+    ensures still { IfOk result (λ did. did ≡ false → out.new ≡ out.old) }
     ensures rested { IfOk result (λ did. did ≡ false → HasSettled p out.new tables.new queue.new blame.new.entries reasons.new.cause) }
     ensures due { IfOk result (λ did. did ≡ false → IsNoneDue (now_of p.event out.new) tables.new.running queue.new.waiting) }
     ensures put { OnOk result (HasPut p.event out.old out.new) }
@@ -89,6 +93,8 @@ pub(crate) fn take_turn(
     requires at { HasSettled p out.old tables.old queue.old blame.old.entries reasons.old.cause }
     ensures ready { IfOk result (λ did. did ≡ true → IsReady p out.new tables.new queue.new blame.new.entries reasons.new.cause) }
     ensures fewer { IfOk result (λ did. did ≡ true → turns_left tables.new.running queue.new.waiting < turns_left tables.old.running queue.old.waiting) }
+    ensures turned { IfOk result (λ did. did ≡ true → HasTurned p.event out.old out.new) }
+    ensures still { IfOk result (λ did. did ≡ false → out.new ≡ out.old) }
     ensures rested { IfOk result (λ did. did ≡ false → HasSettled p out.new tables.new queue.new blame.new.entries reasons.new.cause) }
     ensures due { IfOk result (λ did. did ≡ false → IsNoneDue (now_of p.event out.new) tables.new.running queue.new.waiting) }
     ensures put { OnOk result (HasPut p.event out.old out.new) }

@@ -1,11 +1,11 @@
 -- A request is accepted with the next number: what goes on from event to event goes on, and nothing else has changed.
-use Rattle.asked_facts.specs.Asking.{IsThere}
-use Rattle.coord_facts.proofs.Unread.{accepted_held, next}
-use Rattle.frame_facts.specs.Lasting.{IsOfItsNav, wish}
-use Rattle.last_facts.proofs.Rows.{accepted_lasting}
-use Rattle.left_facts.proofs.Rows.{were_shown}
+use Rattle.seen_facts.specs.Asked.Asking.{IsThere}
+use Rattle.seen_facts.proofs.Coord.Unread.{accepted_held, next}
+use Rattle.tab_facts.specs.Frame.Lasting.{IsOfItsNav, wish}
+use Rattle.tab_facts.proofs.Last.Rows.{accepted_lasting}
+use Rattle.row_facts.proofs.Left.Rows.{were_shown}
 use Rattle.load_doors.specs.Tied.{AreTied}
-use Rattle.load_ties.proofs.Rows.{accepted_tied}
+use Rattle.seen_facts.proofs.LoadTies.Rows.{accepted_tied}
 use Rattle.log_model.specs.After.{new_request}
 use Rattle.log_model.specs.Equal.{has_req}
 use Rattle.log_model.specs.History.{has_nav}
@@ -17,11 +17,11 @@ use Rattle.log_model.specs.declared.request.Request.{Request}
 use Rattle.log_model.specs.declared.row_kind.Actor.{Actor}
 use Rattle.log_model.specs.declared.row_kind.LogRow.{LogRow}
 use Rattle.log_model.specs.declared.row_kind.RowKind.{RowKind}
-use Rattle.request_facts.proofs.LookUps.{none_before}
-use Rattle.request_facts.specs.Cores.{Core, core_of}
-use Rattle.request_facts.specs.Knowns.{AllOf, IsParked, req_itself}
-use Rattle.rest_rows.proofs.Rows.{accepted_rests}
-use Rattle.rest_rows.specs.Moving.{AllRest}
+use Rattle.seen_facts.proofs.Request.LookUps.{none_before}
+use Rattle.seen_facts.specs.Request.Cores.{Core, core_of}
+use Rattle.seen_facts.specs.Request.Knowns.{AllOf, IsParked, req_itself}
+use Rattle.row_facts.proofs.RestRows.Rows.{accepted_rests}
+use Rattle.row_facts.specs.RestRows.Moving.{AllRest}
 use Rattle.seen_laws.proofs.InEvents.{now_own}
 use Rattle.seen_laws.specs.Blocks.{point_at}
 use Rattle.seen_laws.specs.InEvent.{InEvent, IsTakenIn, now_of, row_of, start_of}

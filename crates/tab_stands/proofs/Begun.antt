@@ -1,13 +1,13 @@
 -- An event of the coordinator begins: all goes on once its own row was logged, whatever it leaves of a tab as one is between two events.
 use Rattle.tab_stands.proofs.Orders.{keeps_coming, makes_first, sound_first}
-use Rattle.frame_rows.proofs.LawfulLaws.{lawful_legal}
-use Rattle.desk_facts.proofs.Stays.{NoDeath}
+use Rattle.row_facts.proofs.FrameRows.LawfulLaws.{lawful_legal}
+use Rattle.seen_facts.proofs.Desk.Stays.{NoDeath}
 use Rattle.load_doors.specs.Tied.{AreTied}
 use Rattle.log_model.specs.Seen.{desk_of}
 use Rattle.log_model.specs.declared.made.Report.{Report}
 use Rattle.move_queue.specs.Queue.{Queue}
-use Rattle.owed_facts.proofs.Ends.{loose_first, loose_owed}
-use Rattle.rest_rows.specs.Moving.{AllRest}
+use Rattle.row_facts.proofs.Owed.Ends.{loose_first, loose_owed}
+use Rattle.row_facts.specs.RestRows.Moving.{AllRest}
 use Rattle.seen_laws.specs.InEvent.{AreLegal, InEvent, now_of}
 use Rattle.seen_laws.specs.Sending.{leads}
 use Rattle.std.proofs.Common.{List, None, Option, Some, [], ap, length, refl, subst, sym, true, ◌≡◌, ◌≤◌, ℕ}
@@ -16,7 +16,7 @@ use Rattle.tab_doors.proofs.Ahead.{lawful_none}
 use Rattle.tab_doors.specs.Working.{HasGoal, IsAtWork, IsWorker}
 use Rattle.tab_doors.specs.declared.tables.Tables.{Tables}
 use Rattle.tab_settles.proofs.PassedOn.{fine, unheld_first}
-use Rattle.tab_events.specs.Between.{IsBetween}
+use Rattle.tab_facts.specs.TabEvents.Between.{IsBetween}
 use Rattle.tab_settles.specs.PassedOn.{InPass, IsGoing, IsPassing}
 use Rattle.tab_ids.specs.declared.DocId.{DocId}
 use Rattle.tab_ids.specs.declared.ProcId.{ProcId}

@@ -1,22 +1,22 @@
 -- What an event's own row leaves of a tab as one is between two events, so that what documents made may be taken then, and a pass may follow.
-use Rattle.calm_facts.proofs.Calms.{calm_but, calm_need, calm_rooted}
-use Rattle.calm_facts.proofs.Sames.{SameSights, Sight, calm_same, given_same, here_same, rooted_kept, sight_of, way_at}
-use Rattle.calm_facts.proofs.Awakes.{lost_none}
-use Rattle.calm_facts.specs.Calm.{AreRooted, CalmUnless, IsCalm, IsCalmYet, UnmovedAreHere}
-use Rattle.calm_facts.specs.Loads.{LoadsHaveDocuments}
-use Rattle.frame_whole.specs.Tab.{AreAwakeWithRows}
-use Rattle.hang_facts.proofs.Hung.{places_distinct}
-use Rattle.left_facts.specs.Left.{WereShown}
-use Rattle.load_ends.specs.Standing.{LoadsStand, is_reached}
-use Rattle.load_facts.specs.Loading.{Look, is_ongoing, look_of}
+use Rattle.tab_facts.proofs.Calm.Calms.{calm_but, calm_need, calm_rooted}
+use Rattle.tab_facts.proofs.Calm.Sames.{SameSights, Sight, calm_same, given_same, here_same, rooted_kept, sight_of, way_at}
+use Rattle.tab_facts.proofs.Calm.Awakes.{lost_none}
+use Rattle.tab_facts.specs.Calm.Calm.{AreRooted, CalmUnless, IsCalm, IsCalmYet, UnmovedAreHere}
+use Rattle.tab_facts.specs.Calm.Loads.{LoadsHaveDocuments}
+use Rattle.tab_facts.specs.FrameWhole.Tab.{AreAwakeWithRows}
+use Rattle.seen_facts.proofs.Hang.Hung.{places_distinct}
+use Rattle.row_facts.specs.Left.Left.{WereShown}
+use Rattle.seen_facts.specs.LoadEnds.Standing.{LoadsStand, is_reached}
+use Rattle.seen_facts.specs.Load.Loading.{Look, is_ongoing, look_of}
 use Rattle.log_model.specs.Equal.{holds}
 use Rattle.log_model.specs.History.{History, has_nav, has_row}
 use Rattle.log_model.specs.Places.{aim_of, all_stand, has_arrived, is_given_target, is_lost_in, is_moved, is_placed, is_shown, is_standing, way_to}
 use Rattle.log_model.specs.Seen.{Asked, Document, Place, Seen, document_of, place_in, place_of, request_of}
 use Rattle.log_model.specs.declared.job.Why.{Why}
-use Rattle.mover_facts.proofs.Places.{WasThere, place_then, was_there, ways_mapped}
-use Rattle.mover_facts.proofs.Stays.{KeepWays}
-use Rattle.place_facts.proofs.Documents.{KeepStates}
+use Rattle.seen_facts.proofs.Mover.Places.{WasThere, place_then, was_there, ways_mapped}
+use Rattle.seen_facts.proofs.Mover.Stays.{KeepWays}
+use Rattle.seen_facts.proofs.Place.Documents.{KeepStates}
 use Rattle.seen_laws.proofs.Sendings.{both}
 use Rattle.seen_laws.specs.InEvent.{InEvent}
 use Rattle.std.proofs.Common.{List, None, Option, Some, [], ap, arith, false, inl, inr, map, not, refl, subst, sym, true, ℕ, ◌&&◌, ◌∙◌, ◌∷◌, ◌≡◌, ◌⊎◌}
@@ -25,7 +25,7 @@ use Rattle.std.specs.List.{list_any}
 use Rattle.std.specs.Prelude.{is_some, option_map}
 use Rattle.tab_settles.proofs.PassedOn.{IsReachedAt, aim_is, all_of, bare_move, calm_unmoved, each_stands, own_document, reached_at, show_causes, stand_awake, stand_bare, stand_reached}
 use Rattle.tab_doors.specs.Working.{HasGoal}
-use Rattle.tab_events.specs.Between.{IsBetween}
+use Rattle.tab_facts.specs.TabEvents.Between.{IsBetween}
 use Rattle.tab_ids.specs.declared.DocId.{DocId}
 use Rattle.tab_ids.specs.declared.EntryId.{EntryId}
 use Rattle.tab_ids.specs.declared.NavId.{NavId}
@@ -36,8 +36,8 @@ use Rattle.log_model.specs.declared.made.Made.{Made}
 use Rattle.tab_settles.specs.PassedOn.{AreUnheld, IsBlamed, IsLeftStray, IsLoadOf, IsStray, IsTab, IsTaking, LoadsLive, LoadsMadeOwn, MayCause, MayServe, MayStand, ParentsShown, TakersServe, aim_in, show_why}
 use Rattle.tab_settles.specs.Settling.{IsCalmAfter}
 use Rattle.tab_stands.specs.Standing.{Lasts}
-use Rattle.walk_rows.proofs.Moved.{run_moves}
-use Rattle.walk_rows.specs.Since.{AwakeSince, MovesVisited}
+use Rattle.row_facts.proofs.WalkRows.Moved.{run_moves}
+use Rattle.row_facts.specs.WalkRows.Since.{AwakeSince, MovesVisited}
 use Rattle.log_model.specs.declared.job.Why.TheVariants as whys
 
 -- ---- what a row leaves

@@ -1,20 +1,20 @@
 -- A request of the user is accepted, and refused in the same event: the coordinator stands for the log still.
-use Rattle.asked_facts.specs.Asking.{ArePlain}
+use Rattle.seen_facts.specs.Asked.Asking.{ArePlain}
 use Rattle.tab_settles.proofs.Puts.{put_makes}
 use Rattle.tab_settles.proofs.Sounds.{put_sound}
 use Rattle.tab_settles.specs.Settling.{OrdersAreSound}
 use Rattle.seen_laws.specs.Sending.{leads}
 use Rattle.tab_stands.proofs.Orders.{keeps_coming, makes_first, refusal_put, sound_first}
-use Rattle.coord_facts.proofs.Flowings.{left_flows}
-use Rattle.coord_facts.proofs.Held.{on_else, without_same}
-use Rattle.coord_facts.proofs.Unread.{accepted_held, next, refused_held, refused_left}
-use Rattle.coord_facts.specs.Flowing.{Flows}
-use Rattle.each_facts.specs.Runs.{is_this}
-use Rattle.last_facts.proofs.Rows.{refused_lasting}
-use Rattle.left_facts.proofs.Rows.{were_shown}
-use Rattle.left_facts.specs.Left.{WereShown}
+use Rattle.seen_facts.proofs.Coord.Flowings.{left_flows}
+use Rattle.seen_facts.proofs.Coord.Held.{on_else, without_same}
+use Rattle.seen_facts.proofs.Coord.Unread.{accepted_held, next, refused_held, refused_left}
+use Rattle.seen_facts.specs.Coord.Flowing.{Flows}
+use Rattle.seen_facts.specs.Each.Runs.{is_this}
+use Rattle.tab_facts.proofs.Last.Rows.{refused_lasting}
+use Rattle.row_facts.proofs.Left.Rows.{were_shown}
+use Rattle.row_facts.specs.Left.Left.{WereShown}
 use Rattle.load_doors.specs.Tied.{AreTied}
-use Rattle.load_ties.proofs.Ends.{other_ends, refused_ended}
+use Rattle.seen_facts.proofs.LoadTies.Ends.{other_ends, refused_ended}
 use Rattle.log_model.specs.AfterRequests.{joined_accepted, without_req}
 use Rattle.log_model.specs.ActsAtOnce.{is_ready_load}
 use Rattle.log_model.specs.Equal.{has_req}
@@ -23,15 +23,15 @@ use Rattle.log_model.specs.Seen.{Asked, Seen, request_in}
 use Rattle.log_model.specs.declared.outcome.Denial.{Denial}
 use Rattle.log_model.specs.declared.request.Request.{Request}
 use Rattle.log_model.specs.declared.row_kind.RowKind.{RowKind}
-use Rattle.hang_facts.specs.Members.{Has}
+use Rattle.seen_facts.specs.Hang.Members.{Has}
 use Rattle.move_queue.specs.Queue.{Queue}
 use Rattle.move_queue.specs.declared.queue_step.QueueStep.{QueueStep}
 use Rattle.move_queue.specs.declared.queue_step.QueueStep.TheVariants.{Ready}
-use Rattle.request_facts.proofs.LookUps.{none_before, others_before}
-use Rattle.request_facts.proofs.Readers.{on_read}
-use Rattle.request_facts.proofs.Times.{times_none}
-use Rattle.request_facts.specs.Whereabouts.{times_found}
-use Rattle.rest_rows.proofs.Rows.{accepted_rests, refused_rests}
+use Rattle.seen_facts.proofs.Request.LookUps.{none_before, others_before}
+use Rattle.seen_facts.proofs.Request.Readers.{on_read}
+use Rattle.seen_facts.proofs.Request.Times.{times_none}
+use Rattle.seen_facts.specs.Request.Whereabouts.{times_found}
+use Rattle.row_facts.proofs.RestRows.Rows.{accepted_rests, refused_rests}
 use Rattle.seen_laws.proofs.InEvents.{now_more}
 use Rattle.seen_laws.specs.InEvent.{InEvent, now_of}
 use Rattle.std.proofs.Common.{List, None, Option, Some, [], ap, arith, false, filter, inl, inr, length, refl, subst, sym, true, ℕ, ◌++◌, ◌+◌, ◌-◌, ◌==◌, ◌∙◌, ◌∷◌, ◌≡◌, ◌⊎◌}
@@ -47,10 +47,10 @@ use Rattle.tab_doors.proofs.Requests.{ended_moved, moved_same, runs_ended_apart}
 use Rattle.tab_doors.proofs.Works.{goal_read, goal_same}
 use Rattle.tab_doors.specs.Look.{look_of as sights_of, moved_by}
 use Rattle.tab_doors.specs.declared.tables.Tables.{Tables}
-use Rattle.tab_events.proofs.Left.{between_left, keeps_all}
-use Rattle.tab_events.proofs.Ordered.{unrefused}
-use Rattle.tab_events.proofs.Requests.{AreLeft, others_left}
-use Rattle.tab_events.specs.Between.{IsBetween, has_order}
+use Rattle.tab_facts.proofs.TabEvents.Left.{between_left, keeps_all}
+use Rattle.tab_facts.proofs.TabEvents.Ordered.{unrefused}
+use Rattle.tab_facts.proofs.TabEvents.Requests.{AreLeft, others_left}
+use Rattle.tab_facts.specs.TabEvents.Between.{IsBetween, has_order}
 use Rattle.tab_settles.proofs.PassedOn.{first_refused_tab, refused_going}
 use Rattle.tab_ids.specs.declared.ReqId.{ReqId}
 use Rattle.tab_ids.specs.declared.StateId.{StateId}

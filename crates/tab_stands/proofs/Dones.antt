@@ -1,9 +1,9 @@
 -- A report tells that an order was done of which nothing was made: what the event's own row leaves; and all goes on where the order neither makes nor shows a document.
-use Rattle.coord_facts.specs.Leading.{held_back}
-use Rattle.frame_rows.specs.Lawful.{held_at_first}
-use Rattle.kept_facts.specs.Keeping.{state_in}
+use Rattle.seen_facts.specs.Coord.Leading.{held_back}
+use Rattle.row_facts.specs.FrameRows.Lawful.{held_at_first}
+use Rattle.seen_facts.specs.Kept.Keeping.{state_in}
 use Rattle.load_doors.specs.Tied.{AreTied}
-use Rattle.load_ties.proofs.Rows.{TellsNone, delivered_tied}
+use Rattle.seen_facts.proofs.LoadTies.Rows.{TellsNone, delivered_tied}
 use Rattle.log_model.specs.ActsAtOnce.{is_ready_load}
 use Rattle.log_model.specs.After.{documents_delivered}
 use Rattle.log_model.specs.AfterPlaces.{places_delivered}
@@ -45,7 +45,7 @@ use Rattle.tab_stands.proofs.Coming.{OnlyArrives}
 use Rattle.tab_stands.proofs.Reports.{told, told_comes, told_going, told_held, told_kept, told_legal, told_moved, told_now, told_rests, told_row, told_tied, told_turning}
 use Rattle.tab_stands.specs.Delivering.{IsDelivery, IsQuietTask}
 use Rattle.tab_stands.specs.Standing.{HasBegun, HasRoomFor, StandsFor}
-use Rattle.transit_facts.specs.Orders.{IsOutcomeOf}
+use Rattle.seen_facts.specs.Transit.Orders.{IsOutcomeOf}
 use Rattle.log_model.specs.declared.job.Task.TheVariants as tasks
 use Rattle.log_model.specs.declared.made.Report.TheVariants as reports
 use Rattle.log_model.specs.declared.outcome.Outcome.TheVariants as outcomes
@@ -164,7 +164,7 @@ module _ (e : InEvent) (proc : ProcId) (job : Job) (outcome : Outcome) (del : Is
   -- ---- it neither makes nor shows a document
 
   module _ (quiet : IsQuietTask job.task) where
-    quiet_asks : AsksNone job.task
+    pub quiet_asks : AsksNone job.task
     quiet_asks = by_task job.task quiet
       where
         by_task : (task : Task) → IsQuietTask task → AsksNone task
@@ -176,7 +176,7 @@ module _ (e : InEvent) (proc : ProcId) (job : Job) (outcome : Outcome) (del : Is
         by_task (tasks.Activate entry epoch long at memo address) never = absurd never
         by_task (tasks.Ask slot cause) never = absurd never
 
-    documents_same : did.documents ≡ s.documents
+    pub documents_same : did.documents ≡ s.documents
     documents_same =
         ap (λ (o : Option Report). documents_delivered s.documents o) del.first ∙ by_task job.task outcome quiet did_outcome
       where
@@ -190,7 +190,7 @@ module _ (e : InEvent) (proc : ProcId) (job : Job) (outcome : Outcome) (del : Is
         by_task (tasks.Ask slot cause) u never its = absurd never
         by_task _ _ is its = elim its [ ]
 
-    places_same : did.places ≡ s.places
+    pub places_same : did.places ≡ s.places
     places_same = ap (λ (o : Option Report). places_delivered s o) del.first ∙ by_task job.task refl quiet
       where
         by_task : (task : Task) → job.task ≡ task → IsQuietTask task → places_delivered s (Some (reports.Done job outcome None)) ≡ s.places

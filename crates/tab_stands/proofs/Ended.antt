@@ -1,8 +1,8 @@
 -- An event of the coordinator ends as the tab has come to rest: the coordinator stands for what the log has come to, and each row passes.
-use Rattle.frame_rows.proofs.LawfulLaws.{lawful_end}
-use Rattle.frame_whole.proofs.FlowsAlike.{EachIsTold, flows_told}
-use Rattle.hang_facts.proofs.Members.{find_has}
-use Rattle.hang_facts.specs.Members.{Has}
+use Rattle.row_facts.proofs.FrameRows.LawfulLaws.{lawful_end}
+use Rattle.tab_facts.proofs.FrameWhole.FlowsAlike.{EachIsTold, flows_told}
+use Rattle.seen_facts.proofs.Hang.Members.{find_has}
+use Rattle.seen_facts.specs.Hang.Members.{Has}
 use Rattle.load_doors.specs.Tied.{AreTied}
 use Rattle.log_model.specs.ActsAtOnce.{ends_told, is_told}
 use Rattle.log_model.specs.Equal.{holds, same_pair}
@@ -12,9 +12,9 @@ use Rattle.log_model.specs.declared.job.Why.{Why}
 use Rattle.log_model.specs.declared.made.Made.{Made}
 use Rattle.log_model.specs.declared.row_kind.RowKind.{RowKind}
 use Rattle.move_queue.specs.Queue.{Queue}
-use Rattle.order_facts.specs.Orders.{IsOfCoord}
-use Rattle.owed_facts.proofs.Ends.{owed_paid}
-use Rattle.rest_facts.proofs.Seated.{all_has}
+use Rattle.tab_facts.specs.Order.Orders.{IsOfCoord}
+use Rattle.row_facts.proofs.Owed.Ends.{owed_paid}
+use Rattle.seen_facts.proofs.Rest.Seated.{all_has}
 use Rattle.seen_laws.specs.Blocks.{EachPass}
 use Rattle.seen_laws.specs.InEvent.{IsTakenIn, now_of, row_of, start_of}
 use Rattle.std.proofs.Common.{List, None, Option, Some, [], map, subst, refl, true, ℕ, ◌==◌, ◌∷◌, ◌≡◌}
@@ -23,7 +23,7 @@ use Rattle.std.specs.Prelude.{is_some, option_and_then}
 use Rattle.tab_doors.proofs.Ahead.{none_lawful}
 use Rattle.tab_doors.specs.Working.{IsAtWork}
 use Rattle.tab_doors.specs.declared.tables.Tables.{Tables}
-use Rattle.tab_events.specs.Between.{IsBetween}
+use Rattle.tab_facts.specs.TabEvents.Between.{IsBetween}
 use Rattle.tab_ids.specs.declared.DocId.{DocId}
 use Rattle.tab_ids.specs.declared.ReqId.{ReqId}
 use Rattle.tab_ids.specs.declared.StateId.{StateId}

@@ -1,10 +1,10 @@
 -- Which navigables were shown a document, as their epochs and the orders on their way tell: over each row of an event, each of which passes.
-use Rattle.coord_facts.proofs.Unread.{next}
-use Rattle.desk_facts.proofs.Again.{AllStay, StaysIn, same_documents}
-use Rattle.desk_facts.proofs.Stays.{NoDeath, changed_stay, delivered_stay, finished_stay, made_stay, sent_stay}
-use Rattle.each_facts.specs.Items.{Each}
-use Rattle.hang_facts.proofs.Forms.{nav_is}
-use Rattle.hang_facts.specs.Members.{Has}
+use Rattle.seen_facts.proofs.Coord.Unread.{next}
+use Rattle.seen_facts.proofs.Desk.Again.{AllStay, StaysIn, same_documents}
+use Rattle.seen_facts.proofs.Desk.Stays.{NoDeath, changed_stay, delivered_stay, finished_stay, made_stay, sent_stay}
+use Rattle.seen_facts.specs.Each.Items.{Each}
+use Rattle.seen_facts.proofs.Hang.Forms.{nav_is}
+use Rattle.seen_facts.specs.Hang.Members.{Has}
 use Rattle.log_model.proofs.Refl.{nat_eq_refl}
 use Rattle.log_model.specs.AfterDocuments.{task_in_hand}
 use Rattle.log_model.specs.AfterPlaces.{activated, given_entry, new_place, on_place, place_arrived, places_applied, places_delivered, places_given, places_sent, sleepers_with, with_taker}
@@ -25,8 +25,8 @@ use Rattle.log_model.specs.declared.request.Request.{Request}
 use Rattle.log_model.specs.declared.row_kind.Actor.{Actor}
 use Rattle.log_model.specs.declared.row_kind.LogRow.{LogRow}
 use Rattle.log_model.specs.declared.row_kind.RowKind.{RowKind}
-use Rattle.mover_facts.proofs.Places.{WasThere, was_there}
-use Rattle.order_facts.specs.Orders.{IsOfCoord, TellsOf}
+use Rattle.seen_facts.proofs.Mover.Places.{WasThere, was_there}
+use Rattle.tab_facts.specs.Order.Orders.{IsOfCoord, TellsOf}
 use Rattle.seen_laws.specs.Blocks.{EachPass, Here, on_row, on_rows, point_at}
 use Rattle.seen_laws.proofs.InEvents.{now_own}
 use Rattle.seen_laws.specs.InEvent.{InEvent, first_of, now_of, row_of}
@@ -45,8 +45,8 @@ use Rattle.tab_ids.specs.declared.ProcId.{ProcId}
 use Rattle.tab_ids.specs.declared.ReqId.{ReqId}
 use Rattle.tab_stands.proofs.Epochs.{AllGoOn, GoesOn, IsQuiet, IsUnshown, LeavesShown, all_itself, all_then, goes_itself, map_goes, map_new, old_by, quiet_if, quietly_goes, quietly_new, quietly_under, slept_quiet, under_after}
 use Rattle.tab_stands.specs.Offs.{AreNewUnshown, AreShownUnder, IsOfEpoch, IsUnderEpoch, is_new_place}
-use Rattle.walk_facts.proofs.Placed.{found_nav}
-use Rattle.walk_facts.proofs.Sleepers.{becomes, place_becomes, shown_on, sleepers_of, slept, slept_same}
+use Rattle.seen_facts.proofs.Walk.Placed.{found_nav}
+use Rattle.seen_facts.proofs.Walk.Sleepers.{becomes, place_becomes, shown_on, sleepers_of, slept, slept_same}
 use Rattle.log_model.specs.declared.change.Change.TheVariants as changes
 use Rattle.log_model.specs.declared.job.Task.TheVariants as tasks
 use Rattle.log_model.specs.declared.made.Report.TheVariants as reports

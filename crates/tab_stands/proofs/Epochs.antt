@@ -1,6 +1,6 @@
 -- Which navigables were shown a document, as their epochs and the orders on their way tell: so it is after each row, where an order that shows a document does so under a greater epoch.
-use Rattle.coord_facts.proofs.Unread.{next}
-use Rattle.desk_facts.proofs.Again.{AllStay, StaysIn}
+use Rattle.seen_facts.proofs.Coord.Unread.{next}
+use Rattle.seen_facts.proofs.Desk.Again.{AllStay, StaysIn}
 use Rattle.log_model.specs.After.{documents_after}
 use Rattle.log_model.specs.AfterPlaces.{places_after}
 use Rattle.log_model.specs.History.{has_nav}
@@ -11,15 +11,15 @@ use Rattle.log_model.specs.declared.job.Task.{Task}
 use Rattle.log_model.specs.declared.job.Why.{Why}
 use Rattle.log_model.specs.declared.row_kind.Actor.{Actor}
 use Rattle.log_model.specs.declared.row_kind.RowKind.{RowKind}
-use Rattle.mover_facts.proofs.Places.{WasThere, place_then, was_there}
-use Rattle.order_facts.proofs.Rows.{IsWithin, orders_after, orders_on}
+use Rattle.seen_facts.proofs.Mover.Places.{WasThere, place_then, was_there}
+use Rattle.tab_facts.proofs.Order.Rows.{IsWithin, orders_after, orders_on}
 use Rattle.std.proofs.Common.{Bool, List, Some, ap, arith, cond, false, inl, inr, map, not, refl, subst, sym, true, ℕ, ◌&&◌, ◌<◌, ◌==◌, ◌||◌, ◌∙◌, ◌≡◌, ◌≤◌, ◌⊎◌}
 use Rattle.std.proofs.lemmas.Bool.Decides.{nat_tests}
 use Rattle.std.specs.Prelude.{option_map}
 use Rattle.tab_ids.specs.declared.Epoch.{Epoch}
 use Rattle.tab_ids.specs.declared.NavId.{NavId}
 use Rattle.tab_stands.specs.Offs.{AreNewUnshown, AreShownUnder, IsOfEpoch, IsTopShown, IsUnderEpoch, is_new_place}
-use Rattle.walk_facts.proofs.Sleepers.{slept}
+use Rattle.seen_facts.proofs.Walk.Sleepers.{slept}
 use Rattle.log_model.specs.declared.job.Task.TheVariants as tasks
 use Rattle.log_model.specs.declared.row_kind.RowKind.TheVariants as rows
 

@@ -1,6 +1,6 @@
 -- A traversal is accepted: it waits behind the others, and all goes on.
-use Rattle.hang_facts.proofs.Members.{has_more, into_more}
-use Rattle.hang_facts.specs.Members.{Has}
+use Rattle.seen_facts.proofs.Hang.Members.{has_more, into_more}
+use Rattle.seen_facts.specs.Hang.Members.{Has}
 use Rattle.log_model.specs.Causes.{denial_at_acceptance}
 use Rattle.log_model.specs.Once.{delta_of}
 use Rattle.log_model.specs.Places.{aim_of}
@@ -12,7 +12,7 @@ use Rattle.log_model.specs.declared.row_kind.RowKind.{RowKind}
 use Rattle.move_queue.specs.Queue.{Queue}
 use Rattle.move_queue.specs.declared.queue_step.QueueStep.{QueueStep}
 use Rattle.move_queue.specs.declared.queue_step.QueueStep.TheVariants.{Traverse}
-use Rattle.request_facts.specs.Knowns.{AreKnown}
+use Rattle.seen_facts.specs.Request.Knowns.{AreKnown}
 use Rattle.seen_laws.proofs.Processes.{go_passes}
 use Rattle.seen_laws.specs.Blocks.{EachPass}
 use Rattle.seen_laws.specs.InEvent.{AreLegal, InEvent, now_of, start_of}

@@ -1,7 +1,7 @@
 -- A report tells what a document made, and that is at hand, held back for the traversal that runs, or a traversal that joins the queue: all goes on.
-use Rattle.asked_facts.specs.Asking.{IsTabRequest}
-use Rattle.coord_facts.specs.Leading.{held_back}
-use Rattle.fragment_facts.proofs.Delivered.{held_then, unheld_then}
+use Rattle.seen_facts.specs.Asked.Asking.{IsTabRequest}
+use Rattle.seen_facts.specs.Coord.Leading.{held_back}
+use Rattle.seen_facts.proofs.Fragment.Delivered.{held_then, unheld_then}
 use Rattle.log_model.specs.ActsAtOnce.{is_ready_load}
 use Rattle.log_model.specs.AfterRequests.{changes_history, is_held_back, is_held_up, is_in_place, joined_delivered, made_of_report}
 use Rattle.log_model.specs.Causes.{takes_report}
@@ -18,9 +18,9 @@ use Rattle.log_model.specs.declared.request.Request.{Request}
 use Rattle.move_queue.specs.Queue.{Queue}
 use Rattle.move_queue.specs.declared.queue_step.QueueStep.{QueueStep}
 use Rattle.move_queue.specs.declared.queue_step.QueueStep.TheVariants.{Traverse}
-use Rattle.request_facts.proofs.Placings.{IsNoGo, unqueued}
-use Rattle.request_facts.specs.Cores.{Core}
-use Rattle.request_facts.specs.Knowns.{is_go}
+use Rattle.seen_facts.proofs.Request.Placings.{IsNoGo, unqueued}
+use Rattle.seen_facts.specs.Request.Cores.{Core}
+use Rattle.seen_facts.specs.Request.Knowns.{is_go}
 use Rattle.seen_laws.specs.InEvent.{InEvent, now_of}
 use Rattle.std.proofs.Common.{Bool, List, None, Option, Some, [], ap, eqb-true, false, filter, inl, inr, length, refl, subst, sym, true, ℕ, ℤ, ◌&&◌, ◌++◌, ◌==◌, ◌||◌, ◌∙◌, ◌∷◌, ◌≡◌, ◌⊎◌}
 use Rattle.std.proofs.lemmas.Bool.{and_parts}

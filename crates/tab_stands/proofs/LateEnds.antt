@@ -1,6 +1,6 @@
 -- A request that is no load with a document of its own ends: the last load that was applied is as it was, and where not all have stood since, they haven't, if not all stand.
-use Rattle.coord_facts.proofs.Held.{on_else}
-use Rattle.coord_facts.proofs.Unread.{next}
+use Rattle.seen_facts.proofs.Coord.Held.{on_else}
+use Rattle.seen_facts.proofs.Coord.Unread.{next}
 use Rattle.log_model.specs.After.{ended, is_new_step}
 use Rattle.log_model.specs.AfterRequests.{entries_taken, on_request}
 use Rattle.log_model.specs.Equal.{holds}
@@ -9,7 +9,7 @@ use Rattle.log_model.specs.Seen.{Asked, Seen, request_in, request_of}
 use Rattle.log_model.specs.declared.change.Change.{Change}
 use Rattle.log_model.specs.declared.outcome.Ending.{Ending}
 use Rattle.log_model.specs.declared.row_kind.RowKind.{RowKind}
-use Rattle.load_facts.proofs.Rows.{req_same}
+use Rattle.seen_facts.proofs.Load.Rows.{req_same}
 use Rattle.seen_laws.specs.InEvent.{InEvent, row_of}
 use Rattle.std.proofs.Common.{Bool, List, None, Option, Some, ap, false, not, refl, sym, true, ◌&&◌, ◌==◌, ◌||◌, ◌∙◌, ◌≡◌}
 use Rattle.std.specs.Prelude.{if◌then◌else◌}

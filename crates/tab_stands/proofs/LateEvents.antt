@@ -1,12 +1,12 @@
 -- Who is shown and late is so for the load that was applied last: so it is still once an event's own row was logged; and from it, what is known of why navigables don't stand.
-use Rattle.calm_facts.proofs.Awakes.{stand_each}
-use Rattle.calm_facts.specs.Calm.{IsCalm, IsHere}
+use Rattle.tab_facts.proofs.Calm.Awakes.{stand_each}
+use Rattle.tab_facts.specs.Calm.Calm.{IsCalm, IsHere}
 use Rattle.log_model.specs.Equal.{holds}
 use Rattle.log_model.specs.History.{History}
 use Rattle.log_model.specs.Places.{all_stand, has_arrived, is_awake, is_given_target, is_shown, is_standing, stands, top}
 use Rattle.log_model.specs.Seen.{Asked, Place, Seen, Status, asleep, awake, lost, place_in, place_of}
-use Rattle.mover_facts.proofs.Places.{WasThere, was_there}
-use Rattle.place_facts.specs.Standing.{AreStanding}
+use Rattle.seen_facts.proofs.Mover.Places.{WasThere, was_there}
+use Rattle.seen_facts.specs.Place.Standing.{AreStanding}
 use Rattle.std.proofs.Common.{Bool, List, None, Option, Some, ap, arith, false, inl, inr, not, refl, subst, suc, sym, true, zero, ℕ, ◌&&◌, ◌∙◌, ◌≡◌, ◌≤◌, ◌⊎◌}
 use Rattle.std.proofs.lemmas.Bool.{and_parts}
 use Rattle.tab_ids.specs.declared.DocId.{DocId}
@@ -20,7 +20,7 @@ use Rattle.tab_settles.specs.Settling.{IsCalmAfter}
 use Rattle.tab_stands.proofs.Coming.{IsAlike, IsComing}
 use Rattle.tab_stands.proofs.Epochs.{old_by}
 use Rattle.tab_stands.specs.Offs.{AreOffKnown, AreShownUnder, IsOffSince, is_new_place}
-use Rattle.walk_facts.proofs.Placed.{found_nav}
+use Rattle.seen_facts.proofs.Walk.Placed.{found_nav}
 
 -- ---- who is late doesn't stand
 

@@ -22,6 +22,7 @@ pub mod Reports
 pub mod Dones
 pub mod Shown
 pub mod Unmade
+pub mod Awaited
 pub mod Placed
 pub mod Placing
 pub mod Mades

@@ -1,6 +1,6 @@
 -- A load is accepted: it is at hand, and all goes on; and where a reason stands against it, too, the tables stand for what the log has come to.
 use Rattle.load_doors.specs.Tied.{AreTied}
-use Rattle.load_rows.proofs.Accepts.{load_passes}
+use Rattle.row_facts.proofs.LoadRows.Accepts.{load_passes}
 use Rattle.log_model.specs.Causes.{denial_at_acceptance}
 use Rattle.log_model.specs.Places.{aim_of}
 use Rattle.log_model.specs.Seen.{Asked, Seen, request_in, request_of}
@@ -10,7 +10,7 @@ use Rattle.log_model.specs.declared.row_kind.Actor.{Actor}
 use Rattle.log_model.specs.declared.row_kind.LogRow.{LogRow}
 use Rattle.log_model.specs.declared.row_kind.RowKind.{RowKind}
 use Rattle.move_queue.specs.Queue.{Queue}
-use Rattle.request_facts.specs.Knowns.{AreKnown}
+use Rattle.seen_facts.specs.Request.Knowns.{AreKnown}
 use Rattle.seen_laws.specs.Blocks.{EachPass}
 use Rattle.seen_laws.specs.InEvent.{AreLegal, InEvent, now_of, start_of}
 use Rattle.seen_laws.specs.Sending.{leads}

@@ -1,11 +1,11 @@
 -- A report tells what a document made: what is known of it and of its request, and what the event's own row leaves; and all goes on with it at hand.
-use Rattle.asked_facts.specs.Asking.{IsAskedPlainly, IsTabRequest}
-use Rattle.desk_facts.specs.Own.{IsFragmentTask, IsMadeIn, IsReportIn}
-use Rattle.fragment_facts.specs.Fragments.{IsFirstMadeOf, IsQuiet}
-use Rattle.frame_facts.specs.Lasting.{IsOfItsNav}
-use Rattle.kept_facts.specs.Keeping.{state_in}
+use Rattle.seen_facts.specs.Asked.Asking.{IsAskedPlainly, IsTabRequest}
+use Rattle.seen_facts.specs.Desk.Own.{IsFragmentTask, IsMadeIn, IsReportIn}
+use Rattle.seen_facts.specs.Fragment.Fragments.{IsFirstMadeOf, IsQuiet}
+use Rattle.tab_facts.specs.Frame.Lasting.{IsOfItsNav}
+use Rattle.seen_facts.specs.Kept.Keeping.{state_in}
 use Rattle.load_doors.specs.Tied.{AreTied}
-use Rattle.load_ties.proofs.Rows.{TellsNone, delivered_tied}
+use Rattle.seen_facts.proofs.LoadTies.Rows.{TellsNone, delivered_tied}
 use Rattle.log_model.specs.After.{documents_delivered}
 use Rattle.log_model.specs.AfterPlaces.{places_delivered}
 use Rattle.log_model.specs.AfterRequests.{changes_history, is_held_back, is_held_up, is_in_place, made_of_report, requests_delivered}
@@ -22,9 +22,9 @@ use Rattle.log_model.specs.declared.row_kind.Actor.{Actor}
 use Rattle.log_model.specs.declared.row_kind.LogRow.{LogRow}
 use Rattle.log_model.specs.declared.row_kind.RowKind.{RowKind}
 use Rattle.move_queue.specs.Queue.{Queue}
-use Rattle.request_facts.proofs.KnownMoved.{first_made}
-use Rattle.request_facts.specs.Cores.{Core, core, core_of}
-use Rattle.request_facts.specs.Knowns.{IsMadeOf}
+use Rattle.seen_facts.proofs.Request.KnownMoved.{first_made}
+use Rattle.seen_facts.specs.Request.Cores.{Core, core, core_of}
+use Rattle.seen_facts.specs.Request.Knowns.{IsMadeOf}
 use Rattle.seen_laws.specs.Blocks.{point_at}
 use Rattle.seen_laws.specs.InEvent.{InEvent, IsTakenIn, now_of, start_of}
 use Rattle.seen_laws.specs.Sending.{leads}
@@ -50,7 +50,7 @@ use Rattle.tab_stands.proofs.Reports.{told, told_comes, told_going, told_kept, t
 use Rattle.tab_stands.specs.Delivering.{IsDelivery, IsToldOf}
 use Rattle.tab_stands.specs.Standing.{HasBegun, HasRoomFor, StandsFor}
 use Rattle.tab_settles.proofs.PassedOn.{its_report}
-use Rattle.transit_facts.specs.Orders.{IsOutcomeOf}
+use Rattle.seen_facts.specs.Transit.Orders.{IsOutcomeOf}
 use Rattle.log_model.specs.declared.job.Task.TheVariants as tasks
 use Rattle.log_model.specs.declared.made.Report.TheVariants as reports
 use Rattle.log_model.specs.declared.made.What.TheVariants as whats

@@ -1,15 +1,15 @@
 -- One more request is there, which does nothing yet, or nothing any more: each that was there is there, and what comes is as it was.
-use Rattle.calm_facts.proofs.Loads.{loads_same}
-use Rattle.each_facts.proofs.Earlier.{still_there}
-use Rattle.left_facts.specs.Left.{WereShown}
-use Rattle.load_facts.specs.Loading.{Look, is_ongoing, look, look_of}
+use Rattle.tab_facts.proofs.Calm.Loads.{loads_same}
+use Rattle.seen_facts.proofs.Each.Earlier.{still_there}
+use Rattle.row_facts.specs.Left.Left.{WereShown}
+use Rattle.seen_facts.specs.Load.Loading.{Look, is_ongoing, look, look_of}
 use Rattle.log_model.specs.Checks.{is_checked}
 use Rattle.log_model.specs.Equal.{holds, implies}
 use Rattle.log_model.specs.History.{has_nav}
 use Rattle.log_model.specs.Orders.{ongoing_load}
 use Rattle.log_model.specs.Places.{all_stand, has_passed, is_moved, is_ongoing_load, is_traversal, is_under_way}
 use Rattle.log_model.specs.Seen.{Asked, Seen, request_in, request_of}
-use Rattle.request_facts.proofs.LookUps.{one_more, others_before}
+use Rattle.seen_facts.proofs.Request.LookUps.{one_more, others_before}
 use Rattle.std.proofs.Common.{Bool, List, None, Option, Some, [], ap, arith, cond, eqb-true, false, filter, inl, inr, length, refl, sym, true, ℕ, ◌&&◌, ◌++◌, ◌+◌, ◌==◌, ◌∙◌, ◌∷◌, ◌≡◌, ◌⊎◌}
 use Rattle.std.proofs.lemmas.List.{map-id}
 use Rattle.std.specs.Prelude.{find, option_map}

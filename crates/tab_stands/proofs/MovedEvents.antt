@@ -1,7 +1,7 @@
 -- Where a traversal runs, who is awake and was moved by it was shown a document by it: so it is still as an event begins, once its own row was logged.
-use Rattle.asked_facts.specs.Asking.{ArePlain, IsThere}
+use Rattle.seen_facts.specs.Asked.Asking.{ArePlain, IsThere}
 use Rattle.log_model.specs.Seen.{Asked, Place, Seen, awake, place_in, place_of, request_of}
-use Rattle.mover_facts.proofs.Places.{WasThere, was_there}
+use Rattle.seen_facts.proofs.Mover.Places.{WasThere, was_there}
 use Rattle.std.proofs.Common.{List, None, Option, Some, ap, refl, sym, ◌∙◌, ◌≡◌}
 use Rattle.tab_ids.specs.declared.DocId.{DocId}
 use Rattle.tab_ids.specs.declared.NavId.{NavId}
@@ -10,7 +10,7 @@ use Rattle.tab_ids.specs.declared.StateId.{StateId}
 use Rattle.tab_settles.proofs.MovedRows.{shown_back, shown_idle}
 use Rattle.tab_settles.specs.Settling.{MovedAreShown}
 use Rattle.tab_stands.proofs.Coming.{IsComing}
-use Rattle.walk_rows.specs.Since.{WasAwake}
+use Rattle.row_facts.specs.WalkRows.Since.{WasAwake}
 
 module _ (blame : List (StateId × ReqId)) (s n : Seen) (comes : IsComing blame s n) where
   -- who is awake was so

@@ -1,14 +1,14 @@
 -- The coordinator of a tab that was just opened stands for its log.
 use Rattle.log_model.specs.declared.job.Job.{Job}
-use Rattle.place_facts.specs.Standing.{AreStanding}
-use Rattle.order_facts.specs.Orders.{AreOrders, EachOrder}
+use Rattle.seen_facts.specs.Place.Standing.{AreStanding}
+use Rattle.tab_facts.specs.Order.Orders.{AreOrders, EachOrder}
 use Rattle.tab_settles.specs.Settling.{IsMake, IsSoundTask}
-use Rattle.calm_facts.specs.Calm.{IsCalm}
-use Rattle.hang_facts.specs.Members.{Has}
-use Rattle.last_facts.proofs.Rows.{opened_lasting}
-use Rattle.left_facts.proofs.Rows.{opened_were}
+use Rattle.tab_facts.specs.Calm.Calm.{IsCalm}
+use Rattle.seen_facts.specs.Hang.Members.{Has}
+use Rattle.tab_facts.proofs.Last.Rows.{opened_lasting}
+use Rattle.row_facts.proofs.Left.Rows.{opened_were}
 use Rattle.load_doors.specs.Tied.{AreTied as IsTiedTo}
-use Rattle.load_ties.proofs.Rows.{opened_tied}
+use Rattle.seen_facts.proofs.LoadTies.Rows.{opened_tied}
 use Rattle.log_model.specs.AfterDocuments.{opening_document}
 use Rattle.log_model.specs.AfterPlaces.{opening_place}
 use Rattle.log_model.specs.Places.{is_awake, is_given_target, is_shown}
@@ -29,8 +29,8 @@ use Rattle.tab_doors.specs.Noting.{IsFresh}
 use Rattle.tab_doors.specs.Ties.{AreHeld, AreLast, AreListed, AreShown, AreTied, AreWhose, Holds, IsListed, birth_of, is_doc}
 use Rattle.tab_doors.specs.declared.birth.Birth.{Birth}
 use Rattle.tab_doors.specs.declared.tables.Tables.{Tables}
-use Rattle.tab_events.proofs.Opened.{opened_between}
-use Rattle.tab_events.specs.Between.{IsBetween}
+use Rattle.tab_facts.proofs.TabEvents.Opened.{opened_between}
+use Rattle.tab_facts.specs.TabEvents.Between.{IsBetween}
 use Rattle.tab_ids.specs.declared.DocId.{DocId}
 use Rattle.tab_ids.specs.declared.JobId.{JobId}
 use Rattle.tab_ids.specs.declared.NavId.{NavId}

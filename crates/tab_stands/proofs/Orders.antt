@@ -1,12 +1,12 @@
 -- Orders on their way that make documents are for what orders may be for, over an event's own row and a refusal.
-use Rattle.coord_facts.proofs.Unread.{next}
+use Rattle.seen_facts.proofs.Coord.Unread.{next}
 use Rattle.log_model.specs.Seen.{Asked, Seen}
 use Rattle.log_model.specs.declared.job.Job.{Job}
 use Rattle.log_model.specs.declared.outcome.Denial.{Denial}
 use Rattle.log_model.specs.declared.row_kind.Actor.{Actor}
 use Rattle.log_model.specs.declared.row_kind.RowKind.{RowKind}
-use Rattle.order_facts.proofs.Rows.{IsWithin, orders_after, orders_on}
-use Rattle.order_facts.specs.Orders.{AreOrders, IsOfCoord}
+use Rattle.tab_facts.proofs.Order.Rows.{IsWithin, orders_after, orders_on}
+use Rattle.tab_facts.specs.Order.Orders.{AreOrders, IsOfCoord}
 use Rattle.seen_laws.proofs.InEvents.{now_own}
 use Rattle.seen_laws.specs.InEvent.{InEvent, now_of}
 use Rattle.seen_laws.specs.Sending.{leads}

@@ -1,5 +1,5 @@
 -- What a document made is held back in the log just where the tables judge it to wait.
-use Rattle.doc_facts.specs.Docs.{HasPlace}
+use Rattle.seen_facts.specs.Doc.Docs.{HasPlace}
 use Rattle.log_model.specs.AfterRequests.{changes_history, is_held_back, is_held_up, is_in_place}
 use Rattle.log_model.specs.Equal.{holds}
 use Rattle.log_model.specs.History.{has_nav, has_row}
@@ -7,12 +7,12 @@ use Rattle.log_model.specs.Places.{is_awake, is_present, running_traversal}
 use Rattle.log_model.specs.Seen.{Asked, Document, Place, Seen, Status, asleep, awake, document_of, lost, place_of, request_in}
 use Rattle.log_model.specs.declared.made.Made.{Made}
 use Rattle.log_model.specs.declared.made.Report.{Report}
-use Rattle.asked_facts.specs.Asking.{IsThere}
+use Rattle.seen_facts.specs.Asked.Asking.{IsThere}
 use Rattle.move_queue.specs.Queue.{Queue}
 use Rattle.nav_tree.specs.declared.node.Node.{Node}
 use Rattle.nav_tree.specs.declared.status.NavStatus.{NavStatus}
 use Rattle.nav_tree.specs.declared.status.NavStatus.TheVariants as kept
-use Rattle.place_facts.specs.Standing.{IsAskedBy}
+use Rattle.seen_facts.specs.Place.Standing.{IsAskedBy}
 use Rattle.seen_laws.specs.InEvent.{InEvent}
 use Rattle.std.proofs.Common.{Bool, List, None, Option, Some, ap, false, refl, sym, true, ◌&&◌, ◌==◌, ◌∙◌, ◌≡◌}
 use Rattle.std.proofs.lemmas.Bool.{and_parts}

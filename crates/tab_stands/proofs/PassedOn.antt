@@ -7,3 +7,4 @@ pub use Rattle.tab_settles.proofs.PutOuts.{sent_homes}
 pub use Rattle.tab_settles.proofs.Puts.{cause_more, put_makes}
 pub use Rattle.tab_settles.proofs.Sounds.{KeepsWhat, put_sound, sound_more, sound_on}
 pub use Rattle.tab_settles.proofs.Stood.{theirs_over}
+pub use Rattle.tab_settles.proofs.Unsettled.{leaves_unsettled, taken_moves}

@@ -1,11 +1,11 @@
 -- A report tells that a document was made: what the event's own row leaves of documents, and of the loads that have them.
-use Rattle.calm_facts.proofs.Loads.{HasOne, loads_then}
-use Rattle.calm_facts.specs.Loads.{LoadsHaveDocuments}
-use Rattle.home_facts.specs.Homes.{IsHomed, document_in}
-use Rattle.kept_facts.specs.Keeping.{state_in}
-use Rattle.left_facts.proofs.Rows.{were_shown}
-use Rattle.load_facts.specs.Loading.{look}
-use Rattle.hang_facts.proofs.Members.{find_has}
+use Rattle.tab_facts.proofs.Calm.Loads.{HasOne, loads_then}
+use Rattle.tab_facts.specs.Calm.Loads.{LoadsHaveDocuments}
+use Rattle.seen_facts.specs.Home.Homes.{IsHomed, document_in}
+use Rattle.seen_facts.specs.Kept.Keeping.{state_in}
+use Rattle.row_facts.proofs.Left.Rows.{were_shown}
+use Rattle.seen_facts.specs.Load.Loading.{look}
+use Rattle.seen_facts.proofs.Hang.Members.{find_has}
 use Rattle.log_model.proofs.Refl.{nat_eq_refl}
 use Rattle.log_model.specs.History.{has_row}
 use Rattle.log_model.specs.Orders.{is_being_made, is_usable, ongoing_load}
@@ -15,7 +15,7 @@ use Rattle.log_model.specs.declared.job.Job.{Job}
 use Rattle.log_model.specs.declared.job.Task.{Task}
 use Rattle.log_model.specs.declared.outcome.Outcome.{Outcome}
 use Rattle.move_queue.specs.Queue.{Queue}
-use Rattle.place_facts.proofs.Documents.{KeepStates, states_stay}
+use Rattle.seen_facts.proofs.Place.Documents.{KeepStates, states_stay}
 use Rattle.seen_laws.proofs.Keyed.{find_map}
 use Rattle.seen_laws.specs.InEvent.{InEvent, now_of}
 use Rattle.std.proofs.Common.{Bool, List, None, Option, Some, [], ap, cond, eqb-true, false, inl, inr, map, not, refl, subst, sym, true, ℕ, ◌&&◌, ◌==◌, ◌∙◌, ◌∷◌, ◌≡◌, ◌⊎◌}

@@ -1,14 +1,14 @@
 -- A report tells that a document was made: it is noted, the step of the load that waited for it joins the queue, and all goes on.
-use Rattle.hang_facts.proofs.Members.{IsOf, Passing, any_has, find_has, has_any, has_found, has_map}
-use Rattle.hang_facts.specs.Members.{Has}
-use Rattle.kept_facts.specs.Keeping.{state_in}
+use Rattle.seen_facts.proofs.Hang.Members.{IsOf, Passing, any_has, find_has, has_any, has_found, has_map}
+use Rattle.seen_facts.specs.Hang.Members.{Has}
+use Rattle.seen_facts.specs.Kept.Keeping.{state_in}
 use Rattle.load_doors.specs.Tied.{AreTied}
 use Rattle.load_table.specs.Loads.{HasOneEach, is_populating, makes, ongoing_load}
 use Rattle.load_table.specs.declared.load.Load.{Load}
 use Rattle.load_table.specs.declared.phase.Phase.{Phase}
-use Rattle.load_ties.proofs.Begins.{found_nav}
-use Rattle.load_ties.proofs.Waits.{waits_once}
-use Rattle.load_ties.specs.Tying.{HasLoad, IsLoadTied, TiesLoads, is_for_state, made_for, phase_with}
+use Rattle.seen_facts.proofs.LoadTies.Begins.{found_nav}
+use Rattle.seen_facts.proofs.LoadTies.Waits.{waits_once}
+use Rattle.seen_facts.specs.LoadTies.Tying.{HasLoad, IsLoadTied, TiesLoads, is_for_state, made_for, phase_with}
 use Rattle.log_model.proofs.Refl.{nat_eq_refl}
 use Rattle.log_model.specs.ActsAtOnce.{has_document, is_ready_load}
 use Rattle.log_model.specs.Equal.{holds}
@@ -25,7 +25,7 @@ use Rattle.move_queue.specs.Queue.{Queue}
 use Rattle.move_queue.specs.declared.queue_step.QueueStep.{QueueStep}
 use Rattle.move_queue.specs.declared.queue_step.QueueStep.TheVariants.{Ready}
 use Rattle.page_cache.specs.Kept.{Kept}
-use Rattle.rest_facts.proofs.Still.{found_itself}
+use Rattle.seen_facts.proofs.Rest.Still.{found_itself}
 use Rattle.seen_laws.proofs.Sendings.{both}
 use Rattle.seen_laws.specs.InEvent.{InEvent, now_of}
 use Rattle.seen_laws.specs.Sending.{leads}

@@ -2,8 +2,8 @@
 use Rattle.log_model.specs.declared.row_kind.RowKind.{RowKind}
 use Rattle.seen_laws.specs.Sending.{leads}
 use Rattle.tab_stands.proofs.Orders.{keeps_coming, makes_first, sound_first}
-use Rattle.frame_facts.specs.Lasting.{IsOfItsNav, wish}
-use Rattle.asked_facts.specs.Asking.{IsNoEditing}
+use Rattle.tab_facts.specs.Frame.Lasting.{IsOfItsNav, wish}
+use Rattle.seen_facts.specs.Asked.Asking.{IsNoEditing}
 use Rattle.log_model.specs.After.{new_request}
 use Rattle.log_model.specs.Seen.{Seen}
 use Rattle.log_model.specs.declared.action.Action.{Action}
@@ -15,8 +15,8 @@ use Rattle.seen_laws.specs.Blocks.{EachPass}
 use Rattle.seen_laws.specs.InEvent.{InEvent, now_of, start_of}
 use Rattle.std.proofs.Common.{List, Option, Some, [], ap, length, refl, subst, sym, ◌+◌, ◌∷◌, ◌≡◌}
 use Rattle.tab_doors.specs.declared.tables.Tables.{Tables}
-use Rattle.tab_events.proofs.Poking.{poked_between}
-use Rattle.tab_events.specs.Between.{IsBetween}
+use Rattle.tab_facts.proofs.TabEvents.Poking.{poked_between}
+use Rattle.tab_facts.specs.TabEvents.Between.{IsBetween}
 use Rattle.tab_ids.specs.declared.DocId.{DocId}
 use Rattle.tab_ids.specs.declared.NavId.{NavId}
 use Rattle.tab_ids.specs.declared.ReqId.{ReqId}

@@ -1,5 +1,5 @@
 -- An event has begun with nothing at hand of what documents made: the tab may be brought to rest.
-use Rattle.calm_facts.specs.Calm.{AreRooted, CalmUnless, IsCalmYet, UnmovedAreHere}
+use Rattle.tab_facts.specs.Calm.Calm.{AreRooted, CalmUnless, IsCalmYet, UnmovedAreHere}
 use Rattle.log_model.specs.Seen.{Seen}
 use Rattle.log_model.specs.declared.job.Why.{Why}
 use Rattle.move_queue.specs.Queue.{Queue}

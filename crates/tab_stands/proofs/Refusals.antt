@@ -1,6 +1,6 @@
 -- A load that a reason stands against is accepted and refused, and so is a poke that reaches no document: the event ends with that, and the coordinator stands for the log still.
-use Rattle.asked_facts.specs.Asking.{IsNoEditing}
-use Rattle.load_rows.proofs.Accepts.{denied_load_may}
+use Rattle.seen_facts.specs.Asked.Asking.{IsNoEditing}
+use Rattle.row_facts.proofs.LoadRows.Accepts.{denied_load_may}
 use Rattle.log_model.specs.After.{new_request}
 use Rattle.log_model.specs.Causes.{denial_at_acceptance, denial_of_poke}
 use Rattle.log_model.specs.declared.action.Action.{Action}

@@ -1,18 +1,18 @@
 -- A report is delivered that answers no question: what is known of it, and what the event's own row leaves, whatever the report tells.
-use Rattle.asked_facts.proofs.Rows.{delivered_plain}
-use Rattle.asked_facts.specs.Asking.{ArePlain}
-use Rattle.calm_facts.proofs.Loads.{loads_same}
-use Rattle.coord_facts.proofs.Unread.{next}
-use Rattle.desk_facts.proofs.Stays.{NoDeath}
-use Rattle.each_facts.specs.Runs.{EachAsked}
-use Rattle.frame_facts.specs.Lasting.{wish}
-use Rattle.home_facts.specs.Homes.{document_in}
-use Rattle.kept_facts.specs.Keeping.{kept_states}
-use Rattle.last_facts.proofs.Rows.{delivered_lasting}
-use Rattle.left_facts.proofs.Rows.{were_shown}
+use Rattle.seen_facts.proofs.Asked.Rows.{delivered_plain}
+use Rattle.seen_facts.specs.Asked.Asking.{ArePlain}
+use Rattle.tab_facts.proofs.Calm.Loads.{loads_same}
+use Rattle.seen_facts.proofs.Coord.Unread.{next}
+use Rattle.seen_facts.proofs.Desk.Stays.{NoDeath}
+use Rattle.seen_facts.specs.Each.Runs.{EachAsked}
+use Rattle.tab_facts.specs.Frame.Lasting.{wish}
+use Rattle.seen_facts.specs.Home.Homes.{document_in}
+use Rattle.seen_facts.specs.Kept.Keeping.{kept_states}
+use Rattle.tab_facts.proofs.Last.Rows.{delivered_lasting}
+use Rattle.row_facts.proofs.Left.Rows.{were_shown}
 use Rattle.load_doors.specs.Tied.{AreTied}
-use Rattle.load_facts.specs.Loading.{Look, is_ongoing, look, look_of}
-use Rattle.load_ties.specs.Tying.{TiesLoads}
+use Rattle.seen_facts.specs.Load.Loading.{Look, is_ongoing, look, look_of}
+use Rattle.seen_facts.specs.LoadTies.Tying.{TiesLoads}
 use Rattle.log_model.specs.AfterPlaces.{kept_delivered}
 use Rattle.log_model.specs.Causes.{denial_at_acceptance}
 use Rattle.log_model.specs.Checks.{is_settled_by}
@@ -28,10 +28,10 @@ use Rattle.log_model.specs.declared.row_kind.Actor.{Actor}
 use Rattle.log_model.specs.declared.row_kind.LogRow.{LogRow}
 use Rattle.log_model.specs.declared.row_kind.RowKind.{RowKind}
 use Rattle.move_queue.specs.Queue.{Queue}
-use Rattle.request_facts.specs.Knowns.{AreKnown}
-use Rattle.rest_facts.proofs.Stands.{all_requests}
-use Rattle.rest_rows.proofs.Rows.{delivered_rests}
-use Rattle.rest_rows.specs.Moving.{AllRest}
+use Rattle.seen_facts.specs.Request.Knowns.{AreKnown}
+use Rattle.seen_facts.proofs.Rest.Stands.{all_requests}
+use Rattle.row_facts.proofs.RestRows.Rows.{delivered_rests}
+use Rattle.row_facts.specs.RestRows.Moving.{AllRest}
 use Rattle.seen_laws.proofs.Deliveries.{delivered_may, delivered_row}
 use Rattle.seen_laws.proofs.InEvents.{now_own}
 use Rattle.seen_laws.specs.Blocks.{EachPass, point_at}
@@ -44,7 +44,7 @@ use Rattle.tab_doors.specs.Look.{look_of as sights_of, moved_by}
 use Rattle.tab_doors.specs.Ties.{AreInitial, Holds, IsRunning}
 use Rattle.tab_doors.specs.Working.{HasGoal, KeepsRun}
 use Rattle.tab_doors.specs.declared.tables.Tables.{Tables}
-use Rattle.tab_events.specs.Between.{IsBetween}
+use Rattle.tab_facts.specs.TabEvents.Between.{IsBetween}
 use Rattle.tab_settles.proofs.Lates.{unstood_by}
 use Rattle.tab_settles.proofs.PassedOn.{AreUpTo, IsBegun, causes_on, fine, serve_on, steps_still, turning_first}
 use Rattle.tab_settles.specs.PassedOn.{AreHeldUp, AreLeftStrays, IsGoing, IsStray, IsTab, LoadsMadeOwn, MayCause, count_of, has_ended, has_spent}

@@ -1,9 +1,9 @@
 -- A report tells that an order showed its document: its navigable may stand then, which is noted, and all goes on.
-use Rattle.calm_facts.proofs.Sames.{sight_of}
-use Rattle.desk_facts.specs.Own.{IsOrderIn}
-use Rattle.kept_facts.specs.Keeping.{state_in}
+use Rattle.tab_facts.proofs.Calm.Sames.{sight_of}
+use Rattle.seen_facts.specs.Desk.Own.{IsOrderIn}
+use Rattle.seen_facts.specs.Kept.Keeping.{state_in}
 use Rattle.load_doors.specs.Tied.{AreTied}
-use Rattle.load_ties.proofs.Rows.{TellsNone, delivered_tied}
+use Rattle.seen_facts.proofs.LoadTies.Rows.{TellsNone, delivered_tied}
 use Rattle.log_model.specs.After.{documents_delivered}
 use Rattle.log_model.specs.AfterPlaces.{on_place, place_arrived, places_delivered}
 use Rattle.log_model.specs.Places.{has_arrived}
@@ -15,7 +15,7 @@ use Rattle.log_model.specs.declared.outcome.Outcome.{Outcome}
 use Rattle.log_model.specs.declared.row_kind.Actor.{Actor}
 use Rattle.log_model.specs.declared.row_kind.RowKind.{RowKind}
 use Rattle.move_queue.specs.Queue.{Queue}
-use Rattle.mover_facts.proofs.Places.{WasThere, was_there}
+use Rattle.seen_facts.proofs.Mover.Places.{WasThere, was_there}
 use Rattle.nav_tree.specs.Tree.{node_of}
 use Rattle.nav_tree.specs.declared.node.Node.{Node}
 use Rattle.seen_laws.specs.InEvent.{InEvent, now_of}
@@ -47,7 +47,7 @@ use Rattle.tab_stands.proofs.Dones.{AsksNone, did, did_outcome, did_parked, did_
 use Rattle.tab_stands.proofs.Reports.{told_comes, told_going, told_held, told_kept, told_legal, told_moved, told_rests, told_tied}
 use Rattle.tab_stands.specs.Delivering.{IsDelivery, IsShowTask}
 use Rattle.tab_stands.specs.Standing.{HasBegun, HasRoomFor, StandsFor}
-use Rattle.transit_facts.specs.Orders.{IsOutcomeOf}
+use Rattle.seen_facts.specs.Transit.Orders.{IsOutcomeOf}
 use Rattle.log_model.specs.declared.job.Task.TheVariants as tasks
 use Rattle.log_model.specs.declared.made.Report.TheVariants as reports
 use Rattle.log_model.specs.declared.outcome.Outcome.TheVariants as outcomes

@@ -6,7 +6,7 @@ use Rattle.seen_laws.specs.InEvent.{InEvent}
 use Rattle.std.proofs.Common.{List, []}
 use Rattle.tab_settles.specs.PassedOn.{AreLeftStrays, HasQueue, IsGoing}
 use Rattle.tab_doors.specs.declared.tables.Tables.{Tables}
-use Rattle.tab_events.specs.Between.{IsBetween}
+use Rattle.tab_facts.specs.TabEvents.Between.{IsBetween}
 use Rattle.tab_ids.specs.declared.ReqId.{ReqId}
 use Rattle.tab_ids.specs.declared.StateId.{StateId}
 use Rattle.tab_settles.specs.Settling.{HoldsParked, IsCalmAfter, MakesServe, OrdersAreSound}

@@ -1,13 +1,13 @@
 -- What a document made was taken up, refused or dropped as its report was delivered: the tab may be brought to rest.
-use Rattle.asked_facts.specs.Asking.{IsTabRequest}
-use Rattle.calm_facts.specs.Calm.{IsCalm, IsHere}
-use Rattle.coord_facts.proofs.Held.{held_alike, without_same}
-use Rattle.coord_facts.proofs.Unread.{next}
-use Rattle.coord_facts.specs.Leading.{held_back}
-use Rattle.each_facts.proofs.Courses.{was_asked}
-use Rattle.entry_facts.proofs.Skips.{without_made}
-use Rattle.frame_facts.specs.Lasting.{Wish, wish}
-use Rattle.frame_rows.specs.Lawful.{has_traversed}
+use Rattle.seen_facts.specs.Asked.Asking.{IsTabRequest}
+use Rattle.tab_facts.specs.Calm.Calm.{IsCalm, IsHere}
+use Rattle.seen_facts.proofs.Coord.Held.{held_alike, without_same}
+use Rattle.seen_facts.proofs.Coord.Unread.{next}
+use Rattle.seen_facts.specs.Coord.Leading.{held_back}
+use Rattle.seen_facts.proofs.Each.Courses.{was_asked}
+use Rattle.seen_facts.proofs.Entry.Skips.{without_made}
+use Rattle.tab_facts.specs.Frame.Lasting.{Wish, wish}
+use Rattle.row_facts.specs.FrameRows.Lawful.{has_traversed}
 use Rattle.log_model.specs.AfterRequests.{changes_history, is_held_back}
 use Rattle.log_model.specs.Equal.{has_req, implies}
 use Rattle.log_model.specs.History.{History}
@@ -21,8 +21,8 @@ use Rattle.log_model.specs.declared.request.Request.{Request}
 use Rattle.log_model.specs.declared.row_kind.LogRow.{LogRow}
 use Rattle.log_model.specs.declared.row_kind.RowKind.{RowKind}
 use Rattle.move_queue.specs.Queue.{Queue}
-use Rattle.request_facts.proofs.Readers.{SameReads}
-use Rattle.request_facts.proofs.Times.{itself}
+use Rattle.seen_facts.proofs.Request.Readers.{SameReads}
+use Rattle.seen_facts.proofs.Request.Times.{itself}
 use Rattle.seen_laws.proofs.InEvents.{now_more}
 use Rattle.seen_laws.specs.Blocks.{point_at}
 use Rattle.seen_laws.specs.InEvent.{InEvent, IsTakenIn, now_of, row_of, start_of}
@@ -57,7 +57,7 @@ use Rattle.tab_stands.proofs.Taking.{begun, there_now, unparked_now, unstarted}
 use Rattle.tab_stands.specs.Delivering.{IsDelivery, IsToldOf}
 use Rattle.tab_stands.specs.Offs.{AreOffKnown, IsOffSince}
 use Rattle.tab_stands.specs.Standing.{HasBegun, HasRoomFor, IsTakenUp, StandsFor}
-use Rattle.walk_facts.proofs.Placed.{found_nav}
+use Rattle.seen_facts.proofs.Walk.Placed.{found_nav}
 use Rattle.log_model.specs.declared.request.Request.TheVariants as requests
 use Rattle.log_model.specs.declared.job.Why.TheVariants as whys
 

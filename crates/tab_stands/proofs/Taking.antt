@@ -1,9 +1,9 @@
 -- What a document made that changes the history is at hand as its report is delivered: it may be taken up, refused or dropped.
-use Rattle.asked_facts.proofs.Plainly.{plain_passes}
-use Rattle.asked_facts.specs.Asking.{IsTabRequest, IsThere}
-use Rattle.frame_rows.proofs.LawfulLaws.{ends_other}
-use Rattle.frame_rows.specs.Taking.{IsTakenNow}
-use Rattle.load_facts.specs.Loading.{IsLoading, is_ongoing, look}
+use Rattle.seen_facts.proofs.Asked.Plainly.{plain_passes}
+use Rattle.seen_facts.specs.Asked.Asking.{IsTabRequest, IsThere}
+use Rattle.row_facts.proofs.FrameRows.LawfulLaws.{ends_other}
+use Rattle.row_facts.specs.FrameRows.Taking.{IsTakenNow}
+use Rattle.seen_facts.specs.Load.Loading.{IsLoading, is_ongoing, look}
 use Rattle.log_model.specs.AfterPlaces.{report_taken}
 use Rattle.log_model.specs.AfterRequests.{changes_history, is_held_back, made_of_report}
 use Rattle.log_model.specs.Causes.{takes_report}
@@ -18,15 +18,15 @@ use Rattle.log_model.specs.declared.made.Report.{Report}
 use Rattle.log_model.specs.declared.made.What.{What}
 use Rattle.log_model.specs.declared.request.Request.{Request}
 use Rattle.log_model.specs.declared.row_kind.RowKind.{RowKind}
-use Rattle.home_facts.specs.Homes.{document_in}
+use Rattle.seen_facts.specs.Home.Homes.{document_in}
 use Rattle.move_queue.specs.Queue.{Queue}
-use Rattle.request_facts.proofs.Endings.{due_small}
-use Rattle.request_facts.proofs.Placings.{IsNoGo}
-use Rattle.request_facts.proofs.Times.{itself, times_none}
-use Rattle.request_facts.specs.Cores.{Core}
-use Rattle.request_facts.specs.Knowns.{is_go}
-use Rattle.request_facts.specs.Whereabouts.{times, times_due, times_found}
-use Rattle.load_whereabouts.specs.Whereabouts.{times_on_way}
+use Rattle.seen_facts.proofs.Request.Endings.{due_small}
+use Rattle.seen_facts.proofs.Request.Placings.{IsNoGo}
+use Rattle.seen_facts.proofs.Request.Times.{itself, times_none}
+use Rattle.seen_facts.specs.Request.Cores.{Core}
+use Rattle.seen_facts.specs.Request.Knowns.{is_go}
+use Rattle.seen_facts.specs.Request.Whereabouts.{times, times_due, times_found}
+use Rattle.seen_facts.specs.LoadWhereabouts.Whereabouts.{times_on_way}
 use Rattle.seen_laws.proofs.Sums.{over}
 use Rattle.seen_laws.specs.InEvent.{InEvent, here_of, now_of, row_of}
 use Rattle.std.proofs.Common.{Bool, List, None, Option, Some, [], ap, arith, false, inl, inr, length, refl, sym, true, ◌+◌, ◌==◌, ◌||◌, ◌∙◌, ◌∷◌, ◌≡◌, ◌≤◌, ◌⊎◌}

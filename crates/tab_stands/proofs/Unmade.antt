@@ -1,10 +1,10 @@
 -- A report tells that a document was made: what is known of it before, in the log and in the tables.
-use Rattle.desk_facts.specs.Own.{IsOrderIn}
-use Rattle.doc_facts.specs.Docs.{IsLive, makes_at, makes_due, makes_it, makes_told}
-use Rattle.each_facts.proofs.Eaches.{each_first}
-use Rattle.frame_facts.specs.Lasting.{IsOfState, TellsItsState}
-use Rattle.hang_facts.proofs.Members.{has_any, has_map}
-use Rattle.hang_facts.specs.Members.{Has}
+use Rattle.seen_facts.specs.Desk.Own.{IsOrderIn}
+use Rattle.seen_facts.specs.Doc.Docs.{IsLive, makes_at, makes_due, makes_it, makes_told}
+use Rattle.seen_facts.proofs.Each.Eaches.{each_first}
+use Rattle.tab_facts.specs.Frame.Lasting.{IsOfState, TellsItsState}
+use Rattle.seen_facts.proofs.Hang.Members.{has_any, has_map}
+use Rattle.seen_facts.specs.Hang.Members.{Has}
 use Rattle.log_model.proofs.Refl.{nat_eq_refl}
 use Rattle.log_model.specs.After.{documents_delivered, on_document}
 use Rattle.log_model.specs.AfterPlaces.{places_delivered}
@@ -16,7 +16,7 @@ use Rattle.log_model.specs.declared.outcome.Outcome.{Outcome}
 use Rattle.move_queue.specs.Queue.{Queue}
 use Rattle.nav_tree.specs.Tree.{document_of as placed_for, is_state}
 use Rattle.nav_tree.specs.declared.place.Place as live
-use Rattle.rest_facts.proofs.Still.{found_itself}
+use Rattle.seen_facts.proofs.Rest.Still.{found_itself}
 use Rattle.seen_laws.proofs.Keyed.{find_has}
 use Rattle.seen_laws.specs.InEvent.{InEvent}
 use Rattle.std.proofs.Common.{Bool, List, None, Option, Some, [], ap, arith, cond, eqb-true, false, map, not, refl, subst, sym, true, ℕ, ◌&&◌, ◌+◌, ◌==◌, ◌∙◌, ◌∷◌, ◌≡◌}
@@ -35,7 +35,7 @@ use Rattle.tab_stands.proofs.Dones.{did, did_outcome}
 use Rattle.tab_stands.specs.Delivering.{IsDelivery}
 use Rattle.tab_stands.specs.Standing.{StandsFor}
 use Rattle.tab_settles.proofs.PassedOn.{its_report}
-use Rattle.transit_facts.specs.Orders.{IsOutcomeOf}
+use Rattle.seen_facts.specs.Transit.Orders.{IsOutcomeOf}
 use Rattle.log_model.specs.declared.job.Task.TheVariants as tasks
 use Rattle.log_model.specs.declared.made.Report.TheVariants as reports
 use Rattle.log_model.specs.declared.outcome.Outcome.TheVariants as outcomes

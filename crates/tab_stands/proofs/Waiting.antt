@@ -1,7 +1,7 @@
 -- What waits, and what is held back, as a request is accepted: both as before, and nothing more is due.
-use Rattle.asked_facts.specs.Asking.{IsThere}
-use Rattle.frame_tab.specs.Asking.{NoneHeld}
-use Rattle.hang_facts.specs.Members.{Has}
+use Rattle.seen_facts.specs.Asked.Asking.{IsThere}
+use Rattle.tab_facts.specs.FrameTab.Asking.{NoneHeld}
+use Rattle.seen_facts.specs.Hang.Members.{Has}
 use Rattle.log_model.specs.ActsAtOnce.{ends_stepped, has_reason_to_run, is_ready_load}
 use Rattle.log_model.specs.Equal.{implies}
 use Rattle.log_model.specs.Once.{delta_of}
@@ -17,7 +17,7 @@ use Rattle.std.proofs.lemmas.Bool.{and_parts}
 use Rattle.std.specs.Prelude.{is_some, option_and_then}
 use Rattle.tab_settles.specs.PassedOn.{AreStepsOf, AwaitTurns, HasQueue, HaveJoined, delta_in, is_traverse}
 use Rattle.tab_doors.specs.declared.tables.Tables.{Tables}
-use Rattle.tab_events.specs.Between.{IsBetween}
+use Rattle.tab_facts.specs.TabEvents.Between.{IsBetween}
 use Rattle.tab_ids.specs.declared.DocId.{DocId}
 use Rattle.tab_ids.specs.declared.ReqId.{ReqId}
 use Rattle.tab_ids.specs.declared.StateId.{StateId}

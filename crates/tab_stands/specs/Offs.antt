@@ -1,11 +1,11 @@
 -- Which navigables were shown a document, as their epochs and the orders on their way tell; and why one that is shown may not stand.
 -- This project's own; HTML Standard, "apply the history step" and "finalize a cross-document navigation".
-use Rattle.home_facts.specs.Homes.{document_in}
+use Rattle.seen_facts.specs.Home.Homes.{document_in}
 use Rattle.log_model.specs.Places.{is_shown, stands, top}
 use Rattle.log_model.specs.Seen.{Document, Place, Seen, place_in, place_of}
 use Rattle.log_model.specs.declared.job.Job.{Job}
 use Rattle.log_model.specs.declared.job.Task.{Task}
-use Rattle.order_facts.specs.Orders.{AreOrders}
+use Rattle.tab_facts.specs.Order.Orders.{AreOrders}
 use Rattle.std.specs.Prelude.{List, None, Option, Some, false, true, ℕ, ◌≡◌, ◌≤◌}
 use Rattle.tab_ids.specs.declared.NavId.{NavId}
 use Rattle.tab_ids.specs.declared.ReqId.{ReqId}

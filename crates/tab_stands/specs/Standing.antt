@@ -1,21 +1,21 @@
 -- What a coordinator of a tab with loads keeps between two events, and how an event of it begins and ends.
 -- HTML Standard, "session history traversal queue" and "apply the history step"; that nobody dies and nobody is asked in such a tab is this project's own premise.
-use Rattle.last_facts.specs.Lasting.{AreLasting}
-use Rattle.left_facts.specs.Left.{WereShown}
+use Rattle.tab_facts.specs.Last.Lasting.{AreLasting}
+use Rattle.row_facts.specs.Left.Left.{WereShown}
 use Rattle.load_doors.specs.Tied.{AreTied}
-use Rattle.load_ends.specs.Standing.{LoadsStand}
+use Rattle.seen_facts.specs.LoadEnds.Standing.{LoadsStand}
 use Rattle.log_model.specs.After.{after}
 use Rattle.log_model.specs.Seen.{Seen, nothing}
 use Rattle.log_model.specs.declared.row_kind.LogRow.{LogRow}
 use Rattle.log_model.specs.declared.row_kind.RowKind.{RowKind}
 use Rattle.move_queue.specs.Queue.{Queue}
-use Rattle.owed_facts.specs.Owed.{IsLoose}
+use Rattle.row_facts.specs.Owed.Owed.{IsLoose}
 use Rattle.seen_laws.specs.Blocks.{EachPass}
 use Rattle.seen_laws.specs.InEvent.{InEvent, IsTakenIn, now_of, row_of, start_of}
 use Rattle.std.specs.Prelude.{List, None, Option, [], length, map, ℕ, ◌++◌, ◌+◌, ◌<◌, ◌∷◌, ◌≡◌}
 use Rattle.tab_settles.specs.PassedOn.{AreCounted, AreHeldUp, AreLeftStrays, AreSteps, HasQueue, InPass, IsPassing, IsTaking, LoadsMadeOwn, ParentsShown, TakersServe}
 use Rattle.tab_doors.specs.declared.tables.Tables.{Tables}
-use Rattle.tab_events.specs.Between.{IsBetween}
+use Rattle.tab_facts.specs.TabEvents.Between.{IsBetween}
 use Rattle.tab_ids.specs.declared.ProcId.{ProcId}
 use Rattle.tab_ids.specs.declared.ReqId.{ReqId}
 use Rattle.tab_ids.specs.declared.StateId.{StateId}

@@ -1,12 +1,12 @@
 -- A navigable that is awake below one whose document's state has no entry is awake on a document of a state without one.
-use Rattle.hang_facts.proofs.Forms.{nav_is}
-use Rattle.hang_facts.proofs.Hung.{own_form}
-use Rattle.hang_facts.proofs.Members.{Passing, any_has, has_any}
-use Rattle.hang_facts.proofs.Parts.{state_is}
-use Rattle.hang_facts.specs.AsPlaces.{IsChain}
-use Rattle.hang_facts.specs.Forms.{Form, form_in, form_of, forms_of}
-use Rattle.hang_facts.specs.Hanging.{IsPlaced}
-use Rattle.home_facts.specs.Homes.{IsAtHome, IsOnAwake}
+use Rattle.seen_facts.proofs.Hang.Forms.{nav_is}
+use Rattle.seen_facts.proofs.Hang.Hung.{own_form}
+use Rattle.seen_facts.proofs.Hang.Members.{Passing, any_has, has_any}
+use Rattle.seen_facts.proofs.Hang.Parts.{state_is}
+use Rattle.seen_facts.specs.Hang.AsPlaces.{IsChain}
+use Rattle.seen_facts.specs.Hang.Forms.{Form, form_in, form_of, forms_of}
+use Rattle.seen_facts.specs.Hang.Hanging.{IsPlaced}
+use Rattle.seen_facts.specs.Home.Homes.{IsAtHome, IsOnAwake}
 use Rattle.log_model.proofs.Refl.{nat_eq_refl}
 use Rattle.log_model.specs.History.{has_nav, has_state, is_of}
 use Rattle.log_model.specs.Seen.{Document, Place, Seen, awake, document_of, place_of}

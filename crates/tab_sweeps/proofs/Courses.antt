@@ -1,12 +1,12 @@
 -- One stray document after the other is discarded, until none is left.
-use Rattle.hang_facts.specs.Members.{Has}
+use Rattle.seen_facts.specs.Hang.Members.{Has}
 use Rattle.log_model.specs.History.{has_nav}
 use Rattle.log_model.specs.Places.{is_below}
 use Rattle.log_model.specs.Seen.{Place, Seen, place_of}
 use Rattle.log_model.specs.declared.row_kind.RowKind.{RowKind}
-use Rattle.mover_facts.proofs.Places.{same_ways, ways_both}
+use Rattle.seen_facts.proofs.Mover.Places.{same_ways, ways_both}
 use Rattle.nav_tree.proofs.Lists.{drop-slice_get, take-slice_get}
-use Rattle.rest_rows.proofs.Again.{rest_more}
+use Rattle.row_facts.proofs.RestRows.Again.{rest_more}
 use Rattle.seen_laws.specs.InEvent.{now_of}
 use Rattle.std.proofs.Common.{List, None, Option, Some, [], ap, append-nil, append_assoc, arith, drop, drop_of_length-le, false, filter_map, inl, inr, length, refl, subst, suc, sym, take, take_all, true, zero, ℕ, ◌++◌, ◌+◌, ◌<◌, ◌==◌, ◌∙◌, ◌∷◌, ◌≡◌, ◌≤◌, ◌⊎◌}
 use Rattle.std.proofs.lemmas.List.{map-append}
@@ -22,8 +22,8 @@ use Rattle.tab_passes.specs.Leaving.{IsLeaving}
 use Rattle.tab_passes.specs.Passing.{InPass, IsPassing}
 use Rattle.tab_sweeps.specs.Sweeping.{AreAscending, AreBlamed, HasOnlySwept, IsOnStray, IsSweepOf, IsSweptTurn, NoneStray, but_status, ordered_number}
 use Rattle.tab_sweeps.specs.Turns.{AreStrays, HasSweptEach, HasSweptFirst, HasSweptNext, IsSweeping, IsSweepingAt, numbers_of}
-use Rattle.walk_rows.proofs.Sinces.{since_itself}
-use Rattle.walk_rows.specs.Since.{WasAwake}
+use Rattle.row_facts.proofs.WalkRows.Sinces.{since_itself}
+use Rattle.row_facts.specs.WalkRows.Since.{WasAwake}
 
 -- ---- what is left
 

@@ -1,7 +1,7 @@
 -- A stray document was discarded: what is left.
-use Rattle.hang_facts.proofs.Hung.{places_distinct}
-use Rattle.load_facts.proofs.Rows.{look_blind}
-use Rattle.load_facts.specs.Loading.{look, look_of}
+use Rattle.seen_facts.proofs.Hang.Hung.{places_distinct}
+use Rattle.seen_facts.proofs.Load.Rows.{look_blind}
+use Rattle.seen_facts.specs.Load.Loading.{look, look_of}
 use Rattle.log_model.specs.After.{after}
 use Rattle.log_model.specs.AfterPlaces.{sleepers_with, without_doc}
 use Rattle.log_model.specs.Checks.{may_go_on}
@@ -12,11 +12,11 @@ use Rattle.log_model.specs.Seen.{Asked, Document, Place, Seen, asleep, document_
 use Rattle.log_model.specs.declared.job.Job.{Job}
 use Rattle.log_model.specs.declared.job.Why.{Why}
 use Rattle.log_model.specs.declared.row_kind.RowKind.{RowKind}
-use Rattle.mover_facts.proofs.Places.{sleep_ways}
-use Rattle.mover_facts.specs.Movers.{IsMovedBy}
-use Rattle.owed_facts.specs.Owed.{AreUnasked}
-use Rattle.request_facts.proofs.Readers.{sent_reads}
-use Rattle.rest_rows.proofs.Again.{doc_same}
+use Rattle.seen_facts.proofs.Mover.Places.{sleep_ways}
+use Rattle.seen_facts.specs.Mover.Movers.{IsMovedBy}
+use Rattle.row_facts.specs.Owed.Owed.{AreUnasked}
+use Rattle.seen_facts.proofs.Request.Readers.{sent_reads}
+use Rattle.row_facts.proofs.RestRows.Again.{doc_same}
 use Rattle.seen_laws.proofs.InEvents.{now_more}
 use Rattle.seen_laws.proofs.Keyed.{find_on_other, find_on_same}
 use Rattle.seen_laws.specs.InEvent.{now_of, row_of}
@@ -36,13 +36,13 @@ use Rattle.tab_passes.specs.Passing.{InPass}
 use Rattle.tab_sweeps.proofs.Loads.{unloaded_same}
 use Rattle.tab_sweeps.proofs.Unders.{sleeper_is}
 use Rattle.tab_sweeps.specs.Sweeping.{IsNoStray, IsOnStray, IsStray, IsSweptTurn, MovesUnder, but_status}
-use Rattle.walk_facts.proofs.Placed.{found_nav}
-use Rattle.walk_facts.proofs.Sleepers.{slept, slept_same}
-use Rattle.walk_rows.proofs.Leaves.{sent_aim}
-use Rattle.walk_rows.proofs.Moved.{sent_moved}
-use Rattle.walk_rows.proofs.Sinces.{sent_since, since_itself}
-use Rattle.walk_rows.proofs.Sleeping.{place_sleeps}
-use Rattle.walk_rows.specs.Since.{AwakeSince, WasAwake}
+use Rattle.seen_facts.proofs.Walk.Placed.{found_nav}
+use Rattle.seen_facts.proofs.Walk.Sleepers.{slept, slept_same}
+use Rattle.row_facts.proofs.WalkRows.Leaves.{sent_aim}
+use Rattle.row_facts.proofs.WalkRows.Moved.{sent_moved}
+use Rattle.row_facts.proofs.WalkRows.Sinces.{sent_since, since_itself}
+use Rattle.row_facts.proofs.WalkRows.Sleeping.{place_sleeps}
+use Rattle.row_facts.specs.WalkRows.Since.{AwakeSince, WasAwake}
 use Rattle.log_model.specs.declared.job.Task.TheVariants as tasks
 use Rattle.log_model.specs.declared.job.Why.TheVariants as whys
 use Rattle.log_model.specs.declared.row_kind.RowKind.TheVariants as rows

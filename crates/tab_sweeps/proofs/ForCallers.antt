@@ -1,11 +1,11 @@
 -- For callers of the sweep: nobody that was on a stray document, or below one, is awake then; and who is visited in need then was so before, so that it is moved by whom it was to be moved.
-use Rattle.hang_facts.proofs.Forms.{nav_is}
-use Rattle.hang_facts.proofs.Hung.{place_chain}
-use Rattle.hang_facts.proofs.Members.{has_any}
-use Rattle.hang_facts.proofs.Targets.{IsTarget, target_has}
-use Rattle.hang_facts.specs.AsPlaces.{IsChain}
+use Rattle.seen_facts.proofs.Hang.Forms.{nav_is}
+use Rattle.seen_facts.proofs.Hang.Hung.{place_chain}
+use Rattle.seen_facts.proofs.Hang.Members.{has_any}
+use Rattle.seen_facts.proofs.Hang.Targets.{IsTarget, target_has}
+use Rattle.seen_facts.specs.Hang.AsPlaces.{IsChain}
 use Rattle.history_laws.proofs.Joining.{entry_same}
-use Rattle.home_facts.specs.Homes.{IsAtHome, IsOnAwake}
+use Rattle.seen_facts.specs.Home.Homes.{IsAtHome, IsOnAwake}
 use Rattle.log_model.proofs.Refl.{nat_eq_refl}
 use Rattle.log_model.specs.Equal.{holds}
 use Rattle.log_model.specs.History.{History, has_nav, has_state, same_entry, target_entry}
@@ -14,7 +14,7 @@ use Rattle.log_model.specs.Seen.{Document, Place, Seen, Status, asleep, awake, l
 use Rattle.log_model.specs.declared.job.Why.{Why}
 use Rattle.log_model.specs.declared.made.Made.{Made}
 use Rattle.log_model.specs.declared.row.Row.{Row}
-use Rattle.mover_facts.specs.Movers.{IsMovedBy}
+use Rattle.seen_facts.specs.Mover.Movers.{IsMovedBy}
 use Rattle.std.proofs.Common.{Bool, List, None, Option, Some, [], ap, false, inl, inr, not, refl, subst, sym, true, ℕ, ◌==◌, ◌||◌, ◌∙◌, ◌∷◌, ◌≡◌, ◌≤◌, ◌⊎◌}
 use Rattle.std.proofs.lemmas.Bool.{and_parts}
 use Rattle.std.specs.List.{list_any}
@@ -28,9 +28,9 @@ use Rattle.tab_sweeps.proofs.Courses.{read_same}
 use Rattle.tab_sweeps.proofs.Loads.{unloaded_same}
 use Rattle.tab_sweeps.specs.Sweeping.{IsOnStray, IsStray, IsSweptTurn, NoneStray}
 use Rattle.tab_passes.specs.PassedOn.{IsTab}
-use Rattle.walk_facts.proofs.Placed.{found_nav}
-use Rattle.walk_facts.specs.Serving.{is_in_place, is_needing, is_stopping}
-use Rattle.walk_rows.specs.Since.{MovesVisited, WasAwake}
+use Rattle.seen_facts.proofs.Walk.Placed.{found_nav}
+use Rattle.seen_facts.specs.Walk.Serving.{is_in_place, is_needing, is_stopping}
+use Rattle.row_facts.specs.WalkRows.Since.{MovesVisited, WasAwake}
 
 -- a navigable that is awake
 record WakesAt (s : Seen) (nav : NavId) : Type 0 where

@@ -1,6 +1,6 @@
 -- Which documents are stray, as the tables tell, is so in the log; all that are listed are in the order of their numbers.
-use Rattle.hang_facts.proofs.Members.{find_has, into_map}
-use Rattle.hang_facts.specs.Members.{Has}
+use Rattle.seen_facts.proofs.Hang.Members.{find_has, into_map}
+use Rattle.seen_facts.specs.Hang.Members.{Has}
 use Rattle.history_laws.proofs.InOrder.{count_by-ordered}
 use Rattle.log_model.proofs.Refl.{nat_eq_refl}
 use Rattle.log_model.specs.History.{History, has_state}
@@ -11,7 +11,7 @@ use Rattle.log_model.specs.declared.row.Row.{Row}
 use Rattle.log_model.specs.declared.row_kind.RowKind.{RowKind}
 use Rattle.nav_tree.specs.Tree.{docs_of, is_placed, is_state, state_of}
 use Rattle.nav_tree.specs.declared.place.Place as live_place
-use Rattle.rest_rows.proofs.Again.{doc_same}
+use Rattle.row_facts.proofs.RestRows.Again.{doc_same}
 use Rattle.seen_laws.specs.InEvent.{now_of}
 use Rattle.std.proofs.Common.{Bool, List, None, Option, Some, ap, arith, cond, false, filter, map, refl, subst, sym, true, ◌==◌, ◌||◌, ◌∙◌, ◌≡◌, ◌≤◌}
 use Rattle.std.proofs.lemmas.List.Sorted.{IsNonDecreasingBy-from_sort}

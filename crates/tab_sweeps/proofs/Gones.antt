@@ -8,11 +8,11 @@ use Rattle.log_model.specs.declared.job.Job.{Job}
 use Rattle.log_model.specs.declared.job.Why.{Why}
 use Rattle.log_model.specs.declared.row_kind.RowKind.{RowKind}
 use Rattle.nav_tree.specs.Tree.{is_state}
-use Rattle.owed_facts.proofs.Ends.{loose_more}
-use Rattle.owed_facts.proofs.Rows.{sent_lasts}
-use Rattle.owed_facts.specs.Owed.{AreUnasked, IsLoose}
-use Rattle.rest_rows.proofs.Again.{IsPart, doc_same, part_both, part_without, rest_more}
-use Rattle.rest_rows.specs.Left.{left_below}
+use Rattle.row_facts.proofs.Owed.Ends.{loose_more}
+use Rattle.row_facts.proofs.Owed.Rows.{sent_lasts}
+use Rattle.row_facts.specs.Owed.Owed.{AreUnasked, IsLoose}
+use Rattle.row_facts.proofs.RestRows.Again.{IsPart, doc_same, part_both, part_without, rest_more}
+use Rattle.row_facts.specs.RestRows.Left.{left_below}
 use Rattle.seen_laws.specs.InEvent.{now_of, row_of}
 use Rattle.std.proofs.Common.{Bool, List, None, Some, [], ap, arith, false, inl, inr, length, not, refl, subst, sym, true, ◌++◌, ◌==◌, ◌||◌, ◌∙◌, ◌∷◌, ◌≡◌, ◌≤◌}
 use Rattle.std.proofs.lemmas.Bool.Decides.{nat_tests}
@@ -32,7 +32,7 @@ use Rattle.tab_sweeps.proofs.Lists.{first_apart}
 use Rattle.tab_sweeps.proofs.Unders.{left_stray}
 use Rattle.tab_sweeps.specs.Sweeping.{AreBlamed, IsBlamed, IsStray, IsSweepOf}
 use Rattle.tab_sweeps.specs.Turns.{AreStrays, HasSweptEach, IsAnyStray, IsSweeping}
-use Rattle.walk_rows.proofs.Needs.{sent_stood}
+use Rattle.row_facts.proofs.WalkRows.Needs.{sent_stood}
 use Rattle.log_model.specs.declared.job.Task.TheVariants as tasks
 use Rattle.log_model.specs.declared.job.Why.TheVariants as whys
 use Rattle.log_model.specs.declared.row_kind.RowKind.TheVariants as rows

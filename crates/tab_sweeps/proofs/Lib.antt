@@ -10,6 +10,5 @@ pub mod Gones
 pub mod Courses
 pub mod Steps
 pub mod Unneededs
-pub mod Swepts
 pub mod Listings
 pub mod ForCallers

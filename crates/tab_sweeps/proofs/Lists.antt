@@ -1,11 +1,11 @@
 -- Lists of documents: what one has, and that a sorted one without repeats ascends.
-use Rattle.hang_facts.proofs.Members.{has_filter, has_map, into_filter, into_map}
-use Rattle.hang_facts.specs.Members.{Has}
+use Rattle.seen_facts.proofs.Hang.Members.{has_filter, has_map, into_filter, into_map}
+use Rattle.seen_facts.specs.Hang.Members.{Has}
 use Rattle.log_model.proofs.Refl.{nat_eq_refl}
 use Rattle.log_model.specs.Equal.{has_doc}
 use Rattle.nav_tree.specs.Tree.{is_state}
 use Rattle.nav_tree.specs.declared.place.Place as live_place
-use Rattle.rest_rows.proofs.Again.{doc_same}
+use Rattle.row_facts.proofs.RestRows.Again.{doc_same}
 use Rattle.std.proofs.Common.{Bool, List, None, Option, Some, [], ap, arith, cond, false, filter, inl, inr, length, map, refl, subst, suc, sym, true, ℕ, ◌+◌, ◌<◌, ◌==◌, ◌||◌, ◌∙◌, ◌∷◌, ◌≡◌, ◌≤◌, ◌⊎◌}
 use Rattle.std.proofs.lemmas.Bool.Decides.{nat_tests}
 use Rattle.std.proofs.lemmas.List.Sorted.{IsNonDecreasingBy-drop, sum_by-IsPermutation}

@@ -1,9 +1,9 @@
 -- Which document states are those of ongoing loads, as the log tells and as the table of loads does.
-use Rattle.hang_facts.proofs.Members.{find_has, has_found}
-use Rattle.load_facts.specs.Loading.{AreLoading, IsLoading, Look, is_ongoing, look, look_of}
+use Rattle.seen_facts.proofs.Hang.Members.{find_has, has_found}
+use Rattle.seen_facts.specs.Load.Loading.{AreLoading, IsLoading, Look, is_ongoing, look, look_of}
 use Rattle.load_table.specs.Loads.{ongoing_load as load_in}
 use Rattle.load_table.specs.declared.load.Load.{Load}
-use Rattle.load_ties.specs.Tying.{HasLoad, IsLoadTied, TiesLoads}
+use Rattle.seen_facts.specs.LoadTies.Tying.{HasLoad, IsLoadTied, TiesLoads}
 use Rattle.log_model.proofs.Refl.{nat_eq_refl}
 use Rattle.log_model.specs.Equal.{has_doc, holds}
 use Rattle.log_model.specs.Once.{loads}
@@ -11,9 +11,9 @@ use Rattle.log_model.specs.Orders.{ongoing_load}
 use Rattle.log_model.specs.Places.{is_ongoing_load}
 use Rattle.log_model.specs.Seen.{Asked, Document, Place, Seen, awake, document_of, place_of, request_in, request_of}
 use Rattle.log_model.specs.declared.request.Request.{Request}
-use Rattle.rest_facts.proofs.Stands.{all_requests, get_of, request_has}
-use Rattle.rest_facts.specs.Between.{IsOfLoad}
-use Rattle.shown_facts.specs.Shown.{AwakeWereShown}
+use Rattle.seen_facts.proofs.Rest.Stands.{all_requests, get_of, request_has}
+use Rattle.seen_facts.specs.Rest.Between.{IsOfLoad}
+use Rattle.tab_facts.specs.Shown.Shown.{AwakeWereShown}
 use Rattle.std.proofs.Common.{Bool, List, None, Option, Some, [], ap, arith, cond, false, not, refl, sym, true, ℕ, ◌&&◌, ◌+◌, ◌-◌, ◌==◌, ◌∙◌, ◌∷◌, ◌≡◌}
 use Rattle.std.proofs.lemmas.Bool.Decides.{nat_tests}
 use Rattle.std.proofs.lemmas.Bool.{and_parts}

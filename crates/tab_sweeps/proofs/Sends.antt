@@ -1,8 +1,8 @@
 -- A stray document may be discarded, for the request that is noted for its state.
-use Rattle.frame_rows.proofs.Discards.{discard_may}
-use Rattle.frame_rows.specs.Discarding.{IsDiscardDue, SettlesNone}
-use Rattle.hang_facts.proofs.Hung.{places_distinct}
-use Rattle.hang_facts.specs.AsPlaces.{AreDistinct}
+use Rattle.row_facts.proofs.FrameRows.Discards.{discard_may}
+use Rattle.row_facts.specs.FrameRows.Discarding.{IsDiscardDue, SettlesNone}
+use Rattle.seen_facts.proofs.Hang.Hung.{places_distinct}
+use Rattle.seen_facts.specs.Hang.AsPlaces.{AreDistinct}
 use Rattle.log_model.specs.Checks.{may_go_on}
 use Rattle.log_model.specs.History.{has_state}
 use Rattle.log_model.specs.Orders.{ongoing_load}

@@ -1,5 +1,5 @@
 -- The next stray document of a list is discarded.
-use Rattle.kept_facts.proofs.States.{AreOfOwnStates}
+use Rattle.seen_facts.proofs.Kept.States.{AreOfOwnStates}
 use Rattle.log_model.proofs.Refl.{nat_eq_refl}
 use Rattle.log_model.specs.Equal.{has_doc}
 use Rattle.log_model.specs.Seen.{Seen}

@@ -1,16 +1,16 @@
 -- A stray document may be discarded as far as the tables go: nothing is asked, and it is the one that is there for its state.
-use Rattle.frame_rows.specs.Discarding.{SettlesNone}
-use Rattle.hang_facts.proofs.Members.{has_map}
-use Rattle.hang_facts.specs.Members.{Has}
-use Rattle.kept_facts.proofs.States.{AreOfOwnStates, sole_states}
-use Rattle.leave_rows.proofs.Unasked.{all_answered}
+use Rattle.row_facts.specs.FrameRows.Discarding.{SettlesNone}
+use Rattle.seen_facts.proofs.Hang.Members.{has_map}
+use Rattle.seen_facts.specs.Hang.Members.{Has}
+use Rattle.seen_facts.proofs.Kept.States.{AreOfOwnStates, sole_states}
+use Rattle.row_facts.proofs.LeaveRows.Unasked.{all_answered}
 use Rattle.log_model.specs.Places.{all_asked}
 use Rattle.log_model.specs.Seen.{Document, Seen, document_of}
 use Rattle.log_model.specs.declared.row_kind.LogRow.{LogRow}
 use Rattle.log_model.specs.declared.row_kind.RowKind.{RowKind}
-use Rattle.owed_facts.specs.Owed.{AreUnasked}
-use Rattle.rest_facts.proofs.Stands.{all_requests}
-use Rattle.rest_facts.proofs.Still.{found_itself}
+use Rattle.row_facts.specs.Owed.Owed.{AreUnasked}
+use Rattle.seen_facts.proofs.Rest.Stands.{all_requests}
+use Rattle.seen_facts.proofs.Rest.Still.{found_itself}
 use Rattle.seen_laws.specs.InEvent.{now_of}
 use Rattle.std.proofs.Common.{List, None, Some, ap, arith, false, map, refl, subst, sym, true, ℕ, ◌==◌, ◌∙◌, ◌≡◌}
 use Rattle.std.proofs.lemmas.Bool.Decides.{nat_tests}

@@ -1,10 +1,10 @@
 -- Who falls asleep with a stray document: the documents that they are awake on are stray, too.
-use Rattle.hang_facts.proofs.Forms.{nav_is}
-use Rattle.hang_facts.proofs.Hung.{place_chain, places_distinct}
-use Rattle.hang_facts.proofs.Members.{has_filter}
-use Rattle.hang_facts.specs.AsPlaces.{AreDistinct}
-use Rattle.hang_facts.specs.Members.{Has}
-use Rattle.home_facts.specs.Homes.{IsAtHome}
+use Rattle.seen_facts.proofs.Hang.Forms.{nav_is}
+use Rattle.seen_facts.proofs.Hang.Hung.{place_chain, places_distinct}
+use Rattle.seen_facts.proofs.Hang.Members.{has_filter}
+use Rattle.seen_facts.specs.Hang.AsPlaces.{AreDistinct}
+use Rattle.seen_facts.specs.Hang.Members.{Has}
+use Rattle.seen_facts.specs.Home.Homes.{IsAtHome}
 use Rattle.log_model.proofs.Refl.{nat_eq_refl}
 use Rattle.log_model.specs.AfterPlaces.{sleepers_with, woken_below}
 use Rattle.log_model.specs.Equal.{has_doc, holds}
@@ -13,9 +13,9 @@ use Rattle.log_model.specs.Places.{awake_document, is_asleep, is_below, shower_o
 use Rattle.log_model.specs.Seen.{Place, Seen, Status, asleep, awake, lost, place_of}
 use Rattle.log_model.specs.declared.job.Why.{Why}
 use Rattle.log_model.specs.declared.made.Made.{Made}
-use Rattle.mover_facts.proofs.Orders.{MovesEach}
-use Rattle.rest_facts.proofs.Stands.{get_of}
-use Rattle.rest_rows.specs.Left.{left_below, shown_by}
+use Rattle.seen_facts.proofs.Mover.Orders.{MovesEach}
+use Rattle.seen_facts.proofs.Rest.Stands.{get_of}
+use Rattle.row_facts.specs.RestRows.Left.{left_below, shown_by}
 use Rattle.std.proofs.Common.{Bool, List, None, Option, Some, [], ap, arith, false, inl, inr, not, refl, subst, sym, true, ◌&&◌, ◌==◌, ◌||◌, ◌∙◌, ◌∷◌, ◌≡◌, ◌⊎◌}
 use Rattle.std.proofs.lemmas.Bool.Decides.{nat_tests}
 use Rattle.std.proofs.lemmas.Bool.{and_parts}
@@ -30,9 +30,9 @@ use Rattle.tab_sweeps.proofs.Loads.{awake_unloaded}
 use Rattle.tab_sweeps.specs.Sweeping.{IsStray, MovesUnder}
 use Rattle.tab_sweeps.specs.Turns.{IsAnyStray}
 use Rattle.tab_passes.specs.PassedOn.{IsTab}
-use Rattle.walk_facts.proofs.Placed.{each_found}
-use Rattle.walk_facts.proofs.Sleepers.{has_nav_where}
-use Rattle.walk_rows.proofs.Sleeping.{IsShower, shower_is}
+use Rattle.seen_facts.proofs.Walk.Placed.{each_found}
+use Rattle.seen_facts.proofs.Walk.Sleepers.{has_nav_where}
+use Rattle.row_facts.proofs.WalkRows.Sleeping.{IsShower, shower_is}
 
 -- ---- who falls asleep
 

@@ -1,12 +1,12 @@
 -- A document that nothing needs as it is made may be discarded; nobody is awake on it.
-use Rattle.hang_facts.proofs.Hung.{places_distinct}
-use Rattle.hang_facts.proofs.Members.{find_has, has_any}
-use Rattle.hang_facts.proofs.Targets.{IsTarget, target_has}
-use Rattle.hang_facts.specs.AsPlaces.{AreDistinct}
-use Rattle.home_facts.specs.Homes.{IsHomed}
-use Rattle.leave_rows.proofs.Evicts.{unneeded_may}
-use Rattle.leave_rows.specs.Evicting.{IsUnneededDue, is_a_target, is_last}
-use Rattle.leave_rows.specs.Leaving.{is_for_one}
+use Rattle.seen_facts.proofs.Hang.Hung.{places_distinct}
+use Rattle.seen_facts.proofs.Hang.Members.{find_has, has_any}
+use Rattle.seen_facts.proofs.Hang.Targets.{IsTarget, target_has}
+use Rattle.seen_facts.specs.Hang.AsPlaces.{AreDistinct}
+use Rattle.seen_facts.specs.Home.Homes.{IsHomed}
+use Rattle.row_facts.proofs.LeaveRows.Evicts.{unneeded_may}
+use Rattle.row_facts.specs.LeaveRows.Evicting.{IsUnneededDue, is_a_target, is_last}
+use Rattle.row_facts.specs.LeaveRows.Leaving.{is_for_one}
 use Rattle.log_model.proofs.Refl.{nat_eq_refl}
 use Rattle.log_model.specs.After.{after}
 use Rattle.log_model.specs.AfterPlaces.{sleepers_with, without_doc, woken_below}
@@ -19,11 +19,11 @@ use Rattle.log_model.specs.declared.job.Job.{Job}
 use Rattle.log_model.specs.declared.job.Why.{Why}
 use Rattle.log_model.specs.declared.row.Row.{Row}
 use Rattle.log_model.specs.declared.row_kind.RowKind.{RowKind}
-use Rattle.mover_facts.proofs.Orders.{MovesEach}
-use Rattle.owed_facts.proofs.Ends.{loose_more}
-use Rattle.owed_facts.proofs.Rows.{sent_lasts}
-use Rattle.owed_facts.specs.Owed.{AreUnasked, IsLoose}
-use Rattle.rest_rows.specs.Left.{left_below, shown_by}
+use Rattle.seen_facts.proofs.Mover.Orders.{MovesEach}
+use Rattle.row_facts.proofs.Owed.Ends.{loose_more}
+use Rattle.row_facts.proofs.Owed.Rows.{sent_lasts}
+use Rattle.row_facts.specs.Owed.Owed.{AreUnasked, IsLoose}
+use Rattle.row_facts.specs.RestRows.Left.{left_below, shown_by}
 use Rattle.seen_laws.proofs.InEvents.{led_here}
 use Rattle.seen_laws.specs.InEvent.{here_of, now_of, row_of}
 use Rattle.std.proofs.Common.{Bool, List, None, Option, Some, [], ap, arith, false, inr, length, filter, map, not, refl, subst, sym, true, ℕ, ◌&&◌, ◌++◌, ◌==◌, ◌||◌, ◌∙◌, ◌∷◌, ◌≡◌, ◌≤◌}
@@ -50,8 +50,8 @@ use Rattle.tab_sweeps.proofs.Sends.{IsAsked, is_asked}
 use Rattle.tab_sweeps.proofs.Theres.{settles_none, stray_unknown}
 use Rattle.tab_sweeps.specs.Sweeping.{IsStray}
 use Rattle.tab_sweeps.specs.Unneeded.{IsUnneeded}
-use Rattle.walk_rows.proofs.Needs.{sent_stood}
-use Rattle.walk_rows.proofs.Sleeping.{IsShower, shower_is}
+use Rattle.row_facts.proofs.WalkRows.Needs.{sent_stood}
+use Rattle.row_facts.proofs.WalkRows.Sleeping.{IsShower, shower_is}
 use Rattle.log_model.specs.declared.job.Task.TheVariants as tasks
 use Rattle.log_model.specs.declared.made.Report.TheVariants as reports
 use Rattle.log_model.specs.declared.outcome.Outcome.TheVariants as outcomes

@@ -1,7 +1,7 @@
 -- The stray documents: those that are made and there, whose document states have neither an entry in the history nor an ongoing load; and what their discarding leaves.
 -- HTML Standard, "destroy a document" and "destroy a child navigable"; that a document of no entry is discarded, and for which request, is this project's own.
-use Rattle.hang_facts.specs.Members.{Has}
-use Rattle.load_facts.specs.Loading.{look_of}
+use Rattle.seen_facts.specs.Hang.Members.{Has}
+use Rattle.seen_facts.specs.Load.Loading.{look_of}
 use Rattle.load_table.specs.Loads.{ongoing_load as load_in}
 use Rattle.load_table.specs.declared.load.Load.{Load}
 use Rattle.log_model.specs.Equal.{has_doc, holds}
@@ -12,8 +12,8 @@ use Rattle.log_model.specs.Seen.{Document, Place, Seen, asleep, awake, document_
 use Rattle.log_model.specs.declared.job.Job.{Job}
 use Rattle.log_model.specs.declared.job.Why.{Why}
 use Rattle.log_model.specs.declared.row_kind.RowKind.{RowKind}
-use Rattle.mover_facts.proofs.Stays.{KeepWays}
-use Rattle.mover_facts.specs.Movers.{IsMovedBy}
+use Rattle.seen_facts.proofs.Mover.Stays.{KeepWays}
+use Rattle.seen_facts.specs.Mover.Movers.{IsMovedBy}
 use Rattle.nav_tree.specs.Tree.{is_state, state_of}
 use Rattle.std.specs.Map.{lookup}
 use Rattle.std.specs.Prelude.{Bool, List, None, Option, Some, [], false, filter_map, if◌then◌else◌, is_some, option_and_then, option_map, true, ℕ, ◌++◌, ◌<◌, ◌==◌, ◌||◌, ◌∷◌, ◌≡◌, ◌⊎◌}
@@ -25,7 +25,7 @@ use Rattle.tab_ids.specs.declared.NavId.{NavId}
 use Rattle.tab_ids.specs.declared.ReqId.{ReqId}
 use Rattle.tab_ids.specs.declared.StateId.{StateId}
 use Rattle.tab_passes.specs.Causes.{MayCause, MayServe}
-use Rattle.walk_rows.specs.Since.{AwakeSince}
+use Rattle.row_facts.specs.WalkRows.Since.{AwakeSince}
 use Rattle.log_model.specs.declared.job.Task.TheVariants as tasks
 use Rattle.log_model.specs.declared.job.Why.TheVariants as whys
 use Rattle.log_model.specs.declared.row_kind.RowKind.TheVariants as rows

@@ -1,11 +1,11 @@
 -- While the stray documents are discarded, one after the other.
 -- This project's own; HTML Standard, "destroy a document".
-use Rattle.hang_facts.specs.Members.{Has}
+use Rattle.seen_facts.specs.Hang.Members.{Has}
 use Rattle.log_model.specs.Equal.{has_doc}
 use Rattle.log_model.specs.Places.{aim_of, all_stand}
 use Rattle.log_model.specs.Seen.{Seen}
 use Rattle.log_model.specs.declared.row_kind.RowKind.{RowKind}
-use Rattle.owed_facts.specs.Owed.{IsLoose}
+use Rattle.row_facts.specs.Owed.Owed.{IsLoose}
 use Rattle.seen_laws.specs.InEvent.{now_of}
 use Rattle.std.specs.Prelude.{List, None, Some, [], drop, filter_map, length, map, slice_get, take, true, ℕ, ◌++◌, ◌<◌, ◌∷◌, ◌≡◌, ◌≤◌}
 use Rattle.tab_doors.specs.declared.tables.Tables.{Tables}

@@ -1,6 +1,6 @@
 -- A document that nothing needs as it is made.
 -- HTML Standard, "destroy a document" and "ongoing navigation"; that such a document is discarded at once, and for which reason, is this project's own.
-use Rattle.leave_rows.specs.Evicting.{is_last}
+use Rattle.row_facts.specs.LeaveRows.Evicting.{is_last}
 use Rattle.log_model.specs.Equal.{has_doc}
 use Rattle.log_model.specs.Seen.{Seen, desk_of}
 use Rattle.log_model.specs.declared.job.Job.{Job}

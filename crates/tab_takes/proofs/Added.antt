@@ -1,17 +1,17 @@
 -- What a document made is applied: a frame is added to it, which sleeps and was never shown a document.
-use Rattle.calm_facts.specs.Calm.{AreRooted, CalmUnless, IsCalmYet, IsHere, IsRooted, UnmovedAreHere}
-use Rattle.entry_facts.proofs.Ends.{IsToEnd, no_entry_end}
-use Rattle.entry_facts.proofs.Skips.{IsNoEntry}
+use Rattle.tab_facts.specs.Calm.Calm.{AreRooted, CalmUnless, IsCalmYet, IsHere, IsRooted, UnmovedAreHere}
+use Rattle.seen_facts.proofs.Entry.Ends.{IsToEnd, no_entry_end}
+use Rattle.seen_facts.proofs.Entry.Skips.{IsNoEntry}
 use Rattle.entry_store.specs.Store.{MayTake}
-use Rattle.frame_whole.proofs.Soundly.{none_entry}
-use Rattle.hang_facts.proofs.Forms.{form_there, nav_is}
-use Rattle.hang_facts.proofs.Members.{Passing, any_has, find_has, has_any, has_found, has_more, into_more}
-use Rattle.hang_facts.proofs.Parts.{state_is}
-use Rattle.hang_facts.specs.Forms.{form_of}
-use Rattle.hang_facts.specs.Members.{Has}
-use Rattle.home_facts.specs.Homes.{IsHomed, document_in}
-use Rattle.last_facts.proofs.Applied.{added_lasting}
-use Rattle.load_ends.specs.Standing.{is_reached}
+use Rattle.tab_facts.proofs.FrameWhole.Soundly.{none_entry}
+use Rattle.seen_facts.proofs.Hang.Forms.{form_there, nav_is}
+use Rattle.seen_facts.proofs.Hang.Members.{Passing, any_has, find_has, has_any, has_found, has_more, into_more}
+use Rattle.seen_facts.proofs.Hang.Parts.{state_is}
+use Rattle.seen_facts.specs.Hang.Forms.{form_of}
+use Rattle.seen_facts.specs.Hang.Members.{Has}
+use Rattle.seen_facts.specs.Home.Homes.{IsHomed, document_in}
+use Rattle.tab_facts.proofs.Last.Applied.{added_lasting}
+use Rattle.seen_facts.specs.LoadEnds.Standing.{is_reached}
 use Rattle.log_model.specs.AfterPlaces.{new_place, places_added, with_taker}
 use Rattle.address.specs.Addresses.{blank_text}
 use Rattle.log_model.specs.History.{History, first_step, fits, has_nav, has_row, has_state, is_of}
@@ -25,11 +25,11 @@ use Rattle.log_model.specs.declared.made.What.{What}
 use Rattle.log_model.specs.declared.outcome.Ending.{Ending}
 use Rattle.log_model.specs.declared.row.Row.{Row}
 use Rattle.log_model.specs.declared.row_kind.RowKind.{RowKind}
-use Rattle.mover_facts.specs.Movers.{IsMovedBy}
+use Rattle.seen_facts.specs.Mover.Movers.{IsMovedBy}
 use Rattle.nav_tree.specs.Tree.{node_of}
 use Rattle.nav_tree.specs.declared.node.Node.{Node}
 use Rattle.seen_laws.specs.InEvent.{InEvent}
-use Rattle.shown_ways.proofs.Keeps.{way_there}
+use Rattle.tab_facts.proofs.ShownWays.Keeps.{way_there}
 use Rattle.std.proofs.Common.{Bool, List, None, Option, Some, [], ap, arith, cond, false, inl, inr, map, not, refl, subst, sym, true, ℕ, ◌&&◌, ◌++◌, ◌+◌, ◌<◌, ◌==◌, ◌||◌, ◌∙◌, ◌∷◌, ◌≡◌, ◌≤◌, ◌⊎◌}
 use Rattle.std.proofs.lemmas.Bool.{or_parts}
 use Rattle.std.specs.List.{list_any}
@@ -59,7 +59,7 @@ use Rattle.tab_takes.proofs.Verdicts.{IsOfIt, Tells, apart as apart_run}
 use Rattle.tab_takes.proofs.Where.{carried, its_hand, loads_same}
 use Rattle.tab_takes.specs.Taking.{HasTaken, IsToTake, asked_in, nav_found}
 pub use Rattle.tab_rests.specs.PassedOn.{IsTab}
-use Rattle.walk_facts.proofs.Placed.{found_nav}
+use Rattle.seen_facts.proofs.Walk.Placed.{found_nav}
 use Rattle.log_model.specs.declared.change.Change.TheVariants as changes
 use Rattle.log_model.specs.declared.job.Why.TheVariants as whys
 use Rattle.log_model.specs.declared.made.What.TheVariants as whats
@@ -592,4 +592,4 @@ module _ (p : InPass) (out : List RowKind) (t : Tables) (blame : List (StateId �
 
     pub add_done : (more : List RowKind) (u : Tables) → more ≡ out ++ rows.Applied made.req put ∷ [] → KeepsRun t u → IsAtWork ev more u → HasTaken p t made out more u blame
     add_done more u out_is keeps work =
-        has_applied p out t blame made at add blame add_after more u (out_is ∙ ap (λ (c : Change). out ++ rows.Applied made.req c ∷ []) put_is) keeps work refl
+        has_applied p out t blame made at add blame add_after more u (out_is ∙ ap (λ (c : Change). out ++ rows.Applied made.req c ∷ []) put_is) keeps work refl refl

@@ -1,7 +1,7 @@
 -- A navigable was added, with one entry: who was there is shown, stands, is visited and needs something as before, at each step.
-use Rattle.hang_facts.proofs.Forms.{nav_is}
-use Rattle.hang_facts.specs.Hanging.{Hangs}
-use Rattle.load_ends.specs.Standing.{is_reached}
+use Rattle.seen_facts.proofs.Hang.Forms.{nav_is}
+use Rattle.seen_facts.specs.Hang.Hanging.{Hangs}
+use Rattle.seen_facts.specs.LoadEnds.Standing.{is_reached}
 use Rattle.log_model.proofs.Refl.{nat_eq_refl}
 use Rattle.log_model.specs.Equal.{holds}
 use Rattle.log_model.specs.History.{has_nav, is_of, later_row, same_entry, target_entry}
@@ -9,7 +9,7 @@ use Rattle.log_model.specs.Places.{aim_of, has_arrived, is_asleep, is_awake, is_
 use Rattle.log_model.specs.Seen.{Place, Seen, place_in, place_of}
 use Rattle.log_model.specs.Soundness.{IsSound}
 use Rattle.log_model.specs.declared.row.Row.{Row}
-use Rattle.shown_ways.proofs.Keeps.{way_there}
+use Rattle.tab_facts.proofs.ShownWays.Keeps.{way_there}
 use Rattle.std.proofs.Common.{Bool, List, None, Option, Some, [], ap, append-nil, cond, false, fold, inl, inr, not, refl, sym, true, ℕ, ◌&&◌, ◌++◌, ◌==◌, ◌||◌, ◌∙◌, ◌∷◌, ◌≡◌, ◌⊎◌}
 use Rattle.std.proofs.lemmas.List.Elements.{filter-append}
 use Rattle.std.specs.List.{list_all, list_any}
@@ -17,9 +17,9 @@ use Rattle.std.specs.Option.{option_map_or}
 use Rattle.std.specs.Prelude.{filter, nat_le}
 use Rattle.tab_ids.specs.declared.NavId.{NavId}
 use Rattle.tab_takes.proofs.Ways.{HangsThere, shown_back, shown_on}
-use Rattle.walk_facts.proofs.Placed.{found_nav}
-use Rattle.walk_facts.specs.Serving.{is_in_place, is_needing, is_stopping}
-use Rattle.walk_rows.specs.Since.{IsVisitedInNeed}
+use Rattle.seen_facts.proofs.Walk.Placed.{found_nav}
+use Rattle.seen_facts.specs.Walk.Serving.{is_in_place, is_needing, is_stopping}
+use Rattle.row_facts.specs.WalkRows.Since.{IsVisitedInNeed}
 
 -- ---- tests alike, of those that are among these
 

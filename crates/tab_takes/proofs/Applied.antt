@@ -1,23 +1,23 @@
 -- What a document made is applied, by any change: what a pass asks of the requests and the event goes on, and what is left to be shown of the change itself.
-use Rattle.calm_facts.proofs.Calms.{calm_need}
-use Rattle.calm_facts.specs.Calm.{AreRooted, CalmUnless, IsCalmYet, NeedIsNew, UnmovedAreHere}
-use Rattle.calm_facts.proofs.Loads.{HasOne}
-use Rattle.coord_facts.proofs.Held.{on_else}
-use Rattle.coord_facts.proofs.Unread.{next}
-use Rattle.doc_facts.proofs.Lives.{IsAsBefore, change_as, change_keeps, takes_in}
-use Rattle.entry_facts.proofs.Parts.{document_then}
-use Rattle.entry_facts.proofs.Skips.{without_made}
-use Rattle.frame_facts.specs.Lasting.{wish}
-use Rattle.frame_tab.proofs.Goings.{begun_of}
-use Rattle.each_facts.proofs.Courses.{was_asked}
-use Rattle.frame_tab.proofs.Running.{moved_same as moved_in}
-use Rattle.left_facts.proofs.Rows.{were_shown}
+use Rattle.tab_facts.proofs.Calm.Calms.{calm_need}
+use Rattle.tab_facts.specs.Calm.Calm.{AreRooted, CalmUnless, IsCalmYet, NeedIsNew, UnmovedAreHere}
+use Rattle.tab_facts.proofs.Calm.Loads.{HasOne}
+use Rattle.seen_facts.proofs.Coord.Held.{on_else}
+use Rattle.seen_facts.proofs.Coord.Unread.{next}
+use Rattle.seen_facts.proofs.Doc.Lives.{IsAsBefore, change_as, change_keeps, takes_in}
+use Rattle.seen_facts.proofs.Entry.Parts.{document_then}
+use Rattle.seen_facts.proofs.Entry.Skips.{without_made}
+use Rattle.tab_facts.specs.Frame.Lasting.{wish}
+use Rattle.tab_facts.proofs.FrameTab.Goings.{begun_of}
+use Rattle.seen_facts.proofs.Each.Courses.{was_asked}
+use Rattle.tab_facts.proofs.FrameTab.Running.{moved_same as moved_in}
+use Rattle.row_facts.proofs.Left.Rows.{were_shown}
 use Rattle.log_model.specs.Places.{aim_of, is_moved}
-use Rattle.mover_facts.specs.Movers.{IsMovedBy}
+use Rattle.seen_facts.specs.Mover.Movers.{IsMovedBy}
 use Rattle.tab_doors.specs.Working.{HasGoal}
 use Rattle.tab_rests.proofs.PassedOn.{KeepsAwake, MayServe, ParentsShown, TakersServe, aim_is, live_then}
 use Rattle.tab_rests.specs.PassedOn.{AreBlamed, InPass, IsGoing, IsLoadOf, IsOpen, IsPassing, IsTab, LeavesQueue, LoadsLive, MayCause, MayStand, aim_in}
-use Rattle.walk_rows.proofs.Moved.{applied_moved, open_none}
+use Rattle.row_facts.proofs.WalkRows.Moved.{applied_moved, open_none}
 use Rattle.log_model.proofs.Refl.{nat_eq_refl}
 use Rattle.log_model.specs.After.{ended}
 use Rattle.log_model.specs.AfterRequests.{entries_taken, on_request}
@@ -29,15 +29,15 @@ use Rattle.log_model.specs.declared.job.Why.{Why}
 use Rattle.log_model.specs.declared.made.Made.{Made}
 use Rattle.log_model.specs.declared.row_kind.Actor.{Actor}
 use Rattle.log_model.specs.declared.row_kind.RowKind.{RowKind}
-use Rattle.mover_facts.proofs.Changes.{applied_places}
-use Rattle.owed_facts.proofs.Ends.{loose_more, loose_owed}
-use Rattle.owed_facts.proofs.Rows.{applied_lasts}
-use Rattle.owed_facts.specs.Owed.{IsLoose}
-use Rattle.request_facts.proofs.LookUps.{on_itself}
-use Rattle.request_facts.proofs.Readers.{SameReads, on_read, reads_then}
-use Rattle.rest_rows.proofs.Rows.{applied_rests}
-use Rattle.rest_rows.proofs.Shown.{applied_awake}
-use Rattle.rest_rows.specs.Moving.{AllRest}
+use Rattle.seen_facts.proofs.Mover.Changes.{applied_places}
+use Rattle.row_facts.proofs.Owed.Ends.{loose_more, loose_owed}
+use Rattle.row_facts.proofs.Owed.Rows.{applied_lasts}
+use Rattle.row_facts.specs.Owed.Owed.{IsLoose}
+use Rattle.seen_facts.proofs.Request.LookUps.{on_itself}
+use Rattle.seen_facts.proofs.Request.Readers.{SameReads, on_read, reads_then}
+use Rattle.row_facts.proofs.RestRows.Rows.{applied_rests}
+use Rattle.row_facts.proofs.RestRows.Shown.{applied_awake}
+use Rattle.row_facts.specs.RestRows.Moving.{AllRest}
 use Rattle.seen_laws.proofs.InEvents.{now_more}
 use Rattle.seen_laws.specs.InEvent.{InEvent, now_of, row_of}
 use Rattle.std.proofs.Common.{Bool, List, None, Option, Some, [], ap, false, inl, inr, length, not, refl, subst, sym, true, ℕ, ◌&&◌, ◌++◌, ◌==◌, ◌∙◌, ◌∷◌, ◌≡◌, ◌≤◌, ◌⊎◌}
@@ -54,8 +54,8 @@ use Rattle.tab_takes.proofs.Leaving.{cause_then, causes_then}
 use Rattle.tab_takes.proofs.Opens.{open_then}
 use Rattle.tab_takes.proofs.Verdicts.{s, tab}
 use Rattle.tab_takes.proofs.Where.{joined_same}
-use Rattle.tab_takes.specs.Taking.{HasTaken, IsTaking, IsToTake}
-use Rattle.walk_rows.proofs.Sinces.{applied_since, since_itself}
+use Rattle.tab_takes.specs.Taking.{HasTaken, IsTaking, IsToTake, is_reloading}
+use Rattle.row_facts.proofs.WalkRows.Sinces.{applied_since, since_itself}
 use Rattle.log_model.specs.declared.job.Why.TheVariants as whys
 use Rattle.log_model.specs.declared.outcome.Ending.TheVariants as endings
 use Rattle.log_model.specs.declared.row_kind.RowKind.TheVariants as rows
@@ -250,7 +250,7 @@ module _ (p : InPass) (out : List RowKind) (t : Tables) (blame : List (StateId �
           ready = ready_back now_ n made.req q at.taking.there at.taking.unstarted other starts after.usable;
         }
 
-    module _ (new : List RowKind) (u : Tables) (out_is : new ≡ out ++ rows.Applied made.req change ∷ []) (keeps : KeepsRun t u) (work : IsAtWork e new u) (no_turn : is_traverse (row_of e (rows.Applied made.req change)) ≡ false) where
+    module _ (new : List RowKind) (u : Tables) (out_is : new ≡ out ++ rows.Applied made.req change ∷ []) (keeps : KeepsRun t u) (work : IsAtWork e new u) (no_turn : is_traverse (row_of e (rows.Applied made.req change)) ≡ false) (no_reload : is_reloading (rows.Applied made.req change) ≡ false) where
       now_is : now_of e new ≡ n
       now_is = ap (λ (l : List RowKind). now_of e l) out_is ∙ now_more e out (rows.Applied made.req change)
 
@@ -277,7 +277,7 @@ module _ (p : InPass) (out : List RowKind) (t : Tables) (blame : List (StateId �
             open_ = subst (λ (x : Seen). IsTaking e u.running noted x) (sym now_is) (subst (λ (r : Option ReqId). IsTaking e r noted n) (sym keeps.running) taking_n);
             loose = loose_n;
             cause = subst (λ (x : Seen). MayCause x (whys.Req made.req)) (sym now_is) (its_cause after.tab_n);
-            ended = record { kind = rows.Applied made.req change; out = out_is; ends = refl; no_turn = no_turn; up = λ up. nat_eq_refl made.req.0 };
+            ended = record { kind = rows.Applied made.req change; out = out_is; ends = refl; no_turn = no_turn; no_reload = no_reload; up = λ up. nat_eq_refl made.req.0 };
             queue = subst (λ (x : Seen). LeavesQueue now_ x) (sym now_is) queue_n;
             kept = keeps;
           }

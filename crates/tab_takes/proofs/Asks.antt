@@ -6,7 +6,7 @@ use Rattle.log_model.specs.Causes.{denial_at_delivery}
 use Rattle.log_model.specs.Once.{next_entry_of, next_state}
 use Rattle.log_model.specs.Order.{SameHistory}
 use Rattle.log_model.specs.Soundness.{hangs_on, is_owned_by}
-use Rattle.frame_facts.proofs.Removed.{unhung_owner}
+use Rattle.tab_facts.proofs.Frame.Removed.{unhung_owner}
 use Rattle.log_model.specs.Seen.{Seen}
 use Rattle.log_model.specs.declared.change.Change.{Change}
 use Rattle.log_model.specs.declared.made.Made.{Made}

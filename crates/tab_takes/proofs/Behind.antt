@@ -1,8 +1,8 @@
 -- Where what a document made is at hand, and taken up now, nothing that this document made is held back: nothing is while no traversal runs, and while one does only what is of navigables that it has moved.
-use Rattle.asked_facts.specs.Asking.{IsTabRequest, IsThere}
-use Rattle.coord_facts.proofs.Leadings.{doc_same}
-use Rattle.coord_facts.specs.Leading.{held_back}
-use Rattle.frame_facts.specs.Lasting.{IsOfItsNav, wish}
+use Rattle.seen_facts.specs.Asked.Asking.{IsTabRequest, IsThere}
+use Rattle.seen_facts.proofs.Coord.Leadings.{doc_same}
+use Rattle.seen_facts.specs.Coord.Leading.{held_back}
+use Rattle.tab_facts.specs.Frame.Lasting.{IsOfItsNav, wish}
 use Rattle.log_model.proofs.Refl.{nat_eq_refl}
 use Rattle.log_model.specs.Equal.{has_req, holds}
 use Rattle.log_model.specs.History.{has_nav}
@@ -12,8 +12,8 @@ use Rattle.log_model.specs.Seen.{Asked, Document, Seen, document_of, request_in}
 use Rattle.log_model.specs.declared.made.Made.{Made}
 use Rattle.log_model.specs.declared.request.Request.{Request}
 use Rattle.log_model.specs.declared.row_kind.RowKind.{RowKind}
-use Rattle.request_facts.specs.Cores.{Core, core, core_of}
-use Rattle.request_facts.specs.Knowns.{AllOf, IsParked, req_itself}
+use Rattle.seen_facts.specs.Request.Cores.{Core, core, core_of}
+use Rattle.seen_facts.specs.Request.Knowns.{AllOf, IsParked, req_itself}
 use Rattle.std.proofs.Common.{Bool, List, None, Option, Some, [], ap, false, refl, subst, sym, true, ◌==◌, ◌||◌, ◌∙◌, ◌∷◌, ◌≡◌}
 use Rattle.std.proofs.lemmas.Bool.{or_right}
 use Rattle.std.specs.Prelude.{filter, option_and_then}

@@ -1,9 +1,9 @@
 -- What a document made is refused: the new frame's number is taken, or the frame to be removed isn't the document's.
-use Rattle.coord_facts.proofs.Unread.{next}
-use Rattle.entry_facts.proofs.Skips.{without_made}
-use Rattle.frame_facts.specs.Lasting.{wish}
-use Rattle.frame_tab.proofs.Goings.{begun_of}
-use Rattle.last_facts.proofs.Rows.{refused_lasting}
+use Rattle.seen_facts.proofs.Coord.Unread.{next}
+use Rattle.seen_facts.proofs.Entry.Skips.{without_made}
+use Rattle.tab_facts.specs.Frame.Lasting.{wish}
+use Rattle.tab_facts.proofs.FrameTab.Goings.{begun_of}
+use Rattle.tab_facts.proofs.Last.Rows.{refused_lasting}
 use Rattle.log_model.proofs.Refl.{nat_eq_refl}
 use Rattle.log_model.specs.Causes.{denial_at_delivery}
 use Rattle.log_model.specs.Seen.{Asked, Seen}
@@ -11,12 +11,12 @@ use Rattle.log_model.specs.declared.made.Made.{Made}
 use Rattle.log_model.specs.declared.outcome.Denial.{Denial}
 use Rattle.log_model.specs.declared.row_kind.Actor.{Actor}
 use Rattle.log_model.specs.declared.row_kind.RowKind.{RowKind}
-use Rattle.owed_facts.proofs.Ends.{loose_more, loose_owed}
-use Rattle.owed_facts.proofs.Rows.{refused_lasts}
-use Rattle.owed_facts.specs.Owed.{IsLoose}
-use Rattle.request_facts.proofs.Readers.{on_read}
-use Rattle.rest_rows.proofs.Rows.{refused_rests}
-use Rattle.rest_rows.specs.Moving.{AllRest}
+use Rattle.row_facts.proofs.Owed.Ends.{loose_more, loose_owed}
+use Rattle.row_facts.proofs.Owed.Rows.{refused_lasts}
+use Rattle.row_facts.specs.Owed.Owed.{IsLoose}
+use Rattle.seen_facts.proofs.Request.Readers.{on_read}
+use Rattle.row_facts.proofs.RestRows.Rows.{refused_rests}
+use Rattle.row_facts.specs.RestRows.Moving.{AllRest}
 use Rattle.seen_laws.proofs.InEvents.{now_more}
 use Rattle.seen_laws.specs.InEvent.{InEvent, now_of}
 use Rattle.std.proofs.Common.{List, Some, [], ap, length, refl, subst, sym, ◌++◌, ◌∙◌, ◌∷◌, ◌≡◌, ◌≤◌}
@@ -34,7 +34,7 @@ use Rattle.tab_takes.proofs.Verdicts.{s, tab}
 use Rattle.tab_takes.proofs.Where.{loads_same, made_at_hand}
 use Rattle.tab_takes.specs.Taking.{HasTaken, IsTaking, IsToTake}
 use Rattle.tab_rests.proofs.PassedOn.{IsNoProcess, denied_tab}
-use Rattle.walk_rows.proofs.Moved.{refused_moved}
+use Rattle.row_facts.proofs.WalkRows.Moved.{refused_moved}
 use Rattle.log_model.specs.declared.job.Why.TheVariants as whys
 use Rattle.log_model.specs.declared.outcome.Ending.TheVariants as endings
 use Rattle.log_model.specs.declared.row_kind.RowKind.TheVariants as rows
@@ -109,7 +109,7 @@ module _ (p : InPass) (out : List RowKind) (t : Tables) (blame : List (StateId �
           open_ = subst (λ (x : Seen). IsTaking e u.running blame x) (sym now_is) (subst (λ (x : Tables). IsTaking e x.running blame n) (sym same) (taking_then p out t blame made at n (endings.Refused reason) refl refl refl refl refl refl refl (λ why nav by. refused_moved now_ e.event e.actor why nav by made.req reason) tab_n));
           loose = loose_n;
           cause = subst (λ (x : Seen). MayCause x (whys.Req made.req)) (sym now_is) (cause_then p out t blame made at n tab_n (on_read wish now_.requests made.req (λ (x : Asked). record x { ending = Some (endings.Refused reason) }) (λ x. refl)) (on_read begun_of now_.requests made.req (λ (x : Asked). record x { ending = Some (endings.Refused reason) }) (λ x. refl)));
-          ended = record { kind = rows.Refused made.req reason; out = out_is; ends = refl; no_turn = refl; up = λ up. nat_eq_refl made.req.0 };
+          ended = record { kind = rows.Refused made.req reason; out = out_is; ends = refl; no_turn = refl; no_reload = refl; up = λ up. nat_eq_refl made.req.0 };
           queue = subst (λ (x : Seen). LeavesQueue now_ x) (sym now_is) (queue_then p out t blame made at n (endings.Refused reason) refl refl refl refl refl refl refl (λ why nav by. refused_moved now_ e.event e.actor why nav by made.req reason) tab_n);
           kept = subst (λ (x : Tables). KeepsRun t x) (sym same) (record { running = refl; goal = refl; keep = refl });
         }

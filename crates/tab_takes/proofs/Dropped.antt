@@ -1,13 +1,13 @@
 -- What a document made is dropped: by the request that took its navigable's last entries, or by the one that moved the navigable.
-use Rattle.coord_facts.proofs.Unread.{next}
-use Rattle.coord_facts.specs.Epochs.{IsWithin, MadeWithin}
-use Rattle.coord_facts.specs.Leading.{held_back}
-use Rattle.entry_facts.proofs.Skips.{without_made}
-use Rattle.entry_facts.specs.Entries.{waiting}
-use Rattle.frame_facts.specs.Lasting.{wish}
-use Rattle.frame_facts.specs.Taking.{IsWaitingHere}
-use Rattle.hang_facts.specs.Members.{Has}
-use Rattle.last_facts.proofs.Rows.{dropped_lasting}
+use Rattle.seen_facts.proofs.Coord.Unread.{next}
+use Rattle.seen_facts.specs.Coord.Epochs.{IsWithin, MadeWithin}
+use Rattle.seen_facts.specs.Coord.Leading.{held_back}
+use Rattle.seen_facts.proofs.Entry.Skips.{without_made}
+use Rattle.seen_facts.specs.Entry.Entries.{waiting}
+use Rattle.tab_facts.specs.Frame.Lasting.{wish}
+use Rattle.tab_facts.specs.Frame.Taking.{IsWaitingHere}
+use Rattle.seen_facts.specs.Hang.Members.{Has}
+use Rattle.tab_facts.proofs.Last.Rows.{dropped_lasting}
 use Rattle.log_model.proofs.Refl.{nat_eq_refl}
 use Rattle.log_model.specs.AfterRequests.{changes_history, is_held_up, is_in_place, without_req}
 use Rattle.log_model.specs.Causes.{by_event, by_mover, is_outdated}
@@ -21,15 +21,15 @@ use Rattle.log_model.specs.declared.job.Why.{Why}
 use Rattle.log_model.specs.declared.made.Made.{Made}
 use Rattle.log_model.specs.declared.outcome.Cause.{Cause}
 use Rattle.log_model.specs.declared.row_kind.RowKind.{RowKind}
-use Rattle.frame_tab.proofs.Goings.{begun_of}
-use Rattle.mover_facts.specs.Movers.{IsMovedBy, moves_away, was_moved}
-use Rattle.request_facts.proofs.Readers.{on_read}
+use Rattle.tab_facts.proofs.FrameTab.Goings.{begun_of}
+use Rattle.seen_facts.specs.Mover.Movers.{IsMovedBy, moves_away, was_moved}
+use Rattle.seen_facts.proofs.Request.Readers.{on_read}
 use Rattle.tab_rests.specs.PassedOn.{InPass, IsGoing, IsPassing, IsTab, LeavesQueue, MayCause}
-use Rattle.owed_facts.proofs.Ends.{loose_more, loose_owed}
-use Rattle.owed_facts.proofs.Rows.{dropped_lasts}
-use Rattle.owed_facts.specs.Owed.{IsLoose}
-use Rattle.rest_rows.proofs.Rows.{dropped_rests}
-use Rattle.rest_rows.specs.Moving.{AllRest}
+use Rattle.row_facts.proofs.Owed.Ends.{loose_more, loose_owed}
+use Rattle.row_facts.proofs.Owed.Rows.{dropped_lasts}
+use Rattle.row_facts.specs.Owed.Owed.{IsLoose}
+use Rattle.row_facts.proofs.RestRows.Rows.{dropped_rests}
+use Rattle.row_facts.specs.RestRows.Moving.{AllRest}
 use Rattle.seen_laws.proofs.InEvents.{now_more}
 use Rattle.seen_laws.proofs.Keyed.{find_has as seen_number}
 use Rattle.seen_laws.specs.Blocks.{point_at}
@@ -52,7 +52,7 @@ use Rattle.tab_takes.proofs.Leaving.{cause_then, queue_then, taking_then}
 use Rattle.tab_takes.proofs.Verdicts.{IsOfIt, current, its, s, tab}
 use Rattle.tab_takes.proofs.Where.{loads_same, made_at_hand, no_load}
 use Rattle.tab_takes.specs.Taking.{HasTaken, IsTaking, IsToTake}
-use Rattle.walk_rows.proofs.Moved.{dropped_moved}
+use Rattle.row_facts.proofs.WalkRows.Moved.{dropped_moved}
 use Rattle.log_model.specs.declared.job.Why.TheVariants as whys
 use Rattle.log_model.specs.declared.outcome.Cause.TheVariants as drops
 use Rattle.log_model.specs.declared.outcome.Ending.TheVariants as endings
@@ -144,7 +144,7 @@ module _ (p : InPass) (out : List RowKind) (t : Tables) (blame : List (StateId �
           open_ = subst (λ (x : Seen). IsTaking e u.running blame x) (sym now_is) (subst (λ (x : Tables). IsTaking e x.running blame n) (sym same) (taking_then p out t blame made at n (endings.Dropped cause) refl refl refl refl refl refl refl (λ why nav by. dropped_moved now_ e.event e.actor why nav by made.req cause) tab_n));
           loose = loose_n;
           cause = subst (λ (x : Seen). MayCause x (whys.Req made.req)) (sym now_is) (cause_then p out t blame made at n tab_n (on_read wish now_.requests made.req (λ (x : Asked). record x { ending = Some (endings.Dropped cause) }) (λ x. refl)) (on_read begun_of now_.requests made.req (λ (x : Asked). record x { ending = Some (endings.Dropped cause) }) (λ x. refl)));
-          ended = record { kind = rows.Dropped made.req cause; out = out_is; ends = refl; no_turn = refl; up = λ due. absurd (off due) };
+          ended = record { kind = rows.Dropped made.req cause; out = out_is; ends = refl; no_turn = refl; no_reload = refl; up = λ due. absurd (off due) };
           queue = subst (λ (x : Seen). LeavesQueue now_ x) (sym now_is) (queue_then p out t blame made at n (endings.Dropped cause) refl refl refl refl refl refl refl (λ why nav by. dropped_moved now_ e.event e.actor why nav by made.req cause) tab_n);
           kept = subst (λ (x : Tables). KeepsRun t x) (sym same) (record { running = refl; goal = refl; keep = refl });
         }

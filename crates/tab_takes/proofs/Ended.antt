@@ -1,13 +1,13 @@
 -- A row that ends one request, which hasn't begun: ongoing loads, ready ones among them, are as they were.
-use Rattle.load_facts.specs.Loading.{Look, is_ongoing, look, look_of}
+use Rattle.seen_facts.specs.Load.Loading.{Look, is_ongoing, look, look_of}
 use Rattle.log_model.specs.ActsAtOnce.{has_document}
 use Rattle.log_model.specs.Equal.{holds}
 use Rattle.log_model.specs.Orders.{is_usable, ongoing_load}
 use Rattle.log_model.specs.Places.{is_load, is_ongoing_load}
 use Rattle.log_model.specs.Seen.{Asked, Document, Seen, request_in, request_of}
-use Rattle.owed_facts.proofs.Requests.{req_same}
-use Rattle.request_facts.proofs.Readers.{SameReads}
-use Rattle.rest_facts.specs.Between.{IsOfLoad}
+use Rattle.row_facts.proofs.Owed.Requests.{req_same}
+use Rattle.seen_facts.proofs.Request.Readers.{SameReads}
+use Rattle.seen_facts.specs.Rest.Between.{IsOfLoad}
 use Rattle.std.proofs.Common.{Bool, None, Option, Some, ap, false, refl, sym, true, ◌&&◌, ◌==◌, ◌∙◌, ◌≡◌}
 use Rattle.std.proofs.lemmas.Bool.{and_parts}
 use Rattle.std.specs.List.{list_any}

@@ -1,13 +1,13 @@
 -- On the way up from a navigable that is awake and has an entry, each is awake on a document whose state has an entry; and the greatest used step where a row comes at a step that is used.
-use Rattle.hang_facts.proofs.Forms.{nav_is}
-use Rattle.hang_facts.proofs.Hung.{own_form, place_chain}
-use Rattle.hang_facts.proofs.Members.{Passing, any_has, has_any}
-use Rattle.hang_facts.proofs.Parts.{state_is}
-use Rattle.hang_facts.specs.AsPlaces.{IsChain}
-use Rattle.hang_facts.specs.Forms.{Form, form_in, form_of, forms_of}
-use Rattle.hang_facts.specs.Hanging.{IsPlaced}
-use Rattle.hang_facts.specs.Members.{Has}
-use Rattle.home_facts.specs.Homes.{IsHomed, IsOnAwake}
+use Rattle.seen_facts.proofs.Hang.Forms.{nav_is}
+use Rattle.seen_facts.proofs.Hang.Hung.{own_form, place_chain}
+use Rattle.seen_facts.proofs.Hang.Members.{Passing, any_has, has_any}
+use Rattle.seen_facts.proofs.Hang.Parts.{state_is}
+use Rattle.seen_facts.specs.Hang.AsPlaces.{IsChain}
+use Rattle.seen_facts.specs.Hang.Forms.{Form, form_in, form_of, forms_of}
+use Rattle.seen_facts.specs.Hang.Hanging.{IsPlaced}
+use Rattle.seen_facts.specs.Hang.Members.{Has}
+use Rattle.seen_facts.specs.Home.Homes.{IsHomed, IsOnAwake}
 use Rattle.log_model.proofs.Refl.{nat_eq_refl}
 use Rattle.log_model.specs.History.{first_step, has_nav, has_row, has_state, is_of, used_step_at}
 use Rattle.log_model.specs.Seen.{Document, Place, Seen, awake, document_of, place_of}
@@ -25,7 +25,7 @@ use Rattle.tab_ids.specs.declared.NavId.{NavId}
 use Rattle.tab_ids.specs.declared.ReqId.{ReqId}
 use Rattle.tab_ids.specs.declared.StateId.{StateId}
 use Rattle.tab_rests.specs.PassedOn.{IsTab}
-use Rattle.walk_facts.proofs.Placed.{found_nav}
+use Rattle.seen_facts.proofs.Walk.Placed.{found_nav}
 
 -- ---- who is awake on the way up
 

@@ -1,17 +1,17 @@
 -- The entry that what a document made brings is new, and later than each applied one of the document.
-use Rattle.coord_facts.specs.Leading.{is_live_order, once_finished, orders_of_desk, pending_view}
-use Rattle.doc_facts.specs.Docs.{makes_at, makes_by, makes_due, makes_it, makes_sent}
-use Rattle.each_facts.specs.Items.{Each}
-use Rattle.each_facts.specs.Mades.{Ascend, IsNext}
-use Rattle.entry_facts.proofs.Firsts.{IsFirstOf, each_parts, first_with, own_first}
-use Rattle.entry_facts.specs.Entries.{IsItsOwn, IsMadeThere, mades_of, untaken, untold, waiting}
+use Rattle.seen_facts.specs.Coord.Leading.{is_live_order, once_finished, orders_of_desk, pending_view}
+use Rattle.seen_facts.specs.Doc.Docs.{makes_at, makes_by, makes_due, makes_it, makes_sent}
+use Rattle.seen_facts.specs.Each.Items.{Each}
+use Rattle.seen_facts.specs.Each.Mades.{Ascend, IsNext}
+use Rattle.seen_facts.proofs.Entry.Firsts.{IsFirstOf, each_parts, first_with, own_first}
+use Rattle.seen_facts.specs.Entry.Entries.{IsItsOwn, IsMadeThere, mades_of, untaken, untold, waiting}
 use Rattle.entry_store.specs.Store.{IsStateOf}
-use Rattle.frame_whole.proofs.Soundly.{none_entry}
-use Rattle.frame_whole.specs.Untold.{LeadsIf}
-use Rattle.hang_facts.proofs.Forms.{nav_is}
-use Rattle.hang_facts.proofs.Members.{Passing, any_has, has_any}
-use Rattle.hang_facts.proofs.Parts.{state_is}
-use Rattle.hang_facts.specs.Members.{Has}
+use Rattle.tab_facts.proofs.FrameWhole.Soundly.{none_entry}
+use Rattle.tab_facts.specs.FrameWhole.Untold.{LeadsIf}
+use Rattle.seen_facts.proofs.Hang.Forms.{nav_is}
+use Rattle.seen_facts.proofs.Hang.Members.{Passing, any_has, has_any}
+use Rattle.seen_facts.proofs.Hang.Parts.{state_is}
+use Rattle.seen_facts.specs.Hang.Members.{Has}
 use Rattle.log_model.proofs.Refl.{nat_eq_refl}
 use Rattle.log_model.specs.AfterDocuments.{view_finished}
 use Rattle.log_model.specs.History.{has_state, is_of}
@@ -25,9 +25,9 @@ use Rattle.log_model.specs.declared.job.Task.{Task}
 use Rattle.log_model.specs.declared.made.Made.{Made}
 use Rattle.log_model.specs.declared.row.Row.{Row}
 use Rattle.log_model.specs.declared.row_kind.RowKind.{RowKind}
-use Rattle.place_facts.specs.Standing.{IsShownOnce}
+use Rattle.seen_facts.specs.Place.Standing.{IsShownOnce}
 use Rattle.seen_laws.proofs.Keyed.{find_has as seen_number}
-use Rattle.coord_facts.proofs.Singles.{AreApart}
+use Rattle.seen_facts.proofs.Coord.Singles.{AreApart}
 use Rattle.std.proofs.Common.{Bool, List, None, Option, Some, [], ap, arith, cond, false, fold, length, not, refl, subst, suc, sym, true, zero, ℕ, ◌&&◌, ◌<◌, ◌==◌, ◌||◌, ◌∙◌, ◌∷◌, ◌≡◌, ◌≤◌}
 use Rattle.std.proofs.lemmas.Bool.{and_parts, eqb-true}
 use Rattle.std.proofs.lemmas.Bool.Decides.{nat_tests}

@@ -1,12 +1,12 @@
 -- What callers have before what a document made is taken: where each ongoing load's navigable is reached, or has no entry, all on the way to it are awake and have arrived; and where no traversal runs, each awake navigable is where it is to be.
-use Rattle.calm_facts.specs.Calm.{CalmUnless, IsCalmYet, IsHere, UnmovedAreHere}
-use Rattle.load_ends.specs.Standing.{is_reached}
+use Rattle.tab_facts.specs.Calm.Calm.{CalmUnless, IsCalmYet, IsHere, UnmovedAreHere}
+use Rattle.seen_facts.specs.LoadEnds.Standing.{is_reached}
 use Rattle.log_model.specs.Equal.{holds}
 use Rattle.log_model.specs.History.{has_nav, has_row}
 use Rattle.log_model.specs.Places.{aim_of, has_arrived, is_given_target, is_lost_in, is_placed, is_shown, is_standing, way_of, way_to}
 use Rattle.log_model.specs.Seen.{Place, Seen, Status, asleep, awake, lost, place_of}
 use Rattle.log_model.specs.declared.made.Made.{Made}
-use Rattle.hang_facts.proofs.Forms.{nav_is}
+use Rattle.seen_facts.proofs.Hang.Forms.{nav_is}
 use Rattle.std.proofs.Common.{Bool, List, None, Option, Some, [], ap, false, inl, inr, not, refl, sym, true, ◌&&◌, ◌==◌, ◌||◌, ◌∙◌, ◌∷◌, ◌≡◌, ◌⊎◌}
 use Rattle.std.proofs.lemmas.Bool.{and_parts}
 use Rattle.std.specs.List.{list_all, list_any}
@@ -17,7 +17,7 @@ use Rattle.tab_ids.specs.declared.NavId.{NavId}
 use Rattle.tab_ids.specs.declared.ReqId.{ReqId}
 use Rattle.tab_takes.specs.Taking.{ArrivedWhere, IsArrived, LoadsArrived}
 use Rattle.tab_rests.specs.PassedOn.{IsTab}
-use Rattle.walk_facts.proofs.Placed.{found_nav}
+use Rattle.seen_facts.proofs.Walk.Placed.{found_nav}
 
 -- each of these passes
 each_of : (f : NavId → Bool) (navs : List NavId) → list_all f navs ≡ true → (x : NavId) → has_nav navs x ≡ true → f x ≡ true

@@ -1,5 +1,5 @@
 -- Places after a navigable was given an entry, where others may have lost their last ones; and documents, of which one made the entry.
-use Rattle.home_facts.specs.Homes.{document_in}
+use Rattle.seen_facts.specs.Home.Homes.{document_in}
 use Rattle.log_model.specs.AfterDocuments.{on_document}
 use Rattle.log_model.specs.AfterPlaces.{given_entry, on_place, with_taker}
 use Rattle.log_model.specs.History.{History, has_nav, has_row}

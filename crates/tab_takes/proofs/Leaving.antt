@@ -1,18 +1,18 @@
 -- A row that ends the request of what a document made, and leaves the history: a pass may follow then as before.
-use Rattle.calm_facts.specs.Calm.{AreRooted, CalmUnless, IsCalmYet, IsHere, IsRooted, UnmovedAreHere}
-use Rattle.coord_facts.proofs.Held.{on_else}
-use Rattle.entry_facts.proofs.Skips.{without_made}
-use Rattle.frame_facts.specs.Lasting.{wish}
-use Rattle.frame_tab.proofs.Goings.{begun_of}
-use Rattle.hang_facts.specs.Members.{Has}
-use Rattle.home_facts.specs.Homes.{document_in}
-use Rattle.left_facts.specs.Left.{LastWereShown, OwnersFollow, WasEverShown, WereShown}
-use Rattle.load_ends.specs.Standing.{is_reached}
+use Rattle.tab_facts.specs.Calm.Calm.{AreRooted, CalmUnless, IsCalmYet, IsHere, IsRooted, UnmovedAreHere}
+use Rattle.seen_facts.proofs.Coord.Held.{on_else}
+use Rattle.seen_facts.proofs.Entry.Skips.{without_made}
+use Rattle.tab_facts.specs.Frame.Lasting.{wish}
+use Rattle.tab_facts.proofs.FrameTab.Goings.{begun_of}
+use Rattle.seen_facts.specs.Hang.Members.{Has}
+use Rattle.seen_facts.specs.Home.Homes.{document_in}
+use Rattle.row_facts.specs.Left.Left.{LastWereShown, OwnersFollow, WasEverShown, WereShown}
+use Rattle.seen_facts.specs.LoadEnds.Standing.{is_reached}
 use Rattle.log_model.specs.After.{ended}
 use Rattle.log_model.specs.AfterRequests.{without_req}
 use Rattle.log_model.specs.History.{History, has_row, has_state}
 use Rattle.log_model.specs.Orders.{is_usable}
-use Rattle.frame_tab.proofs.Running.{moved_same as moved_in}
+use Rattle.tab_facts.proofs.FrameTab.Running.{moved_same as moved_in}
 use Rattle.log_model.specs.Places.{aim_of, aim_with, is_awake, is_given_target, is_gone, is_moved, is_shown, is_traversal, is_under_way}
 use Rattle.log_model.specs.declared.row.Row.{Row}
 use Rattle.log_model.specs.Seen.{Asked, Document, Place, Seen, place_in, place_of, request_of}
@@ -20,13 +20,13 @@ use Rattle.log_model.specs.declared.job.Why.{Why}
 use Rattle.log_model.specs.declared.made.Made.{Made}
 use Rattle.log_model.specs.declared.outcome.Ending.{Ending}
 use Rattle.log_model.specs.declared.row_kind.RowKind.{RowKind}
-use Rattle.mover_facts.proofs.Places.{same_ways}
-use Rattle.mover_facts.proofs.Stays.{KeepWays}
-use Rattle.mover_facts.specs.Movers.{IsMovedBy}
-use Rattle.owed_facts.proofs.Aims.{ended_aim}
-use Rattle.owed_facts.proofs.Rows.{IsIdle}
-use Rattle.each_facts.specs.Runs.{is_run}
-use Rattle.request_facts.proofs.Readers.{SameReads, on_read}
+use Rattle.seen_facts.proofs.Mover.Places.{same_ways}
+use Rattle.seen_facts.proofs.Mover.Stays.{KeepWays}
+use Rattle.seen_facts.specs.Mover.Movers.{IsMovedBy}
+use Rattle.row_facts.proofs.Owed.Aims.{ended_aim}
+use Rattle.row_facts.proofs.Owed.Rows.{IsIdle}
+use Rattle.seen_facts.specs.Each.Runs.{is_run}
+use Rattle.seen_facts.proofs.Request.Readers.{SameReads, on_read}
 use Rattle.std.proofs.Common.{Bool, List, None, Option, Some, [], ap, false, inl, inr, refl, subst, sym, true, ◌&&◌, ◌==◌, ◌∙◌, ◌≡◌, ◌≤◌, ◌⊎◌}
 use Rattle.std.specs.List.{list_any}
 use Rattle.std.specs.Prelude.{option_map}
@@ -42,7 +42,7 @@ use Rattle.tab_takes.proofs.Opens.{new_of, open_then}
 use Rattle.tab_takes.proofs.Verdicts.{s, tab}
 use Rattle.tab_takes.proofs.Where.{joined_same}
 use Rattle.tab_takes.specs.Taking.{IsTaking, IsToTake}
-use Rattle.walk_rows.proofs.Sinces.{places_since, since_itself}
+use Rattle.row_facts.proofs.WalkRows.Sinces.{places_since, since_itself}
 use Rattle.log_model.specs.declared.job.Why.TheVariants as whys
 
 -- what is read of the history of a place

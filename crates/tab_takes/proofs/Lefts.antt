@@ -1,12 +1,12 @@
 -- A frame is removed: the entries of a navigable stay, or all go; who loses one is the frame, or below it; and who is left some has the same target, at each used step.
-use Rattle.frame_tab.proofs.Aims.{filter_in, latest, part_of, target_own}
-use Rattle.hang_facts.proofs.Forms.{nav_is}
-use Rattle.hang_facts.proofs.Hung.{hangs_as, is_hung, own_form, place_chain}
-use Rattle.hang_facts.proofs.Members.{Passing, any_has, find_has, has_any, has_filter, has_tidied, into_filter, into_map, into_tidied}
-use Rattle.hang_facts.specs.AsPlaces.{IsChain, IsHung}
-use Rattle.hang_facts.specs.Forms.{Form, form_in, form_of, forms_of}
-use Rattle.hang_facts.specs.Hanging.{Hangs, IsPlaced}
-use Rattle.hang_facts.specs.Members.{Has}
+use Rattle.tab_facts.proofs.FrameTab.Aims.{filter_in, latest, part_of, target_own}
+use Rattle.seen_facts.proofs.Hang.Forms.{nav_is}
+use Rattle.seen_facts.proofs.Hang.Hung.{hangs_as, is_hung, own_form, place_chain}
+use Rattle.seen_facts.proofs.Hang.Members.{Passing, any_has, find_has, has_any, has_filter, has_tidied, into_filter, into_map, into_tidied}
+use Rattle.seen_facts.specs.Hang.AsPlaces.{IsChain, IsHung}
+use Rattle.seen_facts.specs.Hang.Forms.{Form, form_in, form_of, forms_of}
+use Rattle.seen_facts.specs.Hang.Hanging.{Hangs, IsPlaced}
+use Rattle.seen_facts.specs.Hang.Members.{Has}
 use Rattle.log_model.proofs.Refl.{nat_eq_refl}
 use Rattle.log_model.specs.History.{History, applied, has_nav, has_row, has_state, is_of, later_row, target_entry, tidied, used_step_at}
 use Rattle.log_model.specs.Places.{holder_of}
@@ -20,7 +20,7 @@ use Rattle.std.specs.Option.{option_map_or}
 use Rattle.std.specs.Prelude.{filter, find, nat_le, option_map, slice_get}
 use Rattle.tab_ids.specs.declared.NavId.{NavId}
 use Rattle.tab_ids.specs.declared.StateId.{StateId}
-use Rattle.walk_facts.proofs.Placed.{found_nav}
+use Rattle.seen_facts.proofs.Walk.Placed.{found_nav}
 use Rattle.log_model.specs.declared.change.Change.TheVariants as changes
 
 -- ---- used steps

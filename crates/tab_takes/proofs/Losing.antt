@@ -1,7 +1,7 @@
 -- What a document made is applied by a change that can take entries: what goes on of those that are left one, and for which request the documents are discarded whose states lost theirs.
-use Rattle.calm_facts.specs.Calm.{CalmUnless, IsCalmYet, IsHere, UnmovedAreHere}
-use Rattle.entry_facts.proofs.Skips.{without_made}
-use Rattle.load_ends.specs.Standing.{is_reached}
+use Rattle.tab_facts.specs.Calm.Calm.{CalmUnless, IsCalmYet, IsHere, UnmovedAreHere}
+use Rattle.seen_facts.proofs.Entry.Skips.{without_made}
+use Rattle.seen_facts.specs.LoadEnds.Standing.{is_reached}
 use Rattle.log_model.specs.History.{has_nav, has_row, has_state, target_entry}
 use Rattle.log_model.specs.Places.{aim_of, is_awake, is_below, is_given_target, is_shown, way_of}
 use Rattle.log_model.specs.Seen.{Document, Place, Seen, awake, document_of, place_of}
@@ -9,7 +9,7 @@ use Rattle.log_model.specs.declared.change.Change.{Change}
 use Rattle.log_model.specs.declared.made.Made.{Made}
 use Rattle.log_model.specs.declared.row.Row.{Row}
 use Rattle.log_model.specs.declared.row_kind.RowKind.{RowKind}
-use Rattle.mover_facts.specs.Movers.{IsMovedBy}
+use Rattle.seen_facts.specs.Mover.Movers.{IsMovedBy}
 use Rattle.nav_tree.specs.Tree.{state_of}
 use Rattle.std.proofs.Common.{Bool, List, None, Option, Some, ap, false, inl, inr, refl, subst, sym, true, ℕ, ◌==◌, ◌∙◌, ◌∷◌, ◌≡◌, ◌≤◌, ◌⊎◌}
 use Rattle.std.specs.Prelude.{is_some, option_map}
@@ -26,7 +26,7 @@ use Rattle.tab_takes.proofs.Stays.{but_given, reached_same, shown_same, visited_
 use Rattle.tab_takes.proofs.Verdicts.{s as before_change, tab}
 use Rattle.tab_takes.proofs.Ways.{IsTargetOf}
 use Rattle.tab_takes.specs.Taking.{IsToTake}
-use Rattle.walk_facts.proofs.Placed.{found_nav}
+use Rattle.seen_facts.proofs.Walk.Placed.{found_nav}
 use Rattle.log_model.specs.declared.job.Why.TheVariants as whys
 
 -- who has an entry then is left its target, of these steps, or was given one of the same document state

@@ -1,19 +1,19 @@
 -- What a document made is taken up now: its navigable is awake on that document, where it is to be at the current step, and the change that it asks is that of its navigable and document state.
-use Rattle.coord_facts.specs.Leading.{held_back}
-use Rattle.past_facts.proofs.Past.{made_by_last}
-use Rattle.calm_facts.specs.Calm.{IsHere}
-use Rattle.coord_facts.proofs.Unread.{next}
-use Rattle.entry_facts.proofs.Applied.{applied_ends}
-use Rattle.entry_facts.proofs.Firsts.{IsFirstOf, at_hand_first, held_first}
-use Rattle.entry_facts.proofs.Skips.{without_made, made_in}
-use Rattle.entry_facts.specs.Entries.{waiting}
-use Rattle.frame_facts.specs.Taking.{IsWaitingHere}
-use Rattle.frame_whole.proofs.Ending.{reqs_of, some_times}
-use Rattle.frame_whole.proofs.Takes.{due_is}
-use Rattle.hang_facts.proofs.Targets.{IsTarget, target_has}
-use Rattle.hang_facts.specs.Members.{Has}
+use Rattle.seen_facts.specs.Coord.Leading.{held_back}
+use Rattle.tab_facts.proofs.Past.Past.{made_by_last}
+use Rattle.tab_facts.specs.Calm.Calm.{IsHere}
+use Rattle.seen_facts.proofs.Coord.Unread.{next}
+use Rattle.seen_facts.proofs.Entry.Applied.{applied_ends}
+use Rattle.seen_facts.proofs.Entry.Firsts.{IsFirstOf, at_hand_first, held_first}
+use Rattle.seen_facts.proofs.Entry.Skips.{without_made, made_in}
+use Rattle.seen_facts.specs.Entry.Entries.{waiting}
+use Rattle.tab_facts.specs.Frame.Taking.{IsWaitingHere}
+use Rattle.tab_facts.proofs.FrameWhole.Ending.{reqs_of, some_times}
+use Rattle.tab_facts.proofs.FrameWhole.Takes.{due_is}
+use Rattle.seen_facts.proofs.Hang.Targets.{IsTarget, target_has}
+use Rattle.seen_facts.specs.Hang.Members.{Has}
 use Rattle.history_laws.proofs.Joining.{entry_same}
-use Rattle.home_facts.specs.Homes.{IsHomed}
+use Rattle.seen_facts.specs.Home.Homes.{IsHomed}
 use Rattle.log_model.proofs.Refl.{nat_eq_refl}
 use Rattle.log_model.specs.AfterRequests.{is_held_up}
 use Rattle.log_model.specs.Equal.{has_req, holds}
@@ -27,8 +27,8 @@ use Rattle.log_model.specs.declared.made.Made.{Made}
 use Rattle.log_model.specs.declared.row.Row.{Row}
 use Rattle.log_model.specs.declared.row_kind.RowKind.{RowKind}
 use Rattle.nav_tree.specs.Tree.{state_of}
-use Rattle.request_facts.proofs.Times.{times_none}
-use Rattle.request_facts.specs.Whereabouts.{times}
+use Rattle.seen_facts.proofs.Request.Times.{times_none}
+use Rattle.seen_facts.specs.Request.Whereabouts.{times}
 use Rattle.seen_laws.specs.InEvent.{InEvent}
 use Rattle.std.proofs.Common.{Bool, List, None, Option, Some, [], ap, arith, false, inl, inr, refl, sym, true, ℕ, ◌&&◌, ◌+◌, ◌<◌, ◌==◌, ◌∙◌, ◌∷◌, ◌≡◌, subst, ◌≤◌, ◌++◌}
 use Rattle.std.proofs.lemmas.Bool.{and_parts, eqb-true}

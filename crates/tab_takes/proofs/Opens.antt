@@ -1,12 +1,12 @@
 -- A pass may follow after a row that ends what a document made, whatever orders may be for: what is read of the row for that.
-use Rattle.asked_facts.specs.Asking.{ArePlain}
-use Rattle.calm_facts.specs.Calm.{NeedIsNew}
-use Rattle.left_facts.specs.Left.{WereShown}
+use Rattle.seen_facts.specs.Asked.Asking.{ArePlain}
+use Rattle.tab_facts.specs.Calm.Calm.{NeedIsNew}
+use Rattle.row_facts.specs.Left.Left.{WereShown}
 use Rattle.log_model.specs.Seen.{Seen}
 use Rattle.log_model.specs.declared.job.Why.{Why}
-use Rattle.mover_facts.proofs.Places.{ways_both}
-use Rattle.mover_facts.proofs.Stays.{KeepWays}
-use Rattle.mover_facts.specs.Movers.{IsMovedBy}
+use Rattle.seen_facts.proofs.Mover.Places.{ways_both}
+use Rattle.seen_facts.proofs.Mover.Stays.{KeepWays}
+use Rattle.seen_facts.specs.Mover.Movers.{IsMovedBy}
 use Rattle.seen_laws.specs.InEvent.{InEvent}
 use Rattle.std.proofs.Common.{None, Option, Some, [], arith, refl, subst, zero, suc, ℕ, ◌≡◌}
 use Rattle.tab_rests.specs.PassedOn.{IsLoadOf, IsOpen, MayCause, show_why}
@@ -14,8 +14,8 @@ use Rattle.tab_ids.specs.declared.NavId.{NavId}
 use Rattle.tab_ids.specs.declared.ReqId.{ReqId}
 use Rattle.tab_rests.proofs.PassedOn.{MayServe, ParentsShown, TakersServe}
 pub use Rattle.tab_rests.proofs.PassedOn.{show_causes}
-use Rattle.walk_rows.proofs.Moved.{run_moves}
-use Rattle.walk_rows.specs.Since.{AwakeSince, MovesVisited}
+use Rattle.row_facts.proofs.WalkRows.Moved.{run_moves}
+use Rattle.row_facts.specs.WalkRows.Since.{AwakeSince, MovesVisited}
 use Rattle.log_model.specs.declared.job.Why.TheVariants as whys
 
 -- ---- where none is in need that was shown a document

@@ -1,19 +1,19 @@
 -- What a document made is applied: an entry is pushed, and those forward of it go. A document whose state lost its entries is that of a navigable which was given one of these, or of one below it, and the request has moved each such one.
-use Rattle.calm_facts.specs.Calm.{AreRooted}
-use Rattle.coord_facts.proofs.TakenUp.{once_pushed, push_is}
-use Rattle.each_facts.specs.Mades.{IsNext}
-use Rattle.entry_facts.specs.Entries.{IsItsOwn}
+use Rattle.tab_facts.specs.Calm.Calm.{AreRooted}
+use Rattle.seen_facts.proofs.Coord.TakenUp.{once_pushed, push_is}
+use Rattle.seen_facts.specs.Each.Mades.{IsNext}
+use Rattle.seen_facts.specs.Entry.Entries.{IsItsOwn}
 use Rattle.entry_store.specs.Store.{MayTake}
-use Rattle.hang_facts.proofs.Forms.{nav_is}
-use Rattle.hang_facts.proofs.Members.{Passing, any_has, has_any, has_more, into_filter, into_map, into_more}
-use Rattle.hang_facts.proofs.Parts.{state_is}
-use Rattle.hang_facts.proofs.Targets.{target_has}
-use Rattle.hang_facts.specs.Forms.{forms_of}
-use Rattle.hang_facts.specs.Members.{Has}
+use Rattle.seen_facts.proofs.Hang.Forms.{nav_is}
+use Rattle.seen_facts.proofs.Hang.Members.{Passing, any_has, has_any, has_more, into_filter, into_map, into_more}
+use Rattle.seen_facts.proofs.Hang.Parts.{state_is}
+use Rattle.seen_facts.proofs.Hang.Targets.{target_has}
+use Rattle.seen_facts.specs.Hang.Forms.{forms_of}
+use Rattle.seen_facts.specs.Hang.Members.{Has}
 use Rattle.history_laws.proofs.Joining.{entry_same}
-use Rattle.home_facts.proofs.Shown.{one_row}
-use Rattle.last_facts.proofs.Applied.{pushed_lasting}
-use Rattle.load_ends.specs.Standing.{is_reached}
+use Rattle.seen_facts.proofs.Home.Shown.{one_row}
+use Rattle.tab_facts.proofs.Last.Applied.{pushed_lasting}
+use Rattle.seen_facts.specs.LoadEnds.Standing.{is_reached}
 use Rattle.log_model.proofs.Refl.{nat_eq_refl, same_entry_refl}
 use Rattle.log_model.specs.AfterDocuments.{on_document}
 use Rattle.log_model.specs.AfterPlaces.{given_entry, on_place, with_taker}
@@ -29,18 +29,18 @@ use Rattle.log_model.specs.declared.made.Made.{Made}
 use Rattle.log_model.specs.declared.made.What.{What}
 use Rattle.log_model.specs.declared.row.Row.{Row}
 use Rattle.log_model.specs.declared.row_kind.RowKind.{RowKind}
-use Rattle.mover_facts.specs.Movers.{IsMovedBy, moves_away, took_of}
-use Rattle.place_facts.specs.Standing.{IsShownOnce}
+use Rattle.seen_facts.specs.Mover.Movers.{IsMovedBy, moves_away, took_of}
+use Rattle.seen_facts.specs.Place.Standing.{IsShownOnce}
 use Rattle.seen_laws.specs.InEvent.{InEvent}
-use Rattle.shown_ways.proofs.Cleared.{shown_left}
-use Rattle.shown_ways.proofs.Keeps.{way_more}
+use Rattle.tab_facts.proofs.ShownWays.Cleared.{shown_left}
+use Rattle.tab_facts.proofs.ShownWays.Keeps.{way_more}
 use Rattle.std.proofs.Common.{Bool, List, None, Option, Some, [], ap, arith, cond, false, inl, inr, not, refl, subst, suc, sym, true, zero, ℕ, ◌&&◌, ◌+◌, ◌++◌, ◌<◌, ◌==◌, ◌||◌, ◌∙◌, ◌∷◌, ◌≡◌, ◌≤◌, ◌⊎◌}
 use Rattle.std.proofs.lemmas.Bool.Decides.{nat_tests}
 use Rattle.std.specs.List.{list_any}
 use Rattle.std.specs.Option.{option_map_or}
 use Rattle.std.specs.Prelude.{filter, nat_le, option_map}
 use Rattle.sync_core.specs.declared.judging.Judged.TheVariants as verdicts
-use Rattle.frame_tab.proofs.Aims.{others_pushed, own_pushed}
+use Rattle.tab_facts.proofs.FrameTab.Aims.{others_pushed, own_pushed}
 use Rattle.tab_rests.proofs.PassedOn.{EntriesAreNoted, IsBare, IsUnsettled, pushed_going, pushed_tab, sees, tab_placed}
 use Rattle.tab_doors.specs.Dues.{IsTakeDue, MayChange, SeesRows}
 use Rattle.tab_doors.specs.Ties.{IsAwakeIn}
@@ -65,7 +65,7 @@ use Rattle.tab_takes.proofs.Walks.{reached_or_unsettled}
 use Rattle.tab_takes.proofs.Ways.{IsTargetOf}
 use Rattle.tab_takes.proofs.Where.{loads_same}
 use Rattle.tab_takes.specs.Taking.{ArrivedWhere, HasTaken, IsArrived, IsToTake, LoadsArrived, asked_in}
-use Rattle.walk_facts.proofs.Placed.{found_nav}
+use Rattle.seen_facts.proofs.Walk.Placed.{found_nav}
 use Rattle.log_model.specs.declared.change.Change.TheVariants as changes
 use Rattle.log_model.specs.declared.job.Why.TheVariants as whys
 use Rattle.log_model.specs.declared.made.What.TheVariants as whats
@@ -478,4 +478,4 @@ module _ (p : InPass) (out : List RowKind) (t : Tables) (blame : List (StateId �
 
     pub push_done : (more : List RowKind) (u : Tables) → more ≡ out ++ rows.Applied made.req (changes.Push nav entry state address memo) ∷ [] → KeepsRun t u → IsAtWork ev more u → HasTaken p t made out more u noted
     push_done more u out_is keeps work =
-        has_applied p out t blame made at push noted push_after more u (out_is ∙ ap (λ (c : Change). out ++ rows.Applied made.req c ∷ []) push_is_own) keeps work refl
+        has_applied p out t blame made at push noted push_after more u (out_is ∙ ap (λ (c : Change). out ++ rows.Applied made.req c ∷ []) push_is_own) keeps work refl refl

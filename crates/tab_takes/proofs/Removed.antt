@@ -1,15 +1,15 @@
 -- What a document made is applied: a frame of it is removed, with all below it. A document whose state lost its entries is that of the frame, or of one below it, and the request has moved each such one.
-use Rattle.calm_facts.specs.Calm.{AreRooted, IsRooted}
-use Rattle.entry_facts.proofs.Ends.{IsToEnd, no_entry_end}
-use Rattle.entry_facts.proofs.Skips.{IsNoEntry}
-use Rattle.frame_facts.proofs.Removed.{hung_owner}
-use Rattle.hang_facts.proofs.Forms.{nav_is}
-use Rattle.hang_facts.proofs.Members.{Passing, any_has, has_any}
-use Rattle.hang_facts.proofs.Parts.{state_is}
-use Rattle.hang_facts.proofs.Targets.{target_has}
-use Rattle.hang_facts.specs.Members.{Has}
-use Rattle.home_facts.specs.Homes.{IsHomed, document_in}
-use Rattle.last_facts.proofs.Applied.{removed_lasting}
+use Rattle.tab_facts.specs.Calm.Calm.{AreRooted, IsRooted}
+use Rattle.seen_facts.proofs.Entry.Ends.{IsToEnd, no_entry_end}
+use Rattle.seen_facts.proofs.Entry.Skips.{IsNoEntry}
+use Rattle.tab_facts.proofs.Frame.Removed.{hung_owner}
+use Rattle.seen_facts.proofs.Hang.Forms.{nav_is}
+use Rattle.seen_facts.proofs.Hang.Members.{Passing, any_has, has_any}
+use Rattle.seen_facts.proofs.Hang.Parts.{state_is}
+use Rattle.seen_facts.proofs.Hang.Targets.{target_has}
+use Rattle.seen_facts.specs.Hang.Members.{Has}
+use Rattle.seen_facts.specs.Home.Homes.{IsHomed, document_in}
+use Rattle.tab_facts.proofs.Last.Applied.{removed_lasting}
 use Rattle.log_model.proofs.Refl.{nat_eq_refl}
 use Rattle.log_model.specs.Equal.{holds}
 use Rattle.log_model.specs.History.{fits, has_nav, has_row, has_state, is_of, same_entry, target_entry, used_step_at}
@@ -23,10 +23,10 @@ use Rattle.log_model.specs.declared.made.Made.{Made}
 use Rattle.log_model.specs.declared.made.What.{What}
 use Rattle.log_model.specs.declared.row.Row.{Row}
 use Rattle.log_model.specs.declared.row_kind.RowKind.{RowKind}
-use Rattle.mover_facts.specs.Movers.{IsMovedBy}
+use Rattle.seen_facts.specs.Mover.Movers.{IsMovedBy}
 use Rattle.seen_laws.proofs.Keyed.{find_map}
 use Rattle.seen_laws.specs.InEvent.{InEvent}
-use Rattle.shown_ways.proofs.Keeps.{way_more}
+use Rattle.tab_facts.proofs.ShownWays.Keeps.{way_more}
 use Rattle.std.proofs.Common.{Bool, List, None, Option, Some, [], ap, arith, cond, false, inl, inr, map, not, refl, subst, sym, true, ℕ, ◌&&◌, ◌++◌, ◌==◌, ◌||◌, ◌∙◌, ◌∷◌, ◌≡◌, ◌⊎◌}
 use Rattle.std.proofs.lemmas.Bool.{and_parts}
 use Rattle.std.proofs.lemmas.Bool.Decides.{nat_tests}
@@ -52,8 +52,8 @@ use Rattle.tab_takes.proofs.Stays.{but_given}
 use Rattle.tab_takes.proofs.Verdicts.{IsOfIt, Tells, apart as apart_run}
 use Rattle.tab_takes.proofs.Where.{carried, its_hand, loads_same}
 use Rattle.tab_takes.specs.Taking.{HasTaken, IsToTake, asked_in}
-use Rattle.walk_facts.proofs.Placed.{found_nav}
-use Rattle.walk_rows.proofs.Moved.{changed_moves}
+use Rattle.seen_facts.proofs.Walk.Placed.{found_nav}
+use Rattle.row_facts.proofs.WalkRows.Moved.{changed_moves}
 use Rattle.log_model.specs.declared.change.Change.TheVariants as changes
 use Rattle.log_model.specs.declared.job.Why.TheVariants as whys
 use Rattle.log_model.specs.declared.made.What.TheVariants as whats
@@ -341,4 +341,4 @@ module _ (p : InPass) (out : List RowKind) (t : Tables) (blame : List (StateId �
 
     pub remove_done : (more : List RowKind) (u : Tables) → more ≡ out ++ rows.Applied made.req remove ∷ [] → KeepsRun t u → IsAtWork ev more u → HasTaken p t made out more u noted
     remove_done more u out_is keeps work =
-        has_applied p out t blame made at remove noted remove_after more u out_is keeps work refl
+        has_applied p out t blame made at remove noted remove_after more u out_is keeps work refl refl

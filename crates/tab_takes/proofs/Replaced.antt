@@ -1,19 +1,19 @@
 -- What a document made is applied: an entry takes the place of the one that its navigable was given.
-use Rattle.calm_facts.specs.Calm.{AreRooted, CalmUnless, IsCalmYet, IsHere, IsRooted, UnmovedAreHere}
-use Rattle.coord_facts.proofs.TakenUp.{once_replaced, replace_is}
-use Rattle.coord_facts.specs.Leading.{coming, is_made_under}
-use Rattle.each_facts.specs.Mades.{Continues, IsNext, IsOver}
-use Rattle.entry_facts.proofs.Firsts.{IsFirstOf, first_with, own_first}
-use Rattle.entry_facts.proofs.Stays.{under_of}
-use Rattle.entry_facts.specs.Entries.{IsItsOwn, mades_of, untold, waiting}
+use Rattle.tab_facts.specs.Calm.Calm.{AreRooted, CalmUnless, IsCalmYet, IsHere, IsRooted, UnmovedAreHere}
+use Rattle.seen_facts.proofs.Coord.TakenUp.{once_replaced, replace_is}
+use Rattle.seen_facts.specs.Coord.Leading.{coming, is_made_under}
+use Rattle.seen_facts.specs.Each.Mades.{Continues, IsNext, IsOver}
+use Rattle.seen_facts.proofs.Entry.Firsts.{IsFirstOf, first_with, own_first}
+use Rattle.seen_facts.proofs.Entry.Stays.{under_of}
+use Rattle.seen_facts.specs.Entry.Entries.{IsItsOwn, mades_of, untold, waiting}
 use Rattle.entry_store.specs.Store.{MayTake}
-use Rattle.hang_facts.proofs.Forms.{nav_is}
-use Rattle.hang_facts.proofs.Members.{has_any, into_map}
-use Rattle.hang_facts.specs.Members.{Has}
+use Rattle.seen_facts.proofs.Hang.Forms.{nav_is}
+use Rattle.seen_facts.proofs.Hang.Members.{has_any, into_map}
+use Rattle.seen_facts.specs.Hang.Members.{Has}
 use Rattle.history_laws.proofs.Joining.{entry_same}
-use Rattle.home_facts.proofs.Shown.{one_row}
-use Rattle.last_facts.proofs.Applied.{replaced_lasting}
-use Rattle.load_ends.specs.Standing.{is_reached}
+use Rattle.seen_facts.proofs.Home.Shown.{one_row}
+use Rattle.tab_facts.proofs.Last.Applied.{replaced_lasting}
+use Rattle.seen_facts.specs.LoadEnds.Standing.{is_reached}
 use Rattle.log_model.proofs.Refl.{nat_eq_refl, same_entry_refl}
 use Rattle.log_model.specs.AfterPlaces.{given_entry, on_place, with_taker}
 use Rattle.log_model.specs.AfterDocuments.{on_document}
@@ -53,7 +53,7 @@ use Rattle.tab_takes.proofs.Swaps.{given_now, has_state_same, place_now, reads, 
 use Rattle.tab_takes.proofs.Verdicts.{IsOfIt, Tells}
 use Rattle.tab_takes.proofs.Where.{loads_same}
 use Rattle.tab_takes.specs.Taking.{HasTaken, IsToTake, asked_in}
-use Rattle.walk_facts.proofs.Placed.{found_nav}
+use Rattle.seen_facts.proofs.Walk.Placed.{found_nav}
 use Rattle.log_model.specs.declared.change.Change.TheVariants as changes
 use Rattle.log_model.specs.declared.job.Why.TheVariants as whys
 use Rattle.log_model.specs.declared.made.What.TheVariants as whats
@@ -413,4 +413,4 @@ module _ (p : InPass) (out : List RowKind) (t : Tables) (blame : List (StateId �
 
   pub replace_done : (new : List RowKind) (u : Tables) → new ≡ out ++ rows.Applied made.req (changes.Replace nav over entry state address memo) ∷ [] → KeepsRun t u → IsAtWork ev new u → HasTaken p t made out new u blame
   replace_done new u out_is keeps work =
-      has_applied p out t blame made at replace blame replace_after new u (out_is ∙ ap (λ (c : Change). out ++ rows.Applied made.req c ∷ []) replace_is_own) keeps work refl
+      has_applied p out t blame made at replace blame replace_after new u (out_is ∙ ap (λ (c : Change). out ++ rows.Applied made.req c ∷ []) replace_is_own) keeps work refl refl

@@ -1,5 +1,5 @@
 -- The request of what a document made is a poke, or a load that was sent to a fragment: what the doors ask of it follows of both.
-use Rattle.frame_rows.specs.Taking.{IsPoked}
+use Rattle.row_facts.specs.FrameRows.Taking.{IsPoked}
 use Rattle.log_model.specs.Causes.{denial_at_delivery}
 use Rattle.log_model.specs.Once.{has_to_begin}
 use Rattle.log_model.specs.Queue.{is_taken_up_at_once}

@@ -1,10 +1,10 @@
 -- A change that leaves a navigable an entry: it is shown, stands, is visited and needs something as before, where each that has an entry then is left its target, or given one of the same document state.
-use Rattle.hang_facts.proofs.Forms.{nav_is}
-use Rattle.hang_facts.proofs.Hung.{is_hung, place_chain}
-use Rattle.hang_facts.proofs.Members.{any_has, find_has, has_any}
-use Rattle.hang_facts.specs.AsPlaces.{IsChain, IsHung}
-use Rattle.hang_facts.specs.Hanging.{Hangs}
-use Rattle.load_ends.specs.Standing.{is_reached}
+use Rattle.seen_facts.proofs.Hang.Forms.{nav_is}
+use Rattle.seen_facts.proofs.Hang.Hung.{is_hung, place_chain}
+use Rattle.seen_facts.proofs.Hang.Members.{any_has, find_has, has_any}
+use Rattle.seen_facts.specs.Hang.AsPlaces.{IsChain, IsHung}
+use Rattle.seen_facts.specs.Hang.Hanging.{Hangs}
+use Rattle.seen_facts.specs.LoadEnds.Standing.{is_reached}
 use Rattle.log_model.proofs.Refl.{nat_eq_refl}
 use Rattle.log_model.specs.Equal.{holds}
 use Rattle.log_model.specs.History.{has_nav, has_row, is_of, target_entry}
@@ -12,7 +12,7 @@ use Rattle.log_model.specs.Places.{aim_of, has_arrived, holder_of, is_asleep, is
 use Rattle.log_model.specs.Seen.{Place, Seen, Status, lost, place_of}
 use Rattle.log_model.specs.Soundness.{IsSound}
 use Rattle.log_model.specs.declared.row.Row.{Row}
-use Rattle.shown_ways.proofs.Keeps.{way_there}
+use Rattle.tab_facts.proofs.ShownWays.Keeps.{way_there}
 use Rattle.std.proofs.Common.{Bool, List, None, Option, Some, [], ap, false, not, refl, sym, true, ℕ, ◌&&◌, ◌==◌, ◌||◌, ◌∙◌, ◌∷◌, ◌≡◌}
 use Rattle.std.specs.List.{list_all, list_any}
 use Rattle.std.specs.Option.{option_map_or}
@@ -21,9 +21,9 @@ use Rattle.tab_ids.specs.declared.NavId.{NavId}
 use Rattle.tab_ids.specs.declared.StateId.{StateId}
 use Rattle.tab_takes.proofs.Adds.{all_among, any_among}
 use Rattle.tab_takes.proofs.Ways.{HangsThere, IsTargetOf, shown_back, shown_on}
-use Rattle.walk_facts.proofs.Placed.{found_nav}
-use Rattle.walk_facts.specs.Serving.{is_in_place, is_needing, is_stopping}
-use Rattle.walk_rows.specs.Since.{IsVisitedInNeed}
+use Rattle.seen_facts.proofs.Walk.Placed.{found_nav}
+use Rattle.seen_facts.specs.Walk.Serving.{is_in_place, is_needing, is_stopping}
+use Rattle.row_facts.specs.WalkRows.Since.{IsVisitedInNeed}
 
 -- it is known lost
 abbrev knows_lost : Place → Bool

@@ -1,7 +1,7 @@
 -- An entry takes another's place, of the same document state: each row becomes one of the same navigable, owner, step and document state, and none goes.
-use Rattle.hang_facts.proofs.Forms.{nav_is}
-use Rattle.hang_facts.proofs.Members.{has_any, has_map}
-use Rattle.hang_facts.specs.Members.{Has}
+use Rattle.seen_facts.proofs.Hang.Forms.{nav_is}
+use Rattle.seen_facts.proofs.Hang.Members.{has_any, has_map}
+use Rattle.seen_facts.specs.Hang.Members.{Has}
 use Rattle.history_laws.proofs.Tidying.{tidied_times-same}
 use Rattle.log_model.proofs.Refl.{nat_eq_refl}
 use Rattle.log_model.specs.History.{History, applied, has_state, is_anchored, is_of, replaced_row, same_entry, tidied}

@@ -1,9 +1,9 @@
 -- An entry took the place of the one that its navigable was given, of the same document state: who is shown, stands, is visited and needs something is as it was, at each step.
-use Rattle.hang_facts.proofs.Forms.{nav_is}
-use Rattle.hang_facts.proofs.Targets.{IsTarget, target_has}
-use Rattle.hang_facts.specs.Members.{Has}
+use Rattle.seen_facts.proofs.Hang.Forms.{nav_is}
+use Rattle.seen_facts.proofs.Hang.Targets.{IsTarget, target_has}
+use Rattle.seen_facts.specs.Hang.Members.{Has}
 use Rattle.history_laws.proofs.Joining.{entry_same}
-use Rattle.load_ends.specs.Standing.{is_reached}
+use Rattle.seen_facts.specs.LoadEnds.Standing.{is_reached}
 use Rattle.log_model.proofs.Refl.{same_entry_refl}
 use Rattle.log_model.specs.AfterPlaces.{given_entry, on_place, with_taker}
 use Rattle.log_model.specs.Equal.{holds}
@@ -22,9 +22,9 @@ use Rattle.tab_ids.specs.declared.StateId.{StateId}
 use Rattle.tab_takes.proofs.Given.{WasAt, become, given_at, place_then, read_at, was_at}
 use Rattle.tab_takes.proofs.Mapped.{has_row_map, has_state_map, shown_map, target_map}
 use Rattle.tab_takes.proofs.Swapped.{nav_same, owner_same, state_same, step_same, swap}
-use Rattle.walk_facts.proofs.Placed.{found_nav}
-use Rattle.walk_facts.specs.Serving.{is_in_place, is_needing, is_stopping}
-use Rattle.walk_rows.specs.Since.{IsVisitedInNeed}
+use Rattle.seen_facts.proofs.Walk.Placed.{found_nav}
+use Rattle.seen_facts.specs.Walk.Serving.{is_in_place, is_needing, is_stopping}
+use Rattle.row_facts.specs.WalkRows.Since.{IsVisitedInNeed}
 
 -- it is known lost
 abbrev knows_lost : Place → Bool

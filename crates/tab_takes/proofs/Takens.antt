@@ -1,13 +1,13 @@
 -- The forward session history is cleared: who is awake on a document whose state loses its entries was given one that goes, or one above it was.
-use Rattle.calm_facts.specs.Calm.{AreRooted, IsRooted}
-use Rattle.hang_facts.proofs.Hung.{hangs_as, own_form, place_chain}
-use Rattle.hang_facts.proofs.Members.{Passing, any_has, has_any, has_filter, has_tidied, into_filter, into_tidied}
-use Rattle.hang_facts.proofs.Parts.{state_is}
-use Rattle.hang_facts.specs.AsPlaces.{IsChain}
-use Rattle.hang_facts.specs.Forms.{form_in, form_of, forms_of}
-use Rattle.hang_facts.specs.Hanging.{IsPlaced}
-use Rattle.hang_facts.specs.Members.{Has}
-use Rattle.home_facts.specs.Homes.{IsHomed, IsOnAwake}
+use Rattle.tab_facts.specs.Calm.Calm.{AreRooted, IsRooted}
+use Rattle.seen_facts.proofs.Hang.Hung.{hangs_as, own_form, place_chain}
+use Rattle.seen_facts.proofs.Hang.Members.{Passing, any_has, has_any, has_filter, has_tidied, into_filter, into_tidied}
+use Rattle.seen_facts.proofs.Hang.Parts.{state_is}
+use Rattle.seen_facts.specs.Hang.AsPlaces.{IsChain}
+use Rattle.seen_facts.specs.Hang.Forms.{form_in, form_of, forms_of}
+use Rattle.seen_facts.specs.Hang.Hanging.{IsPlaced}
+use Rattle.seen_facts.specs.Hang.Members.{Has}
+use Rattle.seen_facts.specs.Home.Homes.{IsHomed, IsOnAwake}
 use Rattle.log_model.proofs.Refl.{nat_eq_refl}
 use Rattle.log_model.specs.History.{cleared, has_nav, has_row, has_state, is_anchored, is_of}
 use Rattle.log_model.specs.Seen.{Document, Place, Seen, awake, document_of, place_of}
@@ -24,7 +24,7 @@ use Rattle.tab_ids.specs.declared.ReqId.{ReqId}
 use Rattle.tab_ids.specs.declared.StateId.{StateId}
 use Rattle.tab_takes.proofs.Entered.{above_entered}
 use Rattle.tab_rests.specs.PassedOn.{IsTab}
-use Rattle.walk_facts.proofs.Placed.{found_nav}
+use Rattle.seen_facts.proofs.Walk.Placed.{found_nav}
 
 some_same : {A : Type 0} {a b : A} → (let o : Option A = Some a in o) ≡ Some b → a ≡ b
 some_same e = cc

@@ -1,6 +1,6 @@
 -- What the tables tell of what a document made is what the log says, and what follows of each verdict.
-use Rattle.each_facts.specs.Runs.{is_this}
-use Rattle.doc_facts.specs.Docs.{HasPlace}
+use Rattle.seen_facts.specs.Each.Runs.{is_this}
+use Rattle.seen_facts.specs.Doc.Docs.{HasPlace}
 use Rattle.log_model.specs.History.{has_nav, has_row}
 use Rattle.log_model.specs.Places.{is_awake, is_moved, is_under_way}
 use Rattle.log_model.specs.Seen.{Document, Place, Seen, document_of, place_of}
@@ -10,7 +10,7 @@ use Rattle.nav_tree.specs.Tree.{node_of}
 use Rattle.nav_tree.specs.declared.node.Node.{Node}
 use Rattle.nav_tree.specs.declared.status.NavStatus.{NavStatus}
 use Rattle.nav_tree.specs.declared.status.NavStatus.TheVariants as kept
-use Rattle.place_facts.specs.Standing.{IsAskedBy}
+use Rattle.seen_facts.specs.Place.Standing.{IsAskedBy}
 use Rattle.seen_laws.specs.InEvent.{now_of}
 use Rattle.std.proofs.Common.{Bool, List, None, Option, Some, ap, false, map, refl, subst, sym, true, ◌&&◌, ◌==◌, ◌∙◌, ◌≡◌}
 use Rattle.std.specs.Prelude.{is_some, option_map}
@@ -29,7 +29,7 @@ use Rattle.tab_ids.specs.declared.StateId.{StateId}
 use Rattle.tab_rests.proofs.PassedOn.{moved_is}
 use Rattle.tab_rests.specs.PassedOn.{InPass, IsTab}
 use Rattle.tab_takes.specs.Taking.{HasNode, IsByItsOwn, IsToTake, judged_in, nav_found}
-use Rattle.walk_facts.proofs.Placed.{found_nav}
+use Rattle.seen_facts.proofs.Walk.Placed.{found_nav}
 
 some_same : {A : Type 0} {a b : A} → (let o : Option A = Some a in o) ≡ Some b → a ≡ b
 some_same e = cc

@@ -1,15 +1,15 @@
 -- A navigable with an entry, where it and all above it are awake and have arrived: it is reached, or it or one above it is visited and in need.
-use Rattle.calm_facts.proofs.Awakes.{lost_none}
-use Rattle.calm_facts.proofs.Calms.{IsGivenRow, given_row}
-use Rattle.hang_facts.proofs.Forms.{nav_is}
-use Rattle.hang_facts.proofs.Hung.{hangs_as, own_form, place_chain}
-use Rattle.hang_facts.proofs.Members.{Passing, any_has}
-use Rattle.hang_facts.proofs.Targets.{IsTarget, target_has, target_there}
-use Rattle.hang_facts.specs.AsPlaces.{IsChain}
-use Rattle.hang_facts.specs.Forms.{form_in, form_of, forms_of}
-use Rattle.hang_facts.specs.Hanging.{BeginsBy, IsPlaced}
-use Rattle.home_facts.specs.Homes.{IsOnAwake}
-use Rattle.load_ends.specs.Standing.{is_reached}
+use Rattle.tab_facts.proofs.Calm.Awakes.{lost_none}
+use Rattle.tab_facts.proofs.Calm.Calms.{IsGivenRow, given_row}
+use Rattle.seen_facts.proofs.Hang.Forms.{nav_is}
+use Rattle.seen_facts.proofs.Hang.Hung.{hangs_as, own_form, place_chain}
+use Rattle.seen_facts.proofs.Hang.Members.{Passing, any_has}
+use Rattle.seen_facts.proofs.Hang.Targets.{IsTarget, target_has, target_there}
+use Rattle.seen_facts.specs.Hang.AsPlaces.{IsChain}
+use Rattle.seen_facts.specs.Hang.Forms.{form_in, form_of, forms_of}
+use Rattle.seen_facts.specs.Hang.Hanging.{BeginsBy, IsPlaced}
+use Rattle.seen_facts.specs.Home.Homes.{IsOnAwake}
+use Rattle.seen_facts.specs.LoadEnds.Standing.{is_reached}
 use Rattle.log_model.proofs.Refl.{nat_eq_refl}
 use Rattle.log_model.specs.Equal.{holds}
 use Rattle.log_model.specs.History.{has_nav, has_row, is_of, target_entry}
@@ -18,8 +18,8 @@ use Rattle.log_model.specs.Seen.{Place, Seen, lost, place_of}
 use Rattle.log_model.specs.Soundness.{stands_at}
 use Rattle.log_model.specs.declared.made.Made.{Made}
 use Rattle.log_model.specs.declared.row.Row.{Row}
-use Rattle.shown_ways.proofs.Ways.{leads_shown, shown_leads}
-use Rattle.shown_ways.specs.Ways.{IsOnTarget, LeadsUp}
+use Rattle.tab_facts.proofs.ShownWays.Ways.{leads_shown, shown_leads}
+use Rattle.tab_facts.specs.ShownWays.Ways.{IsOnTarget, LeadsUp}
 use Rattle.std.proofs.Common.{Bool, List, None, Option, Some, [], ap, arith, false, inl, inr, not, refl, subst, sym, true, ◌&&◌, ◌==◌, ◌||◌, ◌∙◌, ◌∷◌, ◌≡◌, ◌⊎◌}
 use Rattle.std.proofs.lemmas.Bool.{and_parts, eqb-true}
 use Rattle.std.specs.List.{list_all, list_any}
@@ -32,9 +32,9 @@ use Rattle.tab_ids.specs.declared.StateId.{StateId}
 use Rattle.tab_takes.proofs.Stays.{up_rows}
 use Rattle.tab_takes.specs.Taking.{IsArrived}
 use Rattle.tab_rests.specs.PassedOn.{IsTab}
-use Rattle.walk_facts.proofs.Placed.{found_nav}
-use Rattle.walk_facts.specs.Serving.{is_in_place, is_needing, is_stopping}
-use Rattle.walk_rows.specs.Since.{IsVisitedInNeed}
+use Rattle.seen_facts.proofs.Walk.Placed.{found_nav}
+use Rattle.seen_facts.specs.Walk.Serving.{is_in_place, is_needing, is_stopping}
+use Rattle.row_facts.specs.WalkRows.Since.{IsVisitedInNeed}
 
 -- one that has arrived and doesn't stand needs something
 needs_not : (s : Seen) (place : Place) → has_arrived place ≡ true → is_standing s.history.rows (aim_of s) place ≡ false → is_needing s.history.rows (aim_of s) place ≡ true

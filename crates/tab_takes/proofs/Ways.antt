@@ -1,17 +1,17 @@
 -- Before a change and after it, at a step each: a navigable is shown then if it was, where those on the way to it have entries and their targets are of the same document states; and the other way round.
-use Rattle.hang_facts.proofs.Forms.{nav_is}
-use Rattle.hang_facts.proofs.Hung.{has_begun}
-use Rattle.hang_facts.proofs.Targets.{some_is}
-use Rattle.hang_facts.specs.Hanging.{Hangs}
+use Rattle.seen_facts.proofs.Hang.Forms.{nav_is}
+use Rattle.seen_facts.proofs.Hang.Hung.{has_begun}
+use Rattle.seen_facts.proofs.Hang.Targets.{some_is}
+use Rattle.seen_facts.specs.Hang.Hanging.{Hangs}
 use Rattle.log_model.proofs.Refl.{nat_eq_refl}
 use Rattle.log_model.specs.History.{has_nav, target_entry}
 use Rattle.log_model.specs.Places.{is_shown}
 use Rattle.log_model.specs.Seen.{Place, Seen, place_of}
 use Rattle.log_model.specs.Soundness.{IsSound}
 use Rattle.log_model.specs.declared.row.Row.{Row}
-use Rattle.shown_ways.proofs.Keeps.{way_more, way_there}
-use Rattle.shown_ways.proofs.Ways.{leads_shown, shown_leads}
-use Rattle.shown_ways.specs.Ways.{IsOnTarget, LeadsUp}
+use Rattle.tab_facts.proofs.ShownWays.Keeps.{way_more, way_there}
+use Rattle.tab_facts.proofs.ShownWays.Ways.{leads_shown, shown_leads}
+use Rattle.tab_facts.specs.ShownWays.Ways.{IsOnTarget, LeadsUp}
 use Rattle.std.proofs.Common.{Bool, List, Option, Some, ap, false, refl, sym, true, ℕ, ◌==◌, ◌||◌, ◌∙◌, ◌∷◌, ◌≡◌}
 use Rattle.std.specs.Prelude.{is_some, slice_get}
 use Rattle.tab_ids.specs.declared.NavId.{NavId}

@@ -1,9 +1,9 @@
 -- Where the request of what a document made is that is to be taken: held back or at hand, and nowhere else.
-use Rattle.coord_facts.proofs.Held.{without_same}
-use Rattle.entry_facts.proofs.Skips.{without_made}
-use Rattle.frame_facts.specs.Taking.{IsWaitingHere}
-use Rattle.frame_whole.proofs.Ending.{IsItsHand, reqs_of, some_times}
-use Rattle.hang_facts.specs.Members.{Has}
+use Rattle.seen_facts.proofs.Coord.Held.{without_same}
+use Rattle.seen_facts.proofs.Entry.Skips.{without_made}
+use Rattle.tab_facts.specs.Frame.Taking.{IsWaitingHere}
+use Rattle.tab_facts.proofs.FrameWhole.Ending.{IsItsHand, reqs_of, some_times}
+use Rattle.seen_facts.specs.Hang.Members.{Has}
 use Rattle.log_model.proofs.Refl.{nat_eq_refl}
 use Rattle.log_model.specs.AfterRequests.{without_req}
 use Rattle.log_model.specs.Equal.{has_req}
@@ -11,8 +11,8 @@ use Rattle.log_model.specs.Places.{is_ongoing_load}
 use Rattle.log_model.specs.Seen.{Seen}
 use Rattle.log_model.specs.declared.made.Made.{Made}
 use Rattle.log_model.specs.declared.row_kind.RowKind.{RowKind}
-use Rattle.request_facts.proofs.Times.{times_none}
-use Rattle.request_facts.specs.Whereabouts.{times}
+use Rattle.seen_facts.proofs.Request.Times.{times_none}
+use Rattle.seen_facts.specs.Request.Whereabouts.{times}
 use Rattle.std.proofs.Common.{Bool, List, [], ap, arith, false, inl, inr, refl, subst, sym, true, ◌+◌, ◌++◌, ◌<◌, ◌==◌, ◌||◌, ◌∙◌, ◌∷◌, ◌≡◌, ◌⊎◌}
 use Rattle.tab_doors.specs.declared.tables.Tables.{Tables}
 use Rattle.tab_ids.specs.declared.ReqId.{ReqId}

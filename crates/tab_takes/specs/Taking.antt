@@ -1,10 +1,10 @@
 -- When what a document made is to be taken up, refused or dropped in a tab with loads, what the tables tell of it, and what is so before and after, so that a pass may follow.
 -- HTML Standard, "URL and history update steps", "create a new child navigable" and "destroy a child navigable"; what is held back, and passes, are this project's own.
-use Rattle.calm_facts.specs.Calm.{AreRooted, CalmUnless, IsCalmYet, UnmovedAreHere}
-use Rattle.entry_facts.proofs.Skips.{without_made}
-use Rattle.frame_facts.specs.Taking.{IsWaitingHere}
-use Rattle.frame_rows.specs.Lawful.{KeepsHeld}
-use Rattle.frame_rows.specs.Taking.{IsFree, IsTakenNow}
+use Rattle.tab_facts.specs.Calm.Calm.{AreRooted, CalmUnless, IsCalmYet, UnmovedAreHere}
+use Rattle.seen_facts.proofs.Entry.Skips.{without_made}
+use Rattle.tab_facts.specs.Frame.Taking.{IsWaitingHere}
+use Rattle.row_facts.specs.FrameRows.Lawful.{KeepsHeld}
+use Rattle.row_facts.specs.FrameRows.Taking.{IsFree, IsTakenNow}
 use Rattle.log_model.specs.AfterRequests.{changes_history}
 use Rattle.log_model.specs.Causes.{takes_report}
 use Rattle.log_model.specs.History.{has_nav, has_row}
@@ -20,7 +20,7 @@ use Rattle.log_model.specs.declared.made.What.{What}
 use Rattle.log_model.specs.declared.request.Mode.{Mode}
 use Rattle.log_model.specs.declared.row_kind.RowKind.{RowKind}
 use Rattle.nav_tree.specs.Tree.{node_of, state_of}
-use Rattle.owed_facts.specs.Owed.{IsLoose}
+use Rattle.row_facts.specs.Owed.Owed.{IsLoose}
 use Rattle.seen_laws.specs.InEvent.{InEvent, here_of, now_of, row_of}
 use Rattle.std.specs.Option.{IsSome}
 use Rattle.std.specs.Prelude.{Bool, List, None, Option, Some, [], false, length, nat_lt, option_and_then, option_map, true, ℕ, ◌++◌, ◌+◌, ◌∷◌, ◌≡◌, ◌⊎◌}
@@ -37,6 +37,7 @@ use Rattle.tab_ids.specs.declared.DocId.{DocId}
 use Rattle.tab_ids.specs.declared.NavId.{NavId}
 use Rattle.tab_ids.specs.declared.ReqId.{ReqId}
 use Rattle.tab_ids.specs.declared.StateId.{StateId}
+use Rattle.log_model.specs.declared.change.Change.TheVariants as changes
 use Rattle.log_model.specs.declared.job.Why.TheVariants as whys
 use Rattle.log_model.specs.declared.made.What.TheVariants as whats
 use Rattle.log_model.specs.declared.request.Request.TheVariants as requests
@@ -127,12 +128,18 @@ pub record IsForTaking (e : InEvent) (out : List RowKind) (hand : List Made) (ma
 
 -- ---- what is put out
 
--- one row was put out, which ends the request of what was made, and applies no traversal; where that is to be taken up at once, it applies or refuses it
+-- the row applies a reload
+abbrev pub is_reloading : RowKind → Bool
+is_reloading (rows.Applied req (changes.Reload nav)) = true
+is_reloading _ = false
+
+-- one row was put out, which ends the request of what was made, and applies no traversal and no reload; where that is to be taken up at once, it applies or refuses it
 pub record EndsAlone (e : InEvent) (old new : List RowKind) (made : Made) : Type 0 where
   pub kind : RowKind
   pub out : new ≡ old ++ kind ∷ []
   pub ends : Ends e kind made.req
   pub no_turn : is_traverse (row_of e kind) ≡ false
+  pub no_reload : is_reloading kind ≡ false
   pub up : is_taken_up_at_once (now_of e old) made ≡ true → is_taken_up_in made.req (row_of e kind) ≡ true
 
 -- ---- so that a pass may follow

@@ -1,11 +1,11 @@
 //! What a document made is taken up, refused or dropped.
 ghost use Rattle.std.specs.Prelude.{◌≡◌, OnOk, Some};
 ghost use Rattle.std.specs.Option.{IsSome};
-ghost use Rattle.entry_facts.proofs.Skips.{without_made};
+ghost use Rattle.seen_facts.proofs.Entry.Skips.{without_made};
 ghost use Rattle.log_model.specs.Causes.{denial_at_delivery};
 ghost use Rattle.log_model.specs.declared.job.Why.TheVariants as whys;
 ghost use Rattle.nav_tree.specs.Tree.{state_of};
-ghost use Rattle.owed_facts.specs.Owed.{IsLoose};
+ghost use Rattle.row_facts.specs.Owed.Owed.{IsLoose};
 ghost use Rattle.seen_laws.specs.InEvent.{now_of};
 ghost use Rattle.sync_core.specs.declared.judging.Judged.TheVariants as verdicts;
 ghost use Rattle.tab_rests.specs.PassedOn.{InPass, IsPassing, LeavesQueue, MayCause};

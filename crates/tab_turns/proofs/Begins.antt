@@ -1,11 +1,11 @@
 -- The traversal that waits first begins, or is refused where its delta leads nowhere; and all goes on then.
-use Rattle.coord_facts.proofs.Held.{without_same}
-use Rattle.coord_facts.proofs.Unread.{next}
-use Rattle.each_facts.specs.Runs.{is_this}
+use Rattle.seen_facts.proofs.Coord.Held.{without_same}
+use Rattle.seen_facts.proofs.Coord.Unread.{next}
+use Rattle.seen_facts.specs.Each.Runs.{is_this}
 use Rattle.tab_passes.specs.PassedOn.{wish}
-use Rattle.frame_rows.proofs.LawfulLaws.{ends_other}
-use Rattle.frame_rows.specs.Lawful.{held_at_first}
-use Rattle.frame_tab.proofs.Goings.{begun_of}
+use Rattle.row_facts.proofs.FrameRows.LawfulLaws.{ends_other}
+use Rattle.row_facts.specs.FrameRows.Lawful.{held_at_first}
+use Rattle.tab_facts.proofs.FrameTab.Goings.{begun_of}
 use Rattle.history_laws.proofs.InOrder.{used_steps-ordered}
 use Rattle.tab_passes.proofs.PassedOn.{IsNoProcess, begun_going, begun_tab, joined_unheld, no_load, nowhere_tab, refused_going, refused_lasting, started_lasting}
 use Rattle.log_model.specs.AfterRequests.{on_request, request_begun}
@@ -20,12 +20,12 @@ use Rattle.log_model.specs.declared.request.Request.{Request}
 use Rattle.log_model.specs.declared.row.Row.{Row}
 use Rattle.log_model.specs.declared.row_kind.Actor.{Actor}
 use Rattle.log_model.specs.declared.row_kind.RowKind.{RowKind}
-use Rattle.owed_facts.proofs.Ends.{loose_more, loose_owed}
-use Rattle.owed_facts.proofs.Rows.{begun_lasts, refused_lasts}
-use Rattle.owed_facts.specs.Owed.{IsLoose}
-use Rattle.request_facts.proofs.Readers.{on_read, reads_then}
-use Rattle.rest_rows.proofs.Rows.{refused_rests, started_rests}
-use Rattle.rest_rows.specs.Moving.{AllRest}
+use Rattle.row_facts.proofs.Owed.Ends.{loose_more, loose_owed}
+use Rattle.row_facts.proofs.Owed.Rows.{begun_lasts, refused_lasts}
+use Rattle.row_facts.specs.Owed.Owed.{IsLoose}
+use Rattle.seen_facts.proofs.Request.Readers.{on_read, reads_then}
+use Rattle.row_facts.proofs.RestRows.Rows.{refused_rests, started_rests}
+use Rattle.row_facts.specs.RestRows.Moving.{AllRest}
 use Rattle.seen_laws.proofs.InEvents.{now_more}
 use Rattle.seen_laws.specs.InEvent.{InEvent, here_of, now_of, row_of}
 use Rattle.seen_laws.specs.Owing.{is_sole_load, owes_row}

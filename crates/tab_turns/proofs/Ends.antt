@@ -1,14 +1,14 @@
 -- A traversal that runs may end where all stand at the aim, and all goes on then.
 use Rattle.apply_plan.specs.Standing.{are_settled}
-use Rattle.coord_facts.proofs.Held.{without_same}
-use Rattle.coord_facts.proofs.Unread.{next}
-use Rattle.each_facts.specs.Runs.{is_run}
+use Rattle.seen_facts.proofs.Coord.Held.{without_same}
+use Rattle.seen_facts.proofs.Coord.Unread.{next}
+use Rattle.seen_facts.specs.Each.Runs.{is_run}
 use Rattle.tab_passes.proofs.PassedOn.{applied_wishes, ended_tab, goes_of, joined_unheld, traversed_going, traversed_lasting}
 use Rattle.tab_passes.specs.PassedOn.{has_ended as has_ended_, wish}
-use Rattle.frame_rows.specs.Lawful.{held_at_first}
-use Rattle.frame_tab.proofs.Goings.{begun_of}
-use Rattle.frame_tab.proofs.Plainly.{applied_reads}
-use Rattle.frame_whole.proofs.Aiming.{used_used}
+use Rattle.row_facts.specs.FrameRows.Lawful.{held_at_first}
+use Rattle.tab_facts.proofs.FrameTab.Goings.{begun_of}
+use Rattle.tab_facts.proofs.FrameTab.Plainly.{applied_reads}
+use Rattle.tab_facts.proofs.FrameWhole.Aiming.{used_used}
 use Rattle.log_model.proofs.Refl.{nat_eq_refl}
 use Rattle.log_model.specs.AfterPlaces.{with_taker}
 use Rattle.log_model.specs.AfterRequests.{changes_history, entries_taken}
@@ -23,13 +23,13 @@ use Rattle.log_model.specs.declared.made.What.{What}
 use Rattle.log_model.specs.declared.request.Request.{Request}
 use Rattle.log_model.specs.declared.row.Row.{Row}
 use Rattle.log_model.specs.declared.row_kind.RowKind.{RowKind}
-use Rattle.owed_facts.proofs.Ends.{loose_more, loose_owed}
-use Rattle.owed_facts.proofs.Requests.{unasked_passes}
-use Rattle.owed_facts.proofs.Rows.{applied_lasts}
-use Rattle.owed_facts.specs.Owed.{IsLoose}
-use Rattle.request_facts.specs.Knowns.{is_go}
-use Rattle.rest_rows.proofs.Rows.{applied_rests}
-use Rattle.rest_rows.specs.Moving.{AllRest}
+use Rattle.row_facts.proofs.Owed.Ends.{loose_more, loose_owed}
+use Rattle.row_facts.proofs.Owed.Requests.{unasked_passes}
+use Rattle.row_facts.proofs.Owed.Rows.{applied_lasts}
+use Rattle.row_facts.specs.Owed.Owed.{IsLoose}
+use Rattle.seen_facts.specs.Request.Knowns.{is_go}
+use Rattle.row_facts.proofs.RestRows.Rows.{applied_rests}
+use Rattle.row_facts.specs.RestRows.Moving.{AllRest}
 use Rattle.seen_laws.proofs.InEvents.{now_more}
 use Rattle.seen_laws.specs.InEvent.{InEvent, now_of}
 use Rattle.std.proofs.Common.{Bool, List, None, Option, Some, [], ap, arith, false, fold, inl, inr, length, map, not, refl, subst, sym, true, ℕ, ◌&&◌, ◌++◌, ◌∙◌, ◌∷◌, ◌≡◌, ◌≤◌, ◌⊎◌}

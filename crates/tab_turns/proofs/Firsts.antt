@@ -1,9 +1,9 @@
 -- The traversal that joined first: it is open, hasn't begun where none runs, and may begin or is refused in its turn.
-use Rattle.asked_facts.specs.Asking.{ArePlain, IsTabRequest}
-use Rattle.doc_facts.specs.Docs.{AreDocs}
-use Rattle.each_facts.proofs.Runs.{at_place}
-use Rattle.each_facts.specs.Runs.{is_run}
-use Rattle.frame_whole.proofs.Beginning.{goes_by}
+use Rattle.seen_facts.specs.Asked.Asking.{ArePlain, IsTabRequest}
+use Rattle.seen_facts.specs.Doc.Docs.{AreDocs}
+use Rattle.seen_facts.proofs.Each.Runs.{at_place}
+use Rattle.seen_facts.specs.Each.Runs.{is_run}
+use Rattle.tab_facts.proofs.FrameWhole.Beginning.{goes_by}
 use Rattle.log_model.proofs.Refl.{nat_eq_refl}
 use Rattle.log_model.specs.Equal.{has_req}
 use Rattle.log_model.specs.Once.{delta_of}
@@ -14,10 +14,10 @@ use Rattle.log_model.specs.Seen.{Asked, Document, Place, Seen, document_of, requ
 use Rattle.log_model.specs.Walk.{walk_of}
 use Rattle.log_model.specs.declared.made.Made.{Made}
 use Rattle.log_model.specs.declared.request.Request.{Request}
-use Rattle.request_facts.proofs.Alls.{all_first}
-use Rattle.request_facts.proofs.Times.{itself}
-use Rattle.request_facts.specs.Cores.{Core, core, core_of}
-use Rattle.request_facts.specs.Knowns.{IsJoined, req_itself}
+use Rattle.seen_facts.proofs.Request.Alls.{all_first}
+use Rattle.seen_facts.proofs.Request.Times.{itself}
+use Rattle.seen_facts.specs.Request.Cores.{Core, core, core_of}
+use Rattle.seen_facts.specs.Request.Knowns.{IsJoined, req_itself}
 use Rattle.std.proofs.Common.{Bool, List, None, Option, Some, [], ap, cond, false, not, refl, suc, sym, true, ℕ, ℤ, ◌&&◌, ◌+◌, ◌||◌, ◌∙◌, ◌∷◌, ◌≡◌}
 use Rattle.std.specs.List.{list_all}
 use Rattle.std.specs.Prelude.{filter_map, option_and_then, option_map, slice_get}

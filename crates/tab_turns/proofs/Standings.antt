@@ -4,7 +4,7 @@ use Rattle.apply_plan.specs.Order.{made_in}
 use Rattle.apply_plan.specs.Reaches.{is_lost, is_reached_within, way_up}
 use Rattle.apply_plan.specs.Standing.{are_settled, has_arrived, stands_if_wanted}
 use Rattle.apply_plan.specs.declared.reach.Reach.TheVariants.{Wanted}
-use Rattle.coord_facts.proofs.Held.{fun_ext}
+use Rattle.seen_facts.proofs.Coord.Held.{fun_ext}
 use Rattle.tab_doors.proofs.Histories.{held_target}
 use Rattle.tab_doors.specs.declared.tables.Tables.{Tables}
 use Rattle.log_model.specs.Equal.{holds}

@@ -1,9 +1,9 @@
 -- What the rows of a traversal's turn leave, and what is known of the event in which they are put out.
 use Rattle.tab_passes.specs.PassedOn.{Wish, wish}
-use Rattle.frame_tab.proofs.Goings.{Begun, begun_of}
-use Rattle.asked_facts.specs.Asking.{ArePlain}
+use Rattle.tab_facts.proofs.FrameTab.Goings.{Begun, begun_of}
+use Rattle.seen_facts.specs.Asked.Asking.{ArePlain}
 use Rattle.log_model.specs.Checks.{is_checked, may_go_on}
-use Rattle.frame_rows.specs.Lawful.{held_at_first}
+use Rattle.row_facts.specs.FrameRows.Lawful.{held_at_first}
 use Rattle.log_model.specs.AfterRequests.{changes_history, on_request, request_begun, without_req}
 use Rattle.log_model.specs.Causes.{denial_at_acceptance}
 use Rattle.log_model.specs.Equal.{has_req, holds, implies}
@@ -13,12 +13,12 @@ use Rattle.log_model.specs.declared.job.Why.{Why}
 use Rattle.log_model.specs.declared.row_kind.RowKind.{RowKind}
 pub use Rattle.tab_passes.proofs.Goings.{goes_on}
 use Rattle.tab_passes.specs.Causes.{MayCause}
-use Rattle.each_facts.proofs.Runs.{each_asked_on}
-use Rattle.each_facts.proofs.Courses.{was_asked, is_asked}
-use Rattle.each_facts.specs.Runs.{EachAsked}
-use Rattle.request_facts.proofs.Readers.{SameReads}
-use Rattle.request_facts.specs.Cores.{Core, core, core_of}
-use Rattle.request_facts.specs.Knowns.{AllOf, AreKnown, IsParked, is_go, req_itself}
+use Rattle.seen_facts.proofs.Each.Runs.{each_asked_on}
+use Rattle.seen_facts.proofs.Each.Courses.{was_asked, is_asked}
+use Rattle.seen_facts.specs.Each.Runs.{EachAsked}
+use Rattle.seen_facts.proofs.Request.Readers.{SameReads}
+use Rattle.seen_facts.specs.Request.Cores.{Core, core, core_of}
+use Rattle.seen_facts.specs.Request.Knowns.{AllOf, AreKnown, IsParked, is_go, req_itself}
 use Rattle.log_model.specs.declared.made.What.{What}
 use Rattle.std.proofs.lemmas.Bool.{eqb-true}
 use Rattle.log_model.specs.declared.made.What.TheVariants as whats

@@ -1,14 +1,14 @@
 -- What is known of the event in which traversals have their turns, and what a turn leaves.
 -- HTML Standard, "session history traversal queue"; what is held back is this project's own.
 use Rattle.tab_passes.specs.PassedOn.{wish}
-use Rattle.frame_rows.specs.Lawful.{held_at_first}
+use Rattle.row_facts.specs.FrameRows.Lawful.{held_at_first}
 use Rattle.log_model.specs.Causes.{denial_at_acceptance}
 use Rattle.log_model.specs.Equal.{has_req}
 use Rattle.log_model.specs.Places.{is_traversal}
 use Rattle.log_model.specs.Seen.{Asked, Seen, request_of}
 use Rattle.log_model.specs.declared.job.Why.{Why}
 use Rattle.log_model.specs.declared.row_kind.RowKind.{RowKind}
-use Rattle.request_facts.proofs.Readers.{SameReads}
+use Rattle.seen_facts.proofs.Request.Readers.{SameReads}
 use Rattle.seen_laws.specs.InEvent.{InEvent, now_of}
 use Rattle.std.specs.Prelude.{List, None, Some, [], false, length, nat_lt, true, ◌≡◌, ◌⊎◌}
 use Rattle.tab_ids.specs.declared.ReqId.{ReqId}

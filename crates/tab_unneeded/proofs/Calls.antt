@@ -6,13 +6,14 @@ use Rattle.seen_laws.specs.InEvent.{now_of}
 use Rattle.std.proofs.Common.{List, [], ap, subst, sym, ◌++◌, ◌∙◌, ◌∷◌, ◌≡◌}
 use Rattle.std.specs.Option.{IsSome}
 use Rattle.tab_doors.proofs.Whose.{proc_known}
-use Rattle.tab_doors.specs.Noting.{PlacesOne}
+use Rattle.tab_doors.specs.Noting.{PlacesOne, WaitsAtItsNav}
 use Rattle.tab_doors.specs.Orders.{order_to}
 use Rattle.tab_doors.specs.Ties.{proc_in}
 use Rattle.tab_doors.specs.Working.{KeepsRun, KeepsStore}
 use Rattle.tab_doors.specs.declared.tables.Tables.{Tables}
 use Rattle.tab_ids.specs.declared.DocId.{DocId}
 use Rattle.tab_ids.specs.declared.StateId.{StateId}
+use Rattle.tab_stands.proofs.Awaited.{awaited_own}
 use Rattle.tab_stands.proofs.Unmade.{d, its_found}
 use Rattle.tab_stands.specs.PassedOn.{IsPassing, IsReady, IsStray, MayCause}
 use Rattle.tab_stands.specs.Standing.{HasRoomFor, StandsFor}
@@ -31,6 +32,12 @@ module _ (m : InMade) (doc : DocId) (state : StateId) (why : Why) (its : IsMadeU
   proc_as =
       subst (λ (x : DocId). IsSome (proc_in t.whose.entries x)) its.doc_is
       (proc_known m.event.start t.whose.entries stands.tied.holds.whose m.job.doc (d m.event m.proc m.job m.outcome its.tells t m.queue m.noted stands its.nav state its.address its.initial its.task) (its_found m.event m.proc m.job m.outcome its.tells t m.queue m.noted stands its.nav state its.address its.initial its.task))
+
+  -- the load that waits for it, if one does, is of its navigable
+  pub waits_as : HasOneEach t.loads → WaitsAtItsNav t doc
+  waits_as one_each =
+      subst (λ (x : DocId). WaitsAtItsNav t x) its.doc_is
+      (awaited_own m.event m.proc m.job m.outcome its.tells t m.queue m.noted stands its.nav state its.address its.initial its.task one_each)
 
   own_stray : IsStray (now_of m.event []) m.job.doc state
   own_stray = subst (λ (x : DocId). IsStray (now_of m.event []) x state) (sym its.doc_is) its.stray

@@ -1,17 +1,17 @@
 -- A document was made and discarded at once, for no request: what comes is as it was as the event began.
-use Rattle.asked_facts.specs.Asking.{ArePlain}
-use Rattle.calm_facts.proofs.Loads.{HasOne, IsLoads, loads_then}
-use Rattle.calm_facts.proofs.Sents.{found_on}
-use Rattle.each_facts.specs.Runs.{EachAsked}
-use Rattle.frame_facts.specs.Lasting.{wish}
-use Rattle.coord_facts.proofs.Singles.{AreApart}
-use Rattle.calm_facts.specs.Calm.{HasUsable}
-use Rattle.calm_facts.specs.Loads.{LoadsHaveDocuments}
-use Rattle.hang_facts.proofs.Members.{Passing, any_has, find_has, has_any}
-use Rattle.home_facts.specs.Homes.{document_in}
-use Rattle.left_facts.proofs.Rows.{were_shown}
-use Rattle.left_facts.specs.Left.{WereShown}
-use Rattle.load_facts.specs.Loading.{look}
+use Rattle.seen_facts.specs.Asked.Asking.{ArePlain}
+use Rattle.tab_facts.proofs.Calm.Loads.{HasOne, IsLoads, loads_then}
+use Rattle.tab_facts.proofs.Calm.Sents.{found_on}
+use Rattle.seen_facts.specs.Each.Runs.{EachAsked}
+use Rattle.tab_facts.specs.Frame.Lasting.{wish}
+use Rattle.seen_facts.proofs.Coord.Singles.{AreApart}
+use Rattle.tab_facts.specs.Calm.Calm.{HasUsable}
+use Rattle.tab_facts.specs.Calm.Loads.{LoadsHaveDocuments}
+use Rattle.seen_facts.proofs.Hang.Members.{Passing, any_has, find_has, has_any}
+use Rattle.seen_facts.specs.Home.Homes.{document_in}
+use Rattle.row_facts.proofs.Left.Rows.{were_shown}
+use Rattle.row_facts.specs.Left.Left.{WereShown}
+use Rattle.seen_facts.specs.Load.Loading.{look}
 use Rattle.log_model.specs.After.{after}
 use Rattle.log_model.specs.AfterPlaces.{without_doc}
 use Rattle.log_model.specs.AfterRequests.{on_served, request_served}
@@ -25,8 +25,8 @@ use Rattle.log_model.specs.declared.job.Why.{Why}
 use Rattle.log_model.specs.declared.outcome.Outcome.{Outcome}
 use Rattle.log_model.specs.declared.row_kind.RowKind.{RowKind}
 use Rattle.move_queue.specs.Queue.{Queue}
-use Rattle.place_facts.proofs.Documents.{KeepStates, states_stay}
-use Rattle.rest_facts.proofs.Still.{found_itself}
+use Rattle.seen_facts.proofs.Place.Documents.{KeepStates, states_stay}
+use Rattle.seen_facts.proofs.Rest.Still.{found_itself}
 use Rattle.seen_laws.proofs.InEvents.{now_more}
 use Rattle.seen_laws.specs.InEvent.{InEvent, now_of, row_of}
 use Rattle.std.proofs.Common.{Bool, List, None, Option, Some, [], ap, cond, eqb-true, false, inl, inr, not, refl, subst, sym, true, ℕ, ◌&&◌, ◌==◌, ◌||◌, ◌∙◌, ◌∷◌, ◌≡◌, ◌⊎◌}
@@ -50,7 +50,7 @@ use Rattle.tab_stands.specs.PassedOn.{IsLeftStray, IsStray, LoadsMadeOwn, MayCau
 use Rattle.tab_stands.specs.Standing.{StandsFor}
 use Rattle.tab_sweeps.proofs.Loads.{loaded_never}
 use Rattle.tab_unneeded.proofs.Needs.{made_nobody, made_unkept}
-use Rattle.walk_rows.proofs.Leaves.{none_places}
+use Rattle.row_facts.proofs.WalkRows.Leaves.{none_places}
 use Rattle.log_model.specs.declared.job.Task.TheVariants as tasks
 use Rattle.log_model.specs.declared.job.Why.TheVariants as whys
 use Rattle.log_model.specs.declared.made.Report.TheVariants as reports

@@ -1,10 +1,10 @@
 -- A document that was just made was never shown: no navigable was shown it last, it isn't kept, and nobody is awake on it.
-use Rattle.hang_facts.proofs.Hung.{places_distinct}
-use Rattle.hang_facts.proofs.Members.{find_has}
-use Rattle.hang_facts.specs.Members.{Has}
-use Rattle.home_facts.specs.Homes.{IsHomed}
-use Rattle.kept_facts.specs.Keeping.{IsKeptDoc, IsMadeFor}
-use Rattle.leave_rows.specs.Evicting.{is_last}
+use Rattle.seen_facts.proofs.Hang.Hung.{places_distinct}
+use Rattle.seen_facts.proofs.Hang.Members.{find_has}
+use Rattle.seen_facts.specs.Hang.Members.{Has}
+use Rattle.seen_facts.specs.Home.Homes.{IsHomed}
+use Rattle.seen_facts.specs.Kept.Keeping.{IsKeptDoc, IsMadeFor}
+use Rattle.row_facts.specs.LeaveRows.Evicting.{is_last}
 use Rattle.log_model.specs.AfterPlaces.{sleepers_with}
 use Rattle.log_model.specs.Equal.{has_doc, holds}
 use Rattle.log_model.specs.Seen.{Document, Place, Seen, awake, document_of, place_in, place_of}
@@ -12,7 +12,7 @@ use Rattle.log_model.specs.declared.job.Job.{Job}
 use Rattle.log_model.specs.declared.made.Report.{Report}
 use Rattle.log_model.specs.declared.outcome.Outcome.{Outcome}
 use Rattle.move_queue.specs.Queue.{Queue}
-use Rattle.rest_rows.proofs.Again.{doc_same}
+use Rattle.row_facts.proofs.RestRows.Again.{doc_same}
 use Rattle.seen_laws.specs.InEvent.{InEvent, now_of}
 use Rattle.std.proofs.Common.{Bool, List, None, Option, Some, [], ap, eqb-true, false, refl, subst, sym, true, ℕ, ◌==◌, ◌∙◌, ◌≡◌}
 use Rattle.tab_doors.specs.declared.tables.Tables.{Tables}
@@ -29,7 +29,7 @@ use Rattle.tab_stands.specs.Delivering.{IsDelivery}
 use Rattle.tab_stands.specs.PassedOn.{IsStray, IsTab}
 use Rattle.tab_stands.specs.Standing.{StandsFor}
 use Rattle.tab_sweeps.specs.Unneeded.{IsUnneeded}
-use Rattle.walk_rows.proofs.Sleeping.{no_shower, nobody_awake}
+use Rattle.row_facts.proofs.WalkRows.Sleeping.{no_shower, nobody_awake}
 use Rattle.log_model.specs.declared.job.Task.TheVariants as tasks
 use Rattle.log_model.specs.declared.made.Report.TheVariants as reports
 use Rattle.log_model.specs.declared.outcome.Outcome.TheVariants as outcomes

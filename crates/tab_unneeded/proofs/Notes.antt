@@ -1,10 +1,10 @@
 -- A document that was made is noted in the tables: the coordinator is at work, and passes may follow, whatever the document is needed for.
-use Rattle.kept_facts.specs.Keeping.{state_in}
+use Rattle.seen_facts.specs.Kept.Keeping.{state_in}
 use Rattle.load_doors.specs.Tied.{AreTied}
 use Rattle.load_table.specs.Loads.{HasOneEach, is_populating, ongoing_load}
 use Rattle.load_table.specs.declared.load.Load.{Load}
-use Rattle.load_ties.proofs.Waits.{waits_once}
-use Rattle.load_ties.specs.Tying.{TiesLoads}
+use Rattle.seen_facts.proofs.LoadTies.Waits.{waits_once}
+use Rattle.seen_facts.specs.LoadTies.Tying.{TiesLoads}
 use Rattle.log_model.specs.Seen.{Document, Seen}
 use Rattle.log_model.specs.declared.job.Job.{Job}
 use Rattle.log_model.specs.declared.made.Report.{Report}
@@ -12,7 +12,7 @@ use Rattle.log_model.specs.declared.outcome.Outcome.{Outcome}
 use Rattle.log_model.specs.declared.row_kind.Actor.{Actor}
 use Rattle.log_model.specs.declared.row_kind.RowKind.{RowKind}
 use Rattle.move_queue.specs.Queue.{Queue}
-use Rattle.owed_facts.proofs.Ends.{loose_first, loose_owed}
+use Rattle.row_facts.proofs.Owed.Ends.{loose_first, loose_owed}
 use Rattle.page_cache.specs.Kept.{Kept}
 use Rattle.seen_laws.specs.InEvent.{InEvent, now_of}
 use Rattle.seen_laws.specs.Sending.{leads}

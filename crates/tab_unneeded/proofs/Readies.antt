@@ -1,10 +1,10 @@
 -- A document was made and discarded at once: a pass may follow.
-use Rattle.asked_facts.specs.Asking.{ArePlain}
-use Rattle.coord_facts.specs.Leading.{held_back}
-use Rattle.frame_facts.specs.Lasting.{wish}
-use Rattle.frame_rows.specs.Lawful.{has_traversed}
-use Rattle.calm_facts.specs.Calm.{HasUsable}
-use Rattle.load_facts.specs.Loading.{look}
+use Rattle.seen_facts.specs.Asked.Asking.{ArePlain}
+use Rattle.seen_facts.specs.Coord.Leading.{held_back}
+use Rattle.tab_facts.specs.Frame.Lasting.{wish}
+use Rattle.row_facts.specs.FrameRows.Lawful.{has_traversed}
+use Rattle.tab_facts.specs.Calm.Calm.{HasUsable}
+use Rattle.seen_facts.specs.Load.Loading.{look}
 use Rattle.log_model.specs.ActsAtOnce.{is_ready_load}
 use Rattle.log_model.specs.Causes.{takes_report}
 use Rattle.log_model.specs.Equal.{has_req, holds}

@@ -1,8 +1,8 @@
 -- A navigable that is bound for a document is so still once it has left another one, and once others were discarded.
-use Rattle.hang_facts.proofs.Hung.{not_above_itself, place_chain}
-use Rattle.hang_facts.specs.Hanging.{Hangs}
-use Rattle.hang_facts.specs.Members.{Has}
-use Rattle.left_facts.specs.Left.{WereShown}
+use Rattle.seen_facts.proofs.Hang.Hung.{not_above_itself, place_chain}
+use Rattle.seen_facts.specs.Hang.Hanging.{Hangs}
+use Rattle.seen_facts.specs.Hang.Members.{Has}
+use Rattle.row_facts.specs.Left.Left.{WereShown}
 use Rattle.log_model.specs.Checks.{may_go_on}
 use Rattle.log_model.specs.History.{History, has_nav, target_entry}
 use Rattle.log_model.specs.Places.{aim_of, is_shown}
@@ -24,10 +24,10 @@ use Rattle.tab_moves.specs.Making.{show_why}
 use Rattle.tab_moves.proofs.Frees.{HasOnlyFrozen}
 use Rattle.tab_walk.proofs.Overs.{causes_over, frozen_quiet, loads_over, moved_over, sights_over, were_over}
 use Rattle.tab_walk.specs.Moving.{HasSetOff, InMove, IsBound, NoLoadBelowKept}
-use Rattle.walk_facts.proofs.Placed.{found_nav}
-use Rattle.walk_facts.specs.Serving.{is_stopping}
-use Rattle.walk_rows.proofs.Walks.{above_apart, stopping_same}
-use Rattle.walk_rows.specs.Since.{IsVisitedInNeed}
+use Rattle.seen_facts.proofs.Walk.Placed.{found_nav}
+use Rattle.seen_facts.specs.Walk.Serving.{is_stopping}
+use Rattle.row_facts.proofs.WalkRows.Walks.{above_apart, stopping_same}
+use Rattle.row_facts.specs.WalkRows.Since.{IsVisitedInNeed}
 
 -- ---- a document that is seen as before
 

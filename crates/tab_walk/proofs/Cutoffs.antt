@@ -1,16 +1,16 @@
 -- Where none may be kept, the document that is left may be discarded.
-use Rattle.hang_facts.proofs.Hung.{places_distinct}
-use Rattle.hang_facts.proofs.Members.{has_map}
-use Rattle.hang_facts.proofs.Parts.{state_is}
-use Rattle.hang_facts.specs.Members.{Has}
-use Rattle.kept_facts.proofs.States.{AreOfOwnStates, sole_states}
-use Rattle.kept_facts.specs.Keeping.{IsMadeFor, state_in}
-use Rattle.leave_rows.proofs.Leaves.{none_kept}
-use Rattle.leave_rows.specs.Leaving.{IsDiscardOf, IsLeaveDue, IsTooMany}
-use Rattle.load_facts.specs.Loading.{IsLoading, look, look_of}
+use Rattle.seen_facts.proofs.Hang.Hung.{places_distinct}
+use Rattle.seen_facts.proofs.Hang.Members.{has_map}
+use Rattle.seen_facts.proofs.Hang.Parts.{state_is}
+use Rattle.seen_facts.specs.Hang.Members.{Has}
+use Rattle.seen_facts.proofs.Kept.States.{AreOfOwnStates, sole_states}
+use Rattle.seen_facts.specs.Kept.Keeping.{IsMadeFor, state_in}
+use Rattle.row_facts.proofs.LeaveRows.Leaves.{none_kept}
+use Rattle.row_facts.specs.LeaveRows.Leaving.{IsDiscardOf, IsLeaveDue, IsTooMany}
+use Rattle.seen_facts.specs.Load.Loading.{IsLoading, look, look_of}
 use Rattle.load_table.specs.Loads.{ongoing_load}
 use Rattle.load_table.specs.declared.load.Load.{Load}
-use Rattle.load_ties.specs.Tying.{IsLoadTied}
+use Rattle.seen_facts.specs.LoadTies.Tying.{IsLoadTied}
 use Rattle.log_model.proofs.Refl.{nat_eq_refl}
 use Rattle.log_model.specs.AfterPlaces.{sleepers_with}
 use Rattle.log_model.specs.Equal.{has_doc}
@@ -21,11 +21,11 @@ use Rattle.log_model.specs.declared.job.Why.{Why}
 use Rattle.log_model.specs.declared.row_kind.RowKind.{RowKind}
 use Rattle.nav_tree.specs.Tree.{document_of as document_at}
 use Rattle.nav_tree.specs.declared.place.Place as live_place
-use Rattle.frame_rows.specs.Discarding.{SettlesNone}
-use Rattle.leave_rows.proofs.Unasked.{all_answered}
+use Rattle.row_facts.specs.FrameRows.Discarding.{SettlesNone}
+use Rattle.row_facts.proofs.LeaveRows.Unasked.{all_answered}
 use Rattle.log_model.specs.Places.{all_asked}
-use Rattle.rest_facts.proofs.Stands.{all_requests}
-use Rattle.rest_facts.proofs.Still.{found_itself}
+use Rattle.seen_facts.proofs.Rest.Stands.{all_requests}
+use Rattle.seen_facts.proofs.Rest.Still.{found_itself}
 use Rattle.seen_laws.proofs.InEvents.{led_here}
 use Rattle.seen_laws.proofs.Keyed.{find_has as seen_number}
 use Rattle.seen_laws.specs.InEvent.{InEvent, here_of, now_of, row_of}
@@ -52,8 +52,8 @@ use Rattle.tab_moves.specs.PassedOn.{IsGoneAt, IsLeaving}
 use Rattle.tab_walk.proofs.Offs.{asleep_off, to_leave}
 use Rattle.tab_walk.specs.Cutting.{MayCut, cut_of}
 use Rattle.tab_walk.specs.Moving.{HasSetOff, InMove, IsBound, MaySetOff, is_up_in}
-use Rattle.walk_facts.proofs.Placed.{found_nav}
-use Rattle.walk_rows.proofs.Sleeping.{no_shower, nobody_awake}
+use Rattle.seen_facts.proofs.Walk.Placed.{found_nav}
+use Rattle.row_facts.proofs.WalkRows.Sleeping.{no_shower, nobody_awake}
 use Rattle.log_model.specs.declared.job.Task.TheVariants as tasks
 use Rattle.log_model.specs.declared.row_kind.RowKind.TheVariants as rows
 

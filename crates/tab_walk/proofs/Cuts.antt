@@ -1,5 +1,5 @@
 -- Documents below one that was discarded are discarded, one after the other.
-use Rattle.kept_facts.specs.Keeping.{kept_states}
+use Rattle.seen_facts.specs.Kept.Keeping.{kept_states}
 use Rattle.log_model.specs.AfterPlaces.{sleepers_with, without_doc}
 use Rattle.log_model.specs.Equal.{has_doc}
 use Rattle.log_model.specs.Orders.{is_below_gone}
@@ -30,7 +30,7 @@ use Rattle.tab_ids.specs.declared.StateId.{StateId}
 use Rattle.tab_moves.proofs.Lasts.{has_state_in, live_parts, there_for}
 use Rattle.tab_moves.specs.PassedOn.{IsLeaving, left_then, without_all}
 use Rattle.tab_walk.specs.Cutting.{AreCutBelow, InCut, IsCutBelow, IsCutting}
-use Rattle.walk_rows.proofs.Passed.{discard_gone}
+use Rattle.row_facts.proofs.WalkRows.Passed.{discard_gone}
 use Rattle.log_model.specs.declared.job.Task.TheVariants as tasks
 use Rattle.log_model.specs.declared.row_kind.RowKind.TheVariants as rows
 

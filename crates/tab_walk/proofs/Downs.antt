@@ -1,8 +1,8 @@
 -- Where none may be kept: once the document that is left was discarded, the navigable is aimed at its target, and those below are to be discarded.
-use Rattle.hang_facts.proofs.Hung.{not_above_itself, place_chain}
-use Rattle.hang_facts.specs.AsPlaces.{AreDistinct}
-use Rattle.hang_facts.specs.Members.{Has}
-use Rattle.home_facts.specs.Homes.{AreHomed, IsAtHome}
+use Rattle.seen_facts.proofs.Hang.Hung.{not_above_itself, place_chain}
+use Rattle.seen_facts.specs.Hang.AsPlaces.{AreDistinct}
+use Rattle.seen_facts.specs.Hang.Members.{Has}
+use Rattle.seen_facts.specs.Home.Homes.{AreHomed, IsAtHome}
 use Rattle.log_model.proofs.Refl.{nat_eq_refl}
 use Rattle.log_model.specs.AfterPlaces.{sleepers_with}
 use Rattle.log_model.specs.History.{History, has_nav}
@@ -26,12 +26,12 @@ use Rattle.tab_moves.proofs.Frees.{docs_below}
 use Rattle.tab_walk.proofs.Thens.{asleep_then, awake_hangs, cut_then, its_off, leaves_then_, moving, other_then, to}
 use Rattle.tab_walk.specs.Cutting.{AreCutBelow, IsCutBelow, MayCut, cut_of}
 use Rattle.tab_walk.specs.Moving.{InMove, IsBound, is_up_in}
-use Rattle.walk_facts.proofs.Placed.{found_nav}
-use Rattle.walk_facts.proofs.Sleepers.{slept}
-use Rattle.walk_facts.specs.Serving.{is_stopping}
-use Rattle.walk_rows.proofs.Sleeping.{no_shower, nobody_awake, place_sleeps}
-use Rattle.walk_rows.proofs.Walks.{above_apart, stopping_same}
-use Rattle.walk_rows.specs.Since.{IsVisitedInNeed}
+use Rattle.seen_facts.proofs.Walk.Placed.{found_nav}
+use Rattle.seen_facts.proofs.Walk.Sleepers.{slept}
+use Rattle.seen_facts.specs.Walk.Serving.{is_stopping}
+use Rattle.row_facts.proofs.WalkRows.Sleeping.{no_shower, nobody_awake, place_sleeps}
+use Rattle.row_facts.proofs.WalkRows.Walks.{above_apart, stopping_same}
+use Rattle.row_facts.specs.WalkRows.Since.{IsVisitedInNeed}
 use Rattle.log_model.specs.declared.job.Task.TheVariants as tasks
 
 -- what a place that falls asleep keeps

@@ -1,17 +1,17 @@
 -- Where none may be kept: the document that is left is discarded, then those below it, and then the navigable may be shown its target.
-use Rattle.calm_facts.proofs.Loads.{IsLoads, loads_sent}
-use Rattle.calm_facts.specs.Loads.{LoadsHaveDocuments}
+use Rattle.tab_facts.proofs.Calm.Loads.{IsLoads, loads_sent}
+use Rattle.tab_facts.specs.Calm.Loads.{LoadsHaveDocuments}
 use Rattle.tab_evicts.proofs.Quiets.{no_loads, one_document}
 use Rattle.tab_ids.specs.declared.StateId.{StateId}
 use Rattle.tab_walk.proofs.Cutoffs.{cut_gone}
-use Rattle.hang_facts.proofs.Hung.{places_distinct}
-use Rattle.hang_facts.specs.AsPlaces.{AreDistinct}
-use Rattle.home_facts.specs.Homes.{AreHomed}
+use Rattle.seen_facts.proofs.Hang.Hung.{places_distinct}
+use Rattle.seen_facts.specs.Hang.AsPlaces.{AreDistinct}
+use Rattle.seen_facts.specs.Home.Homes.{AreHomed}
 use Rattle.log_model.specs.AfterPlaces.{sleepers_with, without_doc}
 use Rattle.log_model.specs.Checks.{may_go_on}
 use Rattle.log_model.specs.Equal.{has_doc, holds}
 use Rattle.log_model.specs.History.{History, has_nav, target_entry}
-use Rattle.mover_facts.specs.Movers.{IsMovedBy}
+use Rattle.seen_facts.specs.Mover.Movers.{IsMovedBy}
 use Rattle.log_model.specs.Places.{aim_of, is_gone}
 use Rattle.log_model.specs.Seen.{Asked, Document, Place, Seen, asleep, document_of, request_of}
 use Rattle.log_model.specs.declared.job.Why.{Why}
@@ -40,8 +40,8 @@ use Rattle.tab_walk.proofs.Overs.{IsQuietRow, causes_over, loads_over, moved_ove
 use Rattle.tab_walk.proofs.Thens.{asleep_then, cut_then, leaves_then_, moving, none_down, other_then, to}
 use Rattle.tab_walk.specs.Cutting.{AreCutBelow, IsCutting, MayCut, cut_of}
 use Rattle.tab_walk.specs.Moving.{InMove, IsAimed, IsBound, IsPart, is_up_in}
-use Rattle.walk_facts.proofs.Sleepers.{slept}
-use Rattle.walk_facts.specs.Walking.{LeavesOthers}
+use Rattle.seen_facts.proofs.Walk.Sleepers.{slept}
+use Rattle.seen_facts.specs.Walk.Walking.{LeavesOthers}
 use Rattle.log_model.specs.declared.job.Task.TheVariants as tasks
 use Rattle.log_model.specs.declared.row_kind.RowKind.TheVariants as rows
 

@@ -1,6 +1,6 @@
 -- What the walk finds of a navigable that is to be moved: its target's document, and what it leaves for it.
-use Rattle.hang_facts.proofs.Targets.{IsTarget, target_has}
-use Rattle.kept_facts.specs.Keeping.{IsMadeFor}
+use Rattle.seen_facts.proofs.Hang.Targets.{IsTarget, target_has}
+use Rattle.seen_facts.specs.Kept.Keeping.{IsMadeFor}
 use Rattle.log_model.specs.AfterPlaces.{kept_leaving}
 use Rattle.log_model.specs.History.{row_of}
 use Rattle.log_model.specs.Orders.{is_usable}
@@ -37,7 +37,7 @@ use Rattle.tab_moves.specs.Moving.{InPass}
 use Rattle.tab_evicts.specs.Evicting.{NoLoadBelow}
 use Rattle.tab_walk.specs.Cutting.{MayCutFrom}
 use Rattle.tab_walk.specs.Moving.{IsBound, MayMoveFrom, MayMoveTo, in_move}
-use Rattle.walk_rows.specs.Since.{IsVisitedInNeed}
+use Rattle.row_facts.specs.WalkRows.Since.{IsVisitedInNeed}
 use Rattle.apply_plan.specs.declared.need.Need.TheVariants as needs
 
 -- the epoch after that of a navigable that was never shown a document is the first

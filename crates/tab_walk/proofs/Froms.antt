@@ -1,5 +1,5 @@
 -- A navigable leaves a document that is kept, and is shown another one: the parts together.
-use Rattle.kept_facts.specs.Keeping.{kept_states}
+use Rattle.seen_facts.specs.Kept.Keeping.{kept_states}
 use Rattle.log_model.specs.History.{History, target_entry}
 use Rattle.log_model.specs.Places.{aim_of}
 use Rattle.log_model.specs.Seen.{Seen}
@@ -14,7 +14,7 @@ use Rattle.tab_ids.specs.declared.StateId.{StateId}
 pub use Rattle.tab_moves.specs.Showing.{IsTurn}
 use Rattle.tab_moves.specs.Making.{show_why}
 use Rattle.tab_walk.specs.Moving.{HasSetOff, InMove, IsPart, MayMakeRoom, MayMoveFrom}
-use Rattle.walk_rows.proofs.Leaves.{leaves_then}
+use Rattle.row_facts.proofs.WalkRows.Leaves.{leaves_then}
 
 pub part_named : (one other : NavId) → one ≡ other → (s t : Seen) → IsPart s t one → IsPart s t other
 part_named one other same s t part = subst (λ (n : NavId). IsPart s t n) same part

@@ -1,6 +1,6 @@
 -- Where none may be kept: the parts together, by the names of a call.
-use Rattle.kept_facts.proofs.States.{AreOfOwnStates}
-use Rattle.kept_facts.specs.Keeping.{kept_states}
+use Rattle.seen_facts.proofs.Kept.States.{AreOfOwnStates}
+use Rattle.seen_facts.specs.Kept.Keeping.{kept_states}
 use Rattle.log_model.specs.Equal.{has_doc}
 use Rattle.log_model.specs.Seen.{Document, Seen, document_of}
 use Rattle.log_model.specs.declared.job.Why.{Why}

@@ -1,6 +1,6 @@
 -- A navigable sets off: it leaves the document that it is awake on, or is asleep already.
-use Rattle.hang_facts.proofs.Forms.{nav_is}
-use Rattle.home_facts.specs.Homes.{IsHomed}
+use Rattle.seen_facts.proofs.Hang.Forms.{nav_is}
+use Rattle.seen_facts.specs.Home.Homes.{IsHomed}
 use Rattle.log_model.proofs.Refl.{nat_eq_refl}
 use Rattle.log_model.specs.Equal.{holds}
 use Rattle.log_model.specs.Places.{is_asleep, is_awake_on}
@@ -31,12 +31,12 @@ use Rattle.tab_moves.specs.PassedOn.{HasOnly, IsLeaving}
 use Rattle.tab_walk.proofs.Binds.{set_off_left}
 use Rattle.tab_walk.proofs.Overs.{IsQuietRow, causes_over, frozen_loads, frozen_quiet, parked_over}
 use Rattle.tab_walk.specs.Moving.{IsPart}
-use Rattle.walk_rows.proofs.Leaves.{leaves_none, leaves_then}
+use Rattle.row_facts.proofs.WalkRows.Leaves.{leaves_none, leaves_then}
 use Rattle.tab_moves.proofs.Makings.{show_causes}
 use Rattle.tab_moves.specs.Making.{awake_on}
 use Rattle.tab_walk.specs.Moving.{HasSetOff, InMove, IsBound, MaySetOff, is_up_in, move_of}
 use Rattle.tab_moves.proofs.Lasts.{below_sleeps}
-use Rattle.walk_rows.specs.Since.{WasAwake}
+use Rattle.row_facts.specs.WalkRows.Since.{WasAwake}
 
 module _ (m : InMove) {noted : Option StateId} (out : List RowKind) (t : Tables) (leaving : IsLeaving m.pass (Some (record { doc = m.doc; left = noted })) [] out t) (left : DocId) (why : Why) (may : MaySetOff m t.running (now_of m.pass.event out) m.nav left why) where
   abbrev s : Seen

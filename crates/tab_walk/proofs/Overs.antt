@@ -1,12 +1,12 @@
 -- What holds over orders that freeze or discard documents, one after the other.
-use Rattle.calm_facts.proofs.Loads.{loads_sent}
-use Rattle.calm_facts.proofs.Sents.{DiscardsNone}
-use Rattle.calm_facts.specs.Loads.{LoadsHaveDocuments}
-use Rattle.hang_facts.specs.Members.{Has}
-use Rattle.left_facts.proofs.Rows.{were_shown}
-use Rattle.left_facts.specs.Left.{WereShown}
-use Rattle.load_facts.proofs.Rows.{look_blind}
-use Rattle.load_facts.specs.Loading.{look, look_of}
+use Rattle.tab_facts.proofs.Calm.Loads.{loads_sent}
+use Rattle.tab_facts.proofs.Calm.Sents.{DiscardsNone}
+use Rattle.tab_facts.specs.Calm.Loads.{LoadsHaveDocuments}
+use Rattle.seen_facts.specs.Hang.Members.{Has}
+use Rattle.row_facts.proofs.Left.Rows.{were_shown}
+use Rattle.row_facts.specs.Left.Left.{WereShown}
+use Rattle.seen_facts.proofs.Load.Rows.{look_blind}
+use Rattle.seen_facts.specs.Load.Loading.{look, look_of}
 use Rattle.log_model.specs.After.{after}
 use Rattle.log_model.specs.AfterDocuments.{addressed, documents_sent}
 use Rattle.log_model.specs.AfterPlaces.{sleepers_with}
@@ -18,10 +18,10 @@ use Rattle.log_model.specs.declared.job.Job.{Job}
 use Rattle.log_model.specs.declared.job.Task.{Task}
 use Rattle.log_model.specs.declared.job.Why.{Why}
 use Rattle.log_model.specs.declared.row_kind.RowKind.{RowKind}
-use Rattle.mover_facts.proofs.Orders.{PutsToSleep}
-use Rattle.mover_facts.specs.Movers.{IsMovedBy}
-use Rattle.owed_facts.proofs.Requests.{AsksNone}
-use Rattle.request_facts.proofs.Readers.{sent_reads}
+use Rattle.seen_facts.proofs.Mover.Orders.{PutsToSleep}
+use Rattle.seen_facts.specs.Mover.Movers.{IsMovedBy}
+use Rattle.row_facts.proofs.Owed.Requests.{AsksNone}
+use Rattle.seen_facts.proofs.Request.Readers.{sent_reads}
 use Rattle.seen_laws.proofs.InEvents.{now_more}
 use Rattle.seen_laws.specs.InEvent.{InEvent, now_of, row_of}
 use Rattle.std.proofs.Common.{List, Option, Some, [], ap, append-nil, append_assoc, cond, false, inl, inr, map, refl, subst, sym, true, Bool, None, ◌==◌, ◌++◌, ◌∙◌, ◌∷◌, ◌≡◌}
@@ -39,8 +39,8 @@ pub use Rattle.tab_moves.proofs.PassedOn.{only_as}
 use Rattle.tab_moves.proofs.Frees.{HasOnlyFrozen, IsFreezeOf}
 use Rattle.tab_moves.specs.Moving.{MayCause}
 use Rattle.tab_moves.specs.PassedOn.{HasOnly}
-use Rattle.walk_facts.proofs.Sleepers.{slept}
-use Rattle.walk_rows.proofs.Moved.{sent_moved}
+use Rattle.seen_facts.proofs.Walk.Sleepers.{slept}
+use Rattle.row_facts.proofs.WalkRows.Moved.{sent_moved}
 use Rattle.log_model.specs.declared.job.Task.TheVariants as tasks
 use Rattle.log_model.specs.declared.row_kind.RowKind.TheVariants as rows
 

@@ -1,11 +1,11 @@
 -- What a move puts out: orders that freeze or discard documents, and the one that shows one; and who is awake after them.
-use Rattle.calm_facts.specs.Loads.{LoadsHaveDocuments}
+use Rattle.tab_facts.specs.Calm.Loads.{LoadsHaveDocuments}
 use Rattle.log_model.specs.After.{after}
 use Rattle.log_model.specs.Seen.{Place, Seen, place_of}
 use Rattle.log_model.specs.declared.job.Task.{Task}
 use Rattle.log_model.specs.declared.job.Why.{Why}
 use Rattle.log_model.specs.declared.row_kind.RowKind.{RowKind}
-use Rattle.mover_facts.proofs.Orders.{PutsToSleep}
+use Rattle.seen_facts.proofs.Mover.Orders.{PutsToSleep}
 use Rattle.seen_laws.proofs.InEvents.{now_more}
 use Rattle.seen_laws.specs.InEvent.{InEvent, now_of, row_of}
 use Rattle.std.proofs.Common.{List, None, Option, Some, [], ap, refl, subst, sym, ℕ, ◌++◌, ◌∙◌, ◌∷◌, ◌≡◌}
@@ -23,9 +23,9 @@ use Rattle.tab_moves.proofs.Frees.{HasOnlyFrozen, only_one}
 pub use Rattle.tab_moves.proofs.Frees.{only_then}
 use Rattle.tab_walk.proofs.Overs.{IsQuietRow, over_only}
 use Rattle.tab_walk.specs.Moving.{HasBeenMoved, HasOnlyLeft, HasOnlyMoved, InMove, IsBound, IsLeaveFor, IsMoveFor, IsOfMove}
-use Rattle.walk_rows.proofs.Sinces.{sent_since, shown_since, since_itself}
-use Rattle.walk_rows.proofs.Wakes.{ShowsNone}
-use Rattle.walk_rows.specs.Since.{AwakeSince}
+use Rattle.row_facts.proofs.WalkRows.Sinces.{sent_since, shown_since, since_itself}
+use Rattle.row_facts.proofs.WalkRows.Wakes.{ShowsNone}
+use Rattle.row_facts.specs.WalkRows.Since.{AwakeSince}
 use Rattle.log_model.specs.declared.job.Task.TheVariants as tasks
 use Rattle.log_model.specs.declared.row_kind.RowKind.TheVariants as rows
 

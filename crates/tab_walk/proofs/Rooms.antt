@@ -1,9 +1,9 @@
 -- A navigable that has set off is shown its target, once there is room for all documents that are kept then.
-use Rattle.hang_facts.proofs.Members.{has_filter}
-use Rattle.hang_facts.proofs.Parts.{state_is}
-use Rattle.hang_facts.specs.Members.{Has}
-use Rattle.kept_facts.proofs.States.{AreOfOwnStates, sole_states}
-use Rattle.kept_facts.specs.Keeping.{kept_states}
+use Rattle.seen_facts.proofs.Hang.Members.{has_filter}
+use Rattle.seen_facts.proofs.Hang.Parts.{state_is}
+use Rattle.seen_facts.specs.Hang.Members.{Has}
+use Rattle.seen_facts.proofs.Kept.States.{AreOfOwnStates, sole_states}
+use Rattle.seen_facts.specs.Kept.Keeping.{kept_states}
 use Rattle.log_model.proofs.Refl.{nat_eq_refl}
 use Rattle.log_model.specs.AfterPlaces.{kept_leaving, sleepers_below, without_doc, woken_below}
 use Rattle.log_model.specs.Equal.{holds}
@@ -32,7 +32,7 @@ use Rattle.tab_moves.specs.Showing.{IsToShow}
 use Rattle.tab_moves.proofs.Makings.{show_causes}
 use Rattle.tab_moves.specs.Making.{show_why}
 use Rattle.tab_moves.specs.PassedOn.{HasOnly, IsLeaving}
-use Rattle.left_facts.specs.Left.{WereShown}
+use Rattle.row_facts.specs.Left.Left.{WereShown}
 use Rattle.log_model.specs.Checks.{may_go_on}
 use Rattle.log_model.specs.Seen.{Asked, request_of}
 use Rattle.tab_doors.specs.Working.{KeepsStore}
@@ -41,15 +41,15 @@ use Rattle.tab_moves.proofs.Frees.{goes_on}
 use Rattle.tab_moves.proofs.Lasts.{live_parts}
 use Rattle.tab_walk.proofs.Overs.{IsQuietRow, causes_over, discarded_quiet, moved_over, parked_over}
 use Rattle.tab_walk.specs.Moving.{InMove, IsBound, IsPart, MayMakeRoom, NoLoadBelowKept, document_or, evicting_in, move_of}
-use Rattle.walk_facts.specs.Serving.{is_needing, is_stopping}
-use Rattle.walk_facts.specs.Walking.{LeavesOthers}
-use Rattle.walk_rows.proofs.Walks.{stopping_same}
-use Rattle.walk_rows.specs.Since.{IsVisitedInNeed}
+use Rattle.seen_facts.specs.Walk.Serving.{is_needing, is_stopping}
+use Rattle.seen_facts.specs.Walk.Walking.{LeavesOthers}
+use Rattle.row_facts.proofs.WalkRows.Walks.{stopping_same}
+use Rattle.row_facts.specs.WalkRows.Since.{IsVisitedInNeed}
 use Rattle.std.proofs.lemmas.Bool.Decides.{nat_tests}
 use Rattle.tab_moves.proofs.Showings.{on_parent}
-use Rattle.rest_facts.proofs.Stands.{get_of}
-use Rattle.walk_facts.proofs.Placed.{each_found, found_nav}
-use Rattle.hang_facts.proofs.Hung.{places_distinct}
+use Rattle.seen_facts.proofs.Rest.Stands.{get_of}
+use Rattle.seen_facts.proofs.Walk.Placed.{each_found, found_nav}
+use Rattle.seen_facts.proofs.Hang.Hung.{places_distinct}
 
 -- ---- lists
 

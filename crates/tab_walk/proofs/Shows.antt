@@ -8,11 +8,11 @@ use Rattle.log_model.specs.Places.{aim_of, is_asleep, is_below, is_gone, is_show
 use Rattle.log_model.specs.Seen.{Asked, Document, Place, Seen, asleep, awake, document_of, place_in, place_of, request_of}
 use Rattle.log_model.specs.declared.job.Why.{Why}
 use Rattle.log_model.specs.declared.row_kind.RowKind.{RowKind}
-use Rattle.hang_facts.proofs.Hung.{places_distinct}
-use Rattle.hang_facts.specs.Members.{Has}
-use Rattle.mover_facts.specs.Movers.{IsMovedBy}
-use Rattle.rest_facts.proofs.Stands.{get_of}
-use Rattle.rest_rows.proofs.Again.{rest_more}
+use Rattle.seen_facts.proofs.Hang.Hung.{places_distinct}
+use Rattle.seen_facts.specs.Hang.Members.{Has}
+use Rattle.seen_facts.specs.Mover.Movers.{IsMovedBy}
+use Rattle.seen_facts.proofs.Rest.Stands.{get_of}
+use Rattle.row_facts.proofs.RestRows.Again.{rest_more}
 use Rattle.seen_laws.specs.InEvent.{now_of}
 use Rattle.std.proofs.Common.{Bool, List, Option, Some, [], ap, arith, cond, false, inl, inr, length, map, not, refl, subst, sym, true, ℕ, ◌&&◌, ◌∙◌, ◌∷◌, ◌≡◌, ◌≤◌}
 use Rattle.std.specs.List.{list_any}
@@ -34,11 +34,11 @@ use Rattle.tab_walk.proofs.Overs.{IsQuietRow, causes_over, discarded_quiet, move
 use Rattle.tab_walk.proofs.Rooms.{filter_none}
 use Rattle.tab_walk.specs.Cutting.{IsCutting, cut_of}
 use Rattle.tab_walk.specs.Moving.{InMove, IsAimed, IsPart}
-use Rattle.walk_facts.proofs.Placed.{each_found, found_nav}
-use Rattle.walk_facts.specs.Serving.{is_needing, is_stopping}
-use Rattle.walk_facts.specs.Walking.{LeavesOthers}
-use Rattle.walk_rows.proofs.Walks.{stopping_same}
-use Rattle.walk_rows.specs.Since.{IsVisitedInNeed}
+use Rattle.seen_facts.proofs.Walk.Placed.{each_found, found_nav}
+use Rattle.seen_facts.specs.Walk.Serving.{is_needing, is_stopping}
+use Rattle.seen_facts.specs.Walk.Walking.{LeavesOthers}
+use Rattle.row_facts.proofs.WalkRows.Walks.{stopping_same}
+use Rattle.row_facts.specs.WalkRows.Since.{IsVisitedInNeed}
 
 module _ (m : InMove) (why : Why) (out : List RowKind) (t : Tables) (new : Document) (rest : List DocId) (new_found : document_of (now_of m.pass.event out) m.doc ≡ Some new) (aimed : IsAimed m t.running (now_of m.pass.event out)) (sleeps : AllAsleep (now_of m.pass.event out) m.nav) (last_out : List RowKind) (u : Tables) (keeps : KeepsStore t u) (so : IsCutting (record { pass = m.pass; move = cut_of m; left = m.left; new = new }) m.state why rest [] last_out u) (done : (x : DocId) → has_doc rest x ≡ true → ⊥) (only : HasOnlyDiscarded why out last_out) (stays : StaysPlaced (now_of m.pass.event out) (now_of m.pass.event last_out)) where
   abbrev was : Seen

@@ -1,8 +1,8 @@
 -- Where none may be kept: what there is once the document that is left was discarded.
-use Rattle.hang_facts.proofs.Forms.{nav_is}
-use Rattle.hang_facts.specs.AsPlaces.{IsChain}
-use Rattle.home_facts.specs.Homes.{IsOnAwake}
-use Rattle.left_facts.specs.Left.{IsOwnedAs}
+use Rattle.seen_facts.proofs.Hang.Forms.{nav_is}
+use Rattle.seen_facts.specs.Hang.AsPlaces.{IsChain}
+use Rattle.seen_facts.specs.Home.Homes.{IsOnAwake}
+use Rattle.row_facts.specs.Left.Left.{IsOwnedAs}
 use Rattle.log_model.proofs.Refl.{nat_eq_refl}
 use Rattle.log_model.specs.After.{after}
 use Rattle.log_model.specs.AfterPlaces.{sleepers_with}
@@ -12,7 +12,7 @@ use Rattle.log_model.specs.Seen.{Document, Place, Seen, awake, document_of, plac
 use Rattle.log_model.specs.declared.job.Job.{Job}
 use Rattle.log_model.specs.declared.job.Why.{Why}
 use Rattle.log_model.specs.declared.row_kind.RowKind.{RowKind}
-use Rattle.owed_facts.specs.Owed.{AreUnasked}
+use Rattle.row_facts.specs.Owed.Owed.{AreUnasked}
 use Rattle.seen_laws.proofs.Keyed.{find_on_other}
 use Rattle.seen_laws.specs.InEvent.{InEvent, now_of, row_of}
 use Rattle.std.proofs.Common.{Bool, List, Some, [], ap, false, inl, inr, refl, sym, true, ◌==◌, ◌||◌, ◌∙◌, ◌∷◌, ◌≡◌}
@@ -32,10 +32,10 @@ use Rattle.tab_walk.proofs.Cutoffs.{cut_nobody, off}
 use Rattle.tab_walk.proofs.Offs.{asleep_off, to_leave}
 use Rattle.tab_walk.specs.Cutting.{MayCut, cut_of}
 use Rattle.tab_walk.specs.Moving.{HasSetOff, InMove, IsBound, is_up_in}
-use Rattle.walk_facts.specs.Walking.{LeavesOthers}
-use Rattle.walk_rows.proofs.Leaves.{discard_leaves, discard_none_leaves, none_places}
-use Rattle.walk_rows.proofs.Sinces.{ShowsThen}
-use Rattle.walk_rows.proofs.Sleeping.{IsUnder, slept_under}
+use Rattle.seen_facts.specs.Walk.Walking.{LeavesOthers}
+use Rattle.row_facts.proofs.WalkRows.Leaves.{discard_leaves, discard_none_leaves, none_places}
+use Rattle.row_facts.proofs.WalkRows.Sinces.{ShowsThen}
+use Rattle.row_facts.proofs.WalkRows.Sleeping.{IsUnder, slept_under}
 use Rattle.log_model.specs.declared.job.Task.TheVariants as tasks
 use Rattle.log_model.specs.declared.row_kind.RowKind.TheVariants as rows
 

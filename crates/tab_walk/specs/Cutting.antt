@@ -13,7 +13,7 @@ use Rattle.tab_doors.specs.declared.tables.Tables.{Tables}
 use Rattle.tab_evicts.specs.Evicting.{IsGoneFor, IsThereBelow}
 pub use Rattle.tab_evicts.specs.Evicting.{NoLoadBelow}
 use Rattle.tab_ids.specs.declared.DocId.{DocId}
-use Rattle.left_facts.specs.Left.{WereShown}
+use Rattle.row_facts.specs.Left.Left.{WereShown}
 use Rattle.std.specs.Prelude.{Option}
 use Rattle.tab_ids.specs.declared.NavId.{NavId}
 use Rattle.tab_ids.specs.declared.ReqId.{ReqId}

@@ -1,9 +1,9 @@
 -- A navigable is moved to the document that is there for its target: what it is between the rows of that.
 -- HTML Standard, "apply the history step", "deactivate a document for a cross-document navigation" and "Documents kept for traversal"; orders and reasons are this project's own.
-use Rattle.calm_facts.specs.Loads.{LoadsHaveDocuments}
-use Rattle.hang_facts.specs.Members.{Has}
-use Rattle.kept_facts.specs.Keeping.{kept_states}
-use Rattle.left_facts.specs.Left.{WereShown}
+use Rattle.tab_facts.specs.Calm.Loads.{LoadsHaveDocuments}
+use Rattle.seen_facts.specs.Hang.Members.{Has}
+use Rattle.seen_facts.specs.Kept.Keeping.{kept_states}
+use Rattle.row_facts.specs.Left.Left.{WereShown}
 use Rattle.log_model.specs.History.{target_entry}
 use Rattle.log_model.specs.Orders.{is_usable}
 use Rattle.log_model.specs.Places.{aim_of}
@@ -13,8 +13,8 @@ use Rattle.log_model.specs.declared.job.Job.{Job}
 use Rattle.log_model.specs.declared.job.Task.{Task}
 use Rattle.log_model.specs.declared.row.Row.{Row}
 use Rattle.log_model.specs.declared.row_kind.RowKind.{RowKind}
-use Rattle.mover_facts.proofs.Orders.{PutsToSleep}
-use Rattle.mover_facts.specs.Movers.{IsMovedBy}
+use Rattle.seen_facts.proofs.Mover.Orders.{PutsToSleep}
+use Rattle.seen_facts.specs.Mover.Movers.{IsMovedBy}
 use Rattle.log_model.specs.Equal.{holds}
 use Rattle.nav_tree.specs.Tree.{Tree, nav_of}
 use Rattle.nav_tree.specs.declared.nav.Nav.{Nav}
@@ -24,7 +24,7 @@ use Rattle.page_cache.specs.Kept.{left_first}
 use Rattle.std.specs.Option.{option_to_list}
 use Rattle.tab_doors.specs.Keeping.{Move}
 use Rattle.tab_moves.specs.Making.{awake_on, show_why}
-use Rattle.walk_facts.specs.Walking.{LeavesOthers}
+use Rattle.seen_facts.specs.Walk.Walking.{LeavesOthers}
 use Rattle.tab_evicts.specs.Evicting.{InEvicting, NoLoadBelow}
 use Rattle.tab_ids.specs.declared.DocId.{DocId}
 use Rattle.tab_ids.specs.declared.EntryId.{EntryId}
@@ -35,7 +35,7 @@ use Rattle.tab_ids.specs.declared.StateId.{StateId}
 use Rattle.tab_moves.specs.Moving.{AllAsleep, InPass, MayBeMoved, MayCause}
 use Rattle.tab_moves.specs.Showing.{IsWanted}
 pub use Rattle.tab_moves.specs.PassedOn.{HasOnly}
-use Rattle.walk_rows.specs.Since.{IsVisitedInNeed}
+use Rattle.row_facts.specs.WalkRows.Since.{IsVisitedInNeed}
 use Rattle.log_model.specs.declared.job.Task.TheVariants as tasks
 use Rattle.log_model.specs.declared.row_kind.RowKind.TheVariants as rows
 

@@ -1,6 +1,6 @@
 //! A navigable leaves what it was shown, for another document.
 ghost use Rattle.std.specs.Prelude.{◌≡◌, [], OnOk, Some};
-ghost use Rattle.kept_facts.specs.Keeping.{kept_states};
+ghost use Rattle.seen_facts.specs.Kept.Keeping.{kept_states};
 ghost use Rattle.seen_laws.specs.InEvent.{now_of};
 ghost use Rattle.tab_doors.specs.Working.{KeepsStore};
 ghost use Rattle.tab_moves.specs.Showing.{IsToShow};

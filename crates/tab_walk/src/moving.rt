@@ -10,7 +10,7 @@ ghost use Rattle.tab_moves.specs.PassedOn.{IsPassing};
 ghost use Rattle.tab_moves.specs.Moving.{InPass};
 ghost use Rattle.tab_walk.specs.Cutting.{MayCutFrom};
 ghost use Rattle.tab_walk.specs.Moving.{HasBeenMoved, HasOnlyMoved, InMove, MayMoveFrom, MayMoveTo, in_move};
-ghost use Rattle.walk_rows.specs.Since.{AwakeSince};
+ghost use Rattle.row_facts.specs.WalkRows.Since.{AwakeSince};
 
 use crate::cutting::cut_left;
 use crate::leaving::{make_room, set_off};

@@ -1,7 +1,7 @@
 -- What the call asks of its parts, and what it says, in the words of its contract.
-use Rattle.hang_facts.specs.Members.{Has}
-use Rattle.kept_facts.proofs.States.{states_oldest}
-use Rattle.kept_facts.specs.Keeping.{state_in}
+use Rattle.seen_facts.specs.Hang.Members.{Has}
+use Rattle.seen_facts.proofs.Kept.States.{states_oldest}
+use Rattle.seen_facts.specs.Kept.Keeping.{state_in}
 use Rattle.log_model.specs.Equal.{has_doc}
 use Rattle.log_model.specs.Seen.{Document, Seen}
 use Rattle.log_model.specs.declared.row_kind.RowKind.{RowKind}

@@ -1,10 +1,10 @@
 -- The document that the user evicts was discarded: those below it may be, and none of them is awake.
-use Rattle.calm_facts.proofs.Loads.{IsLoads, loads_sent}
-use Rattle.hang_facts.specs.Members.{Has}
-use Rattle.left_facts.proofs.Rows.{were_shown}
-use Rattle.left_facts.specs.Left.{WereShown}
-use Rattle.load_facts.proofs.Rows.{look_blind}
-use Rattle.load_facts.specs.Loading.{look}
+use Rattle.tab_facts.proofs.Calm.Loads.{IsLoads, loads_sent}
+use Rattle.seen_facts.specs.Hang.Members.{Has}
+use Rattle.row_facts.proofs.Left.Rows.{were_shown}
+use Rattle.row_facts.specs.Left.Left.{WereShown}
+use Rattle.seen_facts.proofs.Load.Rows.{look_blind}
+use Rattle.seen_facts.specs.Load.Loading.{look}
 use Rattle.log_model.specs.After.{after}
 use Rattle.log_model.specs.AfterPlaces.{sleepers_with, without_doc}
 use Rattle.log_model.specs.Equal.{has_doc}
@@ -14,15 +14,15 @@ use Rattle.log_model.specs.Seen.{Document, Place, Seen, document_of, place_in, p
 use Rattle.log_model.specs.declared.job.Job.{Job}
 use Rattle.log_model.specs.declared.row_kind.RowKind.{RowKind}
 use Rattle.move_queue.specs.Queue.{Queue}
-use Rattle.mover_facts.proofs.Orders.{MovesEach}
+use Rattle.seen_facts.proofs.Mover.Orders.{MovesEach}
 use Rattle.nav_tree.specs.Tree.{docs_of}
-use Rattle.owed_facts.proofs.Ends.{loose_first, loose_more, loose_owed}
-use Rattle.owed_facts.proofs.Rows.{sent_lasts}
-use Rattle.owed_facts.specs.Owed.{AreUnasked, IsLoose}
-use Rattle.request_facts.proofs.Readers.{sent_reads}
-use Rattle.rest_rows.proofs.Again.{doc_same}
-use Rattle.rest_rows.proofs.Orders.{discarded_less}
-use Rattle.rest_rows.specs.Moving.{RestBut}
+use Rattle.row_facts.proofs.Owed.Ends.{loose_first, loose_more, loose_owed}
+use Rattle.row_facts.proofs.Owed.Rows.{sent_lasts}
+use Rattle.row_facts.specs.Owed.Owed.{AreUnasked, IsLoose}
+use Rattle.seen_facts.proofs.Request.Readers.{sent_reads}
+use Rattle.row_facts.proofs.RestRows.Again.{doc_same}
+use Rattle.row_facts.proofs.RestRows.Orders.{discarded_less}
+use Rattle.row_facts.specs.RestRows.Moving.{RestBut}
 use Rattle.seen_laws.proofs.InEvents.{now_more}
 use Rattle.seen_laws.proofs.Keyed.{find_on_other, find_on_same}
 use Rattle.seen_laws.specs.InEvent.{InEvent, now_of, row_of}
@@ -37,9 +37,9 @@ use Rattle.tab_evicts.proofs.Hangings.{none_awake}
 use Rattle.tab_evicts.proofs.Nones.{there_listed}
 use Rattle.tab_evicts.proofs.Quiets.{no_loads}
 use Rattle.tab_evicts.specs.Evicting.{HasOnlyDiscarded, IsDiscardFor, IsGoneFor, IsLetting, IsNotBelow, IsThereBelow, NoLoadBelow, NoMoreBelow, NoneBelow, StaysPlaced}
-use Rattle.tab_going.proofs.PassedOn.{discard_tab, discarded_lasting}
-use Rattle.tab_going.proofs.Rows.{sent_going}
-use Rattle.tab_going.proofs.PassedOn.{IsToMade, sent_home}
+use Rattle.tab_facts.proofs.TabGoing.PassedOn.{discard_tab, discarded_lasting}
+use Rattle.tab_facts.proofs.TabGoing.Rows.{sent_going}
+use Rattle.tab_facts.proofs.TabGoing.PassedOn.{IsToMade, sent_home}
 use Rattle.tab_ids.specs.declared.DocId.{DocId}
 use Rattle.tab_ids.specs.declared.NavId.{NavId}
 use Rattle.tab_ids.specs.declared.ReqId.{ReqId}
@@ -51,7 +51,7 @@ use Rattle.tab_stands.specs.Standing.{HasRoomFor, StandsFor}
 use Rattle.user_evicts.proofs.Kepts.{its_kept, its_unloaded, nobody}
 use Rattle.user_evicts.proofs.Owns.{due_own, going_own, rests_own, tab_own, taking_own, tied_own, were_own}
 use Rattle.user_evicts.specs.Evicting.{IsEvictAsk}
-use Rattle.walk_rows.proofs.Leaves.{discard_none_leaves, none_places}
+use Rattle.row_facts.proofs.WalkRows.Leaves.{discard_none_leaves, none_places}
 use Rattle.log_model.specs.declared.job.Task.TheVariants as tasks
 use Rattle.log_model.specs.declared.job.Why.TheVariants as whys
 use Rattle.log_model.specs.declared.row_kind.RowKind.TheVariants as rows

@@ -1,20 +1,20 @@
 -- The document that is kept longest, as the user evicts it: nobody is awake on it, and the tables have it for its state alone.
-use Rattle.hang_facts.proofs.Hung.{places_distinct}
-use Rattle.hang_facts.proofs.Members.{has_map}
-use Rattle.hang_facts.proofs.Parts.{state_is}
-use Rattle.hang_facts.specs.Members.{Has}
-use Rattle.kept_facts.proofs.States.{AreOfOwnStates, sole_states}
-use Rattle.kept_facts.specs.Keeping.{IsKeptDoc, IsMadeFor, is_last}
-use Rattle.leave_rows.proofs.Unasked.{all_answered}
-use Rattle.leave_rows.specs.Evicting.{IsEvictDue}
-use Rattle.leave_rows.specs.Leaving.{IsDiscardOf}
-use Rattle.frame_rows.specs.Discarding.{SettlesNone}
-use Rattle.left_facts.specs.Left.{WasEverShown, WereShown}
+use Rattle.seen_facts.proofs.Hang.Hung.{places_distinct}
+use Rattle.seen_facts.proofs.Hang.Members.{has_map}
+use Rattle.seen_facts.proofs.Hang.Parts.{state_is}
+use Rattle.seen_facts.specs.Hang.Members.{Has}
+use Rattle.seen_facts.proofs.Kept.States.{AreOfOwnStates, sole_states}
+use Rattle.seen_facts.specs.Kept.Keeping.{IsKeptDoc, IsMadeFor, is_last}
+use Rattle.row_facts.proofs.LeaveRows.Unasked.{all_answered}
+use Rattle.row_facts.specs.LeaveRows.Evicting.{IsEvictDue}
+use Rattle.row_facts.specs.LeaveRows.Leaving.{IsDiscardOf}
+use Rattle.row_facts.specs.FrameRows.Discarding.{SettlesNone}
+use Rattle.row_facts.specs.Left.Left.{WasEverShown, WereShown}
 use Rattle.load_doors.specs.Tied.{AreTied}
-use Rattle.load_facts.specs.Loading.{IsLoading, look, look_of}
+use Rattle.seen_facts.specs.Load.Loading.{IsLoading, look, look_of}
 use Rattle.load_table.specs.Loads.{ongoing_load}
 use Rattle.load_table.specs.declared.load.Load.{Load}
-use Rattle.load_ties.specs.Tying.{IsLoadTied}
+use Rattle.seen_facts.specs.LoadTies.Tying.{IsLoadTied}
 use Rattle.log_model.proofs.Refl.{nat_eq_refl}
 use Rattle.log_model.specs.AfterPlaces.{sleepers_with}
 use Rattle.log_model.specs.Equal.{has_doc, holds}
@@ -24,8 +24,8 @@ use Rattle.log_model.specs.Seen.{Asked, Document, Place, Seen, document_of, plac
 use Rattle.log_model.specs.declared.row_kind.LogRow.{LogRow}
 use Rattle.nav_tree.specs.Tree.{document_of as document_at}
 use Rattle.nav_tree.specs.declared.place.Place as live_place
-use Rattle.rest_facts.proofs.Stands.{all_requests}
-use Rattle.rest_facts.proofs.Still.{found_itself}
+use Rattle.seen_facts.proofs.Rest.Stands.{all_requests}
+use Rattle.seen_facts.proofs.Rest.Still.{found_itself}
 use Rattle.seen_laws.specs.InEvent.{InEvent, now_of}
 use Rattle.std.proofs.Common.{Bool, List, None, Option, Some, [], ap, arith, false, map, not, refl, subst, sym, true, ℕ, ◌&&◌, ◌==◌, ◌||◌, ◌∙◌, ◌≡◌}
 use Rattle.std.proofs.lemmas.Bool.Decides.{nat_tests}
@@ -44,7 +44,7 @@ use Rattle.tab_stands.specs.PassedOn.{IsTab}
 use Rattle.user_evicts.proofs.Lawful.{last_has}
 use Rattle.user_evicts.specs.Discarding.{IsEvicted}
 use Rattle.user_evicts.specs.Evicting.{IsEvictAsk}
-use Rattle.walk_rows.proofs.Sleeping.{no_shower, nobody_awake}
+use Rattle.row_facts.proofs.WalkRows.Sleeping.{no_shower, nobody_awake}
 use Rattle.log_model.specs.declared.job.Task.TheVariants as tasks
 use Rattle.log_model.specs.declared.job.Why.TheVariants as whys
 

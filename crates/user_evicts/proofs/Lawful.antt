@@ -1,10 +1,10 @@
 -- The row with which the user evicts and the order that discards the document may be logged together, whatever comes later: what later rows leave first was shown last, which the kept document wasn't.
-use Rattle.frame_rows.specs.Lawful.{AreLawful, IsRestOf}
-use Rattle.hang_facts.specs.Members.{Has}
-use Rattle.kept_facts.specs.Keeping.{is_last}
-use Rattle.leave_rows.proofs.Ahead.{evicted_ahead}
-use Rattle.leave_rows.proofs.Evicts.{discard_discards, evict_may, evicted_may, evicted_row}
-use Rattle.leave_rows.specs.Evicting.{IsDiscardedLater, IsKeptLast, is_evicting, is_last as is_its_last}
+use Rattle.row_facts.specs.FrameRows.Lawful.{AreLawful, IsRestOf}
+use Rattle.seen_facts.specs.Hang.Members.{Has}
+use Rattle.seen_facts.specs.Kept.Keeping.{is_last}
+use Rattle.row_facts.proofs.LeaveRows.Ahead.{evicted_ahead}
+use Rattle.row_facts.proofs.LeaveRows.Evicts.{discard_discards, evict_may, evicted_may, evicted_row}
+use Rattle.row_facts.specs.LeaveRows.Evicting.{IsDiscardedLater, IsKeptLast, is_evicting, is_last as is_its_last}
 use Rattle.log_model.specs.AfterPlaces.{without_doc}
 use Rattle.log_model.specs.Equal.{has_doc, holds}
 use Rattle.log_model.specs.Formed.{last_of}

@@ -1,8 +1,8 @@
 -- What orders leave that discard documents for an eviction, one after the other.
-use Rattle.calm_facts.proofs.Sents.{found_on, usable_was}
-use Rattle.calm_facts.specs.Calm.{HasUsable}
-use Rattle.hang_facts.specs.Members.{Has}
-use Rattle.leave_rows.proofs.Keeps.{without_short}
+use Rattle.tab_facts.proofs.Calm.Sents.{found_on, usable_was}
+use Rattle.tab_facts.specs.Calm.Calm.{HasUsable}
+use Rattle.seen_facts.specs.Hang.Members.{Has}
+use Rattle.row_facts.proofs.LeaveRows.Keeps.{without_short}
 use Rattle.log_model.specs.After.{after}
 use Rattle.log_model.specs.AfterDocuments.{documents_sent}
 use Rattle.log_model.specs.AfterPlaces.{kept_sent, without_doc}
@@ -14,13 +14,13 @@ use Rattle.log_model.specs.declared.job.Job.{Job}
 use Rattle.log_model.specs.declared.job.Task.{Task}
 use Rattle.log_model.specs.declared.job.Why.{Why}
 use Rattle.log_model.specs.declared.row_kind.RowKind.{RowKind}
-use Rattle.frame_rows.specs.Lawful.{has_traversed}
-use Rattle.mover_facts.specs.Movers.{IsMovedBy}
-use Rattle.owed_facts.proofs.Ends.{loose_more}
-use Rattle.owed_facts.proofs.Requests.{AsksNone}
-use Rattle.owed_facts.proofs.Rows.{sent_lasts}
-use Rattle.owed_facts.specs.Owed.{IsLoose}
-use Rattle.rest_rows.proofs.Again.{part_without}
+use Rattle.row_facts.specs.FrameRows.Lawful.{has_traversed}
+use Rattle.seen_facts.specs.Mover.Movers.{IsMovedBy}
+use Rattle.row_facts.proofs.Owed.Ends.{loose_more}
+use Rattle.row_facts.proofs.Owed.Requests.{AsksNone}
+use Rattle.row_facts.proofs.Owed.Rows.{sent_lasts}
+use Rattle.row_facts.specs.Owed.Owed.{IsLoose}
+use Rattle.row_facts.proofs.RestRows.Again.{part_without}
 use Rattle.seen_laws.specs.InEvent.{InEvent, now_of, row_of}
 use Rattle.std.proofs.Common.{Bool, List, None, Option, Some, [], ap, append-nil, append_assoc, arith, cond, false, inl, inr, length, refl, subst, sym, true, ◌++◌, ◌==◌, ◌||◌, ◌∙◌, ◌∷◌, ◌≡◌, ◌≤◌}
 use Rattle.std.specs.Prelude.{option_map}
@@ -29,7 +29,7 @@ use Rattle.tab_ids.specs.declared.DocId.{DocId}
 use Rattle.tab_ids.specs.declared.NavId.{NavId}
 use Rattle.tab_ids.specs.declared.StateId.{StateId}
 use Rattle.tab_stands.proofs.PassedOn.{over_each}
-use Rattle.walk_rows.proofs.Moved.{sent_moved}
+use Rattle.row_facts.proofs.WalkRows.Moved.{sent_moved}
 use Rattle.log_model.specs.declared.job.Task.TheVariants as tasks
 use Rattle.log_model.specs.declared.job.Why.TheVariants as whys
 use Rattle.log_model.specs.declared.row_kind.RowKind.TheVariants as rows

@@ -1,14 +1,14 @@
 -- The own row of an eviction was logged: all goes on as it was, and what documents made may be taken.
-use Rattle.calm_facts.proofs.Loads.{loads_same}
-use Rattle.coord_facts.proofs.Unread.{next}
-use Rattle.frame_tab.specs.Asking.{NoneHeld}
-use Rattle.last_facts.proofs.Rows.{evicted_lasting}
-use Rattle.leave_rows.specs.Evicting.{IsEvictDue}
-use Rattle.left_facts.proofs.Rows.{were_shown}
-use Rattle.left_facts.specs.Left.{WereShown}
+use Rattle.tab_facts.proofs.Calm.Loads.{loads_same}
+use Rattle.seen_facts.proofs.Coord.Unread.{next}
+use Rattle.tab_facts.specs.FrameTab.Asking.{NoneHeld}
+use Rattle.tab_facts.proofs.Last.Rows.{evicted_lasting}
+use Rattle.row_facts.specs.LeaveRows.Evicting.{IsEvictDue}
+use Rattle.row_facts.proofs.Left.Rows.{were_shown}
+use Rattle.row_facts.specs.Left.Left.{WereShown}
 use Rattle.load_doors.specs.Tied.{AreTied}
-use Rattle.load_ties.proofs.Rows.{evicted_tied}
-use Rattle.load_whereabouts.specs.Whereabouts.{times_on_way, ways_of}
+use Rattle.seen_facts.proofs.LoadTies.Rows.{evicted_tied}
+use Rattle.seen_facts.specs.LoadWhereabouts.Whereabouts.{times_on_way, ways_of}
 use Rattle.log_model.specs.Causes.{denial_at_acceptance}
 use Rattle.log_model.specs.Places.{aim_of, all_stand, all_stand_in}
 use Rattle.log_model.specs.Queue.{is_delivered_duly}
@@ -17,8 +17,8 @@ use Rattle.log_model.specs.declared.row_kind.Actor.{Actor}
 use Rattle.log_model.specs.declared.row_kind.LogRow.{LogRow}
 use Rattle.log_model.specs.declared.row_kind.RowKind.{RowKind}
 use Rattle.move_queue.specs.Queue.{Queue}
-use Rattle.rest_rows.proofs.Rows.{evicted_rests}
-use Rattle.rest_rows.specs.Moving.{AllRest}
+use Rattle.row_facts.proofs.RestRows.Rows.{evicted_rests}
+use Rattle.row_facts.specs.RestRows.Moving.{AllRest}
 use Rattle.seen_laws.proofs.InEvents.{now_own}
 use Rattle.seen_laws.specs.Blocks.{point_at}
 use Rattle.seen_laws.specs.InEvent.{InEvent, IsTakenIn, now_of, row_of, start_of}
@@ -41,8 +41,8 @@ use Rattle.tab_stands.proofs.PassedOn.{queue_over, steps_still, turning_first, u
 use Rattle.tab_stands.proofs.Waiting.{off_where_runs}
 use Rattle.tab_stands.specs.PassedOn.{AreHeldUp, AreUnheld, HasQueue, HoldsParked, IsGoing, IsLeftStray, IsStray, IsTab, IsTaking, IsTurning, LateKnown, LeavesQueue, LoadsMadeOwn, MayServe, MovedAreShown}
 use Rattle.tab_stands.specs.Standing.{HasRoomFor, StandsFor}
-use Rattle.tab_whole.proofs.Beginning.{evicted_tab}
-use Rattle.tab_whole.proofs.Where.{way_unheld}
+use Rattle.tab_facts.proofs.TabWhole.Beginning.{evicted_tab}
+use Rattle.tab_facts.proofs.TabWhole.Where.{way_unheld}
 use Rattle.user_evicts.specs.Evicting.{IsEvictAsk}
 use Rattle.log_model.specs.declared.row_kind.Actor.TheVariants as actors
 use Rattle.log_model.specs.declared.row_kind.RowKind.TheVariants as rows

@@ -1,6 +1,6 @@
 -- The document that is kept longest was discarded for the eviction, with those below it: a pass may follow.
-use Rattle.asked_facts.specs.Asking.{ArePlain}
-use Rattle.coord_facts.specs.Leading.{held_back}
+use Rattle.seen_facts.specs.Asked.Asking.{ArePlain}
+use Rattle.seen_facts.specs.Coord.Leading.{held_back}
 use Rattle.log_model.specs.Equal.{has_req, holds}
 use Rattle.log_model.specs.History.{History}
 use Rattle.log_model.specs.ActsAtOnce.{is_ready_load}
@@ -9,8 +9,8 @@ use Rattle.log_model.specs.Places.{aim_of, all_stand, all_stand_in, is_ongoing_l
 use Rattle.log_model.specs.Seen.{Asked, Document, Place, Seen, request_in}
 use Rattle.log_model.specs.declared.row_kind.RowKind.{RowKind}
 use Rattle.move_queue.specs.Queue.{Queue}
-use Rattle.owed_facts.proofs.Ends.{loose_first}
-use Rattle.owed_facts.specs.Owed.{IsLoose}
+use Rattle.row_facts.proofs.Owed.Ends.{loose_first}
+use Rattle.row_facts.specs.Owed.Owed.{IsLoose}
 use Rattle.seen_laws.proofs.Sendings.{both}
 use Rattle.seen_laws.specs.InEvent.{InEvent, now_of}
 use Rattle.seen_laws.specs.Sending.{leads}

@@ -1,20 +1,20 @@
 -- Documents were discarded on which nobody is awake, for an eviction: what documents made may be taken after that as before, so that a pass may follow.
-use Rattle.asked_facts.specs.Asking.{ArePlain}
-use Rattle.calm_facts.proofs.Sames.{here_same, places_calm, places_rooted, yet_same}
-use Rattle.calm_facts.specs.Calm.{CalmUnless, IsCalmYet, UnmovedAreHere}
-use Rattle.frame_facts.specs.Lasting.{wish}
-use Rattle.left_facts.specs.Left.{WereShown}
-use Rattle.load_facts.specs.Loading.{look}
+use Rattle.seen_facts.specs.Asked.Asking.{ArePlain}
+use Rattle.tab_facts.proofs.Calm.Sames.{here_same, places_calm, places_rooted, yet_same}
+use Rattle.tab_facts.specs.Calm.Calm.{CalmUnless, IsCalmYet, UnmovedAreHere}
+use Rattle.tab_facts.specs.Frame.Lasting.{wish}
+use Rattle.row_facts.specs.Left.Left.{WereShown}
+use Rattle.seen_facts.specs.Load.Loading.{look}
 use Rattle.log_model.specs.History.{History, has_row, has_state}
 use Rattle.log_model.specs.Orders.{ongoing_load}
 use Rattle.log_model.specs.Places.{aim_of, is_moved, is_moved_in}
 use Rattle.log_model.specs.Seen.{Asked, Document, Place, Seen, document_of, place_in, place_of, request_in}
 use Rattle.log_model.specs.declared.job.Why.{Why}
-use Rattle.mover_facts.proofs.Stays.{KeepWays}
+use Rattle.seen_facts.proofs.Mover.Stays.{KeepWays}
 use Rattle.seen_laws.specs.InEvent.{InEvent}
 use Rattle.std.proofs.Common.{List, None, Option, Some, ap, arith, false, inl, inr, refl, subst, sym, true, ◌∙◌, ◌≡◌, ◌⊎◌}
 use Rattle.std.specs.Prelude.{option_map}
-use Rattle.load_ends.specs.Standing.{is_reached}
+use Rattle.seen_facts.specs.LoadEnds.Standing.{is_reached}
 use Rattle.tab_drops.proofs.Turns.{reached_same}
 use Rattle.tab_evicts.specs.Evicting.{StaysPlaced}
 use Rattle.tab_ids.specs.declared.DocId.{DocId}
@@ -24,10 +24,10 @@ use Rattle.tab_ids.specs.declared.StateId.{StateId}
 use Rattle.tab_stands.proofs.PassedOn.{IsBare, IsBegun, IsUnsettled, causes_on, new_of, serve_on, show_causes, takers_on}
 use Rattle.tab_stands.specs.PassedOn.{IsBlamed, IsByItsOwn, IsLoadOf, IsOpen, IsStray, IsTaking, LoadsLive, LoadsMadeOwn, MayCause, MayServe, MayStand, MovedAreShown, ParentsShown, TakersServe, is_new_entry, show_why}
 use Rattle.user_evicts.proofs.Lefts.{LeavesGone, read_gone}
-use Rattle.walk_rows.proofs.Moved.{run_moves}
-use Rattle.walk_rows.proofs.Walks.{visited_same}
-use Rattle.walk_rows.specs.Since.{MovesVisited}
-use Rattle.each_facts.specs.Runs.{EachAsked}
+use Rattle.row_facts.proofs.WalkRows.Moved.{run_moves}
+use Rattle.row_facts.proofs.WalkRows.Walks.{visited_same}
+use Rattle.row_facts.specs.WalkRows.Since.{MovesVisited}
+use Rattle.seen_facts.specs.Each.Runs.{EachAsked}
 use Rattle.log_model.specs.declared.job.Why.TheVariants as whys
 
 module _ (e : InEvent) (run : Option ReqId) (blame : List (StateId × ReqId)) (s n : Seen) (at : IsTaking e run blame s) (plain : ArePlain run n) (stays : StaysPlaced s n) (left : LeavesGone s n) (were : WereShown n) where

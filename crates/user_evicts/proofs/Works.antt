@@ -1,19 +1,19 @@
 -- The document that the user evicts is discarded by the first row that is put out, and the coordinator is at work then.
 use Rattle.nav_tree.specs.Tree.{discarded}  -- keep
-use Rattle.hang_facts.proofs.Members.{into_map}
-use Rattle.hang_facts.specs.Members.{Has}
-use Rattle.kept_facts.specs.Keeping.{kept_states}
+use Rattle.seen_facts.proofs.Hang.Members.{into_map}
+use Rattle.seen_facts.specs.Hang.Members.{Has}
+use Rattle.seen_facts.specs.Kept.Keeping.{kept_states}
 use Rattle.load_doors.specs.Tied.{AreTied}
 use Rattle.load_table.specs.Loads.{ongoing_load}
 use Rattle.load_table.specs.declared.load.Load.{Load}
-use Rattle.load_ties.specs.Tying.{TiesLoads}
+use Rattle.seen_facts.specs.LoadTies.Tying.{TiesLoads}
 use Rattle.log_model.specs.After.{after}
 use Rattle.log_model.specs.Seen.{Document, Seen}
 use Rattle.log_model.specs.declared.job.Job.{Job}
 use Rattle.log_model.specs.declared.row_kind.Actor.{Actor}
 use Rattle.log_model.specs.declared.row_kind.RowKind.{RowKind}
 use Rattle.page_cache.specs.Kept.{without}
-use Rattle.each_facts.specs.Runs.{is_run}
+use Rattle.seen_facts.specs.Each.Runs.{is_run}
 use Rattle.seen_laws.proofs.InEvents.{now_more}
 use Rattle.seen_laws.specs.InEvent.{InEvent, now_of, row_of}
 use Rattle.seen_laws.specs.Sending.{leads}

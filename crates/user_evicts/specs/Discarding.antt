@@ -1,10 +1,10 @@
 -- When the document that is kept longest is discarded as the user evicts it: by the first row that is put out, without which the event's own row may not be logged.
 -- HTML Standard, "Documents kept for traversal" and "destroy a document"; that the user evicts, and what, is this project's own.
-use Rattle.kept_facts.proofs.States.{AreOfOwnStates}
-use Rattle.kept_facts.specs.Keeping.{is_last}
-use Rattle.leave_rows.specs.Evicting.{IsEvictDue}
-use Rattle.leave_rows.specs.Leaving.{IsDiscardOf}
-use Rattle.frame_rows.specs.Discarding.{SettlesNone}
+use Rattle.seen_facts.proofs.Kept.States.{AreOfOwnStates}
+use Rattle.seen_facts.specs.Kept.Keeping.{is_last}
+use Rattle.row_facts.specs.LeaveRows.Evicting.{IsEvictDue}
+use Rattle.row_facts.specs.LeaveRows.Leaving.{IsDiscardOf}
+use Rattle.row_facts.specs.FrameRows.Discarding.{SettlesNone}
 use Rattle.log_model.specs.Seen.{Document, Place, desk_of, place_of}
 use Rattle.log_model.specs.declared.row_kind.LogRow.{LogRow}
 use Rattle.seen_laws.specs.InEvent.{InEvent, now_of}

@@ -1,6 +1,6 @@
 -- The user has the document discarded that is kept longest, with all that are there below it.
 -- HTML Standard, "Documents kept for traversal" and "destroy a document"; that the user evicts, and that those below go with it, is this project's own.
-use Rattle.leave_rows.specs.Evicting.{IsEvictDue}
+use Rattle.row_facts.specs.LeaveRows.Evicting.{IsEvictDue}
 use Rattle.log_model.specs.Equal.{has_doc}
 use Rattle.log_model.specs.Seen.{Document}
 use Rattle.log_model.specs.declared.job.Job.{Job}

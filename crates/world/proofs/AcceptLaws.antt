@@ -1,5 +1,6 @@
 -- A request is accepted.
-use Rattle.std.proofs.Common.{◌≡◌, ℕ, ℤ, ◌+◌, ◌-◌, ◌<◌, false, ◌==◌, List, [], ◌∷◌, ◌++◌, length, map, fold, Option, Some, None, refl, sym, ap, ◌∙◌, subst, arith, append_assoc}
+use Rattle.running_table.proofs.ForCallers.{quiet_told}
+use Rattle.std.proofs.Common.{◌≡◌, ℕ, ◌+◌, ◌-◌, ◌<◌, false, ◌==◌, List, [], ◌∷◌, ◌++◌, length, map, fold, Option, Some, None, refl, sym, ap, ◌∙◌, subst, arith, append_assoc}
 use Rattle.std.specs.Prelude.{option_map, slice_set}
 use Rattle.std.specs.Option.{option_map_or}
 use Rattle.std.proofs.lemmas.Bool.Decides.{nat_tests}
@@ -15,6 +16,7 @@ use Rattle.log_model.specs.declared.outcome.Ending.{Ending}
 use Rattle.log_model.specs.declared.outcome.Ending.TheVariants as ends
 use Rattle.log_model.specs.declared.request.Request.{Request}
 use Rattle.log_model.specs.declared.request.Request.TheVariants as requests
+use Rattle.log_model.specs.declared.row_kind.Actor.{Actor}
 use Rattle.log_model.specs.declared.row_kind.Actor.TheVariants as actors
 use Rattle.log_model.specs.declared.row_kind.LogRow.{LogRow}
 use Rattle.log_model.specs.declared.row_kind.RowKind.{RowKind}
@@ -29,23 +31,26 @@ use Rattle.history_log.proofs.DeskLaws.{desk_of-after, desk_poked, with_poke}
 use Rattle.proc_tables.specs.declared.item.Item.TheVariants as items
 use Rattle.proc_tables.specs.Desks.{Changes, desk_at, desk_noted, desk_with, on_proc}
 use Rattle.proc_tables.specs.Views.{view_at}
-use Rattle.frame_tab.specs.Asking.{IsNoEditing}
+use Rattle.seen_facts.specs.Asked.Asking.{IsNoEditing}
 use Rattle.seen_laws.specs.InEvent.{InEvent}
-use Rattle.frame_coord.specs.Standing.{HasActed, HasRoomFor, IsAsk, StandsFor}
-use Rattle.frame_coord.specs.declared.coordinator.Coordinator.{Coordinator}
-use Rattle.frame_acts.proofs.Pokes.{poked_acts, stray_acts}
+use Rattle.coord.specs.Standing.{HasActed, IsAsk, IsOpenTo, asked_for}
+use Rattle.coord.specs.declared.ask.Ask.{Ask}
+use Rattle.coord.specs.declared.ask.Ask.TheVariants as asks
+use Rattle.coord.specs.declared.coordinator.Coordinator.{Coordinator}
+use Rattle.coord_acts.proofs.Pokes.{poke_acts, poke_refused_acts}
+use Rattle.tab_doors.specs.Ties.{proc_in}
 use Rattle.world.specs.declared.event.Event.TheVariants as events
 use Rattle.world.specs.declared.event.Reply.TheVariants as replies
 use Rattle.world.specs.declared.state.State.{State}
-use Rattle.world.specs.Asking.{event_of, asking}
+use Rattle.world.specs.Asking.{event_asking, event_of, asking}
 use Rattle.world.specs.Notes.{endings_noted, ended_in, row_with}
-use Rattle.world.specs.Open.{IsOpen, opening_process, row_limit}
+use Rattle.world.specs.Open.{IsOpen, row_limit}
 use Rattle.world.specs.Reaching.{Reaches}
-use Rattle.world.specs.Steps.{is_no_edit, next_request, reached_in}
+use Rattle.world.specs.Steps.{Begins, actor_of, is_no_edit, next_request, reached_in}
 use Rattle.world.specs.Turns.{HasGone}
 use Rattle.world.proofs.EndingLaws.{endings}
 use Rattle.world.proofs.EventLaws.{works_on}
-use Rattle.world.proofs.Facts.{IsReaching, asked_long, lives_home, poked_there, reaches_none, reaching}
+use Rattle.world.proofs.Facts.{IsReaching, asked_long, lives_in, open_to, reaches_none, reaching}
 use Rattle.world.proofs.NoteLaws.{Keeping}
 use Rattle.world.proofs.TableLaws.{desks_go}
 
@@ -74,10 +79,10 @@ no_editing (acts.RemoveFrame child) is = tt
 no_editing (acts.Go delta) is = tt
 no_editing acts.Edit never = elim never [ ]
 
--- what the coordinator asks of the event of a traversal
-pub asks_so : (e : InEvent) (header : Header) (log : List LogRow) (req : ReqId) (delta : ℤ) (c : Coordinator) (out : List RowKind) → e ≡ asking header log req delta → StandsFor (seen_of log) c → HasRoomFor (seen_of log) → req.0 ≡ length (seen_of log).requests + 1 → out ≡ [] → IsAsk e req delta × (StandsFor e.start c × (HasRoomFor e.start × (out ≡ [])))
-asks_so e header log req delta c out is stands room next none =
-    subst (λ (x : InEvent). IsAsk x req delta × (StandsFor x.start c × (HasRoomFor x.start × (out ≡ [])))) (sym is) (record { by_user = refl; own = refl; next = next }, (stands, (room, none)))
+-- what the coordinator asks of the event of a load or a traversal
+pub asks_so : (e : InEvent) (header : Header) (log : List LogRow) (req : ReqId) (ask : Ask) (c : Coordinator) (out : List RowKind) → e ≡ asking header log req ask → IsOpenTo e c → req.0 ≡ length (seen_of log).requests + 1 → out ≡ [] → IsAsk e req ask × (IsOpenTo e c × (out ≡ []))
+asks_so e header log req ask c out is open_ next none =
+    (subst (λ (x : InEvent). IsAsk x req ask) (sym is) (record { by_user = refl; own = refl; next = next }), (open_, none))
 
 -- the row of one number and actor, at the log's own number
 rows_same : (log : List LogRow) (n m : ℕ) (own : RowKind) (out : List RowKind) → n ≡ m → (log ++ row_with n actors.Ui own ∷ []) ++ map (row_with n actors.Ui) out ≡ log ++ row_with m actors.Ui own ∷ map (row_with m actors.Ui) out
@@ -90,39 +95,51 @@ module _ (header : Header) (log : List LogRow) (t : State) (is : IsOpen header l
   s = seen_of log
 
   -- a request that waits in no process
-  unsent : (req : ReqId) (what : Request) → Keeping (opening_process header) (after s (row_with s.events actors.Ui (rows.Accepted req None what))) s.events (desk_at t.desks) (view_at t.views) (t.endings.items ++ None ∷ [])
+  unsent : (req : ReqId) (what : Request) → Keeping header (after s (row_with s.events actors.Ui (rows.Accepted req None what))) s.events (desk_at t.desks) (view_at t.views) t.runners (t.endings.items ++ None ∷ [])
   unsent req what =
       record {
         events = refl;
         desks = is.holds.desks;
         views = is.holds.views;
+        runners = quiet_told s s.events actors.Ui (rows.Accepted req None what) t.runners tt tt is.holds.runners;
         endings = more_endings s.requests (new_request req None what) ∙ ap (λ (l : List (Option Ending)). l ++ None ∷ []) is.holds.endings;
-        lives = is.home;
+        sited = is.sited;
       }
 
-  -- ---- a traversal
+  -- ---- a load or a traversal
 
-  pub go_gone : (req : ReqId) (delta : ℤ) (out : List RowKind) (new : State) (longer : List LogRow) → req ≡ next_request s → HasActed (asking header log req delta) out new.coordinator → new.events ≡ t.events + 1 → new.views ≡ t.views → ((proc : ProcId) → desk_at new.desks proc ≡ fold (desk_noted proc) (desk_at t.desks proc) out) → new.endings.items ≡ fold endings_noted (t.endings.items ++ None ∷ []) out → longer ≡ (log ++ row_with t.events actors.Ui (rows.Accepted req None (requests.Go delta)) ∷ []) ++ map (row_with t.events actors.Ui) out → HasGone header (events.Go delta) (replies.Accepted req) log longer new
-  go_gone req delta out new longer nr acted events_ views desks ends_ more =
-      let whole = more ∙ rows_same log t.events s.events (rows.Accepted req None (requests.Go delta)) out (sym is.holds.events) in
+  -- what is logged first, and what is answered
+  asked_begins : (req : ReqId) (ask : Ask) (out : List RowKind) → req ≡ next_request s → Begins s (event_asking ask) (replies.Accepted req) (rows.Accepted req None (asked_for ask)) out
+  asked_begins req (asks.Load nav mode address) out nr =
+      (ap (λ (r : ReqId). replies.Accepted r) nr, ap (λ (r : ReqId). rows.Accepted r None (requests.Load nav mode address)) nr)
+  asked_begins req (asks.Go delta) out nr =
+      (ap (λ (r : ReqId). replies.Accepted r) nr, ap (λ (r : ReqId). rows.Accepted r None (requests.Go delta)) nr)
+
+  asked_by : (ask : Ask) → actor_of (event_asking ask) ≡ actors.Ui
+  asked_by (asks.Load nav mode address) = refl
+  asked_by (asks.Go delta) = refl
+
+  pub ask_gone : (req : ReqId) (ask : Ask) (out : List RowKind) (new : State) (longer : List LogRow) → req ≡ next_request s → HasActed (asking header log req ask) out new.coordinator → new.events ≡ t.events + 1 → new.views ≡ t.views → new.runners ≡ t.runners → ((proc : ProcId) → desk_at new.desks proc ≡ fold (desk_noted proc) (desk_at t.desks proc) out) → new.endings.items ≡ fold endings_noted (t.endings.items ++ None ∷ []) out → longer ≡ (log ++ row_with t.events actors.Ui (rows.Accepted req None (asked_for ask)) ∷ []) ++ map (row_with t.events actors.Ui) out → HasGone header (event_asking ask) (replies.Accepted req) log longer new
+  ask_gone req ask out new longer nr acted events_ views run desks ends_ more =
+      let whole = more ∙ rows_same log t.events s.events (rows.Accepted req None (asked_for ask)) out (sym is.holds.events) in
       record {
         happened = record {
-          own = rows.Accepted req None (requests.Go delta);
+          own = rows.Accepted req None (asked_for ask);
           out = out;
-          begins = (ap (λ (r : ReqId). replies.Accepted r) nr, ap (λ (r : ReqId). rows.Accepted r None (requests.Go delta)) nr);
-          log = whole;
+          begins = asked_begins req ask out nr;
+          log = whole ∙ ap (λ (a : Actor). log ++ row_with s.events a (rows.Accepted req None (asked_for ask)) ∷ map (row_with s.events a) out) (sym (asked_by ask));
         };
-        stands = subst (λ (l : List LogRow). IsOpen header l new) (sym whole) (works_on header log t is short actors.Ui (rows.Accepted req None (requests.Go delta)) out new (desk_at t.desks) (t.endings.items ++ None ∷ []) tt refl acted (unsent req (requests.Go delta)) events_ views desks ends_);
+        stands = subst (λ (l : List LogRow). IsOpen header l new) (sym whole) (works_on header log t is short actors.Ui (rows.Accepted req None (asked_for ask)) out new (desk_at t.desks) (t.endings.items ++ None ∷ []) tt refl acted (unsent req (asked_for ask)) events_ views run desks ends_);
       }
 
   -- ---- a poke that reaches a document
 
-  pub poke_gone : (req : ReqId) (nav : NavId) (action : Action) (doc : DocId) (proc : ProcId) (new : State) (longer : List LogRow) → HasPassed (is_no_edit action) → Reaches s nav doc → proc ≡ t.coordinator.tables.home → req ≡ next_request s → new.coordinator ≡ t.coordinator → new.events ≡ t.events + 1 → new.views ≡ t.views → Changes proc (desk_with (items.Poke (record { req = req; doc = doc; action = action }))) t.desks new.desks → new.endings.items ≡ t.endings.items ++ None ∷ [] → longer ≡ log ++ row_with t.events actors.Ui (rows.Accepted req (Some doc) (requests.Poke nav action)) ∷ [] → HasGone header (events.Poke nav action) (replies.Accepted req) log longer new
-  poke_gone req nav action doc proc new longer built reaches proc_is nr coordinator events_ views desks ends_ more =
+  pub poke_gone : (req : ReqId) (nav : NavId) (action : Action) (doc : DocId) (proc : ProcId) (new : State) (longer : List LogRow) → HasPassed (is_no_edit action) → Reaches s nav doc → proc_in t.coordinator.tables.whose.entries doc ≡ Some proc → req ≡ next_request s → new.coordinator ≡ t.coordinator → new.events ≡ t.events + 1 → new.views ≡ t.views → new.runners ≡ t.runners → Changes proc (desk_with (items.Poke (record { req = req; doc = doc; action = action }))) t.desks new.desks → new.endings.items ≡ t.endings.items ++ None ∷ [] → longer ≡ log ++ row_with t.events actors.Ui (rows.Accepted req (Some doc) (requests.Poke nav action)) ∷ [] → HasGone header (events.Poke nav action) (replies.Accepted req) log longer new
+  poke_gone req nav action doc proc new longer built reaches proc_is nr coordinator events_ views run desks ends_ more =
       let whole : longer ≡ log ++ row_with s.events actors.Ui own ∷ [] = more ∙ ap (λ (k : ℕ). log ++ row_with k actors.Ui own ∷ []) (sym is.holds.events) in
       record {
         happened = record { own = own; out = []; begins = (ap (λ (r : ReqId). replies.Accepted r) nr, begun); log = whole };
-        stands = subst (λ (l : List LogRow). IsOpen header l new) (sym whole) (works_on header log t is short actors.Ui own [] new (desk_at new.desks) (t.endings.items ++ None ∷ []) tt refl acted kept events_ views (λ p. refl) ends_);
+        stands = subst (λ (l : List LogRow). IsOpen header l new) (sym whole) (works_on header log t is short actors.Ui own [] new (desk_at new.desks) (t.endings.items ++ None ∷ []) tt refl acted kept events_ views run (λ p. refl) ends_);
       }
     where
       own : RowKind
@@ -142,15 +159,18 @@ module _ (header : Header) (log : List LogRow) (t : State) (is : IsOpen header l
 
       acted : HasActed (event_of header log actors.Ui own) [] new.coordinator
       acted =
-          subst (λ (c : Coordinator). HasActed (event_of header log actors.Ui own) [] c) (sym coordinator) (poked_acts (event_of header log actors.Ui own) t.coordinator is.keeps.stands refl refl req (ap (λ (r : ReqId). r.0) nr) nav action (no_editing action built) its.d reaches.row its.reaches (ap (λ (n : DocId). rows.Accepted req (Some n) (requests.Poke nav action)) (sym its.nr)))
+          subst (λ (c : Coordinator). HasActed (event_of header log actors.Ui own) [] c) (sym coordinator) (poke_acts (event_of header log actors.Ui own) t.coordinator (open_to header log t is actors.Ui own) req nav action (no_editing action built) refl (ap (λ (r : ReqId). r.0) nr) doc reaches refl)
 
-      found : document_of s doc ≡ Some its.d
-      found = ap (λ (n : DocId). document_of s n) (sym its.nr) ∙ poked_there header log t is nav its.d its.reaches
+      found : document_of s doc ≡ Some reaches.d
+      found = reaches.found
 
-      of_home : its.d.proc ≡ proc
-      of_home = lives_home header log t is doc its.d found ∙ sym proc_is
+      some_same : {A : Type 0} {a b : A} → (let o : Option A = Some a in o) ≡ Some b → a ≡ b
+      some_same e = cc
 
-      kept : Keeping (opening_process header) (after s (row_with s.events actors.Ui own)) s.events (desk_at new.desks) (view_at t.views) (t.endings.items ++ None ∷ [])
+      of_home : reaches.d.proc ≡ proc
+      of_home = some_same (sym (lives_in header log t is doc reaches.d found) ∙ proc_is)
+
+      kept : Keeping header (after s (row_with s.events actors.Ui own)) s.events (desk_at new.desks) (view_at t.views) t.runners (t.endings.items ++ None ∷ [])
       kept =
           record {
             events = refl;
@@ -159,18 +179,19 @@ module _ (header : Header) (log : List LogRow) (t : State) (is : IsOpen header l
                 ∙ (ap (λ (q : ProcId). on_proc q (desk_poked req doc action) p (desk_of s p)) of_home
                 ∙ desks_go s t.desks new.desks proc (desk_poked req doc action) (desk_with (items.Poke (record { req = req; doc = doc; action = action }))) is.holds.desks refl desks p));
             views = is.holds.views;
+            runners = quiet_told s s.events actors.Ui (rows.Accepted req (Some doc) (requests.Poke nav action)) t.runners tt tt is.holds.runners;
             endings = more_endings s.requests (new_request req (Some doc) (requests.Poke nav action)) ∙ ap (λ (l : List (Option Ending)). l ++ None ∷ []) is.holds.endings;
-            lives = is.home;
+            sited = is.sited;
           }
 
   -- ---- a poke that reaches none
 
-  pub stray_gone : (req : ReqId) (nav : NavId) (action : Action) (reason : Denial) (new : State) (longer : List LogRow) → HasPassed (is_no_edit action) → denial_of_poke s nav ≡ Some reason → req ≡ next_request s → new.coordinator ≡ t.coordinator → new.events ≡ t.events + 1 → new.views ≡ t.views → new.desks ≡ t.desks → new.endings.items ≡ t.endings.items ++ Some (ends.Refused reason) ∷ [] → longer ≡ (log ++ row_with t.events actors.Ui (rows.Accepted req None (requests.Poke nav action)) ∷ []) ++ row_with t.events actors.Ui (rows.Refused req reason) ∷ [] → HasGone header (events.Poke nav action) (replies.Accepted req) log longer new
-  stray_gone req nav action reason new longer built denied nr coordinator events_ views desks ends_ more =
+  pub stray_gone : (req : ReqId) (nav : NavId) (action : Action) (reason : Denial) (new : State) (longer : List LogRow) → HasPassed (is_no_edit action) → denial_of_poke s nav ≡ Some reason → req ≡ next_request s → new.coordinator ≡ t.coordinator → new.events ≡ t.events + 1 → new.views ≡ t.views → new.runners ≡ t.runners → new.desks ≡ t.desks → new.endings.items ≡ t.endings.items ++ Some (ends.Refused reason) ∷ [] → longer ≡ (log ++ row_with t.events actors.Ui (rows.Accepted req None (requests.Poke nav action)) ∷ []) ++ row_with t.events actors.Ui (rows.Refused req reason) ∷ [] → HasGone header (events.Poke nav action) (replies.Accepted req) log longer new
+  stray_gone req nav action reason new longer built denied nr coordinator events_ views run desks ends_ more =
       let whole : longer ≡ log ++ row_with s.events actors.Ui own ∷ map (row_with s.events actors.Ui) out = more ∙ rows_same log t.events s.events own out (sym is.holds.events) in
       record {
         happened = record { own = own; out = out; begins = (ap (λ (r : ReqId). replies.Accepted r) nr, begun); log = whole };
-        stands = subst (λ (l : List LogRow). IsOpen header l new) (sym whole) (works_on header log t is short actors.Ui own out new (desk_at t.desks) (t.endings.items ++ None ∷ []) tt refl acted (unsent req (requests.Poke nav action)) events_ views (λ p. ap (λ (l : List (ProcId × Desk)). desk_at l p) desks) (ends_ ∙ ended));
+        stands = subst (λ (l : List LogRow). IsOpen header l new) (sym whole) (works_on header log t is short actors.Ui own out new (desk_at t.desks) (t.endings.items ++ None ∷ []) tt refl acted (unsent req (requests.Poke nav action)) events_ views run (λ p. ap (λ (l : List (ProcId × Desk)). desk_at l p) desks) (ends_ ∙ ended));
       }
     where
       own : RowKind
@@ -189,7 +210,7 @@ module _ (header : Header) (log : List LogRow) (t : State) (is : IsOpen header l
 
       acted : HasActed (event_of header log actors.Ui own) out new.coordinator
       acted =
-          subst (λ (c : Coordinator). HasActed (event_of header log actors.Ui own) out c) (sym coordinator) (stray_acts (event_of header log actors.Ui own) t.coordinator is.keeps.stands refl refl req at nav action (no_editing action built) reason denied refl)
+          subst (λ (c : Coordinator). HasActed (event_of header log actors.Ui own) out c) (sym coordinator) (poke_refused_acts (event_of header log actors.Ui own) t.coordinator (open_to header log t is actors.Ui own) req nav action (no_editing action built) refl at reason denied refl refl)
 
       ended : t.endings.items ++ Some (ends.Refused reason) ∷ [] ≡ ended_in (t.endings.items ++ None ∷ []) req (ends.Refused reason)
       ended =

@@ -20,18 +20,21 @@ use Rattle.log_model.proofs.Refl.{nat_eq_refl}
 use Rattle.seen_laws.specs.InEvent.{InEvent, first_of, now_of}
 use Rattle.seen_laws.specs.Sending.{leads}
 use Rattle.seen_laws.proofs.Sendings.{both}
-use Rattle.doors.specs.Working.{IsWorker}
-use Rattle.frame_coord.specs.Standing.{HasActed}
+use Rattle.tab_doors.specs.Working.{IsWorker}
+use Rattle.coord.specs.Standing.{HasActed}
 use Rattle.seen_laws.proofs.InEvents.{now_fold}
-use Rattle.frame_acts.proofs.EventLaws.{event_keeps}
+use Rattle.coord_acts.proofs.EventLaws.{event_keeps}
 use Rattle.world.specs.declared.state.State.{State}
 use Rattle.world.specs.Asking.{event_of}
 use Rattle.proc_tables.specs.Desks.{desk_at, desk_noted}
 use Rattle.proc_tables.specs.Views.{Stays, view_at}
 use Rattle.world.specs.Shows.{Shows}
 use Rattle.world.specs.Notes.{endings_noted, row_with}
-use Rattle.world.specs.Open.{IsOpen, Holds, IsSmall, first_document, opening_process, process_in, row_limit}
+use Rattle.world.specs.Open.{IsOpen, Holds, IsSmall, row_limit}
 use Rattle.world.proofs.NoteLaws.{Keeping, works_keep}
+use Rattle.world.specs.Sited.{AreSited}
+use Rattle.running_table.specs.Runners.{RunnersState}
+use Rattle.running_table.specs.Making.{IsTold}
 
 -- what holds anyway holds where there is an error
 pub on_any_error : {T E : Type 0} (result : Result T E) (P : Type 0) → P → OnErr result P
@@ -51,9 +54,9 @@ have_its event actor [] = refl
 have_its event actor (kind ∷ kinds) = both (nat_eq_refl event) (have_its event actor kinds)
 
 -- what is kept is what the log has come to
-pub holds_all : (home : ProcId) (s : Seen) (t : State) (event : ℕ) → Keeping home s event (desk_at t.desks) (view_at t.views) t.endings.items → t.events ≡ event + 1 → ((doc : DocId) → IfSome (view_at t.views doc) (IsSmall t.events)) → Holds s t
-holds_all home s t event keeps events small =
-    record { events = keeps.events ∙ sym events; desks = keeps.desks; views = keeps.views; endings = keeps.endings; small = small }
+pub holds_all : (header : Header) (s : Seen) (t : State) (event : ℕ) → Keeping header s event (desk_at t.desks) (view_at t.views) t.runners t.endings.items → t.events ≡ event + 1 → ((doc : DocId) → IfSome (view_at t.views doc) (IsSmall t.events)) → Holds s t
+holds_all header s t event keeps events small =
+    record { events = keeps.events ∙ sym events; desks = keeps.desks; views = keeps.views; runners = keeps.runners; endings = keeps.endings; small = small }
 
 -- a view is small after one event more
 pub small_more : (events more : ℕ) (view : Option View) → more ≡ events + 1 → IfSome view (IsSmall events) → IfSome view (IsSmall more)
@@ -83,32 +86,40 @@ module _ (header : Header) (log : List LogRow) (t : State) (is : IsOpen header l
   at = (seen_of log).events
 
   -- the event's rows pass, and the rest is kept
-  pub opens_on : (out : List RowKind) (new : State) → HasActed e out new.coordinator → Holds (now_of e out) new → process_in (now_of e out) first_document ≡ Some (opening_process header) → IsOpen header (log ++ row_with at actor own ∷ map (row_with at actor) out) new
-  opens_on out new acted holds lives =
+  pub opens_on : (out : List RowKind) (new : State) → HasActed e out new.coordinator → Holds (now_of e out) new → AreSited header (now_of e out).documents → IsOpen header (log ++ row_with at actor own ∷ map (row_with at actor) out) new
+  opens_on out new acted holds sites =
       let led : seen_of (log ++ row_with at actor own ∷ map (row_with at actor) out) ≡ now_of e out = seen_of_append log (row_with at actor own ∷ map (row_with at actor) out) ∙ sym (now_fold e out) in
       record {
         keeps = event_keeps e log t.coordinator is.keeps (record { start = refl; event = refl }) out new.coordinator acted;
         limited = begins_below_more row_limit log (row_with at actor own) (map (row_with at actor) out) is.keeps.some (have_its at actor (own ∷ out)) is.limited short;
         holds = subst (λ (s : Seen). Holds s new) (sym led) holds;
-        home = subst (λ (s : Seen). process_in s first_document ≡ Some (opening_process header)) (sym led) lives;
+        header_is = acted.header;
+        sited = subst (λ (s : Seen). AreSited header s.documents) (sym led) sites;
       }
 
   -- what the coordinator puts out is noted, and no view changes
-  pub works_on : (out : List RowKind) (new : State) (waits : ProcId → Desk) (ends : List (Option Ending)) → IsWorker actor → leads own ≡ true → HasActed e out new.coordinator → Keeping (opening_process header) (after (seen_of log) (row_with at actor own)) at waits (view_at t.views) ends → new.events ≡ t.events + 1 → new.views ≡ t.views → ((proc : ProcId) → desk_at new.desks proc ≡ fold (desk_noted proc) (waits proc) out) → new.endings.items ≡ fold endings_noted ends out → IsOpen header (log ++ row_with at actor own ∷ map (row_with at actor) out) new
+  pub works_on : (out : List RowKind) (new : State) (waits : ProcId → Desk) (ends : List (Option Ending)) → IsWorker actor → leads own ≡ true → HasActed e out new.coordinator → Keeping header (after (seen_of log) (row_with at actor own)) at waits (view_at t.views) t.runners ends → new.events ≡ t.events + 1 → new.views ≡ t.views → new.runners ≡ t.runners → ((proc : ProcId) → desk_at new.desks proc ≡ fold (desk_noted proc) (waits proc) out) → new.endings.items ≡ fold endings_noted ends out → IsOpen header (log ++ row_with at actor own ∷ map (row_with at actor) out) new
   unfolding now_of
-  works_on out new waits ends worker led acted keeps events views desks endings =
-      let all = works_keep (opening_process header) (first_of e) (row_with at actor own) [] at actor out waits (view_at t.views) ends refl led worker acted.passes.1 keeps in
+  works_on out new waits ends worker led acted keeps events views run desks endings =
+      let all = works_keep header (first_of e) (row_with at actor own) [] at actor out waits (view_at t.views) t.runners ends refl refl led worker acted.passes.1 keeps in
       let stays : Stays t.views new.views = λ doc. ap (λ (v : List (DocId × View)). view_at v doc) views in
       opens_on out new acted (record {
         events = all.events ∙ sym (events ∙ ap (λ (k : ℕ). k + 1) (sym is.holds.events));
         desks = λ proc. all.desks proc ∙ sym (desks proc);
         views = λ doc. all.views doc ∙ sym (stays doc);
+        runners = subst (λ (r : RunnersState). IsTold (now_of e out) r) (sym run) all.runners;
         endings = all.endings ∙ sym endings;
         small = stays_small t.views new.views t.events new.events events stays is.holds.small;
-      }) all.lives
+      }) all.sited
 
   -- an event of its own row alone
-  pub alone_on : (new : State) → HasActed e [] new.coordinator → Keeping (opening_process header) (after (seen_of log) (row_with at actor own)) at (desk_at new.desks) (view_at new.views) new.endings.items → new.events ≡ t.events + 1 → ((doc : DocId) → IfSome (view_at new.views doc) (IsSmall new.events)) → IsOpen header (log ++ row_with at actor own ∷ []) new
+  pub alone_on : (new : State) → HasActed e [] new.coordinator → Keeping header (after (seen_of log) (row_with at actor own)) at (desk_at new.desks) (view_at new.views) new.runners new.endings.items → new.events ≡ t.events + 1 → ((doc : DocId) → IfSome (view_at new.views doc) (IsSmall new.events)) → IsOpen header (log ++ row_with at actor own ∷ []) new
   unfolding now_of
   alone_on new acted keeps events small =
-      opens_on [] new acted (holds_all (opening_process header) (after (seen_of log) (row_with at actor own)) new at keeps (events ∙ ap (λ (k : ℕ). k + 1) (sym is.holds.events)) small) keeps.lives
+      opens_on [] new acted (holds_all header (after (seen_of log) (row_with at actor own)) new at keeps (events ∙ ap (λ (k : ℕ). k + 1) (sym is.holds.events)) small) keeps.sited
+
+  -- an event of two rows
+  pub two_on : (other : RowKind) (new : State) → HasActed e (other ∷ []) new.coordinator → Keeping header (after (after (seen_of log) (row_with at actor own)) (row_with at actor other)) at (desk_at new.desks) (view_at new.views) new.runners new.endings.items → new.events ≡ t.events + 1 → ((doc : DocId) → IfSome (view_at new.views doc) (IsSmall new.events)) → IsOpen header (log ++ row_with at actor own ∷ row_with at actor other ∷ []) new
+  unfolding now_of
+  two_on other new acted keeps events small =
+      opens_on (other ∷ []) new acted (holds_all header (after (after (seen_of log) (row_with at actor own)) (row_with at actor other)) new at keeps (events ∙ ap (λ (k : ℕ). k + 1) (sym is.holds.events)) small) keeps.sited

@@ -68,7 +68,7 @@ leaves_if test f leaves =
     face_by d true = leaves.face d
     face_by d false = refl
 
-leaves_then : (f g : Document → Document) → LeavesFaces f → LeavesFaces g → LeavesFaces (λ d. g (f d))
+pub leaves_then : (f g : Document → Document) → LeavesFaces f → LeavesFaces g → LeavesFaces (λ d. g (f d))
 leaves_then f g first second =
     record { nr = λ d. second.nr (f d) ∙ first.nr d; face = λ d. second.face (f d) ∙ first.face d }
 
@@ -116,7 +116,7 @@ more_faces documents new none =
 
 -- ---- each row
 
-told_leaves : (change : Change) → LeavesFaces (λ d. told_after_change d change)
+pub told_leaves : (change : Change) → LeavesFaces (λ d. told_after_change d change)
 told_leaves (changes.Push nav entry state address memo) =
     leaves_if (λ d. d.nr.0 == entry.maker) (λ d. record d { told = None }) (record { nr = λ d. refl; face = λ d. refl })
 told_leaves (changes.Replace nav over_ entry state address memo) = record { nr = λ d. refl; face = λ d. refl }
@@ -130,7 +130,7 @@ with_leaves : (entry : EntryId) → LeavesFaces (with_applied entry)
 with_leaves entry =
     leaves_if (λ d. d.nr.0 == entry.maker) (λ d. record d { last_applied = entry.nr }) (record { nr = λ d. refl; face = λ d. refl })
 
-applied_leaves : (change : Change) → LeavesFaces (applied_to change)
+pub applied_leaves : (change : Change) → LeavesFaces (applied_to change)
 applied_leaves (changes.Push nav entry state address memo) = with_leaves entry
 applied_leaves (changes.Replace nav over_ entry state address memo) = with_leaves entry
 applied_leaves (changes.Reload nav) =

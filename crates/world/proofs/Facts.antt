@@ -1,6 +1,6 @@
--- What is known of an open world: the process of all documents, their views, whom a poke reaches, and that its numbers are small.
+-- What is known of an open world: the views of documents and where they live, whom a poke reaches, and that its numbers are small.
 use Rattle.std.proofs.Common.{◌≡◌, ℕ, ◌+◌, ◌<◌, ◌≤◌, Bool, true, false, ◌==◌, List, [], ◌∷◌, length, map, Option, Some, None, refl, sym, ap, ◌∙◌, subst, arith}
-use Rattle.std.specs.Prelude.{option_and_then, option_map, is_some, IfSome, IsSomeAnd, if◌then◌else◌}
+use Rattle.std.specs.Prelude.{option_and_then, option_map, is_some, IfSome, IsSome, IsSomeAnd, if◌then◌else◌, slice_get}
 use Rattle.std.proofs.lemmas.Bool.Decides.{nat_tests}
 use Rattle.tab_ids.specs.declared.DocId.{DocId}
 use Rattle.tab_ids.specs.declared.NavId.{NavId}
@@ -10,28 +10,40 @@ use Rattle.log_model.specs.declared.header.Header.{Header}
 use Rattle.log_model.specs.declared.job.Order.{Order}
 use Rattle.log_model.specs.declared.outcome.Denial.{Denial}
 use Rattle.log_model.specs.declared.outcome.Ending.{Ending}
+use Rattle.log_model.specs.declared.row_kind.Actor.{Actor}
 use Rattle.log_model.specs.declared.row_kind.LogRow.{LogRow}
+use Rattle.log_model.specs.declared.row_kind.RowKind.{RowKind}
 use Rattle.log_model.specs.Causes.{denial_of_poke}
 use Rattle.log_model.specs.Equal.{holds}
 use Rattle.log_model.specs.Formed.{poked_document}
 use Rattle.log_model.specs.Logs.{seen_of}
-use Rattle.log_model.specs.Seen.{Seen, Document, Desk, Asked, document_of}
+use Rattle.log_model.specs.Seen.{Seen, Document, Desk, Asked, desk_of, document_of, request_in}
 use Rattle.log_model.specs.Views.{View}
 use Rattle.log_counts.specs.Counts.{AreFew, told_index}
 use Rattle.log_counts.proofs.Fews.{legal_few}
 use Rattle.log_counts.proofs.Numbered.{few_events}
-use Rattle.frame_tab.specs.Desks.{IsBare}
-use Rattle.rest_facts.proofs.Again.{its_number}
-use Rattle.frame_coord.specs.Standing.{HasRoomFor, StandsFor}
-use Rattle.frame_acts.proofs.Homes as homes
-use Rattle.frame_coord.proofs.Reached.{reached}
-use Rattle.frame_events.proofs.Passing.{poked_found}
+use Rattle.seen_facts.proofs.Rest.Again.{its_number}
+use Rattle.coord.specs.Standing.{IsOpenTo, StandsFor}
+use Rattle.tab_doors.specs.declared.birth.Birth.{Birth}
+use Rattle.tab_doors.specs.Look.{Sight}
+use Rattle.tab_doors.specs.Ties.{birth_of, proc_in}
+use Rattle.tab_doors.proofs.Sights.{sight_of}
+use Rattle.tab_stands.specs.Standing.{HasRoomFor}
+use Rattle.tab_facts.specs.TabWhole.Tab.{IsTab}
 use Rattle.world.specs.declared.state.State.{State}
 use Rattle.proc_tables.specs.Desks.{desk_at}
 use Rattle.proc_tables.specs.Views.{HasRoom as HasViewRoom, view_at}
-use Rattle.world.specs.Open.{IsOpen, IsSmall, first_document, opening_process, row_limit, view_in}
+use Rattle.world.specs.Asking.{event_of}
+use Rattle.world.specs.Open.{IsOpen, IsSmall, row_limit, view_in}
 use Rattle.world.specs.Reaching.{AreOf, Reaches}
 use Rattle.world.specs.Steps.{next_request, reached_in}
+use Rattle.seen_facts.specs.Request.Cores.{Core, core, core_of}
+use Rattle.seen_facts.specs.Request.Knowns.{IsPoke}
+use Rattle.seen_facts.specs.Asked.Asking.{IsTabRequest}
+use Rattle.seen_facts.specs.Asked.Asking.{IsNoEditing}
+use Rattle.log_model.specs.declared.request.Poke.{Poke}
+use Rattle.seen_facts.proofs.Request.KnownMoved.{first_poke}
+use Rattle.log_model.specs.declared.request.Request.TheVariants as requests
 
 as_long : {A B : Type 0} (f : A → B) (xs : List A) → length (map f xs) ≡ length xs
 as_long f [] = refl
@@ -47,17 +59,23 @@ pub record IsReaching (s : Seen) (nav : NavId) (doc : DocId) : Type 0 where
   pub nr : d.nr ≡ doc
   pub in_step : reached_in s nav ≡ Some d
 
+-- the document that it reaches is the one that the step knows
+pub reached_there : (s : Seen) (nav : NavId) (doc : DocId) (is : Reaches s nav doc) → reached_in s nav ≡ Some is.d
+reached_there s nav doc is =
+    let some : (length (is.first ∷ is.others) == 0) ≡ false = grind (arith, nat_tests) in
+    let none : denial_of_poke s nav ≡ None = rw is.row (rw (is.run, some) refl) in
+    ap (λ (o : Option Denial). let x : Option Document = if is_some o then None else poked_document s nav in x) none ∙ is.reaches
+
 pub reaching : (s : Seen) (nav : NavId) (doc : DocId) → Reaches s nav doc → IsReaching s nav doc
 reaching s nav doc is =
-    let its = reached s nav is.d is.reaches in
-    let some : (length (its.first ∷ its.others) == 0) ≡ false = grind (arith, nat_tests) in
-    let none : denial_of_poke s nav ≡ None = rw is.row (rw (its.run, some) refl) in
+    let some : (length (is.first ∷ is.others) == 0) ≡ false = grind (arith, nat_tests) in
+    let none : denial_of_poke s nav ≡ None = rw is.row (rw (is.run, some) refl) in
     record {
       undenied = none;
       d = is.d;
       reaches = is.reaches;
       nr = is.nr;
-      in_step = ap (λ (o : Option Denial). let x : Option Document = if is_some o then None else poked_document s nav in x) none ∙ is.reaches;
+      in_step = reached_there s nav doc is;
     }
 
 -- where a reason denies it, it reaches none
@@ -95,34 +113,19 @@ module _ (header : Header) (log : List LogRow) (t : State) (is : IsOpen header l
   abbrev pub stands : StandsFor (seen_of log) t.coordinator
   stands = is.keeps.stands
 
-  abbrev pub home : ProcId
-  home = t.coordinator.tables.home
+  -- what is true of the tab
+  abbrev pub tab : IsTab t.coordinator.tables.running [] [] (seen_of log)
+  tab = is.keeps.stands.stands.between.tab
 
-  pub are_of : AreOf (seen_of log) t.coordinator t.views
-  are_of = record { stands = stands; viewed = is.holds.views }
+  -- ---- where a document lives
 
-  -- ---- the process of all documents
+  pub lives_in : (doc : DocId) (d : Document) → document_of s doc ≡ Some d → proc_in t.coordinator.tables.whose.entries doc ≡ Some d.proc
+  lives_in doc d found =
+      ap (λ (o : Option Birth). option_map (λ (b : Birth). b.proc) o) (stands.stands.tied.holds.whose doc)
+      ∙ ap (λ (o : Option Sight). option_map (λ (b : Birth). b.proc) (option_map birth_of o)) (sight_of s doc d found)
 
-  -- it is that in which the tab opened
-  pub opened_home : home ≡ opening_process header
-  opened_home = by_found (document_of s first_document) refl is.home
-    where
-      by_found : (o : Option Document) → document_of s first_document ≡ o → option_map (λ (d : Document). d.proc) o ≡ Some (opening_process header) → home ≡ opening_process header
-      by_found None e never = absurd cc
-      by_found (Some d) e its =
-          let lives : d.proc ≡ home = (stands.between.tab.framed.documents first_document d e).alive.proc in
-          let at : d.proc ≡ opening_process header = cc in sym lives ∙ at
-
-  -- so a process in which something waits is it
-  pub busy_here : (proc : ProcId) → (IsBare (desk_at t.desks proc) → ⊥) → proc ≡ home
-  busy_here proc busy =
-      homes.home_is s t.coordinator stands proc (λ bare. busy (subst IsBare (is.holds.desks proc) bare))
-
-  pub lives_home : (doc : DocId) (d : Document) → document_of s doc ≡ Some d → d.proc ≡ home
-  lives_home doc d found = (stands.between.tab.framed.documents doc d found).alive.proc
-
-  pub poked_there : (nav : NavId) (d : Document) → poked_document s nav ≡ Some d → document_of s d.nr ≡ Some d
-  poked_there nav d reaches = poked_found home t.coordinator.tables.running header s stands.between nav d reaches
+  pub lives_somewhere : (doc : DocId) (d : Document) → document_of s doc ≡ Some d → IsSome (proc_in t.coordinator.tables.whose.entries doc)
+  lives_somewhere doc d found = rw (lives_in doc d found) refl
 
   -- ---- views
 
@@ -136,7 +139,7 @@ module _ (header : Header) (log : List LogRow) (t : State) (is : IsOpen header l
       by_view None e = tt
       by_view (Some v) e =
           let its = viewed doc v e in
-          sym ((stands.between.tab.framed.documents doc its.d its.found).alive.viewed v its.has ∙ its_number s doc its.d its.found)
+          sym ((tab.docs.each doc its.d its.found).live.viewed v its.has ∙ its_number s doc its.d its.found)
 
   -- ---- numbers
 
@@ -170,6 +173,13 @@ module _ (header : Header) (log : List LogRow) (t : State) (is : IsOpen header l
   room =
       let some : length s.requests + 1 ≤ s.events = few.requests in
       omega (arith, few_events_, some)
+
+  -- an event may begin
+  pub open_to : (actor : Actor) (own : RowKind) → IsOpenTo (event_of header log actor own) t.coordinator
+  open_to actor own = record { header = is.header_is; stands = stands; room = room }
+
+  pub are_of : AreOf (seen_of log) t.coordinator t.runners
+  are_of = record { stands = stands; room = room; told = is.holds.runners }
 
   -- a view has room for one entry more
   roomy : (view : View) → IsSmall t.events view → HasViewRoom view
@@ -208,3 +218,20 @@ module _ (header : Header) (log : List LogRow) (t : State) (is : IsOpen header l
       let told : told_index order.job.task ≤ s.events = few.hand proc order (ap (λ (x : Desk). x.in_hand) (is.holds.desks proc) ∙ hand) in
       let same : s.events ≡ t.events = is.holds.events in
       omega (arith, told, same)
+
+  -- ---- pokes
+
+  -- a poke that waits is no edit
+  pub poke_fine : (proc : ProcId) (poke : Poke) → slice_get (desk_of s proc).input 0 ≡ Some poke → IsNoEditing poke.action
+  poke_fine proc poke first =
+      by_found (request_in s.requests poke.req) refl (first_poke s [] proc poke first tab.once tab.known)
+    where
+      some_same : {A : Type 0} {a b : A} → (let o : Option A = Some a in o) ≡ Some b → a ≡ b
+      some_same e = cc
+
+      by_found : (o : Option Asked) → request_in s.requests poke.req ≡ o → IsPoke (core_of o) poke → IsNoEditing poke.action
+      by_found None at k = (let never : None ≡ Some _ = k.is in absurd cc)
+      by_found (Some q) at k =
+          let same : core q ≡ record { what = requests.Poke k.nav poke.action; doc = Some poke.doc; made = None; ending = None } = some_same k.is in
+          let what : q.what ≡ requests.Poke k.nav poke.action = ap (λ (c : Core). c.what) same in
+          subst IsTabRequest what (tab.asked.each poke.req q at).what

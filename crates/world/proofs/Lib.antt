@@ -1,11 +1,14 @@
 mod EndingLaws
 mod FaceLaws
 mod NoteLaws
+mod SitedLaws
 mod TableLaws
 mod Facts
 mod EventLaws
 mod ReachLaws
 mod AcceptLaws
+mod EvictLaws
+mod FinishLaws
 mod WorkLaws
 mod DeliverLaws
 mod Opens

@@ -18,15 +18,19 @@ use Rattle.log_model.specs.Seen.{Desk, Document, nothing, desk_of, empty_desk}
 use Rattle.log_model.specs.Suits.{Suits, first_process, home_of, opens_suitably, process_of_origin}
 use Rattle.log_model.specs.AfterDocuments.{opening_document}
 use Rattle.log_model.specs.Views.{View, opening_view}
-use Rattle.frame_acts.specs.Keeping.{Keeps}
-use Rattle.frame_coord.specs.Standing.{StandsFor, opened_at}
-use Rattle.frame_coord.specs.declared.coordinator.Coordinator.{Coordinator}
-use Rattle.frame_acts.proofs.EventLaws.{stands_settled}
+use Rattle.coord.specs.Standing.{StandsFor}
+use Rattle.coord.specs.declared.coordinator.Coordinator.{Coordinator}
+use Rattle.coord_acts.specs.Keeping.{Keeps}
+use Rattle.coord_acts.proofs.EventLaws.{stands_settled}
+use Rattle.coord_acts.proofs.InTime.{opened_in_time}
+use Rattle.tab_stands.specs.Standing.{opened_at}
 use Rattle.world.specs.declared.state.State.{State}
 use Rattle.world.specs.Kept.{IsKept, OpensAs, OpensUnhandled}
 use Rattle.proc_tables.specs.Desks.{desk_at}
 use Rattle.world.specs.Open.{IsOpen, IsSmall, bare, first_document, opening_process, row_limit, view_in}
 use Rattle.world.specs.Opening.{opening_row, IsJustOpened}
+use Rattle.world.specs.Sited.{IsSited}
+use Rattle.world.proofs.SitedLaws.{opening_sited}
 
 opened_below : (address : List ℕ) (proc : ProcId) → BeginsBelow row_limit (opening_row address proc ∷ [])
 unfolding BeginsBelow starts_from events_of
@@ -62,24 +66,27 @@ opened_keeps header proc c stands =
       some = omega arith;
       legal = opened_legal header.first proc c stands;
       at_once = opened_at_once header.first proc;
+      loads_end = opened_in_time (opening_row header.first proc);
       suits = opened_suits (bare header) header.first proc;
       stands = stands;
     }
 
-pub opened_open : (header : Header) (proc : ProcId) (t : State) → proc ≡ opening_process header → IsJustOpened header.first proc t → IsOpen header (opening_row header.first proc ∷ []) t
+pub opened_open : (header : Header) (proc : ProcId) (t : State) → proc ≡ opening_process header → IsJustOpened header proc t → IsOpen header (opening_row header.first proc ∷ []) t
 unfolding seen_of
 opened_open header proc t home just =
     record {
       keeps = opened_keeps header proc t.coordinator just.stands;
+      header_is = just.header_is;
       limited = opened_below header.first proc;
       holds = record {
         events = sym just.events;
         desks = λ p. its_desk p ∙ sym (ap (λ (l : List (ProcId × Desk)). desk_at l p) just.desks);
         views = λ doc. its_view doc ∙ sym (just.views doc);
+        runners = just.runners;
         endings = sym just.endings;
         small = λ doc. subst (λ (o : Option View). IfSome o (IsSmall t.events)) (sym (just.views doc)) (its_small doc);
       };
-      home = ap (λ (p : ProcId). let o : Option ProcId = Some p in o) home;
+      sited = (subst (λ (p : ProcId). IsSited header p) (sym home) (opening_sited header), tt);
     }
   where
     first_view : View
@@ -117,12 +124,12 @@ suits_all header log suits none = subst (λ (h : Header). OpensAs h log → Suit
 -- an open world keeps what each world does
 pub open_kept : (header : Header) (log : List LogRow) (t : State) → IsOpen header log t → IsKept header log t false
 open_kept header log t is =
-    record { legal = is.keeps.legal; at_once = is.keeps.at_once; suits = suits_all header log is.keeps.suits; limited = is.limited; stands = λ e. is }
+    record { legal = is.keeps.legal; at_once = is.keeps.at_once; loads_end = is.keeps.loads_end; suits = suits_all header log is.keeps.suits; limited = is.limited; stands = λ e. is }
 
 -- and so it does once it is closed
 pub closed_kept : (header : Header) (log : List LogRow) (t new : State) → IsOpen header log t → IsKept header log new true
 closed_kept header log t new is =
-    record { legal = is.keeps.legal; at_once = is.keeps.at_once; suits = suits_all header log is.keeps.suits; limited = is.limited; stands = λ e. absurd cc }
+    record { legal = is.keeps.legal; at_once = is.keeps.at_once; loads_end = is.keeps.loads_end; suits = suits_all header log is.keeps.suits; limited = is.limited; stands = λ e. absurd cc }
 
 -- the process of the first document is the opening one
 first_home : (header : Header) → home_of header nothing (record { 0 = 0 }) header.first ≡ Some (opening_process header)

@@ -1,5 +1,5 @@
 -- What the readers of an open world answer.
-use Rattle.std.proofs.Common.{◌≡◌, ℕ, zero, suc, ◌+◌, ◌-◌, Bool, true, false, not, ◌&&◌, ◌==◌, List, [], ◌∷◌, Option, Some, None, refl, sym, ap, ◌∙◌, subst, arith}
+use Rattle.std.proofs.Common.{◌≡◌, ℕ, zero, suc, ◌+◌, ◌-◌, Bool, true, false, not, ◌&&◌, ◌==◌, List, [], ◌∷◌, Option, Some, None, refl, sym, ap, ◌∙◌, arith}
 use Rattle.std.specs.Prelude.{slice_get, option_and_then}
 use Rattle.std.specs.List.{list_all}
 use Rattle.std.proofs.lemmas.Bool.Decides.{nat_tests}
@@ -8,13 +8,11 @@ use Rattle.tab_ids.specs.declared.ProcId.{ProcId}
 use Rattle.log_model.specs.declared.header.Header.{Header}
 use Rattle.log_model.specs.declared.row_kind.LogRow.{LogRow}
 use Rattle.log_model.specs.Logs.{seen_of, is_idle, is_still, is_quiet, is_prompt_up}
-use Rattle.log_model.specs.Seen.{Seen, Document, Desk, Asked, desk_of, document_of, request_in}
+use Rattle.log_model.specs.Seen.{Seen, Document, Asked, desk_of, request_in}
 use Rattle.log_model.specs.Views.{View}
 use Rattle.history_log.proofs.StillLaws.{all_still, busy_found}
 use Rattle.seen_laws.proofs.Sendings.{both}
-use Rattle.each_facts.specs.Runs.{EachAsked}
-use Rattle.frame_tab.specs.Asking.{IsPlainlyAsked}
-use Rattle.frame_tab.specs.Desks.{IsBare}
+use Rattle.seen_facts.specs.Each.Runs.{EachAsked}
 use Rattle.tab_ids.specs.declared.DocId.{DocId}
 use Rattle.log_model.specs.declared.outcome.Denial.{Denial}
 use Rattle.log_model.specs.Causes.{denial_of_poke}
@@ -23,8 +21,11 @@ use Rattle.world.specs.Steps.{reached_in}
 use Rattle.world.specs.declared.state.State.{State}
 use Rattle.proc_tables.specs.Desks.{desk_at}
 use Rattle.proc_tables.specs.Views.{view_at}
-use Rattle.world.specs.Open.{IsOpen, opening_process}
-use Rattle.world.proofs.Facts.{busy_here, opened_home, poked_there, reaches_none, reaching}
+use Rattle.world.specs.Open.{IsOpen}
+use Rattle.world.proofs.Facts.{reached_there, reaches_none, tab}
+use Rattle.seen_facts.specs.Asked.Asking.{IsAskedPlainly}
+use Rattle.world.specs.Sited.{SomeWaits}
+use Rattle.world.proofs.SitedLaws.{busy_sited}
 
 -- ---- prompts
 
@@ -32,7 +33,7 @@ each_item : (test : Asked → Bool) (asked : List Asked) → ((i : ℕ) (q : Ask
 each_item test [] all = refl
 each_item test (q ∷ asked) all = both (all zero q refl) (each_item test asked (λ i x at. all (suc i) x at))
 
-none_up : (s : Seen) → EachAsked IsPlainlyAsked s.requests → list_all (λ (q : Asked). not (is_prompt_up q)) s.requests ≡ true
+none_up : (s : Seen) → EachAsked IsAskedPlainly s.requests → list_all (λ (q : Asked). not (is_prompt_up q)) s.requests ≡ true
 none_up s calm = each_item (λ (q : Asked). not (is_prompt_up q)) s.requests (λ i q at. unasked q (calm (record { 0 = i + 1 }) q (there i q at)).unprompted)
   where
     there : (i : ℕ) (q : Asked) → slice_get s.requests i ≡ Some q → request_in s.requests (record { 0 = i + 1 }) ≡ Some q
@@ -43,10 +44,6 @@ none_up s calm = each_item (λ (q : Asked). not (is_prompt_up q)) s.requests (λ
     unasked : (q : Asked) → q.prompted ≡ None → not (is_prompt_up q) ≡ true
     unasked q none = rw none refl
 
--- a process that has nothing is idle
-bare_idle : (desk : Desk) → IsBare desk → is_idle desk ≡ true
-bare_idle desk bare = rw (bare.input, bare.nothing.mail, bare.nothing.hand, bare.nothing.reports) refl
-
 module _ (header : Header) (log : List LogRow) (t : State) (is : IsOpen header log t) where
   abbrev s : Seen
   s = seen_of log
@@ -55,11 +52,9 @@ module _ (header : Header) (log : List LogRow) (t : State) (is : IsOpen header l
 
   pub view_here : (nav : NavId) (doc : DocId) → Reaches s nav doc → view_at t.views doc ≡ option_and_then (λ (d : Document). d.view) (reached_in s nav)
   view_here nav doc reaches =
-      let its = reaching s nav doc reaches in
-      let found : document_of s doc ≡ Some its.d = ap (λ (n : DocId). document_of s n) (sym its.nr) ∙ poked_there header log t is nav its.d its.reaches in
       sym (is.holds.views doc)
-      ∙ (ap (λ (o : Option Document). option_and_then (λ (d : Document). d.view) o) found
-      ∙ sym (ap (λ (o : Option Document). option_and_then (λ (d : Document). d.view) o) its.in_step))
+      ∙ ap (λ (o : Option Document). option_and_then (λ (d : Document). d.view) o) reaches.found
+      ∙ sym (ap (λ (o : Option Document). option_and_then (λ (d : Document). d.view) o) (reached_there s nav doc reaches))
 
   pub view_none : (nav : NavId) (reason : Denial) → denial_of_poke s nav ≡ Some reason → (let o : Option View = None in o) ≡ option_and_then (λ (d : Document). d.view) (reached_in s nav)
   view_none nav reason denied =
@@ -76,21 +71,16 @@ module _ (header : Header) (log : List LogRow) (t : State) (is : IsOpen header l
         by_test false e =
             let busy = some e in e ∙ sym (busy_found log busy.0 (ap is_idle (is.holds.desks busy.0) ∙ busy.1))
 
-    -- what is in transit waits in the process of all documents
-    pub home_is : idle ≡ is_idle (desk_of s (opening_process header))
-    home_is = by_test idle refl
-      where
-        by_test : (b : Bool) → idle ≡ b → idle ≡ is_idle (desk_of s (opening_process header))
-        by_test true e = e ∙ sym (ap is_idle (is.holds.desks (opening_process header)) ∙ all e (opening_process header))
-        by_test false e =
-            let busy = some e in
-            let none : IsBare (desk_at t.desks busy.0) → ⊥ = λ bare. (let wrong : true ≡ false = sym (bare_idle (desk_at t.desks busy.0) bare) ∙ busy.1 in cc) in
-            let here : busy.0 ≡ opening_process header = busy_here header log t is busy.0 none ∙ opened_home header log t is in
-            e ∙ sym (subst (λ (p : ProcId). is_idle (desk_of s p) ≡ false) here (ap is_idle (is.holds.desks busy.0) ∙ busy.1))
+    -- what is in transit waits in a process of the settings
+    pub some_waits : idle ≡ false → SomeWaits header s
+    some_waits e =
+        let busy = some e in
+        let busy_ : is_idle (desk_of s busy.0) ≡ false = ap is_idle (is.holds.desks busy.0) ∙ busy.1 in
+        record { proc = busy.0; sited = busy_sited header s busy.0 ((tab header log t is).desks busy.0) is.sited busy_; busy = busy_ }
 
     pub quiet_is : idle ≡ is_quiet s
     quiet_is =
-        still_is ∙ sym (ap (λ (b : Bool). is_still s && b) (none_up s is.keeps.stands.between.tab.framed.asked.each) ∙ and_true (is_still s))
+        still_is ∙ sym (ap (λ (b : Bool). is_still s && b) (none_up s (tab header log t is).asked.each) ∙ and_true (is_still s))
       where
         and_true : (b : Bool) → (b && true) ≡ b
         and_true true = refl

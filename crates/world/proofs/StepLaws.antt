@@ -2,6 +2,8 @@
 use Rattle.std.proofs.Common.{◌≡◌, ℕ, ◌<◌, ◌≤◌, Bool, true, false, ◌==◌, List, length, Option, Some, None, Ok, Err, refl, ap, ◌∙◌, subst, arith}
 use Rattle.std.specs.Prelude.{IsSome, if◌then◌else◌}
 use Rattle.std.proofs.lemmas.Bool.Decides.{nat_tests}
+use Rattle.coord.specs.Evicting.{longest_in}
+use Rattle.tab_ids.specs.declared.DocId.{DocId}
 use Rattle.tab_ids.specs.declared.ProcId.{ProcId}
 use Rattle.log_model.specs.declared.header.Header.{Header}
 use Rattle.log_model.specs.declared.job.Order.{Order}
@@ -22,16 +24,19 @@ use Rattle.proc_tables.specs.Desks.{desk_at}
 use Rattle.world.specs.Open.{IsOpen, row_limit}
 use Rattle.world.specs.Steps.{Steps, begin_idles, idle_at, idle_reply}
 use Rattle.world.specs.Turns.{HasGone, Shuts}
+use Rattle.world.proofs.EvictLaws.{evict_due}
 
-same_at : (desk other : ProcId → Desk) (event : Event) → ((proc : ProcId) → desk proc ≡ other proc) → idle_at desk event ≡ idle_at other event
-same_at desk other (events.Go delta) same = refl
-same_at desk other (events.Poke nav action) same = refl
-same_at desk other (events.Act proc) same =
+same_at : (desk other : ProcId → Desk) (kept : List DocId) (event : Event) → ((proc : ProcId) → desk proc ≡ other proc) → idle_at desk kept event ≡ idle_at other kept event
+same_at desk other kept (events.Load nav mode address) same = refl
+same_at desk other kept (events.Go delta) same = refl
+same_at desk other kept (events.Poke nav action) same = refl
+same_at desk other kept events.Evict same = refl
+same_at desk other kept (events.Act proc) same =
     ap (λ (d : Desk). let o : Option Reply = if length d.input == 0 then Some replies.Empty else None in o) (same proc)
-same_at desk other (events.Begin proc) same = ap (λ (d : Desk). begin_idles d.in_hand (length d.mail)) (same proc)
-same_at desk other (events.Finish proc done) same =
+same_at desk other kept (events.Begin proc) same = ap (λ (d : Desk). begin_idles d.in_hand (length d.mail)) (same proc)
+same_at desk other kept (events.Finish proc done) same =
     ap (λ (d : Desk). let o : Option Reply = if holds (λ (order : Order). order.job.nr.0 == done.order.job.nr.0) d.in_hand then None else Some replies.Stale in o) (same proc)
-same_at desk other (events.Deliver proc) same =
+same_at desk other kept (events.Deliver proc) same =
     ap (λ (d : Desk). let o : Option Reply = if length d.reports == 0 then Some replies.Empty else None in o) (same proc)
 
 module _ (header : Header) (log : List LogRow) (t : State) (is : IsOpen header log t) where
@@ -39,8 +44,8 @@ module _ (header : Header) (log : List LogRow) (t : State) (is : IsOpen header l
   s = seen_of log
 
   -- whether an event logs is read of the desks
-  pub idle_is : (event : Event) → idle_reply s event ≡ idle_at (desk_at t.desks) event
-  idle_is event = same_at (desk_of s) (desk_at t.desks) event is.holds.desks
+  pub idle_is : (event : Event) → idle_reply s event ≡ idle_at (desk_at t.desks) s.kept event
+  idle_is event = same_at (desk_of s) (desk_at t.desks) s.kept event is.holds.desks
 
   -- ---- what an event that logs finds in its process
 
@@ -51,6 +56,13 @@ module _ (header : Header) (log : List LogRow) (t : State) (is : IsOpen header l
       by_test : (b : Bool) → (n == 0) ≡ b → (let o : Option Reply = if b then Some reply else None in o) ≡ None → 0 < n
       by_test true e none_ = cc
       by_test false e none_ = grind (arith, nat_tests, e)
+
+  pub evict_is_due : idle_reply s events.Evict ≡ None → IsSome (longest_in (seen_of log))
+  evict_is_due due = evict_due header log t is (by_test (length s.kept == 0) due)
+    where
+      by_test : (b : Bool) → (let o : Option Reply = if b then Some replies.NothingKept else None in o) ≡ None → b ≡ false
+      by_test true none_ = cc
+      by_test false none_ = refl
 
   pub act_due : (proc : ProcId) → idle_reply s (events.Act proc) ≡ None → 0 < length (desk_at t.desks proc).input
   act_due proc due = subst (λ (d : Desk). 0 < length d.input) (is.holds.desks proc) (some_wait _ replies.Empty due)
@@ -75,10 +87,10 @@ module _ (header : Header) (log : List LogRow) (t : State) (is : IsOpen header l
 -- ---- a step
 
 module _ (w : WorldState) (t : State) (is : IsOpen w.header w.log t) (event : Event) where
-  pub idle_steps : (reply : Reply) → idle_at (desk_at t.desks) event ≡ Some reply → Steps w event (Ok reply) w
+  pub idle_steps : (reply : Reply) → idle_at (desk_at t.desks) (seen_of w.log).kept event ≡ Some reply → Steps w event (Ok reply) w
   idle_steps reply idles = rw (idle_is w.header w.log t is event ∙ idles) (refl, refl)
 
-  module _ (due : idle_at (desk_at t.desks) event ≡ None) where
+  module _ (due : idle_at (desk_at t.desks) (seen_of w.log).kept event ≡ None) where
     pub is_due : idle_reply (seen_of w.log) event ≡ None
     is_due = idle_is w.header w.log t is event ∙ due
 

@@ -6,6 +6,7 @@ use Rattle.log_model.specs.declared.header.Header.{Header}
 use Rattle.log_model.specs.Seen.{nothing}
 use Rattle.log_model.specs.Events.{events_of}
 use Rattle.log_model.specs.Legal.{IsLegal}
+use Rattle.log_model.specs.LoadsEndInTime.{LoadsEndInTime}
 use Rattle.log_model.specs.ActsAtOnce.{ActsAtOnce}
 use Rattle.log_model.specs.Limits.{BeginsBelow}
 use Rattle.log_model.specs.Suits.{Suits, opens_as, slot_of}
@@ -26,6 +27,7 @@ OpensAs header log = IsTrue (opens_as header nothing (events_of log))
 pub record IsKept (header : Header) (log : List LogRow) (state : State) (closed : Bool) : Type 0 where
   pub legal : IsLegal log
   pub at_once : ActsAtOnce log
+  pub loads_end : LoadsEndInTime log
   -- it suits the settings if it opens as they say, and they have no pages
   pub suits : header.pages ≡ [] → OpensAs header log → Suits header log
   pub limited : BeginsBelow row_limit log

@@ -7,3 +7,4 @@ pub mod Shows
 pub mod Steps
 pub mod Turns
 pub mod Asking
+pub mod Sited

@@ -1,6 +1,6 @@
--- What an open world of a tab of frames keeps beside its log, which is what the log has come to.
+-- What an open world keeps beside its log, which is what the log has come to.
 -- This project's own.
-use Rattle.std.specs.Prelude.{◌≡◌, ℕ, ◌≤◌, ◌*◌, List, [], map, Option, Some, IfSome, bytes_eq, if◌then◌else◌, option_map, option_and_then}
+use Rattle.std.specs.Prelude.{◌≡◌, ℕ, ◌≤◌, ◌*◌, List, [], map, Option, IfSome, bytes_eq, if◌then◌else◌, option_and_then}
 use Rattle.tab_ids.specs.declared.DocId.{DocId}
 use Rattle.tab_ids.specs.declared.ProcId.{ProcId}
 use Rattle.address.specs.Addresses.{base_of, origin_of, blank_text}
@@ -14,7 +14,9 @@ use Rattle.log_model.specs.Suits.{first_process, process_of_origin}
 use Rattle.log_model.specs.Views.{View}
 use Rattle.proc_tables.specs.Desks.{desk_at}
 use Rattle.proc_tables.specs.Views.{view_at}
-use Rattle.frame_acts.specs.Keeping.{Keeps}
+use Rattle.coord_acts.specs.Keeping.{Keeps}
+use Rattle.running_table.specs.Making.{IsTold}
+use Rattle.world.specs.Sited.{AreSited}
 use Rattle.world.specs.declared.state.State.{State}
 
 -- no event begins at this many rows or more
@@ -35,10 +37,6 @@ opening_process header =
 abbrev pub view_in : Seen → DocId → Option View
 view_in s doc = option_and_then (λ (d : Document). d.view) (document_of s doc)
 
--- the process of a document
-abbrev pub process_in : Seen → DocId → Option ProcId
-process_in s doc = option_map (λ (d : Document). d.proc) (document_of s doc)
-
 -- how each request ended, in the order of acceptance
 abbrev pub endings_of : Seen → List (Option Ending)
 endings_of s = map (λ (q : Asked). q.ending) s.requests
@@ -48,11 +46,12 @@ pub record IsSmall (events : ℕ) (view : View) : Type 0 where
   pub numbered : view.numbered ≤ events
   pub index : view.index ≤ 2 * events
 
--- the number of the next event, the lists of each process, the view of each document, and how each request ended
+-- the number of the next event, the lists of each process, the view of each document, which documents run, and how each request ended
 pub record Holds (s : Seen) (t : State) : Type 0 where
   pub events : s.events ≡ t.events
   pub desks : (proc : ProcId) → desk_of s proc ≡ desk_at t.desks proc
   pub views : (doc : DocId) → view_in s doc ≡ view_at t.views doc
+  pub runners : IsTold s t.runners
   pub endings : endings_of s ≡ t.endings.items
   pub small : (doc : DocId) → IfSome (view_at t.views doc) (IsSmall t.events)
 
@@ -60,10 +59,11 @@ pub record Holds (s : Seen) (t : State) : Type 0 where
 abbrev pub bare : Header → Header
 bare header = record header { pages = [] }
 
--- the log keeps all rules, the coordinator stands for it, and the rest is what it has come to
+-- the log keeps all rules, the coordinator stands for it with the settings but their pages, and the rest is what it has come to
 pub record IsOpen (header : Header) (log : List LogRow) (t : State) : Type 0 where
   pub keeps : Keeps (bare header) log t.coordinator
+  pub header_is : t.coordinator.header ≡ bare header
   pub limited : BeginsBelow row_limit log
   pub holds : Holds (seen_of log) t
-  -- the document with which the tab opened is in its process
-  pub home : process_in (seen_of log) first_document ≡ Some (opening_process header)
+  -- each document lives in a process of the settings
+  pub sited : AreSited header (seen_of log).documents

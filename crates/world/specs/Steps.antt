@@ -1,6 +1,7 @@
--- What a step of a world of a tab of frames answers, and what it logs.
+-- What a step of a world answers, and what it logs.
 -- This project's own.
-use Rattle.std.specs.Prelude.{◌≡◌, ℕ, ◌+◌, ◌<◌, ◌≤◌, true, ◌==◌, List, [], ◌∷◌, ◌++◌, map, length, slice_get, Bool, false, Option, Some, None, is_some, option_map, Result, Ok, Err, IsSomeAnd, if◌then◌else◌}
+use Rattle.std.specs.Prelude.{◌≡◌, ℕ, ◌+◌, ◌<◌, ◌≤◌, true, ◌==◌, List, [], ◌∷◌, ◌++◌, map, length, slice_get, Bool, false, Option, Some, None, is_some, option_and_then, option_map, option_to_list, Result, Ok, Err, IsSomeAnd, if◌then◌else◌}
+use Rattle.tab_ids.specs.declared.DocId.{DocId}
 use Rattle.tab_ids.specs.declared.ProcId.{ProcId}
 use Rattle.tab_ids.specs.declared.ReqId.{ReqId}
 use Rattle.tab_ids.specs.declared.NavId.{NavId}
@@ -9,6 +10,7 @@ use Rattle.log_model.specs.declared.action.Action.TheVariants as actions
 use Rattle.log_model.specs.declared.request.Poke.{Poke}
 use Rattle.log_model.specs.declared.job.Job.{Job}
 use Rattle.log_model.specs.declared.job.Order.{Order}
+use Rattle.log_model.specs.declared.made.Made.{Made}
 use Rattle.log_model.specs.declared.made.What.{What}
 use Rattle.log_model.specs.declared.outcome.Denial.TheVariants as denials
 use Rattle.log_model.specs.declared.request.Request.TheVariants as requests
@@ -20,9 +22,9 @@ use Rattle.log_model.specs.declared.row_kind.RowKind.TheVariants as rows
 use Rattle.log_model.specs.Causes.{denial_of_poke}
 use Rattle.log_model.specs.Entries.{HasPassed}
 use Rattle.log_model.specs.Equal.{holds}
-use Rattle.log_model.specs.Formed.{poked_document}
+use Rattle.log_model.specs.Formed.{last_of, poked_document}
 use Rattle.log_model.specs.Logs.{seen_of}
-use Rattle.log_model.specs.Seen.{Seen, Document, Desk, desk_of}
+use Rattle.log_model.specs.Seen.{Seen, Document, Desk, desk_of, document_of}
 use Rattle.log_model.specs.Views.{View, made_by, made_for}
 use Rattle.proc_work.specs.Work.{outcome_of_task}
 use Rattle.world.specs.declared.event.Event.{Event}
@@ -34,16 +36,19 @@ use Rattle.world.specs.declared.error.StepError.TheVariants as errors
 use Rattle.world.specs.Kept.{WorldState}
 use Rattle.world.specs.Notes.{row_with}
 use Rattle.world.specs.Open.{row_limit, view_in}
+use Rattle.world.specs.Shows.{made_at_end}
 
 -- any action but an edit of the page
 abbrev pub is_no_edit : Action → Bool
 is_no_edit actions.Edit = false
 is_no_edit _ = true
 
--- the events that a world of a tab of frames takes: a poke is any action but an edit of the page
+-- the events that a world takes: a poke is any action but an edit of the page
 abbrev pub IsBuilt : Event → Type 0
+IsBuilt (events.Load nav mode address) = Unit {0}
 IsBuilt (events.Go delta) = Unit {0}
 IsBuilt (events.Poke nav action) = HasPassed (is_no_edit action)
+IsBuilt events.Evict = Unit {0}
 IsBuilt (events.Act proc) = Unit {0}
 IsBuilt (events.Begin proc) = Unit {0}
 IsBuilt (events.Finish proc done) = Unit {0}
@@ -56,27 +61,31 @@ abbrev pub begin_idles : Option Order → ℕ → Option Reply
 begin_idles (Some order) waiting = Some replies.Busy
 begin_idles None waiting = if waiting == 0 then Some replies.Empty else None
 
--- the answer to an event that logs nothing, by the desks of the processes: nothing waits there, an order is in hand, or the finished order isn't the one in hand
-abbrev pub idle_at : (ProcId → Desk) → Event → Option Reply
-idle_at desk (events.Go delta) = None
-idle_at desk (events.Poke nav action) = None
-idle_at desk (events.Act proc) = if length (desk proc).input == 0 then Some replies.Empty else None
-idle_at desk (events.Begin proc) = begin_idles (desk proc).in_hand (length (desk proc).mail)
-idle_at desk (events.Finish proc done) =
+-- the answer to an event that logs nothing, by the desks of the processes and the documents that are kept: none is kept, nothing waits there, an order is in hand, or the finished order isn't the one in hand
+abbrev pub idle_at : (ProcId → Desk) → List DocId → Event → Option Reply
+idle_at desk kept (events.Load nav mode address) = None
+idle_at desk kept (events.Go delta) = None
+idle_at desk kept (events.Poke nav action) = None
+idle_at desk kept events.Evict = if length kept == 0 then Some replies.NothingKept else None
+idle_at desk kept (events.Act proc) = if length (desk proc).input == 0 then Some replies.Empty else None
+idle_at desk kept (events.Begin proc) = begin_idles (desk proc).in_hand (length (desk proc).mail)
+idle_at desk kept (events.Finish proc done) =
     if holds (λ (order : Order). order.job.nr.0 == done.order.job.nr.0) (desk proc).in_hand then None
     else Some replies.Stale
-idle_at desk (events.Deliver proc) = if length (desk proc).reports == 0 then Some replies.Empty else None
+idle_at desk kept (events.Deliver proc) = if length (desk proc).reports == 0 then Some replies.Empty else None
 
 -- so by what the log has come to
 abbrev pub idle_reply : Seen → Event → Option Reply
-idle_reply s event = idle_at (desk_of s) event
+idle_reply s event = idle_at (desk_of s) s.kept event
 
 -- ---- an event that logs
 
 -- who acts in it
 abbrev pub actor_of : Event → Actor
+actor_of (events.Load nav mode address) = actors.Ui
 actor_of (events.Go delta) = actors.Ui
 actor_of (events.Poke nav action) = actors.Ui
+actor_of events.Evict = actors.Ui
 actor_of (events.Act proc) = actors.Proc proc
 actor_of (events.Begin proc) = actors.Proc proc
 actor_of (events.Finish proc done) = actors.Proc proc
@@ -109,13 +118,25 @@ acted_row proc poke None = rows.Refused poke.req denials.NoDocument
 abbrev pub order_for : Seen → Job → Order
 order_for s job = record { job = job; dirty = holds (λ (view : View). view.dirty) (view_in s job.doc) }
 
+-- the row that tells what was made, if anything
+abbrev pub rows_of_made : ProcId → Option Made → List RowKind
+rows_of_made proc made = map (λ (m : Made). rows.Made proc m) (option_to_list made)
+
+-- the document that is kept longest
+abbrev pub longest_kept : Seen → Option Document
+longest_kept s = option_and_then (document_of s) (last_of s.kept)
+
 -- the answer to an event that logs, its own row, and what is logged after that: the work of the coordinator, where it is told of something
 abbrev pub Begins : Seen → Event → Reply → RowKind → List RowKind → Type 0
+Begins s (events.Load nav mode address) reply own out =
+    (reply ≡ replies.Accepted (next_request s)) × (own ≡ rows.Accepted (next_request s) None (requests.Load nav mode address))
 Begins s (events.Go delta) reply own out =
     (reply ≡ replies.Accepted (next_request s)) × (own ≡ rows.Accepted (next_request s) None (requests.Go delta))
 Begins s (events.Poke nav action) reply own out =
     (reply ≡ replies.Accepted (next_request s))
     × (own ≡ rows.Accepted (next_request s) (option_map (λ (d : Document). d.nr) (reached_in s nav)) (requests.Poke nav action))
+Begins s events.Evict reply own out =
+    (reply ≡ replies.Evicted) × IsSomeAnd (longest_kept s) (λ d. own ≡ rows.Evicted d.state)
 Begins s (events.Act proc) reply own out =
     (reply ≡ replies.Acted) × (out ≡ [])
     × IsSomeAnd (slice_get (desk_of s proc).input 0) (λ poke. own ≡ acted_row proc poke (view_in s poke.doc))
@@ -123,8 +144,8 @@ Begins s (events.Begin proc) reply own out =
     (out ≡ [])
     × IsSomeAnd (slice_get (desk_of s proc).mail 0) (λ job. (reply ≡ replies.Took (order_for s job)) × (own ≡ rows.Taken proc job.nr true (order_for s job).dirty))
 Begins s (events.Finish proc done) reply own out =
-    (reply ≡ replies.Finished) × (out ≡ [])
-    × IsSomeAnd (desk_of s proc).in_hand (λ order. own ≡ rows.Finished proc order.job.nr (outcome_of_task order.job.task order.dirty None))
+    (reply ≡ replies.Finished)
+    × IsSomeAnd (desk_of s proc).in_hand (λ order. (own ≡ rows.Finished proc order.job.nr (outcome_of_task order.job.task order.dirty None)) × (out ≡ rows_of_made proc (made_at_end (view_in s order.job.doc) order.job.task)))
 Begins s (events.Deliver proc) reply own out = (reply ≡ replies.Delivered) × (own ≡ rows.Delivered proc)
 
 -- the event has happened: the log has its rows at its end

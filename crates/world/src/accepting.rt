@@ -1,12 +1,12 @@
-//! The events in which a request is accepted.
+//! The events in which the user asks for something: a load or a traversal, which the coordinator carries out, or that a document acts.
 ghost use Rattle.std.specs.Prelude.{◌≡◌, ◌<◌, ◌+◌, [], Some, length, take, IfOk, IfErr, OnOk, OnErr};
-ghost use Rattle.frame_coord.specs.Standing.{HasActed, HasRoomFor, StandsFor};
+ghost use Rattle.coord.specs.Standing.{HasActed, IsOpenTo, asked_for};
 ghost use Rattle.log_model.specs.Causes.{denial_of_poke};
 ghost use Rattle.log_model.specs.Entries.{HasPassed};
 ghost use Rattle.log_model.specs.Logs.{seen_of};
 ghost use Rattle.seen_laws.specs.InEvent.{InEvent};
 ghost use Rattle.world.specs.declared.event.Event.TheVariants as events;
-ghost use Rattle.world.specs.Asking.{asking};
+ghost use Rattle.world.specs.Asking.{asking, event_asking};
 ghost use Rattle.world.specs.Open.{IsOpen, row_limit};
 ghost use Rattle.world.specs.Reaching.{Reaches};
 ghost use Rattle.world.specs.Steps.{is_no_edit};
@@ -16,47 +16,48 @@ use crate::endings::{add, next_request};
 use crate::error::StepError;
 use crate::event::Reply;
 use crate::logging::{log_row, log_work};
-use crate::reading::reached;
+use crate::reading::{home_of, reached};
 use crate::state::State;
 use address::OutOfMemory;
-use frame_coord::Coordinator;
+use coord::{Ask, Coordinator};
 use history_log::Log;
 use log_model::{Action, Actor, Denial, Ending, Header, Out, Poke, Request, RowKind};
 use proc_tables::Item;
 use std::alloc::Global;
 use tab_ids::{DocId, NavId, ReqId};
 
-/// A traversal is accepted: it joins the queue, and has its turn where none runs.
-pub(crate) fn accept_go(
+/// A load or a traversal is accepted, and the coordinator carries it out.
+pub(crate) fn accept_ask(
     log: &mut Log,
     header: &Header,
     state: &mut State,
-    delta: i32,
+    ask: &Ask,
 ) -> Result<Reply, StepError>
     requires open { IsOpen header.now log.old state.old }
     requires short { length log.old < row_limit }
-    ensures gone { IfOk result (λ reply. HasGone header.now (events.Go delta) reply log.old log.new state.new) }
+    ensures gone { IfOk result (λ reply. HasGone header.now (event_asking ask.now) reply log.old log.new state.new) }
     ensures shuts { IfErr result Shuts }
     ensures front { OnErr result (take (length log.old) log.new ≡ log.old) }
 {
     let alloc = *state.endings.allocator();
     let req = next_request(&state.endings);
+    let what = request_of(ask)?;
     let mut out = Out::new(alloc);
-    ask(
+    carry_out(
         log,
         header,
         &mut state.coordinator,
         alloc,
         &mut out,
         req,
-        delta,
+        ask,
     )?;
     add(&mut state.endings, None)?;
     let event = state.events;
     let own = RowKind::Accepted {
         req,
         doc: None,
-        what: Request::Go { delta },
+        what,
     };
     log_row(log, event, Actor::Ui, own)?;
     log_work(
@@ -71,25 +72,42 @@ pub(crate) fn accept_go(
     Ok(Reply::Accepted(req))
 }
 
-/// Hands a traversal to the coordinator.
-fn ask(
+/// The request as the log has it.
+fn request_of(ask: &Ask) -> Result<Request, OutOfMemory>
+    ensures { IfOk result (λ request. request ≡ asked_for ask.now) }
+{
+    match ask {
+        Ask::Load { nav, mode, address } => {
+            let address = address.copy()?;
+            Ok(Request::Load {
+                nav: *nav,
+                mode: *mode,
+                address,
+            })
+        }
+        Ask::Go { delta } => Ok(Request::Go { delta: *delta }),
+    }
+}
+
+/// Hands it to the coordinator.
+fn carry_out(
     log: &Log,
     header: &Header,
     coordinator: &mut Coordinator,
     alloc: Global,
     out: &mut Out,
     req: ReqId,
-    delta: i32,
+    ask: &Ask,
 ) -> Result<(), OutOfMemory>
     ghost e: { InEvent }
-    requires is { e ≡ asking header.now log.now req delta }
-    requires stands { StandsFor (seen_of log.now) coordinator.old }
-    requires room { HasRoomFor (seen_of log.now) }
+    requires is { e ≡ asking header.now log.now req ask.now }
+    requires open_ { IsOpenTo e coordinator.old }
     requires next { req.0 ≡ length (seen_of log.now).requests + 1 }
     requires first { out.old ≡ [] }
-    ensures acted { OnOk result (HasActed (asking header.now log.now req delta) out.new coordinator.new) }
+    ensures acted { OnOk result (HasActed (asking header.now log.now req ask.now) out.new coordinator.new) }
 {
-    coordinator.request(alloc, out, req, delta)
+    coordinator.request(alloc, out, req, ask)?;
+    Ok(())
 }
 
 /// A poke is accepted: it waits in the process of the document that it reaches, or is refused where it reaches none.
@@ -107,13 +125,13 @@ pub(crate) fn accept_poke(
     ensures shuts { IfErr result Shuts }
     ensures front { OnErr result (take (length log.old) log.new ≡ log.old) }
 {
-    match reached(&state.coordinator, &state.views, nav) {
+    match reached(&state.coordinator, &state.runners, nav) {
         Ok(doc) => accept_here(log, header, state, nav, action, doc),
         Err(reason) => refuse_stray(log, header, state, nav, action, reason),
     }
 }
 
-/// A poke that reaches a document waits in the process of all documents.
+/// A poke that reaches a document waits in the document's process.
 fn accept_here(
     log: &mut Log,
     header: &Header,
@@ -131,7 +149,7 @@ fn accept_here(
     ensures front { OnErr result (take (length log.old) log.new ≡ log.old) }
 {
     let req = next_request(&state.endings);
-    let proc = state.coordinator.tables.home;
+    let proc = home_of(&state.coordinator, doc);
     let kept = action.copy()?;
     add(&mut state.endings, None)?;
     let poke = Poke {

@@ -1,9 +1,9 @@
 //! The event in which the coordinator takes a report.
-ghost use Rattle.std.specs.Prelude.{◌≡◌, ◌<◌, [], length, slice_get, take, Some, IfOk, IfErr, OnOk, OnErr};
-ghost use Rattle.frame_coord.specs.Standing.{HasActed, HasRoomFor, StandsFor};
+ghost use Rattle.std.specs.Prelude.{◌≡◌, ◌<◌, [], length, slice_get, take, Some, IfErr, IfOk, OnErr, OnOk};
+ghost use Rattle.coord.specs.Delivering.{InDelivery};
+ghost use Rattle.coord.specs.Standing.{HasActed, IsOpenTo};
 ghost use Rattle.log_model.specs.Logs.{seen_of};
 ghost use Rattle.log_model.specs.Seen.{desk_of};
-ghost use Rattle.seen_laws.specs.InEvent.{InEvent};
 ghost use Rattle.proc_tables.specs.Desks.{desk_at};
 ghost use Rattle.world.specs.declared.event.Event.TheVariants as events;
 ghost use Rattle.world.specs.Asking.{delivering};
@@ -15,7 +15,7 @@ use crate::event::Reply;
 use crate::logging::{log_row, log_work};
 use crate::state::State;
 use address::OutOfMemory;
-use frame_coord::Coordinator;
+use coord::Coordinator;
 use history_log::Log;
 use log_model::{Actor, Header, Out, Report, RowKind};
 use std::alloc::Global;
@@ -73,14 +73,12 @@ fn take(
     proc: ProcId,
     report: &Report,
 ) -> Result<(), OutOfMemory>
-    ghost e: { InEvent }
-    requires is { e ≡ delivering header.now log.now proc }
-    requires stands { StandsFor (seen_of log.now) coordinator.old }
-    requires home { coordinator.old.tables.home ≡ proc }
+    ghost d: { InDelivery }
+    requires is { d ≡ delivering header.now log.now proc report.now }
+    requires open_ { IsOpenTo d.event coordinator.old }
     requires waits { slice_get (desk_of (seen_of log.now) proc).reports 0 ≡ Some report.now }
-    requires room { HasRoomFor (seen_of log.now) }
     requires first { out.old ≡ [] }
-    ensures acted { OnOk result (HasActed (delivering header.now log.now proc) out.new coordinator.new) }
+    ensures acted { OnOk result (HasActed (delivering header.now log.now proc report.now).event out.new coordinator.new) }
 {
-    coordinator.deliver(alloc, out, report)
+    coordinator.deliver(alloc, out, proc, report)
 }

@@ -1,29 +1,55 @@
 //! `Event`, what may happen in a tab, and `Reply`, what a step answers.
-use log_model::{Action, Order};
+use address::Address;
+use log_model::{Action, Mode, Order};
 use proc_work::Done;
 use tab_ids::{NavId, ProcId, ReqId};
 
 /// What may happen next.
 #[derive(Drop)]
 pub enum Event {
+    /// A request: a navigable is to navigate to an address.
+    Load {
+        nav: NavId,
+        mode: Mode,
+        address: Address,
+    },
     /// A request: the tab is to traverse its history by a delta.
-    Go { delta: i32 },
+    Go {
+        delta: i32,
+    },
     /// A request: the running document of a navigable is to act.
-    Poke { nav: NavId, action: Action },
+    Poke {
+        nav: NavId,
+        action: Action,
+    },
+    /// The user has the document discarded that is kept longest.
+    Evict,
     /// A process lets its document act on the first poke of its input.
-    Act { proc: ProcId },
+    Act {
+        proc: ProcId,
+    },
     /// A process takes up the first order of its mail.
-    Begin { proc: ProcId },
+    Begin {
+        proc: ProcId,
+    },
     /// A process has worked on the order in hand.
-    Finish { proc: ProcId, done: Done },
+    Finish {
+        proc: ProcId,
+        done: Done,
+    },
     /// The coordinator takes the first report of a process.
-    Deliver { proc: ProcId },
+    Deliver {
+        proc: ProcId,
+    },
 }
 
-/// What a step answers. `Busy`, `Stale` and `Empty` change nothing.
+/// What a step answers. `NothingKept`, `Busy`, `Stale` and `Empty` change nothing.
 #[derive(Drop)]
 pub enum Reply {
     Accepted(ReqId),
+    Evicted,
+    /// No document is kept.
+    NothingKept,
     Acted,
     Took(Order),
     /// The order was sent to an earlier incarnation of the process, and is void.

@@ -1,21 +1,25 @@
 //! The events that log nothing.
 ghost use Rattle.std.specs.Prelude.{◌≡◌, ◌==◌, None, Some, is_some, length, not, if◌then◌else◌};
 ghost use Rattle.log_model.specs.Equal.{holds};
+ghost use Rattle.coord.specs.Standing.{StandsFor};
+ghost use Rattle.log_model.specs.Seen.{Seen};
 ghost use Rattle.proc_tables.specs.Desks.{desk_at};
 ghost use Rattle.world.specs.Steps.{idle_at};
 
 use crate::event::{Event, Reply};
 use crate::reading::{in_hand, waiting};
+use coord::Coordinator;
 use proc_tables::Desks;
 use proc_work::Done;
 use tab_ids::ProcId;
 
 /// The answer to an event that logs nothing.
-pub(crate) fn idle(desks: &Desks, event: &Event) -> Option<Reply>
-    ensures { result ≡ idle_at (desk_at desks.now) event.now }
+pub(crate) fn idle(desks: &Desks, coordinator: &Coordinator, event: &Event) -> Option<Reply>
+    ensures { (s : Seen) → StandsFor s coordinator.now → result ≡ idle_at (desk_at desks.now) s.kept event.now }
 {
     match event {
-        Event::Go { .. } | Event::Poke { .. } => None,
+        Event::Load { .. } | Event::Go { .. } | Event::Poke { .. } => None,
+        Event::Evict => unless(has_kept(coordinator), Reply::NothingKept),
         Event::Act { proc } => unless(has_poke(desks, *proc), Reply::Empty),
         Event::Begin { proc } => {
             if is_busy(desks, *proc) {
@@ -26,6 +30,13 @@ pub(crate) fn idle(desks: &Desks, event: &Event) -> Option<Reply>
         Event::Finish { proc, done } => unless(has_in_hand(desks, *proc, done), Reply::Stale),
         Event::Deliver { proc } => unless(has_report(desks, *proc), Reply::Empty),
     }
+}
+
+/// Whether a document is kept.
+fn has_kept(coordinator: &Coordinator) -> bool
+    ensures { (s : Seen) → StandsFor s coordinator.now → result ≡ not (length s.kept == 0) }
+{
+    coordinator.longest_kept().is_some()
 }
 
 /// Whether a poke waits in a process.

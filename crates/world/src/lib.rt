@@ -1,4 +1,4 @@
-//! `World`, one tab of frames under one step: a contract sees its settings, its log, and whether it is closed.
+//! `World`, one tab under one step: a contract sees its settings, its log, and whether it is closed.
 #![tactic(auto)]
 
 mod accepting;
@@ -6,6 +6,8 @@ mod delivering;
 mod endings;
 mod error;
 mod event;
+mod evicting;
+mod finishing;
 mod idling;
 mod logging;
 mod opening;

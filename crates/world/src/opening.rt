@@ -1,11 +1,15 @@
-//! Where the first document lives.
-ghost use Rattle.std.specs.Prelude.{◌≡◌, bytes_eq, find};
+//! Where the first document lives, and the log with which a tab opens.
+ghost use Rattle.std.specs.Prelude.{◌≡◌, ◌∷◌, [], IfOk, bytes_eq, find};
 ghost use Rattle.std.specs.Option.{option_copied};
 ghost use Rattle.log_model.specs.Suits.{process_of_origin};
 ghost use Rattle.world.specs.Open as spec;
+ghost use Rattle.world.specs.Opening.{opening_row};
 
-use log_model::{Header, Site};
-use tab_ids::ProcId;
+use address::OutOfMemory;
+use history_log::Log;
+use log_model::{Actor, Header, LogRow, RowKind, Site};
+use std::alloc::Global;
+use tab_ids::{DocId, EntryId, ProcId, StateId};
 
 /// The process of the first document.
 #[tactic(auto, unfolding(crate::specs::Open::opening_process))]
@@ -33,4 +37,26 @@ fn site_of<'a>(sites: &'a [Site], origin: &[u8]) -> Option<&'a Site>
     ensures { option_copied result ≡ find (λ site. bytes_eq site.origin origin.now) sites.now }
 {
     sites.iter().find(|site| site.origin.bytes() == origin)
+}
+
+/// The log of a tab that was just opened, with its document in a process.
+pub(crate) fn opening_log(alloc: Global, header: &Header, proc: ProcId) -> Result<Log, OutOfMemory>
+    ensures { IfOk result (λ log. log ≡ opening_row header.now.first proc ∷ []) }
+{
+    let address = header.first.copy()?;
+    Log::fresh(
+        alloc,
+        LogRow {
+            event: 0,
+            actor: Actor::Start,
+            row: RowKind::Opened {
+                entry: EntryId { maker: 0, nr: 1 },
+                state: StateId(1),
+                doc: DocId(1),
+                proc,
+                slot: None,
+                address,
+            },
+        },
+    )
 }

@@ -1,17 +1,19 @@
 //! What waits in a process, what it has in hand, and whom a poke reaches.
-ghost use Rattle.std.specs.Prelude.{◌≡◌, Some, IfErr, IfOk, length};
+ghost use Rattle.std.specs.Prelude.{◌≡◌, Some, IfErr, IfOk, IsSome, length};
 ghost use Rattle.std.specs.Option.{option_copied};
 ghost use Rattle.log_model.specs.Causes.{denial_of_poke};
 ghost use Rattle.log_model.specs.Equal.{holds};
 ghost use Rattle.log_model.specs.Seen.{Seen};
 ghost use Rattle.proc_tables.specs.Desks.{desk_at};
 ghost use Rattle.proc_tables.specs.Views.{view_at};
+ghost use Rattle.tab_doors.specs.Ties.{proc_in};
 ghost use Rattle.world.specs.Reaching.{AreOf, Reaches};
 
 use crate::event::Waiting;
-use frame_coord::Coordinator;
+use coord::Coordinator;
 use log_model::{Denial, Order};
 use proc_tables::{Desks, Views};
+use running_table::Runners;
 use tab_ids::{DocId, NavId, ProcId};
 
 /// How many pokes, orders and reports wait in a process.
@@ -64,21 +66,29 @@ pub(crate) fn runs(views: &Views, doc: DocId) -> bool
     }
 }
 
-/// The document that a poke of a navigable reaches, or the reason that denies it.
-pub(crate) fn reached(coordinator: &Coordinator, views: &Views, nav: NavId) -> Result<DocId, Denial>
-    ensures reached { IfOk result (λ doc. (s : Seen) → AreOf s coordinator.now views.now → Reaches s nav doc) }
-    ensures denied { IfErr result (λ reason. (s : Seen) → AreOf s coordinator.now views.now → denial_of_poke s nav ≡ Some reason) }
+/// The process in which a document that was made lives.
+pub(crate) fn home_of(coordinator: &Coordinator, doc: DocId) -> ProcId
+    requires { IsSome (proc_in coordinator.now.tables.whose.entries doc) }
+    ensures { proc_in coordinator.now.tables.whose.entries doc ≡ Some result }
 {
-    let made = coordinator.made_document(nav);
-    if !coordinator.has_entry(nav) {
+    coordinator.tables.proc_there(doc)
+}
+
+/// The document that a poke of a navigable reaches, or the reason that denies it.
+pub(crate) fn reached(
+    coordinator: &Coordinator,
+    runners: &Runners,
+    nav: NavId,
+) -> Result<DocId, Denial>
+    ensures reached { IfOk result (λ doc. (s : Seen) → AreOf s coordinator.now runners.now → Reaches s nav doc) }
+    ensures denied { IfErr result (λ reason. (s : Seen) → AreOf s coordinator.now runners.now → denial_of_poke s nav ≡ Some reason) }
+{
+    let newest = runners.newest(nav);
+    if !coordinator.has_row(nav) {
         return Err(Denial::NoNavigable);
     }
-    let Some(doc) = made else {
-        return Err(Denial::NoDocument);
-    };
-    if runs(views, doc) {
-        Ok(doc)
-    } else {
-        Err(Denial::NoDocument)
+    match newest {
+        Some(doc) => Ok(doc),
+        None => Err(Denial::NoDocument),
     }
 }

@@ -1,4 +1,4 @@
-//! The events in which a process acts, takes up an order, and finishes it.
+//! The events in which a process lets a document act, and takes up an order.
 ghost use Rattle.std.specs.Prelude.{◌≡◌, Bool, ◌++◌, ◌<◌, ◌∷◌, [], length, take, IsSome, None, IfOk, IfSome, IfErr, OnErr, OnOk, option_map};
 ghost use Rattle.doc_view.specs.Jobs.{IsForView};
 ghost use Rattle.log_model.specs.declared.outcome.Ending.TheVariants as ends;
@@ -12,7 +12,7 @@ ghost use Rattle.proc_work.specs.Work as worked;
 ghost use Rattle.world.specs.declared.event.Event.TheVariants as events;
 ghost use Rattle.world.specs.Notes.{ended_in, row_with};
 ghost use Rattle.world.specs.Open.{IsOpen, row_limit};
-ghost use Rattle.world.specs.Shows.{IsFrameTask, Shows, shown_after};
+ghost use Rattle.world.specs.Shows.{Shows, shown_after};
 ghost use Rattle.world.specs.Turns.{HasGone, Shuts};
 
 use crate::endings::end;
@@ -141,91 +141,4 @@ pub(crate) fn begin(
     log_row(log, state.events, Actor::Proc(proc), own)?;
     state.events += 1;
     Ok(Reply::Took(taken))
-}
-
-/// A process finishes the order in hand.
-pub(crate) fn finish(
-    log: &mut Log,
-    header: &Header,
-    state: &mut State,
-    proc: ProcId,
-) -> Result<Reply, StepError>
-    requires open { IsOpen header.now log.old state.old }
-    requires short { length log.old < row_limit }
-    requires due { IsSome (desk_at state.old.desks proc).in_hand }
-    ensures gone { (done : worked.Done) → IfOk result (λ reply. HasGone header.now (events.Finish proc done) reply log.old log.new state.new) }
-    ensures shuts { IfErr result Shuts }
-    ensures front { OnErr result (take (length log.old) log.new ≡ log.old) }
-{
-    let Some(order) = state.desks.let_go(proc) else {
-        unreachable!()
-    };
-    let Order { job, dirty: _ } = order;
-    let nr = job.nr;
-    let outcome = work(&mut state.views, &job)?;
-    state
-        .desks
-        .add(proc, Item::Report(Report::Done(job, outcome, None)))?;
-    let own = RowKind::Finished {
-        proc,
-        job: nr,
-        outcome,
-    };
-    log_row(log, state.events, Actor::Proc(proc), own)?;
-    state.events += 1;
-    Ok(Reply::Finished)
-}
-
-/// Does an order at its document, and answers how it went.
-fn work(views: &mut Views, job: &Job) -> Result<Outcome, OutOfMemory>
-    requires room { IfSome (view_at views.old job.now.doc) HasRoom }
-    requires doc { IfSome (view_at views.old job.now.doc) (λ view. job.now.doc ≡ view.doc) }
-    requires task { IsFrameTask job.now.task }
-    ensures outcome { IfOk result (λ outcome. (dirty : Bool) → outcome ≡ outcome_of_task job.now.task dirty None) }
-    ensures view { OnOk result (Shows job.now.doc (shown_after job.now.doc (view_at views.old job.now.doc) job.now.task) views.old views.new) }
-{
-    let outcome = outcome_of(&job.task);
-    match &job.task {
-        Task::Populate {
-            address,
-            initial,
-            ..
-        } => {
-            let address = address.copy()?;
-            views.add(job.doc, View::fresh(job.doc, address, *initial))?;
-        }
-        Task::Discard => views.remove(job.doc),
-        Task::Activate { .. } => tell(views, job)?,
-        Task::Update { .. } => tell(views, job)?,
-        Task::Freeze | Task::Ask { .. } | Task::DoFragment { .. } => unreachable!(),
-    }
-    Ok(outcome)
-}
-
-/// Lets the document of an order do it, where it is there.
-fn tell(views: &mut Views, job: &Job) -> Result<(), OutOfMemory>
-    requires room { IfSome (view_at views.old job.now.doc) HasRoom }
-    requires doc { IfSome (view_at views.old job.now.doc) (λ view. job.now.doc ≡ view.doc) }
-    requires task { IsForView job.now.task }
-    ensures view { OnOk result (Shows job.now.doc (option_map (λ view. after_task view job.now.task) (view_at views.old job.now.doc)) views.old views.new) }
-{
-    if views.of(job.doc).is_some() {
-        views.do_job(job)?;
-    }
-    Ok(())
-}
-
-/// What comes of an order, where no document has a handler.
-fn outcome_of(task: &Task) -> Outcome
-    ensures { (dirty : Bool) → result ≡ outcome_of_task task.now dirty None }
-{
-    match task {
-        Task::Populate { .. } => Outcome::Populated(None),
-        Task::Activate { .. } => Outcome::Activated,
-        Task::Update { .. } => Outcome::Updated,
-        Task::Freeze => Outcome::Frozen,
-        Task::Discard => Outcome::Discarded,
-        Task::Ask { .. } => Outcome::Asked(Verdict::Leave),
-        Task::DoFragment { .. } => Outcome::Fragmented,
-    }
 }

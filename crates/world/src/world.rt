@@ -1,4 +1,4 @@
-//! `World`, one tab of frames: a contract sees its settings, its log, and whether it is closed.
+//! `World`, one tab: a contract sees its settings, its log, and whether it is closed.
 ghost use Rattle.std.specs.Prelude.{◌≡◌, ◌↔◌, ◌<◌, ◌≤◌, ◌==◌, ◌∷◌, [], true, false, None, IfOk, IfErr, OnErr, IsErrOf, length, take};
 ghost use Rattle.std.specs.Option.{option_copied, option_and_then};
 ghost use Rattle.log_model.specs.declared.header.Header.{Header};
@@ -6,41 +6,45 @@ ghost use Rattle.log_model.specs.ActsAtOnce.{ActsAtOnce};
 ghost use Rattle.log_model.specs.Legal.{IsLegal};
 ghost use Rattle.log_model.specs.Limits.{BeginsBelow};
 ghost use Rattle.log_model.specs.Suits.{Suits};
-ghost use Rattle.log_model.specs.Formed.{running_documents};
 ghost use Rattle.log_model.specs.History.{has_row};
-ghost use Rattle.log_model.specs.Logs.{seen_of, history_of, in_hand_of, input_of, mail_of, reports_of, is_idle, is_still, is_quiet};
+ghost use Rattle.log_model.specs.Logs.{seen_of, history_of, in_hand_of, input_of, mail_of, reports_of, is_still, is_quiet};
 ghost use Rattle.log_model.specs.Order.{SameHistory};
 ghost use Rattle.log_model.specs.Places.{is_shown};
-ghost use Rattle.log_model.specs.Seen.{desk_of};
+ghost use Rattle.log_model.specs.Formed.{running_documents};
+ghost use Rattle.log_model.specs.LoadsEndInTime.{LoadsEndInTime};
 ghost use Rattle.step_index.specs.Held.{history_held};
 ghost use Rattle.world.specs.Kept.{OpensAs, OpensUnhandled};
 ghost use Rattle.world.specs.Open.{IsOpen, endings_of, opening_process, row_limit};
 ghost use Rattle.world.specs.Opening.{opening_row};
+ghost use Rattle.world.specs.Sited.{SomeWaits};
 ghost use Rattle.world.specs.Steps.{IsBuilt, Steps, idle_reply, reached_in};
 ghost use Rattle.world.specs.Turns.{HasGone, Shuts};
 
-use crate::accepting::{accept_go, accept_poke};
+use crate::accepting::{accept_ask, accept_poke};
 use crate::delivering::deliver;
 use crate::error::StepError;
 use crate::event::{Event, Reply, Waiting};
+use crate::evicting::evict;
+use crate::finishing::finish;
 use crate::idling::idle;
-use crate::opening::opening_process;
+use crate::opening::{opening_log, opening_process};
 use crate::reading::{in_hand, reached, waiting};
 use crate::state::{State, opened_at};
-use crate::working::{act, begin, finish};
+use crate::working::{act, begin};
 use address::OutOfMemory;
+use coord::Ask;
 use doc_view::View;
 use history_log::Log;
-use log_model::{Actor, Ending, Header, LogRow, Order, RowKind};
+use log_model::{Ending, Header, Order};
 use std::alloc::Global;
 use std::marker::Model;
 use step_index::StepIndex;
-use tab_ids::{DocId, EntryId, NavId, ProcId, StateId};
+use tab_ids::{NavId, ProcId};
 
 /// No event that logs begins at this many rows or more.
 const ROW_LIMIT: usize = 1_000_000;
 
-/// A tab of frames, with all its documents in the process of the site at which it opened.
+/// A tab, with its documents in the processes of their sites.
 ///
 /// What the log has come to is kept beside it: no step reads the log again.
 #[derive(Drop)]
@@ -68,26 +72,11 @@ impl World {
         ensures suits { OpensUnhandled header.now → IfOk result (λ world. Suits header.now world.log) }
     {
         let proc = opening_process(header);
-        let state = opened_at(alloc, &header.first, proc)?;
-        let address = header.first.copy()?;
-        let header = header.copy(alloc)?;
-        let log = Log::fresh(
-            alloc,
-            LogRow {
-                event: 0,
-                actor: Actor::Start,
-                row: RowKind::Opened {
-                    entry: EntryId { maker: 0, nr: 1 },
-                    state: StateId(1),
-                    doc: DocId(1),
-                    proc,
-                    slot: None,
-                    address,
-                },
-            },
-        )?;
+        let log = opening_log(alloc, header, proc)?;
+        let settings = header.copy(alloc)?;
+        let state = opened_at(alloc, header, proc)?;
         Ok(World {
-            header,
+            header: settings,
             log,
             state,
             closed: false,
@@ -106,6 +95,7 @@ impl World {
         // What holds of the log, whatever is answered.
         ensures legal { IsLegal self.new.log }
         ensures at_once { ActsAtOnce self.new.log }
+        ensures loads_end { LoadsEndInTime self.new.log }
         ensures suits { self.new.header.pages ≡ [] → OpensAs self.new.header self.new.log → Suits self.new.header self.new.log }
         ensures limited { BeginsBelow row_limit self.new.log }
     {
@@ -127,7 +117,7 @@ impl World {
         if self.closed {
             return Err(StepError::Closed);
         }
-        if let Some(reply) = idle(&self.state.desks, &event) {
+        if let Some(reply) = idle(&self.state.desks, &self.state.coordinator, &event) {
             return Ok(reply);
         }
         let before = self.log.len();
@@ -156,6 +146,7 @@ impl World {
         ensures log { result.now ≡ self.now.log }
         ensures legal { IsLegal self.now.log }
         ensures at_once { ActsAtOnce self.now.log }
+        ensures loads_end { LoadsEndInTime self.now.log }
         ensures suits { self.now.header.pages ≡ [] → OpensAs self.now.header self.now.log → Suits self.now.header self.now.log }
         ensures limited { BeginsBelow row_limit self.now.log }
     {
@@ -169,6 +160,7 @@ impl World {
         ensures log { result ≡ self.log }
         ensures legal { IsLegal self.log }
         ensures at_once { ActsAtOnce self.log }
+        ensures loads_end { LoadsEndInTime self.log }
         ensures suits { self.header.pages ≡ [] → OpensAs self.header self.log → Suits self.header self.log }
         ensures limited { BeginsBelow row_limit self.log }
     {
@@ -184,13 +176,18 @@ impl World {
     /// The view of the document that a poke of the navigable reaches.
     pub fn view(&self, nav: NavId) -> Option<&View>
         ensures view { self.now.closed ≡ false → option_copied result ≡ option_and_then (λ document. document.view) (reached_in (seen_of self.now.log) nav) }
-        // At most one document of a navigable runs.
-        ensures sole { self.now.closed ≡ false → length (running_documents (seen_of self.now.log) nav) ≤ 1 }
     {
-        match reached(&self.state.coordinator, &self.state.views, nav) {
+        match reached(&self.state.coordinator, &self.state.runners, nav) {
             Ok(doc) => self.state.views.of(doc),
             Err(_) => None,
         }
+    }
+
+    /// Whether exactly one document of the navigable runs.
+    pub fn is_sole(&self, nav: NavId) -> bool
+        ensures sole { self.now.closed ≡ false → result ≡ (length (running_documents (seen_of self.now.log) nav) == 1) }
+    {
+        self.state.runners.count(nav) == 1
     }
 
     /// Whether a navigable with an entry is shown at the current step: it is the top, or it hangs on the document state of its shown parent's target. HTML Standard, "Navigables".
@@ -221,8 +218,8 @@ impl World {
     /// Whether nothing is in transit.
     pub fn is_still(&self) -> bool
         ensures still { self.now.closed ≡ false → result ≡ is_still (seen_of self.now.log) }
-        // What is in transit waits in the process of all documents.
-        ensures home { self.now.closed ≡ false → result ≡ is_idle (desk_of (seen_of self.now.log) (opening_process self.now.header)) }
+        // What is in transit waits in a process of the settings.
+        ensures sited { self.now.closed ≡ false → result ≡ false → SomeWaits self.now.header (seen_of self.now.log) }
     {
         self.state.desks.is_idle()
     }
@@ -264,8 +261,16 @@ fn go(log: &mut Log, header: &Header, state: &mut State, event: Event) -> Result
     ensures front { OnErr result (take (length log.old) log.new ≡ log.old) }
 {
     match event {
-        Event::Go { delta } => accept_go(log, header, state, delta),
+        Event::Load { nav, mode, address } => {
+            let ask = Ask::Load { nav, mode, address };
+            accept_ask(log, header, state, &ask)
+        }
+        Event::Go { delta } => {
+            let ask = Ask::Go { delta };
+            accept_ask(log, header, state, &ask)
+        }
         Event::Poke { nav, action } => accept_poke(log, header, state, nav, action),
+        Event::Evict => evict(log, header, state),
         Event::Act { proc } => act(log, header, state, proc),
         Event::Begin { proc } => begin(log, header, state, proc),
         Event::Finish { proc, .. } => finish(log, header, state, proc),

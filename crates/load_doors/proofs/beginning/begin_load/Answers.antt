@@ -1,7 +1,7 @@
 use Rattle.std.proofs.Common.{ap, ◌∙◌}
 use Rattle.load_table.specs.Loads.{ongoing_load}
 use Rattle.load_table.specs.declared.load.Load.{Load}
-use Rattle.load_ties.proofs.Begins.{begun_own}
+use Rattle.seen_facts.proofs.LoadTies.Begins.{begun_own}
 use Rattle.std.specs.Prelude.{List}
 use Rattle.tab_doors.proofs.Works.{next_work}
 use Rattle.load_doors.proofs.Begun.{begin_load_work}

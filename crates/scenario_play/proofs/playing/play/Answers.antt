@@ -18,8 +18,8 @@ suits_as header kept log same none suits =
 pub play_lines-played-requires-clause-built : goal.play_lines-played-requires-clause-built
 play_lines-played-requires-clause-built c = rw (c.as_slice.ensures, lines_of c.scenario.view_is) c.requires.built
 
-pub play_lines-played-requires-clause-turn : goal.play_lines-played-requires-clause-turn
-play_lines-played-requires-clause-turn c = rw c.requires.header c.requires.turn
+pub play_lines-played-requires-clause-turns : goal.play_lines-played-requires-clause-turns
+play_lines-played-requires-clause-turns c = rw c.requires.header c.requires.turns
 
 pub returns-in-Ok-clause-follows : goal.returns-in-Ok-clause-follows
 returns-in-Ok-clause-follows c e =

@@ -7,14 +7,14 @@ use Rattle.scenario_play.proofs.LeadLaws.{failed, plays_none, line_leads, line_c
 use Rattle.scenario_play.proofs.playing.play_lines.Goals as goal
 
 pub loop-line-init : goal.loop-line-init
-loop-line-init c = record { opened = c.requires.open; header = refl; turn = c.requires.turn; played = plays_none c.args.world.now.log }
+loop-line-init c = record { opened = c.requires.open; header = refl; turns = c.requires.turns; played = plays_none c.args.world.now.log }
 
 pub loop-line-preserved : goal.loop-line-preserved
 loop-line-preserved c =
     record {
       opened = c.in_ok-play_line.ensures.open;
       header = c.play_line.ensures.header ∙ c.loop-line.invariant.header;
-      turn = rw c.play_line.ensures.header c.loop-line.invariant.turn;
+      turns = rw c.play_line.ensures.header c.loop-line.invariant.turns;
       played = line_leads c.args.lines.now c.loop-line.line-index c.line-item.result _ _ _ c.loop-line-test.true c.line-item.is c.loop-line.invariant.played c.in_ok-play_line.ensures.plays;
     }
 

@@ -1,14 +1,13 @@
 use Rattle.std.proofs.Common.{◌≡◌, false, take}
 use Rattle.scenario_text.specs.Follows.{plays}
-use Rattle.world.specs.Open.{opening_process}
 use Rattle.scenario_play.specs.Courses.{Leads}
-use Rattle.scenario_play.specs.Moves.{HasTurn}
+use Rattle.scenario_play.specs.Moves.{HaveTurns}
 use Rattle.scenario_play.proofs.playing.play_lines.Given as goal
 
 abbrev pub invariant-loop-line : goal.invariant-loop-line
 invariant-loop-line l = record {
   opened : l.world.closed ≡ false;
   header : l.world.header ≡ l.fn.world.header;
-  turn : HasTurn (opening_process l.world.header);
+  turns : HaveTurns l.world.header;
   played : Leads (plays (take l.line-index l.lines)) l.fn.world.log l.world.log;
 }

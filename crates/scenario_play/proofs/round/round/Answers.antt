@@ -10,7 +10,7 @@ loop-number-init c =
     record {
       opened = c.requires.open;
       header = refl;
-      moved = none_moved _ _ c.requires.turn.0;
+      moved = λ busy turn. none_moved _ _ turn.0;
       played = all_done c.args.world.now.log;
     }
 
@@ -19,7 +19,7 @@ loop-number-preserved c =
     record {
       opened = c.in_ok-turn.ensures.moves.opened;
       header = c.turn.ensures.header ∙ c.loop-number.invariant.header;
-      moved = moved_more _ c.loop-number.number _ _ _ c.requires.busy c.loop-number.invariant.moved c.in_ok-turn.ensures.moves;
+      moved = λ busy turn. moved_more _ c.loop-number.number _ _ _ busy.busy (c.loop-number.invariant.moved busy turn) c.in_ok-turn.ensures.moves;
       played = turn_more c.loop-number.number _ _ _ (omega (arith, c.loop-number.auto.number)) c.loop-number.invariant.played c.in_ok-turn.ensures.plays;
     }
 
@@ -29,11 +29,13 @@ returns-in_err-turn-clause-plays c =
 
 pub returns-clause-longer : goal.returns-clause-longer
 returns-clause-longer c =
-    (c.loop-number.invariant.moved.grown (omega (arith, c.loop-number-test.false, c.requires.turn.1))).longer
+    let turn = c.requires.turns c.requires.busy.proc c.requires.busy.sited in
+    ((c.loop-number.invariant.moved c.requires.busy turn).grown (omega (arith, c.loop-number-test.false, turn.1))).longer
 
 pub returns-clause-below : goal.returns-clause-below
 returns-clause-below c =
-    (c.loop-number.invariant.moved.grown (omega (arith, c.loop-number-test.false, c.requires.turn.1))).below
+    let turn = c.requires.turns c.requires.busy.proc c.requires.busy.sited in
+    ((c.loop-number.invariant.moved c.requires.busy turn).grown (omega (arith, c.loop-number-test.false, turn.1))).below
 
 pub returns-clause-plays : goal.returns-clause-plays
 returns-clause-plays c =

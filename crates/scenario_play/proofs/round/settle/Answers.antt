@@ -1,17 +1,21 @@
-use Rattle.std.proofs.Common.{refl, sym, ◌∙◌}
+use Rattle.std.proofs.Common.{arith, refl, sym, ◌∙◌}
 use Rattle.scenario_text.specs.Follows.{settles}
 use Rattle.scenario_play.proofs.LeadLaws.{failed, no_rounds, one_more_round, rounds_settle, rounds_cut}
 use Rattle.scenario_play.proofs.round.settle.Goals as goal
 
 pub rounds-init : goal.rounds-init
-rounds-init c = record { opened = c.requires.open; header = refl; turn = c.requires.turn; played = no_rounds _ }
+rounds-init c = record { opened = c.requires.open; header = refl; turns = c.requires.turns; played = no_rounds _ }
+
+pub round-requires-clause-busy : goal.round-requires-clause-busy
+round-requires-clause-busy c =
+    c.rounds-test.ensures.sited c.rounds.invariant.opened (grind (arith, c.rounds-test.true))
 
 pub rounds-preserved : goal.rounds-preserved
 rounds-preserved c =
     record {
       opened = c.in_ok-round.ensures.open;
       header = c.round.ensures.header ∙ c.rounds.invariant.header;
-      turn = rw c.round.ensures.header c.rounds.invariant.turn;
+      turns = rw c.round.ensures.header c.rounds.invariant.turns;
       played = one_more_round _ _ _ c.rounds.invariant.played (sym (c.rounds-test.ensures.still c.rounds.invariant.opened)) c.in_ok-round.ensures.longer c.in_ok-round.ensures.plays;
     }
 

@@ -1,15 +1,15 @@
 -- Each round logs something, from below the limit on.
 use Rattle.std.proofs.Common.{◌≡◌, ◌-◌, false, length}
-use Rattle.world.specs.Open.{opening_process, row_limit}
+use Rattle.world.specs.Open.{row_limit}
 use Rattle.scenario_play.specs.Courses.{PlaysRounds}
-use Rattle.scenario_play.specs.Moves.{HasTurn}
+use Rattle.scenario_play.specs.Moves.{HaveTurns}
 use Rattle.scenario_play.proofs.round.settle.Given as goal
 
 abbrev pub invariant-rounds : goal.invariant-rounds
 invariant-rounds l = record {
   opened : l.world.closed ≡ false;
   header : l.world.header ≡ l.fn.world.header;
-  turn : HasTurn (opening_process l.world.header);
+  turns : HaveTurns l.world.header;
   played : PlaysRounds l.fn.world.log l.world.log;
 }
 

@@ -1,4 +1,4 @@
-use Rattle.each_facts.specs.Runs.{is_this}
+use Rattle.seen_facts.specs.Each.Runs.{is_this}
 use Rattle.std.proofs.Common.{Option, ap, refl}
 use Rattle.tab_applies.proofs.Dones.{apply_passing, has_applied}
 use Rattle.tab_applies.proofs.Dues.{apply_due, few_entries, given_some, given_there, may_change, no_maker, sees_rows}

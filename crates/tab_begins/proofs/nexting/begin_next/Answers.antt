@@ -2,6 +2,7 @@ use mir.Syntax.{w32}
 use mir.Val.{SFits}
 use Rattle.std.proofs.Common.{ap, inl, refl, rules, sym, ◌∙◌}
 use Rattle.std.proofs.lemmas.Int.{to_z-of_z}
+use Rattle.tab_begins.proofs.InNeed.{load_need, need_none, traverse_need}
 use Rattle.tab_begins.proofs.Nexts.{due_fewer, due_first, first_from, first_queue, none_queue, stand_here, undue_none}
 use Rattle.tab_begins.proofs.Turns.{after_applied, after_refused, begun_came, grown_none, load_asks, load_grown, load_live, made_same, no_reload, taken_queue_then, traverse_asks, traverse_calm, traverse_grown, traverse_live, traverse_made, traverse_over, traverse_queue}
 use Rattle.tab_begins.proofs.nexting.begin_next.Goals as goal
@@ -105,3 +106,24 @@ returns-in-None-clause-stood g c = sym (stand_here g.p _ _ c.requires.0 _ c.curr
 
 pub returns-in_ok-take_load-in-Ready-clause-stood : goal.returns-in_ok-take_load-in-Ready-clause-stood
 returns-in_ok-take_load-in-Ready-clause-stood g c = sym (stand_here g.p _ _ c.requires.0 _ c.current-current.ensures _ c.stand_at.ensures) ∙ c.if-not-stand_at.false
+
+pub returns-then-not-stand_at-clause-needs : goal.returns-then-not-stand_at-clause-needs
+returns-then-not-stand_at-clause-needs g c = need_none _ _
+
+pub returns-in_default-clause-needs : goal.returns-in_default-clause-needs
+returns-in_default-clause-needs g c = need_none _ _
+
+pub returns-in-Some-running-clause-needs : goal.returns-in-Some-running-clause-needs
+returns-in-Some-running-clause-needs g c =
+    let fits : SFits w32 c.in-Traverse.delta = search rules in
+    traverse_need g.p.event _ _ _ _ _ _ (traverse_asks g.p _ _ c.requires.0 c.requires.1.0 (sym (stand_here g.p _ _ c.requires.0 _ c.current-current.ensures _ c.stand_at.ensures) ∙ c.if-not-stand_at.false) c.requires.1.1.0 _ c.requires.1.1.1.0 _ _ (first_queue g.p _ _ c.requires.0 c.requires.1.0 (sym (stand_here g.p _ _ c.requires.0 _ c.current-current.ensures _ c.stand_at.ensures) ∙ c.if-not-stand_at.false) c.requires.1.1.0 _ c.requires.1.1.1.0 _ c.requires.1.1.1.1 _ _ (first_from _ _ _ _ c.in-Some.ensures.next)) _ _ c.in-Traverse.is _ (to_z-of_z w32 c.in-Traverse.delta fits)).1.1.1.0 c.in_ok-take_traversal-in-Traverse.ensures.gone
+
+pub returns-in-None-clause-needs : goal.returns-in-None-clause-needs
+returns-in-None-clause-needs g c =
+    let fits : SFits w32 c.in-Traverse.delta = search rules in
+    traverse_need g.p.event _ _ _ _ _ _ (traverse_asks g.p _ _ c.requires.0 c.requires.1.0 (sym (stand_here g.p _ _ c.requires.0 _ c.current-current.ensures _ c.stand_at.ensures) ∙ c.if-not-stand_at.false) c.requires.1.1.0 _ c.requires.1.1.1.0 _ _ (first_queue g.p _ _ c.requires.0 c.requires.1.0 (sym (stand_here g.p _ _ c.requires.0 _ c.current-current.ensures _ c.stand_at.ensures) ∙ c.if-not-stand_at.false) c.requires.1.1.0 _ c.requires.1.1.1.0 _ c.requires.1.1.1.1 _ _ (first_from _ _ _ _ c.in-Some.ensures.next)) _ _ c.in-Traverse.is _ (to_z-of_z w32 c.in-Traverse.delta fits)).1.1.1.0 c.in_ok-take_traversal-in-Traverse.ensures.gone
+
+pub returns-in_ok-take_load-in-Ready-clause-needs : goal.returns-in_ok-take_load-in-Ready-clause-needs
+returns-in_ok-take_load-in-Ready-clause-needs g c =
+    let asks = load_asks g.p _ _ c.requires.0 c.requires.1.0 (sym (stand_here g.p _ _ c.requires.0 _ c.current-current.ensures _ c.stand_at.ensures) ∙ c.if-not-stand_at.false) c.requires.1.1.0 _ c.requires.1.1.1.0 _ _ (first_queue g.p _ _ c.requires.0 c.requires.1.0 (sym (stand_here g.p _ _ c.requires.0 _ c.current-current.ensures _ c.stand_at.ensures) ∙ c.if-not-stand_at.false) c.requires.1.1.0 _ c.requires.1.1.1.0 _ c.requires.1.1.1.1 _ _ (first_from _ _ _ _ c.in-Some.ensures.next)) _ _ c.in-Ready.is (sym (ap (is_due_in c.args.tables.now.loads) c.in-Ready.is) ∙ due_first _ _ _ _ (first_from _ _ _ _ c.in-Some.ensures.next)) in
+    load_need g.p _ _ _ _ _ asks.1.1.0 _ asks.1.1.1.0 c.in_ok-take_load-in-Ready.ensures.taken c.in_ok-take_load-in-Ready.ensures.last

@@ -1,6 +1,6 @@
 use Rattle.std.proofs.Common.{false, Ok, ap, ◌∙◌}
 use Rattle.scenario_text.specs.Scenarios.{Scenario}
-use Rattle.scenario_play.proofs.Spelled.{spelled_built, spelled_pages, spelled_turn, spelled_unhandled}
+use Rattle.scenario_play.proofs.Spelled.{spelled_built, spelled_pages, spelled_turns, spelled_unhandled}
 use Rattle.tab_call.proofs.CallLaws.{follows_read, played_read, reads_such}
 use Rattle.tab_call.proofs.call.play_source.Goals as goal
 
@@ -13,9 +13,9 @@ play-played-requires-clause-suits g c =
     let same = ap (λ (s : Scenario). s.header) c.scenario.view_is in
     rw same at (c.in-Ok-fresh.ensures.suits (rw same (spelled_unhandled false c.in-Ok.ensures.bytes c.in-Ok.scenario (c.in-Ok.ensures.spells ∙ ap Ok c.in-Ok.ensures.such))))
 
-pub play-played-requires-clause-turn : goal.play-played-requires-clause-turn
-play-played-requires-clause-turn g c =
-    spelled_turn false c.in-Ok.ensures.bytes c.in-Ok.scenario (c.in-Ok.ensures.spells ∙ ap Ok c.in-Ok.ensures.such)
+pub play-played-requires-clause-turns : goal.play-played-requires-clause-turns
+play-played-requires-clause-turns g c =
+    spelled_turns false c.in-Ok.ensures.bytes c.in-Ok.scenario (c.in-Ok.ensures.spells ∙ ap Ok c.in-Ok.ensures.such)
 
 pub play-played-requires-clause-pages : goal.play-played-requires-clause-pages
 play-played-requires-clause-pages g c =

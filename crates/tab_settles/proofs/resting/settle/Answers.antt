@@ -1,7 +1,9 @@
-use Rattle.std.proofs.Common.{rules, ◌≡◌}
-use Rattle.tab_settles.proofs.Passed.{pass_asks, pass_ready_put, put_both, settled}
+use Rattle.log_model.specs.declared.row_kind.RowKind.{RowKind}
+use Rattle.std.proofs.Common.{List, rules, subst, sym, ◌≡◌}
+use Rattle.tab_settles.proofs.LoadsOff.{off_turned}
+use Rattle.tab_settles.proofs.Passed.{pass_asks, pass_off, pass_ready_put, put_both, settled}
 use Rattle.tab_settles.proofs.resting.settle.Goals as goal
-use Rattle.tab_settles.specs.Settling.{HasSettled, IsReady}
+use Rattle.tab_settles.specs.Settling.{HasSettled, HasTurned, IsReady, LeavesOff}
 
 pub pass-requires : goal.pass-requires
 pass-requires g c =
@@ -16,8 +18,19 @@ returns-then-not-branch-clause-put g c =
     let settled_ : HasSettled g.p c.take_turn.new.out c.take_turn.new.tables c.take_turn.new.queue c.take_turn.new.blame.entries c.take_turn.new.reasons.cause = search rules in
     put_both g.p _ _ _ _ _ settled_.passing c.passes.invariant.1.0 (pass_ready_put g.p _ _ _ _ _ c.passes.invariant.0 _ _ c.in_ok-pass.ensures.only c.in_ok-pass.ensures.left) c.in_ok-take_turn.ensures.put
 
+pub returns-then-not-branch-clause-off : goal.returns-then-not-branch-clause-off
+returns-then-not-branch-clause-off g c =
+    let still : c.take_turn.new.out ≡ c.pass.new.out = search rules in
+    subst (λ (l : List RowKind). LeavesOff g.p.event c.args.out.now l) (sym still) (pass_off g.p.event _ _ _ _ _ _ c.passes.invariant.1.1.0 c.in_ok-pass.ensures.only c.in_ok-pass.ensures.left)
+
 pub passes-preserved : goal.passes-preserved
 passes-preserved g c =
     let ready : IsReady g.p c.take_turn.new.out c.take_turn.new.tables c.take_turn.new.queue c.take_turn.new.blame.entries c.take_turn.new.reasons.cause = search rules in
-    let handled : c.take_turn.new.reasons.handled ≡ c.args.reasons.now.handled = search rules in
-    (ready, (put_both g.p _ _ _ _ _ ready.passing c.passes.invariant.1.0 (pass_ready_put g.p _ _ _ _ _ c.passes.invariant.0 _ _ c.in_ok-pass.ensures.only c.in_ok-pass.ensures.left) c.in_ok-take_turn.ensures.put, handled))
+    let turned : HasTurned g.p.event c.pass.new.out c.take_turn.new.out = search rules in
+    let handled : c.take_turn.new.reasons.handled ≡ c.args.reasons.now.handled = search rules in (
+      ready,
+      (
+        put_both g.p _ _ _ _ _ ready.passing c.passes.invariant.1.0 (pass_ready_put g.p _ _ _ _ _ c.passes.invariant.0 _ _ c.in_ok-pass.ensures.only c.in_ok-pass.ensures.left) c.in_ok-take_turn.ensures.put,
+        (off_turned g.p.event _ _ _ (pass_off g.p.event _ _ _ _ _ _ c.passes.invariant.1.1.0 c.in_ok-pass.ensures.only c.in_ok-pass.ensures.left) turned, handled),
+      ),
+    )

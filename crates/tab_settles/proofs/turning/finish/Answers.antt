@@ -1,5 +1,6 @@
 use Rattle.std.proofs.Common.{ap, sym, ◌∙◌}
 use Rattle.tab_settles.proofs.Ended.{finish_put, has_ended, has_rested, ready_n, release_asks, still_due}
+use Rattle.tab_settles.proofs.EndedOff.{ended_turned}
 use Rattle.tab_settles.proofs.turning.finish.Goals as goal
 use Rattle.tab_settles.specs.declared.reasons.Reasons.{Reasons}
 
@@ -18,3 +19,11 @@ returns-then-branch-clause-put g c =
 pub returns-clause-due : goal.returns-clause-due
 returns-clause-due g c not_ended =
     still_due g.p _ _ _ _ _ c.requires.0 _ _ (has_rested _ _ _ _ _ _ c.if-branch.false c.in_ok-end_running.ensures.ended) c.requires.1 (sym c.if-branch.false ∙ c.in_ok-end_running.ensures.due)
+
+pub returns-then-branch-clause-turned : goal.returns-then-branch-clause-turned
+returns-then-branch-clause-turned g c did =
+    ended_turned g.p.event _ _ _ _ _ _ _ c.in_ok-end_running.ensures.passing.going.tab (has_ended _ _ _ _ _ _ c.if-branch.true c.in_ok-end_running.ensures.ended) (sym c.in_ok-end_running.ensures.due ∙ c.if-branch.true) c.in_ok-last.ensures.ended
+
+pub returns-clause-still : goal.returns-clause-still
+returns-clause-still g c not_ended =
+    (has_rested _ _ _ _ _ _ c.if-branch.false c.in_ok-end_running.ensures.ended).out

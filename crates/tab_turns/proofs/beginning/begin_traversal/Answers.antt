@@ -2,7 +2,7 @@ use mir.Syntax.{w32}
 use mir.Val.{SFits}
 use Rattle.std.proofs.Common.{ap, rules}
 use Rattle.std.proofs.lemmas.Int.{to_z-of_z}
-use Rattle.each_facts.specs.Runs.{is_this}
+use Rattle.seen_facts.specs.Each.Runs.{is_this}
 use Rattle.std.specs.Prelude.{Option}
 use Rattle.tab_ids.specs.declared.ReqId.{ReqId}
 use Rattle.tab_turns.proofs.Begins.{begin_due, begin_passing, begin_turning, has_begun, has_refused, refuse_due, refuse_passing, refuse_turning, to_goal, to_none}

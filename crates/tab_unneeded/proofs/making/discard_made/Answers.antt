@@ -1,9 +1,12 @@
-use Rattle.tab_unneeded.proofs.Calls.{kept_as, may_as, out_as, passing_as, proc_as, ready_as, unneeded_as}
+use Rattle.tab_unneeded.proofs.Calls.{kept_as, may_as, out_as, passing_as, proc_as, ready_as, unneeded_as, waits_as}
 use Rattle.tab_unneeded.proofs.making.discard_made.Goals as goal
 
 pub note_made-requires : goal.note_made-requires
 note_made-requires g c =
-    proc_as g.m c.args.doc c.args.state c.args.why c.requires.1.1.1.1 c.args.tables.now c.requires.1.1.1.0 c.requires.1.1.0 c.requires.0
+    record {
+      known = proc_as g.m c.args.doc c.args.state c.args.why c.requires.1.1.1.1 c.args.tables.now c.requires.1.1.1.0 c.requires.1.1.0 c.requires.0;
+      waits = waits_as g.m c.args.doc c.args.state c.args.why c.requires.1.1.1.1 c.args.tables.now c.requires.1.1.1.0 c.requires.1.1.0 c.requires.0 c.of-one.ensures.one_each;
+    }
 
 pub discard_unneeded-requires : goal.discard_unneeded-requires
 discard_unneeded-requires g c = (

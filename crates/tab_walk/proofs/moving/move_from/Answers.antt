@@ -1,4 +1,4 @@
-use Rattle.kept_facts.specs.Keeping.{kept_states}
+use Rattle.seen_facts.specs.Kept.Keeping.{kept_states}
 use Rattle.page_cache.specs.Kept.{left_first}
 use Rattle.seen_laws.specs.InEvent.{now_of}
 use Rattle.std.proofs.Common.{List, Option, ap, drop, sym, ◌∙◌}

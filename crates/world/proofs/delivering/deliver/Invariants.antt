@@ -2,4 +2,4 @@ use Rattle.world.specs.Asking.{delivering}
 use Rattle.world.proofs.delivering.deliver.Given as goal
 
 abbrev pub ghost-take : goal.ghost-take
-ghost-take a = delivering a.header.now a.log.now a.proc
+ghost-take a = delivering a.header.now a.log.now a.proc a.report.now

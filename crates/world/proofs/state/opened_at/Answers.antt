@@ -6,7 +6,9 @@ returns c =
     record {
       events = refl;
       stands = c.in_ok-coordinator.ensures.stands;
-      views = rw (c.new-views.ensures, c.opening.ensures, c.in_ok-shown.ensures) at c.in_ok-add.ensures.ok;
+      header_is = c.in_ok-coordinator.ensures.header;
+      views = c.in_ok-views.ensures;
+      runners = c.in_ok-runners.ensures c.args.header.now.first c.args.proc;
       desks = c.new.ensures;
       endings = c.new-2.ensures.items;
     }

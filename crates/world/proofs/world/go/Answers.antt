@@ -1,8 +1,11 @@
 use Rattle.std.proofs.Common.{IfOk, sym, subst}
 use Rattle.world.specs.declared.event.Event.{Event}
 use Rattle.world.specs.Turns.{HasGone}
-use Rattle.world.proofs.StepLaws.{act_due, begin_due, deliver_due, finish_due}
+use Rattle.world.proofs.StepLaws.{act_due, begin_due, deliver_due, evict_is_due, finish_due}
 use Rattle.world.proofs.world.go.Goals as goal
+
+pub evict-requires-clause-due : goal.evict-requires-clause-due
+evict-requires-clause-due c = evict_is_due _ _ _ c.requires.«open» (rw c.in-Evict.is at c.requires.due)
 
 pub act-requires-clause-due : goal.act-requires-clause-due
 act-requires-clause-due c = act_due _ _ _ c.requires.«open» c.in-Act.proc (rw c.in-Act.is at c.requires.due)

@@ -1,0 +1,122 @@
+-- Fragment orders find their documents running, and reports of them tell of what was made: as an event's own row is logged, and over rows that a coordinator puts out.
+use Rattle.coord.proofs.News.{is_quiet}
+use Rattle.coord.specs.Standing.{IsOpenTo}
+use Rattle.coord.specs.declared.coordinator.Coordinator.{Coordinator}
+use Rattle.seen_facts.proofs.Coord.Singles.{AreApart}
+use Rattle.seen_facts.proofs.Desk.Stays.{NoDeath}
+use Rattle.seen_facts.specs.Desk.Own.{AreDesksIn, IsFragmentTask}
+use Rattle.seen_facts.specs.Hang.Members.{Has}
+use Rattle.log_model.specs.Seen.{Document, Seen, desk_of}
+use Rattle.log_model.specs.declared.job.Job.{Job}
+use Rattle.log_model.specs.declared.job.Task.{Task}
+use Rattle.log_model.specs.declared.made.Report.{Report}
+use Rattle.log_model.specs.declared.request.Request.{Request}
+use Rattle.log_model.specs.declared.row_kind.RowKind.{RowKind}
+use Rattle.tab_facts.specs.Order.Orders.{IsOfCoord}
+use Rattle.tab_facts.proofs.Running.Over.{running_after}
+use Rattle.tab_facts.proofs.Running.Quiet.{quiet_over}
+use Rattle.tab_facts.proofs.Running.Tells.{telling_after, telling_over}
+use Rattle.tab_facts.specs.Running.Fitting.{IsFittingRow}
+use Rattle.tab_facts.specs.Running.Running.{AreFoundRunning}
+use Rattle.tab_facts.specs.Running.Telling.{AreTelling, EndsNoFragment}
+use Rattle.seen_laws.proofs.InEvents.{now_own}
+use Rattle.seen_laws.specs.InEvent.{InEvent, now_of}
+use Rattle.seen_laws.specs.Sending.{leads}
+use Rattle.std.proofs.Common.{List, Option, [], ap, false, refl, subst, sym, true, ◌++◌, ◌∙◌, ◌≡◌}
+use Rattle.std.specs.Prelude.{slice_get}
+use Rattle.tab_ids.specs.declared.DocId.{DocId}
+use Rattle.tab_ids.specs.declared.ProcId.{ProcId}
+use Rattle.tab_ids.specs.declared.ReqId.{ReqId}
+use Rattle.tab_stands.proofs.Reports.{told_fine}
+use Rattle.tab_stands.specs.Delivering.{IsDelivery}
+use Rattle.tab_stands.specs.PassedOn.{HasPut}
+use Rattle.log_model.specs.declared.job.Task.TheVariants as tasks
+use Rattle.log_model.specs.declared.row_kind.RowKind.TheVariants as rows
+
+-- ---- the own row
+
+own_fits : (s : Seen) (kind : RowKind) → leads kind ≡ true → ((proc : ProcId) → kind ≡ rows.Delivered proc → NoDeath (slice_get (desk_of s proc).reports 0)) → IsFittingRow s kind
+own_fits s (rows.Accepted req doc what) led alive = tt
+own_fits s (rows.Answered req stay) led alive = tt
+own_fits s (rows.Evicted state) led alive = tt
+own_fits s (rows.Delivered proc) led alive = alive proc refl
+own_fits s _ led alive = absurd (let never : false ≡ true = led in cc)
+
+own_ends : (s : Seen) (kind : RowKind) → leads kind ≡ true → EndsNoFragment s kind
+own_ends s (rows.Accepted req doc what) led = tt
+own_ends s (rows.Answered req stay) led = tt
+own_ends s (rows.Evicted state) led = tt
+own_ends s (rows.Delivered proc) led = tt
+own_ends s _ led = absurd (let never : false ≡ true = led in cc)
+
+module _ (e : InEvent) (led : leads e.own ≡ true) where
+  -- where it tells of no death
+  pub own_found : ((proc : ProcId) → e.own ≡ rows.Delivered proc → NoDeath (slice_get (desk_of e.start proc).reports 0)) → AreFoundRunning e.start → AreFoundRunning (now_of e [])
+  own_found alive found =
+      subst AreFoundRunning (sym (now_own e)) (running_after e.start e.event e.actor found e.own (own_fits e.start e.own led alive))
+
+  pub own_telling : AreTelling e.start → AreTelling (now_of e [])
+  own_telling telling =
+      subst AreTelling (sym (now_own e)) (telling_after e.start e.event e.actor telling e.own (own_ends e.start e.own led))
+
+-- a request was accepted
+module _ (e : InEvent) (c : Coordinator) (open_ : IsOpenTo e c) (req : ReqId) (doc : Option DocId) (what : Request) (own : e.own ≡ rows.Accepted req doc what) where
+  led_here : leads e.own ≡ true
+  led_here = ap (λ (k : RowKind). leads k) own
+
+  pub accepted_found : AreFoundRunning (now_of e [])
+  accepted_found =
+      own_found e led_here (λ proc is. (let never : rows.Accepted req doc what ≡ rows.Delivered proc = sym own ∙ is in absurd cc)) open_.stands.found
+
+  pub accepted_telling : AreTelling (now_of e [])
+  accepted_telling = own_telling e led_here open_.stands.telling
+
+-- a report was taken
+module _ (e : InEvent) (proc : ProcId) (report : Report) (delivery : IsDelivery e proc report) (c : Coordinator) (open_ : IsOpenTo e c) where
+  led_so : leads e.own ≡ true
+  led_so = ap (λ (k : RowKind). leads k) delivery.own
+
+  fine : NoDeath (slice_get (desk_of e.start proc).reports 0)
+  fine =
+      told_fine e proc delivery.by_coord delivery.own c.tables c.queue c.blame.entries open_.stands.stands report delivery.first
+
+  alive : (p : ProcId) → e.own ≡ rows.Delivered p → NoDeath (slice_get (desk_of e.start p).reports 0)
+  alive p is =
+      let both : rows.Delivered proc ≡ rows.Delivered p = sym delivery.own ∙ is in
+      let one : proc ≡ p = cc in
+      subst (λ (q : ProcId). NoDeath (slice_get (desk_of e.start q).reports 0)) one fine
+
+  pub delivered_found : AreFoundRunning (now_of e [])
+  delivered_found = own_found e led_so alive open_.stands.found
+
+  pub delivered_telling : AreTelling (now_of e [])
+  delivered_telling = own_telling e led_so open_.stands.telling
+
+-- ---- rows that are put out, of which none sends a document to a fragment
+
+pub plain_found : (e : InEvent) (more was : List RowKind) → ((row : RowKind) → Has more row → IsOfCoord row) → ((job : Job) → Has more (rows.Sent job) → IsFragmentTask job.task → ⊥) → AreApart (λ (d : Document). d.nr.0) (now_of e (was ++ more)).documents → AreDesksIn (now_of e was) → AreFoundRunning (now_of e was) → AreFoundRunning (now_of e (was ++ more))
+plain_found e more was coord none apart desks found =
+    quiet_over e more was desks coord (λ job has. is_quiet e more was coord apart job has (none job has)) found
+
+module _ (e : InEvent) (was out : List RowKind) (put : HasPut e was out) where
+  sends_none : (job : Job) → Has put.more (rows.Sent job) → IsFragmentTask job.task → ⊥
+  sends_none job has = by_task job.task refl
+    where
+      by_task : (task : Task) → job.task ≡ task → IsFragmentTask task → ⊥
+      by_task (tasks.DoFragment req mode address) is fragment =
+          let plain = put.plain job has in absurd (rw is at plain)
+      by_task (tasks.Populate nav state address initial) is never = never
+      by_task (tasks.Activate entry epoch length index memo address) is never = never
+      by_task (tasks.Update length index) is never = never
+      by_task tasks.Freeze is never = never
+      by_task tasks.Discard is never = never
+      by_task (tasks.Ask slot cause) is never = never
+
+  pub put_found : AreApart (λ (d : Document). d.nr.0) (now_of e out).documents → AreDesksIn (now_of e was) → AreFoundRunning (now_of e was) → AreFoundRunning (now_of e out)
+  put_found apart desks found =
+      subst (λ (l : List RowKind). AreFoundRunning (now_of e l)) (sym put.is)
+      (plain_found e put.more was put.each sends_none (subst (λ (l : List RowKind). AreApart (λ (d : Document). d.nr.0) (now_of e l).documents) put.is apart) desks found)
+
+  pub put_telling : AreTelling (now_of e was) → AreTelling (now_of e out)
+  put_telling telling =
+      subst (λ (l : List RowKind). AreTelling (now_of e l)) (sym put.is) (telling_over e put.more was put.each telling)

@@ -1,0 +1,34 @@
+-- An order was done that neither made nor showed a document: where no request is noted for a document that is left to be discarded, the event is over.
+use Rattle.coord.proofs.Dones.{done_found, done_telling, keep_now}
+use Rattle.coord.specs.Delivering.{InDone, IsDone}
+use Rattle.coord.specs.Standing.{HasActed}
+use Rattle.coord.specs.declared.coordinator.Coordinator.{Coordinator}
+use Rattle.log_model.specs.declared.job.Job.{Job}
+use Rattle.std.proofs.Common.{List, [], arith, eqb-true, length, refl, true, ◌==◌, ◌∷◌, ◌≡◌}
+use Rattle.tab_acts.proofs.Told.{told_acts}
+use Rattle.tab_stands.specs.Delivering.{IsQuietTask}
+use Rattle.tab_stands.specs.Standing as tab
+
+module _ (d : InDone) (c : Coordinator) (job : Job) (done : IsDone d c job) (quiet : IsQuietTask job.task) (clear : c.blame.entries ≡ []) where
+  its : tab.HasActed d.event [] c.tables c.queue c.blame.entries
+  its =
+      told_acts d.event d.proc job d.outcome done.delivery c.tables c.queue c.blame.entries done.open_.stands.stands quiet done.open_.room (keep_now d.event c done.open_) clear
+
+  pub quiet_acts : HasActed d.event [] c
+  quiet_acts =
+      record {
+        stands = record {
+          stands = its.stands;
+          keep = done.open_.stands.keep;
+          found = done_found d c job done;
+          telling = done_telling d c job done;
+        };
+        header = done.open_.header;
+        passes = its.passes;
+        off = λ req change never. absurd never;
+      }
+
+-- an empty list has nothing
+pub none_of : {A : Type 0} (xs : List A) → (length xs == 0) ≡ true → xs ≡ []
+none_of [] empty = refl
+none_of (x ∷ xs) never = (let none : length (x ∷ xs) ≡ 0 = eqb-true (length (x ∷ xs)) 0 never in absurd (omega (arith, none)))

@@ -1,0 +1,52 @@
+-- An event in which the coordinator itself does nothing, and which changes nothing: where its tables, its queue and its notes stand for the log after the event's rows, and fragment orders find their documents running, it has acted.
+use Rattle.coord.proofs.Fines.{AppliesNone}
+use Rattle.coord.specs.Standing.{HasActed, IsOpenTo}
+use Rattle.coord.specs.declared.coordinator.Coordinator.{Coordinator}
+use Rattle.seen_facts.specs.Hang.Members.{Has}
+use Rattle.log_model.specs.declared.change.Change.{Change}
+use Rattle.log_model.specs.declared.row_kind.RowKind.{RowKind}
+use Rattle.tab_facts.proofs.Running.Over.{running_after}
+use Rattle.tab_facts.proofs.Running.Tells.{telling_after}
+use Rattle.tab_facts.specs.Running.Fitting.{IsFittingRow}
+use Rattle.tab_facts.specs.Running.Running.{AreFoundRunning}
+use Rattle.tab_facts.specs.Running.Telling.{AreTelling, EndsNoFragment}
+use Rattle.seen_laws.proofs.InEvents.{now_own}
+use Rattle.seen_laws.specs.InEvent.{InEvent, now_of}
+use Rattle.std.proofs.Common.{List, [], inl, inr, subst, sym, ◌∷◌, ◌≡◌}
+use Rattle.tab_ids.specs.declared.ReqId.{ReqId}
+use Rattle.tab_stands.specs.Standing as tab
+use Rattle.log_model.specs.declared.row_kind.RowKind.TheVariants as rows
+
+-- the rows change nothing
+abbrev pub ApplyNone : List RowKind → Type 0
+ApplyNone [] = Unit {0}
+ApplyNone (row ∷ more) = AppliesNone row × ApplyNone more
+
+applies_none : (out : List RowKind) → ApplyNone out → (req : ReqId) (change : Change) → Has out (rows.Applied req change) → ⊥
+applies_none [] none req change has = has
+applies_none (row ∷ more) none req change (inl is) = subst AppliesNone is none.0
+applies_none (row ∷ more) none req change (inr has) = applies_none more none.1 req change has
+
+pub idle_acts : (e : InEvent) (c : Coordinator) → IsOpenTo e c → (out : List RowKind) → ApplyNone out → tab.HasActed e out c.tables c.queue c.blame.entries → AreFoundRunning (now_of e out) → AreTelling (now_of e out) → HasActed e out c
+idle_acts e c open_ out none acted found telling =
+    record {
+      stands = record { stands = acted.stands; keep = open_.stands.keep; found = found; telling = telling };
+      header = open_.header;
+      passes = acted.passes;
+      off = λ req change has. absurd (applies_none out none req change has);
+    }
+
+-- ---- the own row
+
+module _ (e : InEvent) (c : Coordinator) (open_ : IsOpenTo e c) (kind : RowKind) (own : e.own ≡ kind) where
+  pub found_now : IsFittingRow e.start kind → AreFoundRunning (now_of e [])
+  found_now fits =
+      subst AreFoundRunning (sym (now_own e)) (running_after e.start e.event e.actor open_.stands.found e.own (subst (IsFittingRow e.start) (sym own) fits))
+
+  pub telling_now : EndsNoFragment e.start kind → AreTelling (now_of e [])
+  telling_now ends =
+      subst AreTelling (sym (now_own e)) (telling_after e.start e.event e.actor open_.stands.telling e.own (subst (EndsNoFragment e.start) (sym own) ends))
+
+  -- the event has no other row
+  pub alone_acts : IsFittingRow e.start kind → EndsNoFragment e.start kind → tab.HasActed e [] c.tables c.queue c.blame.entries → HasActed e [] c
+  alone_acts fits ends acted = idle_acts e c open_ [] tt acted (found_now fits) (telling_now ends)

@@ -1,5 +1,0 @@
-pub mod OnItsWay
-pub mod Leading
-pub mod Reaching
-pub mod Epochs
-pub mod Flowing

@@ -1,6 +1,0 @@
-use Rattle.std.proofs.Common.{◌≡◌, take}
-use Rattle.doors.specs.Ending.{destroy_all}
-use Rattle.doors.proofs.changes.destroy_each.Given as goal
-
-abbrev pub invariant-loop-i : goal.invariant-loop-i
-invariant-loop-i l = l.tree ≡ destroy_all (take l.i l.navs) l.by l.fn.tree

@@ -1,5 +1,0 @@
-//! What lasts in a tab of frames. There is no code.
-#![tactic(auto)]
-
-/// Holds the crate's place: all that it gives stands in its definitions and lemmas.
-pub fn nothing() {}

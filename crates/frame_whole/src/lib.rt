@@ -1,5 +1,0 @@
-//! All that holds between two rows, and between two events, of a tab of frames. There is no code.
-#![tactic(auto)]
-
-/// Holds the crate's place: all that it gives stands in its definitions and lemmas.
-pub fn nothing() {}

@@ -1,6 +1,0 @@
-pub mod Stays
-pub mod Rows
-pub mod Orders
-pub mod Changes
-pub mod States
-pub mod Unshown

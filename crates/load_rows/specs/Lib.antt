@@ -1,5 +1,0 @@
-pub mod Dropping
-pub mod Beginning
-pub mod LoadMaking
-pub mod Loaded
-pub mod Arriving

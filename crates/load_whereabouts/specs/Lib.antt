@@ -1,2 +1,0 @@
-pub mod Whereabouts
-pub mod Coming

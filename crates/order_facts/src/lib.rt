@@ -1,5 +1,0 @@
-//! What is so of each order that is on its way, over each row. There is no code.
-#![tactic(auto)]
-
-/// Holds the crate's place: all that it gives stands in its definitions and lemmas.
-pub fn nothing() {}

@@ -1,4 +1,0 @@
-use Rattle.passes.proofs.serving.make_target.Given as goal
-
-abbrev pub ghost-make : goal.ghost-make
-ghost-make g a = g.p.event

@@ -1,8 +1,0 @@
-use Rattle.std.proofs.Common.{◌≡◌, ◌++◌, drop, filter}
-use Rattle.apply_plan.specs.Order.{made_in}
-use Rattle.passes.specs.Sweeping.{falls_below}
-use Rattle.passes.proofs.sweeping.push_below.Given as goal
-
-abbrev pub invariant-loop-i : goal.invariant-loop-i
-invariant-loop-i l =
-    l.fn.navs ++ filter (falls_below l.tree l.top) (made_in l.tree) ≡ l.navs ++ filter (falls_below l.tree l.top) (drop l.i (made_in l.tree))

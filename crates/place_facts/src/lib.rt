@@ -1,5 +1,0 @@
-//! Where each navigable stands, with loads and documents that are left: definitions and lemmas alone.
-#![tactic(auto)]
-
-/// Holds the crate's place: all that it gives stands in its definitions and lemmas.
-pub fn nothing() {}

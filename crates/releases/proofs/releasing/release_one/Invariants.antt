@@ -1,4 +1,0 @@
-use Rattle.releases.proofs.releasing.release_one.Given as goal
-
-abbrev pub ghost-take : goal.ghost-take
-ghost-take g a = g.p

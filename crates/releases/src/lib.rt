@@ -1,6 +1,0 @@
-//! The reports that were held back for a traversal are taken up once it has ended.
-#![tactic(auto)]
-
-mod releasing;
-
-pub use releasing::release;

@@ -1,0 +1,11 @@
+pub mod Lists
+pub mod Unasked
+pub mod Freezes
+pub mod Discards
+pub mod Leaves
+pub mod Evicts
+pub mod Keeps
+pub mod FragmentSends
+pub mod FragmentMakes
+pub mod FragmentTakes
+pub mod Ahead

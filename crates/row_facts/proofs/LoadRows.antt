@@ -1,0 +1,6 @@
+pub mod Accepts
+pub mod Drops
+pub mod Begins
+pub mod Earlier
+pub mod LoadMakes
+pub mod Loads

@@ -1,0 +1,4 @@
+pub mod Dropping
+pub mod Beginning
+pub mod LoadMaking
+pub mod Loaded

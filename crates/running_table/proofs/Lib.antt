@@ -1,0 +1,12 @@
+pub mod RunChanges
+pub mod Newest
+pub mod Readers
+pub mod Poked
+pub mod Orders
+pub mod Rows
+pub mod Numbers
+pub mod MakeOrders
+pub mod Unmade
+pub mod Makings
+pub mod ForCallers
+pub mod Counted

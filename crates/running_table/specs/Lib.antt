@@ -1,0 +1,4 @@
+pub mod Runners
+pub mod Picking
+pub mod Telling
+pub mod Making

@@ -1,0 +1,12 @@
+pub mod Running
+pub mod Again
+pub mod Rows
+pub mod Taken
+pub mod Still
+pub mod Stands
+pub mod Seated
+pub mod Ended
+pub mod Settled
+pub mod Opened
+pub mod Kept
+pub mod Working

@@ -1,4 +1,0 @@
-use Rattle.settles.proofs.turning.begin.Given as goal
-
-abbrev pub ghost-begin_next : goal.ghost-begin_next
-ghost-begin_next g a = g.p

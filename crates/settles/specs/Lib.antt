@@ -1,4 +1,0 @@
-pub mod Reasons
-pub mod Passes
-pub mod Settling
-pub mod Alone

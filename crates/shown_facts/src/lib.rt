@@ -1,5 +1,0 @@
-//! Which documents were ever shown, and which navigable a document state and a load are of, between two rows: definitions and lemmas alone.
-#![tactic(auto)]
-
-/// Holds the crate's place: all that it gives stands in its definitions and lemmas.
-pub fn nothing() {}

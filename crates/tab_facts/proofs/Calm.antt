@@ -1,0 +1,9 @@
+pub mod Calms
+pub mod Sames
+pub mod Sents
+pub mod Turns
+pub mod Around
+pub mod Awakes
+pub mod Changes
+pub mod Moves
+pub mod Loads

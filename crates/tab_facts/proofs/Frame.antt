@@ -1,0 +1,10 @@
+pub mod Naming
+pub mod Parts
+pub mod Changes
+pub mod Orders
+pub mod Applied
+pub mod Events
+pub mod Dues
+pub mod Removed
+pub mod Placed
+pub mod Moves

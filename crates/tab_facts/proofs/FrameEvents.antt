@@ -1,0 +1,3 @@
+pub mod Composed
+pub mod Leading
+pub mod Processes

@@ -1,0 +1,177 @@
+-- Where a request of a tab is: at one place at most, be it a load or not.
+use Rattle.seen_facts.specs.Asked.Asking.{IsAskedPlainly}
+use Rattle.seen_facts.proofs.Coord.Held.{without_same}
+use Rattle.seen_facts.proofs.Entry.Ends.{IsToEnd}
+use Rattle.seen_facts.proofs.Entry.Skips.{without_made}
+use Rattle.tab_facts.proofs.FragmentOrders.Ends.{WaitsNot}
+use Rattle.tab_facts.proofs.FrameWhole.Ending.{reqs_of, reqs_without, some_times}
+use Rattle.tab_facts.proofs.FrameWhole.Refusing.{none_without}
+use Rattle.seen_facts.specs.Hang.Members.{Has}
+use Rattle.seen_facts.specs.LoadWhereabouts.Whereabouts.{times_on_way, waits_to_fragment}
+use Rattle.log_model.specs.AfterRequests.{without_req}
+use Rattle.log_model.specs.Equal.{has_req, holds}
+use Rattle.log_model.specs.Places.{is_load, is_ongoing_load, is_under_way}
+use Rattle.log_model.specs.Seen.{Asked, Seen, request_in}
+use Rattle.log_model.specs.declared.made.Made.{Made}
+use Rattle.seen_facts.proofs.Request.Endings.{due_small}
+use Rattle.seen_facts.proofs.Request.Times.{times_append, times_none}
+use Rattle.seen_facts.specs.Request.Whereabouts.{is_of_load, times, times_at, times_due, times_found}
+use Rattle.seen_laws.proofs.Sums.{over}
+use Rattle.std.proofs.Common.{Bool, List, None, Option, Some, [], ap, arith, false, inl, inr, refl, sym, true, ℕ, ◌&&◌, ◌+◌, ◌++◌, ◌<◌, ◌==◌, ◌≤◌, ◌||◌, ◌∙◌, ◌∷◌, ◌≡◌, ◌⊎◌}
+use Rattle.std.proofs.lemmas.Bool.{eqb-true}
+use Rattle.std.proofs.lemmas.List.Elements.{filter-append}
+use Rattle.std.specs.Prelude.{if◌then◌else◌, is_none, is_some, not}
+use Rattle.tab_ids.specs.declared.ReqId.{ReqId}
+use Rattle.tab_facts.specs.TabWhole.Tab.{IsTab, at_hand}
+
+-- it is in the queue, held back, at hand, or an ongoing load
+abbrev pub IsCarried : List ReqId → List Made → Seen → ReqId → Type 0
+IsCarried loads hand s req =
+    (has_req s.joined req ≡ true) ⊎ ((has_req s.parked req ≡ true) ⊎ ((has_req (at_hand loads hand) req ≡ true) ⊎ (holds is_ongoing_load (request_in s.requests req) ≡ true)))
+
+-- what is at hand once a request isn't
+pub hands_without : (req : ReqId) (loads : List ReqId) (hand : List Made) → at_hand (without_req req loads) (without_made req hand) ≡ without_req req (at_hand loads hand)
+hands_without req loads hand =
+    ap (λ (l : List ReqId). without_req req loads ++ l) (reqs_without req hand)
+    ∙ sym (filter-append (λ (r : ReqId). not (r.0 == req.0)) loads (reqs_of hand))
+
+-- what is of none of these
+pub none_at : (req : ReqId) (hand : List Made) (made : Made) → has_req (reqs_of hand) req ≡ false → Has hand made → (made.req.0 == req.0) ≡ true → ⊥
+none_at req [] made none has same = has
+none_at req (x ∷ hand) made none (inl is) same =
+    let one : (x.req.0 == req.0) ≡ true = ap (λ (y : Made). y.req.0 == req.0) is ∙ same in
+    let yes : (x.req.0 == req.0 || has_req (reqs_of hand) req) ≡ true = rw one refl in
+    let never : true ≡ false = sym yes ∙ none in cc
+none_at req (x ∷ hand) made none (inr has) same = none_at req hand made (rest (x.req.0 == req.0) none) has same
+  where
+    rest : (b : Bool) → (b || has_req (reqs_of hand) req) ≡ false → has_req (reqs_of hand) req ≡ false
+    rest true e = absurd cc
+    rest false e = e
+
+-- where it isn't held back, and nothing made of it is at hand, nothing goes with it
+pub nothing_goes : (hand : List Made) (s : Seen) (req : ReqId) → has_req s.parked req ≡ false → has_req (reqs_of hand) req ≡ false → IsToEnd hand s req
+nothing_goes hand s req unparked none =
+    record {
+      held = λ r made same parked of.
+          let one : r ≡ req = ap (λ (n : ℕ). let x : ReqId = record { 0 = n } in x) (eqb-true r.0 req.0 same) in
+          let never : true ≡ false = sym parked ∙ ap (λ (x : ReqId). has_req s.parked x) one ∙ unparked in absurd cc;
+      at_hand = λ made has same. absurd (none_at req hand made none has same);
+    }
+
+-- an ongoing load is on its way, as that alone; and who isn't on its way doesn't wait
+on_way : (o : Option Asked) → holds is_ongoing_load o ≡ true → 0 < times_on_way o
+on_way None e = absurd cc
+on_way (Some q) e = (let one : 0 < times_on_way (Some q) = rw e (omega arith) in one)
+
+ongoing_no_wait : (o : Option Asked) → holds is_ongoing_load o ≡ true → times_on_way o < 2 → holds waits_to_fragment o ≡ false
+ongoing_no_wait None e few = refl
+ongoing_no_wait (Some q) e few = by_test (is_ongoing_load q) (waits_to_fragment q) e few
+  where
+    by_test : (a b : Bool) → a ≡ true → (if a then 1 else 0) + (if b then 1 else 0) < 2 → b ≡ false
+    by_test true true e low = absurd (omega (arith, low))
+    by_test true false e low = refl
+    by_test false b e low = absurd cc
+
+no_wait : (o : Option Asked) → times_on_way o ≡ 0 → holds waits_to_fragment o ≡ false
+no_wait None e = refl
+no_wait (Some q) e = by_test (is_ongoing_load q) (waits_to_fragment q) e
+  where
+    by_test : (a b : Bool) → (if a then 1 else 0) + (if b then 1 else 0) ≡ 0 → b ≡ false
+    by_test a false e = refl
+    by_test true true e = absurd (omega (arith, e))
+    by_test false true e = absurd (omega (arith, e))
+
+module _ (run : Option ReqId) (loads : List ReqId) (hand : List Made) (s : Seen) (tab : IsTab run loads hand s) (req : ReqId) where
+  -- what is no load isn't on its way
+  no_way : is_of_load (request_in s.requests req) ≡ false → times_on_way (request_in s.requests req) ≡ 0
+  no_way other = by_found (request_in s.requests req) refl other
+    where
+      neither : (a b : Bool) → b ≡ false → (a && b) ≡ false
+      neither true b e = e
+      neither false b e = refl
+
+      by_found : (o : Option Asked) → request_in s.requests req ≡ o → is_of_load o ≡ false → times_on_way o ≡ 0
+      by_found None e no_load = refl
+      by_found (Some q) e no_load =
+          let plain : IsAskedPlainly req q = tab.asked.each req q e in
+          let begun : is_ongoing_load q ≡ false = neither (is_under_way q) (is_load q.what) no_load in
+          let none : is_some q.fragment ≡ false = rw (plain.sent no_load) refl in
+          let waits : waits_to_fragment q ≡ false = neither (is_none q.ending && is_none q.made) (is_some q.fragment) none in
+          rw begun (rw waits refl)
+
+  -- it is at one place while it is open, and nowhere else
+  pub all_once : times_found req s.desks s.joined s.parked (at_hand loads hand) + times_on_way (request_in s.requests req) ≡ times_due (request_in s.requests req)
+  all_once = by_load (is_of_load (request_in s.requests req)) refl
+    where
+      by_load : (b : Bool) → is_of_load (request_in s.requests req) ≡ b → times_found req s.desks s.joined s.parked (at_hand loads hand) + times_on_way (request_in s.requests req) ≡ times_due (request_in s.requests req)
+      by_load true load = tab.trips req load
+      by_load false other = (let once = tab.once req other in let none = no_way other in omega (arith, once, none))
+
+  pub at_most_once : over (times_at req) s.desks + (times req s.joined + (times req s.parked + (times req loads + times req (reqs_of hand)))) + times_on_way (request_in s.requests req) < 2
+  at_most_once =
+      let small : times_due (request_in s.requests req) < 2 = due_small (request_in s.requests req) in
+      let parts : times req (at_hand loads hand) ≡ times req loads + times req (reqs_of hand) = times_append req loads (reqs_of hand) in
+      omega (arith, all_once, small, parts)
+
+  -- at one of these places it is at no desk
+  pub carried_off : IsCarried loads hand s req → over (times_at req) s.desks ≡ 0
+  carried_off (inl joined) = (let n : 0 < times req s.joined = some_times req s.joined joined in omega (arith, n, at_most_once))
+  carried_off (inr (inl parked)) = (let n : 0 < times req s.parked = some_times req s.parked parked in omega (arith, n, at_most_once))
+  carried_off (inr (inr (inl held))) =
+      let n : 0 < times req (at_hand loads hand) = some_times req (at_hand loads hand) held in
+      let small : times_due (request_in s.requests req) < 2 = due_small (request_in s.requests req) in
+      omega (arith, n, all_once, small)
+  carried_off (inr (inr (inr ongoing))) =
+      let way : 0 < times_on_way (request_in s.requests req) = on_way (request_in s.requests req) ongoing in
+      omega (arith, way, at_most_once)
+
+  -- and it doesn't wait for what is made of a fragment order
+  pub carried_waits_not : IsCarried loads hand s req → WaitsNot s.requests req
+  carried_waits_not carried = by_place carried
+    where
+      nowhere : 1 ≤ times req s.joined + (times req s.parked + (times req loads + times req (reqs_of hand))) → WaitsNot s.requests req
+      nowhere some = no_wait (request_in s.requests req) (omega (arith, some, at_most_once))
+
+      by_place : IsCarried loads hand s req → WaitsNot s.requests req
+      by_place (inl joined) = nowhere (let n : 0 < times req s.joined = some_times req s.joined joined in omega (arith, n))
+      by_place (inr (inl parked)) = nowhere (let n : 0 < times req s.parked = some_times req s.parked parked in omega (arith, n))
+      by_place (inr (inr (inl held))) =
+          let n : 0 < times req (at_hand loads hand) = some_times req (at_hand loads hand) held in
+          let parts : times req (at_hand loads hand) ≡ times req loads + times req (reqs_of hand) = times_append req loads (reqs_of hand) in
+          nowhere (omega (arith, n, parts))
+      by_place (inr (inr (inr ongoing))) =
+          ongoing_no_wait (request_in s.requests req) ongoing (let few : times_on_way (request_in s.requests req) < 2 = omega (arith, at_most_once) in few)
+
+  -- it isn't held back, and nothing made of it is at hand
+  pub record IsUnheld : Type 0 where
+    pub parked : has_req s.parked req ≡ false
+    pub loads_ : has_req loads req ≡ false
+    pub hands : has_req (reqs_of hand) req ≡ false
+
+  -- so it is of one in the queue, or on its way
+  pub joined_unheld : has_req s.joined req ≡ true → IsUnheld
+  joined_unheld joined =
+      let n : 0 < times req s.joined = some_times req s.joined joined in
+      record {
+        parked = times_none req s.parked (omega (arith, n, at_most_once));
+        loads_ = times_none req loads (omega (arith, n, at_most_once));
+        hands = times_none req (reqs_of hand) (omega (arith, n, at_most_once));
+      }
+
+  pub way_unheld : 0 < times_on_way (request_in s.requests req) → IsUnheld
+  way_unheld way =
+      record {
+        parked = times_none req s.parked (omega (arith, way, at_most_once));
+        loads_ = times_none req loads (omega (arith, way, at_most_once));
+        hands = times_none req (reqs_of hand) (omega (arith, way, at_most_once));
+      }
+
+  -- nothing goes with it then, and what is at hand stays
+  pub unheld_end : IsUnheld → IsToEnd hand s req
+  unheld_end is = nothing_goes hand s req is.parked is.hands
+
+  pub unheld_loads : IsUnheld → without_req req loads ≡ loads
+  unheld_loads is = without_same loads req is.loads_
+
+  pub unheld_hand : IsUnheld → without_made req hand ≡ hand
+  unheld_hand is = none_without req hand is.hands

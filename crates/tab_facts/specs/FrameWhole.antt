@@ -1,0 +1,4 @@
+pub mod Untold
+pub mod Tab
+pub mod Beside
+pub mod FirstWaiting

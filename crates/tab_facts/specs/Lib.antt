@@ -1,0 +1,14 @@
+pub mod FrameTab
+pub mod FrameWhole
+pub mod ShownWays
+pub mod Calm
+pub mod Frame
+pub mod Last
+pub mod Shown
+pub mod Order
+pub mod Running
+pub mod Past
+pub mod FragmentOrders
+pub mod TabWhole
+pub mod TabEvents
+pub mod TabGoing

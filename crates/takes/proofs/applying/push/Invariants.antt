@@ -1,4 +1,0 @@
-use Rattle.takes.proofs.applying.push.Given as goal
-
-abbrev pub ghost-push : goal.ghost-push
-ghost-push g a = g.p.event

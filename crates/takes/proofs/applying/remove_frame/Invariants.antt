@@ -1,4 +1,0 @@
-use Rattle.takes.proofs.applying.remove_frame.Given as goal
-
-abbrev pub ghost-remove_frame : goal.ghost-remove_frame
-ghost-remove_frame g a = g.p.event

@@ -1,4 +1,0 @@
-use Rattle.takes.proofs.taking.denied.Given as goal
-
-abbrev pub ghost-deny : goal.ghost-deny
-ghost-deny g a = g.p.event

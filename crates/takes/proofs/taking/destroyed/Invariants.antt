@@ -1,4 +1,0 @@
-use Rattle.takes.proofs.taking.destroyed.Given as goal
-
-abbrev pub ghost-destroy : goal.ghost-destroy
-ghost-destroy g a = g.p.event

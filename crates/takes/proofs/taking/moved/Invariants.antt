@@ -1,4 +1,0 @@
-use Rattle.takes.proofs.taking.moved.Given as goal
-
-abbrev pub ghost-moved_by : goal.ghost-moved_by
-ghost-moved_by g a = g.p

@@ -1,4 +1,0 @@
-use Rattle.takes.proofs.taking.moved_by.Given as goal
-
-abbrev pub ghost-drop_moved : goal.ghost-drop_moved
-ghost-drop_moved g a = g.p.event

@@ -1,4 +1,0 @@
-use Rattle.turns.proofs.ending.end_running.Given as goal
-
-abbrev pub ghost-end : goal.ghost-end
-ghost-end g a = g.p.event

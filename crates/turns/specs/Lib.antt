@@ -1,3 +1,0 @@
-pub mod Ending
-pub mod Queueing
-pub mod Taking
