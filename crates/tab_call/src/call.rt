@@ -180,8 +180,14 @@ fn tell<K: Sink>(
             log: Some(world.into_log()),
         },
         Some(StepError::Closed) => unreachable!(),
-        Some(StepError::UrlOverflow(overflowed)) => without_log(Status::UrlOverflow(overflowed)),
-        Some(StepError::OutOfMemory) => without_log(Status::OutOfMemory),
+        Some(StepError::UrlOverflow(overflowed)) => {
+            let_go(world);
+            without_log(Status::UrlOverflow(overflowed))
+        }
+        Some(StepError::OutOfMemory) => {
+            let_go(world);
+            without_log(Status::OutOfMemory)
+        }
     }
 }
 
@@ -203,11 +209,12 @@ fn write_text<K: Sink>(
     ensures loads_end { IfSome result.log LoadsEndInTime }
     ensures limited { IfSome result.log (BeginsBelow row_limit) }
 {
-    let text = match report(alloc, &world) {
+    let text = report(alloc, &world);
+    let log = world.into_log();
+    let text = match text {
         Ok(text) => text,
         Err(_) => return without_log(Status::OutOfMemory),
     };
-    let log = world.into_log();
     match write_due(alloc, sink, output, log.rows(), text.bytes()) {
         Ok(()) => Ended {
             status: Status::Done,
@@ -219,6 +226,11 @@ fn write_text<K: Sink>(
         },
         Err(Unwritten::OutOfMemory) => without_log(Status::OutOfMemory),
     }
+}
+
+/// Drops a world, in one place: each that drops one takes long to prove.
+fn let_go(world: World) {
+    let _log = world.into_log();
 }
 
 /// An end with no log.

@@ -2,6 +2,7 @@
 use crate::case::Case;
 use crate::out::{end_line, put, put_line};
 use address::{OutOfMemory, Text};
+use history_log::Log;
 use std::alloc::Global;
 use tab_call::{Ended, Status, play_call, status_line};
 use tab_io::{MemorySink, MemorySource};
@@ -12,10 +13,10 @@ const CHUNK: usize = 16;
 /// The most calls of a sink that are made to fail in turn.
 const MOST_CALLS: u32 = 1_000;
 
-/// A call that has ended, and what it wrote.
+/// How a call ended, and what it wrote.
 #[derive(Drop)]
 struct Called {
-    ended: Ended,
+    status: Status,
     sink: MemorySink,
 }
 
@@ -28,15 +29,19 @@ fn call(
     let bytes = Text::of(alloc, case.input.as_slice())?;
     let mut source = MemorySource::new(bytes, CHUNK, case.source);
     let mut sink = MemorySink::new(alloc, CHUNK, sink);
-    let ended = play_call(alloc, words, &mut source, &mut sink);
-    Ok(Called { ended, sink })
+    let Ended { status, log } = play_call(alloc, words, &mut source, &mut sink);
+    let_go(log);
+    Ok(Called { status, sink })
 }
+
+/// Drops a log, in one place: each that drops one takes long to prove.
+fn let_go(_log: Option<Log>) {}
 
 /// What was written, and the line of the status after `! `, if it has one.
 pub fn tell(alloc: Global, out: &mut Vec<u8>, case: &Case) -> Result<(), OutOfMemory> {
     let called = call(alloc, case.words.as_slice(), case, case.sink)?;
     put(out, called.sink.bytes())?;
-    put_status(alloc, out, &called.ended.status)
+    put_status(alloc, out, &called.status)
 }
 
 fn put_status(alloc: Global, out: &mut Vec<u8>, status: &Status) -> Result<(), OutOfMemory> {
@@ -65,8 +70,8 @@ pub fn tell_faults(alloc: Global, out: &mut Vec<u8>, case: &Case) -> Result<(), 
         };
         let line = format!(in alloc; "call {}: {} bytes {}", nr, written.len(), part)?;
         put_line(out, line.as_bytes())?;
-        put_status(alloc, out, &called.ended.status)?;
-        if called.ended.status == Status::Done {
+        put_status(alloc, out, &called.status)?;
+        if called.status == Status::Done {
             break;
         }
     }

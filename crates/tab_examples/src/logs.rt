@@ -39,15 +39,14 @@ pub fn put_error(alloc: Global, out: &mut Vec<u8>, error: LogTextError) -> Resul
 /// What is asked of the log after each of its rows, the last row first.
 pub fn tell_moments(alloc: Global, out: &mut Vec<u8>, case: &Case) -> Result<(), OutOfMemory> {
     match read_log(alloc, case.input.as_slice()) {
-        Ok(log) => put_moments(alloc, out, log),
+        Ok(mut log) => put_moments(alloc, out, &mut log),
         Err(error) => put_error(alloc, out, error),
     }
 }
 
-fn put_moments(alloc: Global, out: &mut Vec<u8>, log: Log) -> Result<(), OutOfMemory> {
-    let mut log = log;
+fn put_moments(alloc: Global, out: &mut Vec<u8>, log: &mut Log) -> Result<(), OutOfMemory> {
     for _ in 0..log.len() {
-        put_moment(alloc, out, &log)?;
+        put_moment(alloc, out, log)?;
         log.cut(log.len().saturating_sub(1));
     }
     Ok(())

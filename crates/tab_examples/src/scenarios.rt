@@ -2,6 +2,7 @@
 use crate::case::Case;
 use crate::out::{put, put_line};
 use address::OutOfMemory;
+use log_model::Header;
 use report_text::summary;
 use scenario_text::{Built, Refusal, Scenario, ScenarioError};
 use std::alloc::Global;
@@ -34,10 +35,19 @@ fn put_refusal(alloc: Global, out: &mut Vec<u8>, refusal: Refusal) -> Result<(),
 /// The summary of a tab that was opened by the scenario's header, of which no line is played.
 pub fn tell_opened(alloc: Global, out: &mut Vec<u8>, case: &Case) -> Result<(), OutOfMemory> {
     match Scenario::read(alloc, case.input.as_slice(), false, Built::Loads) {
-        Ok(scenario) => {
-            let world = World::fresh(alloc, &scenario.header)?;
-            put(out, summary(alloc, &world)?.bytes())
-        }
+        Ok(scenario) => put_opened(alloc, out, &scenario.header),
         Err(_) => put_line(out, b"! no scenario"),
     }
+}
+
+fn put_opened(alloc: Global, out: &mut Vec<u8>, header: &Header) -> Result<(), OutOfMemory> {
+    let world = World::fresh(alloc, header)?;
+    let told = summary(alloc, &world);
+    let_go(world);
+    put(out, told?.bytes())
+}
+
+/// Drops a world, in one place: each that drops one takes long to prove.
+fn let_go(world: World) {
+    let _log = world.into_log();
 }

@@ -1,0 +1,4 @@
+pub mod Checking
+pub mod Prompting
+pub mod Rows
+pub mod Having
