@@ -13,3 +13,9 @@ pub mod Unneeded
 pub mod Readings
 pub mod Evicted
 pub mod Quiet
+pub mod EventLaws
+pub mod InTime
+pub mod Idle
+pub mod Orders
+pub mod Acts
+pub mod Pokes

@@ -1,3 +1,4 @@
 pub mod Standing
 pub mod Delivering
 pub mod Evicting
+pub mod Keeping

@@ -80,6 +80,13 @@ impl HandlerTable {
         self.kinds.get(slot as usize).copied()
     }
 
+    /// The kinds of the handlers, by slot.
+    pub fn kinds(&self) -> &[HandlerKind]
+        ensures { result.now ≡ self.now.kinds.items }
+    {
+        self.kinds.as_slice()
+    }
+
     /// The handler of a slot.
     fn at(&self, slot: u8) -> Option<&Handler>
         ensures { option_map (λ h. h.kind) (option_copied result) ≡ slice_get self.now.kinds.items slot }

@@ -1,1 +1,3 @@
 pub mod Work
+pub mod Same
+pub mod Answers

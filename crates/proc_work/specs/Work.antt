@@ -1,6 +1,6 @@
 -- What a document process works out for an order.
 -- HTML Standard, "Checking if unloading is canceled"; one outcome for each kind of order is this project's own.
-use Rattle.std.specs.Prelude.{Bool, Option, Some, None, if◌then◌else◌}
+use Rattle.std.specs.Prelude.{Bool, List, slice_get, Option, Some, None, if◌then◌else◌}
 use Rattle.log_model.specs.declared.handler.HandlerKind.{HandlerKind}
 use Rattle.log_model.specs.declared.handler.Leaving.{Leaving}
 use Rattle.log_model.specs.declared.handler.Verdict.{Verdict}
@@ -37,3 +37,8 @@ outcome_of_task (tasks.DoFragment req mode address) dirty kind = outcomes.Fragme
 -- the order worked on, where the asked handler is of this kind
 abbrev pub done_of : Order → Option HandlerKind → Done
 done_of order kind = record { order = order; outcome = outcome_of_task order.job.task order.dirty kind; kind = kind }
+
+-- the kind of the handler that an order asks, of those in these slots: none where the slot is empty, or where the order asks nobody
+abbrev pub kind_asked : List HandlerKind → Task → Option HandlerKind
+kind_asked kinds (tasks.Ask slot cause) = slice_get kinds slot
+kind_asked kinds _ = None

@@ -2,6 +2,7 @@
 #![tactic(auto)]
 
 mod done;
+mod same;
 #[cfg(test)]
 mod tests;
 

@@ -15,7 +15,8 @@ use Rattle.world.specs.declared.event.Reply.TheVariants as replies
 use Rattle.world.specs.Kept.{WorldState}
 use Rattle.world.specs.Open.{row_limit}
 use Rattle.world.specs.Steps.{begin_idles, idle_reply, StepsAs, Steps}
-use Rattle.scenario_play.specs.Courses.{order_of}
+use Rattle.scenario_play.specs.Courses.{IsOfHand, order_of}
+use Rattle.proc_work.proofs.SameLaws.{order_itself}
 use Rattle.scenario_play.specs.Moves.{MovesIf, has_poke, has_order, has_mail, has_report}
 
 -- the world is open, and its log is no shorter
@@ -69,9 +70,9 @@ begin_moves old new proc reply open_ steps =
 
 -- where an order was taken up, one waited
 pub took_moves : (old mid : WorldState) (proc : ProcId) (order : Order) → Steps old (events.Begin proc) (Ok (replies.Took order)) mid → has_mail old.log proc ≡ true
-took_moves old mid proc order steps = by_idle (idle_reply (seen_of old.log) (events.Begin proc)) refl steps
+took_moves old mid proc order steps = by_idle (idle_reply old.kinds (seen_of old.log) (events.Begin proc)) refl steps
   where
-    by_idle : (idle : Option Reply) → idle_reply (seen_of old.log) (events.Begin proc) ≡ idle → StepsAs old (events.Begin proc) idle (Ok (replies.Took order)) mid → has_mail old.log proc ≡ true
+    by_idle : (idle : Option Reply) → idle_reply old.kinds (seen_of old.log) (events.Begin proc) ≡ idle → StepsAs old (events.Begin proc) idle (Ok (replies.Took order)) mid → has_mail old.log proc ≡ true
     by_idle (Some answer) e steps =
         let none : order_of answer ≡ None = idles_without (in_hand_of old.log proc) (length (mail_of old.log proc)) answer e in
         let some : order_of answer ≡ Some order = ap order_of (sym steps.0) in
@@ -92,10 +93,9 @@ begun_moves old mid new proc order open_ steps moves =
       idle = λ e. absurd (let wrong : true ≡ false = sym due ∙ e in cc);
     }
 
-pub finish_moves : (old new : WorldState) (proc : ProcId) (order : Order) (done : worked.Done) (reply : Reply) → old.closed ≡ false → in_hand_of old.log proc ≡ Some order → done.order ≡ order → Steps old (events.Finish proc done) (Ok reply) new → MovesIf true old new
-finish_moves old new proc order done reply open_ hand same steps =
-    let test : (order.job.nr.0 == done.order.job.nr.0) ≡ true = rw same (eq-eqb order.job.nr.0 order.job.nr.0 refl) in
-    let due : idle_reply (seen_of old.log) (events.Finish proc done) ≡ None = rw hand (rw test refl) in
+pub finish_moves : (old new : WorldState) (proc : ProcId) (done : worked.Done) (reply : Reply) → old.closed ≡ false → IsOfHand old.kinds old.log (events.Finish proc done) → Steps old (events.Finish proc done) (Ok reply) new → MovesIf true old new
+finish_moves old new proc done reply open_ hand steps =
+    let due : idle_reply old.kinds (seen_of old.log) (events.Finish proc done) ≡ None = rw hand.0 (rw (order_itself done.order, hand.1) refl) in
     subst (λ (b : Bool). MovesIf b old new) (ap (λ (o : Option Reply). is_none o) due) (answered_moves old new (events.Finish proc done) _ reply open_ steps)
 
 -- where something waits, and neither a poke nor an order does, a report does

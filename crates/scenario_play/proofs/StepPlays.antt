@@ -4,6 +4,7 @@ use Rattle.std.specs.Prelude.{IsSome, IsSomeAnd, slice_get, is_some, is_none, op
 use Rattle.std.proofs.lemmas.Bool.{eq-eqb}
 use Rattle.tab_ids.specs.declared.ProcId.{ProcId}
 use Rattle.tab_ids.specs.declared.ReqId.{ReqId}
+use Rattle.log_model.specs.declared.handler.HandlerKind.{HandlerKind}
 use Rattle.log_model.specs.declared.job.Job.{Job}
 use Rattle.log_model.specs.declared.job.Order.{Order}
 use Rattle.log_model.specs.declared.made.What.{What}
@@ -34,6 +35,7 @@ use Rattle.world.specs.declared.event.Reply.TheVariants as replies
 use Rattle.world.specs.Kept.{WorldState}
 use Rattle.world.specs.Open.{view_in}
 use Rattle.world.specs.Steps.{actor_of, act_row, acted_row, order_for, row_in, begin_idles, idle_reply, longest_kept, Begins, HasHappened, StepsAs, Steps}
+use Rattle.proc_work.proofs.SameLaws.{order_itself}
 use Rattle.scenario_play.specs.Courses.{Leads, Cuts, Plays, line_of, order_of, IsOfHand}
 use Rattle.scenario_play.proofs.StepMoves.{idles_without}
 use Rattle.scenario_play.proofs.LeadLaws.{leads_none, leads_event, cuts_here, all_done, all_leads, all_cuts, all_then, all_cut, all_last, all_appended, all_appended_cut, all_cut_front}
@@ -62,19 +64,19 @@ some_if true reply = refl
 some_if false reply = refl
 
 -- the line is passed over where the event logs nothing
-passed_is : (log : List LogRow) (event : Event) → IsOfHand log event → is_passed (seen_of log) (line_of event) ≡ is_some (idle_reply (seen_of log) event)
-passed_is log (events.Load nav mode address) hand = refl
-passed_is log (events.Go delta) hand = refl
-passed_is log (events.Poke nav action) hand = refl
-passed_is log events.Evict hand = some_if (length (seen_of log).kept == 0) replies.NothingKept
-passed_is log (events.Act proc) hand = some_if (length (desk_of (seen_of log) proc).input == 0) replies.Empty
-passed_is log (events.Begin proc) hand = by_hand (in_hand_of log proc) (length (mail_of log proc))
+passed_is : (kinds : List HandlerKind) (log : List LogRow) (event : Event) → IsOfHand kinds log event → is_passed (seen_of log) (line_of event) ≡ is_some (idle_reply kinds (seen_of log) event)
+passed_is kinds log (events.Load nav mode address) hand = refl
+passed_is kinds log (events.Go delta) hand = refl
+passed_is kinds log (events.Poke nav action) hand = refl
+passed_is kinds log events.Evict hand = some_if (length (seen_of log).kept == 0) replies.NothingKept
+passed_is kinds log (events.Act proc) hand = some_if (length (desk_of (seen_of log) proc).input == 0) replies.Empty
+passed_is kinds log (events.Begin proc) hand = by_hand (in_hand_of log proc) (length (mail_of log proc))
   where
     by_hand : (order : Option Order) (waiting : ℕ) → (is_some order || waiting == 0) ≡ is_some (begin_idles order waiting)
     by_hand (Some order) waiting = refl
     by_hand None waiting = some_if (waiting == 0) replies.Empty
-passed_is log (events.Finish proc done) hand = rw hand (rw (number_itself done.order.job.nr.0) refl)
-passed_is log (events.Deliver proc) hand = some_if (length (desk_of (seen_of log) proc).reports == 0) replies.Empty
+passed_is kinds log (events.Finish proc done) hand = rw hand.0 (rw (order_itself done.order, hand.1) refl)
+passed_is kinds log (events.Deliver proc) hand = some_if (length (desk_of (seen_of log) proc).reports == 0) replies.Empty
 
 -- what follows from what is there
 of_some : {A : Type 0} {C : Type 0} (o : Option A) (P : A → Type 0) → ((x : A) → P x → C) → IsSomeAnd o P → C
@@ -115,7 +117,7 @@ own_is s (events.Act proc) reply own out begins =
 own_is s (events.Begin proc) reply own out begins =
     of_some (slice_get (desk_of s proc).mail 0) _ (λ job is. rw is.1 (number_itself proc.0)) begins.1
 own_is s (events.Finish proc done) reply own out begins =
-    of_some (desk_of s proc).in_hand _ (λ order is. rw is.0 (number_itself proc.0)) begins.1
+    of_some (desk_of s proc).in_hand _ (λ order is. rw is.1 (number_itself proc.0)) begins.1
 own_is s (events.Deliver proc) reply own out begins = rw begins.1 (number_itself proc.0)
 
 -- its rows have its number
@@ -147,9 +149,9 @@ answered_plays old new event None (Err errors.OutOfMemory) legal passed steps =
     cuts_as_it_stands (line_of event) old.log new.log (ap (λ (w : WorldState). w.log) steps.1) passed
 
 -- a step of an open world plays the line of its event
-pub step_plays : (old new : WorldState) (event : Event) (result : Result Reply StepError) → IsLegal old.log → IsOfHand old.log event → Steps old event result new → Plays (does (line_of event)) old.log result new.log
+pub step_plays : (old new : WorldState) (event : Event) (result : Result Reply StepError) → IsLegal old.log → IsOfHand old.kinds old.log event → Steps old event result new → Plays (does (line_of event)) old.log result new.log
 step_plays old new event result legal hand steps =
-    answered_plays old new event (idle_reply (seen_of old.log) event) result legal (passed_is old.log event hand) steps
+    answered_plays old new event (idle_reply old.kinds (seen_of old.log) event) result legal (passed_is old.kinds old.log event hand) steps
 
 -- ---- lines that are passed over, or due
 
@@ -178,7 +180,7 @@ took_is _ order e = cc
 
 -- the order that was taken up is in hand
 pub taken_in_hand : (old new : WorldState) (proc : ProcId) (reply : Reply) (order : Order) → Steps old (events.Begin proc) (Ok reply) new → order_of reply ≡ Some order → in_hand_of new.log proc ≡ Some order
-taken_in_hand old new proc reply order steps taken = by_idle (idle_reply (seen_of old.log) (events.Begin proc)) refl steps
+taken_in_hand old new proc reply order steps taken = by_idle (idle_reply old.kinds (seen_of old.log) (events.Begin proc)) refl steps
   where
     s : Seen
     s = seen_of old.log
@@ -197,7 +199,7 @@ taken_in_hand old new proc reply order steps taken = by_idle (idle_reply (seen_o
     by_first happened None at some = elim some [ ]
     by_first happened (Some job) at some = by_job happened job at some
 
-    by_idle : (idle : Option Reply) → idle_reply s (events.Begin proc) ≡ idle → StepsAs old (events.Begin proc) idle (Ok reply) new → in_hand_of new.log proc ≡ Some order
+    by_idle : (idle : Option Reply) → idle_reply old.kinds s (events.Begin proc) ≡ idle → StepsAs old (events.Begin proc) idle (Ok reply) new → in_hand_of new.log proc ≡ Some order
     by_idle (Some answer) e steps =
         let none : order_of answer ≡ None = idles_without (in_hand_of old.log proc) (length (mail_of old.log proc)) answer e in
         let some : order_of answer ≡ Some order = ap order_of (sym steps.0) ∙ taken in
@@ -206,7 +208,7 @@ taken_in_hand old new proc reply order steps taken = by_idle (idle_reply (seen_o
 
 -- where none was, nothing happened
 pub none_taken : (old new : WorldState) (proc : ProcId) (reply : Reply) → Steps old (events.Begin proc) (Ok reply) new → order_of reply ≡ None → new ≡ old
-none_taken old new proc reply steps taken = by_idle (idle_reply (seen_of old.log) (events.Begin proc)) steps
+none_taken old new proc reply steps taken = by_idle (idle_reply old.kinds (seen_of old.log) (events.Begin proc)) steps
   where
     by_idle : (idle : Option Reply) → StepsAs old (events.Begin proc) idle (Ok reply) new → new ≡ old
     by_idle (Some answer) steps = steps.1

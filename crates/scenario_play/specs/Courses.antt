@@ -1,11 +1,13 @@
 -- How the log of a world goes on along a scenario: what was played of it, and where an event that was due is missing.
 -- This project's own.
-use Rattle.std.specs.Prelude.{◌≡◌, ◌+◌, ◌≤◌, ℕ, List, ◌++◌, length, Option, Some, None, Result, Ok, Err}
+use Rattle.std.specs.Prelude.{◌≡◌, true, ◌+◌, ◌≤◌, ℕ, List, ◌++◌, length, Option, Some, None, Result, Ok, Err}
+use Rattle.log_model.specs.declared.handler.HandlerKind.{HandlerKind}
 use Rattle.log_model.specs.declared.job.Order.{Order}
 use Rattle.log_model.specs.declared.request.Request.TheVariants as requests
 use Rattle.log_model.specs.declared.row_kind.LogRow.{LogRow}
 use Rattle.log_model.specs.Events.{events_of}
 use Rattle.log_model.specs.Logs.{seen_of, in_hand_of}
+use Rattle.proc_work.specs.Answers.{has_kind_of}
 use Rattle.scenario_text.specs.declared.line.ScenarioLine.{ScenarioLine}
 use Rattle.scenario_text.specs.declared.line.ScenarioLine.TheVariants as lines
 use Rattle.scenario_text.specs.Follows.{Stage, goes, stops, rounds}
@@ -50,16 +52,17 @@ line_of (events.Begin proc) = lines.Begin proc
 line_of (events.Finish proc done) = lines.Finish proc
 line_of (events.Deliver proc) = lines.Deliver proc
 
--- what is finished is the order in hand
-abbrev pub IsOfHand : List LogRow → Event → Type 0
-IsOfHand log (events.Load nav mode address) = Unit {0}
-IsOfHand log (events.Go delta) = Unit {0}
-IsOfHand log (events.Poke nav action) = Unit {0}
-IsOfHand log events.Evict = Unit {0}
-IsOfHand log (events.Act proc) = Unit {0}
-IsOfHand log (events.Begin proc) = Unit {0}
-IsOfHand log (events.Finish proc done) = in_hand_of log proc ≡ Some done.order
-IsOfHand log (events.Deliver proc) = Unit {0}
+-- what is finished is the order in hand, and a handler of the kind of its slot was asked, if one was
+abbrev pub IsOfHand : List HandlerKind → List LogRow → Event → Type 0
+IsOfHand kinds log (events.Load nav mode address) = Unit {0}
+IsOfHand kinds log (events.Go delta) = Unit {0}
+IsOfHand kinds log (events.Poke nav action) = Unit {0}
+IsOfHand kinds log events.Evict = Unit {0}
+IsOfHand kinds log (events.Act proc) = Unit {0}
+IsOfHand kinds log (events.Begin proc) = Unit {0}
+IsOfHand kinds log (events.Finish proc done) =
+    (in_hand_of log proc ≡ Some done.order) × (has_kind_of kinds done.order.job.task done.kind ≡ true)
+IsOfHand kinds log (events.Deliver proc) = Unit {0}
 
 -- the order that a process took up
 abbrev pub order_of : Reply → Option Order

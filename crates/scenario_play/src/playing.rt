@@ -8,6 +8,7 @@ ghost use Rattle.scenario_play.specs.Lines.{IsBuiltLine, IsBuiltRequest};
 ghost use Rattle.scenario_play.specs.Moves.{HaveTurns, IsFault};
 
 use crate::round::{act, deliver, finish_in_hand, settle, step, take_up};
+use handler_table::HandlerTable;
 use log_model::Request;
 use scenario_text::{Scenario, ScenarioLine};
 use world::{Event, StepError, World};
@@ -19,13 +20,14 @@ pub struct Played {
     pub fault: Option<StepError>,
 }
 
-/// Plays the lines in order, in a tab that was just opened as the scenario's header says. The world is always given back.
+/// Plays the lines in order, in a tab that was just opened as the scenario's header says, with these unload handlers. The world is always given back.
 ///
 /// Where there is a fault, its log ends before the event that failed.
-pub fn play(scenario: &Scenario, world: World) -> Played
+pub fn play(scenario: &Scenario, world: World, handlers: &HandlerTable) -> Played
     requires open { world.closed ≡ false }
     requires opened { length world.log ≡ 1 }
     requires header { world.header ≡ scenario.now.header }
+    requires kinds { world.kinds ≡ handlers.now.kinds.items }
     requires suits { Suits scenario.now.header world.log }
     requires pages { scenario.now.header.pages ≡ [] }
     // A round of a settle has a turn of each process of the settings.
@@ -36,9 +38,10 @@ pub fn play(scenario: &Scenario, world: World) -> Played
     ensures cut { IsSome result.fault → IfSome result.world (λ w. IsCutShort w.log scenario.now) }
     ensures faults { IfSome result.fault (λ e. IfSome result.world (λ w. IsFault w e)) }
     ensures given { IsSome result.world }
+    ensures kinds { IfSome result.world (λ w. w.kinds ≡ handlers.now.kinds.items) }
 {
     let mut world = world;
-    let played = play_lines(&mut world, scenario.lines.as_slice());
+    let played = play_lines(&mut world, scenario.lines.as_slice(), handlers);
     // Brings what holds of every world's log.
     let _log = world.log();
     match played {
@@ -53,28 +56,40 @@ pub fn play(scenario: &Scenario, world: World) -> Played
     }
 }
 
-fn play_lines(world: &mut World, lines: &[ScenarioLine]) -> Result<(), StepError>
+fn play_lines(
+    world: &mut World,
+    lines: &[ScenarioLine],
+    handlers: &HandlerTable,
+) -> Result<(), StepError>
+    requires kinds { world.old.kinds ≡ handlers.now.kinds.items }
     requires open { world.old.closed ≡ false }
     requires turns { HaveTurns world.old.header }
     requires built { All IsBuiltLine lines.now }
     ensures open { OnOk result (world.new.closed ≡ false) }
     ensures header { world.new.header ≡ world.old.header }
+    ensures kinds { world.new.kinds ≡ world.old.kinds }
     ensures faults { IfErr result (IsFault world.new) }
     ensures plays { Plays (plays lines.now) world.old.log result world.new.log }
 {
     for line in lines {
-        play_line(world, line)?;
+        play_line(world, line, handlers)?;
     }
     Ok(())
 }
 
 /// Plays one line. An answer that logs nothing is passed over.
-fn play_line(world: &mut World, line: &ScenarioLine) -> Result<(), StepError>
+fn play_line(
+    world: &mut World,
+    line: &ScenarioLine,
+    handlers: &HandlerTable,
+) -> Result<(), StepError>
+    requires kinds { world.old.kinds ≡ handlers.now.kinds.items }
     requires open { world.old.closed ≡ false }
     requires turns { HaveTurns world.old.header }
     requires built { IsBuiltLine line.now }
     ensures open { OnOk result (world.new.closed ≡ false) }
     ensures header { world.new.header ≡ world.old.header }
+    ensures kinds { world.new.kinds ≡ world.old.kinds }
     ensures faults { IfErr result (IsFault world.new) }
     ensures plays { Plays (plays_line line.now) world.old.log result world.new.log }
 {
@@ -82,9 +97,9 @@ fn play_line(world: &mut World, line: &ScenarioLine) -> Result<(), StepError>
         ScenarioLine::Ask(request) => ask(world, request),
         ScenarioLine::Act { proc } => act(world, *proc),
         ScenarioLine::Begin { proc } => take_up(world, *proc),
-        ScenarioLine::Finish { proc } => finish_in_hand(world, *proc),
+        ScenarioLine::Finish { proc } => finish_in_hand(world, *proc, handlers),
         ScenarioLine::Deliver { proc } => deliver(world, *proc),
-        ScenarioLine::Settle => settle(world),
+        ScenarioLine::Settle => settle(world, handlers),
         ScenarioLine::Evict => evict(world),
         ScenarioLine::Answer { .. } | ScenarioLine::Kill { .. } => unreachable!(),
     }
@@ -96,6 +111,7 @@ fn ask(world: &mut World, request: &Request) -> Result<(), StepError>
     requires built { IsBuiltRequest request.now }
     ensures open { OnOk result (world.new.closed ≡ false) }
     ensures header { world.new.header ≡ world.old.header }
+    ensures kinds { world.new.kinds ≡ world.old.kinds }
     ensures faults { IfErr result (IsFault world.new) }
     ensures plays { Plays (does (lines.Ask request.now)) world.old.log result world.new.log }
 {
@@ -132,6 +148,7 @@ fn evict(world: &mut World) -> Result<(), StepError>
     requires open { world.old.closed ≡ false }
     ensures open { OnOk result (world.new.closed ≡ false) }
     ensures header { world.new.header ≡ world.old.header }
+    ensures kinds { world.new.kinds ≡ world.old.kinds }
     ensures faults { IfErr result (IsFault world.new) }
     ensures plays { Plays (does lines.Evict) world.old.log result world.new.log }
 {

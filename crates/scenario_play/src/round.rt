@@ -10,49 +10,56 @@ ghost use Rattle.world.specs.Steps.{IsBuilt, Steps};
 ghost use Rattle.scenario_play.specs.Courses.{IsOfHand, Plays, line_of, order_of};
 ghost use Rattle.scenario_play.specs.Moves.{HaveTurns, IsFault, MovesIf, has_poke, has_order, has_mail, has_report};
 
+use handler_table::HandlerTable;
 use log_model::Order;
 use proc_work::work;
 use tab_ids::ProcId;
 use world::{Event, Reply, StepError, World};
 
 /// Goes in rounds until nothing is in transit.
-pub(crate) fn settle(world: &mut World) -> Result<(), StepError>
+pub(crate) fn settle(world: &mut World, handlers: &HandlerTable) -> Result<(), StepError>
+    requires kinds { world.old.kinds ≡ handlers.now.kinds.items }
     requires open { world.old.closed ≡ false }
     requires turns { HaveTurns world.old.header }
     ensures open { OnOk result (world.new.closed ≡ false) }
     ensures header { world.new.header ≡ world.old.header }
+    ensures kinds { world.new.kinds ≡ world.old.kinds }
     ensures faults { IfErr result (IsFault world.new) }
     ensures still { OnOk result (is_still (seen_of world.new.log) ≡ true) }
     ensures plays { Plays settles world.old.log result world.new.log }
 {
     'rounds: while !world.is_still() {
-        round(world)?;
+        round(world, handlers)?;
     }
     Ok(())
 }
 
 /// One round, through all processes that a scenario may name.
-fn round(world: &mut World) -> Result<(), StepError>
+fn round(world: &mut World, handlers: &HandlerTable) -> Result<(), StepError>
+    requires kinds { world.old.kinds ≡ handlers.now.kinds.items }
     requires open { world.old.closed ≡ false }
     requires turns { HaveTurns world.old.header }
     requires busy { SomeWaits world.old.header (seen_of world.old.log) }
     ensures open { OnOk result (world.new.closed ≡ false) }
     ensures header { world.new.header ≡ world.old.header }
+    ensures kinds { world.new.kinds ≡ world.old.kinds }
     ensures faults { IfErr result (IsFault world.new) }
     ensures longer { OnOk result (length world.old.log < length world.new.log) }
     ensures below { OnOk result (length world.old.log < row_limit) }
     ensures plays { Plays a_round world.old.log result world.new.log }
 {
     for number in 1..17 {
-        turn(world, ProcId(number))?;
+        turn(world, ProcId(number), handlers)?;
     }
     Ok(())
 }
 
 /// The turn of a process: it acts, works on an order, and the coordinator takes a report of it.
-fn turn(world: &mut World, proc: ProcId) -> Result<(), StepError>
+fn turn(world: &mut World, proc: ProcId, handlers: &HandlerTable) -> Result<(), StepError>
+    requires kinds { world.old.kinds ≡ handlers.now.kinds.items }
     requires open { world.old.closed ≡ false }
     ensures header { world.new.header ≡ world.old.header }
+    ensures kinds { world.new.kinds ≡ world.old.kinds }
     ensures faults { IfErr result (IsFault world.new) }
     ensures moves { OnOk result (MovesIf (not (is_idle (desk_of (seen_of world.old.log) proc))) world.old world.new) }
     ensures plays { Plays (does_all (turn_of proc)) world.old.log result world.new.log }
@@ -62,7 +69,7 @@ fn turn(world: &mut World, proc: ProcId) -> Result<(), StepError>
         return Ok(());
     }
     act(world, proc)?;
-    work_on(world, proc)?;
+    work_on(world, proc, handlers)?;
     deliver(world, proc)?;
     Ok(())
 }
@@ -80,6 +87,7 @@ fn is_idle(world: &World, proc: ProcId) -> bool
 pub(crate) fn act(world: &mut World, proc: ProcId) -> Result<(), StepError>
     requires open { world.old.closed ≡ false }
     ensures header { world.new.header ≡ world.old.header }
+    ensures kinds { world.new.kinds ≡ world.old.kinds }
     ensures faults { IfErr result (IsFault world.new) }
     ensures moves { OnOk result (MovesIf (has_poke world.old.log proc) world.old world.new) }
     ensures plays { Plays (does (lines.Act proc)) world.old.log result world.new.log }
@@ -104,16 +112,18 @@ fn has_poke(world: &World, proc: ProcId) -> bool
 }
 
 /// Lets the process finish the order in hand, or else take one up and finish it.
-fn work_on(world: &mut World, proc: ProcId) -> Result<(), StepError>
+fn work_on(world: &mut World, proc: ProcId, handlers: &HandlerTable) -> Result<(), StepError>
+    requires kinds { world.old.kinds ≡ handlers.now.kinds.items }
     requires open { world.old.closed ≡ false }
     ensures header { world.new.header ≡ world.old.header }
+    ensures kinds { world.new.kinds ≡ world.old.kinds }
     ensures faults { IfErr result (IsFault world.new) }
     ensures moves { OnOk result (MovesIf (has_order world.old.log proc) world.old world.new) }
     ensures plays { Plays (does_all (lines.Begin proc ∷ lines.Finish proc ∷ [])) world.old.log result world.new.log }
 {
     match in_hand(world, proc)? {
-        Some(order) => finish(world, proc, order),
-        None => begin(world, proc),
+        Some(order) => finish(world, proc, order, handlers),
+        None => begin(world, proc, handlers),
     }
 }
 
@@ -134,15 +144,22 @@ fn in_hand(world: &World, proc: ProcId) -> Result<Option<Order>, StepError>
 }
 
 /// Lets the process finish the order in hand.
-fn finish(world: &mut World, proc: ProcId, order: Order) -> Result<(), StepError>
+fn finish(
+    world: &mut World,
+    proc: ProcId,
+    order: Order,
+    handlers: &HandlerTable,
+) -> Result<(), StepError>
+    requires kinds { world.old.kinds ≡ handlers.now.kinds.items }
     requires open { world.old.closed ≡ false }
     requires hand { in_hand_of world.old.log proc ≡ Some order }
     ensures header { world.new.header ≡ world.old.header }
+    ensures kinds { world.new.kinds ≡ world.old.kinds }
     ensures faults { IfErr result (IsFault world.new) }
     ensures moves { OnOk result (MovesIf true world.old world.new) }
     ensures plays { Plays (does (lines.Finish proc)) world.old.log result world.new.log }
 {
-    let done = match work(order) {
+    let done = match work(order, handlers) {
         Ok(done) => done,
         Err(_) => return Err(StepError::OutOfMemory),
     };
@@ -157,6 +174,7 @@ pub(crate) fn take_up(world: &mut World, proc: ProcId) -> Result<(), StepError>
     requires open { world.old.closed ≡ false }
     ensures open { OnOk result (world.new.closed ≡ false) }
     ensures header { world.new.header ≡ world.old.header }
+    ensures kinds { world.new.kinds ≡ world.old.kinds }
     ensures faults { IfErr result (IsFault world.new) }
     ensures plays { Plays (does (lines.Begin proc)) world.old.log result world.new.log }
 {
@@ -167,24 +185,32 @@ pub(crate) fn take_up(world: &mut World, proc: ProcId) -> Result<(), StepError>
 }
 
 /// Lets the process finish the order in hand, if there is one.
-pub(crate) fn finish_in_hand(world: &mut World, proc: ProcId) -> Result<(), StepError>
+pub(crate) fn finish_in_hand(
+    world: &mut World,
+    proc: ProcId,
+    handlers: &HandlerTable,
+) -> Result<(), StepError>
+    requires kinds { world.old.kinds ≡ handlers.now.kinds.items }
     requires open { world.old.closed ≡ false }
     ensures open { OnOk result (world.new.closed ≡ false) }
     ensures header { world.new.header ≡ world.old.header }
+    ensures kinds { world.new.kinds ≡ world.old.kinds }
     ensures faults { IfErr result (IsFault world.new) }
     ensures plays { Plays (does (lines.Finish proc)) world.old.log result world.new.log }
 {
     match in_hand(world, proc)? {
-        Some(order) => finish(world, proc, order),
+        Some(order) => finish(world, proc, order, handlers),
         None => Ok(()),
     }
 }
 
 /// Lets the process take up the first order of its mail and finish it.
-fn begin(world: &mut World, proc: ProcId) -> Result<(), StepError>
+fn begin(world: &mut World, proc: ProcId, handlers: &HandlerTable) -> Result<(), StepError>
+    requires kinds { world.old.kinds ≡ handlers.now.kinds.items }
     requires open { world.old.closed ≡ false }
     requires free { in_hand_of world.old.log proc ≡ None }
     ensures header { world.new.header ≡ world.old.header }
+    ensures kinds { world.new.kinds ≡ world.old.kinds }
     ensures faults { IfErr result (IsFault world.new) }
     ensures moves { OnOk result (MovesIf (has_mail world.old.log proc) world.old world.new) }
     ensures plays { Plays (does_all (lines.Begin proc ∷ lines.Finish proc ∷ [])) world.old.log result world.new.log }
@@ -195,7 +221,7 @@ fn begin(world: &mut World, proc: ProcId) -> Result<(), StepError>
     }
     let reply = step(world, Event::Begin { proc })?;
     match taken(reply) {
-        Some(order) => finish(world, proc, order),
+        Some(order) => finish(world, proc, order, handlers),
         None => Ok(()),
     }
 }
@@ -233,6 +259,7 @@ fn taken(reply: Reply) -> Option<Order>
 pub(crate) fn deliver(world: &mut World, proc: ProcId) -> Result<(), StepError>
     requires open { world.old.closed ≡ false }
     ensures header { world.new.header ≡ world.old.header }
+    ensures kinds { world.new.kinds ≡ world.old.kinds }
     ensures faults { IfErr result (IsFault world.new) }
     ensures moves { OnOk result (MovesIf (has_report world.old.log proc) world.old world.new) }
     ensures plays { Plays (does (lines.Deliver proc)) world.old.log result world.new.log }
@@ -247,9 +274,10 @@ pub(crate) fn deliver(world: &mut World, proc: ProcId) -> Result<(), StepError>
 pub(crate) fn step(world: &mut World, event: Event) -> Result<Reply, StepError>
     requires open { world.old.closed ≡ false }
     requires built { IsBuilt event }
-    requires hand { IsOfHand world.old.log event }
+    requires hand { IsOfHand world.old.kinds world.old.log event }
     ensures steps { Steps world.old event result world.new }
     ensures header { world.new.header ≡ world.old.header }
+    ensures kinds { world.new.kinds ≡ world.old.kinds }
     ensures faults { IfErr result (IsFault world.new) }
     ensures plays { Plays (does (line_of event)) world.old.log result world.new.log }
 {

@@ -1,4 +1,5 @@
 pub mod Plainly
+pub mod Passed
 pub mod Stays
 pub mod Rows
 pub mod Begun

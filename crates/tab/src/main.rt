@@ -1,6 +1,9 @@
 //! `tab` plays what is asked of a browser tab and reports its session history, or makes a scenario to play.
 #![tactic(auto)]
 
+use handler_table::HandlerTable;
+use log_model::{HandlerKind, LeaveCause, Leaving, Verdict};
+use std::alloc::AllocError;
 use std::io::BufWriter;
 use std::process::ExitCode;
 use std::{env, io, mem};
@@ -9,6 +12,9 @@ use tab_io::{StdSink, StdSource};
 
 const USAGE: &str =
     "usage: tab play [log] < SCENARIO\n       tab make N\n\n`play` plays a scenario from standard input and prints the report of its log; with `log` the log before it, a line for each row.\n`make` prints the scenario that is made of the number N, of 1 to 9 digits, and reads nothing.\n";
+
+/// What an unload handler answers as its document is to be left.
+type Ask = Box<dyn Fn(Leaving) -> Verdict + Send + Sync>;
 
 fn main(rt: HostRuntime) -> ExitCode {
     let mut words = Vec::new(rt.alloc());
@@ -26,18 +32,57 @@ fn main(rt: HostRuntime) -> ExitCode {
         let _ = rt.print(text);
         return ExitCode::from(0);
     }
+    match run(&rt, words.as_slice()) {
+        Ok(status) => end(&rt, &status),
+        Err(_) => end(&rt, &Status::OutOfMemory),
+    }
+}
+
+/// Does what the words ask, with the unload handlers of slots 0, 1 and 2: one prompts where the document has unsaved edits, one always, one where it has unsaved edits and isn't left by a traversal.
+fn run(rt: &HostRuntime, words: &[String]) -> Result<Status, AllocError> {
+    let mut handlers = HandlerTable::new(rt.alloc());
+    let dirty: Ask = Box::new(rt.alloc(), |leaving: Leaving| {
+        if leaving.dirty {
+            Verdict::Prompt
+        } else {
+            Verdict::Leave
+        }
+    })?;
+    handlers
+        .add(HandlerKind::Dirty, dirty)
+        .map_err(|_| AllocError)?;
+    let always: Ask = Box::new(rt.alloc(), |_: Leaving| Verdict::Prompt)?;
+    handlers
+        .add(HandlerKind::Always, always)
+        .map_err(|_| AllocError)?;
+    let draft: Ask = Box::new(rt.alloc(), |leaving: Leaving| match leaving.cause {
+        LeaveCause::Traverse => Verdict::Leave,
+        LeaveCause::Load | LeaveCause::Reload => {
+            if leaving.dirty {
+                Verdict::Prompt
+            } else {
+                Verdict::Leave
+            }
+        }
+    })?;
+    handlers
+        .add(HandlerKind::Draft, draft)
+        .map_err(|_| AllocError)?;
+    call(rt, words, handlers)
+}
+
+/// Calls the program's work over the standard streams.
+fn call(rt: &HostRuntime, words: &[String], handlers: HandlerTable) -> Result<Status, AllocError> {
     let mut source = StdSource::new(rt.reader());
-    let Ok(writer) = BufWriter::new(rt.alloc(), io::writer(&rt)) else {
-        return end(&rt, &Status::OutOfMemory);
-    };
+    let writer = BufWriter::new(rt.alloc(), io::writer(rt)).map_err(|_| AllocError)?;
     let mut sink = StdSink::new(writer);
-    let Ended { status, log } = play_call(rt.alloc(), words.as_slice(), &mut source, &mut sink);
+    let Ended { status, log } = play_call(rt.alloc(), words, &mut source, &mut sink, handlers);
     // The process is about to end, which frees a long log at once, and not row by row.
     mem::forget(log);
     if sink.flush().is_err() {
-        return end(&rt, &Status::WriteFault);
+        return Ok(Status::WriteFault);
     }
-    end(&rt, &status)
+    Ok(status)
 }
 
 /// The text of `--help` and `--version`.

@@ -129,7 +129,7 @@ module _ (e : InEvent) (t : Tables) (queue : Queue) (blame : List (StateId × Re
       let old = was r q at in
       ap (λ (w : Asked). w.goal) (sym old.2) ∙ stands.tied.goal r old.0 is old.1
 
-  -- nobody is asked, so orders may be for whom they might be
+  -- all have passed their checks, so orders may be for whom they might be
   serves : (req : ReqId) → MayServe s req → MayServe n req
   serves req may = by_found (request_of s req) refl
     where
@@ -142,8 +142,7 @@ module _ (e : InEvent) (t : Tables) (queue : Queue) (blame : List (StateId × Re
           let never : false ≡ true = sym (ap (λ (o : Option Asked). holds (λ (q : Asked). implies (is_checked q) (has_passed s q)) o) none) ∙ may.goes in absurd cc
       by_found (Some q) at =
           let now = there req q at in
-          let asked : IsAskedPlainly req now.0 = between.tab.asked.each req now.0 now.1 in
-          let passes : has_passed n now.0 ≡ true = rw asked.unasked (rw asked.unprompted refl) in
+          let passes : has_passed n now.0 ≡ true = between.tab.asked.passed req now.0 now.1 in
           record {
             goes = ap (λ (o : Option Asked). holds (λ (x : Asked). implies (is_checked x) (has_passed n x)) o) now.1 ∙ implied (is_checked now.0) (has_passed n now.0) passes;
             begun = λ x found goes. (let same : now.0 ≡ x = some_same (sym now.1 ∙ found) in let ways : bare x ≡ bare q = ap bare (sym same) ∙ now.2 in ap (λ (w : Asked). w.is_started) ways ∙ may.begun q at (ap (λ (w : Asked). is_traversal w.what) (sym ways) ∙ goes));

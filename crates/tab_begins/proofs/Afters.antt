@@ -665,7 +665,7 @@ module _ (p : InPass) (out : List RowKind) (t : Tables) (passing : IsPassing p o
           gone l asked =
               let two : Some asked.q ≡ Some l.mover = sym asked.at ∙ ap (λ (x : ReqId). request_of n x) (req_same r load.req same) ∙ l.found in
               let one : asked.q ≡ l.mover = cc in
-              let none : asked.q.change ≡ None = (tab_n.movers.unasked r asked.q asked.at).unchanged (open_of asked.q asked.ongoing) in
+              let none : asked.q.change ≡ None = (tab_n.movers.ends r asked.q asked.at).unchanged (open_of asked.q asked.ongoing) in
               let never : None ≡ Some l.change = sym none ∙ ap (λ (x : Asked). x.change) one ∙ l.changed in
               absurd cc
 

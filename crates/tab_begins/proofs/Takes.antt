@@ -131,7 +131,7 @@ module _ (p : InPass) (out : List RowKind) (t : Tables) (passing : IsPassing p o
 
       -- the load is the last that was applied
       pub taken_last : IsLoadApplied x nav req
-      taken_last = applied_on y x left nav req (mid_pass.going.tab.movers.unasked) mid_last
+      taken_last = applied_on y x left nav req (mid_pass.going.tab.movers.ends) mid_last
 
       -- who is awake stays so
       pub taken_awake : KeepsAwake s x

@@ -4,6 +4,7 @@ ghost use Rattle.log_model.specs.ActsAtOnce.{ActsAtOnce};
 ghost use Rattle.log_model.specs.LoadsEndInTime.{LoadsEndInTime};
 ghost use Rattle.log_model.specs.Legal.{IsLegal};
 ghost use Rattle.log_model.specs.Limits.{BeginsBelow};
+ghost use Rattle.proc_work.specs.Answers.{AnswersBy};
 ghost use Rattle.world.specs.Open.{row_limit};
 ghost use Rattle.tab_io.specs.Causes.{Rose};
 ghost use Rattle.tab_call.specs.Words.{text_due, work_of};
@@ -18,6 +19,7 @@ use crate::making::write_made;
 use crate::status::Status;
 use crate::words::{Output, Work, asked_work};
 use crate::writing::{Unwritten, write_due};
+use handler_table::HandlerTable;
 use history_log::Log;
 use report_text::report;
 use scenario_play::{Played, play};
@@ -44,6 +46,7 @@ pub fn play_call<S: Source, K: Sink>(
     words: &[String],
     source: &mut S,
     sink: &mut K,
+    handlers: HandlerTable,
 ) -> Ended
     ensures usage { (result.status ≡ Status.Usage) ↔ (work_of (map (λ w. string_bytes w) words.now) ≡ None) }
     ensures read { ReadsFor (work_of (map (λ w. string_bytes w) words.now)) result.status (S.left source.old) (S.left source.new) (S.faults source.old) (S.faults source.new) }
@@ -53,6 +56,7 @@ pub fn play_call<S: Source, K: Sink>(
     ensures at_once { IfSome result.log ActsAtOnce }
     ensures loads_end { IfSome result.log LoadsEndInTime }
     ensures limited { IfSome result.log (BeginsBelow row_limit) }
+    ensures answers { IfSome result.log (AnswersBy handlers.kinds.items) }
 
     // Where nothing is in the way, the call is done, or refuses what is no scenario.
     ensures done { (bytes : List ℕ) → (scenario : Scenario)
@@ -70,7 +74,7 @@ pub fn play_call<S: Source, K: Sink>(
         → ¬ (Rose (K.faults sink.old) (K.faults sink.new))
         → result.status ≡ Status.Done }
 {
-    carry_out(alloc, asked_work(words), source, sink)
+    carry_out(alloc, asked_work(words), source, sink, &handlers)
 }
 
 /// What `play_call` does for this work, or for words that ask for nothing; its last three clauses follow from these.
@@ -79,6 +83,7 @@ fn carry_out<S: Source, K: Sink>(
     work: Option<Work>,
     source: &mut S,
     sink: &mut K,
+    handlers: &HandlerTable,
 ) -> Ended
     ensures usage { (result.status ≡ Status.Usage) ↔ (work ≡ None) }
     ensures read { ReadsFor work result.status (S.left source.old) (S.left source.new) (S.faults source.old) (S.faults source.new) }
@@ -88,9 +93,10 @@ fn carry_out<S: Source, K: Sink>(
     ensures at_once { IfSome result.log ActsAtOnce }
     ensures loads_end { IfSome result.log LoadsEndInTime }
     ensures limited { IfSome result.log (BeginsBelow row_limit) }
+    ensures answers { IfSome result.log (AnswersBy handlers.now.kinds.items) }
 {
     match work {
-        Some(Work::Play(output)) => play_source(alloc, output, source, sink),
+        Some(Work::Play(output)) => play_source(alloc, output, source, sink, handlers),
         Some(Work::Make(n)) => without_log(write_made(alloc, n, sink)),
         None => without_log(Status::Usage),
     }
@@ -102,6 +108,7 @@ fn play_source<S: Source, K: Sink>(
     output: Output,
     source: &mut S,
     sink: &mut K,
+    handlers: &HandlerTable,
 ) -> Ended
     ensures usage { result.status ≢ Status.Usage }
     ensures read { HasReadCause result.status (S.left source.old) (S.left source.new) (S.faults source.old) (S.faults source.new) }
@@ -111,16 +118,17 @@ fn play_source<S: Source, K: Sink>(
     ensures at_once { IfSome result.log ActsAtOnce }
     ensures loads_end { IfSome result.log LoadsEndInTime }
     ensures limited { IfSome result.log (BeginsBelow row_limit) }
+    ensures answers { IfSome result.log (AnswersBy handlers.now.kinds.items) }
 {
     let scenario = match read_scenario(alloc, source) {
         Ok(scenario) => scenario,
         Err(status) => return without_log(status),
     };
-    let played = match World::fresh(alloc, &scenario.header) {
-        Ok(world) => play(&scenario, world),
+    let played = match World::fresh(alloc, &scenario.header, handlers) {
+        Ok(world) => play(&scenario, world, handlers),
         Err(_) => return without_log(Status::OutOfMemory),
     };
-    tell(alloc, output, &scenario, played, sink)
+    tell(alloc, output, &scenario, played, sink, handlers)
 }
 
 /// Reads the scenario; else the status says why there is none.
@@ -157,11 +165,13 @@ fn tell<K: Sink>(
     scenario: &Scenario,
     played: Played,
     sink: &mut K,
+    handlers: &HandlerTable,
 ) -> Ended
     requires given { IsSome played.world }
     requires open { played.fault ≡ None → IfSome played.world (λ w. w.closed ≡ false) }
     requires follows { played.fault ≡ None → IfSome played.world (λ w. Follows w.log scenario.now) }
     requires cut { IsSome played.fault → IfSome played.world (λ w. IsCutShort w.log scenario.now) }
+    requires kinds { IfSome played.world (λ w. w.kinds ≡ handlers.now.kinds.items) }
     requires faults { IfSome played.fault (λ e. IfSome played.world (λ w. IsFault w e)) }
     ensures kind { IsPlayEnd result.status }
     ensures follows { FollowsAs result.status result.log scenario.now }
@@ -170,11 +180,12 @@ fn tell<K: Sink>(
     ensures at_once { IfSome result.log ActsAtOnce }
     ensures loads_end { IfSome result.log LoadsEndInTime }
     ensures limited { IfSome result.log (BeginsBelow row_limit) }
+    ensures answers { IfSome result.log (AnswersBy handlers.now.kinds.items) }
 {
     let Played { world, fault } = played;
     let Some(world) = world else { unreachable!() };
     match fault {
-        None => write_text(alloc, output, scenario, world, sink),
+        None => write_text(alloc, output, scenario, world, sink, handlers),
         Some(StepError::LogFull) => Ended {
             status: Status::LogFull,
             log: Some(world.into_log()),
@@ -198,9 +209,11 @@ fn write_text<K: Sink>(
     scenario: &Scenario,
     world: World,
     sink: &mut K,
+    handlers: &HandlerTable,
 ) -> Ended
     requires open { world.closed ≡ false }
     requires follows { Follows world.log scenario.now }
+    requires kinds { world.kinds ≡ handlers.now.kinds.items }
     ensures kind { IsPlayEnd result.status }
     ensures follows { FollowsAs result.status result.log scenario.now }
     ensures written { HasWriteCause result.status (text_of_log output result.log) (K.taken sink.old) (K.taken sink.new) (K.faults sink.old) (K.faults sink.new) }
@@ -208,6 +221,7 @@ fn write_text<K: Sink>(
     ensures at_once { IfSome result.log ActsAtOnce }
     ensures loads_end { IfSome result.log LoadsEndInTime }
     ensures limited { IfSome result.log (BeginsBelow row_limit) }
+    ensures answers { IfSome result.log (AnswersBy handlers.now.kinds.items) }
 {
     let text = report(alloc, &world);
     let log = world.into_log();

@@ -83,7 +83,6 @@ module _ (p : InPass) (out : List RowKind) (t : Tables) (pass : IsPassing p out 
   running_there : t.running ≡ Some by → IsRunningThere
   running_there runs =
       let it = pass.going.tab.asked.runs by runs in
-      let own = pass.going.tab.asked.each by it.q it.found in
       let run : is_run it.q ≡ true = pass.going.tab.asked.only by it.q it.found ∙ ap (λ (o : Option ReqId). is_this o by) runs ∙ nat_eq_refl by.0 in
       let under : is_under_way it.q ≡ true = (and_parts (is_under_way it.q) (is_traversal it.q.what) run).0 in
       let parts = and_parts it.q.is_started (is_none it.q.ending) under in
@@ -93,7 +92,7 @@ module _ (p : InPass) (out : List RowKind) (t : Tables) (pass : IsPassing p out 
         traverses = it.traverses;
         began = parts.0;
         unended = none_of it.q.ending parts.1;
-        passed = rw (own.unasked, own.unprompted) refl;
+        passed = pass.going.tab.asked.passed by it.q it.found;
       }
 
   moved_by_run : t.running ≡ Some by → (it : IsRunningThere) → IsMovedBy (here_of p.event out) (now_of p.event out) nav it.q

@@ -53,7 +53,7 @@ module _ (p : InPass) (was : List RowKind) (t : Tables) (begins : IsPassing p wa
     module _ (top : NavId) (by : ReqId) (is : IsDropping p (IsDroppedFor (now_of p.event was) by (IsBelowNav (now_of p.event was) top)) (IsBelowNav (now_of p.event was) top) t was navs n u out) where
       pub below_asks : AreUnheld p.event s0 → t.running ≡ None → IsLoadApplied s0 top by → IsPassing p out u × (AreUnheld p.event s × ((u.running ≡ None) × IsLoadApplied s top by))
       below_asks held none applied =
-          (is.passing, (unheld_on p s0 s is.left held, (is.kept.running ∙ none, applied_on s0 s is.left top by begins.going.tab.movers.unasked applied)))
+          (is.passing, (unheld_on p s0 s is.left held, (is.kept.running ∙ none, applied_on s0 s is.left top by begins.going.tab.movers.ends applied)))
 
       pub below_next : (nav : NavId) (v : Tables) (new : List RowKind) → slice_get navs n ≡ Some nav → IsTurnAt (IsDroppedFor s by (IsBelowNav s top)) (IsBelowNav s top) nav s (now_of p.event new) out new → IsPassing p new v → KeepsStore u v → IsDropping p (IsDroppedFor s0 by (IsBelowNav s0 top)) (IsBelowNav s0 top) t was navs (n + 1) v new
       below_next nav v new at turn passing keeps =

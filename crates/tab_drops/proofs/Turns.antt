@@ -15,7 +15,7 @@ use Rattle.log_model.specs.History.{History, has_nav, has_row}
 use Rattle.log_model.specs.declared.outcome.Cause.{Cause}
 use Rattle.log_model.specs.declared.request.Request.{Request}
 use Rattle.log_model.specs.declared.row_kind.RowKind.{RowKind}
-use Rattle.seen_facts.specs.Mover.Movers.{AllUnasked}
+use Rattle.seen_facts.specs.Mover.Movers.{AllChangeAsTheyEnd}
 use Rattle.row_facts.proofs.Owed.Requests.{req_same}
 use Rattle.seen_facts.proofs.Rest.Stands.{all_requests}
 use Rattle.seen_laws.proofs.InEvents.{now_more}
@@ -223,7 +223,7 @@ module _ (s t : Seen) (left : LeavesAll s t) where
       }
 
   -- the load that was applied is so still
-  pub applied_on : (nav : NavId) (by : ReqId) → AllUnasked s.requests → IsLoadApplied s nav by → IsLoadApplied t nav by
+  pub applied_on : (nav : NavId) (by : ReqId) → AllChangeAsTheyEnd s.requests → IsLoadApplied s nav by → IsLoadApplied t nav by
   applied_on nav by unasked it =
       record {
         mover = it.mover;

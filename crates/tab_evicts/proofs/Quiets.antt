@@ -1,4 +1,5 @@
 -- A document on which nobody is awake is discarded within a move.
+use Rattle.seen_facts.proofs.Asked.Passed.{asked_all}
 use Rattle.tab_facts.proofs.Calm.Loads.{IsLoads, loads_sent}
 use Rattle.seen_facts.specs.Doc.Docs.{AreDocs}
 use Rattle.seen_facts.proofs.Hang.Members.{has_map}
@@ -31,7 +32,7 @@ use Rattle.nav_tree.specs.Tree.{document_of as document_at}
 use Rattle.std.proofs.lemmas.Bool.{and_parts}
 use Rattle.log_model.specs.declared.request.Request.TheVariants as requests
 use Rattle.nav_tree.specs.declared.place.Place as live_place
-use Rattle.row_facts.specs.Owed.Owed.{AreUnasked}
+use Rattle.seen_facts.specs.Asked.Asking.{HavePassed}
 use Rattle.page_cache.specs.Kept.{without}
 use Rattle.seen_facts.proofs.Request.Readers.{sent_reads}
 use Rattle.seen_facts.proofs.Rest.Stands.{all_requests}
@@ -174,11 +175,11 @@ module _ (p : InPass) (move : Option Move) {docs : List DocId} (out : List RowKi
             ap (λ (n : DocId). n.0) (leaving.going.tab.docs.sole other doc o its.document there its.found (ap (λ (n : ℕ). let x : StateId = record { 0 = n } in x) same) undiscarded its.undiscarded);
       }))
 
-  unasked : AreUnasked s
-  unasked req q at = (leaving.going.tab.asked.each req q at).unasked
+  all_passed : HavePassed s
+  all_passed = leaving.going.tab.asked.passed
 
   pub quiet_settles : (row : LogRow) → SettlesNone s row
-  quiet_settles row = all_answered s row (all_requests s.requests (all_asked s) (λ req q at. rw (unasked req q at) refl))
+  quiet_settles row = all_answered s row (all_requests s.requests (all_asked s) (λ req q at. asked_all s q (all_passed req q at)))
 
   pub quiet_discards : IsDiscardOf s discard its.document
   quiet_discards =
@@ -198,7 +199,7 @@ module _ (p : InPass) (move : Option Move) {docs : List DocId} (out : List RowKi
   gone_stays =
       record {
         places = gone_places;
-        leaves = λ nav. discard_none_leaves s p.event.event p.event.actor discard its.nobody nav refl unasked;
+        leaves = λ nav. discard_none_leaves s p.event.event p.event.actor discard its.nobody nav refl all_passed;
         loading = loads_sent s p.event.event p.event.actor discard (inr none_its);
       }
     where

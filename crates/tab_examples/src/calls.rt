@@ -2,6 +2,7 @@
 use crate::case::Case;
 use crate::out::{end_line, put, put_line};
 use address::{OutOfMemory, Text};
+use handler_table::HandlerTable;
 use history_log::Log;
 use std::alloc::Global;
 use tab_call::{Ended, Status, play_call, status_line};
@@ -29,7 +30,8 @@ fn call(
     let bytes = Text::of(alloc, case.input.as_slice())?;
     let mut source = MemorySource::new(bytes, CHUNK, case.source);
     let mut sink = MemorySink::new(alloc, CHUNK, sink);
-    let Ended { status, log } = play_call(alloc, words, &mut source, &mut sink);
+    let handlers = HandlerTable::new(alloc);
+    let Ended { status, log } = play_call(alloc, words, &mut source, &mut sink, handlers);
     let_go(log);
     Ok(Called { status, sink })
 }

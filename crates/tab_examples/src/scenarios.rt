@@ -2,6 +2,7 @@
 use crate::case::Case;
 use crate::out::{put, put_line};
 use address::OutOfMemory;
+use handler_table::HandlerTable;
 use log_model::Header;
 use report_text::summary;
 use scenario_text::{Built, Refusal, Scenario, ScenarioError};
@@ -41,7 +42,8 @@ pub fn tell_opened(alloc: Global, out: &mut Vec<u8>, case: &Case) -> Result<(), 
 }
 
 fn put_opened(alloc: Global, out: &mut Vec<u8>, header: &Header) -> Result<(), OutOfMemory> {
-    let world = World::fresh(alloc, header)?;
+    let handlers = HandlerTable::new(alloc);
+    let world = World::fresh(alloc, header, &handlers)?;
     let told = summary(alloc, &world);
     let_go(world);
     put(out, told?.bytes())

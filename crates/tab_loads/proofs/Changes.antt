@@ -18,7 +18,8 @@ use Rattle.log_model.specs.declared.job.Why.{Why}
 use Rattle.seen_facts.specs.Mover.Movers.{IsMovedBy}
 use Rattle.row_facts.proofs.Owed.Aims.{ended_aim}
 use Rattle.row_facts.proofs.Owed.Rows.{IsIdle, sent_stays}
-use Rattle.row_facts.specs.Owed.Owed.{AreUnasked, IsReckoned}
+use Rattle.row_facts.specs.Owed.Owed.{IsReckoned}
+use Rattle.seen_facts.specs.Asked.Asking.{HavePassed}
 use Rattle.seen_facts.proofs.Request.Readers.{SameReads, on_read}
 use Rattle.std.proofs.Common.{Bool, List, Some, [], ap, cond, false, refl, true, ℕ, ◌==◌, ◌∙◌, ◌∷◌, ◌≡◌}
 use Rattle.tab_ids.specs.declared.DocId.{DocId}
@@ -104,7 +105,7 @@ untold at req mode address (d ∷ documents) =
     by_test true = refl
     by_test false = refl
 
-module _ (s : Seen) (event : ℕ) (actor : Actor) (unasked : AreUnasked s) (reckoned : IsReckoned s) (nr : Job) (req : ReqId) (mode : Mode) (address : List ℕ) where
+module _ (s : Seen) (event : ℕ) (actor : Actor) (passed : HavePassed s) (reckoned : IsReckoned s) (nr : Job) (req : ReqId) (mode : Mode) (address : List ℕ) where
   -- the order, whatever its number, process and document
   abbrev job : Job
   job = record nr { task = tasks.DoFragment req mode address }
@@ -124,7 +125,7 @@ module _ (s : Seen) (event : ℕ) (actor : Actor) (unasked : AreUnasked s) (reck
         kept = refl;
         joined = refl;
         parked = refl;
-        aim = (sent_stays s event actor job unasked reckoned refl).aim;
+        aim = (sent_stays s event actor job passed reckoned refl).aim;
         other = λ r apart. on_else s.requests req send_it r apart;
         wishes = on_read wish s.requests req send_it (λ q. refl);
         whats = on_read (λ (q : Asked). q.what) s.requests req send_it (λ q. refl);

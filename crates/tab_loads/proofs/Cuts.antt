@@ -246,11 +246,10 @@ module _ (e : InEvent) (req : ReqId) (nav : NavId) (mode : Mode) (address : List
     running_there : t.running ≡ Some by → IsRunningThere
     running_there runs =
         let it = pass.going.tab.asked.runs by runs in
-        let its_ = plain it.q it.found in
         let run : is_run it.q ≡ true = pass.going.tab.asked.only by it.q it.found ∙ ap (λ (o : Option ReqId). is_this o by) runs ∙ nat_eq_refl by.0 in
         let under : is_under_way it.q ≡ true = (and_parts (is_under_way it.q) (is_traversal it.q.what) run).0 in
         let parts = and_parts it.q.is_started (is_none it.q.ending) under in
-        record { r = it.q; at = it.found; traverses = it.traverses; began = parts.0; unended = none_of it.q.ending parts.1; passed = rw (its_.unasked, its_.unprompted) refl }
+        record { r = it.q; at = it.found; traverses = it.traverses; began = parts.0; unended = none_of it.q.ending parts.1; passed = pass.going.tab.asked.passed by it.q it.found }
 
     moved_by : t.running ≡ Some by → (it : IsRunningThere) → IsMovedBy (here_of e []) (now_of e []) nav it.r
     moved_by runs it =

@@ -18,7 +18,7 @@ use Rattle.log_model.proofs.Refl.{nat_eq_refl}
 use Rattle.log_model.specs.AfterRequests.{request_begun}
 use Rattle.log_model.specs.Equal.{holds}
 use Rattle.log_model.specs.Orders.{needs_document, ongoing_load as load_of_state}
-use Rattle.log_model.specs.Places.{is_ongoing_load, is_traversal}
+use Rattle.log_model.specs.Places.{is_ongoing_load, is_traversal, has_passed}
 use Rattle.log_model.specs.Seen.{Asked, Document, Place, Seen, document_of, place_of, request_of}
 use Rattle.log_model.specs.declared.row_kind.RowKind.{RowKind}
 use Rattle.nav_tree.specs.Tree.{is_nav, is_state}
@@ -245,6 +245,9 @@ module _ (l : InLoad) (t : Tables) (asked : IsAsked l t) (placed_ : away_in t l.
               let navs : l.nav ≡ x.nav = cc in
               let never : false ≡ true = sym apart_ ∙ ap (λ (k : NavId). k.0 == l.nav.0) (sym (found_nav other w.loads x at) ∙ sym navs) ∙ nat_eq_refl l.nav.0 in
               absurd cc
+
+  pub all_passed : has_passed m own_then ≡ true
+  all_passed = passing_now.going.tab.asked.passed l.req own_then found_then
 
   pub plain : IsAskedPlainly l.req own_then
   plain = passing_now.going.tab.asked.each l.req own_then found_then

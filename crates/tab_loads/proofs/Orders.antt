@@ -1,10 +1,9 @@
 -- The order that makes the document of a load that has begun.
 use Rattle.seen_facts.specs.Asked.Asking.{IsAskedPlainly}
-use Rattle.row_facts.proofs.LoadRows.LoadMakes.{unasked_passed}
 use Rattle.row_facts.specs.LoadRows.LoadMaking.{IsMakeOfLoadDue}
 use Rattle.log_model.specs.AfterRequests.{request_begun}
 use Rattle.log_model.specs.Orders.{needs_document, ongoing_load as load_of_state}
-use Rattle.log_model.specs.Places.{aim_of}
+use Rattle.log_model.specs.Places.{aim_of, has_passed}
 use Rattle.log_model.specs.Seen.{Asked, Seen, desk_of}
 use Rattle.log_model.specs.declared.job.Job.{Job}
 use Rattle.log_model.specs.declared.row_kind.RowKind.{RowKind}
@@ -74,8 +73,8 @@ module _ (l : InLoad) (t : Tables) (asked : IsAsked l t) (placed_ : away_in t l.
   abbrev loads_state : load_of_state m its_state ≡ Some own_then
   loads_state = makes.loads_state l t asked placed_ anew_ noted v out way w now work now_is keeps
 
-  abbrev plain : IsAskedPlainly l.req own_then
-  plain = makes.plain l t asked placed_ anew_ noted v out way w now work now_is keeps
+  abbrev all_passed : has_passed m own_then ≡ true
+  all_passed = makes.all_passed l t asked placed_ anew_ noted v out way w now work now_is keeps
 
   abbrev causes : MayCause m (whys.Req l.req)
   causes = makes.causes l t asked placed_ anew_ noted v out way w now work now_is keeps
@@ -92,7 +91,7 @@ module _ (l : InLoad) (t : Tables) (asked : IsAsked l t) (placed_ : away_in t l.
         loads = loads_state;
         mode = l.mode;
         what = refl;
-        checked = unasked_passed m own_then plain.unasked plain.unprompted;
+        checked = all_passed;
         needs = needs_one;
         home = home_is (pass_of l.event) now w passing_now l.nav its.place its.placed unstopped l.event.header l.address proc home;
         passed = is_passed_for m w.running passing_now.going.tab.asked order.task order.why causes;

@@ -1,4 +1,5 @@
 -- The aim, and the length and index that are due, as the tables tell of them.
+use Rattle.tab_facts.proofs.TabEvents.Left.{passed_runs}
 use Rattle.seen_facts.proofs.Each.Runs.{none_passes, only_passes}  -- keep
 use Rattle.tab_doors.proofs.Histories.{log_steps}
 use Rattle.tab_doors.specs.Look.{moved_by}
@@ -30,27 +31,8 @@ use Rattle.tab_ids.specs.declared.Step.{Step}
 -- ---- the traversal that runs has passed
 
 module _ (s : Seen) (run : Option ReqId) (asked : ArePlain run s) where
-  -- nobody is asked for it
-  passes_ : (gone : DocId → Bool) (q : Asked) → q.asks ≡ [] → q.prompted ≡ None → has_passed_with gone q ≡ true
-  passes_ gone q none unprompted = rw (none, unprompted) refl
-
-  found_passed : (gone : DocId → Bool) (l : List Asked) → ((q : Asked) → Has l q → (q.asks ≡ []) × (q.prompted ≡ None)) → passed_in gone l ≡ running_in l
-  found_passed gone [] each = refl
-  found_passed gone (q ∷ l) each =
-      let its = each q (inl refl) in
-      by_test (is_under_way q && is_traversal q.what) (has_passed_with gone q) (passes_ gone q its.0 its.1) (found_passed gone l (λ x there. each x (inr there)))
-    where
-      by_test : (b c : Bool) → c ≡ true → passed_in gone l ≡ running_in l → cond (b && c) (Some q) (passed_in gone l) ≡ cond b (Some q) (running_in l)
-      by_test true true is rest = refl
-      by_test false true is rest = rest
-      by_test true false is rest = cc
-      by_test false false is rest = rest
-
   pub passed_is : passed_traversal s ≡ running_traversal s
-  passed_is = found_passed (is_gone s) s.requests each
-    where
-      each : (q : Asked) → Has s.requests q → (q.asks ≡ []) × (q.prompted ≡ None)
-      each q there = let at = get_of s.requests q there in let its = asked.each (record { 0 = at.0 + 1 }) q (at_place s.requests at.0 ∙ at.1) in (its.unasked, its.unprompted)
+  passed_is = passed_runs s asked.passed
 
   -- it is the one that runs
   pub running_is : running_traversal s ≡ option_and_then (λ (req : ReqId). request_in s.requests req) run

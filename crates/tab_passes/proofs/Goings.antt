@@ -26,14 +26,10 @@ use Rattle.tab_ids.specs.declared.DocId.{DocId}
 use Rattle.tab_ids.specs.declared.ReqId.{ReqId}
 
 module _ (s : Seen) (run : Option ReqId) (asked : ArePlain run s) where
-  passes : (gone : DocId → Bool) (q : Asked) → q.asks ≡ [] → q.prompted ≡ None → has_passed_with gone q ≡ true
-  passes gone q none unprompted = rw (none, unprompted) refl
-
   -- any request that is there may go on
   pub goes_on : (req : ReqId) (q : Asked) → request_of s req ≡ Some q → may_go_on s req ≡ true
   goes_on req q there =
-      let its = asked.each req q there in
-      let passed : has_passed_with (is_gone s) q ≡ true = passes (is_gone s) q its.unasked its.unprompted in
+      let passed : has_passed_with (is_gone s) q ≡ true = asked.passed req q there in
       rw there (rw passed (by_test (is_checked q)))
     where
       by_test : (b : Bool) → implies b true ≡ true

@@ -10,7 +10,8 @@ use Rattle.log_model.specs.declared.row.Row.{Row}
 use Rattle.log_model.specs.declared.row_kind.RowKind.{RowKind}
 use Rattle.row_facts.proofs.Owed.Ends.{owed_more}
 use Rattle.row_facts.proofs.Owed.Rows.{reckoned_now, sent_stays}
-use Rattle.row_facts.specs.Owed.Owed.{AreUnasked, IsLoose, IsOwed}
+use Rattle.row_facts.specs.Owed.Owed.{IsLoose, IsOwed}
+use Rattle.seen_facts.specs.Asked.Asking.{HavePassed}
 use Rattle.row_facts.proofs.RestRows.Orders.{discarded_less, frozen_less}
 use Rattle.row_facts.specs.RestRows.Moving.{RestBut}
 use Rattle.seen_laws.proofs.InEvents.{now_more}
@@ -82,8 +83,8 @@ module _ (p : InPass) (move : Option Move) (docs : List DocId) (out : List RowKi
   abbrev s : Seen
   s = now_of p.event out
 
-  unasked : AreUnasked s
-  unasked req q at = (leaving.going.tab.asked.each req q at).unasked
+  all_passed : HavePassed s
+  all_passed = leaving.going.tab.asked.passed
 
   its_proc : may.document.proc ≡ (order_to s doc why tasks.Freeze).proc
   its_proc = sym (proc_found s doc may.document may.found)
@@ -105,7 +106,7 @@ module _ (p : InPass) (move : Option Move) (docs : List DocId) (out : List RowKi
 
   frozen_owed : IsOwed p.event (out ++ rows.Sent freeze ∷ [])
   frozen_owed =
-      owed_more p.event out (rows.Sent freeze) leaving.owed (sent_stays s p.event.event p.event.actor freeze unasked (reckoned_now p.event out) refl) (λ end stays. refl)
+      owed_more p.event out (rows.Sent freeze) leaving.owed (sent_stays s p.event.event p.event.actor freeze all_passed (reckoned_now p.event out) refl) (λ end stays. refl)
 
   frozen_rests : RestBut (left_then s doc docs) frozen
   frozen_rests =
@@ -140,7 +141,7 @@ module _ (p : InPass) (move : Option Move) (docs : List DocId) (out : List RowKi
 
   gone_owed : IsOwed p.event (out ++ rows.Sent discard ∷ [])
   gone_owed =
-      owed_more p.event out (rows.Sent discard) leaving.owed (sent_stays s p.event.event p.event.actor discard unasked (reckoned_now p.event out) refl) (λ end stays. refl)
+      owed_more p.event out (rows.Sent discard) leaving.owed (sent_stays s p.event.event p.event.actor discard all_passed (reckoned_now p.event out) refl) (λ end stays. refl)
 
   gone_rests : RestBut (left_then s doc docs) gone
   gone_rests =
@@ -179,7 +180,7 @@ module _ (p : InPass) (move : Option Move) (docs : List DocId) (out : List RowKi
 
   shown_owed : IsOwed p.event (out ++ rows.Sent showing ∷ [])
   shown_owed =
-      owed_more p.event out (rows.Sent showing) leaving.owed (sent_stays (now_of p.event out) p.event.event p.event.actor showing (λ req q there. (leaving.going.tab.asked.each req q there).unasked) (reckoned_now p.event out) refl) (λ end stays. refl)
+      owed_more p.event out (rows.Sent showing) leaving.owed (sent_stays (now_of p.event out) p.event.event p.event.actor showing leaving.going.tab.asked.passed (reckoned_now p.event out) refl) (λ end stays. refl)
 
   pub shown_leaving : (docs_ : List DocId) → RestBut docs_ shown → (u : Tables) (new : List RowKind) → new ≡ out ++ rows.Sent showing ∷ [] → KeepsStore t u → IsAtWork p.event new u → IsLeaving p None docs_ new u
   shown_leaving docs_ rests u new is keeps work =

@@ -10,7 +10,8 @@ use Rattle.log_model.specs.declared.job.Why.{Why}
 use Rattle.log_model.specs.declared.row_kind.RowKind.{RowKind}
 use Rattle.row_facts.proofs.Owed.Ends.{loose_more, owed_more}
 use Rattle.row_facts.proofs.Owed.Rows.{reckoned_now, sent_lasts, sent_stays}
-use Rattle.row_facts.specs.Owed.Owed.{AreUnasked, IsLoose, IsOwed}
+use Rattle.row_facts.specs.Owed.Owed.{IsLoose, IsOwed}
+use Rattle.seen_facts.specs.Asked.Asking.{HavePassed}
 use Rattle.row_facts.proofs.RestRows.Orders.{told_rests}
 use Rattle.row_facts.specs.RestRows.Moving.{AllRest}
 use Rattle.seen_laws.proofs.InEvents.{now_more}
@@ -33,8 +34,8 @@ use Rattle.log_model.specs.declared.job.Task.TheVariants as tasks
 use Rattle.log_model.specs.declared.row_kind.RowKind.TheVariants as rows
 
 -- nobody is asked for a request of the tab
-pub unasked : (p : InPass) (out : List RowKind) (t : Tables) → IsPassing p out t → AreUnasked (now_of p.event out)
-unasked p out t pass req q at = (pass.going.tab.asked.each req q at).unasked
+pub all_passed : (p : InPass) (out : List RowKind) (t : Tables) → IsPassing p out t → HavePassed (now_of p.event out)
+all_passed p out t pass = pass.going.tab.asked.passed
 
 module _ (p : InPass) (out : List RowKind) (t : Tables) (pass : IsPassing p out t) (nav : NavId) (doc : DocId) (why : Why) (pair : ℕ × ℕ) (due : IsTellDue p out t pass nav doc pair) where
   abbrev s : Seen
@@ -76,7 +77,7 @@ module _ (p : InPass) (out : List RowKind) (t : Tables) (pass : IsPassing p out 
 
   owed_then : IsOwed p.event (out ++ rows.Sent update ∷ [])
   owed_then =
-      owed_more p.event out (rows.Sent update) pass.owed (sent_stays s p.event.event p.event.actor update (unasked p out t pass) (reckoned_now p.event out) refl) (λ end stays. refl)
+      owed_more p.event out (rows.Sent update) pass.owed (sent_stays s p.event.event p.event.actor update (all_passed p out t pass) (reckoned_now p.event out) refl) (λ end stays. refl)
 
   rests_then : AllRest told_
   rests_then = told_rests s p.event.event p.event.actor [] pass.rests update (sent_home t.running p.loads p.hand s pass.going.tab update due.there.document to_made) tt

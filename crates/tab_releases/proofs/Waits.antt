@@ -7,7 +7,6 @@ use Rattle.tab_takes.specs.Taking.{Ends, InPass, IsByItsOwn, IsForTaking, IsOfFr
 use Rattle.row_facts.proofs.FrameRows.LawfulLaws.{ends_first}
 use Rattle.row_facts.specs.FrameRows.Lawful.{KeepsHeld, has_traversed, held_at_first}
 use Rattle.row_facts.specs.FrameRows.Taking.{IsTakenNow}
-use Rattle.seen_facts.proofs.Asked.Plainly.{plain_passes}
 use Rattle.seen_facts.specs.Asked.Asking.{IsAskedPlainly, IsTabRequest}
 use Rattle.seen_facts.specs.Load.Loading.{IsLoading, is_ongoing, look}
 use Rattle.seen_facts.specs.LoadWhereabouts.Whereabouts.{times_on_way}
@@ -274,7 +273,7 @@ module _ (p : InPass) (out : List RowKind) (t : Tables) (passing : IsPassing p o
           by_what : IsPokeOfIt ⊎ IsLoadOfIt → IsOfPoke first.q ⊎ IsOfFragment s first.q
           by_what (inl it) = inl (record { nav = it.nav; action = it.action; what = it.what; no_step = it.no_step })
           by_what (inr it) =
-              inr (record { nav = it.nav; mode = it.mode; address = it.address; what = it.what; passed = plain_passes (is_gone s) made.req first.q asked })
+              inr (record { nav = it.nav; mode = it.mode; address = it.address; what = it.what; passed = tab.asked.passed made.req first.q first.there })
 
       -- a load of which something was made hasn't begun
       unstarted : first.q.is_started ≡ false

@@ -16,8 +16,9 @@ use Rattle.log_model.specs.declared.row_kind.RowKind.{RowKind}
 use Rattle.seen_facts.proofs.Mover.Places.{any_behind, same_ways, sleep_ways, ways_both, ways_if, ways_mapped}
 use Rattle.seen_facts.proofs.Mover.Stays.{KeepWays}
 use Rattle.seen_facts.specs.Mover.Movers.{IsMovedBy}
-use Rattle.row_facts.proofs.Owed.Requests.{AsksNone, sent_asks, still_unasked}
-use Rattle.row_facts.specs.Owed.Owed.{AreUnasked}
+use Rattle.seen_facts.proofs.Asked.Passed.{have_passed}
+use Rattle.row_facts.proofs.Owed.Requests.{AsksNone}
+use Rattle.seen_facts.specs.Asked.Asking.{HavePassed}
 use Rattle.seen_laws.proofs.InEvents.{now_more}
 use Rattle.seen_laws.specs.InEvent.{InEvent, now_of, row_of}
 use Rattle.std.proofs.Common.{Bool, List, None, Option, Some, [], ap, append-nil, append_assoc, cond, false, inl, inr, map, refl, subst, sym, true, ◌++◌, ◌==◌, ◌∙◌, ◌∷◌, ◌≡◌}
@@ -257,9 +258,9 @@ module _ (e : InEvent) (was out : List RowKind) (only : HasOnly (IsOrderOf IsOfW
       over_orders IsOfWalk (λ (x : Seen). option_map (λ (p : Place). p.taken_by) (place_of x nav) ≡ option_map (λ (p : Place). p.taken_by) (place_of s nav)) (λ x event job is same. taken_changed x (after x (row_of event (rows.Sent job))) (sent_changed x event job job.task refl is) nav ∙ same) e was out only refl
 
   -- where all stand then, all stood before
-  pub stood_over : AreUnasked s → all_stand t (aim_of t) ≡ true → all_stand s (aim_of s) ≡ true
-  stood_over unasked =
-      (over_orders IsOfWalk (λ (x : Seen). AreUnasked x × (all_stand x (aim_of x) ≡ true → all_stand s (aim_of s) ≡ true)) (λ x event job is so. (
-        still_unasked x (after x (row_of event (rows.Sent job))) (sent_asks x job job.task x.requests (asks_none job.task is)) so.0,
+  pub stood_over : HavePassed s → all_stand t (aim_of t) ≡ true → all_stand s (aim_of s) ≡ true
+  stood_over passed =
+      (over_orders IsOfWalk (λ (x : Seen). HavePassed x × (all_stand x (aim_of x) ≡ true → all_stand s (aim_of s) ≡ true)) (λ x event job is so. (
+        have_passed x (row_of event (rows.Sent job)) (asks_none job.task is) tt so.0,
         λ all. so.1 (sent_stood x event.event event.actor job so.0 (asks_none job.task is) all),
-      )) e was out only (unasked, λ all. all)).1
+      )) e was out only (passed, λ all. all)).1

@@ -18,7 +18,7 @@ use Rattle.log_model.specs.declared.job.Why.{Why}
 use Rattle.log_model.specs.declared.row_kind.RowKind.{RowKind}
 use Rattle.seen_facts.specs.Mover.Movers.{IsMovedBy}
 use Rattle.nav_tree.specs.Tree.{document_of}
-use Rattle.row_facts.specs.Owed.Owed.{AreUnasked}
+use Rattle.seen_facts.specs.Asked.Asking.{HavePassed}
 use Rattle.plan_laws.proofs.NeedLaws.{needs_is}
 use Rattle.seen_laws.specs.InEvent.{InEvent, now_of}
 use Rattle.std.proofs.Common.{Bool, List, None, Option, Some, [], ap, arith, false, inl, inr, not, refl, subst, suc, sym, take, true, zero, ℕ, ◌&&◌, ◌+◌, ◌<◌, ◌==◌, ◌||◌, ◌∙◌, ◌∷◌, ◌≡◌, ◌≤◌, ◌⊎◌}
@@ -215,8 +215,8 @@ module _ (w : InWalk) (n : ℕ) (out : List RowKind) (t : Tables) (walking : IsW
       orders : HasOnly (IsOrderOf IsOfWalk) out new
       orders = walk_orders t.running w.cause out new only
 
-      unasked : AreUnasked s
-      unasked req q at = (passing.going.tab.asked.each req q at).unasked
+      all_passed : HavePassed s
+      all_passed = passing.going.tab.asked.passed
 
       unwoken_then : AwakeSince e.start (take (suc n) w.navs) x
       unwoken_then other place doc out_ placed on =
@@ -296,7 +296,7 @@ module _ (w : InWalk) (n : ℕ) (out : List RowKind) (t : Tables) (walking : IsW
               homed = walking.walked.since.homed;
               ways = ways_over e out new orders e.start.places walking.walked.since.ways;
             };
-            unwoken = λ all. absurd (let never : true ≡ false = sym (stood_over e out new orders unasked all) ∙ need_not_all_stand s nav needing.place needing.placed visited in cc);
+            unwoken = λ all. absurd (let never : true ≡ false = sym (stood_over e out new orders all_passed all) ∙ need_not_all_stand s nav needing.place needing.placed visited in cc);
             were = were_over e out new orders walking.walked.were;
             parents = parents_over e out new orders walking.walked.parents;
             loads = loads_stand_still s x (looks_over e out new orders) (reached_still s x nav needing.place passing.going.tab.sound passing.going.tab.hangs turn.others needing.placed visited) walking.walked.loads;

@@ -47,11 +47,8 @@ module _ (e : InEvent) (run : Option ReqId) (was more : List RowKind) (fine : (r
       still : IsStill n req q
       still = still_over e more was fine req q at
 
-      asked : IsAskedPlainly req still.r
-      asked = plain.each req still.r still.at
-
       passes : has_passed n still.r ≡ true
-      passes = rw asked.unasked (rw asked.unprompted refl)
+      passes = plain.passed req still.r still.at
 
       implied : (a b : Bool) → b ≡ true → implies a b ≡ true
       implied true b is = is

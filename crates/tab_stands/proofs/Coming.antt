@@ -246,9 +246,8 @@ module _ (e : InEvent) (run : Option ReqId) (keep : ℕ) (goal : Step) (blame : 
       absurd (omega (arith, zero_, epoch))
   moves_then (Some req) is calm cause nav place there need epoch =
       let it = tab.asked.runs req is in
-      let each = tab.asked.each req it.q it.found in
       let may : MayServe n req = subst (λ (r : Option ReqId). MayCause n (show_why r whys.Start)) is (show_causes n run tab.asked whys.Start (λ r never. absurd cc)) req refl in
-      run_moves n req it.q nav it.found it.traverses (may.begun it.q it.found it.traverses) each.unasked each.unprompted
+      run_moves n req it.q nav it.found it.traverses (may.begun it.q it.found it.traverses) (tab.asked.passed req it.q it.found)
 
   -- ---- all of it, where no ongoing load was held back
 

@@ -1,4 +1,5 @@
 -- A report is delivered that answers no question: what is known of it, and what the event's own row leaves, whatever the report tells.
+use Rattle.seen_facts.proofs.Asked.Passed.{asked_all}
 use Rattle.seen_facts.proofs.Asked.Rows.{delivered_plain}
 use Rattle.seen_facts.specs.Asked.Asking.{ArePlain}
 use Rattle.tab_facts.proofs.Calm.Loads.{loads_same}
@@ -18,7 +19,7 @@ use Rattle.log_model.specs.Causes.{denial_at_acceptance}
 use Rattle.log_model.specs.Checks.{is_settled_by}
 use Rattle.log_model.specs.Equal.{has_req, holds}
 use Rattle.log_model.specs.Orders.{ongoing_load}
-use Rattle.log_model.specs.Places.{all_asked, is_moved, is_moved_in}
+use Rattle.log_model.specs.Places.{all_asked, is_moved, is_moved_in, has_passed}
 use Rattle.log_model.specs.Queue.{is_delivered_duly}
 use Rattle.log_model.specs.Seen.{Asked, Document, Place, Seen, desk_of, request_in, request_of}
 use Rattle.log_model.specs.declared.job.Why.{Why}
@@ -96,11 +97,11 @@ module _ (e : InEvent) (proc : ProcId) (by_coord : e.actor ≡ actors.Coord) (ow
 
   -- no question is settled
   none_settled : list_all (λ (q : Asked). not (is_settled_by s told q)) s.requests ≡ true
-  none_settled = all_requests s.requests (λ (q : Asked). not (is_settled_by s told q)) (λ req q at. unasked q (stands.between.tab.asked.each req q at).unasked)
+  none_settled = all_requests s.requests (λ (q : Asked). not (is_settled_by s told q)) (λ req q at. passed q (stands.between.tab.asked.passed req q at))
     where
-      unasked : (q : Asked) → q.asks ≡ [] → not (is_settled_by s told q) ≡ true
-      unasked q none =
-          let settled : all_asked s q ≡ true = rw none refl in
+      passed : (q : Asked) → has_passed s q ≡ true → not (is_settled_by s told q) ≡ true
+      passed q is =
+          let settled : all_asked s q ≡ true = asked_all s q is in
           ap (λ (b : Bool). not (not b && holds (all_asked told) (request_of told q.nr))) settled
 
   pub told_legal : AreLegal e []

@@ -171,7 +171,7 @@ module _ (e : InEvent) (proc : ProcId) (report : Report) (made : Made) (del : Is
         there = there_now e proc report made del tells t queue blame stands changes free room header;
         unstarted = unstarted e proc report made del tells t queue blame stands changes free room header;
         no_reload = by_what asked.q.what (its_plain e proc report made del tells t queue blame stands).what;
-        unchanged = (stands.between.tab.movers.unasked made.req asked.q asked.there).unchanged asked.open_;
+        unchanged = (stands.between.tab.movers.ends made.req asked.q asked.there).unchanged asked.open_;
       }
     where
       by_what : (what : Request) → IsTabRequest what → is_reload what ≡ false

@@ -1,5 +1,5 @@
 -- What a document made that changes the history is at hand as its report is delivered: it may be taken up, refused or dropped.
-use Rattle.seen_facts.proofs.Asked.Plainly.{plain_passes}
+use Rattle.log_model.specs.Places.{has_passed}
 use Rattle.seen_facts.specs.Asked.Asking.{IsTabRequest, IsThere}
 use Rattle.row_facts.proofs.FrameRows.LawfulLaws.{ends_other}
 use Rattle.row_facts.specs.FrameRows.Taking.{IsTakenNow}
@@ -29,7 +29,7 @@ use Rattle.seen_facts.specs.Request.Whereabouts.{times, times_due, times_found}
 use Rattle.seen_facts.specs.LoadWhereabouts.Whereabouts.{times_on_way}
 use Rattle.seen_laws.proofs.Sums.{over}
 use Rattle.seen_laws.specs.InEvent.{InEvent, here_of, now_of, row_of}
-use Rattle.std.proofs.Common.{Bool, List, None, Option, Some, [], ap, arith, false, inl, inr, length, refl, sym, true, ◌+◌, ◌==◌, ◌||◌, ◌∙◌, ◌∷◌, ◌≡◌, ◌≤◌, ◌⊎◌}
+use Rattle.std.proofs.Common.{Bool, List, None, Option, Some, [], ap, arith, false, inl, inr, length, refl, sym, true, ◌+◌, ◌==◌, ◌||◌, ◌∙◌, ◌∷◌, ◌≡◌, ◌≤◌, ◌⊎◌, subst}
 use Rattle.std.proofs.lemmas.Bool.Decides.{nat_tests}
 use Rattle.std.proofs.lemmas.Bool.{or_left}
 use Rattle.std.specs.List.{list_any}
@@ -117,6 +117,10 @@ module _ (e : InEvent) (proc : ProcId) (report : Report) (made : Made) (del : Is
   there_now =
       ap (λ (x : Seen). request_of x made.req) now ∙ ap (λ (l : List Asked). request_in l made.req) same ∙ asked.there
 
+  its_passed : has_passed (now_of e []) asked.q ≡ true
+  its_passed =
+      subst (λ (x : Seen). has_passed x asked.q ≡ true) (sym now) (tab.asked.passed made.req asked.q (sym (ap (λ (x : Seen). request_of x made.req) now) ∙ there_now))
+
   not_go : (what : What) → IsNoGo what → is_go what ≡ false
   not_go (whats.Go delta) never = absurd never
   not_go (whats.Push entry memo address) is = refl
@@ -154,7 +158,7 @@ module _ (e : InEvent) (proc : ProcId) (report : Report) (made : Made) (del : Is
       by_what (requests.Go delta) is plain = absurd (let never : true ≡ false = sym (ap is_traversal is) ∙ rests in cc)
       by_what (requests.Poke nav action) is plain = inl (record { nav = nav; action = action; what = is; no_step = sym (ap is_traversal is) ∙ rests })
       by_what (requests.Load nav mode address) is plain =
-          inr (record { nav = nav; mode = mode; address = address; what = is; passed = plain_passes (is_gone (now_of e [])) made.req asked.q (its_plain e proc report made del tells t queue blame stands) })
+          inr (record { nav = nav; mode = mode; address = address; what = is; passed = its_passed })
       by_what (requests.Reload nav) is never = absurd never
 
   own_now : IsByItsOwn (now_of e []) asked.q made

@@ -14,7 +14,7 @@ use Rattle.log_model.specs.declared.job.Why.{Why}
 use Rattle.log_model.specs.declared.row_kind.RowKind.{RowKind}
 use Rattle.seen_facts.proofs.Mover.Places.{sleep_ways}
 use Rattle.seen_facts.specs.Mover.Movers.{IsMovedBy}
-use Rattle.row_facts.specs.Owed.Owed.{AreUnasked}
+use Rattle.seen_facts.specs.Asked.Asking.{HavePassed}
 use Rattle.seen_facts.proofs.Request.Readers.{sent_reads}
 use Rattle.row_facts.proofs.RestRows.Again.{doc_same}
 use Rattle.seen_laws.proofs.InEvents.{now_more}
@@ -70,8 +70,8 @@ module _ (p : InPass) {left : List DocId} (out : List RowKind) (t : Tables) (lea
   abbrev pub then_ : Seen
   then_ = after s (row_of p.event (rows.Sent discard))
 
-  unasked : AreUnasked s
-  unasked r q at = (leaving.going.tab.asked.each r q at).unasked
+  all_passed : HavePassed s
+  all_passed = leaving.going.tab.asked.passed
 
   -- ---- the documents
 
@@ -221,7 +221,7 @@ module _ (p : InPass) {left : List DocId} (out : List RowKind) (t : Tables) (lea
     turn_then =
         record {
           history = refl;
-          aim = sent_aim s p.event.event p.event.actor discard unasked tt;
+          aim = sent_aim s p.event.event p.event.actor discard all_passed tt;
           looks = looks_then;
           parked = refl;
           causes = causes_then;

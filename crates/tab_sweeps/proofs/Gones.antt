@@ -10,7 +10,8 @@ use Rattle.log_model.specs.declared.row_kind.RowKind.{RowKind}
 use Rattle.nav_tree.specs.Tree.{is_state}
 use Rattle.row_facts.proofs.Owed.Ends.{loose_more}
 use Rattle.row_facts.proofs.Owed.Rows.{sent_lasts}
-use Rattle.row_facts.specs.Owed.Owed.{AreUnasked, IsLoose}
+use Rattle.row_facts.specs.Owed.Owed.{IsLoose}
+use Rattle.seen_facts.specs.Asked.Asking.{HavePassed}
 use Rattle.row_facts.proofs.RestRows.Again.{IsPart, doc_same, part_both, part_without, rest_more}
 use Rattle.row_facts.specs.RestRows.Left.{left_below}
 use Rattle.seen_laws.specs.InEvent.{now_of, row_of}
@@ -73,8 +74,8 @@ module _ (p : InPass) (blame : List (StateId × ReqId)) (doc : DocId) (rest : Li
   abbrev then_ : Seen
   then_ = after s (row_of p.event (rows.Sent discard))
 
-  unasked : AreUnasked s
-  unasked r q at = (so.leaving.going.tab.asked.each r q at).unasked
+  all_passed : HavePassed s
+  all_passed = so.leaving.going.tab.asked.passed
 
   apart_then : (x : DocId) (own : StateId) → IsStray then_ x own → (doc.0 == x.0) ≡ false
   apart_then = stray_apart p out t so.leaving doc state stray why
@@ -131,7 +132,7 @@ module _ (p : InPass) (blame : List (StateId × ReqId)) (doc : DocId) (rest : Li
 
     loose_then : all_stand then_ (aim_of then_) ≡ true → IsLoose p.event (out ++ rows.Sent discard ∷ [])
     loose_then stand =
-        loose_more p.event out (rows.Sent discard) (so.loose (sent_stood s p.event.event p.event.actor discard unasked tt stand)) (sent_lasts s p.event.event p.event.actor discard) (λ end lasts. refl)
+        loose_more p.event out (rows.Sent discard) (so.loose (sent_stood s p.event.event p.event.actor discard all_passed tt stand)) (sent_lasts s p.event.event p.event.actor discard) (λ end lasts. refl)
 
     few_then : length then_.kept ≤ u.kept.keep
     few_then =

@@ -22,7 +22,8 @@ use Rattle.log_model.specs.declared.row_kind.RowKind.{RowKind}
 use Rattle.seen_facts.proofs.Mover.Orders.{MovesEach}
 use Rattle.row_facts.proofs.Owed.Ends.{loose_more}
 use Rattle.row_facts.proofs.Owed.Rows.{sent_lasts}
-use Rattle.row_facts.specs.Owed.Owed.{AreUnasked, IsLoose}
+use Rattle.row_facts.specs.Owed.Owed.{IsLoose}
+use Rattle.seen_facts.specs.Asked.Asking.{HavePassed}
 use Rattle.row_facts.specs.RestRows.Left.{left_below, shown_by}
 use Rattle.seen_laws.proofs.InEvents.{led_here}
 use Rattle.seen_laws.specs.InEvent.{here_of, now_of, row_of}
@@ -121,8 +122,8 @@ module _ (p : InPass) (out : List RowKind) (t : Tables) (passing : IsPassing p o
   distinct : AreDistinct s.places
   distinct = places_distinct s leaving.going.tab.sound leaving.going.tab.hangs
 
-  unasked : AreUnasked s
-  unasked r q at = (leaving.going.tab.asked.each r q at).unasked
+  all_passed : HavePassed s
+  all_passed = leaving.going.tab.asked.passed
 
   -- ---- nobody is awake on it
 
@@ -208,7 +209,7 @@ module _ (p : InPass) (out : List RowKind) (t : Tables) (passing : IsPassing p o
 
     loose_then : all_stand then_ (aim_of then_) ≡ true → IsLoose p.event (out ++ rows.Sent discard ∷ [])
     loose_then stand =
-        loose_more p.event out (rows.Sent discard) (passing.loose (sent_stood s p.event.event p.event.actor discard unasked tt stand)) (sent_lasts s p.event.event p.event.actor discard) (λ end lasts. refl)
+        loose_more p.event out (rows.Sent discard) (passing.loose (sent_stood s p.event.event p.event.actor discard all_passed tt stand)) (sent_lasts s p.event.event p.event.actor discard) (λ end lasts. refl)
 
     few_then : length then_.kept ≤ u.kept.keep
     few_then =

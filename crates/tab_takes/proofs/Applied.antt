@@ -190,7 +190,7 @@ module _ (p : InPass) (out : List RowKind) (t : Tables) (blame : List (StateId �
 
   pub moved_on : (why : Why) (nav : NavId) → IsMovedBy now_ why nav → IsMovedBy n why nav
   moved_on why nav by =
-      applied_moved now_ e.event e.actor why nav by made.req change (open_none now_ made.req why whole.movers.unasked (λ x found. let two : Some q ≡ Some x = sym at.taking.there ∙ found in let one : q ≡ x = cc in subst (λ (y : Asked). y.ending ≡ None) one at.taking.open_))
+      applied_moved now_ e.event e.actor why nav by made.req change (open_none now_ made.req why whole.movers.ends (λ x found. let two : Some q ≡ Some x = sym at.taking.there ∙ found in let one : q ≡ x = cc in subst (λ (y : Asked). y.ending ≡ None) one at.taking.open_))
 
   pub moved_same : IsTab t.running p.loads rest n → (nav : NavId) → is_moved n nav ≡ is_moved now_ nav
   moved_same tab_n nav = moved_in t.running now_.requests n.requests nav whole.asked.only tab_n.asked.only moves_same

@@ -24,7 +24,6 @@ use Rattle.log_model.specs.declared.request.Request.{Request}
 use Rattle.log_model.specs.declared.row.Row.{Row}
 use Rattle.log_model.specs.declared.row_kind.RowKind.{RowKind}
 use Rattle.row_facts.proofs.Owed.Ends.{loose_more, loose_owed}
-use Rattle.row_facts.proofs.Owed.Requests.{unasked_passes}
 use Rattle.row_facts.proofs.Owed.Rows.{applied_lasts}
 use Rattle.row_facts.specs.Owed.Owed.{IsLoose}
 use Rattle.seen_facts.specs.Request.Knowns.{is_go}
@@ -215,7 +214,7 @@ module _ (p : InPass) (out : List RowKind) (t : Tables) (passing : IsPassing p o
           due = record { at = its.at; open_ = its.open_; due = due_is; fit = fit; in_order = refl };
           traverses = its.goes;
           makes = λ made is. go_changes_none made.what (goes_of (wish its.q) (going.lasting.moves.goes req its.q its.at) made is its.goes);
-          passed = unasked_passes s its.q (tab.asked.each req its.q its.at).unasked (rw ((tab.asked.each req its.q its.at).unprompted) refl);
+          passed = tab.asked.passed req its.q its.at;
           stand = stand;
           unparked = only;
           first = by_either turning.parked;

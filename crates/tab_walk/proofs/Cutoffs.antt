@@ -1,4 +1,5 @@
 -- Where none may be kept, the document that is left may be discarded.
+use Rattle.seen_facts.proofs.Asked.Passed.{asked_all}
 use Rattle.seen_facts.proofs.Hang.Hung.{places_distinct}
 use Rattle.seen_facts.proofs.Hang.Members.{has_map}
 use Rattle.seen_facts.proofs.Hang.Parts.{state_is}
@@ -147,7 +148,7 @@ module _ (m : InMove) (out : List RowKind) (t : Tables) (leaving : IsLeaving m.p
       cut_ahead m.pass.event out (cut_of m) t m.left why bound.old bound.new leaving.work bound.new_found
       (record { discards = discards; place = bound.place; placed = ap (λ (n : NavId). place_of s n) bound.old_nav ∙ bound.placed; last = bound.last ∙ ap (λ (d : DocId). Some d) (sym old_nr) })
       (leaving.going.tab.asked.died (proc_at s m.left)).0
-      (all_answered s (row_of m.pass.event (rows.Sent (order_to s m.left why tasks.Discard))) (all_requests s.requests (all_asked s) (λ req q at. rw ((leaving.going.tab.asked.each req q at).unasked) refl)))
+      (all_answered s (row_of m.pass.event (rows.Sent (order_to s m.left why tasks.Discard))) (all_requests s.requests (all_asked s) (λ req q at. asked_all s q (leaving.going.tab.asked.passed req q at))))
       may.none
       may.kept
       (bound.new_nav ∙ sym bound.old_nav)

@@ -12,7 +12,7 @@ use Rattle.log_model.specs.Seen.{Document, Place, Seen, awake, document_of, plac
 use Rattle.log_model.specs.declared.job.Job.{Job}
 use Rattle.log_model.specs.declared.job.Why.{Why}
 use Rattle.log_model.specs.declared.row_kind.RowKind.{RowKind}
-use Rattle.row_facts.specs.Owed.Owed.{AreUnasked}
+use Rattle.seen_facts.specs.Asked.Asking.{HavePassed}
 use Rattle.seen_laws.proofs.Keyed.{find_on_other}
 use Rattle.seen_laws.specs.InEvent.{InEvent, now_of, row_of}
 use Rattle.std.proofs.Common.{Bool, List, Some, [], ap, false, inl, inr, refl, sym, true, ◌==◌, ◌||◌, ◌∙◌, ◌∷◌, ◌≡◌}
@@ -55,8 +55,8 @@ module _ (m : InMove) (out : List RowKind) (t : Tables) (leaving : IsLeaving m.p
   abbrev pub cut_then : Seen
   cut_then = after s (row_of e (rows.Sent discard))
 
-  unasked : AreUnasked s
-  unasked req q at = (leaving.going.tab.asked.each req q at).unasked
+  all_passed : HavePassed s
+  all_passed = leaving.going.tab.asked.passed
 
   abbrev pub moving : InMoving
   moving = record { pass = m.pass; move = cut_of m; cause = m.cause }
@@ -140,7 +140,7 @@ module _ (m : InMove) (out : List RowKind) (t : Tables) (leaving : IsLeaving m.p
             ap (λ (q : Place). is_below m.nav q) (sym one) ∙ ap (λ (l : List NavId). has_nav l m.nav) (sym was.above) ∙ below)
 
     leaves_up : LeavesOthers s cut_then m.nav
-    leaves_up = discard_leaves s e.event e.actor discard m.nav refl unasked (under moving m.nav m.left why out t leaving to)
+    leaves_up = discard_leaves s e.event e.actor discard m.nav refl all_passed (under moving m.nav m.left why out t leaving to)
 
   module _ (down : is_up_in t.tree m.nav ≡ false) where
     pub its_off : HasSetOff m t.running s
@@ -156,7 +156,7 @@ module _ (m : InMove) (out : List RowKind) (t : Tables) (leaving : IsLeaving m.p
     asleep_down other place at_or placed = its_off.sleeps other place at_or (ap (λ (l : List Place). place_in l other) (sym places_down) ∙ placed)
 
     leaves_down : LeavesOthers s cut_then m.nav
-    leaves_down = discard_none_leaves s e.event e.actor discard none_down m.nav refl unasked
+    leaves_down = discard_none_leaves s e.event e.actor discard none_down m.nav refl all_passed
 
   pub asleep_then : AllAsleep cut_then m.nav
   asleep_then = by_up (is_up_in t.tree m.nav) refl

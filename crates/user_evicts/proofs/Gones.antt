@@ -18,7 +18,8 @@ use Rattle.seen_facts.proofs.Mover.Orders.{MovesEach}
 use Rattle.nav_tree.specs.Tree.{docs_of}
 use Rattle.row_facts.proofs.Owed.Ends.{loose_first, loose_more, loose_owed}
 use Rattle.row_facts.proofs.Owed.Rows.{sent_lasts}
-use Rattle.row_facts.specs.Owed.Owed.{AreUnasked, IsLoose}
+use Rattle.row_facts.specs.Owed.Owed.{IsLoose}
+use Rattle.seen_facts.specs.Asked.Asking.{HavePassed}
 use Rattle.seen_facts.proofs.Request.Readers.{sent_reads}
 use Rattle.row_facts.proofs.RestRows.Again.{doc_same}
 use Rattle.row_facts.proofs.RestRows.Orders.{discarded_less}
@@ -99,8 +100,8 @@ module _ (e : InEvent) (state : StateId) (asks : IsEvictAsk e state) (t : Tables
   none_sleep : sleepers_with n doc ≡ []
   none_sleep = nobody e state asks t (tied_own e state asks t queue blame stands) tab were (due_own e state asks t queue blame stands)
 
-  unasked : AreUnasked n
-  unasked req q at = (tab.asked.each req q at).unasked
+  all_passed : HavePassed n
+  all_passed = tab.asked.passed
 
   -- ---- all goes on
 
@@ -138,7 +139,7 @@ module _ (e : InEvent) (state : StateId) (asks : IsEvictAsk e state) (t : Tables
   stays =
       record {
         places = places_then;
-        leaves = λ nav. discard_none_leaves n e.event e.actor order none_sleep nav refl unasked;
+        leaves = λ nav. discard_none_leaves n e.event e.actor order none_sleep nav refl all_passed;
         loading = loads_sent n e.event e.actor order (inr none_its);
       }
     where

@@ -1,4 +1,5 @@
 -- The document that is kept longest, as the user evicts it: nobody is awake on it, and the tables have it for its state alone.
+use Rattle.seen_facts.proofs.Asked.Passed.{asked_all}
 use Rattle.seen_facts.proofs.Hang.Hung.{places_distinct}
 use Rattle.seen_facts.proofs.Hang.Members.{has_map}
 use Rattle.seen_facts.proofs.Hang.Parts.{state_is}
@@ -157,9 +158,9 @@ module _ (e : InEvent) (state : StateId) (asks : IsEvictAsk e state) (t : Tables
 
   -- ---- what the order asks
 
-  unasked : (row : LogRow) → SettlesNone n row
-  unasked row =
-      all_answered n row (all_requests n.requests (all_asked n) (λ req q at. (let none : q.asks ≡ [] = (tab.asked.each req q at).unasked in rw none refl)))
+  none_asked : (row : LogRow) → SettlesNone n row
+  none_asked row =
+      all_answered n row (all_requests n.requests (all_asked n) (λ req q at. asked_all n q (tab.asked.passed req q at)))
 
   discards : IsDiscardOf n (order_to n doc whys.Evict tasks.Discard) document
   discards =
@@ -211,7 +212,7 @@ module _ (e : InEvent) (state : StateId) (asks : IsEvictAsk e state) (t : Tables
         unshown = unshown;
         discards = discards;
         known = (tab.asked.died (proc_at n doc)).0;
-        settles = unasked;
+        settles = none_asked;
         gone = gone;
         own_state = own_state;
       }

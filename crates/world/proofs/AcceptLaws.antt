@@ -37,7 +37,7 @@ use Rattle.coord.specs.Standing.{HasActed, IsAsk, IsOpenTo, asked_for}
 use Rattle.coord.specs.declared.ask.Ask.{Ask}
 use Rattle.coord.specs.declared.ask.Ask.TheVariants as asks
 use Rattle.coord.specs.declared.coordinator.Coordinator.{Coordinator}
-use Rattle.coord_acts.proofs.Pokes.{poke_acts, poke_refused_acts}
+use Rattle.coord.proofs.Pokes.{poke_acts, poke_refused_acts}
 use Rattle.tab_doors.specs.Ties.{proc_in}
 use Rattle.world.specs.declared.event.Event.TheVariants as events
 use Rattle.world.specs.declared.event.Reply.TheVariants as replies

@@ -23,7 +23,7 @@ use Rattle.seen_laws.proofs.Sendings.{both}
 use Rattle.tab_doors.specs.Working.{IsWorker}
 use Rattle.coord.specs.Standing.{HasActed}
 use Rattle.seen_laws.proofs.InEvents.{now_fold}
-use Rattle.coord_acts.proofs.EventLaws.{event_keeps}
+use Rattle.coord.proofs.EventLaws.{event_keeps}
 use Rattle.world.specs.declared.state.State.{State}
 use Rattle.world.specs.Asking.{event_of}
 use Rattle.proc_tables.specs.Desks.{desk_at, desk_noted}

@@ -7,7 +7,7 @@ use Rattle.tab_ids.specs.declared.ProcId.{ProcId}
 use Rattle.tab_ids.specs.declared.ReqId.{ReqId}
 use Rattle.coord.specs.Standing.{HasActed}
 use Rattle.coord.specs.declared.coordinator.Coordinator.{Coordinator}
-use Rattle.coord_acts.proofs.Orders.{finished_acts, fragment_acts, order_runs}
+use Rattle.coord.proofs.Orders.{finished_acts, fragment_acts, order_runs}
 use Rattle.seen_facts.specs.Desk.Own.{IsFragmentTask, IsOrderIn}
 use Rattle.seen_facts.proofs.Doc.Works.{HasNoSlot}
 use Rattle.seen_facts.specs.Each.Items.{Each}
@@ -15,6 +15,7 @@ use Rattle.seen_facts.specs.Fragment.Fragments.{fragment_of}
 use Rattle.history_log.proofs.DeskLaws.{desk_of-after}
 use Rattle.seen_facts.proofs.LoadWhereabouts.Trips.{IsNoFragment}
 use Rattle.log_counts.specs.Counts.{told_index}
+use Rattle.log_model.specs.declared.handler.HandlerKind.{HandlerKind}
 use Rattle.log_model.specs.declared.header.Header.{Header}
 use Rattle.log_model.specs.declared.job.Job.{Job}
 use Rattle.log_model.specs.declared.job.Order.{Order}
@@ -41,7 +42,7 @@ use Rattle.proc_tables.specs.declared.item.Item.TheVariants as items
 use Rattle.proc_tables.specs.Desks.{Changes, desk_at, desk_with, on_proc, without_order}
 use Rattle.proc_tables.specs.Views.{view_at}
 use Rattle.proc_work.specs.Work as worked
-use Rattle.proc_work.specs.Work.{outcome_of_task}
+use Rattle.proc_work.specs.Work.{done_of, outcome_of_task}
 use Rattle.seen_facts.proofs.Rest.Again.{its_number}
 use Rattle.tab_facts.specs.Running.Running.{Runs}
 use Rattle.running_table.specs.Runners.{RunnersState}
@@ -52,6 +53,7 @@ use Rattle.world.specs.declared.event.Event.TheVariants as events
 use Rattle.world.specs.declared.event.Reply.TheVariants as replies
 use Rattle.world.specs.declared.state.State.{State}
 use Rattle.world.specs.Asking.{event_of}
+use Rattle.world.specs.Finishing.{IsWorkedOutcome}
 use Rattle.world.specs.Notes.{row_with}
 use Rattle.world.specs.Open.{IsOpen, IsSmall, row_limit, view_in}
 use Rattle.world.specs.Shows.{IsTabTask, Shows, made_at_end, shown_after}
@@ -78,6 +80,16 @@ tab_task s doc tasks.Discard is = tt
 tab_task s doc tasks.Freeze is = tt
 tab_task s doc (tasks.DoFragment req mode address) is = tt
 tab_task s doc (tasks.Ask slot cause) never = absurd never
+
+-- what comes of an order that asks nobody has nothing to do with unsaved edits and handlers
+bare_outcome : (task : Task) (dirty any : Bool) (kind : Option HandlerKind) → IsTabTask task → outcome_of_task task dirty kind ≡ outcome_of_task task any None
+bare_outcome (tasks.Populate nav state address initial) dirty any kind is = refl
+bare_outcome (tasks.Activate entry epoch long at memo address) dirty any kind is = refl
+bare_outcome (tasks.Update long at) dirty any kind is = refl
+bare_outcome tasks.Discard dirty any kind is = refl
+bare_outcome tasks.Freeze dirty any kind is = refl
+bare_outcome (tasks.DoFragment req mode address) dirty any kind is = refl
+bare_outcome (tasks.Ask slot cause) dirty any kind never = absurd never
 
 -- the outcome is one of its task, and finds no handler
 record IsFitting (task : Task) (outcome : Outcome) : Type 0 where
@@ -274,8 +286,8 @@ module _ (header : Header) (log : List LogRow) (t : State) (is : IsOpen header l
       ∙ ap (λ (n : DocId). shown_after n d.view order.job.task) number
       ∙ ap (λ (o : Option View). shown_after order.job.doc o order.job.task) view_was
 
-  plain_gone : (outcome : Outcome) (new : State) (longer : List LogRow) → IsNoFragment order.job.task → ((dirty : Bool) → outcome ≡ outcome_of_task order.job.task dirty None) → new.coordinator ≡ t.coordinator → new.events ≡ t.events + 1 → Shows order.job.doc next_view t.views new.views → GoesWith order.job.doc order.job.task t.runners new.runners → Changes proc (λ (x : Desk). desk_with (items.Report (told.Done order.job outcome None)) (without_order x)) t.desks new.desks → new.endings.items ≡ t.endings.items → longer ≡ log ++ row_with t.events by (rows.Finished proc order.job.nr outcome) ∷ [] → (done : worked.Done) → HasGone header (events.Finish proc done) replies.Finished log longer new
-  plain_gone outcome new longer plain out_is coordinator events_ shows follows desks ends_ more done =
+  plain_gone : (outcome : Outcome) (new : State) (longer : List LogRow) → IsNoFragment order.job.task → ((dirty : Bool) → outcome ≡ outcome_of_task order.job.task dirty None) → new.coordinator ≡ t.coordinator → new.events ≡ t.events + 1 → Shows order.job.doc next_view t.views new.views → GoesWith order.job.doc order.job.task t.runners new.runners → Changes proc (λ (x : Desk). desk_with (items.Report (told.Done order.job outcome None)) (without_order x)) t.desks new.desks → new.endings.items ≡ t.endings.items → longer ≡ log ++ row_with t.events by (rows.Finished proc order.job.nr outcome) ∷ [] → (done : worked.Done) → done ≡ done_of order done.kind → done.outcome ≡ outcome → HasGone header (events.Finish proc done) replies.Finished log longer new
+  plain_gone outcome new longer plain out_is coordinator events_ shows follows desks ends_ more done its same =
       gone_alone header log t is short proc (events.Finish proc done) replies.Finished own_ new longer begins refl acted kept coordinator events_ (shows_small order.job.doc next_view t.views new.views t.events new.events events_ shows (small new.events events_) is.holds.small) more
     where
       own_ : RowKind
@@ -289,7 +301,7 @@ module _ (header : Header) (log : List LogRow) (t : State) (is : IsOpen header l
 
       begins : Begins s (events.Finish proc done) replies.Finished own_ []
       begins =
-          (refl, rw held (ap (λ (o : Outcome). rows.Finished proc order.job.nr o) (out_is order.dirty), sym (ap (λ (o : Option View). rows_of_made proc (made_at_end o order.job.task)) (is.holds.views order.job.doc) ∙ ap (λ (o : Option Made). rows_of_made proc o) none)))
+          (refl, rw held (its, ap (λ (o : Outcome). rows.Finished proc order.job.nr o) (sym same), sym (ap (λ (o : Option View). rows_of_made proc (made_at_end o order.job.task)) (is.holds.views order.job.doc) ∙ ap (λ (o : Option Made). rows_of_made proc o) none)))
 
       acted : HasActed (event_of header log by own_) [] t.coordinator
       acted =
@@ -415,8 +427,8 @@ module _ (header : Header) (log : List LogRow) (t : State) (is : IsOpen header l
         as_view None = refl
         as_view (Some x) = refl
 
-    fragment_gone : (new : State) (longer : List LogRow) → new.coordinator ≡ t.coordinator → new.events ≡ t.events + 1 → Shows order.job.doc next_view t.views new.views → GoesWith order.job.doc order.job.task t.runners new.runners → Changes proc (λ (x : Desk). desk_with (items.Report (told.Done order.job outcomes.Fragmented (Some made))) (without_order x)) t.desks new.desks → new.endings.items ≡ t.endings.items → longer ≡ log ++ row_with t.events by (rows.Finished proc order.job.nr outcomes.Fragmented) ∷ row_with t.events by (rows.Made proc made) ∷ [] → (done : worked.Done) → HasGone header (events.Finish proc done) replies.Finished log longer new
-    fragment_gone new longer coordinator events_ shows follows desks ends_ more done =
+    fragment_gone : (new : State) (longer : List LogRow) → new.coordinator ≡ t.coordinator → new.events ≡ t.events + 1 → Shows order.job.doc next_view t.views new.views → GoesWith order.job.doc order.job.task t.runners new.runners → Changes proc (λ (x : Desk). desk_with (items.Report (told.Done order.job outcomes.Fragmented (Some made))) (without_order x)) t.desks new.desks → new.endings.items ≡ t.endings.items → longer ≡ log ++ row_with t.events by (rows.Finished proc order.job.nr outcomes.Fragmented) ∷ row_with t.events by (rows.Made proc made) ∷ [] → (done : worked.Done) → done ≡ done_of order done.kind → done.outcome ≡ outcomes.Fragmented → HasGone header (events.Finish proc done) replies.Finished log longer new
+    fragment_gone new longer coordinator events_ shows follows desks ends_ more done its same =
         let whole : longer ≡ log ++ row_with s.events by fin ∷ row_with s.events by (rows.Made proc made) ∷ [] = more ∙ ap (λ (k : ℕ). log ++ row_with k by fin ∷ row_with k by (rows.Made proc made) ∷ []) (sym is.holds.events) in
         record {
           happened = record { own = fin; out = rows.Made proc made ∷ []; begins = begins; log = whole };
@@ -425,7 +437,7 @@ module _ (header : Header) (log : List LogRow) (t : State) (is : IsOpen header l
       where
         begins : Begins s (events.Finish proc done) replies.Finished fin (rows.Made proc made ∷ [])
         begins =
-            (refl, rw held (ap (λ (k : Task). rows.Finished proc order.job.nr (outcome_of_task k order.dirty None)) (sym task_is), sym (ap (λ (o : Option View). rows_of_made proc (made_at_end o order.job.task)) (is.holds.views order.job.doc) ∙ ap (λ (o : Option Made). rows_of_made proc o) makes_it)))
+            (refl, rw held (its, ap (λ (o : Outcome). rows.Finished proc order.job.nr o) (sym same), sym (ap (λ (o : Option View). rows_of_made proc (made_at_end o order.job.task)) (is.holds.views order.job.doc) ∙ ap (λ (o : Option Made). rows_of_made proc o) makes_it)))
 
         acted : HasActed (event_of header log by fin) (rows.Made proc made ∷ []) new.coordinator
         acted =
@@ -448,15 +460,18 @@ module _ (header : Header) (log : List LogRow) (t : State) (is : IsOpen header l
 
   -- ---- any order
 
-  pub finish_gone : (outcome : Outcome) (made : Option Made) (new : State) (longer : List LogRow) → ((dirty : Bool) → outcome ≡ outcome_of_task order.job.task dirty None) → made ≡ made_at_end (view_at t.views order.job.doc) order.job.task → new.coordinator ≡ t.coordinator → new.events ≡ t.events + 1 → Shows order.job.doc next_view t.views new.views → GoesWith order.job.doc order.job.task t.runners new.runners → Changes proc (λ (x : Desk). desk_with (items.Report (told.Done order.job outcome made)) (without_order x)) t.desks new.desks → new.endings.items ≡ t.endings.items → longer ≡ log ++ row_with t.events by (rows.Finished proc order.job.nr outcome) ∷ map (row_with t.events by) (rows_of_made proc made) → (done : worked.Done) → HasGone header (events.Finish proc done) replies.Finished log longer new
-  finish_gone outcome made new longer out_is made_is coordinator events_ shows follows desks ends_ more done = by_task order.job.task refl
+  pub finish_gone : (outcome : Outcome) (made : Option Made) (new : State) (longer : List LogRow) → IsWorkedOutcome order outcome → made ≡ made_at_end (view_at t.views order.job.doc) order.job.task → new.coordinator ≡ t.coordinator → new.events ≡ t.events + 1 → Shows order.job.doc next_view t.views new.views → GoesWith order.job.doc order.job.task t.runners new.runners → Changes proc (λ (x : Desk). desk_with (items.Report (told.Done order.job outcome made)) (without_order x)) t.desks new.desks → new.endings.items ≡ t.endings.items → longer ≡ log ++ row_with t.events by (rows.Finished proc order.job.nr outcome) ∷ map (row_with t.events by) (rows_of_made proc made) → (done : worked.Done) → done ≡ done_of order done.kind → done.outcome ≡ outcome → HasGone header (events.Finish proc done) replies.Finished log longer new
+  finish_gone outcome made new longer worked_ made_is coordinator events_ shows follows desks ends_ more done its same = by_task order.job.task refl
     where
+      out_is : (dirty : Bool) → outcome ≡ outcome_of_task order.job.task dirty None
+      out_is dirty = worked_.is ∙ bare_outcome order.job.task order.dirty dirty worked_.kind its_task
+
       plain : IsNoFragment order.job.task → HasGone header (events.Finish proc done) replies.Finished log longer new
       plain is_plain =
           let none : made ≡ None = made_is ∙ none_made (view_at t.views order.job.doc) order.job.task is_plain in
           plain_gone outcome new longer is_plain out_is coordinator events_ shows follows
           (subst (λ (m : Option Made). Changes proc (λ (x : Desk). desk_with (items.Report (told.Done order.job outcome m)) (without_order x)) t.desks new.desks) none desks) ends_
-          (more ∙ ap (λ (m : Option Made). log ++ row_with t.events by (rows.Finished proc order.job.nr outcome) ∷ map (row_with t.events by) (rows_of_made proc m)) none) done
+          (more ∙ ap (λ (m : Option Made). log ++ row_with t.events by (rows.Finished proc order.job.nr outcome) ∷ map (row_with t.events by) (rows_of_made proc m)) none) done its same
 
       by_task : (task : Task) → order.job.task ≡ task → HasGone header (events.Finish proc done) replies.Finished log longer new
       by_task (tasks.DoFragment req mode address) e =
@@ -464,7 +479,7 @@ module _ (header : Header) (log : List LogRow) (t : State) (is : IsOpen header l
           let out : outcome ≡ outcomes.Fragmented = out_is true ∙ ap (λ (k : Task). outcome_of_task k true None) e in
           fragment_gone req mode address e new longer coordinator events_ shows follows
           (subst (λ (o : Outcome). Changes proc (λ (x : Desk). desk_with (items.Report (told.Done order.job o (Some (made_for (runs req mode address e).view req (fragment_of (runs req mode address e).view mode address))))) (without_order x)) t.desks new.desks) out (subst (λ (m : Option Made). Changes proc (λ (x : Desk). desk_with (items.Report (told.Done order.job outcome m)) (without_order x)) t.desks new.desks) some desks)) ends_
-          (more ∙ ap (λ (m : Option Made). log ++ row_with t.events by (rows.Finished proc order.job.nr outcome) ∷ map (row_with t.events by) (rows_of_made proc m)) some ∙ ap (λ (o : Outcome). log ++ row_with t.events by (rows.Finished proc order.job.nr o) ∷ row_with t.events by (rows.Made proc (made_for (runs req mode address e).view req (fragment_of (runs req mode address e).view mode address))) ∷ []) out) done
+          (more ∙ ap (λ (m : Option Made). log ++ row_with t.events by (rows.Finished proc order.job.nr outcome) ∷ map (row_with t.events by) (rows_of_made proc m)) some ∙ ap (λ (o : Outcome). log ++ row_with t.events by (rows.Finished proc order.job.nr o) ∷ row_with t.events by (rows.Made proc (made_for (runs req mode address e).view req (fragment_of (runs req mode address e).view mode address))) ∷ []) out) done its (same ∙ out)
       by_task (tasks.Populate nav state address initial) e = plain (subst IsNoFragment (sym e) tt)
       by_task (tasks.Activate entry epoch long at memo address) e = plain (subst IsNoFragment (sym e) tt)
       by_task (tasks.Update long at) e = plain (subst IsNoFragment (sym e) tt)

@@ -13,4 +13,5 @@ mod WorkLaws
 mod DeliverLaws
 mod Opens
 mod Readers
+mod AnswerLaws
 mod StepLaws

@@ -6,6 +6,7 @@ use Rattle.log_model.proofs.Refl.{bytes_eq_refl, nat_eq_refl}
 use Rattle.address.specs.Addresses.{base_of, blank_text, origin_of}
 use Rattle.tab_ids.specs.declared.DocId.{DocId}
 use Rattle.tab_ids.specs.declared.ProcId.{ProcId}
+use Rattle.log_model.specs.declared.handler.HandlerKind.{HandlerKind}
 use Rattle.log_model.specs.declared.header.Header.{Header}
 use Rattle.log_model.specs.declared.header.Page.{Page}
 use Rattle.log_model.specs.declared.row_kind.LogRow.{LogRow}
@@ -20,13 +21,14 @@ use Rattle.log_model.specs.AfterDocuments.{opening_document}
 use Rattle.log_model.specs.Views.{View, opening_view}
 use Rattle.coord.specs.Standing.{StandsFor}
 use Rattle.coord.specs.declared.coordinator.Coordinator.{Coordinator}
-use Rattle.coord_acts.specs.Keeping.{Keeps}
-use Rattle.coord_acts.proofs.EventLaws.{stands_settled}
-use Rattle.coord_acts.proofs.InTime.{opened_in_time}
+use Rattle.coord.specs.Keeping.{Keeps}
+use Rattle.coord.proofs.EventLaws.{stands_settled}
+use Rattle.coord.proofs.InTime.{opened_in_time}
 use Rattle.tab_stands.specs.Standing.{opened_at}
 use Rattle.world.specs.declared.state.State.{State}
 use Rattle.world.specs.Kept.{IsKept, OpensAs, OpensUnhandled}
 use Rattle.proc_tables.specs.Desks.{desk_at}
+use Rattle.proc_work.specs.Answers.{AnswersBy}
 use Rattle.world.specs.Open.{IsOpen, IsSmall, bare, first_document, opening_process, row_limit, view_in}
 use Rattle.world.specs.Opening.{opening_row, IsJustOpened}
 use Rattle.world.specs.Sited.{IsSited}
@@ -121,15 +123,20 @@ bare_same header none = ap (λ (pages : List Page). let h : Header = record head
 suits_all : (header : Header) (log : List LogRow) → (OpensAs (bare header) log → Suits (bare header) log) → header.pages ≡ [] → OpensAs header log → Suits header log
 suits_all header log suits none = subst (λ (h : Header). OpensAs h log → Suits h log) (bare_same header none) suits
 
+-- nobody was asked as a tab was opened
+pub opened_answers : (kinds : List HandlerKind) (address : List ℕ) (proc : ProcId) → AnswersBy kinds (opening_row address proc ∷ [])
+unfolding events_of AtEachEvent after_opening each_event
+opened_answers kinds address proc = refl
+
 -- an open world keeps what each world does
-pub open_kept : (header : Header) (log : List LogRow) (t : State) → IsOpen header log t → IsKept header log t false
-open_kept header log t is =
-    record { legal = is.keeps.legal; at_once = is.keeps.at_once; loads_end = is.keeps.loads_end; suits = suits_all header log is.keeps.suits; limited = is.limited; stands = λ e. is }
+pub open_kept : (header : Header) (kinds : List HandlerKind) (log : List LogRow) (t : State) → IsOpen header log t → AnswersBy kinds log → IsKept header kinds log t false
+open_kept header kinds log t is answers =
+    record { legal = is.keeps.legal; at_once = is.keeps.at_once; loads_end = is.keeps.loads_end; suits = suits_all header log is.keeps.suits; limited = is.limited; answers = answers; stands = λ e. is }
 
 -- and so it does once it is closed
-pub closed_kept : (header : Header) (log : List LogRow) (t new : State) → IsOpen header log t → IsKept header log new true
-closed_kept header log t new is =
-    record { legal = is.keeps.legal; at_once = is.keeps.at_once; loads_end = is.keeps.loads_end; suits = suits_all header log is.keeps.suits; limited = is.limited; stands = λ e. absurd cc }
+pub closed_kept : (header : Header) (kinds : List HandlerKind) (log : List LogRow) (t new : State) → IsOpen header log t → AnswersBy kinds log → IsKept header kinds log new true
+closed_kept header kinds log t new is answers =
+    record { legal = is.keeps.legal; at_once = is.keeps.at_once; loads_end = is.keeps.loads_end; suits = suits_all header log is.keeps.suits; limited = is.limited; answers = answers; stands = λ e. absurd cc }
 
 -- the process of the first document is the opening one
 first_home : (header : Header) → home_of header nothing (record { 0 = 0 }) header.first ≡ Some (opening_process header)

@@ -1,6 +1,11 @@
 -- What the readers of an open world answer.
-use Rattle.std.proofs.Common.{◌≡◌, ℕ, zero, suc, ◌+◌, ◌-◌, Bool, true, false, not, ◌&&◌, ◌==◌, List, [], ◌∷◌, Option, Some, None, refl, sym, ap, ◌∙◌, arith}
-use Rattle.std.specs.Prelude.{slice_get, option_and_then}
+use Rattle.seen_facts.proofs.Asked.Passed.{leaves_freely}
+use Rattle.seen_facts.specs.Asked.Asking.{HavePassed}
+use Rattle.log_model.specs.Equal.{holds}
+use Rattle.log_model.specs.Outcomes.{is_drop}
+use Rattle.log_model.specs.Places.{may_leave}
+use Rattle.std.proofs.Common.{◌≡◌, ℕ, zero, suc, ◌+◌, ◌-◌, Bool, true, false, not, ◌&&◌, ◌||◌, ◌==◌, List, [], ◌∷◌, Option, Some, None, is_some, refl, sym, ap, ◌∙◌, arith}
+use Rattle.std.specs.Prelude.{slice_get, option_and_then, is_none}
 use Rattle.std.specs.List.{list_all}
 use Rattle.std.proofs.lemmas.Bool.Decides.{nat_tests}
 use Rattle.tab_ids.specs.declared.NavId.{NavId}
@@ -33,16 +38,22 @@ each_item : (test : Asked → Bool) (asked : List Asked) → ((i : ℕ) (q : Ask
 each_item test [] all = refl
 each_item test (q ∷ asked) all = both (all zero q refl) (each_item test asked (λ i x at. all (suc i) x at))
 
-none_up : (s : Seen) → EachAsked IsAskedPlainly s.requests → list_all (λ (q : Asked). not (is_prompt_up q)) s.requests ≡ true
-none_up s calm = each_item (λ (q : Asked). not (is_prompt_up q)) s.requests (λ i q at. unasked q (calm (record { 0 = i + 1 }) q (there i q at)).unprompted)
+none_up : (s : Seen) → HavePassed s → list_all (λ (q : Asked). not (is_prompt_up q)) s.requests ≡ true
+none_up s passed = each_item (λ (q : Asked). not (is_prompt_up q)) s.requests (λ i q at. not_up q (leaves_freely s q (passed (record { 0 = i + 1 }) q (there i q at))))
   where
     there : (i : ℕ) (q : Asked) → slice_get s.requests i ≡ Some q → request_in s.requests (record { 0 = i + 1 }) ≡ Some q
     there i q at =
         let real : ((i + 1) == 0) ≡ false = grind (arith, nat_tests) in
         let back : (i + 1 - 1) ≡ i = omega arith in rw (real, back) at
 
-    unasked : (q : Asked) → q.prompted ≡ None → not (is_prompt_up q) ≡ true
-    unasked q none = rw none refl
+    -- who may leave isn't asked, or has answered
+    by_prompt : (prompted : Option DocId) (answered : Option Bool) (open_ : Bool) → (is_none prompted || holds not answered) ≡ true → not (is_some prompted && is_none answered && open_) ≡ true
+    by_prompt None answered open_ is = refl
+    by_prompt (Some doc) None open_ is = cc
+    by_prompt (Some doc) (Some stay) open_ is = refl
+
+    not_up : (q : Asked) → may_leave q ≡ true → not (is_prompt_up q) ≡ true
+    not_up q is = by_prompt q.prompted q.answered (not (holds is_drop q.ending)) is
 
 module _ (header : Header) (log : List LogRow) (t : State) (is : IsOpen header log t) where
   abbrev s : Seen
@@ -80,7 +91,7 @@ module _ (header : Header) (log : List LogRow) (t : State) (is : IsOpen header l
 
     pub quiet_is : idle ≡ is_quiet s
     quiet_is =
-        still_is ∙ sym (ap (λ (b : Bool). is_still s && b) (none_up s (tab header log t is).asked.each) ∙ and_true (is_still s))
+        still_is ∙ sym (ap (λ (b : Bool). is_still s && b) (none_up s (tab header log t is).asked.passed) ∙ and_true (is_still s))
       where
         and_true : (b : Bool) → (b && true) ≡ b
         and_true true = refl

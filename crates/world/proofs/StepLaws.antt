@@ -1,16 +1,18 @@
 -- When an event is due.
-use Rattle.std.proofs.Common.{◌≡◌, ℕ, ◌<◌, ◌≤◌, Bool, true, false, ◌==◌, List, length, Option, Some, None, Ok, Err, refl, ap, ◌∙◌, subst, arith}
-use Rattle.std.specs.Prelude.{IsSome, if◌then◌else◌}
+use Rattle.std.proofs.Common.{◌≡◌, ℕ, ◌<◌, ◌≤◌, Bool, true, false, ◌&&◌, ◌==◌, List, length, Option, Some, None, Ok, Err, refl, ap, ◌∙◌, subst, arith}
+use Rattle.std.specs.Prelude.{IsSome, IsSomeAnd, if◌then◌else◌}
 use Rattle.std.proofs.lemmas.Bool.Decides.{nat_tests}
 use Rattle.coord.specs.Evicting.{longest_in}
 use Rattle.tab_ids.specs.declared.DocId.{DocId}
 use Rattle.tab_ids.specs.declared.ProcId.{ProcId}
+use Rattle.log_model.specs.declared.handler.HandlerKind.{HandlerKind}
 use Rattle.log_model.specs.declared.header.Header.{Header}
 use Rattle.log_model.specs.declared.job.Order.{Order}
 use Rattle.log_model.specs.declared.row_kind.LogRow.{LogRow}
 use Rattle.log_model.specs.Equal.{holds}
 use Rattle.log_model.specs.Logs.{seen_of}
 use Rattle.log_model.specs.Seen.{Seen, Desk, desk_of}
+use Rattle.proc_work.proofs.SameLaws.{order_is}
 use Rattle.proc_work.specs.Work as worked
 use Rattle.world.specs.declared.event.Event.{Event}
 use Rattle.world.specs.declared.event.Event.TheVariants as events
@@ -22,30 +24,35 @@ use Rattle.world.specs.declared.error.StepError.TheVariants as errors
 use Rattle.world.specs.Kept.{WorldState}
 use Rattle.proc_tables.specs.Desks.{desk_at}
 use Rattle.world.specs.Open.{IsOpen, row_limit}
-use Rattle.world.specs.Steps.{Steps, begin_idles, idle_at, idle_reply}
+use Rattle.world.specs.Finishing.{IsWorkedOutcome}
+use Rattle.world.specs.Steps.{Steps, begin_idles, idle_at, idle_reply, is_work_on}
 use Rattle.world.specs.Turns.{HasGone, Shuts}
 use Rattle.world.proofs.EvictLaws.{evict_due}
 
-same_at : (desk other : ProcId → Desk) (kept : List DocId) (event : Event) → ((proc : ProcId) → desk proc ≡ other proc) → idle_at desk kept event ≡ idle_at other kept event
-same_at desk other kept (events.Load nav mode address) same = refl
-same_at desk other kept (events.Go delta) same = refl
-same_at desk other kept (events.Poke nav action) same = refl
-same_at desk other kept events.Evict same = refl
-same_at desk other kept (events.Act proc) same =
+same_at : (kinds : List HandlerKind) (desk other : ProcId → Desk) (kept : List DocId) (event : Event) → ((proc : ProcId) → desk proc ≡ other proc) → idle_at kinds desk kept event ≡ idle_at kinds other kept event
+same_at kinds desk other kept (events.Load nav mode address) same = refl
+same_at kinds desk other kept (events.Go delta) same = refl
+same_at kinds desk other kept (events.Poke nav action) same = refl
+same_at kinds desk other kept events.Evict same = refl
+same_at kinds desk other kept (events.Act proc) same =
     ap (λ (d : Desk). let o : Option Reply = if length d.input == 0 then Some replies.Empty else None in o) (same proc)
-same_at desk other kept (events.Begin proc) same = ap (λ (d : Desk). begin_idles d.in_hand (length d.mail)) (same proc)
-same_at desk other kept (events.Finish proc done) same =
-    ap (λ (d : Desk). let o : Option Reply = if holds (λ (order : Order). order.job.nr.0 == done.order.job.nr.0) d.in_hand then None else Some replies.Stale in o) (same proc)
-same_at desk other kept (events.Deliver proc) same =
+same_at kinds desk other kept (events.Begin proc) same = ap (λ (d : Desk). begin_idles d.in_hand (length d.mail)) (same proc)
+same_at kinds desk other kept (events.Finish proc done) same =
+    ap (λ (d : Desk). let o : Option Reply = if holds (is_work_on kinds done) d.in_hand then None else Some replies.Stale in o) (same proc)
+same_at kinds desk other kept (events.Deliver proc) same =
     ap (λ (d : Desk). let o : Option Reply = if length d.reports == 0 then Some replies.Empty else None in o) (same proc)
+
+and_left : (a b : Bool) → (a && b) ≡ true → a ≡ true
+and_left true b e = refl
+and_left false b e = cc
 
 module _ (header : Header) (log : List LogRow) (t : State) (is : IsOpen header log t) where
   abbrev s : Seen
   s = seen_of log
 
   -- whether an event logs is read of the desks
-  pub idle_is : (event : Event) → idle_reply s event ≡ idle_at (desk_at t.desks) s.kept event
-  idle_is event = same_at (desk_of s) (desk_at t.desks) s.kept event is.holds.desks
+  pub idle_is : (kinds : List HandlerKind) (event : Event) → idle_reply kinds s event ≡ idle_at kinds (desk_at t.desks) s.kept event
+  idle_is kinds event = same_at kinds (desk_of s) (desk_at t.desks) s.kept event is.holds.desks
 
   -- ---- what an event that logs finds in its process
 
@@ -57,42 +64,57 @@ module _ (header : Header) (log : List LogRow) (t : State) (is : IsOpen header l
       by_test true e none_ = cc
       by_test false e none_ = grind (arith, nat_tests, e)
 
-  pub evict_is_due : idle_reply s events.Evict ≡ None → IsSome (longest_in (seen_of log))
-  evict_is_due due = evict_due header log t is (by_test (length s.kept == 0) due)
+  pub evict_is_due : (kinds : List HandlerKind) → idle_reply kinds s events.Evict ≡ None → IsSome (longest_in (seen_of log))
+  evict_is_due kinds due = evict_due header log t is (by_test (length s.kept == 0) due)
     where
       by_test : (b : Bool) → (let o : Option Reply = if b then Some replies.NothingKept else None in o) ≡ None → b ≡ false
       by_test true none_ = cc
       by_test false none_ = refl
 
-  pub act_due : (proc : ProcId) → idle_reply s (events.Act proc) ≡ None → 0 < length (desk_at t.desks proc).input
-  act_due proc due = subst (λ (d : Desk). 0 < length d.input) (is.holds.desks proc) (some_wait _ replies.Empty due)
+  pub act_due : (kinds : List HandlerKind) (proc : ProcId) → idle_reply kinds s (events.Act proc) ≡ None → 0 < length (desk_at t.desks proc).input
+  act_due kinds proc due = subst (λ (d : Desk). 0 < length d.input) (is.holds.desks proc) (some_wait _ replies.Empty due)
 
-  pub deliver_due : (proc : ProcId) → idle_reply s (events.Deliver proc) ≡ None → 0 < length (desk_at t.desks proc).reports
-  deliver_due proc due = subst (λ (d : Desk). 0 < length d.reports) (is.holds.desks proc) (some_wait _ replies.Empty due)
+  pub deliver_due : (kinds : List HandlerKind) (proc : ProcId) → idle_reply kinds s (events.Deliver proc) ≡ None → 0 < length (desk_at t.desks proc).reports
+  deliver_due kinds proc due = subst (λ (d : Desk). 0 < length d.reports) (is.holds.desks proc) (some_wait _ replies.Empty due)
 
-  pub begin_due : (proc : ProcId) → idle_reply s (events.Begin proc) ≡ None → ((desk_at t.desks proc).in_hand ≡ None) × (0 < length (desk_at t.desks proc).mail)
-  begin_due proc due = subst (λ (d : Desk). (d.in_hand ≡ None) × (0 < length d.mail)) (is.holds.desks proc) (by_hand (desk_of s proc).in_hand refl due)
+  pub begin_due : (kinds : List HandlerKind) (proc : ProcId) → idle_reply kinds s (events.Begin proc) ≡ None → ((desk_at t.desks proc).in_hand ≡ None) × (0 < length (desk_at t.desks proc).mail)
+  begin_due kinds proc due = subst (λ (d : Desk). (d.in_hand ≡ None) × (0 < length d.mail)) (is.holds.desks proc) (by_hand (desk_of s proc).in_hand refl due)
     where
       by_hand : (hand : Option Order) → (desk_of s proc).in_hand ≡ hand → begin_idles hand (length (desk_of s proc).mail) ≡ None → ((desk_of s proc).in_hand ≡ None) × (0 < length (desk_of s proc).mail)
       by_hand (Some order) e due_ = cc
       by_hand None e due_ = (e, some_wait _ replies.Empty due_)
 
-  pub finish_due : (proc : ProcId) (done : worked.Done) → idle_reply s (events.Finish proc done) ≡ None → IsSome (desk_at t.desks proc).in_hand
-  finish_due proc done due = subst (λ (d : Desk). IsSome d.in_hand) (is.holds.desks proc) (by_hand (desk_of s proc).in_hand refl due)
+  -- what is finished is the order in hand, worked on
+  pub finish_due : (kinds : List HandlerKind) (proc : ProcId) (done : worked.Done) → idle_reply kinds s (events.Finish proc done) ≡ None → done ≡ worked.done_of done.order done.kind → IsSomeAnd (desk_at t.desks proc).in_hand (λ order. done ≡ worked.done_of order done.kind)
+  finish_due kinds proc done due its = subst (λ (d : Desk). IsSomeAnd d.in_hand (λ order. done ≡ worked.done_of order done.kind)) (is.holds.desks proc) (by_hand (desk_of s proc).in_hand due)
     where
-      by_hand : (hand : Option Order) → (desk_of s proc).in_hand ≡ hand → (let o : Option Reply = if holds (λ (order : Order). order.job.nr.0 == done.order.job.nr.0) hand then None else Some replies.Stale in o) ≡ None → IsSome (desk_of s proc).in_hand
-      by_hand (Some order) e due_ = rw e refl
-      by_hand None e due_ = cc
+      by_test : (order : Order) (b : Bool) → is_work_on kinds done order ≡ b → (let o : Option Reply = if b then None else Some replies.Stale in o) ≡ None → done ≡ worked.done_of order done.kind
+      by_test order true e due_ =
+          let same : done.order ≡ order = order_is done.order order (and_left _ _ e) in
+          its ∙ ap (λ (o : Order). worked.done_of o done.kind) same
+      by_test order false e due_ = cc
+
+      by_hand : (hand : Option Order) → (let o : Option Reply = if holds (is_work_on kinds done) hand then None else Some replies.Stale in o) ≡ None → IsSomeAnd hand (λ order. done ≡ worked.done_of order done.kind)
+      by_hand (Some order) due_ = by_test order (is_work_on kinds done order) refl due_
+      by_hand None due_ = cc
+
+  -- so its outcome is one of that order
+  pub worked_due : (proc : ProcId) (done : worked.Done) → IsSomeAnd (desk_at t.desks proc).in_hand (λ order. done ≡ worked.done_of order done.kind) → IsSomeAnd (desk_at t.desks proc).in_hand (λ order. IsWorkedOutcome order done.outcome)
+  worked_due proc done = by_hand (desk_at t.desks proc).in_hand
+    where
+      by_hand : (hand : Option Order) → IsSomeAnd hand (λ order. done ≡ worked.done_of order done.kind) → IsSomeAnd hand (λ order. IsWorkedOutcome order done.outcome)
+      by_hand (Some order) is = record { kind = done.kind; is = ap (λ (d : worked.Done). d.outcome) is }
+      by_hand None never = elim never [ ]
 
 -- ---- a step
 
 module _ (w : WorldState) (t : State) (is : IsOpen w.header w.log t) (event : Event) where
-  pub idle_steps : (reply : Reply) → idle_at (desk_at t.desks) (seen_of w.log).kept event ≡ Some reply → Steps w event (Ok reply) w
-  idle_steps reply idles = rw (idle_is w.header w.log t is event ∙ idles) (refl, refl)
+  pub idle_steps : (reply : Reply) → idle_at w.kinds (desk_at t.desks) (seen_of w.log).kept event ≡ Some reply → Steps w event (Ok reply) w
+  idle_steps reply idles = rw (idle_is w.header w.log t is w.kinds event ∙ idles) (refl, refl)
 
-  module _ (due : idle_at (desk_at t.desks) (seen_of w.log).kept event ≡ None) where
-    pub is_due : idle_reply (seen_of w.log) event ≡ None
-    is_due = idle_is w.header w.log t is event ∙ due
+  module _ (due : idle_at w.kinds (desk_at t.desks) (seen_of w.log).kept event ≡ None) where
+    pub is_due : idle_reply w.kinds (seen_of w.log) event ≡ None
+    is_due = idle_is w.header w.log t is w.kinds event ∙ due
 
     pub full_steps : row_limit ≤ length w.log → Steps w event (Err errors.LogFull) w
     full_steps full = rw is_due (full, refl)

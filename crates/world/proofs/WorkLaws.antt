@@ -6,8 +6,6 @@ use Rattle.tab_ids.specs.declared.DocId.{DocId}
 use Rattle.tab_ids.specs.declared.ProcId.{ProcId}
 use Rattle.log_model.specs.declared.header.Header.{Header}
 use Rattle.log_model.specs.declared.job.Job.{Job}
-use Rattle.log_model.specs.declared.job.Order.{Order}
-use Rattle.log_model.specs.declared.job.Task.TheVariants as tasks
 use Rattle.log_model.specs.declared.made.Made.{Made}
 use Rattle.log_model.specs.declared.made.Report.{Report}
 use Rattle.log_model.specs.declared.made.Report.TheVariants as told
@@ -17,7 +15,6 @@ use Rattle.log_model.specs.declared.outcome.Denial.{Denial}
 use Rattle.log_model.specs.declared.outcome.Denial.TheVariants as denials
 use Rattle.log_model.specs.declared.outcome.Ending.{Ending}
 use Rattle.log_model.specs.declared.outcome.Ending.TheVariants as ends
-use Rattle.log_model.specs.declared.outcome.Outcome.TheVariants as outcomes
 use Rattle.log_model.specs.declared.request.Poke.{Poke}
 use Rattle.log_model.specs.declared.row_kind.Actor.{Actor}
 use Rattle.log_model.specs.declared.row_kind.Actor.TheVariants as actors
@@ -32,15 +29,14 @@ use Rattle.log_model.specs.Seen.{Seen, Document, Desk, desk_of, document_of}
 use Rattle.log_model.specs.Views.{View, made_by, after_made}
 use Rattle.history_log.proofs.DeskLaws.{desk_of-after}
 use Rattle.seen_laws.specs.InEvent.{InEvent}
-use Rattle.proc_work.specs.Work as worked
 use Rattle.seen_facts.proofs.Rest.Again.{its_number}
 use Rattle.seen_facts.specs.Asked.Asking.{IsNoEditing}
 use Rattle.tab_facts.specs.FrameTab.Desks.{IsMadeNew}
 use Rattle.tab_facts.proofs.FrameEvents.Processes.{made_of_action}
 use Rattle.coord.specs.Standing.{HasActed, StandsFor}
 use Rattle.coord.specs.declared.coordinator.Coordinator.{Coordinator}
-use Rattle.coord_acts.proofs.Acts.{made_acts, no_address_acts, no_document_acts}
-use Rattle.coord_acts.proofs.Orders.{taken_acts}
+use Rattle.coord.proofs.Acts.{made_acts, no_address_acts, no_document_acts}
+use Rattle.coord.proofs.Orders.{taken_acts}
 use Rattle.running_table.specs.Runners.{RunnersState}
 use Rattle.running_table.specs.Making.{IsTold}
 use Rattle.world.specs.declared.event.Event.{Event}

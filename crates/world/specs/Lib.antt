@@ -5,6 +5,7 @@ pub mod Notes
 pub mod Reaching
 pub mod Shows
 pub mod Steps
+pub mod Finishing
 pub mod Turns
 pub mod Asking
 pub mod Sited

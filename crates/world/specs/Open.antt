@@ -14,7 +14,7 @@ use Rattle.log_model.specs.Suits.{first_process, process_of_origin}
 use Rattle.log_model.specs.Views.{View}
 use Rattle.proc_tables.specs.Desks.{desk_at}
 use Rattle.proc_tables.specs.Views.{view_at}
-use Rattle.coord_acts.specs.Keeping.{Keeps}
+use Rattle.coord.specs.Keeping.{Keeps}
 use Rattle.running_table.specs.Making.{IsTold}
 use Rattle.world.specs.Sited.{AreSited}
 use Rattle.world.specs.declared.state.State.{State}

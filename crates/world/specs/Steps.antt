@@ -1,11 +1,12 @@
 -- What a step of a world answers, and what it logs.
 -- This project's own.
-use Rattle.std.specs.Prelude.{◌≡◌, ℕ, ◌+◌, ◌<◌, ◌≤◌, true, ◌==◌, List, [], ◌∷◌, ◌++◌, map, length, slice_get, Bool, false, Option, Some, None, is_some, option_and_then, option_map, option_to_list, Result, Ok, Err, IsSomeAnd, if◌then◌else◌}
+use Rattle.std.specs.Prelude.{◌≡◌, ℕ, ◌+◌, ◌<◌, ◌≤◌, true, ◌==◌, ◌&&◌, List, [], ◌∷◌, ◌++◌, map, length, slice_get, Bool, false, Option, Some, None, is_some, option_and_then, option_map, option_to_list, Result, Ok, Err, IsSomeAnd, if◌then◌else◌}
 use Rattle.tab_ids.specs.declared.DocId.{DocId}
 use Rattle.tab_ids.specs.declared.ProcId.{ProcId}
 use Rattle.tab_ids.specs.declared.ReqId.{ReqId}
 use Rattle.tab_ids.specs.declared.NavId.{NavId}
 use Rattle.log_model.specs.declared.action.Action.{Action}
+use Rattle.log_model.specs.declared.handler.HandlerKind.{HandlerKind}
 use Rattle.log_model.specs.declared.action.Action.TheVariants as actions
 use Rattle.log_model.specs.declared.request.Poke.{Poke}
 use Rattle.log_model.specs.declared.job.Job.{Job}
@@ -26,7 +27,9 @@ use Rattle.log_model.specs.Formed.{last_of, poked_document}
 use Rattle.log_model.specs.Logs.{seen_of}
 use Rattle.log_model.specs.Seen.{Seen, Document, Desk, desk_of, document_of}
 use Rattle.log_model.specs.Views.{View, made_by, made_for}
-use Rattle.proc_work.specs.Work.{outcome_of_task}
+use Rattle.proc_work.specs.Answers.{has_kind_of}
+use Rattle.proc_work.specs.Same.{same_order}
+use Rattle.proc_work.specs.Work.{Done, done_of}
 use Rattle.world.specs.declared.event.Event.{Event}
 use Rattle.world.specs.declared.event.Event.TheVariants as events
 use Rattle.world.specs.declared.event.Reply.{Reply}
@@ -61,22 +64,25 @@ abbrev pub begin_idles : Option Order → ℕ → Option Reply
 begin_idles (Some order) waiting = Some replies.Busy
 begin_idles None waiting = if waiting == 0 then Some replies.Empty else None
 
--- the answer to an event that logs nothing, by the desks of the processes and the documents that are kept: none is kept, nothing waits there, an order is in hand, or the finished order isn't the one in hand
-abbrev pub idle_at : (ProcId → Desk) → List DocId → Event → Option Reply
-idle_at desk kept (events.Load nav mode address) = None
-idle_at desk kept (events.Go delta) = None
-idle_at desk kept (events.Poke nav action) = None
-idle_at desk kept events.Evict = if length kept == 0 then Some replies.NothingKept else None
-idle_at desk kept (events.Act proc) = if length (desk proc).input == 0 then Some replies.Empty else None
-idle_at desk kept (events.Begin proc) = begin_idles (desk proc).in_hand (length (desk proc).mail)
-idle_at desk kept (events.Finish proc done) =
-    if holds (λ (order : Order). order.job.nr.0 == done.order.job.nr.0) (desk proc).in_hand then None
-    else Some replies.Stale
-idle_at desk kept (events.Deliver proc) = if length (desk proc).reports == 0 then Some replies.Empty else None
+-- the finished order is this one, and the handler that it asked, if any, is of the kind of its slot
+abbrev pub is_work_on : List HandlerKind → Done → Order → Bool
+is_work_on kinds done order = same_order done.order order && has_kind_of kinds order.job.task done.kind
+
+-- the answer to an event that logs nothing, by the kinds of the handlers, the desks of the processes and the documents that are kept: none is kept, nothing waits there, an order is in hand, or the finished order isn't the one in hand, or a handler of another kind was asked
+abbrev pub idle_at : List HandlerKind → (ProcId → Desk) → List DocId → Event → Option Reply
+idle_at kinds desk kept (events.Load nav mode address) = None
+idle_at kinds desk kept (events.Go delta) = None
+idle_at kinds desk kept (events.Poke nav action) = None
+idle_at kinds desk kept events.Evict = if length kept == 0 then Some replies.NothingKept else None
+idle_at kinds desk kept (events.Act proc) = if length (desk proc).input == 0 then Some replies.Empty else None
+idle_at kinds desk kept (events.Begin proc) = begin_idles (desk proc).in_hand (length (desk proc).mail)
+idle_at kinds desk kept (events.Finish proc done) =
+    if holds (is_work_on kinds done) (desk proc).in_hand then None else Some replies.Stale
+idle_at kinds desk kept (events.Deliver proc) = if length (desk proc).reports == 0 then Some replies.Empty else None
 
 -- so by what the log has come to
-abbrev pub idle_reply : Seen → Event → Option Reply
-idle_reply s event = idle_at (desk_of s) s.kept event
+abbrev pub idle_reply : List HandlerKind → Seen → Event → Option Reply
+idle_reply kinds s event = idle_at kinds (desk_of s) s.kept event
 
 -- ---- an event that logs
 
@@ -145,7 +151,7 @@ Begins s (events.Begin proc) reply own out =
     × IsSomeAnd (slice_get (desk_of s proc).mail 0) (λ job. (reply ≡ replies.Took (order_for s job)) × (own ≡ rows.Taken proc job.nr true (order_for s job).dirty))
 Begins s (events.Finish proc done) reply own out =
     (reply ≡ replies.Finished)
-    × IsSomeAnd (desk_of s proc).in_hand (λ order. (own ≡ rows.Finished proc order.job.nr (outcome_of_task order.job.task order.dirty None)) × (out ≡ rows_of_made proc (made_at_end (view_in s order.job.doc) order.job.task)))
+    × IsSomeAnd (desk_of s proc).in_hand (λ order. (done ≡ done_of order done.kind) × (own ≡ rows.Finished proc order.job.nr done.outcome) × (out ≡ rows_of_made proc (made_at_end (view_in s order.job.doc) order.job.task)))
 Begins s (events.Deliver proc) reply own out = (reply ≡ replies.Delivered) × (own ≡ rows.Delivered proc)
 
 -- the event has happened: the log has its rows at its end
@@ -173,4 +179,4 @@ StepsAs old event None (Err errors.OutOfMemory) new =
 
 -- an open world answers an event exactly by what its log has come to, or fails
 abbrev pub Steps : WorldState → Event → Result Reply StepError → WorldState → Type 0
-Steps old event result new = StepsAs old event (idle_reply (seen_of old.log) event) result new
+Steps old event result new = StepsAs old event (idle_reply old.kinds (seen_of old.log) event) result new

@@ -1,13 +1,13 @@
 //! The event in which a process finishes the order in hand.
-ghost use Rattle.std.specs.Prelude.{◌≡◌, Bool, ◌++◌, ◌<◌, ◌∷◌, length, map, take, IsSome, None, IfOk, IfSome, IfErr, OnErr, OnOk};
+ghost use Rattle.std.specs.Prelude.{◌≡◌, ◌++◌, ◌<◌, ◌∷◌, length, map, take, IsSomeAnd, None, IfOk, IfSome, IfErr, OnErr, OnOk};
 ghost use Rattle.doc_view.specs.Jobs.{IsForView};
 ghost use Rattle.log_model.specs.declared.row_kind.Actor.TheVariants as actors;
 ghost use Rattle.log_model.specs.declared.row_kind.RowKind.TheVariants as rows;
 ghost use Rattle.proc_tables.specs.Desks.{desk_at};
 ghost use Rattle.proc_tables.specs.Views.{HasRoom, view_at};
-ghost use Rattle.proc_work.specs.Work.{outcome_of_task};
-ghost use Rattle.proc_work.specs.Work as worked;
+ghost use Rattle.proc_work.specs.Work.{Done, done_of};
 ghost use Rattle.world.specs.declared.event.Event.TheVariants as events;
+ghost use Rattle.world.specs.Finishing.{IsWorkedOutcome};
 ghost use Rattle.world.specs.Notes.{row_with};
 ghost use Rattle.world.specs.Open.{IsOpen, row_limit};
 ghost use Rattle.world.specs.Shows.{IsTabTask, Shows, made_at_end, shown_after};
@@ -21,7 +21,7 @@ use crate::state::State;
 use address::OutOfMemory;
 use doc_view::View;
 use history_log::Log;
-use log_model::{Actor, Header, Job, Made, Order, Outcome, Report, RowKind, Task, Verdict};
+use log_model::{Actor, Header, Job, Made, Order, Outcome, Report, RowKind, Task};
 use proc_tables::{Item, Views};
 use tab_ids::{JobId, ProcId};
 
@@ -31,11 +31,12 @@ pub(crate) fn finish(
     header: &Header,
     state: &mut State,
     proc: ProcId,
+    outcome: Outcome,
 ) -> Result<Reply, StepError>
     requires open { IsOpen header.now log.old state.old }
     requires short { length log.old < row_limit }
-    requires due { IsSome (desk_at state.old.desks proc).in_hand }
-    ensures gone { (done : worked.Done) → IfOk result (λ reply. HasGone header.now (events.Finish proc done) reply log.old log.new state.new) }
+    requires due { IsSomeAnd (desk_at state.old.desks proc).in_hand (λ order. IsWorkedOutcome order outcome) }
+    ensures gone { (done : Done) → IsSomeAnd (desk_at state.old.desks proc).in_hand (λ order. done ≡ done_of order done.kind) → done.outcome ≡ outcome → IfOk result (λ reply. HasGone header.now (events.Finish proc done) reply log.old log.new state.new) }
     ensures shuts { IfErr result Shuts }
     ensures front { OnErr result (take (length log.old) log.new ≡ log.old) }
 {
@@ -43,7 +44,6 @@ pub(crate) fn finish(
         unreachable!()
     };
     let Order { job, dirty: _ } = order;
-    let outcome = outcome_of(&job.task);
     let made = work(&mut state.views, &job)?;
     state.runners.do_job(&job)?;
     log_end(log, state.events, proc, job.nr, outcome, &made)?;
@@ -117,19 +117,4 @@ fn tell(views: &mut Views, job: &Job) -> Result<Option<Made>, OutOfMemory>
         return Ok(None);
     }
     views.do_job(job)
-}
-
-/// What comes of an order, where no document has a handler.
-fn outcome_of(task: &Task) -> Outcome
-    ensures { (dirty : Bool) → result ≡ outcome_of_task task.now dirty None }
-{
-    match task {
-        Task::Populate { .. } => Outcome::Populated(None),
-        Task::Activate { .. } => Outcome::Activated,
-        Task::Update { .. } => Outcome::Updated,
-        Task::Freeze => Outcome::Frozen,
-        Task::Discard => Outcome::Discarded,
-        Task::Ask { .. } => Outcome::Asked(Verdict::Leave),
-        Task::DoFragment { .. } => Outcome::Fragmented,
-    }
 }

@@ -4,18 +4,25 @@ ghost use Rattle.log_model.specs.Equal.{holds};
 ghost use Rattle.coord.specs.Standing.{StandsFor};
 ghost use Rattle.log_model.specs.Seen.{Seen};
 ghost use Rattle.proc_tables.specs.Desks.{desk_at};
-ghost use Rattle.world.specs.Steps.{idle_at};
+ghost use Rattle.proc_work.specs.Answers.{has_kind_of};
+ghost use Rattle.world.specs.Steps.{idle_at, is_work_on};
 
 use crate::event::{Event, Reply};
 use crate::reading::{in_hand, waiting};
 use coord::Coordinator;
+use log_model::{HandlerKind, Order, Task};
 use proc_tables::Desks;
 use proc_work::Done;
 use tab_ids::ProcId;
 
 /// The answer to an event that logs nothing.
-pub(crate) fn idle(desks: &Desks, coordinator: &Coordinator, event: &Event) -> Option<Reply>
-    ensures { (s : Seen) → StandsFor s coordinator.now → result ≡ idle_at (desk_at desks.now) s.kept event.now }
+pub(crate) fn idle(
+    desks: &Desks,
+    coordinator: &Coordinator,
+    kinds: &[HandlerKind],
+    event: &Event,
+) -> Option<Reply>
+    ensures { (s : Seen) → StandsFor s coordinator.now → result ≡ idle_at kinds.now (desk_at desks.now) s.kept event.now }
 {
     match event {
         Event::Load { .. } | Event::Go { .. } | Event::Poke { .. } => None,
@@ -27,7 +34,9 @@ pub(crate) fn idle(desks: &Desks, coordinator: &Coordinator, event: &Event) -> O
             }
             unless(has_mail(desks, *proc), Reply::Empty)
         }
-        Event::Finish { proc, done } => unless(has_in_hand(desks, *proc, done), Reply::Stale),
+        Event::Finish { proc, done } => {
+            unless(has_in_hand(desks, kinds, *proc, done), Reply::Stale)
+        }
         Event::Deliver { proc } => unless(has_report(desks, *proc), Reply::Empty),
     }
 }
@@ -67,13 +76,35 @@ fn is_busy(desks: &Desks, proc: ProcId) -> bool
     in_hand(desks, proc).is_some()
 }
 
-/// Whether a finished order is the one in hand.
-fn has_in_hand(desks: &Desks, proc: ProcId, done: &Done) -> bool
-    ensures { result ≡ holds (λ order. order.job.nr.0 == done.now.order.job.nr.0) (desk_at desks.now proc).in_hand }
+/// Whether a finished order is the one in hand, and a handler of the kind of its slot was asked, if one was.
+fn has_in_hand(desks: &Desks, kinds: &[HandlerKind], proc: ProcId, done: &Done) -> bool
+    ensures { result ≡ holds (is_work_on kinds.now done.now) (desk_at desks.now proc).in_hand }
 {
     match in_hand(desks, proc) {
-        Some(order) => order.job.nr.0 == done.order().job.nr.0,
+        Some(order) => is_work_on(kinds, done, order),
         None => false,
+    }
+}
+
+/// Whether this order was worked on, with a handler of the kind of its slot, if it asks one.
+fn is_work_on(kinds: &[HandlerKind], done: &Done, order: &Order) -> bool
+    ensures { result ≡ is_work_on kinds.now done.now order.now }
+{
+    done.is_of(order) && has_kind_of(kinds, &order.job.task, done.kind())
+}
+
+/// Whether this is the kind of the slot that a task asks, if it asks one.
+fn has_kind_of(kinds: &[HandlerKind], task: &Task, kind: Option<HandlerKind>) -> bool
+    ensures { result ≡ has_kind_of kinds.now task.now kind }
+{
+    match task {
+        Task::Ask { slot, .. } => kind == kinds.get(*slot as usize).copied(),
+        Task::Populate { .. }
+        | Task::Activate { .. }
+        | Task::Update { .. }
+        | Task::Freeze
+        | Task::Discard
+        | Task::DoFragment { .. } => true,
     }
 }
 

@@ -1,6 +1,7 @@
 //! `World`, one tab: a contract sees its settings, its log, and whether it is closed.
-ghost use Rattle.std.specs.Prelude.{◌≡◌, ◌↔◌, ◌<◌, ◌≤◌, ◌==◌, ◌∷◌, [], true, false, None, IfOk, IfErr, OnErr, IsErrOf, length, take};
+ghost use Rattle.std.specs.Prelude.{◌≡◌, ◌↔◌, ◌<◌, ◌≤◌, ◌==◌, ◌∷◌, [], true, false, None, IfOk, IfErr, OnErr, IsErrOf, List, length, slice_get, take};
 ghost use Rattle.std.specs.Option.{option_copied, option_and_then};
+ghost use Rattle.log_model.specs.declared.handler.HandlerKind.{HandlerKind};
 ghost use Rattle.log_model.specs.declared.header.Header.{Header};
 ghost use Rattle.log_model.specs.ActsAtOnce.{ActsAtOnce};
 ghost use Rattle.log_model.specs.Legal.{IsLegal};
@@ -12,6 +13,7 @@ ghost use Rattle.log_model.specs.Order.{SameHistory};
 ghost use Rattle.log_model.specs.Places.{is_shown};
 ghost use Rattle.log_model.specs.Formed.{running_documents};
 ghost use Rattle.log_model.specs.LoadsEndInTime.{LoadsEndInTime};
+ghost use Rattle.proc_work.specs.Answers.{AnswersBy};
 ghost use Rattle.step_index.specs.Held.{history_held};
 ghost use Rattle.world.specs.Kept.{OpensAs, OpensUnhandled};
 ghost use Rattle.world.specs.Open.{IsOpen, endings_of, opening_process, row_limit};
@@ -34,8 +36,9 @@ use crate::working::{act, begin};
 use address::OutOfMemory;
 use coord::Ask;
 use doc_view::View;
+use handler_table::HandlerTable;
 use history_log::Log;
-use log_model::{Ending, Header, Order};
+use log_model::{Ending, HandlerKind, Header, Order};
 use std::alloc::Global;
 use std::marker::Model;
 use step_index::StepIndex;
@@ -50,6 +53,7 @@ const ROW_LIMIT: usize = 1_000_000;
 #[derive(Drop)]
 pub struct World {
     header: Header,
+    kinds: Vec<HandlerKind>,
     log: Log,
     state: State,
     closed: bool,
@@ -60,23 +64,29 @@ impl Model for World {
 
     ghost Value = { WorldState };
 
-    ghost view = { λ w. record { header = w.header; log = w.log; closed = w.closed } };
+    ghost view = { λ w. record { header = w.header; kinds = w.kinds.items; log = w.log; closed = w.closed } };
 
-    ghost invariant = { λ w. IsKept w.header w.log w.state w.closed };
+    ghost invariant = { λ w. IsKept w.header w.kinds.items w.log w.state w.closed };
 }
 
 impl World {
-    /// A tab that was just opened at the header's address, with its document in the process of its site. It keeps the header; its pages have no effect yet.
-    pub fn fresh(alloc: Global, header: &Header) -> Result<World, OutOfMemory>
-        ensures ok { IfOk result (λ world. world ≡ record { header = header.now; log = opening_row header.now.first (opening_process header.now) ∷ []; closed = false }) }
+    /// A tab that was just opened at the header's address, with its document in the process of its site. It keeps the header, whose pages have no effect yet, and the kind of each slot of the handlers.
+    pub fn fresh(
+        alloc: Global,
+        header: &Header,
+        handlers: &HandlerTable,
+    ) -> Result<World, OutOfMemory>
+        ensures ok { IfOk result (λ world. world ≡ record { header = header.now; kinds = handlers.now.kinds.items; log = opening_row header.now.first (opening_process header.now) ∷ []; closed = false }) }
         ensures suits { OpensUnhandled header.now → IfOk result (λ world. Suits header.now world.log) }
     {
         let proc = opening_process(header);
         let log = opening_log(alloc, header, proc)?;
         let settings = header.copy(alloc)?;
+        let kinds = copied(alloc, handlers.kinds())?;
         let state = opened_at(alloc, header, proc)?;
         Ok(World {
             header: settings,
+            kinds,
             log,
             state,
             closed: false,
@@ -91,6 +101,7 @@ impl World {
         ensures steps { self.old.closed ≡ false → Steps self.old event result self.new }
         ensures full { IsErrOf result StepError.LogFull → row_limit ≤ length self.new.log }
         ensures header { self.new.header ≡ self.old.header }
+        ensures kinds { self.new.kinds ≡ self.old.kinds }
 
         // What holds of the log, whatever is answered.
         ensures legal { IsLegal self.new.log }
@@ -98,6 +109,7 @@ impl World {
         ensures loads_end { LoadsEndInTime self.new.log }
         ensures suits { self.new.header.pages ≡ [] → OpensAs self.new.header self.new.log → Suits self.new.header self.new.log }
         ensures limited { BeginsBelow row_limit self.new.log }
+        ensures answers { AnswersBy self.new.kinds self.new.log }
     {
         let result = self.try_step(event);
         // Brings what holds of every world.
@@ -113,11 +125,17 @@ impl World {
         ensures steps { self.old.closed ≡ false → Steps self.old event result self.new }
         ensures full { IsErrOf result StepError.LogFull → row_limit ≤ length self.new.log }
         ensures header { self.new.header ≡ self.old.header }
+        ensures kinds { self.new.kinds ≡ self.old.kinds }
     {
         if self.closed {
             return Err(StepError::Closed);
         }
-        if let Some(reply) = idle(&self.state.desks, &self.state.coordinator, &event) {
+        let State {
+            desks,
+            coordinator,
+            ..
+        } = &self.state;
+        if let Some(reply) = idle(desks, coordinator, self.kinds.as_slice(), &event) {
             return Ok(reply);
         }
         let before = self.log.len();
@@ -141,6 +159,13 @@ impl World {
         &self.header
     }
 
+    /// The kind of the handler of a slot; none where the slot is empty.
+    pub fn kind(&self, slot: u8) -> Option<HandlerKind>
+        ensures { result ≡ slice_get self.now.kinds slot }
+    {
+        self.kinds.get(slot as usize).copied()
+    }
+
     /// The log: what happened, in order.
     pub fn log(&self) -> &Log
         ensures log { result.now ≡ self.now.log }
@@ -149,6 +174,7 @@ impl World {
         ensures loads_end { LoadsEndInTime self.now.log }
         ensures suits { self.now.header.pages ≡ [] → OpensAs self.now.header self.now.log → Suits self.now.header self.now.log }
         ensures limited { BeginsBelow row_limit self.now.log }
+        ensures answers { AnswersBy self.now.kinds self.now.log }
     {
         // Brings what holds of every world.
         let _open = &self.closed;
@@ -163,9 +189,11 @@ impl World {
         ensures loads_end { LoadsEndInTime self.log }
         ensures suits { self.header.pages ≡ [] → OpensAs self.header self.log → Suits self.header self.log }
         ensures limited { BeginsBelow row_limit self.log }
+        ensures answers { AnswersBy self.kinds self.log }
     {
         let World {
             header: _,
+            kinds: _,
             log,
             state: _,
             closed: _,
@@ -250,12 +278,21 @@ impl World {
     }
 }
 
+/// The kinds once more.
+fn copied(alloc: Global, kinds: &[HandlerKind]) -> Result<Vec<HandlerKind>, OutOfMemory>
+    ensures { IfOk result (λ copy. copy.items ≡ kinds.now) }
+{
+    let mut copy = Vec::new(alloc);
+    copy.extend_from_slice(kinds)?;
+    Ok(copy)
+}
+
 /// An event that logs happens.
 fn go(log: &mut Log, header: &Header, state: &mut State, event: Event) -> Result<Reply, StepError>
     requires open { IsOpen header.now log.old state.old }
     requires short { length log.old < row_limit }
     requires built { IsBuilt event }
-    requires due { idle_reply (seen_of log.old) event ≡ None }
+    requires due { (kinds : List HandlerKind) × (idle_reply kinds (seen_of log.old) event ≡ None) }
     ensures gone { IfOk result (λ reply. HasGone header.now event reply log.old log.new state.new) }
     ensures shuts { IfErr result Shuts }
     ensures front { OnErr result (take (length log.old) log.new ≡ log.old) }
@@ -273,7 +310,10 @@ fn go(log: &mut Log, header: &Header, state: &mut State, event: Event) -> Result
         Event::Evict => evict(log, header, state),
         Event::Act { proc } => act(log, header, state, proc),
         Event::Begin { proc } => begin(log, header, state, proc),
-        Event::Finish { proc, .. } => finish(log, header, state, proc),
+        Event::Finish { proc, done } => {
+            let outcome = *done.outcome();
+            finish(log, header, state, proc, outcome)
+        }
         Event::Deliver { proc } => deliver(log, header, state, proc),
     }
 }

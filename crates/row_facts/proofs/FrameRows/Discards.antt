@@ -7,7 +7,6 @@ use Rattle.log_model.specs.After.{after}
 use Rattle.log_model.specs.Checks.{is_prompted_after, is_sent_in_time, is_settled_by, may_be_left, settles_duly, was_asked}
 use Rattle.log_model.specs.Equal.{has_doc, holds, implies}
 use Rattle.log_model.specs.Events.{Point}
-use Rattle.log_model.specs.Order.{ordered}
 use Rattle.log_model.specs.Orders.{Question, has_cause, is_addressed, is_below_gone, is_discarded_duly, is_for, is_left}
 use Rattle.log_model.specs.Places.{shower_of}
 use Rattle.log_model.specs.Seen.{Asked, Document, Place, desk_of, document_of, place_of, request_of}

@@ -20,7 +20,6 @@ use Rattle.std.proofs.lemmas.List.{map-append}
 use Rattle.std.specs.List.{list_any}
 use Rattle.std.specs.Prelude.{filter, filter_map}
 use Rattle.tab_ids.specs.declared.ReqId.{ReqId}
-use Rattle.log_model.specs.declared.outcome.Ending.TheVariants as ends
 use Rattle.std.proofs.Common.{refl}
 
 -- ---- rows that end no request, and leave what is held back

@@ -6,7 +6,6 @@ use Rattle.log_model.specs.AfterRequests.{is_initial_state}
 use Rattle.log_model.specs.Checks.{is_sent_in_time, settles_duly}
 use Rattle.log_model.specs.Equal.{same_bool}
 use Rattle.log_model.specs.Events.{Point}
-use Rattle.log_model.specs.Order.{ordered}
 use Rattle.log_model.specs.Orders.{Question, has_cause, is_addressed, is_for, is_populated_duly, populates_load, populates_target}
 use Rattle.log_model.specs.Seen.{Seen, desk_of}
 use Rattle.log_model.specs.Suits.{is_discarded_suitably, is_sent_home}

@@ -6,7 +6,6 @@ use Rattle.log_model.specs.AfterRequests.{changes_history}
 use Rattle.log_model.specs.Causes.{by_event, by_mover, denial_at_delivery, due_denial, is_destroyed_by, takes_report}
 use Rattle.log_model.specs.Equal.{implies}
 use Rattle.log_model.specs.Checks.{is_checked}
-use Rattle.log_model.specs.Order.{ordered}
 use Rattle.log_model.specs.Places.{goes, has_passed}
 use Rattle.log_model.specs.Points.{end_of, is_accepted_here, own_row}
 use Rattle.log_model.specs.Queue.{is_jump, is_load_step, is_refused_step, is_taken_up_at_once, is_traversed_duly}

@@ -9,7 +9,6 @@ use Rattle.log_model.specs.Equal.{has_req, holds, implies, same_list, same_req}
 use Rattle.log_model.specs.Events.{Point}
 use Rattle.log_model.specs.Checks.{is_checked}
 use Rattle.log_model.specs.Once.{delta_of, may_begin_request, step_at_delta}
-use Rattle.log_model.specs.Order.{ordered}
 use Rattle.log_model.specs.Orders.{due_questions, is_question, question_in}
 use Rattle.log_model.specs.Places.{aim_of, all_stand, has_passed, is_load, is_shown, is_traversal}
 use Rattle.log_model.specs.Points.{is_accepted_here, nav_of_request}

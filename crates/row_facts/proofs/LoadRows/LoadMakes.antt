@@ -42,11 +42,7 @@ make_load_quiet e job nav state address is req = rw is (quiet_if (is_for req job
 
 -- ---- the unload check
 
--- a request for which no document was asked, nor the user, has passed it
-pub unasked_passed : (s : Seen) (q : Asked) → q.asks ≡ [] → q.prompted ≡ None → has_passed s q ≡ true
-unasked_passed s q none unprompted = rw (none, unprompted) refl
-
--- and one that has passed it may go on
+-- a request that has passed it may go on
 pub passed_goes_on : (s : Seen) (req : ReqId) (q : Asked) → request_of s req ≡ Some q → has_passed s q ≡ true → may_go_on s req ≡ true
 passed_goes_on s req q at passed = rw at (implied (is_checked q) passed)
 

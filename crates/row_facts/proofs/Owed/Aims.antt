@@ -3,11 +3,11 @@ use Rattle.seen_facts.proofs.Each.Runs.{at_place}
 use Rattle.seen_facts.specs.Each.Runs.{is_run}
 use Rattle.log_model.specs.After.{ended}
 use Rattle.log_model.specs.History.{History, used_step_at}
-use Rattle.log_model.specs.Places.{aim_with, has_passed_with, is_gone, is_traversal, is_under_way, may_leave, passed_in}
+use Rattle.log_model.specs.Places.{aim_with, has_passed_with, is_gone, is_traversal, is_under_way, passed_in}
 use Rattle.log_model.specs.Seen.{Asked, Seen, request_in, request_of}
 use Rattle.log_model.specs.declared.outcome.Ending.{Ending}
 use Rattle.row_facts.proofs.Owed.Requests.{found_read}
-use Rattle.row_facts.specs.Owed.Owed.{AreUnasked}
+use Rattle.seen_facts.specs.Asked.Asking.{HavePassed}
 use Rattle.seen_facts.proofs.Request.Readers.{IsBlind, SameReads}
 use Rattle.std.proofs.Common.{Bool, List, None, Option, Some, [], ap, cond, false, refl, sym, true, ℕ, suc, ◌+◌, ◌&&◌, ◌∙◌, ◌∷◌, ◌≡◌}
 use Rattle.std.proofs.lemmas.Bool.{and_left}
@@ -75,11 +75,11 @@ ended_aim gone h asked req ending idle =
         let then_ : is_leading gone (record q { ending = Some ending }) ≡ false = not_then q.is_started (is_traversal q.what) (has_passed_with gone q) in
         rw (before, then_) refl
 
--- ---- where no document was asked
+-- ---- where all have passed their checks
 
--- where a traversal under way leads, if the user doesn't say otherwise
+-- where a traversal under way leads, once it has passed
 abbrev pub would_lead : Asked → Option (Option Step)
-would_lead q = goal_if (is_under_way q && is_traversal q.what && may_leave q) q.goal
+would_lead q = goal_if (is_under_way q && is_traversal q.what) q.goal
 
 -- no order changes this
 pub would_blind : IsBlind would_lead
@@ -91,15 +91,21 @@ would_blind =
       misses = λ q is. refl;
     }
 
--- it is where the request leads, where no document was asked
-unasked_leads : (s : Seen) → AreUnasked s → (gone : DocId → Bool) (req : ReqId) → option_map (leads_to gone) (request_of s req) ≡ option_map would_lead (request_of s req)
-unasked_leads s unasked gone req = by_found (request_of s req) refl
+-- it is where the request leads
+passed_leads : (s : Seen) → HavePassed s → (req : ReqId) → option_map (leads_to (is_gone s)) (request_of s req) ≡ option_map would_lead (request_of s req)
+passed_leads s passed req = by_found (request_of s req) refl
   where
-    by_found : (o : Option Asked) → request_of s req ≡ o → option_map (leads_to gone) o ≡ option_map would_lead o
+    and_true : (b : Bool) → (b && true) ≡ b
+    and_true true = refl
+    and_true false = refl
+
+    by_found : (o : Option Asked) → request_of s req ≡ o → option_map (leads_to (is_gone s)) o ≡ option_map would_lead o
     by_found None at = refl
-    by_found (Some q) at = let none : q.asks ≡ [] = unasked req q at in rw none refl
+    by_found (Some q) at =
+        let passes : has_passed_with (is_gone s) q ≡ true = passed req q at in
+        rw passes (ap (λ (b : Bool). let o : Option (Option (Option Step)) = Some (goal_if b q.goal) in o) (and_true (is_under_way q && is_traversal q.what)))
 
 -- so it doesn't matter which documents are gone
-pub unasked_aim : (s t : Seen) → AreUnasked s → AreUnasked t → SameReads would_lead s.requests t.requests → (h : History) → aim_with (is_gone t) t.requests h ≡ aim_with (is_gone s) s.requests h
-unasked_aim s t before then_ same h =
-    aims_alike (is_gone s) (is_gone t) h s.requests t.requests (λ req. unasked_leads t then_ (is_gone t) req ∙ same req ∙ sym (unasked_leads s before (is_gone s) req))
+pub passed_aim : (s t : Seen) → HavePassed s → HavePassed t → SameReads would_lead s.requests t.requests → (h : History) → aim_with (is_gone t) t.requests h ≡ aim_with (is_gone s) s.requests h
+passed_aim s t before then_ same h =
+    aims_alike (is_gone s) (is_gone t) h s.requests t.requests (λ req. passed_leads t then_ req ∙ same req ∙ sym (passed_leads s before req))

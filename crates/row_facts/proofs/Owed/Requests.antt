@@ -1,9 +1,8 @@
 -- What rows leave of each request: what it asks, whether it has begun, what the user answered, and whom it asked.
 use Rattle.seen_facts.proofs.Coord.Held.{on_else}
-use Rattle.seen_facts.proofs.Each.Courses.{is_asked, was_asked}
+use Rattle.seen_facts.proofs.Each.Courses.{is_asked}
 use Rattle.log_model.specs.AfterRequests.{on_request, on_served, request_served, requests_sent}
 use Rattle.log_model.specs.Orders.{is_question}
-use Rattle.log_model.specs.Places.{has_passed, is_gone, is_settled_asking, may_leave}
 use Rattle.log_model.specs.Seen.{Asked, Asking, Document, Seen, document_of, request_in, request_of}
 use Rattle.log_model.specs.declared.change.Change.{Change}
 use Rattle.log_model.specs.declared.job.Job.{Job}
@@ -11,14 +10,12 @@ use Rattle.log_model.specs.declared.job.Task.{Task}
 use Rattle.log_model.specs.declared.job.Why.{Why}
 use Rattle.log_model.specs.declared.request.Request.{Request}
 use Rattle.log_model.specs.declared.row_kind.Actor.{Actor}
-use Rattle.row_facts.specs.Owed.Owed.{AreUnasked, IsStill}
+use Rattle.row_facts.specs.Owed.Owed.{IsStill}
 use Rattle.seen_facts.proofs.Request.LookUps.{on_itself}
 use Rattle.seen_facts.proofs.Request.Readers.{IsBlind, SameReads, on_read}
-use Rattle.std.proofs.Common.{Bool, List, None, Option, Some, [], ap, arith, false, refl, subst, sym, true, ℕ, ◌==◌, ◌∙◌, ◌≡◌}
-use Rattle.std.proofs.lemmas.Bool.{and_from}
+use Rattle.std.proofs.Common.{Bool, List, None, Option, Some, ap, arith, false, refl, subst, sym, true, ℕ, ◌==◌, ◌∙◌, ◌≡◌}
 use Rattle.std.proofs.lemmas.Bool.Decides.{nat_tests}
 use Rattle.std.proofs.lemmas.Option.{same_Some}
-use Rattle.std.specs.List.{list_all}
 use Rattle.std.specs.Prelude.{option_map}
 use Rattle.tab_ids.specs.declared.DocId.{DocId}
 use Rattle.tab_ids.specs.declared.ReqId.{ReqId}
@@ -161,14 +158,3 @@ sent_asks s job tasks.Freeze asked none =
 sent_asks s job tasks.Discard asked none =
     serving_asks job.why (request_served s job tasks.Discard) asked (served_asks s job tasks.Discard none)
 sent_asks s job (tasks.Ask slot cause) asked never = absurd never
-
--- ---- where no document was asked
-
--- where the same was asked for each request before, none is asked now
-pub still_unasked : (s t : Seen) → SameReads asks_of s.requests t.requests → AreUnasked s → AreUnasked t
-still_unasked s t same unasked req q at =
-    let was = was_asked asks_of s.requests t.requests same req q at in sym was.2 ∙ unasked req was.0 was.1
-
--- a request has passed where the user didn't say otherwise
-pub unasked_passes : (s : Seen) (q : Asked) → q.asks ≡ [] → may_leave q ≡ true → has_passed s q ≡ true
-unasked_passes s q none may = and_from (list_all (is_settled_asking (is_gone s)) q.asks) (may_leave q) (rw none refl) may

@@ -6,10 +6,9 @@ use Rattle.row_facts.proofs.LoadRows.Earlier.{no_earlier_stays}
 use Rattle.row_facts.specs.LoadRows.Beginning.{begins_no_earlier}
 use Rattle.log_model.specs.After.{after, changed, ended, has_stood_now}
 use Rattle.log_model.specs.AfterRequests.{entries_taken, on_request, request_begun}
-use Rattle.log_model.specs.Equal.{holds}
 use Rattle.log_model.specs.Once.{has_no_earlier_load, loads}
 use Rattle.log_model.specs.Orders.{is_question}
-use Rattle.log_model.specs.Places.{all_stand, has_passed, has_passed_with, is_gone, is_load, is_settled_asking, is_under_way, may_leave}
+use Rattle.log_model.specs.Places.{all_stand, has_passed_with, is_gone, is_load, is_under_way}
 use Rattle.log_model.specs.Seen.{Asked, Seen, request_in, request_of}
 use Rattle.log_model.specs.declared.change.Change.{Change}
 use Rattle.log_model.specs.declared.job.Job.{Job}
@@ -20,20 +19,21 @@ use Rattle.log_model.specs.declared.request.Request.{Request}
 use Rattle.log_model.specs.declared.row_kind.Actor.{Actor}
 use Rattle.log_model.specs.declared.row_kind.LogRow.{LogRow}
 use Rattle.log_model.specs.declared.row_kind.RowKind.{RowKind}
-use Rattle.row_facts.proofs.Owed.Aims.{ended_aim, unasked_aim, would_blind, would_lead}
-use Rattle.row_facts.proofs.Owed.Requests.{Told, asks_none, read_same, req_same, sent_asks, still, still_blind, still_there, still_unasked, told_blind, told_of, unasked_passes}
+use Rattle.row_facts.proofs.Owed.Aims.{ended_aim, passed_aim, would_blind, would_lead}
+use Rattle.seen_facts.proofs.Asked.Passed.{have_passed}
+use Rattle.row_facts.proofs.Owed.Requests.{Told, asks_none, read_same, req_same, still, still_blind, still_there, told_blind, told_of}
 use Rattle.row_facts.proofs.Owed.Hanging.{StayThere, applied_there, there_same}
 use Rattle.row_facts.proofs.Owed.Standing.{AreEased, sent_eased}
-use Rattle.row_facts.specs.Owed.Owed.{AreUnasked, IsReckoned, IsStill, Lasts, Stays}
+use Rattle.row_facts.specs.Owed.Owed.{IsReckoned, IsStill, Lasts, Stays}
+use Rattle.seen_facts.specs.Asked.Asking.{HavePassed}
 use Rattle.seen_facts.proofs.Request.LookUps.{on_itself}
 use Rattle.seen_facts.proofs.Request.Readers.{SameReads, on_read, reads_then, sent_reads}
 use Rattle.seen_laws.specs.Blocks.{Here, on_row, on_rows}
 use Rattle.seen_laws.specs.InEvent.{InEvent, first_of, now_of, row_of}
-use Rattle.std.proofs.Common.{Bool, List, Option, Some, [], ap, false, map, not, refl, subst, sym, true, ℕ, ◌&&◌, ◌==◌, ◌||◌, ◌∙◌, ◌∷◌, ◌≡◌}
-use Rattle.std.proofs.lemmas.Bool.{and_parts, and_right}
+use Rattle.std.proofs.Common.{Bool, List, Option, Some, [], ap, false, map, refl, subst, sym, true, ℕ, ◌&&◌, ◌==◌, ◌∙◌, ◌∷◌, ◌≡◌}
+use Rattle.std.proofs.lemmas.Bool.{and_right}
 use Rattle.std.proofs.lemmas.Option.{same_Some}
-use Rattle.std.specs.List.{list_all}
-use Rattle.std.specs.Prelude.{is_none, nat_lt, option_map}
+use Rattle.std.specs.Prelude.{nat_lt, option_map}
 use Rattle.tab_ids.specs.declared.NavId.{NavId}
 use Rattle.tab_ids.specs.declared.ReqId.{ReqId}
 use Rattle.tab_ids.specs.declared.Step.{Step}
@@ -105,14 +105,14 @@ module _ (s : Seen) (event : ℕ) (actor : Actor) where
   sent_lasts job =
       lasts_by s (next s event actor (rows.Sent job)) (still_there s (next s event actor (rows.Sent job)) (sent_reads still still_blind s job job.task s.requests)) (sent_eased s job job.task).there (sole_by s (record { event = event; actor = actor; row = rows.Sent job }) (λ req nav. refl))
 
-  -- one that asks no document, where none was asked
-  pub sent_stays : (job : Job) → AreUnasked s → IsReckoned s → is_question (record { event = event; actor = actor; row = rows.Sent job }) ≡ false → Stays s (next s event actor (rows.Sent job))
-  sent_stays job unasked reckoned quiet =
+  -- one that asks no document, where all have passed their checks
+  pub sent_stays : (job : Job) → HavePassed s → IsReckoned s → is_question (record { event = event; actor = actor; row = rows.Sent job }) ≡ false → Stays s (next s event actor (rows.Sent job))
+  sent_stays job passed reckoned quiet =
       record {
         lasts = sent_lasts job;
         history = refl;
-        aim = unasked_aim s t unasked unasked_then (sent_reads would_lead would_blind s job job.task s.requests) s.history;
-        passed = passes;
+        aim = passed_aim s t passed passed_then (sent_reads would_lead would_blind s job job.task s.requests) s.history;
+        passed = λ req q r at there is. passed_then req r there;
         changes = λ req q r at there. ap (λ (x : Told). x.change) (told req q r at there);
         last = refl;
         unsettled = λ is. stood_now s.has_stood (changed s (record { event = event; actor = actor; row = rows.Sent job })) is (eased.unsettled s.history.rows s.history.current (reckoned is));
@@ -125,17 +125,12 @@ module _ (s : Seen) (event : ℕ) (actor : Actor) where
       eased : AreEased s.places (next s event actor (rows.Sent job)).places
       eased = sent_eased s job job.task
 
-      unasked_then : AreUnasked (next s event actor (rows.Sent job))
-      unasked_then = still_unasked s t (sent_asks s job job.task s.requests (asks_none event actor job job.task refl quiet)) unasked
+      passed_then : HavePassed (next s event actor (rows.Sent job))
+      passed_then =
+          have_passed s (record { event = event; actor = actor; row = rows.Sent job }) (asks_none event actor job job.task refl quiet) tt passed
 
       told : (req : ReqId) (q r : Asked) → request_of s req ≡ Some q → request_of (next s event actor (rows.Sent job)) req ≡ Some r → told_of r ≡ told_of q
       told = read_same told_of s.requests t.requests (sent_reads told_of told_blind s job job.task s.requests)
-
-      passes : (req : ReqId) (q r : Asked) → request_of s req ≡ Some q → request_of (next s event actor (rows.Sent job)) req ≡ Some r → has_passed s q ≡ true → has_passed (next s event actor (rows.Sent job)) r ≡ true
-      passes req q r at there is =
-          let may : may_leave q ≡ true = (and_parts (list_all (is_settled_asking (is_gone s)) q.asks) (may_leave q) is).1 in
-          let same : may_leave r ≡ may_leave q = ap (λ (x : Told). is_none x.prompted || holds not x.answered) (told req q r at there) in
-          unasked_passes t r (unasked_then req r there) (same ∙ may)
 
   -- ---- a request ends
 

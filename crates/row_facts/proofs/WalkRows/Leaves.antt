@@ -14,10 +14,11 @@ use Rattle.log_model.specs.declared.outcome.Cause.{Cause}
 use Rattle.log_model.specs.declared.outcome.Denial.{Denial}
 use Rattle.log_model.specs.declared.row_kind.Actor.{Actor}
 use Rattle.seen_facts.proofs.Mover.Orders.{PutsToSleep}
-use Rattle.row_facts.proofs.Owed.Aims.{ended_aim, unasked_aim, would_blind, would_lead}
-use Rattle.row_facts.proofs.Owed.Requests.{AsksNone, sent_asks, still_unasked}
+use Rattle.seen_facts.proofs.Asked.Passed.{have_passed}
+use Rattle.row_facts.proofs.Owed.Aims.{ended_aim, passed_aim, would_blind, would_lead}
+use Rattle.row_facts.proofs.Owed.Requests.{AsksNone}
 use Rattle.row_facts.proofs.Owed.Rows.{IsIdle}
-use Rattle.row_facts.specs.Owed.Owed.{AreUnasked}
+use Rattle.seen_facts.specs.Asked.Asking.{HavePassed}
 use Rattle.seen_facts.proofs.Request.Readers.{sent_reads}
 use Rattle.std.proofs.Common.{Bool, List, None, Option, Some, [], ap, cond, false, inl, inr, map, map-id, refl, subst, sym, true, ℕ, ◌==◌, ◌∙◌, ◌≡◌}
 use Rattle.std.specs.Prelude.{option_map}
@@ -93,10 +94,10 @@ making_on doc f of_state made documents state is =
 
 -- ---- the aim
 
--- an order that asks no document leaves the aim, where none was asked
-pub sent_aim : (s : Seen) (event : ℕ) (actor : Actor) (job : Job) → AreUnasked s → AsksNone job.task → aim_of (next s event actor (rows.Sent job)) ≡ aim_of s
-sent_aim s event actor job unasked none =
-    unasked_aim s t unasked (still_unasked s t (sent_asks s job job.task s.requests none) unasked) (sent_reads would_lead would_blind s job job.task s.requests) s.history
+-- an order that asks no document leaves the aim, where all have passed their checks
+pub sent_aim : (s : Seen) (event : ℕ) (actor : Actor) (job : Job) → HavePassed s → AsksNone job.task → aim_of (next s event actor (rows.Sent job)) ≡ aim_of s
+sent_aim s event actor job passed none =
+    passed_aim s t passed (have_passed s (record { event = event; actor = actor; row = rows.Sent job }) none tt passed) (sent_reads would_lead would_blind s job job.task s.requests) s.history
   where
     t : Seen
     t = next s event actor (rows.Sent job)
@@ -155,12 +156,12 @@ module _ (s : Seen) (event : ℕ) (actor : Actor) (job : Job) where
       requests =
           subst (λ (k : Task). map blur (requests_sent s job k s.requests) ≡ map blur s.requests) (sym task) (on_served_blur job.why (request_served s job tasks.Freeze) s.requests (λ q. refl))
 
-  -- it discards one, where no document was asked
-  pub discard_leaves : (nav : NavId) → job.task ≡ tasks.Discard → AreUnasked s → SleepUnder s job.doc nav → LeavesOthers s left nav
-  discard_leaves nav task unasked under =
+  -- it discards one, where all have passed their checks
+  pub discard_leaves : (nav : NavId) → job.task ≡ tasks.Discard → HavePassed s → SleepUnder s job.doc nav → LeavesOthers s left nav
+  discard_leaves nav task passed under =
       record {
         history = refl;
-        aim = sent_aim s event actor job unasked (subst (λ (k : Task). AsksNone k) (sym task) tt);
+        aim = sent_aim s event actor job passed (subst (λ (k : Task). AsksNone k) (sym task) tt);
         others = others_sleep_not nav under tasks.Discard task tt;
         ways = ways_asleep tasks.Discard task tt;
         making = λ state is. subst (λ (l : List Document). IsMaking l state) (sym documents) (making_on job.doc (λ d. record d { is_discarded = true }) (λ d. refl) (λ d. refl) s.documents state is);
@@ -189,8 +190,8 @@ module _ (s : Seen) (event : ℕ) (actor : Actor) (job : Job) where
     freeze_none_leaves nav task = freeze_leaves nav task (none_under nav)
 
     -- it is discarded
-    pub discard_none_leaves : (nav : NavId) → job.task ≡ tasks.Discard → AreUnasked s → LeavesOthers s left nav
-    discard_none_leaves nav task unasked = discard_leaves nav task unasked (none_under nav)
+    pub discard_none_leaves : (nav : NavId) → job.task ≡ tasks.Discard → HavePassed s → LeavesOthers s left nav
+    discard_none_leaves nav task passed = discard_leaves nav task passed (none_under nav)
 
 -- ---- a request ends that isn't the running traversal
 

@@ -9,7 +9,7 @@ use Rattle.log_model.specs.AfterPlaces.{activated, on_place, places_sent, put_to
 use Rattle.log_model.specs.AfterRequests.{entries_taken, on_request, request_begun}
 use Rattle.log_model.specs.Causes.{any_place, changed_one_of, is_passed_traversal, nav_of_change}
 use Rattle.log_model.specs.History.{has_nav}
-use Rattle.log_model.specs.Places.{has_passed, is_gone, is_settled_asking, is_traversal, may_leave, way_to}
+use Rattle.log_model.specs.Places.{has_passed, is_traversal, way_to}
 use Rattle.log_model.specs.Seen.{Asked, Document, Place, Seen, document_of, place_of, request_in, request_of}
 use Rattle.log_model.specs.declared.change.Change.{Change}
 use Rattle.log_model.specs.declared.job.Job.{Job}
@@ -25,13 +25,12 @@ use Rattle.seen_facts.proofs.Mover.Changes.{applied_places}
 use Rattle.seen_facts.proofs.Mover.Places.{any_behind, same_ways, sleep_ways, ways_both, ways_if, ways_mapped}
 use Rattle.seen_facts.proofs.Mover.Stays.{GoOn, GoesTo, KeepWays, any_of}
 use Rattle.seen_facts.proofs.Mover.Ways.{change_moves}
-use Rattle.seen_facts.specs.Mover.Movers.{AllUnasked, IsMovedBy, MovesAway, took_of}
+use Rattle.seen_facts.specs.Mover.Movers.{AllChangeAsTheyEnd, IsMovedBy, MovesAway, took_of}
 use Rattle.row_facts.proofs.Owed.Requests.{AsksNone, asks_of, read_same, req_same, sent_asks}
 use Rattle.seen_facts.proofs.Request.LookUps.{on_itself}
 use Rattle.seen_facts.proofs.Request.Readers.{SameReads, on_read, reads_then, sent_reads}
 use Rattle.std.proofs.Common.{Bool, List, None, Option, Some, [], ap, cond, false, inl, refl, subst, sym, true, ℕ, ◌==◌, ◌∙◌, ◌≡◌, ◌≢◌}
-use Rattle.std.proofs.lemmas.Bool.{and_from}
-use Rattle.std.specs.List.{list_all, list_any}
+use Rattle.std.specs.List.{list_any}
 use Rattle.std.specs.Option.{option_map_or}
 use Rattle.std.specs.Prelude.{option_map}
 use Rattle.tab_ids.specs.declared.NavId.{NavId}
@@ -104,9 +103,9 @@ pub other_none : (s : Seen) (req : ReqId) (why : Why) → why ≢ whys.Req req �
 other_none s req why other q is at = absurd (other is)
 
 -- and where it hasn't ended
-pub open_none : (s : Seen) (req : ReqId) (why : Why) → AllUnasked s.requests → ((q : Asked) → request_of s req ≡ Some q → q.ending ≡ None) → HasNone s req why
-open_none s req why unasked unended q is at =
-    let its = unasked req q at in (its.unchanged (unended q at), its.untaken (unended q at))
+pub open_none : (s : Seen) (req : ReqId) (why : Why) → AllChangeAsTheyEnd s.requests → ((q : Asked) → request_of s req ≡ Some q → q.ending ≡ None) → HasNone s req why
+open_none s req why ends unended q is at =
+    let its = ends req q at in (its.unchanged (unended q at), its.untaken (unended q at))
 
 -- ---- the rows
 
@@ -213,15 +212,11 @@ module _ (s : Seen) (event : ℕ) (actor : Actor) (why : Why) (nav : NavId) (by 
 
 -- ---- who moves a navigable
 
--- a traversal that has begun, of which nobody was asked, moves each
-pub run_moves : (s : Seen) (req : ReqId) (q : Asked) (nav : NavId) → request_of s req ≡ Some q → is_traversal q.what ≡ true → q.is_started ≡ true → q.asks ≡ [] → q.prompted ≡ None → IsMovedBy s (whys.Req req) nav
-run_moves s req q nav at traverses began asks prompted =
+-- a traversal that has begun and passed its check moves each
+pub run_moves : (s : Seen) (req : ReqId) (q : Asked) (nav : NavId) → request_of s req ≡ Some q → is_traversal q.what ≡ true → q.is_started ≡ true → has_passed s q ≡ true → IsMovedBy s (whys.Req req) nav
+run_moves s req q nav at traverses began passed =
     record { req = req; q = q; why = refl; there = at; moves = moves }
   where
-    passed : has_passed s q ≡ true
-    passed =
-        and_from (list_all (is_settled_asking (is_gone s)) q.asks) (may_leave q) (ap (list_all (is_settled_asking (is_gone s))) asks) (rw prompted refl)
-
     moves : MovesAway s q nav
     moves =
         any_of (is_passed_traversal s q) (changed_one_of q (way_to s nav)) (any_place s (way_to s nav) (took_of q)) (inl (rw (traverses, began) passed))

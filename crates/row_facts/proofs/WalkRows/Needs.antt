@@ -14,7 +14,7 @@ use Rattle.row_facts.proofs.Owed.Aims.{ended_aim}
 use Rattle.row_facts.proofs.Owed.Requests.{AsksNone}
 use Rattle.row_facts.proofs.Owed.Rows.{IsIdle}
 use Rattle.row_facts.proofs.Owed.Standing.{AreEased, sent_eased}
-use Rattle.row_facts.specs.Owed.Owed.{AreUnasked}
+use Rattle.seen_facts.specs.Asked.Asking.{HavePassed}
 use Rattle.std.proofs.Common.{Bool, List, None, Option, Some, [], ap, cond, false, inl, inr, not, refl, sym, true, ℕ, ◌&&◌, ◌==◌, ◌||◌, ◌∙◌, ◌∷◌, ◌≡◌}
 use Rattle.std.proofs.lemmas.Bool.{and_from, and_left, and_right, or_from, or_parts}
 use Rattle.std.specs.List.{list_all, list_any}
@@ -119,10 +119,10 @@ stood_before s t eased history aim all = by_test (all_stand s (aim_of s)) refl
         let never : false ≡ true = sym (eased.unsettled s.history.rows (aim_of s) is) ∙ sym then_ ∙ all in absurd cc
 
 module _ (s : Seen) (event : ℕ) (actor : Actor) where
-  -- after an order that asks no document, where none was asked
-  pub sent_stood : (job : Job) → AreUnasked s → AsksNone job.task → all_stand (next s event actor (rows.Sent job)) (aim_of (next s event actor (rows.Sent job))) ≡ true → all_stand s (aim_of s) ≡ true
-  sent_stood job unasked none =
-      stood_before s (next s event actor (rows.Sent job)) (sent_eased s job job.task) refl (sent_aim s event actor job unasked none)
+  -- after an order that asks no document, where all have passed their checks
+  pub sent_stood : (job : Job) → HavePassed s → AsksNone job.task → all_stand (next s event actor (rows.Sent job)) (aim_of (next s event actor (rows.Sent job))) ≡ true → all_stand s (aim_of s) ≡ true
+  sent_stood job passed none =
+      stood_before s (next s event actor (rows.Sent job)) (sent_eased s job job.task) refl (sent_aim s event actor job passed none)
 
   -- as a request ends that isn't the running traversal: it is dropped
   pub dropped_stood : (req : ReqId) (cause : Cause) → IsIdle s req → all_stand (next s event actor (rows.Dropped req cause)) (aim_of (next s event actor (rows.Dropped req cause))) ≡ true → all_stand s (aim_of s) ≡ true

@@ -6,7 +6,7 @@ use Rattle.log_model.specs.Seen.{Asked, Place, Seen, place_of, request_of}
 use Rattle.log_model.specs.declared.row_kind.RowKind.{RowKind}
 use Rattle.seen_laws.specs.InEvent.{InEvent, now_of, row_of, start_of}
 use Rattle.seen_laws.specs.Owing.{owes}
-use Rattle.std.specs.Prelude.{List, Some, [], false, map, true, ℕ, ◌∷◌, ◌≡◌}
+use Rattle.std.specs.Prelude.{List, Some, false, map, true, ℕ, ◌∷◌, ◌≡◌}
 use Rattle.tab_ids.specs.declared.NavId.{NavId}
 use Rattle.tab_ids.specs.declared.ReqId.{ReqId}
 
@@ -47,10 +47,6 @@ pub record Stays (s end : Seen) : Type 0 where
 -- whether all have stood since the last step is reckoned up: where they haven't, they don't stand
 abbrev pub IsReckoned : Seen → Type 0
 IsReckoned s = s.has_stood ≡ false → all_stand s s.history.current ≡ false
-
--- no document was asked for a request
-abbrev pub AreUnasked : Seen → Type 0
-AreUnasked s = (req : ReqId) (q : Asked) → request_of s req ≡ Some q → q.asks ≡ []
 
 -- each end pays what the event's rows so far owe that undoes nothing which orders leave
 abbrev pub IsOwed : InEvent → List RowKind → Type 0

@@ -14,6 +14,7 @@ use Rattle.seen_facts.proofs.Each.Courses.{runs_again, runs_begun}
 use Rattle.seen_facts.proofs.Each.Runs.{each_asked_on}
 use Rattle.seen_facts.specs.Asked.Asking.{ArePlain, IsAskedPlainly, IsThere}
 use Rattle.seen_facts.proofs.Asked.Plainly.{plain_again, plain_on, plainness}
+use Rattle.seen_facts.proofs.Asked.Passed.{have_passed}
 use Rattle.seen_facts.proofs.Asked.Stays.{left_plain, no_load, no_traversal, of_found, there_still, unrun}
 
 -- ---- one request begins
@@ -49,6 +50,7 @@ module _ (s : Seen) (event : ℕ) (actor : Actor) (are : ArePlain None s) where
   pub begun_plain : (req : ReqId) (q : Asked) (goal : Step) → request_in s.requests req ≡ Some q → is_traversal q.what ≡ true → q.ending ≡ None → ArePlain (Some req) (after s (record { event = event; actor = actor; row = rows.Started req (Some goal) }))
   begun_plain req q goal there goes unended =
       record {
+        passed = have_passed s (record { event = event; actor = actor; row = rows.Started req (Some goal) }) tt tt are.passed;
         each = begun_each s req (Some goal) (λ x at is. going x is (its (λ y. is_traversal y.what ≡ true) goes x at)) are.each;
         only = runs_begun s req (Some goal) (its (λ y. is_traversal y.what ≡ true) goes) (its (λ y. y.ending ≡ None) unended) are.only;
         runs = λ r e. (let same : req ≡ r = cc in subst (IsThere then_) same (there_still s then_ req (begun_whats s req (Some goal)) (record { q = q; found = there; traverses = goes })));
@@ -66,8 +68,6 @@ module _ (s : Seen) (event : ℕ) (actor : Actor) (are : ArePlain None s) where
           record {
             nr = is.nr;
             what = is.what;
-            unasked = is.unasked;
-            unprompted = is.unprompted;
             unstarted = λ stays other. (let never : true ≡ false = sym goes_ ∙ stays in absurd cc);
             goal = λ traverses starts. refl;
             sent = is.sent;
@@ -83,6 +83,7 @@ module _ (run : Option ReqId) (s : Seen) (event : ℕ) (actor : Actor) (are : Ar
   load_begun_plain req q there loads unsent =
       left_plain run s (after s (record { event = event; actor = actor; row = rows.Started req None })) are (record {
         whats = begun_whats s req None;
+        passed = have_passed s (record { event = event; actor = actor; row = rows.Started req None }) tt tt are.passed;
         each = begun_each s req None (λ x at is. loading x is (its (λ y. is_load y.what ≡ true) loads x at) (its (λ y. y.fragment ≡ None) unsent x at)) are.each;
         only = same_runs s req None run (λ x at. no_traversal x.what (its (λ y. is_load y.what ≡ true) loads x at)) are.only;
         died = are.died;
@@ -96,8 +97,6 @@ module _ (run : Option ReqId) (s : Seen) (event : ℕ) (actor : Actor) (are : Ar
           record {
             nr = is.nr;
             what = is.what;
-            unasked = is.unasked;
-            unprompted = is.unprompted;
             unstarted = λ stays other. (let never : true ≡ false = sym loads_ ∙ other in absurd cc);
             goal = λ traverses starts. (let never : true ≡ false = sym traverses ∙ no_traversal x.what loads_ in absurd cc);
             sent = is.sent;

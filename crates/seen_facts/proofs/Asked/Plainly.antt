@@ -1,5 +1,5 @@
 -- Requests stay plain: where a change of one doesn't look at what is read here, where one is accepted, and where an order moves navigables for one.
-use Rattle.std.proofs.Common.{◌≡◌, ◌+◌, Bool, true, false, cond, ◌||◌, ◌==◌, List, [], ◌∷◌, ◌++◌, length, map, Option, Some, refl, sym, ap, ◌∙◌, subst}
+use Rattle.std.proofs.Common.{◌≡◌, ◌+◌, Bool, true, false, ◌||◌, ◌==◌, List, [], ◌∷◌, ◌++◌, length, Option, Some, refl, sym, ap, ◌∙◌, subst}
 use Rattle.std.specs.Prelude.{is_some}
 use Rattle.tab_ids.specs.declared.DocId.{DocId}
 use Rattle.tab_ids.specs.declared.JobId.{JobId}
@@ -12,7 +12,7 @@ use Rattle.log_model.specs.declared.request.Request.{Request}
 use Rattle.log_model.specs.After.{new_request}
 use Rattle.log_model.specs.AfterRequests.{on_asking, on_request, on_served, with_activated, with_moved}
 use Rattle.log_model.specs.History.{has_nav}
-use Rattle.log_model.specs.Places.{has_passed_with, is_load, is_traversal}
+use Rattle.log_model.specs.Places.{is_load, is_traversal}
 use Rattle.log_model.specs.Seen.{Asked, Asking, request_in}
 use Rattle.seen_facts.proofs.Request.Readers.{SameReads}
 use Rattle.seen_facts.specs.Each.Runs.{EachAsked}
@@ -26,8 +26,6 @@ use Rattle.seen_facts.specs.Asked.Asking.{IsAskedPlainly, IsTabRequest}
 pub record Plainness : Type 0 where
   pub nr : ReqId
   pub what : Request
-  pub asks : List Asking
-  pub prompted : Option DocId
   pub is_started : Bool
   pub goal : Option Step
   pub fragment : Option DocId
@@ -40,8 +38,6 @@ plainness q =
     record {
       nr = q.nr;
       what = q.what;
-      asks = q.asks;
-      prompted = q.prompted;
       is_started = q.is_started;
       goal = q.goal;
       fragment = q.fragment;
@@ -55,8 +51,6 @@ plain_same req p q same is =
     record {
       nr = sym (ap (λ (c : Plainness). c.nr) same) ∙ is.nr;
       what = subst IsTabRequest (ap (λ (c : Plainness). c.what) same) is.what;
-      unasked = sym (ap (λ (c : Plainness). c.asks) same) ∙ is.unasked;
-      unprompted = sym (ap (λ (c : Plainness). c.prompted) same) ∙ is.unprompted;
       unstarted = λ stays loads. sym (ap (λ (c : Plainness). c.is_started) same) ∙ is.unstarted (ap (λ (c : Plainness). is_traversal c.what) same ∙ stays) (ap (λ (c : Plainness). is_load c.what) same ∙ loads);
       goal = λ goes begun. sym (ap (λ (c : Plainness). is_some c.goal) same) ∙ is.goal (ap (λ (c : Plainness). is_traversal c.what) same ∙ goes) (ap (λ (c : Plainness). c.is_started) same ∙ begun);
       sent = λ loads. sym (ap (λ (c : Plainness). c.fragment) same) ∙ is.sent (ap (λ (c : Plainness). is_load c.what) same ∙ loads);
@@ -91,8 +85,6 @@ plain_more asked req doc what next is each =
     (record {
       nr = refl;
       what = is;
-      unasked = refl;
-      unprompted = refl;
       unstarted = λ stays loads. refl;
       goal = λ goes begun. (let never : false ≡ true = begun in absurd cc);
       sent = λ loads. refl;
@@ -102,14 +94,12 @@ plain_more asked req doc what next is each =
 
 -- ---- questions for a request
 
--- where its questions change it still asks nobody
-pub asks_none : (job : JobId) (f : Asking → Asking) (req : ReqId) (q : Asked) → IsAskedPlainly req q → IsAskedPlainly req (on_asking job f q)
-asks_none job f req q is =
+-- its questions are none of that
+pub asks_apart : (job : JobId) (f : Asking → Asking) (req : ReqId) (q : Asked) → IsAskedPlainly req q → IsAskedPlainly req (on_asking job f q)
+asks_apart job f req q is =
     record {
       nr = is.nr;
       what = is.what;
-      unasked = ap (λ (asks : List Asking). map (λ (asking : Asking). cond (asking.job.0 == job.0) (f asking) asking) asks) is.unasked;
-      unprompted = is.unprompted;
       unstarted = is.unstarted;
       goal = is.goal;
       sent = is.sent;
@@ -134,8 +124,6 @@ moved_more navs req q is =
     record {
       nr = is.nr;
       what = is.what;
-      unasked = is.unasked;
-      unprompted = is.unprompted;
       unstarted = is.unstarted;
       goal = is.goal;
       sent = is.sent;
@@ -149,8 +137,6 @@ shown_more shown req q is =
     record {
       nr = is.nr;
       what = is.what;
-      unasked = is.unasked;
-      unprompted = is.unprompted;
       unstarted = is.unstarted;
       goal = is.goal;
       sent = is.sent;
@@ -161,9 +147,3 @@ shown_more shown req q is =
     by_first : (b : Bool) (nav : NavId) → (b || has_nav q.activated nav) ≡ true → (has_nav q.activated nav ≡ true → has_nav q.moved nav ≡ true) → (b || has_nav q.moved nav) ≡ true
     by_first true nav has more = refl
     by_first false nav has more = more has
-
--- ---- what follows
-
--- a plain request has passed its unload check
-pub plain_passes : (gone : DocId → Bool) (req : ReqId) (q : Asked) → IsAskedPlainly req q → has_passed_with gone q ≡ true
-plain_passes gone req q is = rw is.unasked (rw is.unprompted refl)

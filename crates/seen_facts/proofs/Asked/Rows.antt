@@ -33,8 +33,9 @@ use Rattle.seen_facts.specs.Each.Items.{NoneDied}
 use Rattle.seen_facts.specs.Each.Runs.{EachAsked, is_run, is_this}
 use Rattle.seen_facts.proofs.Each.Courses.{runs_again, runs_applied, runs_ended, runs_ended_other, runs_more}
 use Rattle.seen_facts.proofs.Each.Died.{died_on}
-use Rattle.seen_facts.specs.Asked.Asking.{ArePlain, IsAskedPlainly, IsTabRequest}
-use Rattle.seen_facts.proofs.Asked.Plainly.{asks_none, plain_again, plain_more, plain_served, plainness}
+use Rattle.seen_facts.specs.Asked.Asking.{ArePlain, HavePassed, IsAskedPlainly, IsTabRequest}
+use Rattle.seen_facts.proofs.Asked.Plainly.{asks_apart, plain_again, plain_more, plain_served, plainness}
+use Rattle.seen_facts.proofs.Asked.Passed.{IsNext, IsNoQuestion, have_passed}
 use Rattle.seen_facts.proofs.Asked.Stays.{left_died, left_plain, other_runs, quiet_plain, runs_still, run_blind, what_blind}
 
 -- no death is reported
@@ -59,7 +60,7 @@ applied_same asked req change took =
 finished_each : (s : Seen) (in_hand : Option Order) (outcome : Outcome) (asked : List Asked) → EachAsked IsAskedPlainly asked → EachAsked IsAskedPlainly (requests_finished s in_hand outcome asked)
 finished_each s None outcome asked each = each
 finished_each s (Some order) (outcomes.Asked verdict) asked each =
-    plain_served order.job.why _ asked (asks_none order.job.nr _) each
+    plain_served order.job.why _ asked (asks_apart order.job.nr _) each
 finished_each s (Some order) outcomes.Fragmented asked each = by_task order.job.task refl
   where
     by_task : (task : Task) → order.job.task ≡ task → EachAsked IsAskedPlainly (requests_finished s (Some order) outcomes.Fragmented asked)
@@ -84,7 +85,7 @@ delivered_each (Some (reports.Died death)) asked each = each
 delivered_each (Some (reports.Done job outcome made)) asked each = by_outcome outcome
   where
     by_outcome : (o : Outcome) → EachAsked IsAskedPlainly (requests_delivered (Some (reports.Done job o made)) asked)
-    by_outcome (outcomes.Asked verdict) = plain_served job.why _ asked (asks_none job.nr _) each
+    by_outcome (outcomes.Asked verdict) = plain_served job.why _ asked (asks_apart job.nr _) each
     by_outcome outcomes.Fragmented = each
     by_outcome (outcomes.Populated slot) = each
     by_outcome outcomes.Activated = each
@@ -104,12 +105,17 @@ module _ (run : Option ReqId) (s : Seen) (event : ℕ) (actor : Actor) (are : Ar
   abbrev then_ : RowKind → Seen
   then_ kind = after s (record { event = event; actor = actor; row = kind })
 
+  passed_then : (kind : RowKind) → IsNoQuestion kind → IsNext s kind → HavePassed (then_ kind)
+  passed_then kind quiet next =
+      have_passed s (record { event = event; actor = actor; row = kind }) quiet next are.passed
+
   -- a request has the next number, and is one of a tab; a poke may join an input
   pub accepted_plain : (req : ReqId) (doc : Option DocId) (what : Request) → req.0 ≡ length s.requests + 1 → IsTabRequest what → ArePlain run (then_ (rows.Accepted req doc what))
   accepted_plain req doc what next is =
       let new : Asked = new_request req doc what in
       record {
         each = plain_more s.requests req doc what next is are.each;
+        passed = passed_then (rows.Accepted req doc what) tt next;
         only = runs_more run s.requests req doc what next (other_runs run s new req next are.runs) are.only;
         runs = runs_still run s new req next are.runs (then_ (rows.Accepted req doc what)) refl;
         died = left_died s (then_ (rows.Accepted req doc what)) (accepted_left s event actor req doc what) are.died;
@@ -118,27 +124,27 @@ module _ (run : Option ReqId) (s : Seen) (event : ℕ) (actor : Actor) (are : Ar
   -- a request is refused that doesn't run
   pub refused_plain : (req : ReqId) (reason : Denial) → is_this run req ≡ false → ArePlain run (then_ (rows.Refused req reason))
   refused_plain req reason other =
-      quiet_plain run s (then_ (rows.Refused req reason)) are (ended_same s.requests req (endings.Refused reason)) (runs_ended_other run s.requests req (endings.Refused reason) other are.only) (left_died s (then_ (rows.Refused req reason)) (refused_left s event actor req reason) are.died)
+      quiet_plain run s (then_ (rows.Refused req reason)) are (ended_same s.requests req (endings.Refused reason)) (runs_ended_other run s.requests req (endings.Refused reason) other are.only) (left_died s (then_ (rows.Refused req reason)) (refused_left s event actor req reason) are.died) (passed_then (rows.Refused req reason) tt tt)
 
   -- a request is dropped that doesn't run
   pub dropped_plain : (req : ReqId) (cause : Cause) → is_this run req ≡ false → ArePlain run (then_ (rows.Dropped req cause))
   dropped_plain req cause other =
-      quiet_plain run s (then_ (rows.Dropped req cause)) are (ended_same s.requests req (endings.Dropped cause)) (runs_ended_other run s.requests req (endings.Dropped cause) other are.only) (left_died s (then_ (rows.Dropped req cause)) (dropped_left s event actor req cause) are.died)
+      quiet_plain run s (then_ (rows.Dropped req cause)) are (ended_same s.requests req (endings.Dropped cause)) (runs_ended_other run s.requests req (endings.Dropped cause) other are.only) (left_died s (then_ (rows.Dropped req cause)) (dropped_left s event actor req cause) are.died) (passed_then (rows.Dropped req cause) tt tt)
 
   -- a change is applied of a request that doesn't run
   pub applied_plain : (req : ReqId) (change : Change) → is_this run req ≡ false → ArePlain run (then_ (rows.Applied req change))
   applied_plain req change other =
-      quiet_plain run s (then_ (rows.Applied req change)) are (applied_same s.requests req change (entries_taken s.history change)) (runs_applied run (ended s.requests req endings.Applied) req change (entries_taken s.history change) (runs_ended_other run s.requests req endings.Applied other are.only)) are.died
+      quiet_plain run s (then_ (rows.Applied req change)) are (applied_same s.requests req change (entries_taken s.history change)) (runs_applied run (ended s.requests req endings.Applied) req change (entries_taken s.history change) (runs_ended_other run s.requests req endings.Applied other are.only)) are.died (passed_then (rows.Applied req change) tt tt)
 
   -- a document state is evicted
   pub evicted_plain : (state : StateId) → ArePlain run (then_ (rows.Evicted state))
   evicted_plain state =
-      quiet_plain run s (then_ (rows.Evicted state)) are (λ r. refl) are.only are.died
+      quiet_plain run s (then_ (rows.Evicted state)) are (λ r. refl) are.only are.died (passed_then (rows.Evicted state) tt tt)
 
   -- a process takes up an order
   pub taken_plain : (proc : ProcId) (job : JobId) (live dirty : Bool) → ArePlain run (then_ (rows.Taken proc job live dirty))
   taken_plain proc job live dirty =
-      quiet_plain run s (then_ (rows.Taken proc job live dirty)) are (λ r. refl) are.only (died_on s (then_ (rows.Taken proc job live dirty)) proc (desk_taken live dirty) refl (λ desk. refl) refl refl are.died)
+      quiet_plain run s (then_ (rows.Taken proc job live dirty)) are (λ r. refl) are.only (died_on s (then_ (rows.Taken proc job live dirty)) proc (desk_taken live dirty) refl (λ desk. refl) refl refl are.died) (passed_then (rows.Taken proc job live dirty) tt tt)
 
   -- a process finishes its order
   pub finished_plain : (proc : ProcId) (job : JobId) (outcome : Outcome) → ArePlain run (then_ (rows.Finished proc job outcome))
@@ -146,6 +152,7 @@ module _ (run : Option ReqId) (s : Seen) (event : ℕ) (actor : Actor) (are : Ar
       left_plain run s (then_ (rows.Finished proc job outcome)) are (record {
         whats = finished_reads (λ (q : Asked). q.what) what_blind s (desk_of s proc).in_hand outcome s.requests;
         each = finished_each s (desk_of s proc).in_hand outcome s.requests are.each;
+        passed = passed_then (rows.Finished proc job outcome) tt tt;
         only = runs_again run s.requests (then_ (rows.Finished proc job outcome)).requests (finished_reads is_run run_blind s (desk_of s proc).in_hand outcome s.requests) are.only;
         died = died_on s (then_ (rows.Finished proc job outcome)) proc (desk_finished outcome) refl (λ desk. refl) refl refl are.died;
       })
@@ -153,7 +160,7 @@ module _ (run : Option ReqId) (s : Seen) (event : ℕ) (actor : Actor) (are : Ar
   -- a document makes something of a request
   pub made_plain : (proc : ProcId) (made : Made) → ArePlain run (then_ (rows.Made proc made))
   made_plain proc made =
-      quiet_plain run s (then_ (rows.Made proc made)) are (on_read plainness s.requests made.req (λ q. record q { made = Some made }) (λ q. refl)) (runs_again run s.requests (then_ (rows.Made proc made)).requests (on_read is_run s.requests made.req (λ q. record q { made = Some made }) (λ q. refl)) are.only) died
+      quiet_plain run s (then_ (rows.Made proc made)) are (on_read plainness s.requests made.req (λ q. record q { made = Some made }) (λ q. refl)) (runs_again run s.requests (then_ (rows.Made proc made)).requests (on_read is_run s.requests made.req (λ q. record q { made = Some made }) (λ q. refl)) are.only) died (passed_then (rows.Made proc made) tt tt)
     where
       f : Desk → Desk
       f = desks_made (follows_finished s (record { event = event; actor = actor; row = rows.Made proc made })) made
@@ -176,6 +183,7 @@ module _ (run : Option ReqId) (s : Seen) (event : ℕ) (actor : Actor) (are : Ar
       left_plain run s (then_ (rows.Delivered proc)) are (record {
         whats = delivered_reads (λ (q : Asked). q.what) what_blind report s.requests;
         each = delivered_each report s.requests are.each;
+        passed = passed_then (rows.Delivered proc) tt tt;
         only = runs_again run s.requests (then_ (rows.Delivered proc)).requests (delivered_reads is_run run_blind report s.requests) are.only;
         died = died_on s (then_ (rows.Delivered proc)) proc desk_delivered refl (λ desk. refl) (none_known (desk_of s proc).known report no_death) refl are.died;
       })
@@ -188,6 +196,7 @@ module _ (req : ReqId) (s : Seen) (event : ℕ) (actor : Actor) (are : ArePlain 
   ended_plain change =
       record {
         each = plain_again s.requests (after s (record { event = event; actor = actor; row = rows.Applied req change })).requests (applied_same s.requests req change (entries_taken s.history change)) are.each;
+        passed = have_passed s (record { event = event; actor = actor; row = rows.Applied req change }) tt tt are.passed;
         only = runs_applied None (ended s.requests req endings.Applied) req change (entries_taken s.history change) (runs_ended s.requests req endings.Applied are.only);
         runs = λ r e. (let never : None ≡ Some r = e in absurd cc);
         died = are.died;
@@ -200,6 +209,7 @@ pub opened_plain : (event : ℕ) (actor : Actor) (entry : EntryId) (state : Stat
 opened_plain event actor entry state doc proc slot address =
     record {
       each = λ req q at. none (IsAskedPlainly req q) req q at;
+      passed = λ req q at. none _ req q at;
       only = λ req q at. none (is_run q ≡ is_this None req) req q at;
       runs = λ req e. (let never : None ≡ Some req = e in absurd cc);
       died = alive;

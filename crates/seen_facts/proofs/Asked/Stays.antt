@@ -13,7 +13,7 @@ use Rattle.seen_facts.specs.Each.Items.{NoneDied}
 use Rattle.seen_facts.specs.Each.Runs.{EachAsked, OnlyRuns, is_run, is_this}
 use Rattle.seen_facts.proofs.Each.Courses.{is_asked}
 use Rattle.seen_facts.proofs.Each.Earlier.{old_apart, still_there}
-use Rattle.seen_facts.specs.Asked.Asking.{ArePlain, IsAskedPlainly, IsThere}
+use Rattle.seen_facts.specs.Asked.Asking.{ArePlain, HavePassed, IsAskedPlainly, IsThere}
 use Rattle.seen_facts.proofs.Asked.Plainly.{Plainness, plain_again, plainness}
 
 -- ---- a traversal and a load
@@ -94,10 +94,11 @@ left_died s t left none proc =
 
 -- ---- all of it
 
--- each request asks for what it did and is plain, this one runs, and nobody has died
+-- each request asks for what it did, is plain and has passed its check, this one runs, and nobody has died
 pub record Leaves (run : Option ReqId) (s t : Seen) : Type 0 where
   pub whats : SameReads (λ (q : Asked). q.what) s.requests t.requests
   pub each : EachAsked IsAskedPlainly t.requests
+  pub passed : HavePassed t
   pub only : OnlyRuns run t
   pub died : NoneDied t
 
@@ -106,16 +107,18 @@ pub left_plain : (run : Option ReqId) (s t : Seen) → ArePlain run s → Leaves
 left_plain run s t are leaves =
     record {
       each = leaves.each;
+      passed = leaves.passed;
       only = leaves.only;
       runs = λ req e. there_still s t req leaves.whats (are.runs req e);
       died = leaves.died;
     }
 
 -- where all that is read of requests is the same, but for how they end, and the same one runs
-pub quiet_plain : (run : Option ReqId) (s t : Seen) → ArePlain run s → SameReads plainness s.requests t.requests → OnlyRuns run t → NoneDied t → ArePlain run t
-quiet_plain run s t are same only died =
+pub quiet_plain : (run : Option ReqId) (s t : Seen) → ArePlain run s → SameReads plainness s.requests t.requests → OnlyRuns run t → NoneDied t → HavePassed t → ArePlain run t
+quiet_plain run s t are same only died passed =
     record {
       each = plain_again s.requests t.requests same are.each;
+      passed = passed;
       only = only;
       runs = λ req e. still req (are.runs req e);
       died = died;

@@ -1,10 +1,9 @@
 -- What a row that makes no document has to leave, and that all of it then holds of each document again.
-use Rattle.std.proofs.Common.{◌≡◌, ℕ, Bool, true, false, cond, ◌==◌, List, map, Option, Some, refl, sym, ap, ◌∙◌, subst}
+use Rattle.std.proofs.Common.{◌≡◌, Bool, true, false, cond, List, map, Some, refl, sym, ap, ◌∙◌, subst}
 use Rattle.tab_ids.specs.declared.DocId.{DocId}
 use Rattle.tab_ids.specs.declared.NavId.{NavId}
 use Rattle.tab_ids.specs.declared.ProcId.{ProcId}
-use Rattle.tab_ids.specs.declared.StateId.{StateId}
-use Rattle.log_model.specs.Seen.{Desk, Document, Place, Seen, awake, desk_of, document_of, place_of}
+use Rattle.log_model.specs.Seen.{Desk, Document, Place, Seen, desk_of, document_of}
 use Rattle.seen_facts.specs.Home.Homes.{document_in}
 use Rattle.seen_facts.proofs.Desk.Again.{AllStayAt}
 use Rattle.seen_facts.proofs.Entry.Parts.{WasOf, was_of}

@@ -1,8 +1,6 @@
 -- A document goes on living as a row changes it: as it is told, shown, frozen or discarded, as its report or an entry of it is taken, and as its process works.
-use Rattle.std.proofs.Common.{◌≡◌, ◌⊎◌, inl, inr, ℕ, Bool, true, false, cond, ◌==◌, List, Option, Some, None, refl, sym, ap, ◌∙◌, subst}
+use Rattle.std.proofs.Common.{◌≡◌, ℕ, Bool, true, false, cond, ◌==◌, Option, Some, None, refl, sym, ◌∙◌, subst}
 use Rattle.std.specs.Prelude.{option_map}
-use Rattle.tab_ids.specs.declared.DocId.{DocId}
-use Rattle.tab_ids.specs.declared.Death.{Death}
 use Rattle.log_model.specs.declared.change.Change.{Change}
 use Rattle.log_model.specs.declared.change.Change.TheVariants as changes
 use Rattle.log_model.specs.declared.job.Task.{Task}
@@ -10,7 +8,7 @@ use Rattle.log_model.specs.declared.job.Task.TheVariants as tasks
 use Rattle.log_model.specs.declared.made.What.{What}
 use Rattle.log_model.specs.declared.made.What.TheVariants as whats
 use Rattle.log_model.specs.After.{applied_to, told_after_change}
-use Rattle.log_model.specs.AfterDocuments.{addressed, view_finished, with_applied}
+use Rattle.log_model.specs.AfterDocuments.{view_finished}
 use Rattle.log_model.specs.Seen.{Document, Place}
 use Rattle.log_model.specs.Views.{View, after_made, after_task}
 use Rattle.seen_facts.specs.Desk.Own.{IsTaskOf}

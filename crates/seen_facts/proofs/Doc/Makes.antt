@@ -1,5 +1,5 @@
 -- How often a process has the order that makes a document, or a report of it: orders that are sent, taken up and finished, reports that are delivered, and what documents make.
-use Rattle.std.proofs.Common.{◌≡◌, ℕ, ◌+◌, Bool, true, false, ◌==◌, List, [], ◌∷◌, ◌++◌, drop, Option, Some, None, refl, sym, ap, ◌∙◌, subst, arith}
+use Rattle.std.proofs.Common.{◌≡◌, ℕ, ◌+◌, Bool, true, false, ◌==◌, List, [], ◌∷◌, ◌++◌, Option, Some, None, refl, ap, ◌∙◌, arith}
 use Rattle.std.specs.Prelude.{option_map, option_to_list}
 use Rattle.tab_ids.specs.declared.DocId.{DocId}
 use Rattle.tab_ids.specs.declared.ProcId.{ProcId}
@@ -13,7 +13,7 @@ use Rattle.log_model.specs.declared.made.Report.TheVariants as reports
 use Rattle.log_model.specs.declared.made.What.{What}
 use Rattle.log_model.specs.declared.made.What.TheVariants as whats
 use Rattle.log_model.specs.declared.outcome.Outcome.{Outcome}
-use Rattle.log_model.specs.After.{desk_finished, desk_made, desks_made, on_desk, reports_joined, reports_made}
+use Rattle.log_model.specs.After.{desk_finished, desks_made, on_desk, reports_joined, reports_made}
 use Rattle.log_model.specs.Seen.{Desk, Seen, desk_of}
 use Rattle.seen_facts.specs.Coord.Leading.{orders_of_desk}
 use Rattle.seen_facts.proofs.Coord.OneDocument.{mailed}

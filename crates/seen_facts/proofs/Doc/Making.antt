@@ -1,5 +1,5 @@
 -- What is true of documents stays as an order is sent that makes one, with a new number, for a document state of which there is none; and it is true of the first document as a tab opens.
-use Rattle.std.proofs.Common.{◌≡◌, ◌⊎◌, inl, inr, ℕ, ◌+◌, Bool, true, false, cond, ◌==◌, List, [], ◌∷◌, ◌++◌, Option, Some, None, refl, sym, ap, ◌∙◌, subst, arith, eqb-true}
+use Rattle.std.proofs.Common.{◌≡◌, ◌⊎◌, inl, inr, ℕ, Bool, true, false, cond, ◌==◌, List, [], ◌∷◌, ◌++◌, Option, Some, None, refl, sym, ap, ◌∙◌, subst, arith, eqb-true}
 use Rattle.std.specs.Prelude.{slice_get}
 use Rattle.tab_ids.specs.declared.DocId.{DocId}
 use Rattle.tab_ids.specs.declared.EntryId.{EntryId}
@@ -17,17 +17,16 @@ use Rattle.log_model.specs.declared.row_kind.RowKind.TheVariants as rows
 use Rattle.log_model.specs.After.{after}
 use Rattle.log_model.specs.AfterDocuments.{documents_sent, new_document, opening_document}
 use Rattle.log_model.specs.AfterPlaces.{opening_place, places_sent}
-use Rattle.log_model.specs.Seen.{Desk, Document, Place, Seen, awake, desk_of, document_of, empty_desk, nothing, place_of}
+use Rattle.log_model.specs.Seen.{Desk, Document, Place, Seen, desk_of, document_of, empty_desk, nothing, place_of}
 use Rattle.log_model.proofs.Refl.{nat_eq_refl}
 use Rattle.seen_facts.specs.Coord.Leading.{orders_of_desk}
-use Rattle.seen_facts.proofs.Coord.Leadings.{proc_same}
 use Rattle.seen_facts.proofs.Coord.OneDocument.{mailed}
 use Rattle.seen_facts.specs.Desk.Own.{AreDesksIn, IsOrderIn, IsReportIn, LivesIn}
 use Rattle.seen_facts.specs.Each.Items.{Each, NoneDied}
 use Rattle.seen_facts.proofs.Entry.Parts.{each_desk}
 use Rattle.seen_facts.proofs.Entry.Stays.{its_number}
 use Rattle.seen_facts.specs.Home.Homes.{document_in}
-use Rattle.seen_facts.specs.Doc.Docs.{AreDocs, AreSole, AreThawed, HasPlace, IsDoc, IsLive, IsMadeOnce, makes_at, makes_by, makes_due, makes_it, makes_sent, makes_told}
+use Rattle.seen_facts.specs.Doc.Docs.{AreDocs, AreSole, AreThawed, HasPlace, IsDoc, IsLive, makes_at, makes_by, makes_it, makes_sent, makes_told}
 use Rattle.seen_facts.proofs.Doc.Makes.{mailed_makes}
 
 some_same : {A : Type 0} {a b : A} → (let o : Option A = Some a in o) ≡ Some b → a ≡ b

@@ -1,5 +1,5 @@
 -- What is true of documents stays as an order is sent to one that is there: it is told something, frozen, discarded or shown.
-use Rattle.std.proofs.Common.{◌≡◌, ◌⊎◌, inl, inr, ℕ, suc, ◌+◌, Bool, true, false, cond, ◌||◌, ◌==◌, List, [], ◌∷◌, ◌++◌, map, Option, Some, None, refl, sym, ap, ◌∙◌, subst, arith, eqb-true}
+use Rattle.std.proofs.Common.{◌≡◌, ◌⊎◌, inl, inr, ℕ, suc, Bool, true, false, cond, ◌||◌, ◌==◌, List, [], ◌∷◌, map, Option, Some, refl, sym, ap, ◌∙◌, subst, arith, eqb-true}
 use Rattle.std.specs.Option.{option_map_or}
 use Rattle.std.specs.Prelude.{option_map, slice_get}
 use Rattle.tab_ids.specs.declared.DocId.{DocId}
@@ -13,15 +13,14 @@ use Rattle.log_model.specs.declared.job.Task.TheVariants as tasks
 use Rattle.log_model.specs.declared.row_kind.Actor.{Actor}
 use Rattle.log_model.specs.declared.row_kind.RowKind.TheVariants as rows
 use Rattle.log_model.specs.After.{after, on_document}
-use Rattle.log_model.specs.AfterDocuments.{addressed, documents_sent, frozen_by}
+use Rattle.log_model.specs.AfterDocuments.{addressed, documents_sent}
 use Rattle.log_model.specs.AfterPlaces.{activated, on_place, places_sent, put_to_sleep, sleepers_below, sleepers_with, woken_below}
 use Rattle.log_model.specs.History.{has_nav}
-use Rattle.log_model.specs.Places.{is_awake_on, shower_of}
-use Rattle.log_model.specs.Seen.{Desk, Document, Place, Seen, Status, awake, asleep, lost, desk_of, document_of, place_in, place_of}
+use Rattle.log_model.specs.Places.{is_awake_on}
+use Rattle.log_model.specs.Seen.{Document, Place, Seen, Status, awake, asleep, lost, desk_of, document_of, place_in, place_of}
 use Rattle.log_model.specs.Soundness.{IsSound}
 use Rattle.log_model.proofs.Refl.{nat_eq_refl}
 use Rattle.seen_facts.proofs.Coord.OneDocument.{mailed}
-use Rattle.seen_facts.proofs.Desk.Again.{AllStayAt, same_places}
 use Rattle.seen_facts.proofs.Desk.Stays.{ShowsNone, sent_at}
 use Rattle.seen_facts.proofs.Entry.Parts.{WasOf, WasPlace, place_then, was_place}
 use Rattle.seen_facts.proofs.Entry.Docs.{its_own}
@@ -30,7 +29,7 @@ use Rattle.seen_facts.specs.Hang.Hanging.{Hangs}
 use Rattle.seen_facts.specs.Hang.Members.{Has}
 use Rattle.seen_facts.proofs.Hang.Hung.{places_distinct}
 use Rattle.seen_facts.proofs.Hang.Members.{find_has, has_found}
-use Rattle.seen_facts.specs.Home.Homes.{AreHomed, IsHomed, document_in}
+use Rattle.seen_facts.specs.Home.Homes.{AreHomed, IsHomed}
 use Rattle.seen_laws.proofs.Keyed.{find_has as keyed_has}
 use Rattle.seen_facts.proofs.Walk.Placed.{each_found}
 use Rattle.seen_facts.specs.Doc.Docs.{AreDocs, AreThawed, IsLive, makes_at, makes_it}

@@ -1,11 +1,9 @@
 -- What is true of documents stays as a report is delivered that tells of no death.
-use Rattle.std.proofs.Common.{◌≡◌, ◌⊎◌, inl, inr, ℕ, ◌+◌, ◌≤◌, Bool, true, false, cond, ◌==◌, List, [], ◌∷◌, drop, map, Option, Some, None, refl, sym, ap, ◌∙◌, subst, arith, eqb-true}
+use Rattle.std.proofs.Common.{◌≡◌, ℕ, ◌+◌, ◌≤◌, Bool, true, false, cond, ◌==◌, List, [], ◌∷◌, drop, map, Option, Some, None, refl, sym, ap, ◌∙◌, subst, arith}
 use Rattle.std.specs.Prelude.{slice_get}
 use Rattle.std.proofs.lemmas.Bool.Decides.{nat_tests}
 use Rattle.tab_ids.specs.declared.DocId.{DocId}
-use Rattle.tab_ids.specs.declared.NavId.{NavId}
 use Rattle.tab_ids.specs.declared.ProcId.{ProcId}
-use Rattle.tab_ids.specs.declared.StateId.{StateId}
 use Rattle.log_model.specs.declared.job.Job.{Job}
 use Rattle.log_model.specs.declared.job.Task.{Task}
 use Rattle.log_model.specs.declared.job.Task.TheVariants as tasks
@@ -18,11 +16,10 @@ use Rattle.log_model.specs.declared.row_kind.Actor.{Actor}
 use Rattle.log_model.specs.declared.row_kind.RowKind.TheVariants as rows
 use Rattle.log_model.specs.After.{after, desk_delivered}
 use Rattle.log_model.specs.AfterDocuments.{documents_delivered}
-use Rattle.log_model.specs.Seen.{Desk, Document, Place, Seen, desk_of, document_of}
+use Rattle.log_model.specs.Seen.{Document, Seen, desk_of, document_of}
 use Rattle.log_model.proofs.Refl.{nat_eq_refl}
 use Rattle.seen_facts.specs.Coord.Leading.{orders_of_desk}
-use Rattle.seen_facts.proofs.Coord.Leadings.{proc_same}
-use Rattle.seen_facts.specs.Desk.Own.{AreDesksIn, IsOrderIn, IsReportIn}
+use Rattle.seen_facts.specs.Desk.Own.{AreDesksIn, IsReportIn}
 use Rattle.seen_facts.proofs.Desk.Stays.{NoDeath, delivered_at}
 use Rattle.seen_facts.proofs.Each.Eaches.{each_first}
 use Rattle.seen_facts.proofs.Entry.Docs.{its_own}

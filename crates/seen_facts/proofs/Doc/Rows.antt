@@ -1,10 +1,8 @@
 -- What is true of documents stays over each row that sends no order: what users and processes do, requests that begin or end, reports but of a death, and changes that are applied.
-use Rattle.std.proofs.Common.{◌≡◌, ℕ, ◌+◌, ◌≤◌, Bool, true, false, cond, ◌==◌, List, [], ◌∷◌, ◌++◌, drop, map, Option, Some, None, refl, sym, ap, ◌∙◌, subst, arith, eqb-true}
+use Rattle.std.proofs.Common.{◌≡◌, ℕ, ◌+◌, Bool, true, false, cond, ◌==◌, List, [], ◌∷◌, ◌++◌, map, Option, Some, None, refl, sym, ap, ◌∙◌, subst}
 use Rattle.std.specs.Option.{option_map_or}
 use Rattle.std.specs.Prelude.{option_map, slice_get}
-use Rattle.std.proofs.lemmas.Bool.Decides.{nat_tests}
 use Rattle.tab_ids.specs.declared.DocId.{DocId}
-use Rattle.tab_ids.specs.declared.EntryId.{EntryId}
 use Rattle.tab_ids.specs.declared.NavId.{NavId}
 use Rattle.tab_ids.specs.declared.ProcId.{ProcId}
 use Rattle.tab_ids.specs.declared.ReqId.{ReqId}
@@ -13,43 +11,26 @@ use Rattle.tab_ids.specs.declared.Step.{Step}
 use Rattle.log_model.specs.declared.action.Action.{Action}
 use Rattle.log_model.specs.declared.change.Change.{Change}
 use Rattle.log_model.specs.declared.job.Job.{Job}
-use Rattle.log_model.specs.declared.job.Order.{Order}
-use Rattle.log_model.specs.declared.job.Task.{Task}
-use Rattle.log_model.specs.declared.job.Task.TheVariants as tasks
 use Rattle.log_model.specs.declared.made.Made.{Made}
-use Rattle.log_model.specs.declared.made.Report.{Report}
-use Rattle.log_model.specs.declared.made.Report.TheVariants as reports
 use Rattle.log_model.specs.declared.outcome.Cause.{Cause}
 use Rattle.log_model.specs.declared.outcome.Denial.{Denial}
-use Rattle.log_model.specs.declared.outcome.Outcome.{Outcome}
-use Rattle.log_model.specs.declared.outcome.Outcome.TheVariants as outcomes
-use Rattle.log_model.specs.declared.request.Poke.{Poke}
 use Rattle.log_model.specs.declared.request.Request.{Request}
 use Rattle.log_model.specs.declared.request.Request.TheVariants as requests
 use Rattle.log_model.specs.declared.row_kind.Actor.{Actor}
 use Rattle.log_model.specs.declared.row_kind.RowKind.{RowKind}
 use Rattle.log_model.specs.declared.row_kind.RowKind.TheVariants as rows
-use Rattle.log_model.specs.After.{after, desk_delivered, desk_finished, desk_taken, desks_accepted, desks_made, follows_finished, on_desk}
-use Rattle.log_model.specs.AfterDocuments.{documents_delivered, documents_finished, slot_finished, task_in_hand, view_finished}
+use Rattle.log_model.specs.After.{after, desk_taken, desks_made, follows_finished, on_desk}
 use Rattle.log_model.specs.Seen.{Desk, Document, Place, Seen, desk_of, document_of}
 use Rattle.log_model.specs.Views.{View, after_made}
-use Rattle.seen_facts.specs.Coord.Leading.{orders_of_desk}
 use Rattle.seen_facts.proofs.Coord.OneDocument.{orders_taken}
 use Rattle.seen_facts.proofs.Coord.Unread.{DesksLeft, dropped_left, refused_left}
-use Rattle.seen_facts.specs.Desk.Own.{AreDesksIn, IsOrderIn, IsReportIn, IsTaskOf}
-use Rattle.seen_facts.proofs.Desk.Again.{AllStayAt, same_places}
-use Rattle.seen_facts.proofs.Desk.Stays.{NoDeath, applied_at, delivered_at}
-use Rattle.seen_facts.specs.Each.Items.{Each}
-use Rattle.seen_facts.proofs.Each.Eaches.{each_first}
+use Rattle.seen_facts.proofs.Desk.Stays.{applied_at}
 use Rattle.seen_facts.proofs.Entry.Parts.{map_itself}
-use Rattle.seen_facts.proofs.Entry.Stays.{its_number}
-use Rattle.seen_facts.specs.Home.Homes.{document_in}
-use Rattle.seen_facts.specs.Transit.Orders.{IsOutcomeOf}
-use Rattle.seen_facts.specs.Doc.Docs.{AreDocs, AreThawed, IsLive, IsMadeOnce, makes_at, makes_by, makes_due, makes_it, makes_sent, makes_told}
-use Rattle.seen_facts.proofs.Doc.Makes.{MakesNone, finished_makes, made_makes, makes_none, same_makes}
-use Rattle.seen_facts.proofs.Doc.Awakes.{AllWereAwake, applied_awake, awake_same, delivered_awake}
-use Rattle.seen_facts.proofs.Doc.Leaves.{KeepPlaces, KeepsDoc, kept_places, itself_keeps, keeps_both, keeps_if, left_docs, once_alike, thawed_again}
-use Rattle.seen_facts.proofs.Doc.Lives.{change_as, change_frozen, change_keeps, finished_right, live_as, making_right, takes_in, viewed_live}
+use Rattle.seen_facts.specs.Doc.Docs.{AreDocs, IsLive, makes_at, makes_sent, makes_told}
+use Rattle.seen_facts.proofs.Doc.Makes.{made_makes, same_makes}
+use Rattle.seen_facts.proofs.Doc.Awakes.{AllWereAwake, applied_awake, awake_same}
+use Rattle.seen_facts.proofs.Doc.Leaves.{KeepPlaces, kept_places, itself_keeps, keeps_if, left_docs, once_alike, thawed_again}
+use Rattle.seen_facts.proofs.Doc.Lives.{change_as, change_frozen, change_keeps, live_as, making_right, takes_in, viewed_live}
 
 some_same : {A : Type 0} {a b : A} → (let o : Option A = Some a in o) ≡ Some b → a ≡ b
 some_same e = cc

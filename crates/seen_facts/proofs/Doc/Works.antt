@@ -1,41 +1,26 @@
 -- What is true of documents stays as a process finishes an order.
-use Rattle.std.proofs.Common.{◌≡◌, ℕ, ◌+◌, ◌≤◌, Bool, true, false, cond, ◌==◌, List, [], ◌∷◌, drop, map, Option, Some, None, refl, sym, ap, ◌∙◌, subst, arith, eqb-true}
-use Rattle.std.specs.Prelude.{option_map, slice_get}
-use Rattle.std.proofs.lemmas.Bool.Decides.{nat_tests}
+use Rattle.std.proofs.Common.{◌≡◌, ℕ, Bool, true, false, cond, ◌==◌, List, [], ◌∷◌, map, Option, Some, None, refl, sym, ap, ◌∙◌, subst}
+use Rattle.std.specs.Prelude.{option_map}
 use Rattle.tab_ids.specs.declared.DocId.{DocId}
 use Rattle.tab_ids.specs.declared.ProcId.{ProcId}
 use Rattle.log_model.specs.declared.job.Job.{Job}
 use Rattle.log_model.specs.declared.job.Order.{Order}
-use Rattle.log_model.specs.declared.job.Task.{Task}
-use Rattle.log_model.specs.declared.job.Task.TheVariants as tasks
-use Rattle.log_model.specs.declared.made.Made.{Made}
-use Rattle.log_model.specs.declared.made.Report.{Report}
-use Rattle.log_model.specs.declared.made.Report.TheVariants as reports
 use Rattle.log_model.specs.declared.outcome.Outcome.{Outcome}
 use Rattle.log_model.specs.declared.outcome.Outcome.TheVariants as outcomes
 use Rattle.log_model.specs.declared.row_kind.Actor.{Actor}
-use Rattle.log_model.specs.declared.row_kind.RowKind.{RowKind}
 use Rattle.log_model.specs.declared.row_kind.RowKind.TheVariants as rows
-use Rattle.log_model.specs.After.{after, desk_delivered, desk_finished}
-use Rattle.log_model.specs.AfterDocuments.{documents_delivered, documents_finished, slot_finished, task_in_hand, view_finished}
-use Rattle.log_model.specs.AfterPlaces.{places_delivered}
-use Rattle.log_model.specs.Seen.{Desk, Document, Place, Seen, desk_of, document_of}
+use Rattle.log_model.specs.After.{after, desk_finished}
+use Rattle.log_model.specs.AfterDocuments.{task_in_hand, view_finished}
+use Rattle.log_model.specs.Seen.{Document, Seen, desk_of, document_of}
 use Rattle.seen_facts.specs.Coord.Leading.{orders_of_desk}
-use Rattle.seen_facts.specs.Desk.Own.{AreDesksIn, IsOrderIn, IsReportIn, IsTaskOf}
-use Rattle.seen_facts.proofs.Desk.Again.{same_places}
-use Rattle.seen_facts.proofs.Desk.Stays.{NoDeath, delivered_at}
+use Rattle.seen_facts.specs.Desk.Own.{AreDesksIn, IsOrderIn, IsTaskOf}
 use Rattle.seen_facts.specs.Each.Items.{Each}
-use Rattle.seen_facts.proofs.Each.Eaches.{each_first}
 use Rattle.seen_facts.proofs.Entry.Docs.{its_own}
-use Rattle.seen_facts.proofs.Entry.Stays.{its_number}
-use Rattle.seen_laws.proofs.Desks.{desk_on_other, desk_on_same}
-use Rattle.seen_facts.specs.Transit.Orders.{IsOutcomeOf}
-use Rattle.seen_facts.specs.Doc.Docs.{AreDocs, IsLive, IsMadeOnce, makes_at, makes_due, makes_it, makes_sent, makes_told}
-use Rattle.seen_facts.proofs.Doc.Makes.{MakesNone, finished_makes, makes_none, same_makes}
-use Rattle.seen_facts.proofs.Doc.Awakes.{awake_same, delivered_awake}
-use Rattle.seen_facts.proofs.Doc.Leaves.{KeepsDoc, itself_keeps, keeps_both, keeps_if, left_docs, once_alike, thawed_again}
-use Rattle.seen_facts.proofs.Doc.Lives.{IsAsBefore, finished_right, itself_as, live_as, viewed_live}
-use Rattle.seen_facts.proofs.Doc.Rows.{untouched}
+use Rattle.seen_facts.specs.Doc.Docs.{AreDocs, IsLive, makes_at}
+use Rattle.seen_facts.proofs.Doc.Makes.{finished_makes, same_makes}
+use Rattle.seen_facts.proofs.Doc.Awakes.{awake_same}
+use Rattle.seen_facts.proofs.Doc.Leaves.{KeepsDoc, keeps_both, keeps_if, left_docs, once_alike, thawed_again}
+use Rattle.seen_facts.proofs.Doc.Lives.{finished_right, viewed_live}
 
 some_same : {A : Type 0} {a b : A} → (let o : Option A = Some a in o) ≡ Some b → a ≡ b
 some_same e = cc

@@ -5,7 +5,6 @@ use Rattle.std.proofs.Common.{◌≡◌, ℕ, ◌+◌, Bool, true, false, ◌==�
 use Rattle.std.proofs.lemmas.Bool.Decides.{nat_tests}
 use Rattle.log_model.specs.Seen.{Asked, request_in}
 use Rattle.tab_ids.specs.declared.ReqId.{ReqId}
-use Rattle.seen_facts.proofs.Coord.Unread.{next}
 use Rattle.seen_facts.proofs.Request.LookUps.{none_before, others_before}
 
 -- a request that is there isn't the next one

@@ -1,5 +1,5 @@
 -- Requests that a row leaves to go on: one changes, an order serves it, a document answers, or one more is accepted.
-use Rattle.std.proofs.Common.{◌≡◌, ℕ, ◌+◌, Bool, true, false, cond, ◌==◌, List, [], ◌∷◌, ◌++◌, length, map, Option, Some, None, refl, sym, ap, ◌∙◌, subst, eqb-true}
+use Rattle.std.proofs.Common.{◌≡◌, ℕ, ◌+◌, Bool, true, false, ◌==◌, List, [], ◌∷◌, ◌++◌, length, Option, Some, None, refl, sym, ap, ◌∙◌, subst, eqb-true}
 use Rattle.std.specs.Prelude.{option_map}
 use Rattle.std.specs.List.{list_any}
 use Rattle.tab_ids.specs.declared.DocId.{DocId}
@@ -27,15 +27,15 @@ use Rattle.log_model.specs.AfterRequests.{entries_taken, on_asking, on_request, 
 use Rattle.log_model.specs.Seen.{Seen, Asked, Asking, Document, document_of, request_in}
 use Rattle.seen_facts.proofs.Coord.Held.{on_else}
 use Rattle.seen_facts.proofs.Request.LookUps.{none_before, on_itself, one_more, others_before}
-use Rattle.seen_facts.specs.Mover.Movers.{AllUnasked, IsUnasked}
+use Rattle.seen_facts.specs.Mover.Movers.{AllChangeAsTheyEnd, ChangesAsItEnds}
 use Rattle.seen_facts.proofs.Mover.Stays.{GoOn, GoesOn, GoesTo}
 
 -- ---- one request
 
--- it goes on as one for which nobody is asked
+-- it goes on, and changes as it ends
 pub record Follows (q new : Asked) : Type 0 where
   pub on : GoesOn q new
-  pub unasked : (req : ReqId) → IsUnasked req q → IsUnasked req new
+  pub ends : (req : ReqId) → ChangesAsItEnds req q → ChangesAsItEnds req new
 
 -- what is read of a request, but for whom it asks
 pub record Deed : Type 0 where
@@ -43,15 +43,14 @@ pub record Deed : Type 0 where
   pub what : Request
   pub is_started : Bool
   pub ending : Option Ending
-  pub prompted : Option DocId
   pub change : Option Change
   pub took : List EntryId
 
 abbrev pub deed : Asked → Deed
-deed q = record { nr = q.nr; what = q.what; is_started = q.is_started; ending = q.ending; prompted = q.prompted; change = q.change; took = q.took }
+deed q = record { nr = q.nr; what = q.what; is_started = q.is_started; ending = q.ending; change = q.change; took = q.took }
 
-pub same_deed : (q new : Asked) → deed new ≡ deed q → (q.asks ≡ [] → new.asks ≡ []) → Follows q new
-same_deed q new same asks =
+pub same_deed : (q new : Asked) → deed new ≡ deed q → Follows q new
+same_deed q new same =
     record {
       on = record {
         what = ap (λ (d : Deed). d.what) same;
@@ -59,17 +58,15 @@ same_deed q new same asks =
         change = λ c e. ap (λ (d : Deed). d.change) same ∙ e;
         took = λ test e. ap (λ (d : Deed). list_any test d.took) same ∙ e;
       };
-      unasked = λ req is. record {
+      ends = λ req is. record {
         nr = ap (λ (d : Deed). d.nr) same ∙ is.nr;
-        asks = asks is.asks;
-        prompted = ap (λ (d : Deed). d.prompted) same ∙ is.prompted;
         unchanged = λ open_. ap (λ (d : Deed). d.change) same ∙ is.unchanged (sym (ap (λ (d : Deed). d.ending) same) ∙ open_);
         untaken = λ open_. ap (λ (d : Deed). d.took) same ∙ is.untaken (sym (ap (λ (d : Deed). d.ending) same) ∙ open_);
       };
     }
 
 pub as_asked : (q : Asked) → Follows q q
-as_asked q = same_deed q q refl (λ e. e)
+as_asked q = same_deed q q refl
 
 pub then_follows : (a b c : Asked) → Follows a b → Follows b c → Follows a c
 then_follows a b c one two =
@@ -80,7 +77,7 @@ then_follows a b c one two =
         change = λ x e. two.on.change x (one.on.change x e);
         took = λ test e. two.on.took test (one.on.took test e);
       };
-      unasked = λ req is. two.unasked req (one.unasked req is);
+      ends = λ req is. two.ends req (one.ends req is);
     }
 
 -- ---- the requests of a list, by their numbers
@@ -120,12 +117,12 @@ all_go_on asked next follow req q at = by_new (request_in next req) refl (follow
         let its : Follows q new = subst (λ (o : Option Asked). FollowsIn o (Some new)) at f in
         record { new = new; found = e; on = its.on }
 
-pub all_unasked : (asked next : List Asked) → AllFollow asked next → AllUnasked asked → AllUnasked next
-all_unasked asked next follow are req new at = by_old (request_in asked req) refl (subst (λ (o : Option Asked). FollowsIn (request_in asked req) o) at (follow req))
+pub all_ends : (asked next : List Asked) → AllFollow asked next → AllChangeAsTheyEnd asked → AllChangeAsTheyEnd next
+all_ends asked next follow are req new at = by_old (request_in asked req) refl (subst (λ (o : Option Asked). FollowsIn (request_in asked req) o) at (follow req))
   where
-    by_old : (o : Option Asked) → request_in asked req ≡ o → FollowsIn o (Some new) → IsUnasked req new
+    by_old : (o : Option Asked) → request_in asked req ≡ o → FollowsIn o (Some new) → ChangesAsItEnds req new
     by_old None e f = absurd f
-    by_old (Some q) e f = f.unasked req (are req q e)
+    by_old (Some q) e f = f.ends req (are req q e)
 
 pub req_same : (a b : ReqId) → (a.0 == b.0) ≡ true → a ≡ b
 req_same a b e = let n : a.0 ≡ b.0 = eqb-true a.0 b.0 e in ap (λ (i : ℕ). let x : ReqId = record { 0 = i } in x) n
@@ -165,9 +162,9 @@ served_follows s job (tasks.Activate entry epoch length index memo address) none
   where
     by_document : (o : Option Document) → document_of s job.doc ≡ o → Follows q (request_served s job (tasks.Activate entry epoch length index memo address) q)
     by_document None e = rw e (as_asked q)
-    by_document (Some d) e = rw e (same_deed q _ refl (λ e. e))
-served_follows s job tasks.Freeze none q = same_deed q (request_served s job tasks.Freeze q) refl (λ e. e)
-served_follows s job tasks.Discard none q = same_deed q (request_served s job tasks.Discard q) refl (λ e. e)
+    by_document (Some d) e = rw e (same_deed q _ refl)
+served_follows s job tasks.Freeze none q = same_deed q (request_served s job tasks.Freeze q) refl
+served_follows s job tasks.Discard none q = same_deed q (request_served s job tasks.Discard q) refl
 served_follows s job (tasks.Ask slot cause) never q = absurd never
 served_follows s job (tasks.Populate nav state address initial) none q = as_asked q
 served_follows s job (tasks.Update length index) none q = as_asked q
@@ -175,7 +172,7 @@ served_follows s job (tasks.DoFragment req mode address) none q = as_asked q
 
 pub sent_follow : (s : Seen) (job : Job) (task : Task) (asked : List Asked) → AsksNone task → AllFollow asked (requests_sent s job task asked)
 sent_follow s job (tasks.DoFragment req mode address) asked none =
-    on_follows asked req (λ q. record q { fragment = Some job.doc }) (λ q. same_deed q (record q { fragment = Some job.doc }) refl (λ e. e))
+    on_follows asked req (λ q. record q { fragment = Some job.doc }) (λ q. same_deed q (record q { fragment = Some job.doc }) refl)
 sent_follow s job (tasks.Populate nav state address initial) asked none = all_same asked
 sent_follow s job (tasks.Update length index) asked none = all_same asked
 sent_follow s job (tasks.Activate entry epoch length index memo address) asked none =
@@ -190,10 +187,10 @@ sent_follow s job (tasks.Ask slot cause) asked never = absurd never
 
 asking_follows : (job : JobId) (f : Asking → Asking) (q : Asked) → Follows q (on_asking job f q)
 asking_follows job f q =
-    same_deed q (on_asking job f q) refl (λ none. ap (λ (l : List Asking). map (λ (asking : Asking). cond (asking.job.0 == job.0) (f asking) asking) l) none)
+    same_deed q (on_asking job f q) refl
 
 fragment_follows : (s : Seen) (order : Order) (task : Task) (asked : List Asked) → order.job.task ≡ task → AllFollow asked (requests_finished s (Some order) outcomes.Fragmented asked)
-fragment_follows s order (tasks.DoFragment req mode address) asked is = rw is (on_follows asked req _ (λ q. same_deed q _ refl (λ e. e)))
+fragment_follows s order (tasks.DoFragment req mode address) asked is = rw is (on_follows asked req _ (λ q. same_deed q _ refl))
 fragment_follows s order (tasks.Populate nav state address initial) asked is = rw is (all_same asked)
 fragment_follows s order (tasks.Activate entry epoch length index memo address) asked is = rw is (all_same asked)
 fragment_follows s order (tasks.Update length index) asked is = rw is (all_same asked)
@@ -238,12 +235,12 @@ ended_follow asked req ending = on_follows asked req (λ q. record q { ending = 
     each q =
         record {
           on = record { what = refl; begun = λ e. e; change = λ c e. e; took = λ test e. e };
-          unasked = λ r is. record { nr = is.nr; asks = is.asks; prompted = is.prompted; unchanged = λ e. cc; untaken = λ e. cc };
+          ends = λ r is. record { nr = is.nr; unchanged = λ e. cc; untaken = λ e. cc };
         }
 
 pub begun_follow : (s : Seen) (asked : List Asked) (req : ReqId) (goal : Option Step) → AllFollow asked (on_request req (request_begun s) (on_request req (λ q. record q { is_started = true; goal = goal }) asked))
 begun_follow s asked req goal =
-    all_then asked (on_request req start asked) (on_request req (request_begun s) (on_request req start asked)) (on_follows asked req start each) (on_follows (on_request req start asked) req (request_begun s) (λ q. same_deed q (request_begun s q) refl (λ e. e)))
+    all_then asked (on_request req start asked) (on_request req (request_begun s) (on_request req start asked)) (on_follows asked req start each) (on_follows (on_request req start asked) req (request_begun s) (λ q. same_deed q (request_begun s q) refl))
   where
     start : Asked → Asked
     start q = record q { is_started = true; goal = goal }
@@ -252,11 +249,11 @@ begun_follow s asked req goal =
     each q =
         record {
           on = record { what = refl; begun = λ e. refl; change = λ c e. e; took = λ test e. e };
-          unasked = λ r is. record { nr = is.nr; asks = is.asks; prompted = is.prompted; unchanged = is.unchanged; untaken = is.untaken };
+          ends = λ r is. record { nr = is.nr; unchanged = is.unchanged; untaken = is.untaken };
         }
 
 -- an open request had no change and took nothing, so it moved nobody by these; then it has ended
-module _ (s : Seen) (asked : List Asked) (req : ReqId) (change : Change) (open_ : (q : Asked) → request_in asked req ≡ Some q → q.ending ≡ None) (are : AllUnasked asked) where
+module _ (s : Seen) (asked : List Asked) (req : ReqId) (change : Change) (open_ : (q : Asked) → request_in asked req ≡ Some q → q.ending ≡ None) (are : AllChangeAsTheyEnd asked) where
   abbrev end_it : Asked → Asked
   end_it q = record q { ending = Some endings.Applied }
 
@@ -281,7 +278,7 @@ module _ (s : Seen) (asked : List Asked) (req : ReqId) (change : Change) (open_ 
           ∙ on_else (on_request req end_it asked) req change_it r apart
           ∙ on_else asked req end_it r apart
 
-      follows : (q : Asked) → q.ending ≡ None → IsUnasked req q → Follows q (take_it (change_it (end_it q)))
+      follows : (q : Asked) → q.ending ≡ None → ChangesAsItEnds req q → Follows q (take_it (change_it (end_it q)))
       follows q unended is =
           record {
             on = record {
@@ -290,7 +287,7 @@ module _ (s : Seen) (asked : List Asked) (req : ReqId) (change : Change) (open_ 
               change = λ c e. (let no_ : None ≡ Some c = sym (is.unchanged unended) ∙ e in absurd cc);
               took = λ test e. (let no_ : false ≡ true = sym (ap (list_any test) (is.untaken unended)) ∙ e in absurd cc);
             };
-            unasked = λ r its. record { nr = its.nr; asks = its.asks; prompted = its.prompted; unchanged = λ e. absurd cc; untaken = λ e. absurd cc };
+            ends = λ r its. record { nr = its.nr; unchanged = λ e. absurd cc; untaken = λ e. absurd cc };
           }
 
       own : (o : Option Asked) → request_in asked req ≡ o → FollowsIn o (option_map take_it (option_map change_it (option_map end_it o)))
@@ -313,12 +310,12 @@ module _ (asked : List Asked) (req : ReqId) (doc : Option DocId) (what : Request
       by_number false e =
           record { new = q; found = others_before asked new req next r e ∙ at; on = (as_asked q).on }
 
-  pub more_unasked : AllUnasked asked → AllUnasked (asked ++ new ∷ [])
-  more_unasked are r q at = by_number (req.0 == r.0) refl
+  pub more_ends : AllChangeAsTheyEnd asked → AllChangeAsTheyEnd (asked ++ new ∷ [])
+  more_ends are r q at = by_number (req.0 == r.0) refl
     where
-      by_number : (b : Bool) → (req.0 == r.0) ≡ b → IsUnasked r q
+      by_number : (b : Bool) → (req.0 == r.0) ≡ b → ChangesAsItEnds r q
       by_number true e =
           let both : Some new ≡ Some q = sym (one_more asked new req next) ∙ ap (request_in (asked ++ new ∷ [])) (req_same req r e) ∙ at in
           let is : new ≡ q = cc in
-          subst (λ (x : Asked). IsUnasked r x) is (record { nr = req_same req r e; asks = refl; prompted = refl; unchanged = λ open_. refl; untaken = λ open_. refl })
+          subst (λ (x : Asked). ChangesAsItEnds r x) is (record { nr = req_same req r e; unchanged = λ open_. refl; untaken = λ open_. refl })
       by_number false e = are r q (sym (others_before asked new req next r e) ∙ at)

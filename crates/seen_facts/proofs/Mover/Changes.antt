@@ -17,6 +17,7 @@ use Rattle.log_model.specs.History.{History, applied, has_row}
 use Rattle.log_model.specs.Places.{holder_of}
 use Rattle.log_model.specs.Seen.{Seen, Asked, Place, place_of, request_of}
 use Rattle.seen_facts.specs.Mover.Movers.{AreMovers}
+use Rattle.seen_facts.proofs.Asked.Passed.{have_passed}
 use Rattle.seen_facts.proofs.Mover.Asked.{applied_follow}
 use Rattle.seen_facts.proofs.Mover.Places.{KeepPlaces, any_behind, places_both, places_if, places_more, same_places}
 use Rattle.seen_facts.proofs.Mover.Rows.{quietly_follow}
@@ -62,4 +63,4 @@ applied_places s req changes.Edit = taken_places s req changes.Edit s.places (sa
 -- the applied request has no outcome yet
 pub applied_movers : (s : Seen) (event : ℕ) (actor : Actor) (req : ReqId) (change : Change) → AreMovers s → ((q : Asked) → request_of s req ≡ Some q → q.ending ≡ None) → AreMovers (after s (record { event = event; actor = actor; row = rows.Applied req change }))
 applied_movers s event actor req change are open_ =
-    quietly_follow s (after s (record { event = event; actor = actor; row = rows.Applied req change })) are (applied_follow s s.requests req change open_ are.unasked) (applied_places s req change)
+    quietly_follow s (after s (record { event = event; actor = actor; row = rows.Applied req change })) are (applied_follow s s.requests req change open_ are.ends) (have_passed s (record { event = event; actor = actor; row = rows.Applied req change }) tt tt are.passed) (applied_places s req change)

@@ -18,7 +18,8 @@ use Rattle.log_model.specs.Seen.{Seen, Document, Place, document_of, place_in, p
 use Rattle.seen_facts.proofs.Hang.Forms.{nav_is}
 use Rattle.seen_facts.proofs.Walk.Sleepers.{sleepers_of}
 use Rattle.seen_facts.specs.Mover.Movers.{AreMovers, IsMovedBy, was_moved}
-use Rattle.seen_facts.proofs.Mover.Asked.{AllFollow, AsksNone, all_go_on, all_unasked, sent_follow}
+use Rattle.seen_facts.proofs.Asked.Passed.{have_passed}
+use Rattle.seen_facts.proofs.Mover.Asked.{AllFollow, AsksNone, all_go_on, all_ends, sent_follow}
 use Rattle.seen_facts.proofs.Mover.Places.{FellAsleep, KeepPlaces, LeavesWay, WasSo, any_behind, asleep_then, moved_again, same_places, sleep_ways, slept_for, slept_nav, was_there, ways_both, ways_if, ways_mapped}
 use Rattle.seen_facts.proofs.Mover.Rows.{quietly_follow}
 use Rattle.seen_facts.proofs.Mover.Stays.{KeepWays, WasMoved, left_movers}
@@ -52,7 +53,7 @@ module _ (s : Seen) (event : ℕ) (actor : Actor) (are : AreMovers s) where
   -- an order that makes a document, tells one something, or sends it to a fragment
   pub told_movers : (job : Job) (task : Task) → job.task ≡ task → LeavesPlaces task → AreMovers (then_ job)
   told_movers job task is leaves =
-      quietly_follow s (then_ job) are (sent_follow s job job.task s.requests (subst AsksNone (sym is) (asks_none task leaves))) (subst (λ (k : Task). KeepPlaces s.places (places_sent s job k)) (sym is) (places_stay task leaves))
+      quietly_follow s (then_ job) are (sent_follow s job job.task s.requests (subst AsksNone (sym is) (asks_none task leaves))) (have_passed s (record { event = event; actor = actor; row = rows.Sent job }) (subst AsksNone (sym is) (asks_none task leaves)) tt are.passed) (subst (λ (k : Task). KeepPlaces s.places (places_sent s job k)) (sym is) (places_stay task leaves))
     where
       asks_none : (k : Task) → LeavesPlaces k → AsksNone k
       asks_none (tasks.Populate nav state address initial) leaves_ = tt
@@ -78,7 +79,8 @@ module _ (s : Seen) (event : ℕ) (actor : Actor) (are : AreMovers s) where
       left_movers s (then_ job) (record {
         ways = subst (λ (l : List Place). KeepWays s.places l) (sym places) (sleep_ways (sleepers_with s job.doc) job.why s.places);
         requests = all_go_on s.requests (then_ job).requests follow;
-        unasked = all_unasked s.requests (then_ job).requests follow are.unasked;
+        ends = all_ends s.requests (then_ job).requests follow are.ends;
+        passed = have_passed s (record { event = event; actor = actor; row = rows.Sent job }) (subst AsksNone (sym is) (asks_none task puts)) tt are.passed;
         moved = λ nav place there moved. by_case nav place (asleep_then (sleepers_with s job.doc) job.why s.places nav place (ap (λ (l : List Place). place_in l nav) (sym places) ∙ there) moved);
       })
     where
@@ -176,7 +178,8 @@ module _ (s : Seen) (event : ℕ) (actor : Actor) (are : AreMovers s) (job : Job
       left_movers s t (record {
         ways = ways;
         requests = all_go_on s.requests t.requests follow;
-        unasked = all_unasked s.requests t.requests follow are.unasked;
+        ends = all_ends s.requests t.requests follow are.ends;
+        passed = have_passed s (record { event = event; actor = actor; row = rows.Sent job }) (subst AsksNone (sym task) tt) tt are.passed;
         moved = moved_then;
       })
     where

@@ -28,8 +28,11 @@ use Rattle.log_model.specs.declared.row_kind.RowKind.TheVariants as rows
 use Rattle.log_model.specs.After.{after}
 use Rattle.log_model.specs.AfterPlaces.{on_place, opening_place, place_arrived, places_delivered}
 use Rattle.log_model.specs.Seen.{Seen, Asked, Document, Place, desk_of, document_of, nothing, place_of, request_in}
-use Rattle.seen_facts.specs.Mover.Movers.{AllUnasked, AreMovers, IsMovedAway, IsUnasked, was_moved}
-use Rattle.seen_facts.proofs.Mover.Asked.{AllFollow, all_go_on, all_same, all_unasked, begun_follow, delivered_follow, ended_follow, finished_follow, more_go_on, more_unasked, on_follows, same_deed}
+use Rattle.log_model.specs.Places.{has_passed}
+use Rattle.seen_facts.specs.Asked.Asking.{HavePassed}
+use Rattle.seen_facts.proofs.Asked.Passed.{IsNext, IsNoQuestion, have_passed}
+use Rattle.seen_facts.specs.Mover.Movers.{AllChangeAsTheyEnd, AreMovers, IsMovedAway, ChangesAsItEnds, was_moved}
+use Rattle.seen_facts.proofs.Mover.Asked.{AllFollow, all_go_on, all_same, all_ends, begun_follow, delivered_follow, ended_follow, finished_follow, more_go_on, more_ends, on_follows, same_deed}
 use Rattle.seen_facts.proofs.Mover.Places.{KeepPlaces, moved_again, places_if, same_places}
 use Rattle.seen_facts.proofs.Mover.Stays.{GoOn, left_movers}
 
@@ -63,80 +66,92 @@ delivered_places s (Some (reports.Done job outcome made)) no_death = by_task job
 -- ---- the rows
 
 -- places stay, and requests go on
-pub quiet_movers : (s t : Seen) → AreMovers s → GoOn s.requests t.requests → AllUnasked t.requests → KeepPlaces s.places t.places → AreMovers t
-quiet_movers s t are requests unasked places =
+pub quiet_movers : (s t : Seen) → AreMovers s → GoOn s.requests t.requests → AllChangeAsTheyEnd t.requests → HavePassed t → KeepPlaces s.places t.places → AreMovers t
+quiet_movers s t are requests ends passed places =
     left_movers s t (record {
       ways = places.ways;
       requests = requests;
-      unasked = unasked;
+      ends = ends;
+      passed = passed;
       moved = λ nav place there moved. moved_again s nav place are.away (places.whys nav place there moved);
     })
 
-pub quietly_follow : (s t : Seen) → AreMovers s → AllFollow s.requests t.requests → KeepPlaces s.places t.places → AreMovers t
-quietly_follow s t are follow places =
-    quiet_movers s t are (all_go_on s.requests t.requests follow) (all_unasked s.requests t.requests follow are.unasked) places
+pub quietly_follow : (s t : Seen) → AreMovers s → AllFollow s.requests t.requests → HavePassed t → KeepPlaces s.places t.places → AreMovers t
+quietly_follow s t are follow passed places =
+    quiet_movers s t are (all_go_on s.requests t.requests follow) (all_ends s.requests t.requests follow are.ends) passed places
 
 module _ (s : Seen) (event : ℕ) (actor : Actor) (are : AreMovers s) where
   abbrev then_ : RowKind → Seen
   then_ kind = after s (record { event = event; actor = actor; row = kind })
 
+  passed_then : (kind : RowKind) → IsNoQuestion kind → IsNext s kind → HavePassed (then_ kind)
+  passed_then kind quiet next =
+      have_passed s (record { event = event; actor = actor; row = kind }) quiet next are.passed
+
   pub accepted_movers : (req : ReqId) (doc : Option DocId) (what : Request) → req.0 ≡ length s.requests + 1 → AreMovers (then_ (rows.Accepted req doc what))
   accepted_movers req doc what next =
-      quiet_movers s (then_ (rows.Accepted req doc what)) are (more_go_on s.requests req doc what next) (more_unasked s.requests req doc what next are.unasked) (same_places s.places)
+      quiet_movers s (then_ (rows.Accepted req doc what)) are (more_go_on s.requests req doc what next) (more_ends s.requests req doc what next are.ends) (passed_then (rows.Accepted req doc what) tt next) (same_places s.places)
 
   pub started_movers : (req : ReqId) (goal : Option Step) → AreMovers (then_ (rows.Started req goal))
   started_movers req goal =
-      quietly_follow s (then_ (rows.Started req goal)) are (begun_follow s s.requests req goal) (same_places s.places)
+      quietly_follow s (then_ (rows.Started req goal)) are (begun_follow s s.requests req goal) (passed_then (rows.Started req goal) tt tt) (same_places s.places)
 
   pub refused_movers : (req : ReqId) (reason : Denial) → AreMovers (then_ (rows.Refused req reason))
   refused_movers req reason =
-      quietly_follow s (then_ (rows.Refused req reason)) are (ended_follow s.requests req (endings.Refused reason)) (same_places s.places)
+      quietly_follow s (then_ (rows.Refused req reason)) are (ended_follow s.requests req (endings.Refused reason)) (passed_then (rows.Refused req reason) tt tt) (same_places s.places)
 
   pub dropped_movers : (req : ReqId) (cause : Cause) → AreMovers (then_ (rows.Dropped req cause))
   dropped_movers req cause =
-      quietly_follow s (then_ (rows.Dropped req cause)) are (ended_follow s.requests req (endings.Dropped cause)) (same_places s.places)
+      quietly_follow s (then_ (rows.Dropped req cause)) are (ended_follow s.requests req (endings.Dropped cause)) (passed_then (rows.Dropped req cause) tt tt) (same_places s.places)
 
-  pub answered_movers : (req : ReqId) (stay : Bool) → AreMovers (then_ (rows.Answered req stay))
-  answered_movers req stay =
-      quietly_follow s (then_ (rows.Answered req stay)) are (on_follows s.requests req (λ q. record q { answered = Some stay }) (λ q. same_deed q (record q { answered = Some stay }) refl (λ e. e))) (same_places s.places)
+  pub answered_movers : (req : ReqId) (stay : Bool) → stay ≡ false → AreMovers (then_ (rows.Answered req stay))
+  answered_movers req stay leave =
+      quietly_follow s (then_ (rows.Answered req stay)) are (on_follows s.requests req (λ q. record q { answered = Some stay }) (λ q. same_deed q (record q { answered = Some stay }) refl)) (passed_then (rows.Answered req stay) leave tt) (same_places s.places)
 
   pub evicted_movers : (state : StateId) → AreMovers (then_ (rows.Evicted state))
   evicted_movers state =
-      quietly_follow s (then_ (rows.Evicted state)) are (all_same s.requests) (same_places s.places)
+      quietly_follow s (then_ (rows.Evicted state)) are (all_same s.requests) (passed_then (rows.Evicted state) tt tt) (same_places s.places)
 
   pub killed_movers : (proc : ProcId) (death : Death) → AreMovers (then_ (rows.Killed proc death))
   killed_movers proc death =
-      quietly_follow s (then_ (rows.Killed proc death)) are (all_same s.requests) (same_places s.places)
+      quietly_follow s (then_ (rows.Killed proc death)) are (all_same s.requests) (passed_then (rows.Killed proc death) tt tt) (same_places s.places)
 
   pub taken_movers : (proc : ProcId) (job : JobId) (live dirty : Bool) → AreMovers (then_ (rows.Taken proc job live dirty))
   taken_movers proc job live dirty =
-      quietly_follow s (then_ (rows.Taken proc job live dirty)) are (all_same s.requests) (same_places s.places)
+      quietly_follow s (then_ (rows.Taken proc job live dirty)) are (all_same s.requests) (passed_then (rows.Taken proc job live dirty) tt tt) (same_places s.places)
 
   pub finished_movers : (proc : ProcId) (job : JobId) (outcome : Outcome) → AreMovers (then_ (rows.Finished proc job outcome))
   finished_movers proc job outcome =
-      quietly_follow s (then_ (rows.Finished proc job outcome)) are (finished_follow s (desk_of s proc).in_hand outcome s.requests) (same_places s.places)
+      quietly_follow s (then_ (rows.Finished proc job outcome)) are (finished_follow s (desk_of s proc).in_hand outcome s.requests) (passed_then (rows.Finished proc job outcome) tt tt) (same_places s.places)
 
   pub made_movers : (proc : ProcId) (made : Made) → AreMovers (then_ (rows.Made proc made))
   made_movers proc made =
-      quietly_follow s (then_ (rows.Made proc made)) are (on_follows s.requests made.req (λ q. record q { made = Some made }) (λ q. same_deed q (record q { made = Some made }) refl (λ e. e))) (same_places s.places)
+      quietly_follow s (then_ (rows.Made proc made)) are (on_follows s.requests made.req (λ q. record q { made = Some made }) (λ q. same_deed q (record q { made = Some made }) refl)) (passed_then (rows.Made proc made) tt tt) (same_places s.places)
 
   pub delivered_movers : (proc : ProcId) → NoDeath (slice_get (desk_of s proc).reports 0) → AreMovers (then_ (rows.Delivered proc))
   delivered_movers proc no_death =
       let report = slice_get (desk_of s proc).reports 0 in
-      quietly_follow s (then_ (rows.Delivered proc)) are (delivered_follow report s.requests) (delivered_places s report no_death)
+      quietly_follow s (then_ (rows.Delivered proc)) are (delivered_follow report s.requests) (passed_then (rows.Delivered proc) tt tt) (delivered_places s report no_death)
 
 -- as the tab opens nothing is asked, and its navigable is shown its first document
 pub opened_movers : (event : ℕ) (actor : Actor) (entry : EntryId) (state : StateId) (doc : DocId) (proc : ProcId) (slot : Option ℕ) (address : List ℕ) → AreMovers (after nothing (record { event = event; actor = actor; row = rows.Opened entry state doc proc slot address }))
 opened_movers event actor entry state doc proc slot address =
-    record { unasked = none; away = still }
+    record { ends = none; passed = λ req q at. nobody req q at; away = still }
   where
     opened : Seen
     opened = after nothing (record { event = event; actor = actor; row = rows.Opened entry state doc proc slot address })
 
-    none : (req : ReqId) (q : Asked) → request_in [] req ≡ Some q → IsUnasked req q
+    none : (req : ReqId) (q : Asked) → request_in [] req ≡ Some q → ChangesAsItEnds req q
     none req q at = by_number (req.0 == 0) at
       where
-        by_number : (b : Bool) → (let o : Option Asked = cond b None None in o) ≡ Some q → IsUnasked req q
+        by_number : (b : Bool) → (let o : Option Asked = cond b None None in o) ≡ Some q → ChangesAsItEnds req q
+        by_number true e = cc
+        by_number false e = cc
+
+    nobody : (req : ReqId) (q : Asked) → request_in [] req ≡ Some q → has_passed opened q ≡ true
+    nobody req q at = by_number (req.0 == 0) at
+      where
+        by_number : (b : Bool) → (let o : Option Asked = cond b None None in o) ≡ Some q → has_passed opened q ≡ true
         by_number true e = cc
         by_number false e = cc
 

@@ -1,7 +1,7 @@
 -- What a row has to leave of requests and places, so that who moved a navigable away still did.
 use Rattle.std.proofs.Common.{◌≡◌, Bool, true, false, ◌&&◌, ◌||◌, List, [], ◌∷◌, Option, Some, None, refl, sym, ap, ◌∙◌, inl, inr, ◌⊎◌}
 use Rattle.std.specs.Prelude.{option_and_then}
-use Rattle.std.specs.List.{list_any, list_all}
+use Rattle.std.specs.List.{list_any}
 use Rattle.std.specs.Option.{option_map_or}
 use Rattle.tab_ids.specs.declared.EntryId.{EntryId}
 use Rattle.tab_ids.specs.declared.NavId.{NavId}
@@ -10,10 +10,11 @@ use Rattle.log_model.specs.declared.change.Change.{Change}
 use Rattle.log_model.specs.Causes.{any_place, changed_one_of, is_passed_traversal, nav_of_change}
 use Rattle.log_model.specs.Equal.{holds}
 use Rattle.log_model.specs.History.{has_nav, same_entry}
-use Rattle.log_model.specs.Places.{has_passed, is_gone, is_settled_asking, is_traversal, may_leave, way_of, way_to}
-use Rattle.log_model.specs.Seen.{Seen, Asked, Asking, Place, place_in, place_of, request_in}
+use Rattle.log_model.specs.Places.{has_passed, is_traversal, way_of, way_to}
+use Rattle.log_model.specs.Seen.{Seen, Asked, Place, place_in, place_of, request_in}
 use Rattle.seen_facts.proofs.Walk.Placed.{found_nav}
-use Rattle.seen_facts.specs.Mover.Movers.{AllUnasked, AreMovers, IsMovedAway, IsUnasked, MovesAway, took_of, was_moved}
+use Rattle.seen_facts.specs.Asked.Asking.{HavePassed}
+use Rattle.seen_facts.specs.Mover.Movers.{AllChangeAsTheyEnd, AreMovers, IsMovedAway, MovesAway, took_of, was_moved}
 
 -- ---- any of a list
 
@@ -46,13 +47,6 @@ pub record GoesTo (asked : List Asked) (req : ReqId) (q : Asked) : Type 0 where
 abbrev pub GoOn : List Asked → List Asked → Type 0
 GoOn asked next = (req : ReqId) (q : Asked) → request_in asked req ≡ Some q → GoesTo next req q
 
--- one for which nobody is asked has passed its unload check
-pub unasked_passes : (s : Seen) (req : ReqId) (q : Asked) → IsUnasked req q → has_passed s q ≡ true
-unasked_passes s req q is =
-    let asks : list_all (is_settled_asking (is_gone s)) q.asks ≡ true = ap (λ (l : List Asking). list_all (is_settled_asking (is_gone s)) l) is.asks in
-    let leaves : may_leave q ≡ true = rw is.prompted refl in
-    rw (asks, leaves) refl
-
 -- ---- places
 
 -- a navigable's place then: it hangs as before, and was given what it was given
@@ -76,7 +70,8 @@ pub record WasMoved (s : Seen) (nav : NavId) (place : Place) : Type 0 where
 pub record Leaves (s t : Seen) : Type 0 where
   pub ways : KeepWays s.places t.places
   pub requests : GoOn s.requests t.requests
-  pub unasked : AllUnasked t.requests
+  pub ends : AllChangeAsTheyEnd t.requests
+  pub passed : HavePassed t
   pub moved : (nav : NavId) (place : Place) → place_of t nav ≡ Some place → was_moved place ≡ true → WasMoved s nav place
 
 -- ---- who moved a navigable still did
@@ -98,13 +93,12 @@ all_of true true c e = (refl, refl)
 all_of true false c e = cc
 all_of false b c e = cc
 
-module _ (s t : Seen) (ways : KeepWays s.places t.places) (req : ReqId) (q new : Asked) (on : GoesOn q new) (is : IsUnasked req new) where
+module _ (s t : Seen) (ways : KeepWays s.places t.places) (req : ReqId) (q new : Asked) (on : GoesOn q new) (passes : has_passed t new ≡ true) where
   passed_on : is_passed_traversal s q ≡ true → is_passed_traversal t new ≡ true
   passed_on e =
       let both = all_of (is_traversal q.what) q.is_started (has_passed s q) e in
       let goes : is_traversal new.what ≡ true = ap is_traversal on.what ∙ both.0 in
       let begun : new.is_started ≡ true = on.begun both.1 in
-      let passes : has_passed t new ≡ true = unasked_passes t req new is in
       rw (goes, begun) passes
 
   changed_on : (navs : List NavId) → changed_one_of q navs ≡ true → changed_one_of new navs ≡ true
@@ -153,7 +147,8 @@ module _ (s t : Seen) (ways : KeepWays s.places t.places) (req : ReqId) (q new :
 pub left_movers : (s t : Seen) → Leaves s t → AreMovers t
 left_movers s t leaves =
     record {
-      unasked = leaves.unasked;
+      ends = leaves.ends;
+      passed = leaves.passed;
       away = away;
     }
   where
@@ -167,5 +162,5 @@ left_movers s t leaves =
           q = goes.new;
           why = was.by.why;
           there = goes.found;
-          moves = moves_on s t leaves.ways was.by.req was.by.q goes.new goes.on (leaves.unasked was.by.req goes.new goes.found) place.nav was.before (ap (place_of s) (sym own) ∙ was.found) was.by.moves;
+          moves = moves_on s t leaves.ways was.by.req was.by.q goes.new goes.on (leaves.passed was.by.req goes.new goes.found) place.nav was.before (ap (place_of s) (sym own) ∙ was.found) was.by.moves;
         }

@@ -4,7 +4,6 @@ use Rattle.std.specs.Prelude.{option_and_then}
 use Rattle.std.specs.List.{list_any}
 use Rattle.std.specs.Option.{option_map_or}
 use Rattle.tab_ids.specs.declared.NavId.{NavId}
-use Rattle.tab_ids.specs.declared.ReqId.{ReqId}
 use Rattle.log_model.specs.declared.change.Change.{Change}
 use Rattle.log_model.specs.Causes.{any_place, changed_one_of, is_passed_traversal, nav_of_change}
 use Rattle.log_model.specs.Equal.{holds}
@@ -14,8 +13,8 @@ use Rattle.log_model.specs.Seen.{Seen, Asked, Place, place_of}
 use Rattle.log_model.proofs.Refl.{nat_eq_refl}
 use Rattle.seen_facts.proofs.Hang.Forms.{nav_is}
 use Rattle.seen_facts.proofs.Walk.Placed.{found_nav}
-use Rattle.seen_facts.specs.Mover.Movers.{IsUnasked, MovesAway, took_of}
-use Rattle.seen_facts.proofs.Mover.Stays.{any_of, unasked_passes}
+use Rattle.seen_facts.specs.Mover.Movers.{MovesAway, took_of}
+use Rattle.seen_facts.proofs.Mover.Stays.{any_of}
 
 -- a navigable is on its own way
 pub on_its_way : (s : Seen) (nav : NavId) → has_nav (way_to s nav) nav ≡ true
@@ -43,9 +42,8 @@ any_nav f (n ∷ navs) nav has passes = by_test (n.0 == nav.0) refl (λ more. an
     by_test false e rest h = or_last (f n) (rest h)
 
 module _ (s : Seen) (q : Asked) (nav : NavId) where
-  pub traversal_moves : (req : ReqId) → IsUnasked req q → is_traversal q.what ≡ true → q.is_started ≡ true → MovesAway s q nav
-  traversal_moves req is goes begun =
-      let passes : has_passed s q ≡ true = unasked_passes s req q is in
+  pub traversal_moves : has_passed s q ≡ true → is_traversal q.what ≡ true → q.is_started ≡ true → MovesAway s q nav
+  traversal_moves passes goes begun =
       any_of (is_passed_traversal s q) (changed_one_of q (way_to s nav)) (any_place s (way_to s nav) (took_of q)) (inl (rw (goes, begun) passes))
 
   pub change_moves : (change : Change) (changed : NavId) → q.change ≡ Some change → nav_of_change change ≡ Some changed → has_nav (way_to s nav) changed ≡ true → MovesAway s q nav

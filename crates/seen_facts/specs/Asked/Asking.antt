@@ -1,6 +1,6 @@
--- What is true between two rows of the requests of a tab with loads: nobody is asked for them, only a traversal or a load begins, and one traversal runs at most.
+-- What is true between two rows of the requests of a tab with loads: their unload checks have passed, only a traversal or a load begins, and one traversal runs at most.
 -- HTML Standard, "navigate", "navigate to a fragment" and "traverse the history by a delta"; what an order adds to its request is this project's own.
-use Rattle.std.specs.Prelude.{◌≡◌, true, false, [], Option, Some, None, is_some}
+use Rattle.std.specs.Prelude.{◌≡◌, true, false, Option, Some, None, is_some}
 use Rattle.tab_ids.specs.declared.NavId.{NavId}
 use Rattle.tab_ids.specs.declared.ReqId.{ReqId}
 use Rattle.log_model.specs.declared.action.Action.{Action}
@@ -8,7 +8,7 @@ use Rattle.log_model.specs.declared.action.Action.TheVariants as actions
 use Rattle.log_model.specs.declared.request.Request.{Request}
 use Rattle.log_model.specs.declared.request.Request.TheVariants as requests
 use Rattle.log_model.specs.History.{has_nav}
-use Rattle.log_model.specs.Places.{is_load, is_traversal}
+use Rattle.log_model.specs.Places.{has_passed, is_load, is_traversal}
 use Rattle.log_model.specs.Seen.{Seen, Asked, request_in}
 use Rattle.seen_facts.specs.Each.Items.{NoneDied}
 use Rattle.seen_facts.specs.Each.Runs.{EachAsked, OnlyRuns}
@@ -25,12 +25,14 @@ IsTabRequest (requests.Load nav mode address) = Unit {0}
 IsTabRequest (requests.Poke nav action) = IsNoEditing action
 IsTabRequest _ = ⊥
 
--- the request has its number, and nobody is asked for it
+-- each request has passed its unload check: whom it asked has answered or is gone, and the user wasn't asked or lets the page go
+abbrev pub HavePassed : Seen → Type 0
+HavePassed s = EachAsked (λ req q. has_passed s q ≡ true) s.requests
+
+-- the request has its number, and is one of a tab
 pub record IsAskedPlainly (req : ReqId) (q : Asked) : Type 0 where
   pub nr : q.nr ≡ req
   pub what : IsTabRequest q.what
-  pub unasked : q.asks ≡ []
-  pub unprompted : q.prompted ≡ None
   -- a traversal or a load alone begins, a traversal with its goal
   pub unstarted : is_traversal q.what ≡ false → is_load q.what ≡ false → q.is_started ≡ false
   pub goal : is_traversal q.what ≡ true → q.is_started ≡ true → is_some q.goal ≡ true
@@ -46,9 +48,10 @@ pub record IsThere (s : Seen) (run : ReqId) : Type 0 where
   pub found : request_in s.requests run ≡ Some q
   pub traverses : is_traversal q.what ≡ true
 
--- all are so; this traversal runs, or none, which is there; and nobody has died
+-- all are so, and have passed their checks; this traversal runs, or none, which is there; and nobody has died
 pub record ArePlain (run : Option ReqId) (s : Seen) : Type 0 where
   pub each : EachAsked IsAskedPlainly s.requests
+  pub passed : HavePassed s
   pub only : OnlyRuns run s
   pub runs : (req : ReqId) → run ≡ Some req → IsThere s req
   pub died : NoneDied s

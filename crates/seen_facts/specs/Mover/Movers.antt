@@ -6,6 +6,7 @@ use Rattle.tab_ids.specs.declared.NavId.{NavId}
 use Rattle.tab_ids.specs.declared.ReqId.{ReqId}
 use Rattle.log_model.specs.declared.job.Why.{Why}
 use Rattle.log_model.specs.declared.job.Why.TheVariants as whys
+use Rattle.seen_facts.specs.Asked.Asking.{HavePassed}
 use Rattle.log_model.specs.Causes.{any_place, changed_one_of, is_passed_traversal}
 use Rattle.log_model.specs.History.{same_entry}
 use Rattle.log_model.specs.Places.{way_to}
@@ -49,19 +50,18 @@ was_moved place = was_moved_at place.status place.epoch.0
 abbrev pub AreMovedAway : Seen → Type 0
 AreMovedAway s = (nav : NavId) (place : Place) → place_of s nav ≡ Some place → was_moved place ≡ true → IsMovedAway s place
 
--- the request has its number, nobody is asked for it, and it has a change, or took entries, only once it has ended
-pub record IsUnasked (req : ReqId) (q : Asked) : Type 0 where
+-- the request has its number, and a change, or entries that it took, only once it has ended
+pub record ChangesAsItEnds (req : ReqId) (q : Asked) : Type 0 where
   pub nr : q.nr ≡ req
-  pub asks : q.asks ≡ []
-  pub prompted : q.prompted ≡ None
   pub unchanged : q.ending ≡ None → q.change ≡ None
   pub untaken : q.ending ≡ None → q.took ≡ []
 
 -- each of the requests is so
-abbrev pub AllUnasked : List Asked → Type 0
-AllUnasked asked = (req : ReqId) (q : Asked) → request_in asked req ≡ Some q → IsUnasked req q
+abbrev pub AllChangeAsTheyEnd : List Asked → Type 0
+AllChangeAsTheyEnd asked = (req : ReqId) (q : Asked) → request_in asked req ≡ Some q → ChangesAsItEnds req q
 
 -- all of it
 pub record AreMovers (s : Seen) : Type 0 where
-  pub unasked : AllUnasked s.requests
+  pub ends : AllChangeAsTheyEnd s.requests
+  pub passed : HavePassed s
   pub away : AreMovedAway s

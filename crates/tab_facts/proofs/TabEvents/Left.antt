@@ -1,7 +1,6 @@
 -- What leaves places, history, the queue and the kept documents as they are, and of documents and requests what is read between two events, leaves a tab as one is between two events.
-use Rattle.seen_facts.proofs.Asked.Plainly.{plain_passes}
 use Rattle.seen_facts.proofs.Asked.Running.{running_is}
-use Rattle.seen_facts.specs.Asked.Asking.{IsAskedPlainly, IsTabRequest}
+use Rattle.seen_facts.specs.Asked.Asking.{HavePassed, IsAskedPlainly, IsTabRequest}
 use Rattle.tab_facts.specs.Calm.Loads.{LoadsHaveDocuments}
 use Rattle.seen_facts.specs.Coord.Flowing.{Flows}
 use Rattle.seen_facts.proofs.Each.Runs.{at_place}
@@ -96,10 +95,10 @@ no_reload (requests.Load nav mode address) is = refl
 no_reload (requests.Reload nav) never = absurd never
 
 -- each traversal that runs has passed its check
-pub passed_runs : (gone : DocId → Bool) (asked : List Asked) → EachAsked IsAskedPlainly asked → passed_in gone asked ≡ running_in asked
-passed_runs gone asked plain =
-    found_alike (λ (q : Asked). is_under_way q && is_traversal q.what && has_passed_with gone q) (λ (q : Asked). is_under_way q && is_traversal q.what) asked
-    (λ i q at. rw (plain_passes gone (record { 0 = i + 1 }) q (plain (record { 0 = i + 1 }) q (at_place asked i ∙ at))) (and_true (is_under_way q && is_traversal q.what)))
+pub passed_runs : (s : Seen) → HavePassed s → passed_in (is_gone s) s.requests ≡ running_in s.requests
+passed_runs s passed =
+    found_alike (λ (q : Asked). is_under_way q && is_traversal q.what && has_passed_with (is_gone s) q) (λ (q : Asked). is_under_way q && is_traversal q.what) s.requests
+    (λ i q at. let passes : has_passed_with (is_gone s) q ≡ true = passed (record { 0 = i + 1 }) q (at_place s.requests i ∙ at) in rw passes (and_true (is_under_way q && is_traversal q.what)))
 
 -- and no other step is under way
 pub steps_run : (asked : List Asked) → EachAsked IsAskedPlainly asked → list_all (λ (q : Asked). not (is_step_under_way q)) asked ≡ is_none (running_in asked)
@@ -267,9 +266,9 @@ module _ (keep : ℕ) (run : Option ReqId) (s t : Seen) (is : IsBetween keep run
 
   passed_same : option_map lean (passed_traversal t) ≡ option_map lean (passed_traversal s)
   passed_same =
-      ap (λ (o : Option Asked). option_map lean o) (passed_runs (is_gone t) t.requests tab.asked.each)
+      ap (λ (o : Option Asked). option_map lean o) (passed_runs t tab.asked.passed)
       ∙ running_same
-      ∙ sym (ap (λ (o : Option Asked). option_map lean o) (passed_runs (is_gone s) s.requests is.tab.asked.each))
+      ∙ sym (ap (λ (o : Option Asked). option_map lean o) (passed_runs s is.tab.asked.passed))
 
   aim_same : aim_of t ≡ aim_of s
   aim_same =

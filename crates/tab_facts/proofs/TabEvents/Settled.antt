@@ -3,7 +3,6 @@ use Rattle.seen_facts.specs.Coord.Leading.{orders_of_desk}
 use Rattle.seen_facts.specs.Doc.Docs.{IsLive}
 use Rattle.seen_facts.specs.Each.Runs.{is_run, is_this}
 use Rattle.tab_facts.proofs.FrameEvents.Composed.{asked_has}
-use Rattle.seen_facts.proofs.Asked.Plainly.{plain_passes}
 use Rattle.seen_facts.specs.Asked.Asking.{IsAskedPlainly, IsTabRequest, IsThere}
 use Rattle.tab_facts.specs.FragmentOrders.Waiting.{fragments_at, fragments_in}
 use Rattle.seen_facts.proofs.Hang.Members.{has_found}
@@ -93,7 +92,7 @@ module _ (keep : ℕ) (run : Option ReqId) (s : Seen) (is : IsBetween keep run s
   stepping : (req : ReqId) (q : Asked) → request_in s.requests req ≡ Some q → is_step_under_way q ≡ true → (is_traversal q.what ≡ true) × (has_passed s q ≡ true)
   stepping req q at going =
       let plainly : IsAskedPlainly req q = is.tab.asked.each req q at in
-      (the_first (is_traversal q.what) (is_reload q.what) (and_parts (is_under_way q) (is_traversal q.what || is_reload q.what) going).1 (no_reload q.what plainly.what), plain_passes (is_gone s) req q plainly)
+      (the_first (is_traversal q.what) (is_reload q.what) (and_parts (is_under_way q) (is_traversal q.what || is_reload q.what) going).1 (no_reload q.what plainly.what), is.tab.asked.passed req q at)
 
   -- the traversal that runs has passed its check
   unparked : passed_traversal s ≡ None → s.parked ≡ []
@@ -105,7 +104,7 @@ module _ (keep : ℕ) (run : Option ReqId) (s : Seen) (is : IsBetween keep run s
           let there : IsThere s req = is.tab.asked.runs req e in
           let itself : is_this run req ≡ true = ap (λ (r : Option ReqId). is_this r req) e ∙ nat_eq_refl req.0 in
           let runs : is_run there.q ≡ true = is.tab.asked.only req there.q there.found ∙ itself in
-          let passes : (is_under_way there.q && is_traversal there.q.what && has_passed s there.q) ≡ true = rw (plain_passes (is_gone s) req there.q (is.tab.asked.each req there.q there.found)) (let parts = and_parts (is_under_way there.q) (is_traversal there.q.what) runs in rw parts.0 (rw parts.1 refl)) in
+          let passes : (is_under_way there.q && is_traversal there.q.what && has_passed s there.q) ≡ true = rw (is.tab.asked.passed req there.q there.found) (let parts = and_parts (is_under_way there.q) (is_traversal there.q.what) runs in rw parts.0 (rw parts.1 refl)) in
           let found = has_found (λ (q : Asked). is_under_way q && is_traversal q.what && has_passed_with (is_gone s) q) s.requests there.q (asked_has s.requests req there.q there.found) passes in
           let never : None ≡ Some found.0 = sym none ∙ found.1 in absurd cc
 

@@ -16,15 +16,15 @@ suits_as header kept log same none suits =
     subst (λ (h : Header). h.pages ≡ [] → OpensAs h log → Suits h log) same suits none
 
 pub play_lines-played-requires-clause-built : goal.play_lines-played-requires-clause-built
-play_lines-played-requires-clause-built c = rw (c.as_slice.ensures, lines_of c.scenario.view_is) c.requires.built
+play_lines-played-requires-clause-built g c = rw (c.as_slice.ensures, lines_of c.scenario.view_is) c.requires.built
 
 pub play_lines-played-requires-clause-turns : goal.play_lines-played-requires-clause-turns
-play_lines-played-requires-clause-turns c = rw c.requires.header c.requires.turns
+play_lines-played-requires-clause-turns g c = rw c.requires.header c.requires.turns
 
 pub returns-in-Ok-clause-follows : goal.returns-in-Ok-clause-follows
-returns-in-Ok-clause-follows c e =
+returns-in-Ok-clause-follows g c e =
     follows c.args.scenario.now c.args.world.log c.play_lines-played.new.world.log c.requires.opened c.requires.suits (suits_as c.args.scenario.now.header c.play_lines-played.new.world.header c.play_lines-played.new.world.log (c.play_lines-played.ensures.header ∙ c.requires.header) c.requires.pages c.log-log.ensures.suits) (rw (c.as_slice.ensures, lines_of c.scenario.view_is) at c.in-Ok.ensures.plays)
 
 pub returns-in-Err-clause-cut : goal.returns-in-Err-clause-cut
-returns-in-Err-clause-cut c e =
+returns-in-Err-clause-cut g c e =
     cut_short c.args.scenario.now c.args.world.log c.play_lines-played.new.world.log c.requires.opened c.requires.suits (suits_as c.args.scenario.now.header c.play_lines-played.new.world.header c.play_lines-played.new.world.log (c.play_lines-played.ensures.header ∙ c.requires.header) c.requires.pages c.log-log.ensures.suits) (rw (c.as_slice.ensures, lines_of c.scenario.view_is) at c.in-Err.ensures.plays)

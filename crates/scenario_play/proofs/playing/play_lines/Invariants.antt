@@ -5,9 +5,10 @@ use Rattle.scenario_play.specs.Moves.{HaveTurns}
 use Rattle.scenario_play.proofs.playing.play_lines.Given as goal
 
 abbrev pub invariant-loop-line : goal.invariant-loop-line
-invariant-loop-line l = record {
+invariant-loop-line g l = record {
   opened : l.world.closed ≡ false;
   header : l.world.header ≡ l.fn.world.header;
+  kinds : l.world.kinds ≡ l.fn.world.kinds;
   turns : HaveTurns l.world.header;
   played : Leads (plays (take l.line-index l.lines)) l.fn.world.log l.world.log;
 }

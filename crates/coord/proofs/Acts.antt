@@ -1,7 +1,7 @@
 -- A document makes something of the first poke of its process, or the process refuses that: the coordinator has acted, which does nothing itself.
 use Rattle.coord.specs.Standing.{HasActed, IsOpenTo}
 use Rattle.coord.specs.declared.coordinator.Coordinator.{Coordinator}
-use Rattle.coord_acts.proofs.Idle.{alone_acts}
+use Rattle.coord.proofs.Idle.{alone_acts}
 use Rattle.log_model.specs.AfterRequests.{is_running}
 use Rattle.log_model.specs.Seen.{Document, desk_of, document_of}
 use Rattle.log_model.specs.Views.{View, made_by, made_for}

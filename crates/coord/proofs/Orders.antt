@@ -1,7 +1,7 @@
 -- A process takes up an order, or finishes one: the coordinator has acted, which does nothing itself.
 use Rattle.coord.specs.Standing.{HasActed, IsOpenTo}
 use Rattle.coord.specs.declared.coordinator.Coordinator.{Coordinator}
-use Rattle.coord_acts.proofs.Idle.{alone_acts, found_now, idle_acts}
+use Rattle.coord.proofs.Idle.{alone_acts, found_now, idle_acts}
 use Rattle.seen_facts.proofs.Coord.Unread.{next}
 use Rattle.seen_facts.specs.Desk.Own.{IsFragmentTask}
 use Rattle.seen_facts.proofs.Doc.Works.{HasNoSlot}

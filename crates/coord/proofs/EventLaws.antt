@@ -32,10 +32,10 @@ use Rattle.tab_facts.proofs.TabEvents.Settled.{between_settled}
 use Rattle.seen_facts.proofs.LoadEnds.Ends.{loads_end_more}
 use Rattle.seen_facts.specs.LoadEnds.Standing.{AreUnsettled, LoadsStand}
 use Rattle.log_model.specs.LoadsEndInTime.{LoadsEndInTime}
-use Rattle.coord_acts.proofs.InTime.{event_unsettled}
+use Rattle.coord.proofs.InTime.{event_unsettled}
 use Rattle.coord.specs.Standing.{HasActed, StandsFor}
 use Rattle.coord.specs.declared.coordinator.Coordinator.{Coordinator}
-use Rattle.coord_acts.specs.Keeping.{Keeps, Follows}
+use Rattle.coord.specs.Keeping.{Keeps, Follows}
 
 -- ---- rows that pass each test pass one
 

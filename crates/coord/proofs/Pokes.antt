@@ -2,7 +2,7 @@
 use Rattle.seen_facts.specs.Asked.Asking.{IsNoEditing}
 use Rattle.coord.specs.Standing.{HasActed, IsOpenTo}
 use Rattle.coord.specs.declared.coordinator.Coordinator.{Coordinator}
-use Rattle.coord_acts.proofs.Idle.{alone_acts, found_now, idle_acts, telling_now}
+use Rattle.coord.proofs.Idle.{alone_acts, found_now, idle_acts, telling_now}
 use Rattle.seen_facts.specs.Hang.Members.{Has}
 use Rattle.log_model.specs.Causes.{denial_of_poke}
 use Rattle.log_model.specs.declared.outcome.Denial.{Denial}
