@@ -5,8 +5,6 @@ mod address;
 mod comparing;
 mod error;
 mod reading;
-#[cfg(test)]
-mod tests;
 mod text;
 
 pub use address::Address;

@@ -5,8 +5,6 @@ mod add_error;
 mod ask;
 mod handler;
 mod handler_table;
-#[cfg(test)]
-mod tests;
 
 pub use add_error::AddError;
 pub use handler_table::HandlerTable;

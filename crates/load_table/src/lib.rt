@@ -8,6 +8,3 @@ mod phase;
 pub use load::Load;
 pub use load_table::LoadTable;
 pub use phase::Phase;
-
-#[cfg(test)]
-mod tests;

@@ -24,6 +24,3 @@ pub use outcome::{Cause, Denial, Ending, Outcome};
 pub use request::{Mode, Poke, Request};
 pub use row::{Docs, Navs, Row, Rows, copy_memo};
 pub use row_kind::{Actor, LogRow, Out, RowKind};
-
-#[cfg(test)]
-mod tests;

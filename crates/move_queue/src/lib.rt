@@ -6,6 +6,3 @@ mod queue_step;
 
 pub use move_queue::MoveQueue;
 pub use queue_step::QueueStep;
-
-#[cfg(test)]
-mod tests;

@@ -14,6 +14,3 @@ pub use place::Place;
 pub use reload::ReloadPhase;
 pub use status::NavStatus;
 pub use tree::NavTree;
-
-#[cfg(test)]
-mod tests;

@@ -6,6 +6,3 @@ mod navigation;
 
 pub use handling::{Handling, choose};
 pub use navigation::{finalise, is_fragment};
-
-#[cfg(test)]
-mod tests;

@@ -4,6 +4,3 @@
 mod page_cache;
 
 pub use page_cache::PageCache;
-
-#[cfg(test)]
-mod tests;

@@ -1,6 +1,6 @@
 -- How a table of navigables stands for the places of a log's navigables.
 -- This project's own.
-use Rattle.std.specs.Prelude.{◌≡◌, ◌≢◌, ℕ, ◌≤◌, true, List, [], ◌∷◌, length, map, slice_get, Option, Some, None, is_some, option_and_then, if◌then◌else◌, ◌==◌}
+use Rattle.std.specs.Prelude.{◌≡◌, ℕ, ◌≤◌, true, List, [], ◌∷◌, length, map, slice_get, Option, Some, None, option_and_then, if◌then◌else◌, ◌==◌}
 use Rattle.tab_ids.specs.declared.NavId.{NavId}
 use Rattle.tab_ids.specs.declared.StateId.{StateId}
 use Rattle.tab_ids.specs.declared.DocId.{DocId}
@@ -8,10 +8,9 @@ use Rattle.tab_ids.specs.declared.Step.{Step}
 use Rattle.log_model.specs.declared.row.Row.{Row}
 use Rattle.log_model.specs.declared.request.Request.{Request}
 use Rattle.log_model.specs.Equal.{holds}
-use Rattle.log_model.specs.History.{owner_of, target_entry}
 use Rattle.log_model.specs.Seen.{Seen, Document, Place, Status, awake, lost, asleep, place_in}
 use Rattle.log_model.specs.Seen as seen
-use Rattle.log_model.specs.Places.{holder_of, is_shown, awake_document}
+use Rattle.log_model.specs.Places.{awake_document}
 use Rattle.log_model.specs.Orders.{is_leaving}
 use Rattle.nav_tree.specs.declared.nav.Nav.{Nav}
 use Rattle.nav_tree.specs.declared.status.NavStatus.{NavStatus}

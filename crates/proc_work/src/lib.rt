@@ -3,7 +3,5 @@
 
 mod done;
 mod same;
-#[cfg(test)]
-mod tests;
 
 pub use done::{Done, work};

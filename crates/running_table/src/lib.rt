@@ -5,6 +5,3 @@ mod nav_runners;
 mod runners;
 
 pub use runners::Runners;
-
-#[cfg(test)]
-mod tests;

@@ -10,6 +10,3 @@ mod words;
 
 pub use error::MakeError;
 pub use making::make;
-
-#[cfg(test)]
-mod tests;

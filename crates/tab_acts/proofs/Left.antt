@@ -1,6 +1,5 @@
 -- What a process's rows leave of what a coordinator's tables tell: one that stood for the log stands for it still.
 use Rattle.seen_facts.proofs.Asked.Running.{run_in, running_is}
-use Rattle.seen_facts.specs.Asked.Asking.{IsAskedPlainly}
 use Rattle.seen_facts.specs.Coord.Leading.{held_back}
 use Rattle.seen_facts.proofs.Each.Courses.{is_asked, was_asked}
 use Rattle.seen_facts.proofs.Each.Runs.{none_passes}

@@ -16,7 +16,7 @@ use Rattle.row_facts.proofs.RestRows.Rows.{delivered_rests}
 use Rattle.seen_facts.proofs.Request.Readers.{SameReads}
 use Rattle.seen_laws.proofs.InEvents.{legal_end}
 use Rattle.seen_laws.specs.InEvent.{InEvent}
-use Rattle.std.proofs.Common.{Bool, List, None, Option, Some, [], ap, arith, false, inl, inr, length, map, refl, subst, sym, true, ℕ, ◌&&◌, ◌==◌, ◌∙◌, ◌≡◌, ◌≤◌, ◌⊎◌}
+use Rattle.std.proofs.Common.{Bool, List, None, Option, Some, [], ap, arith, false, inl, inr, length, map, refl, subst, sym, true, ◌&&◌, ◌==◌, ◌∙◌, ◌≡◌, ◌≤◌, ◌⊎◌}
 use Rattle.std.proofs.lemmas.List.{map-id}
 use Rattle.std.specs.Map.{lookup}
 use Rattle.std.specs.Prelude.{find, slice_get}

@@ -6,7 +6,7 @@ use Rattle.load_table.specs.declared.phase.Phase.TheVariants as phases
 use Rattle.log_model.proofs.Refl.{nat_eq_refl}
 use Rattle.seen_facts.proofs.Hang.Members.{find_has}
 use Rattle.seen_facts.proofs.LoadTies.Waits.{found_itself}
-use Rattle.std.proofs.Common.{Bool, List, None, Option, Some, [], ap, cond, false, is_some, refl, subst, sym, true, ◌==◌, ◌∙◌, ◌∷◌, ◌≡◌}
+use Rattle.std.proofs.Common.{Bool, List, None, Option, Some, [], ap, false, is_some, refl, sym, true, ◌==◌, ◌∙◌, ◌∷◌, ◌≡◌}
 use Rattle.std.specs.Prelude.{find}
 use Rattle.tab_doors.specs.Noting.{WaitsAt, WaitsAtItsNav, waiting_in}
 use Rattle.tab_doors.specs.Ties.{nav_in}

@@ -1,5 +1,4 @@
 -- The order that makes the document of a load that has begun.
-use Rattle.seen_facts.specs.Asked.Asking.{IsAskedPlainly}
 use Rattle.row_facts.specs.LoadRows.LoadMaking.{IsMakeOfLoadDue}
 use Rattle.log_model.specs.AfterRequests.{request_begun}
 use Rattle.log_model.specs.Orders.{needs_document, ongoing_load as load_of_state}

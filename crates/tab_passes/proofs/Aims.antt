@@ -5,25 +5,21 @@ use Rattle.tab_doors.proofs.Histories.{log_steps}
 use Rattle.tab_doors.specs.Look.{moved_by}
 use Rattle.tab_doors.specs.Working.{HasGoal}
 use Rattle.seen_facts.specs.Asked.Asking.{ArePlain}
-use Rattle.seen_facts.specs.Hang.Members.{Has}
 use Rattle.history_laws.proofs.InOrder.{history_index-ordered, history_length-ordered, used_step_at-ordered}
 use Rattle.log_model.specs.Equal.{holds}
 use Rattle.log_model.specs.History.{History, has_nav, history_index, history_length, used_step_at}
 use Rattle.log_model.specs.Order.{SameHistory}
-use Rattle.log_model.specs.Places.{aim_of, has_passed_with, is_gone, is_moved_in, is_traversal, is_under_way, passed_in, passed_traversal, running_in, running_traversal}
+use Rattle.log_model.specs.Places.{aim_of, is_moved_in, passed_traversal, running_traversal}
 use Rattle.log_model.specs.Seen.{Asked, Seen, request_in}
 use Rattle.log_model.specs.declared.row.Row.{Row}
 use Rattle.tab_passes.specs.Passing.{aim_in}
-use Rattle.seen_facts.proofs.Each.Runs.{at_place}
 use Rattle.seen_facts.specs.Each.Runs.{OnlyRuns, is_run}
-use Rattle.seen_facts.proofs.Rest.Stands.{get_of}
-use Rattle.std.proofs.Common.{Bool, List, None, Option, Some, [], ap, cond, false, inl, inr, refl, subst, sym, true, ℕ, ◌&&◌, ◌+◌, ◌∙◌, ◌∷◌, ◌≡◌}
+use Rattle.std.proofs.Common.{List, None, Option, Some, [], ap, refl, subst, sym, ℕ, ◌∙◌, ◌≡◌}
 use Rattle.std.specs.Option.{option_map_or}
 use Rattle.std.specs.Prelude.{option_and_then}
 use Rattle.step_index.specs.Held.{history_held}
 use Rattle.step_index.specs.contracts.step_index.StepIndexStore.TheImpl.Laws.{sound-law}
 use Rattle.step_index.specs.declared.step_index.StepIndex.{StepIndex}
-use Rattle.tab_ids.specs.declared.DocId.{DocId}
 use Rattle.tab_ids.specs.declared.NavId.{NavId}
 use Rattle.tab_ids.specs.declared.ReqId.{ReqId}
 use Rattle.tab_ids.specs.declared.Step.{Step}

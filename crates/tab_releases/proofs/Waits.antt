@@ -16,7 +16,7 @@ use Rattle.tab_takes.specs.PassedOn.{at_hand}
 use Rattle.log_model.specs.AfterRequests.{changes_history}
 use Rattle.log_model.specs.Equal.{has_req}
 use Rattle.log_model.specs.History.{has_nav}
-use Rattle.log_model.specs.Places.{goes, is_gone, is_load, is_traversal}
+use Rattle.log_model.specs.Places.{goes, is_load, is_traversal}
 use Rattle.log_model.specs.Queue.{is_traverse}
 use Rattle.log_model.specs.Seen.{Asked, Seen, request_in, request_of}
 use Rattle.log_model.specs.declared.action.Action.{Action}

@@ -1,6 +1,6 @@
 -- What was put out as a tab is brought to rest: rows of a coordinator, behind those that were there; and each order that makes a document is for what orders may be for.
 use Rattle.tab_facts.proofs.Order.Rows.{coord_within, orders_on, orders_over}
-use Rattle.seen_facts.specs.Asked.Asking.{ArePlain, IsAskedPlainly}
+use Rattle.seen_facts.specs.Asked.Asking.{ArePlain}
 use Rattle.seen_facts.specs.Hang.Members.{Has}
 use Rattle.log_model.specs.Equal.{holds, implies}
 use Rattle.log_model.specs.Places.{has_passed, is_traversal}

@@ -18,7 +18,7 @@ use Rattle.seen_facts.specs.LoadTies.Tying.{IsLoadTied, is_for_state, made_for, 
 use Rattle.seen_laws.specs.InEvent.{InEvent}
 use Rattle.std.proofs.Common.{Bool, List, None, Option, Some, ap, cond, eqb-true, false, not, refl, sym, true, ℕ, ◌&&◌, ◌==◌, ◌||◌, ◌∙◌, ◌≡◌}
 use Rattle.std.specs.Map.{lookup}
-use Rattle.std.specs.Prelude.{find, option_map}
+use Rattle.std.specs.Prelude.{option_map}
 use Rattle.tab_doors.proofs.Sights.{sight_of}
 use Rattle.tab_doors.specs.Look.{Sight, sight}
 use Rattle.tab_doors.specs.Noting.{WaitsAtItsNav}

@@ -9,7 +9,7 @@ use Rattle.log_model.specs.AfterRequests.{changes_history, is_held_back, made_of
 use Rattle.log_model.specs.Causes.{takes_report}
 use Rattle.log_model.specs.Equal.{has_req, holds, implies}
 use Rattle.log_model.specs.Once.{has_to_begin}
-use Rattle.log_model.specs.Places.{is_gone, is_load, is_traversal, running_traversal}
+use Rattle.log_model.specs.Places.{is_load, is_traversal, running_traversal}
 use Rattle.log_model.specs.Queue.{is_traverse}
 use Rattle.log_model.specs.Seen.{Asked, Document, Seen, request_in, request_of}
 use Rattle.log_model.specs.declared.change.Change.{Change}

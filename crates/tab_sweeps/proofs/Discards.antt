@@ -44,7 +44,6 @@ use Rattle.row_facts.proofs.WalkRows.Sinces.{sent_since, since_itself}
 use Rattle.row_facts.proofs.WalkRows.Sleeping.{place_sleeps}
 use Rattle.row_facts.specs.WalkRows.Since.{AwakeSince, WasAwake}
 use Rattle.log_model.specs.declared.job.Task.TheVariants as tasks
-use Rattle.log_model.specs.declared.job.Why.TheVariants as whys
 use Rattle.log_model.specs.declared.row_kind.RowKind.TheVariants as rows
 
 -- one that is taken out of a list

@@ -13,7 +13,7 @@ use Rattle.seen_facts.specs.Asked.Asking.{HavePassed}
 use Rattle.seen_facts.proofs.Rest.Stands.{all_requests}
 use Rattle.seen_facts.proofs.Rest.Still.{found_itself}
 use Rattle.seen_laws.specs.InEvent.{now_of}
-use Rattle.std.proofs.Common.{List, None, Some, ap, arith, false, map, refl, subst, sym, true, ℕ, ◌==◌, ◌∙◌, ◌≡◌}
+use Rattle.std.proofs.Common.{List, None, Some, ap, arith, false, map, subst, sym, true, ℕ, ◌==◌, ◌∙◌, ◌≡◌}
 use Rattle.std.proofs.lemmas.Bool.Decides.{nat_tests}
 use Rattle.std.specs.Prelude.{find}
 use Rattle.tab_doors.proofs.Sights.{sight_of}
@@ -27,9 +27,6 @@ use Rattle.tab_passes.specs.Passing.{InPass}
 use Rattle.tab_sweeps.proofs.Founds.{stray_lives}
 use Rattle.tab_sweeps.proofs.Loads.{table_unloaded}
 use Rattle.tab_sweeps.specs.Sweeping.{IsStray}
-use Rattle.log_model.specs.declared.job.Task.TheVariants as tasks
-use Rattle.log_model.specs.declared.job.Why.TheVariants as whys
-use Rattle.log_model.specs.declared.row_kind.RowKind.TheVariants as rows
 
 module _ (p : InPass) {left : List DocId} (out : List RowKind) (t : Tables) (leaving : IsLeaving p None left out t) (doc : DocId) (state : StateId) (stray : IsStray (now_of p.event out) doc state) where
   abbrev s : Seen

@@ -6,8 +6,6 @@ mod plays;
 mod seat;
 mod serving;
 mod stepped;
-#[cfg(test)]
-mod tests;
 mod turn;
 mod view;
 

@@ -8,6 +8,3 @@ mod unload_check;
 
 pub use check::Check;
 pub use unload_check::UnloadCheck;
-
-#[cfg(test)]
-mod tests;

@@ -25,7 +25,7 @@ use Rattle.seen_facts.proofs.Request.Times.{times_none}
 use Rattle.seen_facts.specs.Request.Knowns.{AreKnown}
 use Rattle.seen_facts.specs.Request.Whereabouts.{AreOnce, times, times_at}
 use Rattle.seen_laws.proofs.Sums.{over}
-use Rattle.std.proofs.Common.{Bool, List, Option, Some, [], ap, append-nil, append_assoc, arith, cond, false, inl, inr, not, refl, subst, sym, ℕ, ◌++◌, ◌+◌, ◌<◌, ◌==◌, ◌||◌, ◌∙◌, ◌∷◌, ◌≡◌, ◌⊎◌}
+use Rattle.std.proofs.Common.{Bool, List, Option, Some, [], ap, append-nil, append_assoc, arith, cond, false, inl, inr, not, refl, subst, sym, ℕ, ◌++◌, ◌+◌, ◌<◌, ◌==◌, ◌||◌, ◌∙◌, ◌∷◌, ◌≡◌}
 use Rattle.std.specs.Prelude.{filter, filter_map, option_and_then}
 use Rattle.tab_ids.specs.declared.ProcId.{ProcId}
 use Rattle.tab_ids.specs.declared.ReqId.{ReqId}

@@ -6,13 +6,12 @@ use Rattle.seen_facts.specs.Entry.Entries.{waiting}
 use Rattle.log_model.specs.After.{on_desk, on_document}
 use Rattle.log_model.specs.AfterRequests.{made_of_report}
 use Rattle.log_model.specs.Seen.{Desk, Document, Seen, desk_in, desk_of, document_of}
-use Rattle.log_model.specs.Views.{View}
 use Rattle.log_model.specs.declared.job.Job.{Job}
 use Rattle.log_model.specs.declared.made.Made.{Made}
 use Rattle.tab_facts.proofs.Past.Past.{WasPast}
 use Rattle.seen_laws.proofs.Desks.{desk_on_other, desk_on_same}
 use Rattle.seen_laws.proofs.Keyed.{find_has, find_map, find_on_other, find_on_same}
-use Rattle.std.proofs.Common.{Bool, List, None, Option, Some, ap, false, map, refl, subst, sym, true, ℕ, ◌==◌, ◌∙◌, ◌≡◌, ◌≤◌}
+use Rattle.std.proofs.Common.{Bool, List, None, Option, Some, ap, false, map, refl, subst, sym, true, ℕ, ◌==◌, ◌∙◌, ◌≡◌}
 use Rattle.std.specs.Prelude.{filter_map, find, option_map}
 use Rattle.tab_ids.specs.declared.DocId.{DocId}
 use Rattle.tab_ids.specs.declared.ProcId.{ProcId}

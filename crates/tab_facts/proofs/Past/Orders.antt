@@ -21,14 +21,14 @@ use Rattle.log_model.specs.declared.job.Job.{Job}
 use Rattle.log_model.specs.declared.job.Task.{Task}
 use Rattle.log_model.specs.declared.made.Made.{Made}
 use Rattle.log_model.specs.declared.row_kind.Actor.{Actor}
-use Rattle.tab_facts.proofs.Past.Ones.{IsOneElse, IsOnePast, one_was, other_found, other_was, own_found}
+use Rattle.tab_facts.proofs.Past.Ones.{IsOneElse, one_was, other_found, other_was, own_found}
 use Rattle.tab_facts.proofs.Past.Past.{AllWereLast, WasLast, WasPast, one_past, past_over}
 use Rattle.tab_facts.proofs.Past.Places.{asleep_last, same_last}
 use Rattle.tab_facts.proofs.Past.Rows.{have_places}
 use Rattle.tab_facts.specs.Past.Past.{ArePast}
 use Rattle.seen_laws.proofs.Desks.{desk_on_other, desk_on_same}
 use Rattle.seen_laws.proofs.Keyed.{find_has, find_on_other, find_on_same}
-use Rattle.std.proofs.Common.{Bool, List, None, Option, Some, [], ap, arith, false, inl, inr, length, refl, subst, suc, sym, true, zero, ℕ, ◌+◌, ◌<◌, ◌==◌, ◌∙◌, ◌≡◌, ◌≤◌, ◌⊎◌}
+use Rattle.std.proofs.Common.{Bool, List, None, Option, Some, [], ap, arith, false, inl, inr, length, refl, subst, suc, sym, true, zero, ℕ, ◌<◌, ◌==◌, ◌∙◌, ◌≡◌, ◌≤◌, ◌⊎◌}
 use Rattle.std.proofs.lemmas.Bool.Decides.{nat_tests}
 use Rattle.std.specs.Option.{option_map_or}
 use Rattle.std.specs.Prelude.{option_map, pred}

@@ -1,9 +1,7 @@
 -- Which rows leave of each navigable the document that it was shown last, and its epoch: all but an order that shows one.
 use Rattle.seen_facts.proofs.Desk.Stays.{NoDeath}
-use Rattle.seen_facts.specs.Doc.Docs.{HasPlace}
 use Rattle.seen_facts.proofs.Entry.Parts.{WasPlace, was_place}
 use Rattle.log_model.specs.AfterPlaces.{given_entry, new_place, on_place, place_arrived, places_added, places_applied, places_delivered, places_given, put_to_sleep, with_taker}
-use Rattle.log_model.specs.Equal.{holds}
 use Rattle.log_model.specs.History.{applied, has_nav, has_row}
 use Rattle.log_model.specs.Places.{holder_of}
 use Rattle.log_model.specs.Seen.{Asked, Document, Place, Seen, asleep, document_of, place_in, place_of, request_of}
@@ -14,7 +12,7 @@ use Rattle.log_model.specs.declared.job.Why.{Why}
 use Rattle.log_model.specs.declared.made.Made.{Made}
 use Rattle.log_model.specs.declared.made.Report.{Report}
 use Rattle.tab_facts.proofs.Past.Past.{AllWereLast, WasLast}
-use Rattle.std.proofs.Common.{Bool, List, None, Option, Some, [], ap, cond, false, inl, inr, map, not, refl, sym, true, ◌&&◌, ◌++◌, ◌==◌, ◌∙◌, ◌∷◌, ◌≡◌, ◌⊎◌}
+use Rattle.std.proofs.Common.{Bool, List, None, Option, Some, [], ap, cond, false, map, not, refl, sym, true, ◌&&◌, ◌++◌, ◌==◌, ◌∙◌, ◌∷◌, ◌≡◌}
 use Rattle.std.specs.Option.{option_map_or}
 use Rattle.std.specs.Prelude.{option_and_then}
 use Rattle.tab_ids.specs.declared.EntryId.{EntryId}

@@ -22,7 +22,7 @@ use Rattle.log_model.specs.After.{desk_delivered, desk_finished, desk_taken, des
 use Rattle.log_model.specs.AfterDocuments.{documents_delivered, documents_finished, opening_document, slot_finished, told_after_change, view_finished}
 use Rattle.log_model.specs.AfterPlaces.{opening_place}
 use Rattle.log_model.specs.AfterRequests.{made_of_report, without_req}
-use Rattle.log_model.specs.Seen.{Asked, Desk, Document, Place, Seen, desk_in, desk_of, document_of, nothing}
+use Rattle.log_model.specs.Seen.{Asked, Desk, Document, Place, Seen, desk_of, document_of, nothing}
 use Rattle.log_model.specs.Views.{View, after_made}
 use Rattle.log_model.specs.declared.change.Change.{Change}
 use Rattle.log_model.specs.declared.job.Job.{Job}
@@ -35,8 +35,7 @@ use Rattle.log_model.specs.declared.outcome.Denial.{Denial}
 use Rattle.log_model.specs.declared.outcome.Ending.{Ending}
 use Rattle.log_model.specs.declared.outcome.Outcome.{Outcome}
 use Rattle.log_model.specs.declared.row_kind.Actor.{Actor}
-use Rattle.log_model.specs.declared.row_kind.RowKind.{RowKind}
-use Rattle.tab_facts.proofs.Past.Ones.{IsOnePast, IsPastAlike, alike_was, desk_was, one_was}
+use Rattle.tab_facts.proofs.Past.Ones.{IsPastAlike, alike_was, desk_was, one_was}
 use Rattle.tab_facts.proofs.Past.Past.{AllWereLast, WasPast, past_over}
 use Rattle.tab_facts.proofs.Past.Places.{applied_last, delivered_last, same_last}
 use Rattle.tab_facts.specs.Past.Past.{ArePast}
@@ -48,7 +47,6 @@ use Rattle.std.specs.Prelude.{filter_map, option_map, slice_get}
 use Rattle.tab_ids.specs.declared.DocId.{DocId}
 use Rattle.tab_ids.specs.declared.EntryId.{EntryId}
 use Rattle.tab_ids.specs.declared.Epoch.{Epoch}
-use Rattle.tab_ids.specs.declared.NavId.{NavId}
 use Rattle.tab_ids.specs.declared.ProcId.{ProcId}
 use Rattle.tab_ids.specs.declared.ReqId.{ReqId}
 use Rattle.tab_ids.specs.declared.StateId.{StateId}

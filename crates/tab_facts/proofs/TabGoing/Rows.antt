@@ -24,11 +24,9 @@ use Rattle.tab_facts.proofs.TabGoing.Steps.{steps_still}
 use Rattle.tab_facts.specs.TabGoing.Going.{AreHeldUp, IsGoing, count_of, has_ended, has_spent}
 use Rattle.tab_ids.specs.declared.ReqId.{ReqId}
 use Rattle.tab_facts.specs.TabWhole.Tab.{IsTab}
-use Rattle.log_model.specs.declared.change.Change.TheVariants as changes
 use Rattle.log_model.specs.declared.job.Task.TheVariants as tasks
 use Rattle.log_model.specs.declared.job.Why.TheVariants as whys
 use Rattle.log_model.specs.declared.outcome.Ending.TheVariants as endings
-use Rattle.log_model.specs.declared.request.Request.TheVariants as requests
 use Rattle.log_model.specs.declared.row_kind.RowKind.TheVariants as rows
 
 -- ---- an order leaves how many requests have ended or begun

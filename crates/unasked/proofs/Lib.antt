@@ -1,0 +1,13 @@
+pub mod Lists
+pub mod Readings
+pub mod Whole
+pub mod Rows
+pub mod Sents
+pub mod Ends
+pub mod Questions
+pub mod Events
+pub mod Works
+pub mod Deliveries
+pub mod Passings
+pub mod Sited
+pub mod Beginnings

@@ -1,0 +1,7 @@
+pub mod Base
+pub mod Shows
+pub mod Making
+pub mod Dues
+pub mod Loads
+pub mod Ends
+pub mod Doors
