@@ -6,3 +6,9 @@ pub mod LoadPassed
 pub mod LoadFresh
 pub mod Reordered
 pub mod Unasked
+pub mod Between
+pub mod LoadAccepted
+pub mod Steady
+pub mod GoAccepted
+pub mod InCheck
+pub mod BetweenPassed

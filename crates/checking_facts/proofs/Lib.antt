@@ -1,0 +1,9 @@
+pub mod Grown
+pub mod Rows
+pub mod Entering
+pub mod Cases
+pub mod Numbers
+pub mod Waits
+pub mod Settles
+pub mod Askings
+pub mod Moving
