@@ -187,7 +187,7 @@ finished_reads s (Some order) outcomes.Discarded un = λ r. refl
 
 -- ---- orders of the coordinator
 
-checked_moves : (s : Seen) (job : Job) (task : Task) (q : Asked) → IsNoQuestion task → checked_of (request_served s job task q) ≡ checked_of q
+pub checked_moves : (s : Seen) (job : Job) (task : Task) (q : Asked) → IsNoQuestion task → checked_of (request_served s job task q) ≡ checked_of q
 checked_moves s job (tasks.Activate entry epoch length index memo address) q none =
     by_document (document_of s job.doc) refl
   where

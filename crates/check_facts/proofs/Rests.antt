@@ -9,16 +9,9 @@ use Rattle.seen_laws.proofs.Owings.{pays_append}
 use Rattle.seen_laws.specs.InEvent.{InEvent, IsTakenIn, begins, here_of, row_of, start_of}
 use Rattle.seen_laws.specs.Owing.{Pays}
 use Rattle.std.proofs.Common.{Bool, List, [], ap, append_assoc, false, map, refl, subst, true, ◌++◌, ◌||◌, ◌∙◌, ◌∷◌, ◌≡◌}
+use Rattle.std.proofs.lemmas.Bool.{or_left, or_right}
 use Rattle.std.proofs.lemmas.List.{map-append}
 use Rattle.std.specs.List.{list_any}
-
-or_left : (a b : Bool) → a ≡ true → (a || b) ≡ true
-or_left true b is = refl
-or_left false b is = cc
-
-or_right : (a : Bool) {b : Bool} → b ≡ true → (a || b) ≡ true
-or_right true is = refl
-or_right false is = is
 
 traversed_more : (e : InEvent) (out : List RowKind) (kind : RowKind) → has_traversed e out ≡ true → has_traversed e (out ++ kind ∷ []) ≡ true
 traversed_more e [] kind is = cc
@@ -30,11 +23,11 @@ traversed_more e (k ∷ out) kind is = by_test (is_traverse (row_of e k)) (trave
 
 traversed_last : (e : InEvent) (out : List RowKind) (kind : RowKind) → is_traverse (row_of e kind) ≡ true → has_traversed e (out ++ kind ∷ []) ≡ true
 traversed_last e [] kind is = or_left (is_traverse (row_of e kind)) false is
-traversed_last e (k ∷ out) kind is = or_right (is_traverse (row_of e k)) (traversed_last e out kind is)
+traversed_last e (k ∷ out) kind is = or_right (is_traverse (row_of e k)) (has_traversed e (out ++ kind ∷ [])) (traversed_last e out kind is)
 
 any_last : (test : RowKind → Bool) (out : List RowKind) (kind : RowKind) → test kind ≡ true → list_any test (out ++ kind ∷ []) ≡ true
 any_last test [] kind is = or_left (test kind) false is
-any_last test (k ∷ out) kind is = or_right (test k) (any_last test out kind is)
+any_last test (k ∷ out) kind is = or_right (test k) (list_any test (out ++ kind ∷ [])) (any_last test out kind is)
 
 any_more : (test : RowKind → Bool) (out : List RowKind) (kind : RowKind) → list_any test out ≡ true → list_any test (out ++ kind ∷ []) ≡ true
 any_more test [] kind is = cc

@@ -26,10 +26,11 @@ use Rattle.log_model.specs.After.{after, ended, new_request}
 use Rattle.log_model.specs.AfterDocuments.{applied_to, documents_delivered, documents_finished, slot_finished, task_in_hand, told_after_change}
 use Rattle.log_model.specs.AfterRequests.{entries_taken, is_running, on_asking, on_request, on_served, request_begun, request_served, requests_delivered, requests_finished}
 use Rattle.log_model.specs.Places.{all_asked, is_gone, is_settled_asking}
-use Rattle.log_model.specs.Seen.{Asked, Asking, Document, Seen, desk_of, document_of, request_of}
+use Rattle.log_model.specs.Seen.{Asked, Asking, Document, Seen, desk_of, request_of}
 use Rattle.check_facts.proofs.Gones.{applied_one}
-use Rattle.check_facts.proofs.Keeping.{mapped_same, sent_gone_same}
+use Rattle.check_facts.proofs.Keeping.{checked_moves, mapped_same, sent_gone_same}
 use Rattle.check_facts.proofs.Rows.{sent_same}
+use Rattle.check_facts.specs.Checking.{Checked, as_heard}
 use Rattle.check_facts.specs.Rows.{IsNoAnswerOf, IsNoQuestion, IsServing}
 use Rattle.seen_facts.proofs.Each.Courses.{was_asked}
 use Rattle.seen_facts.proofs.Request.LookUps.{none_before, others_before}
@@ -49,6 +50,11 @@ unsaid asking = record asking { verdict = None }
 -- the questions of a request, so read
 abbrev questions_of : Asked → List Asking
 questions_of q = map unsaid q.asks
+
+-- they are read off what a table of checks reads
+unsaid_heard : (asks : List Asking) → map unsaid (map as_heard asks) ≡ map unsaid asks
+unsaid_heard [] = refl
+unsaid_heard (asking ∷ asks) = ap (λ (l : List Asking). unsaid asking ∷ l) (unsaid_heard asks)
 
 -- what is settled is read off them
 unsaid_settled : (gone : DocId → Bool) (asks : List Asking) → list_all (is_settled_asking gone) (map unsaid asks) ≡ list_all (is_settled_asking gone) asks
@@ -126,18 +132,8 @@ delivered_gone documents (Some (reports.Done job outcome made)) doc is = by_outc
 
 -- an order that is no question
 moves_same : (s : Seen) (job : Job) (task : Task) (q : Asked) → IsNoQuestion task → questions_of (request_served s job task q) ≡ questions_of q
-moves_same s job (tasks.Activate entry epoch length index memo address) q none =
-    by_document (document_of s job.doc) refl
-  where
-    by_document : (o : Option Document) → document_of s job.doc ≡ o → questions_of (request_served s job (tasks.Activate entry epoch length index memo address) q) ≡ questions_of q
-    by_document None e = rw e refl
-    by_document (Some d) e = rw e refl
-moves_same s job tasks.Freeze q none = refl
-moves_same s job tasks.Discard q none = refl
-moves_same s job (tasks.Ask slot cause) q none = absurd none
-moves_same s job (tasks.Populate nav state address initial) q none = refl
-moves_same s job (tasks.Update length index) q none = refl
-moves_same s job (tasks.DoFragment req mode address) q none = refl
+moves_same s job task q none =
+    sym (unsaid_heard (request_served s job task q).asks) ∙ ap (λ (c : Checked). map unsaid c.asks) (checked_moves s job task q none) ∙ unsaid_heard q.asks
 
 -- an order that settles nothing is no question
 no_question : (task : Task) → IsServing task → IsNoQuestion task
