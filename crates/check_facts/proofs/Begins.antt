@@ -26,12 +26,11 @@ use Rattle.unload_check.specs.Checks as table
 use Rattle.unload_check.specs.Checks.{OpenCheck, changed, check_of, is_req}
 use Rattle.unload_check.proofs.Stays.{others_changed}
 use Rattle.seen_laws.specs.Blocks.{EachPass, point_at}
-use Rattle.seen_laws.specs.InEvent.{InEvent, now_of, row_of, start_of}
-use Rattle.seen_laws.proofs.InEvents.{now_own}
+use Rattle.seen_laws.specs.InEvent.{InEvent, log_of, row_of, start_of}
 use Rattle.row_facts.specs.FrameRows.Lawful.{IsRestOf}
 use Rattle.check_facts.specs.Checking.{AnswerIs, AreOneEach, AreTiedAt, heard, is_checking, is_said, open_check}
 use Rattle.check_facts.specs.Having.{HasChecks}
-use Rattle.check_facts.specs.Prompting.{AgreesNow, AreAsking, DropsNone, HaveNumbers, IsAskDue, KeepsQuestions, NothingElseDue, had_settled, has_settled, is_asked, none_ran, prompt_of, todo_of}
+use Rattle.check_facts.specs.Prompting.{AgreesNow, AreAsking, DropsNone, IsAskDue, KeepsQuestions, NothingElseDue, had_settled, has_settled, is_asked, none_ran, prompt_of, todo_of}
 use Rattle.std.specs.Prelude.{option_and_then, option_map}
 use Rattle.log_model.specs.Checks.{due_prompt}
 use Rattle.check_facts.proofs.Carried.{settles_due, stay_own}
@@ -59,9 +58,9 @@ begins e es has keeps drops passes =
 
 -- ---- an answer
 
-module _ (header : Header) (s : Seen) (event : ℕ) (actor : Actor) (proc : ProcId) (job : Job) (verdict : Verdict) (made : Option Made) (first : slice_get (desk_of s proc).reports 0 ≡ Some (reports.Done job (outcomes.Asked verdict) made)) (r : ReqId) (why : job.why ≡ whys.Req r) (es : List (ReqId × OpenCheck)) (has : HasChecks s es) (q : Asked) (found : request_of s r ≡ Some q) (checking : is_checking s q ≡ true) (open_ : all_asked s q ≡ false) (one : AreOneEach job.nr job.doc q.asks) (says : AnswerIs job.nr verdict q.asks) where
+module _ (header : Header) (s : Seen) (event : ℕ) (actor : Actor) (in_check : ReqId → Bool) (proc : ProcId) (job : Job) (verdict : Verdict) (made : Option Made) (first : slice_get (desk_of s proc).reports 0 ≡ Some (reports.Done job (outcomes.Asked verdict) made)) (r : ReqId) (why : job.why ≡ whys.Req r) (es : List (ReqId × OpenCheck)) (has : HasChecks s es) (q : Asked) (found : request_of s r ≡ Some q) (checking : is_checking s q ≡ true) (open_ : all_asked s q ≡ false) (one : AreOneEach job.nr job.doc q.asks) (says : AnswerIs job.nr verdict q.asks) where
   abbrev pub e : InEvent
-  e = record { header = header; start = s; event = event; actor = actor; own = rows.Delivered proc }
+  e = record { header = header; start = s; event = event; actor = actor; own = rows.Delivered proc; checking = in_check }
 
   -- the log and the table once both have the answer, and the request then
   abbrev pub next : Seen
@@ -94,12 +93,12 @@ module _ (header : Header) (s : Seen) (event : ℕ) (actor : Actor) (proc : Proc
   -- from then on the table notes what is due
   pub answer_begins : OwnPasses e → AreAsking e (todo_of told) (λ req. is_req req r) []
   answer_begins passes =
-      asking_noted e (todo_of es) none_ran (todo_of told) (λ req. is_req req r) [] (subst HaveNumbers (sym (now_own e)) (heard_numbers s event actor proc job verdict made first r why has.numbered)) (answer_notes s (now_of e []) es told r (others_changed r (table.after_answer job.doc verdict) es) unnoted) (begins e es has (heard_keeps s event actor proc job verdict made first r why) (heard_drops s event actor proc job verdict made first r why) passes)
+      asking_noted e (todo_of es) none_ran (todo_of told) (λ req. is_req req r) [] (heard_numbers s event actor proc job verdict made first r why has.numbered) (answer_notes s (log_of e []) es told r (others_changed r (table.after_answer job.doc verdict) es) unnoted) (begins e es has (heard_keeps s event actor proc job verdict made first r why) (heard_drops s event actor proc job verdict made first r why) passes)
 
   -- where another question is open still, it notes what it did
   pub answer_begins_open : all_asked next then ≡ false → OwnPasses e → AreAsking e (todo_of told) none_ran []
   answer_begins_open still passes =
-      asking_noted e (todo_of es) none_ran (todo_of told) none_ran [] (subst HaveNumbers (sym (now_own e)) (heard_numbers s event actor proc job verdict made first r why has.numbered)) (notes_same s (now_of e []) (todo_of es) (todo_of told) none_ran (λ req. by_number req (is_req req r) refl)) (begins e es has (heard_keeps s event actor proc job verdict made first r why) (heard_drops s event actor proc job verdict made first r why) passes)
+      asking_noted e (todo_of es) none_ran (todo_of told) none_ran [] (heard_numbers s event actor proc job verdict made first r why has.numbered) (notes_same s (log_of e []) (todo_of es) (todo_of told) none_ran (λ req. by_number req (is_req req r) refl)) (begins e es has (heard_keeps s event actor proc job verdict made first r why) (heard_drops s event actor proc job verdict made first r why) passes)
     where
       by_number : (req : ReqId) (b : Bool) → is_req req r ≡ b → todo_of told req ≡ todo_of es req
       by_number req false is =

@@ -15,7 +15,7 @@ use Rattle.unload_check.specs.declared.check.Check.{Check}
 use Rattle.unload_check.specs.declared.check.Check.TheVariants as checks
 use Rattle.unload_check.specs.Checks.{OpenCheck, outcome_at}
 use Rattle.seen_laws.specs.Blocks.{MayLog}
-use Rattle.seen_laws.specs.InEvent.{InEvent, row_of, start_of, now_of}
+use Rattle.seen_laws.specs.InEvent.{InEvent, row_of, start_of, log_of}
 use Rattle.row_facts.specs.FrameRows.Lawful.{IsRestOf}
 
 -- ---- which requests are settled in the event
@@ -133,8 +133,8 @@ todo_of table req = option_and_then prompt_of (outcome_at req table)
 -- what the event's rows so far ask of what comes later in it, prompts among it
 pub record IsRestAsking (e : InEvent) (todo : ReqId → Option DocId) (ran : ReqId → Bool) (out : List RowKind) (later : List LogRow) : Type 0 where
   pub rest : IsRestOf e out later
-  pub prompts : PromptsCome e.start todo (now_of e out) later
-  pub agrees : Agrees todo ran (now_of e out) later
+  pub prompts : PromptsCome e.start todo (log_of e out) later
+  pub agrees : Agrees todo ran (log_of e out) later
 
 -- the own row and those put out so far pass each test, whatever comes later, if that prompts as it is due
 unfoldable pub AreAsking : InEvent → (ReqId → Option DocId) → (ReqId → Bool) → List RowKind → Type 0

@@ -1,4 +1,5 @@
 -- A document makes something of the first poke of its process, or the process refuses that: the coordinator has acted, which does nothing itself.
+use Rattle.coord.proofs.Asides.{made_plain, refused_plain}
 use Rattle.coord.specs.Standing.{HasActed, IsOpenTo}
 use Rattle.coord.specs.declared.coordinator.Coordinator.{Coordinator}
 use Rattle.coord.proofs.Idle.{alone_acts}
@@ -21,17 +22,17 @@ module _ (e : InEvent) (c : Coordinator) (open_ : IsOpenTo e c) (proc : ProcId) 
   module _ (d : Document) (view : View) (found : document_of e.start poke.doc ≡ Some d) (has : d.view ≡ Some view) (runs : view.running ≡ true) where
     pub made_acts : (what : What) → made_by view poke.action ≡ Some what → e.own ≡ rows.Made proc (made_for view poke.req what) → HasActed e [] c
     made_acts what makes own =
-        alone_acts e c open_ (rows.Made proc (made_for view poke.req what)) own tt tt
+        alone_acts e c open_ (rows.Made proc (made_for view poke.req what)) own (made_plain e c open_ proc (made_for view poke.req what) event own) tt tt
         (acts.made_acts e c.tables c.queue c.blame.entries open_.stands.stands open_.room proc poke first d view found has runs what makes by event own)
 
     -- the address is none for it
     pub no_address_acts : made_by view poke.action ≡ None → e.own ≡ rows.Refused poke.req denials.BadAddress → HasActed e [] c
     no_address_acts none own =
-        alone_acts e c open_ (rows.Refused poke.req denials.BadAddress) own tt tt
+        alone_acts e c open_ (rows.Refused poke.req denials.BadAddress) own (refused_plain e c open_ poke.req denials.BadAddress own) tt tt
         (acts.refused_acts e c.tables c.queue c.blame.entries open_.stands.stands open_.room proc poke first denials.BadAddress by event own (acts.no_address_passes e c.tables c.queue c.blame.entries open_.stands.stands open_.room proc poke first d view found has runs none))
 
   -- the poked document is gone, or doesn't run
   pub no_document_acts : is_running e.start poke.doc ≡ false → e.own ≡ rows.Refused poke.req denials.NoDocument → HasActed e [] c
   no_document_acts stopped own =
-      alone_acts e c open_ (rows.Refused poke.req denials.NoDocument) own tt tt
+      alone_acts e c open_ (rows.Refused poke.req denials.NoDocument) own (refused_plain e c open_ poke.req denials.NoDocument own) tt tt
       (acts.refused_acts e c.tables c.queue c.blame.entries open_.stands.stands open_.room proc poke first denials.NoDocument by event own (acts.no_document_passes e c.tables c.queue c.blame.entries open_.stands.stands open_.room proc poke first stopped))

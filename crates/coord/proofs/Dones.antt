@@ -1,7 +1,8 @@
 -- An order was done of which nothing was made, and which made no document: the tab may be brought to rest.
+use Rattle.coord.proofs.Asides.{delivered_aside}
 use Rattle.coord.proofs.Causes.{for_none}
 use Rattle.coord.specs.Delivering.{InDone, IsDone}
-use Rattle.coord.specs.Standing.{IsOpenTo, IsToSettle}
+use Rattle.coord.specs.Standing.{IsOpenTo, IsToSettle, nobody}
 use Rattle.coord.specs.declared.coordinator.Coordinator.{Coordinator}
 use Rattle.seen_facts.proofs.Each.Eaches.{each_first}
 use Rattle.log_model.specs.Seen.{desk_of}
@@ -25,7 +26,7 @@ use Rattle.tab_stands.proofs.Ready.{ready}
 use Rattle.tab_stands.proofs.Shown.{nav_there, shown_begun}
 use Rattle.tab_stands.specs.Delivering.{IsQuietTask, IsShowTask}
 use Rattle.tab_stands.specs.PassedOn.{IsSoundTask, MayCause}
-use Rattle.tab_stands.specs.Standing.{HasBegun, IsTakenUp}
+use Rattle.tab_stands.specs.Standing.{HasBegun, IsTakenUp, StartsUnasked}
 use Rattle.log_model.specs.declared.job.Task.TheVariants as tasks
 use Rattle.log_model.specs.declared.job.Why.TheVariants as whys
 use Rattle.log_model.specs.declared.made.Report.TheVariants as reports
@@ -38,10 +39,11 @@ pub keep_now : (e : InEvent) (c : Coordinator) → IsOpenTo e c → c.tables.kep
 keep_now e c open_ = open_.stands.keep ∙ ap (λ (h : Header). h.keep) open_.header
 
 -- where an event has begun, and what it delivers is taken up, the tab may be brought to rest
-pub to_settle : (e : InEvent) (c : Coordinator) → c.header ≡ e.header → HasBegun (pass_of e) c.tables c.queue c.blame.entries → (cause : Why) → MayCause (now_of e []) cause → IsTakenUp e [] → AreFoundRunning (now_of e []) → AreTelling (now_of e []) → IsToSettle e [] c cause
-to_settle e c header begun cause may taken found telling =
+pub to_settle : (e : InEvent) (c : Coordinator) → c.header ≡ e.header → e.checking ≡ nobody → HasBegun (pass_of e) c.tables c.queue c.blame.entries → (cause : Why) → MayCause (now_of e []) cause → IsTakenUp e [] → AreFoundRunning (now_of e []) → AreTelling (now_of e []) → IsToSettle e [] c cause
+to_settle e c header unchecked begun cause may taken found telling =
     record {
       header = header;
+      unchecked = unchecked;
       ready = ready (pass_of e) c.tables c.queue c.blame.entries begun refl cause may;
       makes = begun.makes;
       sound = begun.sound;
@@ -57,9 +59,12 @@ module _ (d : InDone) (c : Coordinator) (job : Job) (done : IsDone d c job) wher
   abbrev e : InEvent
   e = d.event
 
+  pub done_aside : StartsUnasked d.event
+  done_aside = delivered_aside e c done.open_ d.proc (reports.Done job d.outcome None) done.delivery
+
   pub done_taken : IsTakenUp d.event []
   done_taken later =
-      did_takes e d.proc job d.outcome done.delivery c.tables c.queue c.blame.entries done.open_.stands.stands later
+      did_takes e d.proc job d.outcome done.delivery c.tables c.queue c.blame.entries done.open_.stands.stands done_aside later
 
   -- what is so of fragment orders, and of reports of them
   pub done_found : AreFoundRunning (now_of d.event [])
@@ -70,16 +75,16 @@ module _ (d : InDone) (c : Coordinator) (job : Job) (done : IsDone d c job) wher
 
   pub quiet_settles : IsQuietTask job.task → IsToSettle d.event [] c whys.Start
   quiet_settles quiet =
-      to_settle e c done.open_.header (quiet_begun e d.proc job d.outcome done.delivery c.tables c.queue c.blame.entries done.open_.stands.stands quiet done.open_.room (keep_now e c done.open_)) whys.Start (for_none (now_of e [])) done_taken done_found done_telling
+      to_settle e c done.open_.header done.open_.unchecked (quiet_begun e d.proc job d.outcome done.delivery c.tables c.queue c.blame.entries done.open_.stands.stands done_aside quiet done.open_.room (keep_now e c done.open_)) whys.Start (for_none (now_of e [])) done_taken done_found done_telling
 
   -- its document's navigable is there
   pub shown_there : (nav : NavId) → nav_in c.tables.whose.entries job.doc ≡ Some nav → IsSome (node_of nav c.tables.tree)
   shown_there =
-      nav_there e d.proc job d.outcome done.delivery c.tables c.queue c.blame.entries done.open_.stands.stands
+      nav_there e d.proc job d.outcome done.delivery c.tables c.queue c.blame.entries done.open_.stands.stands done_aside
 
   pub shown_settles : IsShowTask job.task → (u : Tables) → u ≡ record c.tables { tree = shown_tree c.tables job.doc job.nr } → IsToSettle d.event [] (record c { tables = u }) whys.Start
   shown_settles shows u is =
-      to_settle e (record c { tables = u }) done.open_.header (shown_begun e d.proc job d.outcome done.delivery c.tables c.queue c.blame.entries done.open_.stands.stands shows done.open_.room (keep_now e c done.open_) u is) whys.Start (for_none (now_of e [])) done_taken done_found done_telling
+      to_settle e (record c { tables = u }) done.open_.header done.open_.unchecked (shown_begun e d.proc job d.outcome done.delivery c.tables c.queue c.blame.entries done.open_.stands.stands done_aside shows done.open_.room (keep_now e c done.open_) u is) whys.Start (for_none (now_of e [])) done_taken done_found done_telling
 
   -- no order asks anybody
   pub no_ask : (slot : ℕ) (cause : LeaveCause) → job.task ≡ tasks.Ask slot cause → ⊥

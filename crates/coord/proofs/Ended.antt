@@ -1,5 +1,10 @@
 -- The tab has come to rest, and the event ends.
-use Rattle.coord.specs.Standing.{HasActed, IsToSettle}
+use Rattle.tab_ids.specs.declared.ReqId.{ReqId}
+use Rattle.tab_facts.specs.Running.Telling.{AreTelling}
+use Rattle.tab_facts.specs.Running.Running.{AreFoundRunning}
+use Rattle.log_model.specs.Seen.{Seen}
+use Rattle.seen_laws.specs.Unasked.{unasked}
+use Rattle.coord.specs.Standing.{ChangesLeaveOff, HasActed, IsToSettle}
 use Rattle.coord.specs.declared.coordinator.Coordinator.{Coordinator}
 use Rattle.seen_facts.specs.Hang.Members.{Has}
 use Rattle.log_model.specs.declared.header.Header.{Header}
@@ -7,8 +12,8 @@ use Rattle.log_model.specs.declared.job.Why.{Why}
 use Rattle.log_model.specs.declared.row_kind.LogRow.{LogRow}
 use Rattle.log_model.specs.declared.row_kind.RowKind.{RowKind}
 use Rattle.tab_facts.specs.Order.Orders.{IsOfCoord}
-use Rattle.seen_laws.specs.InEvent.{InEvent, IsTakenIn, now_of, row_of}
-use Rattle.std.proofs.Common.{List, ap, inl, inr, map, refl, subst, sym, ◌∙◌, ◌≡◌, ◌⊎◌}
+use Rattle.seen_laws.specs.InEvent.{InEvent, IsTakenIn, log_of, now_of, row_of}
+use Rattle.std.proofs.Common.{Bool, List, ap, inl, inr, map, refl, subst, sym, ◌∙◌, ◌≡◌, ◌⊎◌}
 use Rattle.std.proofs.lemmas.List.{map-append}
 use Rattle.tab_loads.specs.Loading.{pass_of}
 use Rattle.tab_stands.proofs.Ended.{acted}
@@ -38,12 +43,18 @@ settled_acts e was out c after cause last to header at due put left =
       stands = record {
         stands = all.stands;
         keep = at.header ∙ ap (λ (h : Header). h.keep) (sym (header ∙ to.header));
-        found = put_found e was out put at.passing.going.tab.whose.numbered to.ready.passing.going.tab.desks to.found;
-        telling = put_telling e was out put to.telling;
+        plain =
+            ap (λ (checking : ReqId → Bool). unasked checking (log_of e out)) (sym to.unchecked)
+            ∙ sym at.passing.work.same
+            ∙ sym at.passing.work.plain;
+        found =
+            subst AreFoundRunning (sym at.passing.work.plain)
+            (put_found e was out put at.passing.going.tab.whose.numbered to.ready.passing.going.tab.desks to.found);
+        telling = subst AreTelling (sym at.passing.work.plain) (put_telling e was out put to.telling);
       };
       header = header ∙ to.header;
       passes = all.passes;
-      off = leaves_unsettled e was out left to.unmoved;
+      off = subst (λ (x : Seen). ChangesLeaveOff x out) (sym at.passing.work.plain) (leaves_unsettled e was out left to.unmoved);
     }
   where
     all : tab.HasActed e out after.tables after.queue after.blame.entries

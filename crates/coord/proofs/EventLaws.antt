@@ -25,9 +25,9 @@ use Rattle.log_model.proofs.Laws.{seen_of_append}
 use Rattle.log_model.proofs.LegalLaws.{legal_more}
 use Rattle.log_model.proofs.Refl.{same_actor_refl}
 use Rattle.seen_laws.specs.Blocks.{Here, Passes, EachPass, point_at, on_row}
-use Rattle.seen_laws.specs.InEvent.{InEvent, row_of, start_of, now_of}
+use Rattle.seen_laws.specs.InEvent.{InEvent, row_of, start_of, log_of}
 use Rattle.seen_laws.proofs.Sendings.{both}
-use Rattle.seen_laws.proofs.InEvents.{now_fold}
+use Rattle.seen_laws.proofs.InEvents.{log_fold}
 use Rattle.tab_facts.proofs.TabEvents.Settled.{between_settled}
 use Rattle.seen_facts.proofs.LoadEnds.Ends.{loads_end_more}
 use Rattle.seen_facts.specs.LoadEnds.Standing.{AreUnsettled, LoadsStand}
@@ -83,8 +83,8 @@ module _ (e : InEvent) (log : List LogRow) (old : Coordinator) (keeps : Keeps e.
   pass test one =
       subst (λ (s : Seen). each_row test s (row_of e e.own ∷ rows_) ≡ true) follows.start (passes_one test e.header one (start_of e) refl (row_of e e.own ∷ rows_) acted.passes)
 
-  comes : fold after (seen_of log) (row_of e e.own ∷ rows_) ≡ now_of e out
-  comes = sym (now_fold e out ∙ ap (λ (s : Seen). fold after s (row_of e e.own ∷ rows_)) follows.start)
+  comes : fold after (seen_of log) (row_of e e.own ∷ rows_) ≡ log_of e out
+  comes = sym (log_fold e out ∙ ap (λ (s : Seen). fold after s (row_of e e.own ∷ rows_)) follows.start)
 
   number : have_number (seen_of log).events (row_of e e.own ∷ rows_) ≡ true
   number = have_it e (seen_of log).events follows.event (e.own ∷ out)
@@ -100,12 +100,12 @@ module _ (e : InEvent) (log : List LogRow) (old : Coordinator) (keeps : Keeps e.
         queued = pass is_queued_row (λ p row passes. passes.queued);
         ordered = pass is_ordered_row (λ p row passes. passes.ordered);
         checked = pass is_checked_row (λ p row passes. passes.checked);
-        settled = ap is_settled_if_quiet comes ∙ stands_settled (now_of e out) new acted.stands;
+        settled = ap is_settled_if_quiet comes ∙ stands_settled (log_of e out) new acted.stands;
       }
 
-  few : keeps_few e.header (now_of e out) ≡ true
+  few : keeps_few e.header (log_of e out) ≡ true
   few =
-      let low : length (now_of e out).kept ≤ e.header.keep = subst (λ (k : ℕ). length (now_of e out).kept ≤ k) (acted.stands.keep ∙ ap (λ (h : Header). h.keep) acted.header) acted.stands.stands.between.few in grind (arith, nat_tests, low)
+      let low : length (log_of e out).kept ≤ e.header.keep = subst (λ (k : ℕ). length (log_of e out).kept ≤ k) (acted.stands.keep ∙ ap (λ (h : Header). h.keep) acted.header) acted.stands.stands.between.few in grind (arith, nat_tests, low)
 
   -- loads end in time still, as each navigable that its rows reload, or give a load's new document, doesn't stand as it ends
   pub event_in_time : LoadsEndInTime (log ++ row_of e e.own ∷ rows_)
@@ -116,11 +116,11 @@ module _ (e : InEvent) (log : List LogRow) (old : Coordinator) (keeps : Keeps e.
   pub event_keeps : Keeps e.header (log ++ row_of e e.own ∷ rows_) new
   unfolding goes_in_time
   event_keeps =
-      let led : seen_of (log ++ row_of e e.own ∷ rows_) ≡ now_of e out = seen_of_append log (row_of e e.own ∷ rows_) ∙ comes in
+      let led : seen_of (log ++ row_of e e.own ∷ rows_) ≡ log_of e out = seen_of_append log (row_of e e.own ∷ rows_) ∙ comes in
       record {
         some = subst (λ (s : Seen). 0 < s.events) (sym (seen_of_append log (row_of e e.own ∷ rows_))) (events_some (seen_of log) (row_of e e.own ∷ rows_) keeps.some);
         legal = legal_more log (row_of e e.own) rows_ keeps.some keeps.legal legal_event;
-        at_once = at_once_more log (row_of e e.own) rows_ keeps.some number keeps.at_once (ap ends_told comes ∙ stands_told (now_of e out) new acted.stands) (ap ends_stepped comes ∙ stands_stepped (now_of e out) new acted.stands) (pass is_row_in_time (λ p row passes. passes.in_time));
+        at_once = at_once_more log (row_of e e.own) rows_ keeps.some number keeps.at_once (ap ends_told comes ∙ stands_told (log_of e out) new acted.stands) (ap ends_stepped comes ∙ stands_stepped (log_of e out) new acted.stands) (pass is_row_in_time (λ p row passes. passes.in_time));
         loads_end = event_in_time;
         suits = λ opened. suits_more e.header log (row_of e e.own) rows_ keeps.some number (keeps.suits (opened_before e.header log (row_of e e.own ∷ rows_) keeps.some opened)) (pass (is_suitable_row e.header) (λ p row passes. passes.suits)) (ap (keeps_few e.header) comes ∙ few);
         stands = subst (λ (s : Seen). StandsFor s new) (sym led) acted.stands;

@@ -1,4 +1,6 @@
 -- The document that is kept longest was discarded as the user evicts it, with those below it: the tab may be brought to rest.
+use Rattle.tab_stands.specs.Standing.{StartsUnasked}
+use Rattle.coord.proofs.Asides.{evicted_aside}
 use Rattle.coord.proofs.Fines.{IsFine, fine_discard, fine_moves, makes_over, sound_over}
 use Rattle.coord.specs.Evicting.{longest_in}
 use Rattle.coord.specs.Standing.{IsOpenTo, IsToSettle, StandsFor}
@@ -9,7 +11,7 @@ use Rattle.log_model.specs.Seen.{Seen, desk_of}
 use Rattle.log_model.specs.declared.row_kind.RowKind.{RowKind}
 use Rattle.move_queue.specs.Queue.{Queue}
 use Rattle.page_cache.specs.Kept.{oldest_of}
-use Rattle.seen_laws.specs.InEvent.{InEvent, now_of, row_of}
+use Rattle.seen_laws.specs.InEvent.{InEvent, log_of, now_of, row_of}
 use Rattle.seen_laws.specs.Sending.{leads}
 use Rattle.std.proofs.Common.{List, [], ap, map, subst, sym, true, ◌++◌, ◌∙◌, ◌≡◌}
 use Rattle.std.specs.Prelude.{slice_get}
@@ -38,7 +40,6 @@ use Rattle.log_model.specs.declared.job.Task.{Task}
 use Rattle.tab_facts.proofs.Running.Tells.{telling_over}
 use Rattle.tab_facts.specs.Running.Running.{AreFoundRunning}
 use Rattle.tab_facts.specs.Running.Telling.{AreTelling}
-use Rattle.seen_laws.proofs.InEvents.{now_own}
 
 -- what is kept longest by the tables is so in the log
 pub longest_is : (s : Seen) (c : Coordinator) → StandsFor s c → oldest_of c.tables.kept.states ≡ longest_in s
@@ -48,11 +49,14 @@ module _ (e : InEvent) (state : StateId) (c : Coordinator) (open_ : IsOpenTo e c
   abbrev stands : tab.StandsFor e.start c.tables c.queue c.blame.entries
   stands = open_.stands.stands
 
+  pub aside : StartsUnasked e
+  aside = evicted_aside e c open_ state asks.own
+
   leads_own : leads e.own ≡ true
   leads_own = ap (λ (k : RowKind). leads k) asks.own
 
   comes : IsComing c.blame.entries e.start (now_of e [])
-  comes = comes_own e state asks c.tables c.queue c.blame.entries stands
+  comes = comes_own e state asks c.tables c.queue c.blame.entries stands aside
 
   -- no report is taken
   alive : (proc : ProcId) → e.own ≡ rows.Delivered proc → NoDeath (slice_get (desk_of e.start proc).reports 0)
@@ -68,13 +72,13 @@ module _ (e : InEvent) (state : StateId) (c : Coordinator) (open_ : IsOpenTo e c
 
     makes : MakesServe (now_of e out)
     makes =
-        makes_over e u.running out whys.Evict ready.passing.going.tab.asked ready.open_.may fine (makes_first e leads_own comes.serves stands.lasts.makes)
+        makes_over e u.running out whys.Evict ready.passing.going.tab.asked ready.open_.may fine (makes_first e aside leads_own comes.serves stands.lasts.makes)
 
     sound : OrdersAreSound (now_of e out)
     sound =
-        sound_over e u.running out whys.Evict ready.passing.going.tab.asked ready.open_.may fine (sound_first e leads_own (keeps_coming c.blame.entries e.start (now_of e []) comes) stands.lasts.sound)
+        sound_over e u.running out whys.Evict ready.passing.going.tab.asked ready.open_.may fine (sound_first e aside leads_own (keeps_coming c.blame.entries e.start (now_of e []) comes) stands.lasts.sound)
 
-    shows : AreShownUnder (now_of e [])
+    shows : AreShownUnder (log_of e [])
     shows = own_under e leads_own alive stands.lasts.shows
 
     -- no document is sent to a fragment
@@ -89,19 +93,20 @@ module _ (e : InEvent) (state : StateId) (c : Coordinator) (open_ : IsOpenTo e c
 
     desks : AreDesksIn (now_of e [])
     desks =
-        subst AreDesksIn (sym (now_own e ∙ ap (λ (k : RowKind). next e.start e.event e.actor k) asks.own)) (evicted_desks e.start e.event e.actor stands.between.tab.desks state)
+        subst AreDesksIn (sym (sym aside.plain ∙ ap (λ (k : RowKind). next e.start e.event e.actor k) asks.own)) (evicted_desks e.start e.event e.actor stands.between.tab.desks state)
 
     found : AreFoundRunning (now_of e out)
     found =
-        plain_found e out [] (λ row has. (fine row has).coord) sends_none ready.passing.going.tab.whose.numbered desks (own_found e leads_own alive open_.stands.found)
+        plain_found e out [] (λ row has. (fine row has).coord) sends_none ready.passing.going.tab.whose.numbered desks (own_found e leads_own aside alive open_.stands.found)
 
     telling : AreTelling (now_of e out)
-    telling = telling_over e out [] (λ row has. (fine row has).coord) (own_telling e leads_own open_.stands.telling)
+    telling = telling_over e out [] (λ row has. (fine row has).coord) (own_telling e leads_own aside open_.stands.telling)
 
     pub evicted_settles : (after : Coordinator) → after.header ≡ c.header → after.tables ≡ u → after.queue ≡ c.queue → after.blame.entries ≡ c.blame.entries → IsToSettle e out after whys.Evict
     evicted_settles after header tables queue noted =
         record {
           header = header ∙ open_.header;
+          unchecked = open_.unchecked;
           ready =
               subst (λ (l : List (StateId × ReqId)). IsReady (pass_of e) out after.tables after.queue l whys.Evict) (sym noted)
               (subst (λ (q : Queue). IsReady (pass_of e) out after.tables q c.blame.entries whys.Evict) (sym queue)

@@ -1,4 +1,6 @@
 -- Fragment orders find their documents running, and reports of them tell of what was made: as an event's own row is logged, and over rows that a coordinator puts out.
+use Rattle.tab_stands.specs.Standing.{StartsUnasked}
+use Rattle.coord.proofs.Asides.{accepted_aside, delivered_aside}
 use Rattle.coord.proofs.News.{is_quiet}
 use Rattle.coord.specs.Standing.{IsOpenTo}
 use Rattle.coord.specs.declared.coordinator.Coordinator.{Coordinator}
@@ -19,7 +21,6 @@ use Rattle.tab_facts.proofs.Running.Tells.{telling_after, telling_over}
 use Rattle.tab_facts.specs.Running.Fitting.{IsFittingRow}
 use Rattle.tab_facts.specs.Running.Running.{AreFoundRunning}
 use Rattle.tab_facts.specs.Running.Telling.{AreTelling, EndsNoFragment}
-use Rattle.seen_laws.proofs.InEvents.{now_own}
 use Rattle.seen_laws.specs.InEvent.{InEvent, now_of}
 use Rattle.seen_laws.specs.Sending.{leads}
 use Rattle.std.proofs.Common.{List, Option, [], ap, false, refl, subst, sym, true, ◌++◌, ◌∙◌, ◌≡◌}
@@ -49,15 +50,15 @@ own_ends s (rows.Evicted state) led = tt
 own_ends s (rows.Delivered proc) led = tt
 own_ends s _ led = absurd (let never : false ≡ true = led in cc)
 
-module _ (e : InEvent) (led : leads e.own ≡ true) where
+module _ (e : InEvent) (led : leads e.own ≡ true) (aside : StartsUnasked e) where
   -- where it tells of no death
   pub own_found : ((proc : ProcId) → e.own ≡ rows.Delivered proc → NoDeath (slice_get (desk_of e.start proc).reports 0)) → AreFoundRunning e.start → AreFoundRunning (now_of e [])
   own_found alive found =
-      subst AreFoundRunning (sym (now_own e)) (running_after e.start e.event e.actor found e.own (own_fits e.start e.own led alive))
+      subst AreFoundRunning aside.plain (running_after e.start e.event e.actor found e.own (own_fits e.start e.own led alive))
 
   pub own_telling : AreTelling e.start → AreTelling (now_of e [])
   own_telling telling =
-      subst AreTelling (sym (now_own e)) (telling_after e.start e.event e.actor telling e.own (own_ends e.start e.own led))
+      subst AreTelling aside.plain (telling_after e.start e.event e.actor telling e.own (own_ends e.start e.own led))
 
 -- a request was accepted
 module _ (e : InEvent) (c : Coordinator) (open_ : IsOpenTo e c) (req : ReqId) (doc : Option DocId) (what : Request) (own : e.own ≡ rows.Accepted req doc what) where
@@ -66,10 +67,10 @@ module _ (e : InEvent) (c : Coordinator) (open_ : IsOpenTo e c) (req : ReqId) (d
 
   pub accepted_found : AreFoundRunning (now_of e [])
   accepted_found =
-      own_found e led_here (λ proc is. (let never : rows.Accepted req doc what ≡ rows.Delivered proc = sym own ∙ is in absurd cc)) open_.stands.found
+      own_found e led_here (accepted_aside e c open_ req doc what own) (λ proc is. (let never : rows.Accepted req doc what ≡ rows.Delivered proc = sym own ∙ is in absurd cc)) open_.stands.found
 
   pub accepted_telling : AreTelling (now_of e [])
-  accepted_telling = own_telling e led_here open_.stands.telling
+  accepted_telling = own_telling e led_here (accepted_aside e c open_ req doc what own) open_.stands.telling
 
 -- a report was taken
 module _ (e : InEvent) (proc : ProcId) (report : Report) (delivery : IsDelivery e proc report) (c : Coordinator) (open_ : IsOpenTo e c) where
@@ -78,7 +79,7 @@ module _ (e : InEvent) (proc : ProcId) (report : Report) (delivery : IsDelivery 
 
   fine : NoDeath (slice_get (desk_of e.start proc).reports 0)
   fine =
-      told_fine e proc delivery.by_coord delivery.own c.tables c.queue c.blame.entries open_.stands.stands report delivery.first
+      told_fine e proc delivery.by_coord delivery.own c.tables c.queue c.blame.entries open_.stands.stands (delivered_aside e c open_ proc report delivery) report delivery.first
 
   alive : (p : ProcId) → e.own ≡ rows.Delivered p → NoDeath (slice_get (desk_of e.start p).reports 0)
   alive p is =
@@ -87,10 +88,10 @@ module _ (e : InEvent) (proc : ProcId) (report : Report) (delivery : IsDelivery 
       subst (λ (q : ProcId). NoDeath (slice_get (desk_of e.start q).reports 0)) one fine
 
   pub delivered_found : AreFoundRunning (now_of e [])
-  delivered_found = own_found e led_so alive open_.stands.found
+  delivered_found = own_found e led_so (delivered_aside e c open_ proc report delivery) alive open_.stands.found
 
   pub delivered_telling : AreTelling (now_of e [])
-  delivered_telling = own_telling e led_so open_.stands.telling
+  delivered_telling = own_telling e led_so (delivered_aside e c open_ proc report delivery) open_.stands.telling
 
 -- ---- rows that are put out, of which none sends a document to a fragment
 

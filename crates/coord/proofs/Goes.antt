@@ -1,4 +1,6 @@
 -- A traversal was accepted: it has joined the queue, and the tab may be brought to rest.
+use Rattle.tab_stands.specs.Standing.{StartsUnasked}
+use Rattle.coord.proofs.Asides.{accepted_aside}
 use Rattle.coord.specs.Standing.{IsAsk, IsOpenTo, IsToSettle}
 use Rattle.coord.specs.declared.ask.Ask.TheVariants as asks
 use Rattle.coord.specs.declared.coordinator.Coordinator.{Coordinator}
@@ -16,9 +18,12 @@ use Rattle.log_model.specs.declared.request.Request.TheVariants as requests
 use Rattle.coord.proofs.Fragments.{accepted_found, accepted_telling}
 
 module _ (e : InEvent) (c : Coordinator) (open_ : IsOpenTo e c) (req : ReqId) (delta : ℤ) (asked : IsAsk e req (asks.Go delta)) where
+  aside : StartsUnasked e
+  aside = accepted_aside e c open_ req None (requests.Go delta) asked.own
+
   pub go_settles : (left : Queue) → left ≡ record c.queue { waiting = c.queue.waiting ++ Traverse req delta ∷ [] } → IsToSettle e [] (record c { queue = left }) whys.Start
   go_settles left pushed =
-      to_settle e (record c { queue = left }) open_.header (go_begun e c.tables c.queue c.blame.entries open_.stands.stands open_.room (keep_now e c open_) req delta asked.by_user asked.own asked.next left pushed) whys.Start (for_none (now_of e []))
-      (takes_none e req None (requests.Go delta) asked.by_user asked.own asked.next)
+      to_settle e (record c { queue = left }) open_.header open_.unchecked (go_begun e c.tables c.queue c.blame.entries open_.stands.stands aside open_.room (keep_now e c open_) req delta asked.by_user asked.own asked.next left pushed) whys.Start (for_none (now_of e []))
+      (takes_none e req None (requests.Go delta) asked.by_user asked.own asked.next aside)
       (accepted_found e c open_ req None (requests.Go delta) asked.own)
       (accepted_telling e c open_ req None (requests.Go delta) asked.own)

@@ -1,4 +1,6 @@
 -- A load was refused, dropped, sent to a fragment or has begun: the tab may be brought to rest.
+use Rattle.seen_laws.specs.Unasked.{is_question}
+use Rattle.coord.proofs.Asides.{accepted_aside}
 use Rattle.coord.proofs.Fines.{IsFine, fine_fragment, fine_moves, fine_populate, makes_over, more_fine, no_job, one_fine, sound_over}
 use Rattle.coord.specs.Standing.{IsAsk, IsOpenTo, IsToSettle, MoveNobody}
 use Rattle.coord.specs.declared.ask.Ask.TheVariants as asks
@@ -17,9 +19,9 @@ use Rattle.move_queue.specs.Queue.{Queue}
 use Rattle.tab_facts.proofs.Order.Stills.{still_over}
 use Rattle.tab_facts.specs.Order.Orders.{IsOfCoord}
 use Rattle.seen_laws.proofs.InEvents.{now_more}
-use Rattle.seen_laws.specs.InEvent.{InEvent, now_of, row_of}
+use Rattle.seen_laws.specs.InEvent.{InEvent, log_of, now_of, row_of}
 use Rattle.seen_laws.specs.Sending.{leads}
-use Rattle.std.proofs.Common.{List, None, Option, Some, [], ap, inl, inr, map, refl, subst, sym, ℕ, ◌++◌, ◌∙◌, ◌∷◌, ◌≡◌}
+use Rattle.std.proofs.Common.{List, None, Option, Some, [], ap, inl, inr, map, not, refl, subst, sym, ℕ, ◌++◌, ◌∙◌, ◌∷◌, ◌≡◌}
 use Rattle.tab_doors.specs.declared.tables.Tables.{Tables}
 use Rattle.tab_ids.specs.declared.NavId.{NavId}
 use Rattle.tab_ids.specs.declared.ReqId.{ReqId}
@@ -60,28 +62,28 @@ module _ (e : InEvent) (t : Tables) (queue : Queue) (blame : List (StateId × Re
   load = requests.Load nav mode address
 
   comes : IsComing blame e.start (now_of e [])
-  comes = comes_now e req None load its.by_user its.own its.next t queue blame stands
+  comes = comes_now e req None load its.by_user its.own its.next its.aside t queue blame stands
 
   -- each document shown was shown under its navigable's epoch as the event began
-  pub load_shows : AreShownUnder (now_of e [])
+  pub load_shows : AreShownUnder (log_of e [])
   load_shows =
       own_under e (ap (λ (k : RowKind). leads k) its.own) (λ proc is. (let never : rows.Accepted req None load ≡ rows.Delivered proc = sym its.own ∙ is in absurd cc)) stands.lasts.shows
 
   pub load_taken : (out : List RowKind) → IsTakenUp e out
-  load_taken out later = takes_none e req None load its.by_user its.own its.next (map (row_of e) out ++ later)
+  load_taken out later = takes_none e req None load its.by_user its.own its.next its.aside (map (row_of e) out ++ later)
 
   -- its request is there
-  there : request_of (now_of e []) req ≡ Some (new e req None load its.by_user its.own its.next)
-  there = ap (λ (x : Seen). request_of x req) (now e req None load its.by_user its.own its.next) ∙ there_now e req None load its.by_user its.own its.next
+  there : request_of (now_of e []) req ≡ Some (new e req None load its.by_user its.own its.next its.aside)
+  there = ap (λ (x : Seen). request_of x req) (now e req None load its.by_user its.own its.next its.aside) ∙ there_now e req None load its.by_user its.own its.next its.aside
 
   -- what each process has is of its documents, and who is awake runs once all orders are done that come to its document
   desks_now : AreDesksIn (now_of e [])
   desks_now =
-      subst AreDesksIn (sym (now e req None load its.by_user its.own its.next)) (unpoked e.start e.event actors.Ui stands.between.tab.desks req load)
+      subst AreDesksIn (sym (now e req None load its.by_user its.own its.next its.aside)) (unpoked e.start e.event actors.Ui stands.between.tab.desks req load)
 
   awake_now : AwakeRun (now_of e [])
   awake_now =
-      subst AwakeRun (sym (now e req None load its.by_user its.own its.next))
+      subst AwakeRun (sym (now e req None load its.by_user its.own its.next its.aside))
       (awake_run went_.history.rows (held_back went_.requests went_.parked) went_ (left_leads e.start went_ (accepted_left e.start e.event actors.Ui req None load) refl refl refl (accepted_held e.start e.event actors.Ui req None load) stands.between.flows.leads))
     where
       went_ : Seen
@@ -111,11 +113,11 @@ module _ (e : InEvent) (t : Tables) (queue : Queue) (blame : List (StateId × Re
     -- the document that is sent to a fragment is its navigable's
     fragment_own : (sent : WasSent (now_of e []) req nav mode address out) → IsOfItsLoad (now_of e out) sent.job.doc req
     fragment_own sent =
-        let placed : place_of e.start nav ≡ Some sent.fragment.place = ap (λ (x : Seen). place_of x nav) (sym (now e req None load its.by_user its.own its.next)) ∙ sent.fragment.there in
+        let placed : place_of e.start nav ≡ Some sent.fragment.place = ap (λ (x : Seen). place_of x nav) (sym (now e req None load its.by_user its.own its.next its.aside)) ∙ sent.fragment.there in
         let home : IsHomed e.start.documents sent.fragment.place sent.job.doc = stands.between.tab.homes.homed nav sent.fragment.place sent.job.doc placed sent.doc in
         let first = (keeps_coming blame e.start (now_of e []) comes).homes sent.job.doc home.home.document home.home.found in
         let d = over.homes sent.job.doc first.0 first.1 in
-        let q = over.asked req (new e req None load its.by_user its.own its.next) there in
+        let q = over.asked req (new e req None load its.by_user its.own its.next its.aside) there in
         let navs : d.0.nav ≡ nav = d.2 ∙ first.2 ∙ home.home.nav_is ∙ found_nav e.start.places nav sent.fragment.place placed in
         record {
           q = q.0;
@@ -133,7 +135,7 @@ module _ (e : InEvent) (t : Tables) (queue : Queue) (blame : List (StateId × Re
         over =
             subst (λ (l : List RowKind). KeepsWhat (now_of e []) (now_of e l)) (sym sent.is) (record {
               asked = λ r q at. (let still = still_over e (rows.Sent sent.job ∷ []) [] one r q at in (still.r, still.at, still.what));
-              homes = λ doc d found. (let h = sent_homes (now_of e []) sent.job sent.job.task doc d found in (h.0, ap (λ (x : Seen). document_of x doc) (now_more e [] (rows.Sent sent.job)) ∙ h.1, h.2));
+              homes = λ doc d found. (let h = sent_homes (now_of e []) sent.job sent.job.task doc d found in (h.0, ap (λ (x : Seen). document_of x doc) (now_more e [] (rows.Sent sent.job) (ap (λ (t_ : Task). not (is_question t_)) sent.task)) ∙ h.1, h.2));
             })
 
     -- it will run
@@ -180,7 +182,7 @@ module _ (e : InEvent) (t : Tables) (queue : Queue) (blame : List (StateId × Re
 
       pub load_makes : MakesServe (now_of e out)
       load_makes =
-          makes_over e u.running out (cause_of req loaded) tab.asked ready.open_.may (fine_came loaded came) (makes_first e (ap (λ (k : RowKind). leads k) its.own) comes.serves stands.lasts.makes)
+          makes_over e u.running out (cause_of req loaded) tab.asked ready.open_.may (fine_came loaded came) (makes_first e its.aside (ap (λ (k : RowKind). leads k) its.own) comes.serves stands.lasts.makes)
 
       pub load_coord : (row : RowKind) → Has out row → IsOfCoord row
       load_coord row has = (fine_came loaded came row has).coord
@@ -190,7 +192,7 @@ module _ (e : InEvent) (t : Tables) (queue : Queue) (blame : List (StateId × Re
 
       pub load_sound : OrdersAreSound (now_of e out)
       load_sound =
-          sound_over e u.running out (cause_of req loaded) tab.asked ready.open_.may (fine_came loaded came) (sound_first e (ap (λ (k : RowKind). leads k) its.own) (keeps_coming blame e.start (now_of e []) comes) stands.lasts.sound)
+          sound_over e u.running out (cause_of req loaded) tab.asked ready.open_.may (fine_came loaded came) (sound_first e its.aside (ap (λ (k : RowKind). leads k) its.own) (keeps_coming blame e.start (now_of e []) comes) stands.lasts.sound)
 
       -- ---- fragment orders, and reports of them
 
@@ -213,12 +215,14 @@ module _ (e : InEvent) (t : Tables) (queue : Queue) (blame : List (StateId × Re
 -- the tab may be brought to rest then
 module _ (e : InEvent) (c : Coordinator) (open_ : IsOpenTo e c) (req : ReqId) (nav : NavId) (mode : Mode) (address : List ℕ) (asked : IsAsk e req (asks.Load nav mode address)) where
   pub load_asks : IsLoadAsk e req nav mode address
-  load_asks = record { by_user = asked.by_user; own = asked.own; next = asked.next }
+  load_asks =
+      record { by_user = asked.by_user; own = asked.own; next = asked.next; aside = accepted_aside e c open_ req None (requests.Load nav mode address) asked.own }
 
   pub load_settles : (loaded : Loaded) (out : List RowKind) (after : Coordinator) → after.header ≡ c.header → CameTo e req nav mode address out loaded → IsReady (pass_of e) out after.tables after.queue after.blame.entries (cause_of req loaded) → (cause : Why) → cause ≡ cause_of req loaded → IsToSettle e out after cause
   load_settles loaded out after header came ready cause is =
       record {
         header = header ∙ open_.header;
+        unchecked = open_.unchecked;
         ready = subst (λ (w : Why). IsReady (pass_of e) out after.tables after.queue after.blame.entries w) (sym is) ready;
         makes = load_makes e c.tables c.queue c.blame.entries open_.stands.stands req nav mode address load_asks out after.tables after.blame.entries loaded came after.queue ready;
         sound = load_sound e c.tables c.queue c.blame.entries open_.stands.stands req nav mode address load_asks out after.tables after.blame.entries loaded came after.queue ready;

@@ -1,5 +1,7 @@
 -- The coordinator of a tab that was just opened stands for its log.
-use Rattle.coord.specs.Standing.{StandsFor}
+use Rattle.log_model.specs.Seen.{nothing}
+use Rattle.unasked.proofs.Events.{opened_seen}
+use Rattle.coord.specs.Standing.{StandsFor, nobody}
 use Rattle.coord.specs.declared.coordinator.Coordinator.{Coordinator}
 use Rattle.log_model.specs.declared.header.Header.{Header}
 use Rattle.page_cache.specs.Kept.{Kept}
@@ -22,6 +24,7 @@ fresh_stands header proc c same fresh empty none =
           subst (λ (l : List (StateId × ReqId)). tab.StandsFor (opened_at header.first proc) c.tables c.queue l) (sym none)
           (opening.fresh_stands header.first proc header.keep c.tables c.queue fresh empty);
       keep = ap (λ (k : Kept). k.keep) fresh.kept ∙ ap (λ (h : Header). h.keep) (sym same);
+      plain = opened_seen nobody nothing 0 actors.Start (record { maker = 0; nr = 1 }) (record { 0 = 1 }) (record { 0 = 1 }) proc None header.first;
       found = opened_running 0 actors.Start (record { maker = 0; nr = 1 }) (record { 0 = 1 }) (record { 0 = 1 }) proc None header.first;
       telling = opened_telling 0 actors.Start (record { maker = 0; nr = 1 }) (record { 0 = 1 }) (record { 0 = 1 }) proc None header.first;
     }

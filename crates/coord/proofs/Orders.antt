@@ -1,4 +1,5 @@
 -- A process takes up an order, or finishes one: the coordinator has acted, which does nothing itself.
+use Rattle.coord.proofs.Asides.{finished_plain, joined_plain, taken_plain}
 use Rattle.coord.specs.Standing.{HasActed, IsOpenTo}
 use Rattle.coord.specs.declared.coordinator.Coordinator.{Coordinator}
 use Rattle.coord.proofs.Idle.{alone_acts, found_now, idle_acts}
@@ -23,7 +24,7 @@ use Rattle.tab_facts.proofs.Running.Tells.{answered_telling}
 use Rattle.tab_facts.specs.Running.Fitting.{IsFinishedUp}
 use Rattle.tab_facts.specs.Running.Running.{AreFoundRunning, Runs}
 use Rattle.tab_facts.specs.Running.Telling.{AreTelling}
-use Rattle.seen_laws.proofs.InEvents.{now_more, now_own}
+use Rattle.seen_laws.proofs.InEvents.{now_more}
 use Rattle.seen_laws.specs.InEvent.{InEvent, now_of}
 use Rattle.std.proofs.Common.{Bool, List, None, Option, Some, [], ap, refl, subst, sym, true, ℕ, ◌∙◌, ◌∷◌, ◌≡◌}
 use Rattle.std.specs.Prelude.{slice_get}
@@ -68,7 +69,7 @@ module _ (e : InEvent) (c : Coordinator) (open_ : IsOpenTo e c) (proc : ProcId) 
 
   pub taken_acts : (job : Job) (dirty : Bool) → (desk_of e.start proc).in_hand ≡ None → slice_get (desk_of e.start proc).mail 0 ≡ Some job → e.event ≡ e.start.events → dirty ≡ holds (λ (d : Document). holds (λ (view : View). view.dirty) d.view) (document_of e.start job.doc) → e.own ≡ rows.Taken proc job.nr true dirty → HasActed e [] c
   taken_acts job dirty free first event is_dirty own =
-      alone_acts e c open_ (rows.Taken proc job.nr true dirty) own (record { live_is = refl; free = free; job = job; first = first }) tt
+      alone_acts e c open_ (rows.Taken proc job.nr true dirty) own (taken_plain e c open_ proc job.nr true dirty job first own) (record { live_is = refl; free = free; job = job; first = first }) tt
       (orders.taken_acts e c.tables c.queue c.blame.entries open_.stands.stands open_.room proc job dirty free first by event is_dirty own)
 
   -- ---- one is finished, which is in hand; the outcome is one of its task
@@ -85,7 +86,7 @@ module _ (e : InEvent) (c : Coordinator) (open_ : IsOpenTo e c) (proc : ProcId) 
     -- one that is no fragment order
     pub finished_acts : IsNoFragment order.job.task → HasNoPages e.header → e.event ≡ e.start.events → e.own ≡ rows.Finished proc order.job.nr outcome → HasActed e [] c
     finished_acts other pages event own =
-        alone_acts e c open_ (rows.Finished proc order.job.nr outcome) own is_up
+        alone_acts e c open_ (rows.Finished proc order.job.nr outcome) own (finished_plain e c open_ proc order outcome hand bare own) is_up
         (λ x there fragment. no_fragment order.job.task other (subst (λ (y : Order). IsFragmentTask y.job.task) (some_same (sym there ∙ hand)) fragment))
         (orders.finished_acts e c.tables c.queue c.blame.entries open_.stands.stands open_.room proc order outcome hand its bare other pages by event own)
 
@@ -121,7 +122,7 @@ module _ (e : InEvent) (c : Coordinator) (open_ : IsOpenTo e c) (proc : ProcId) 
 
       found_then : AreFoundRunning (now_of e (rows.Made proc (made_for view req (fragment_of view mode address)) ∷ []))
       found_then =
-          running_over e (rows.Made proc made ∷ []) [] (tt, tt) (found_now e c open_ (rows.Finished proc order.job.nr outcome) own (is_up e c open_ proc by order outcome hand its bare))
+          running_over e (rows.Made proc made ∷ []) [] (tt, tt) (found_now e c open_ (rows.Finished proc order.job.nr outcome) own (finished_plain e c open_ proc order outcome hand bare own) (is_up e c open_ proc by order outcome hand its bare))
 
       telling_then : AreTelling (now_of e (rows.Made proc (made_for view req (fragment_of view mode address)) ∷ []))
       telling_then =
@@ -129,11 +130,12 @@ module _ (e : InEvent) (c : Coordinator) (open_ : IsOpenTo e c) (proc : ProcId) 
         where
           then_ : now_of e (rows.Made proc made ∷ []) ≡ next (next e.start e.event e.actor (rows.Finished proc order.job.nr outcome)) e.event e.actor (rows.Made proc made)
           then_ =
-              now_more e [] (rows.Made proc made)
-              ∙ ap (λ (x : Seen). next x e.event e.actor (rows.Made proc made)) (now_own e ∙ ap (λ (k : RowKind). next e.start e.event e.actor k) own)
+              now_more e [] (rows.Made proc made) refl
+              ∙ ap (λ (x : Seen). next x e.event e.actor (rows.Made proc made)) (sym (finished_plain e c open_ proc order outcome hand bare own).same ∙ ap (λ (k : RowKind). next e.start e.event e.actor k) own)
 
       pub fragment_acts : HasActed e (rows.Made proc (made_for view req (fragment_of view mode address)) ∷ []) c
       fragment_acts =
           idle_acts e c open_ (rows.Made proc made ∷ []) (tt, tt)
           (fragments.fragment_acts e c.tables c.queue c.blame.entries open_.stands.stands open_.room proc order req mode address d view to by (own ∙ ap (λ (o : Outcome). rows.Finished proc order.job.nr o) so))
+          (joined_plain e c open_ proc order outcome hand bare own made)
           found_then telling_then

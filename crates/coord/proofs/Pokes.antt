@@ -1,4 +1,6 @@
 -- A poke is accepted by the document that it reaches, or refused at once: the coordinator has acted, which does nothing itself.
+use Rattle.unasked.proofs.Ends.{refused_seen}
+use Rattle.coord.proofs.Asides.{IsPlain, accepted_aside, accepted_plain, plain_more}
 use Rattle.seen_facts.specs.Asked.Asking.{IsNoEditing}
 use Rattle.coord.specs.Standing.{HasActed, IsOpenTo}
 use Rattle.coord.specs.declared.coordinator.Coordinator.{Coordinator}
@@ -11,8 +13,8 @@ use Rattle.log_model.specs.declared.row_kind.RowKind.{RowKind}
 use Rattle.tab_facts.specs.Order.Orders.{IsOfCoord}
 use Rattle.tab_facts.proofs.Running.Over.{running_over}
 use Rattle.tab_facts.proofs.Running.Tells.{telling_over}
-use Rattle.seen_laws.specs.InEvent.{InEvent}
-use Rattle.std.proofs.Common.{None, Some, [], inl, inr, length, subst, ◌+◌, ◌∷◌, ◌≡◌}
+use Rattle.seen_laws.specs.InEvent.{InEvent, log_of}
+use Rattle.std.proofs.Common.{None, Some, [], inl, inr, length, refl, subst, ◌+◌, ◌∷◌, ◌≡◌}
 use Rattle.tab_ids.specs.declared.DocId.{DocId}
 use Rattle.tab_ids.specs.declared.NavId.{NavId}
 use Rattle.tab_ids.specs.declared.ReqId.{ReqId}
@@ -26,17 +28,21 @@ use Rattle.log_model.specs.declared.row_kind.RowKind.TheVariants as rows
 module _ (e : InEvent) (c : Coordinator) (open_ : IsOpenTo e c) (req : ReqId) (nav : NavId) (action : Action) (fine : IsNoEditing action) (by_user : e.actor ≡ actors.Ui) (nr : req.0 ≡ length e.start.requests + 1) where
   pub poke_acts : (reached : DocId) → ReachesOne e.start nav reached → e.own ≡ rows.Accepted req (Some reached) (requests.Poke nav action) → HasActed e [] c
   poke_acts reached its own =
-      alone_acts e c open_ (rows.Accepted req (Some reached) (requests.Poke nav action)) own tt tt
-      (pokes.poke_acts e c.tables c.queue c.blame.entries open_.stands.stands open_.room req nav action fine reached by_user own nr its)
+      alone_acts e c open_ (rows.Accepted req (Some reached) (requests.Poke nav action)) own (accepted_plain e c open_ req (Some reached) (requests.Poke nav action) own) tt tt
+      (pokes.poke_acts e c.tables c.queue c.blame.entries open_.stands.stands (accepted_aside e c open_ req (Some reached) (requests.Poke nav action) own) open_.room req nav action fine reached by_user own nr its)
 
   -- it reaches no document
   pub poke_refused_acts : (reason : Denial) → denial_of_poke e.start nav ≡ Some reason → e.event ≡ e.start.events → e.own ≡ rows.Accepted req None (requests.Poke nav action) → HasActed e (rows.Refused req reason ∷ []) c
   poke_refused_acts reason denied event own =
       idle_acts e c open_ (rows.Refused req reason ∷ []) (tt, tt)
-      (refusals.poke_refused_acts e c.tables c.queue c.blame.entries open_.stands.stands open_.room req by_user nr reason nav action fine event own denied)
-      (running_over e (rows.Refused req reason ∷ []) [] (tt, tt) (found_now e c open_ (rows.Accepted req None (requests.Poke nav action)) own tt))
-      (telling_over e (rows.Refused req reason ∷ []) [] of_coord (telling_now e c open_ (rows.Accepted req None (requests.Poke nav action)) own tt))
+      (refusals.poke_refused_acts e c.tables c.queue c.blame.entries open_.stands.stands (accepted_aside e c open_ req None (requests.Poke nav action) own) open_.room req by_user nr reason nav action fine event own denied)
+      (plain_more e c open_ [] (rows.Refused req reason) refl (refused_seen e.checking (log_of e []) e.event e.actor req reason) accepted)
+      (running_over e (rows.Refused req reason ∷ []) [] (tt, tt) (found_now e c open_ (rows.Accepted req None (requests.Poke nav action)) own accepted tt))
+      (telling_over e (rows.Refused req reason ∷ []) [] of_coord (telling_now e c open_ (rows.Accepted req None (requests.Poke nav action)) own accepted tt))
     where
+      accepted : IsPlain e []
+      accepted = accepted_plain e c open_ req None (requests.Poke nav action) own
+
       of_coord : (row : RowKind) → Has (rows.Refused req reason ∷ []) row → IsOfCoord row
       of_coord row (inl is) = subst (λ (r : RowKind). IsOfCoord r) is tt
       of_coord row (inr never) = absurd never

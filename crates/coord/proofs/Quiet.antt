@@ -1,10 +1,14 @@
 -- An order was done that neither made nor showed a document: where no request is noted for a document that is left to be discarded, the event is over.
-use Rattle.coord.proofs.Dones.{done_found, done_telling, keep_now}
+use Rattle.log_model.specs.declared.made.Report.TheVariants as reports
+use Rattle.tab_facts.specs.Running.Telling.{AreTelling}
+use Rattle.tab_facts.specs.Running.Running.{AreFoundRunning}
+use Rattle.coord.proofs.Asides.{IsPlain, delivered_plain}
+use Rattle.coord.proofs.Dones.{done_aside, done_found, done_telling, keep_now}
 use Rattle.coord.specs.Delivering.{InDone, IsDone}
 use Rattle.coord.specs.Standing.{HasActed}
 use Rattle.coord.specs.declared.coordinator.Coordinator.{Coordinator}
 use Rattle.log_model.specs.declared.job.Job.{Job}
-use Rattle.std.proofs.Common.{List, [], arith, eqb-true, length, refl, true, ◌==◌, ◌∷◌, ◌≡◌}
+use Rattle.std.proofs.Common.{List, None, [], arith, eqb-true, length, refl, subst, sym, true, ◌==◌, ◌∷◌, ◌≡◌}
 use Rattle.tab_acts.proofs.Told.{told_acts}
 use Rattle.tab_stands.specs.Delivering.{IsQuietTask}
 use Rattle.tab_stands.specs.Standing as tab
@@ -12,7 +16,10 @@ use Rattle.tab_stands.specs.Standing as tab
 module _ (d : InDone) (c : Coordinator) (job : Job) (done : IsDone d c job) (quiet : IsQuietTask job.task) (clear : c.blame.entries ≡ []) where
   its : tab.HasActed d.event [] c.tables c.queue c.blame.entries
   its =
-      told_acts d.event d.proc job d.outcome done.delivery c.tables c.queue c.blame.entries done.open_.stands.stands quiet done.open_.room (keep_now d.event c done.open_) clear
+      told_acts d.event d.proc job d.outcome done.delivery c.tables c.queue c.blame.entries done.open_.stands.stands (done_aside d c job done) quiet done.open_.room (keep_now d.event c done.open_) clear
+
+  at : IsPlain d.event []
+  at = delivered_plain d.event c done.open_ d.proc (reports.Done job d.outcome None) done.delivery
 
   pub quiet_acts : HasActed d.event [] c
   quiet_acts =
@@ -20,8 +27,9 @@ module _ (d : InDone) (c : Coordinator) (job : Job) (done : IsDone d c job) (qui
         stands = record {
           stands = its.stands;
           keep = done.open_.stands.keep;
-          found = done_found d c job done;
-          telling = done_telling d c job done;
+          plain = at.plain;
+          found = subst AreFoundRunning (sym at.same) (done_found d c job done);
+          telling = subst AreTelling (sym at.same) (done_telling d c job done);
         };
         header = done.open_.header;
         passes = its.passes;

@@ -1,5 +1,5 @@
 -- A document that nothing needs was made for no request: it is discarded, and the tab may be brought to rest.
-use Rattle.coord.proofs.Dones.{done_found, done_taken, done_telling}
+use Rattle.coord.proofs.Dones.{done_aside, done_found, done_taken, done_telling}
 use Rattle.coord.proofs.Fines.{IsFine, fine_discard, fine_moves, makes_over, one_fine, sound_over}
 use Rattle.coord.proofs.Placed.{Makes, makes_of}
 use Rattle.coord.specs.Delivering.{InDone, IsDone, made_in}
@@ -13,7 +13,7 @@ use Rattle.log_model.specs.declared.job.Task.{Task}
 use Rattle.log_model.specs.declared.made.Report.{Report}
 use Rattle.log_model.specs.declared.row_kind.RowKind.{RowKind}
 use Rattle.move_queue.specs.Queue.{Queue}
-use Rattle.seen_laws.specs.InEvent.{InEvent, now_of, row_of}
+use Rattle.seen_laws.specs.InEvent.{InEvent, log_of, now_of, row_of}
 use Rattle.seen_laws.specs.Sending.{leads}
 use Rattle.std.proofs.Common.{Bool, List, None, Option, [], ap, cond, false, map, refl, subst, sym, true, ◌++◌, ◌==◌, ◌∙◌, ◌∷◌, ◌≡◌}
 use Rattle.std.specs.Prelude.{option_map, slice_get}
@@ -33,7 +33,7 @@ use Rattle.tab_stands.proofs.Unmade.{made_at}
 use Rattle.tab_stands.specs.Delivering.{IsMakeTask}
 use Rattle.tab_stands.specs.Offs.{AreShownUnder}
 use Rattle.tab_stands.specs.PassedOn.{IsReady, MakesServe, MayServe, OrdersAreSound}
-use Rattle.tab_stands.specs.Standing.{StandsFor}
+use Rattle.tab_stands.specs.Standing.{StandsFor, StartsUnasked}
 use Rattle.tab_unneeded.proofs.Strays.{unneeded_is}
 use Rattle.tab_unneeded.specs.Made.{IsMadeUnneeded}
 use Rattle.tab_unneeded.specs.Telling.{is_unneeded_in}
@@ -59,12 +59,16 @@ module _ (d : InDone) (c : Coordinator) (job : Job) (done : IsDone d c job) (sta
   abbrev stands : StandsFor s c.tables c.queue c.blame.entries
   stands = done.open_.stands.stands
 
+  aside : StartsUnasked e
+  aside = done_aside d c job done
+
   abbrev its : Makes job state
   its = makes_of job state is_make
 
   pub made_unneeded : ((req : ReqId) → job.why ≡ whys.Req req → ⊥) → is_unneeded_in c.tables job.doc state ≡ true → IsMadeUnneeded (made_in d c job) job.doc state job.why
   made_unneeded unasked tells =
       record {
+        aside = aside;
         tells = done.delivery;
         nav = its.nav;
         address = its.address;
@@ -73,20 +77,20 @@ module _ (d : InDone) (c : Coordinator) (job : Job) (done : IsDone d c job) (sta
         doc_is = refl;
         why_is = refl;
         unasked = unasked;
-        stray = unneeded_is e d.proc job d.outcome done.delivery t c.queue c.blame.entries stands its.nav state its.address its.initial its.task tells;
+        stray = unneeded_is e d.proc job d.outcome done.delivery t c.queue c.blame.entries stands aside its.nav state its.address its.initial its.task tells;
       }
 
   -- ---- what goes on over the event's own row
 
   abbrev told : Seen
-  told = did e d.proc job d.outcome done.delivery t c.queue c.blame.entries stands
+  told = did e d.proc job d.outcome done.delivery t c.queue c.blame.entries stands aside
 
   now : now_of e [] ≡ told
-  now = did_now e d.proc job d.outcome done.delivery t c.queue c.blame.entries stands
+  now = did_now e d.proc job d.outcome done.delivery t c.queue c.blame.entries stands aside
 
   same : told.requests ≡ s.requests
   same =
-      did_requests e d.proc job d.outcome done.delivery t c.queue c.blame.entries stands (subst (λ (k : Task). AsksNone k) (sym its.task) tt)
+      did_requests e d.proc job d.outcome done.delivery t c.queue c.blame.entries stands aside (subst (λ (k : Task). AsksNone k) (sym its.task) tt)
 
   leads_own : leads e.own ≡ true
   leads_own = ap (λ (k : RowKind). leads k) done.delivery.own
@@ -94,13 +98,13 @@ module _ (d : InDone) (c : Coordinator) (job : Job) (done : IsDone d c job) (sta
   serves : (req : ReqId) → MayServe s req → MayServe (now_of e []) req
   serves req may =
       subst (λ (x : Seen). MayServe x req) (sym now)
-      (serve_on s told req (told_causes e d.proc done.delivery.by_coord done.delivery.own t c.queue c.blame.entries stands (reports.Done job d.outcome None) done.delivery.first same) may)
+      (serve_on s told req (told_causes e d.proc done.delivery.by_coord done.delivery.own t c.queue c.blame.entries stands aside (reports.Done job d.outcome None) done.delivery.first same) may)
 
   keeps : KeepsWhat s (now_of e [])
   keeps =
       subst (λ (x : Seen). KeepsWhat s x) (sym now) (record {
         asked = λ req q at. (q, ap (λ (l : List Asked). request_in l req) same ∙ at, refl);
-        homes = λ doc x found. (made_at job.doc x, made_then e d.proc job d.outcome done.delivery t c.queue c.blame.entries stands its.nav state its.address its.initial its.task doc ∙ ap (λ (o : Option Document). option_map (λ (y : Document). made_at job.doc y) o) found, nav_same x (x.nr.0 == job.doc.0));
+        homes = λ doc x found. (made_at job.doc x, made_then e d.proc job d.outcome done.delivery t c.queue c.blame.entries stands aside its.nav state its.address its.initial its.task doc ∙ ap (λ (o : Option Document). option_map (λ (y : Document). made_at job.doc y) o) found, nav_same x (x.nr.0 == job.doc.0));
       })
     where
       nav_same : (x : Document) (b : Bool) → (let y : Document = cond b (record x { is_ready = true; is_fresh = true }) x in y).nav ≡ x.nav
@@ -124,13 +128,13 @@ module _ (d : InDone) (c : Coordinator) (job : Job) (done : IsDone d c job) (sta
 
     makes : MakesServe (now_of e out)
     makes =
-        makes_over e u.running out whys.Start ready.passing.going.tab.asked ready.open_.may fine (makes_first e leads_own serves stands.lasts.makes)
+        makes_over e u.running out whys.Start ready.passing.going.tab.asked ready.open_.may fine (makes_first e aside leads_own serves stands.lasts.makes)
 
     sound : OrdersAreSound (now_of e out)
     sound =
-        sound_over e u.running out whys.Start ready.passing.going.tab.asked ready.open_.may fine (sound_first e leads_own keeps stands.lasts.sound)
+        sound_over e u.running out whys.Start ready.passing.going.tab.asked ready.open_.may fine (sound_first e aside leads_own keeps stands.lasts.sound)
 
-    shows : AreShownUnder (now_of e [])
+    shows : AreShownUnder (log_of e [])
     shows = own_under e leads_own alive stands.lasts.shows
 
     found : AreFoundRunning (now_of e out)
@@ -145,6 +149,7 @@ module _ (d : InDone) (c : Coordinator) (job : Job) (done : IsDone d c job) (sta
     dropped_settles after header tables queue noted =
         record {
           header = header ∙ done.open_.header;
+          unchecked = done.open_.unchecked;
           ready =
               subst (λ (l : List (StateId × ReqId)). IsReady (pass_of e) out after.tables after.queue l whys.Start) (sym noted)
               (subst (λ (q : Queue). IsReady (pass_of e) out after.tables q c.blame.entries whys.Start) (sym queue)

@@ -1,5 +1,6 @@
 -- What a coordinator keeps between two events, and what it has done as an event ends.
--- HTML Standard, "session history traversal queue" and "navigate"; that nobody is asked and nobody dies is this project's own premise today.
+-- HTML Standard, "session history traversal queue", "navigate" and "checking if unloading is canceled"; that nobody is asked and nobody dies is this project's own premise today.
+use Rattle.seen_laws.specs.Unasked.{unasked}
 use Rattle.coord.specs.declared.ask.Ask.{Ask}
 use Rattle.coord.specs.declared.ask.Ask.TheVariants as asks
 use Rattle.coord.specs.declared.coordinator.Coordinator.{Coordinator}
@@ -15,8 +16,8 @@ use Rattle.tab_facts.specs.Order.Orders.{IsOfCoord}
 use Rattle.tab_facts.specs.Running.Running.{AreFoundRunning}
 use Rattle.tab_facts.specs.Running.Telling.{AreTelling}
 use Rattle.seen_laws.specs.Blocks.{EachPass}
-use Rattle.seen_laws.specs.InEvent.{InEvent, now_of, row_of, start_of}
-use Rattle.std.specs.Prelude.{List, None, [], length, map, true, ℕ, ◌++◌, ◌+◌, ◌∷◌, ◌≡◌}
+use Rattle.seen_laws.specs.InEvent.{InEvent, log_of, now_of, row_of, start_of}
+use Rattle.std.specs.Prelude.{Bool, List, None, [], false, length, map, true, ℕ, ◌++◌, ◌+◌, ◌∷◌, ◌≡◌}
 use Rattle.tab_ids.specs.declared.NavId.{NavId}
 use Rattle.tab_ids.specs.declared.ReqId.{ReqId}
 use Rattle.tab_loads.specs.Loading.{CameTo, pass_of}
@@ -29,10 +30,16 @@ use Rattle.log_model.specs.declared.request.Request.TheVariants as requests
 use Rattle.log_model.specs.declared.row_kind.Actor.TheVariants as actors
 use Rattle.log_model.specs.declared.row_kind.RowKind.TheVariants as rows
 
+-- no request is in its unload check
+abbrev pub nobody : ReqId → Bool
+nobody req = false
+
 -- its tables, its queue and the requests that are noted for stray documents stand for what the log has come to, and it keeps as many documents as its settings say
 pub record StandsFor (s : Seen) (c : Coordinator) : Type 0 where
   pub stands : tab.StandsFor s c.tables c.queue c.blame.entries
   pub keep : c.tables.kept.keep ≡ c.header.keep
+  -- nobody was asked so far
+  pub plain : unasked nobody s ≡ s
   -- each fragment order on its way finds its document running as its turn comes
   pub found : AreFoundRunning s
   -- each report of a fragment order that waits tells of what was made of it
@@ -40,11 +47,12 @@ pub record StandsFor (s : Seen) (c : Coordinator) : Type 0 where
 
 -- ---- an event begins
 
--- the coordinator stands for what the log had come to as the event began, with the event's settings, and there is room for requests
+-- the coordinator stands for what the log had come to as the event began, with the event's settings; there is room for requests, and none is in a check
 pub record IsOpenTo (e : InEvent) (c : Coordinator) : Type 0 where
   pub header : c.header ≡ e.header
   pub stands : StandsFor e.start c
   pub room : HasRoomFor e.start
+  pub unchecked : e.checking ≡ nobody
 
 -- ---- an event ends
 
@@ -58,20 +66,21 @@ MoveNobody s out = (req : ReqId) (change : Change) → Has out (rows.Applied req
 
 -- the event ends with these rows, each of which passes, and which leave unsettled whom their changes move; the coordinator stands for what the log has come to, and its settings are the event's
 pub record HasActed (e : InEvent) (out : List RowKind) (c : Coordinator) : Type 0 where
-  pub stands : StandsFor (now_of e out) c
+  pub stands : StandsFor (log_of e out) c
   pub header : c.header ≡ e.header
   pub passes : EachPass (start_of e) (row_of e e.own ∷ map (row_of e) out) []
-  pub off : ChangesLeaveOff (now_of e out) out
+  pub off : ChangesLeaveOff (log_of e out) out
 
--- a pass may follow, for this cause; what was delivered was taken up, if it was to be; the rows so far are a coordinator's, and move nobody; orders that make documents are for what orders may be for, and all are sound; as the event began each document shown was shown under its navigable's epoch; and fragment orders find their documents running, and reports of them tell of what was made
+-- a pass may follow, for this cause; no request is in a check; what was delivered was taken up, if it was to be; the rows so far are a coordinator's, and move nobody; orders that make documents are for what orders may be for, and all are sound; as the event began each document shown was shown under its navigable's epoch; and fragment orders find their documents running, and reports of them tell of what was made
 pub record IsToSettle (e : InEvent) (out : List RowKind) (c : Coordinator) (cause : Why) : Type 0 where
   pub header : c.header ≡ e.header
+  pub unchecked : e.checking ≡ nobody
   pub ready : IsReady (pass_of e) out c.tables c.queue c.blame.entries cause
   pub makes : MakesServe (now_of e out)
   pub sound : OrdersAreSound (now_of e out)
   pub coord : (row : RowKind) → Has out row → IsOfCoord row
   pub unmoved : MoveNobody (now_of e out) out
-  pub shows : AreShownUnder (now_of e [])
+  pub shows : AreShownUnder (log_of e [])
   pub taken : IsTakenUp e out
   pub found : AreFoundRunning (now_of e out)
   pub telling : AreTelling (now_of e out)

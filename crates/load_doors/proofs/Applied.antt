@@ -1,4 +1,8 @@
 -- A load is applied, and the coordinator goes on working.
+use Rattle.seen_laws.specs.Unasked.{without_asks}
+use Rattle.unasked_dues.proofs.Loads.{load_to_apply}
+use Rattle.unasked.proofs.Ends.{applied_seen}
+use Rattle.row_facts.specs.LoadRows.Loaded.{IsLoadToApply}
 use Rattle.apply_plan.specs.Order.{made_in}
 use Rattle.seen_facts.specs.Each.Runs.{is_this}
 use Rattle.row_facts.proofs.FrameRows.LawfulLaws.{ends_other, lawful_plain}
@@ -19,7 +23,7 @@ use Rattle.log_model.specs.declared.row_kind.RowKind.{RowKind}
 use Rattle.navigate_core.specs.Navigations.{change_for}
 use Rattle.seen_laws.proofs.InEvents.{led_here}
 use Rattle.seen_laws.specs.Blocks.{MayLog}
-use Rattle.seen_laws.specs.InEvent.{Anything, InEvent, here_of, now_of, row_of}
+use Rattle.seen_laws.specs.InEvent.{Anything, InEvent, here_of, log_of, now_of, row_of}
 use Rattle.std.proofs.Common.{Bool, List, None, Option, Some, [], ap, arith, cond, false, length, map, refl, subst, sym, true, ℕ, ◌++◌, ◌+◌, ◌==◌, ◌∙◌, ◌∷◌, ◌≡◌, ◌≤◌}
 use Rattle.std.proofs.lemmas.List.{length-map}
 use Rattle.std.specs.Prelude.{if◌then◌else◌}
@@ -32,7 +36,7 @@ use Rattle.tab_doors.proofs.EndLaws.{history_holds}
 use Rattle.tab_doors.proofs.Requests.{applied_moved, moved_same, runs_applied_apart}
 use Rattle.tab_doors.proofs.Sights.{sights_on, sights_same}
 use Rattle.tab_doors.proofs.Takers.{lost_seen, taken_holds}
-use Rattle.tab_doors.proofs.Works.{goal_on, goal_read, next_work, work_more}
+use Rattle.tab_doors.proofs.Works.{aimed_log, at_seen, calm_more, goal_on, goal_read, next_work, none_steps, work_more}
 use Rattle.tab_doors.specs.Dues.{SeesRows, lost_of}
 use Rattle.tab_doors.specs.Ending.{destroy_all}
 use Rattle.tab_doors.specs.Look.{Look, Sight, look_of, sight, sight_in}
@@ -58,8 +62,12 @@ sights_none doc g (d ∷ documents) none = by_test (d.nr.0 == doc.0) refl none (
 
 -- the row passes whatever comes later
 apply_may : (e : InEvent) (out : List RowKind) (req : ReqId) (nav : NavId) (change : Change) {t : Tables} → IsAtWork e out t → IsApplyDue e out req nav change → MayLog (here_of e out) (row_of e (rows.Applied req change) ∷ []) Anything
-unfolding now_of
-apply_may e out req nav change work due = load_may (here_of e out) e.event e.actor req nav due.mode due.address due.asked change (led_here e out work.own) due.due
+apply_may e out req nav change {t} work due =
+    by_log (load_to_apply e.checking (log_of e out) (aimed_log e out t work) (none_steps e.checking work.unchecked (log_of e out)) req nav due.mode due.address due.asked change (at_seen e out t work (λ (s : Seen). IsLoadToApply s req nav due.mode due.address due.asked change) due.due))
+  where
+    by_log : (q : Asked) × (due.asked ≡ without_asks q) × IsLoadToApply (log_of e out) req nav due.mode due.address q change → MayLog (here_of e out) (row_of e (rows.Applied req change) ∷ []) Anything
+    by_log from =
+        load_may (here_of e out) e.event e.actor req nav due.mode due.address from.0 change (led_here e out work.own) from.2
 
 module _ (e : InEvent) (out : List RowKind) (t : Tables) (nav : NavId) (load : Load) (over : EntryId) (nr : ℕ) (work : IsAtWork e out t) where
   abbrev entry : EntryId
@@ -143,7 +151,7 @@ module _ (e : InEvent) (out : List RowKind) (t : Tables) (nav : NavId) (load : L
 
     pub applied_work : ongoing_load nav t.loads ≡ Some load → (next : List Load) → next ≡ cancelled nav t.loads → KeepsOthers nav t.loads next → IsAtWork e (out ++ rows.Applied load.req (change_by b) ∷ []) (record with_lost { loads = next })
     applied_work at next loads others =
-        work_more e out (rows.Applied load.req (change_by b)) None t (record with_lost { loads = next }) work
+        work_more e out (rows.Applied load.req (change_by b)) None t (record with_lost { loads = next }) work refl (applied_seen e.checking (log_of e out) e.event e.actor load.req (change_by b) (λ q found. work.unchecked q.nr)) (work.unchecked load.req) (calm_more e out (rows.Applied load.req (change_by b)) tt tt tt work.calm)
         (record {
           navs = lost_holds.navs;
           documents = lost_holds.documents;

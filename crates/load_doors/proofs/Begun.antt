@@ -1,4 +1,5 @@
 -- A load begins, and the coordinator goes on working; and whether it is to replace the given entry.
+use Rattle.unasked.proofs.Ends.{started_seen}
 use Rattle.row_facts.proofs.FrameRows.LawfulLaws.{lawful_more_owing}
 use Rattle.row_facts.specs.FrameRows.Lawful.{AreLawful}
 use Rattle.load_doors.specs.Loading.{IsToBegin, begun_load}
@@ -19,14 +20,14 @@ use Rattle.seen_facts.proofs.Request.LookUps.{on_itself}
 use Rattle.seen_facts.proofs.Request.Readers.{SameReads}
 use Rattle.seen_facts.proofs.Coord.Held.{on_else}
 use Rattle.seen_laws.proofs.InEvents.{led_here}
-use Rattle.seen_laws.specs.InEvent.{InEvent, here_of, now_of, row_of}
-use Rattle.std.proofs.Common.{Bool, List, None, Option, Some, [], ap, arith, false, refl, subst, sym, true, ℕ, ◌++◌, ◌+◌, ◌==◌, ◌∙◌, ◌∷◌, ◌≡◌}
+use Rattle.seen_laws.specs.InEvent.{InEvent, here_of, log_of, now_of, row_of}
+use Rattle.std.proofs.Common.{Bool, List, None, Option, Some, [], ap, arith, false, refl, subst, sym, true, ℕ, ◌++◌, ◌+◌, ◌==◌, ◌∙◌, ◌∷◌, ◌≡◌, not}
 use Rattle.std.proofs.lemmas.Bool.Decides.{nat_tests}
 use Rattle.std.specs.Prelude.{option_map}
 use Rattle.tab_doors.proofs.Ahead.{lawful_none, none_lawful}
 use Rattle.tab_doors.proofs.EndLaws.{left_holds}
 use Rattle.tab_doors.proofs.Requests.{moved_read, moved_same, runs_same}
-use Rattle.tab_doors.proofs.Works.{started_held, work_more}
+use Rattle.tab_doors.proofs.Works.{none_calm, started_held, work_more}
 use Rattle.tab_doors.specs.Look.{look_of, moved_by}
 use Rattle.tab_doors.specs.Ties.{Holds}
 use Rattle.tab_doors.specs.Working.{HasGoal, IsAtWork}
@@ -76,14 +77,12 @@ module _ (e : InEvent) (out : List RowKind) (t : Tables) (req : ReqId) (nav : Na
   load = begun_load req nav replace address (t.states + 1)
 
   there : request_of s req ≡ Some its.q
-  unfolding now_of
-  there = its.due.at
+  there = subst (λ (x : Seen). request_of x req ≡ Some its.q) work.plain its.due.at
 
   same_states : t.states ≡ s.states
   same_states = work.holds.states
 
   begin_lawful : AreLawful e (out ++ rows.Started req None ∷ [])
-  unfolding now_of
   begin_lawful =
       lawful_more_owing e out (rows.Started req None) (λ r. refl) (started_held e out req None) (none_lawful e out work.lawful) (λ later both. begin_load_owing (here_of e out) e.event e.actor req nav its.mode address its.q (led_here e out work.own) its.due later (both.0.0 req (nat_eq_refl req.0), both.1))
 
@@ -111,7 +110,7 @@ module _ (e : InEvent) (out : List RowKind) (t : Tables) (req : ReqId) (nav : Na
 
   pub begin_load_work : IsAtWork e (out ++ rows.Started req None ∷ []) with_begun
   begin_load_work =
-      work_more e out (rows.Started req None) None t with_begun work
+      work_more e out (rows.Started req None) None t with_begun work (ap not (work.unchecked req)) (started_seen e.checking (log_of e out) e.event e.actor req None (λ q found. work.unchecked q.nr)) (λ by q r at there other traverses on runs. rw (work.unchecked req, work.unchecked by) refl) (none_calm e.checking work.unchecked (after (log_of e out) (row_of e (rows.Started req None))))
       (record {
         navs = record { navs = as_before.navs.navs; order = as_before.navs.order };
         documents = as_before.documents;

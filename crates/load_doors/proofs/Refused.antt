@@ -1,4 +1,8 @@
 -- A load is refused as it is accepted: the two rows may be logged together, and the coordinator is at work then.
+use Rattle.checking_facts.proofs.Rows.{row_checks}
+use Rattle.checking_facts.specs.Checks.{AreInCheck}
+use Rattle.seen_laws.specs.Unasked.{unasked}
+use Rattle.unasked.proofs.Ends.{refused_seen}
 use Rattle.seen_facts.specs.Each.Runs.{is_this}
 use Rattle.row_facts.specs.FrameRows.Lawful.{AreLawful}
 use Rattle.load_doors.specs.Refusing.{IsDeniedLoad}
@@ -15,16 +19,16 @@ use Rattle.log_model.specs.declared.row_kind.Actor.{Actor}
 use Rattle.log_model.specs.declared.row_kind.LogRow.{LogRow}
 use Rattle.log_model.specs.declared.row_kind.RowKind.{RowKind}
 use Rattle.seen_facts.proofs.Request.Readers.{on_read}
-use Rattle.seen_laws.proofs.InEvents.{now_more, now_own}
+use Rattle.seen_laws.proofs.InEvents.{log_more, now_more, now_own}
 use Rattle.seen_laws.specs.Blocks.{MayLog}
-use Rattle.seen_laws.specs.InEvent.{InEvent, now_of, row_of, start_of}
+use Rattle.seen_laws.specs.InEvent.{InEvent, log_of, now_of, row_of, start_of}
 use Rattle.seen_laws.specs.Sending.{leads}
 use Rattle.std.proofs.Common.{List, None, Some, [], ap, false, length, refl, subst, sym, ◌+◌, ◌∙◌, ◌∷◌, ◌≡◌, ◌≤◌}
 use Rattle.tab_doors.proofs.Ahead.{lawful_none}
 use Rattle.tab_doors.proofs.EndLaws.{left_holds}
 use Rattle.tab_doors.proofs.Keeping.{unstarted_no_load}
 use Rattle.tab_doors.proofs.Requests.{ended_moved, moved_same, runs_ended_apart}
-use Rattle.tab_doors.proofs.Works.{goal_read, goal_same}
+use Rattle.tab_doors.proofs.Works.{goal_read, goal_same, none_calm}
 use Rattle.tab_doors.specs.Look.{look_of, moved_by}
 use Rattle.tab_doors.specs.Ties.{AreInitial, Holds, IsRunning}
 use Rattle.tab_doors.specs.Working.{HasGoal, IsAtWork, IsWorker}
@@ -64,7 +68,7 @@ module _ (e : InEvent) (t : Tables) (req : ReqId) (reason : Denial) (denied : Is
 
   there : request_of s req ≡ Some (new_request req None (requests.Load denied.nav denied.mode denied.address))
   there =
-      ap (λ (x : Seen). request_of x req) (now_own e ∙ ap (λ (row : LogRow). after e.start row) own_row)
+      ap (λ (x : Seen). request_of x req) (sym denied.plain ∙ ap (λ (row : LogRow). after e.start row) own_row)
       ∙ load_there e.start e.event req denied.nav denied.mode denied.address denied.next
 
   -- the traversal that runs has begun
@@ -82,6 +86,15 @@ module _ (e : InEvent) (t : Tables) (req : ReqId) (reason : Denial) (denied : Is
       record {
         own = ap (λ (k : RowKind). leads k) denied.own;
         worker = subst (λ (a : Actor). IsWorker a) (sym denied.by_user) tt;
+        unchecked = denied.unchecked;
+        begins = denied.begins;
+        rows = refl;
+        plain = log_more e [] (rows.Refused req reason) ∙ ap (λ (x : Seen). after x (row_of e (rows.Refused req reason))) denied.plain ∙ sym now_is;
+        same = now_is ∙ ap (λ (x : Seen). after x (row_of e (rows.Refused req reason))) (now_own e) ∙ sym (refused_seen e.checking (log_of e []) e.event e.actor req reason) ∙ ap (λ (x : Seen). unasked e.checking x) (sym (log_more e [] (rows.Refused req reason)));
+        checks =
+            subst (λ (x : Seen). AreInCheck e.checking x) (sym (log_more e [] (rows.Refused req reason)))
+            (row_checks e.checking (log_of e []) (row_of e (rows.Refused req reason)) tt denied.checks);
+        calm = none_calm e.checking denied.unchecked (log_of e (rows.Refused req reason ∷ []));
         holds = subst (λ (x : Seen). Holds (look_of x t.running) t) (sym now_is) (left_holds (look_of s t.running) (look_of n t.running) t refl refl refl moved refl refl refl tied.holds);
         runs = subst (λ (x : Seen). IsRunning x.requests t.running) (sym now_is) (runs_ended_apart s.requests t.running req (endings.Refused reason) apart tied.runs);
         goal = subst (λ (x : Seen). HasGoal x.requests t.running t.goal) (sym now_is) (goal_same s.requests over t.running t.goal (on_read goal_read s.requests req (λ q. record q { ending = Some (endings.Refused reason) }) (λ q. refl)) tied.goal);
@@ -93,4 +106,4 @@ module _ (e : InEvent) (t : Tables) (req : ReqId) (reason : Denial) (denied : Is
       }
     where
       now_is : now_of e (rows.Refused req reason ∷ []) ≡ n
-      now_is = now_more e [] (rows.Refused req reason)
+      now_is = now_more e [] (rows.Refused req reason) refl

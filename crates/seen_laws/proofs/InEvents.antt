@@ -1,6 +1,9 @@
 -- One row more in an event.
 use Rattle.std.proofs.Common.{◌≡◌, Bool, true, false, cond, ◌||◌, Option, None, List, [], ◌∷◌, ◌++◌, map, fold, refl, sym, ap, ◌∙◌, subst, append_assoc, append-nil}
 use Rattle.std.proofs.lemmas.List.{map-append}
+use Rattle.std.proofs.lemmas.List.Elements.{filter-append}
+use Rattle.std.specs.Prelude.{filter}
+use Rattle.seen_laws.specs.Unasked.{unasked}
 use Rattle.log_model.specs.declared.row_kind.LogRow.{LogRow}
 use Rattle.log_model.specs.declared.row_kind.RowKind.{RowKind}
 use Rattle.log_model.specs.Seen.{Seen}
@@ -15,10 +18,10 @@ use Rattle.log_model.specs.declared.job.Task.TheVariants as tasks
 use Rattle.log_model.specs.declared.row_kind.RowKind.TheVariants as rows
 use Rattle.log_model.specs.Orders.{Question, is_for, question_in}
 use Rattle.seen_laws.specs.Sending.{IsToldTask}
-use Rattle.seen_laws.specs.InEvent.{InEvent, row_of, start_of, first_of, here_of, now_of, begins, IsTakenIn, IsRest, IsPaid, IsClear, Anything, AreLegal}
-use Rattle.seen_laws.specs.Owing.{Pays, owes, owes_row, MayLogOwing}
+use Rattle.seen_laws.specs.InEvent.{InEvent, row_of, start_of, first_of, here_of, is_seen, seen_first, seen_here, seen_rows, log_of, now_of, begins, IsTakenIn, IsRest, IsPaid, IsClear, Anything, AreLegal}
+use Rattle.seen_laws.specs.Owing.{Pays, MayLogOwing}
 use Rattle.seen_laws.proofs.BlockLaws.{each_pass_append}
-use Rattle.seen_laws.proofs.Owings.{pays_append, owes_append}
+use Rattle.seen_laws.proofs.Owings.{pays_append}
 
 on_rows_append : (h : Here) (rows more : List LogRow) → on_rows h (rows ++ more) ≡ on_rows (on_rows h rows) more
 on_rows_append h [] more = refl
@@ -27,27 +30,63 @@ on_rows_append h (row ∷ rows) more = on_rows_append (on_row h row) rows more
 pub here_more : (e : InEvent) (out : List RowKind) (kind : RowKind) → here_of e (out ++ kind ∷ []) ≡ on_row (here_of e out) (row_of e kind)
 here_more e out kind = ap (λ (rows : List LogRow). on_rows (first_of e) rows) (map-append (row_of e) out (kind ∷ [])) ∙ on_rows_append (first_of e) (map (row_of e) out) (row_of e kind ∷ [])
 
-pub now_more : (e : InEvent) (out : List RowKind) (kind : RowKind) → now_of e (out ++ kind ∷ []) ≡ after (now_of e out) (row_of e kind)
+pub log_more : (e : InEvent) (out : List RowKind) (kind : RowKind) → log_of e (out ++ kind ∷ []) ≡ after (log_of e out) (row_of e kind)
+log_more e out kind = ap (λ (h : Here). h.now) (here_more e out kind)
+
+-- the rows that are seen, with one more
+filter_more : (test : RowKind → Bool) (out : List RowKind) (kind : RowKind) → test kind ≡ true → filter test (out ++ kind ∷ []) ≡ filter test out ++ kind ∷ []
+filter_more test out kind is =
+    filter-append test out (kind ∷ []) ∙ ap (λ (kinds : List RowKind). filter test out ++ kinds) (ap (λ b. cond b (kind ∷ []) []) is)
+
+filter_less : (test : RowKind → Bool) (out : List RowKind) (kind : RowKind) → test kind ≡ false → filter test (out ++ kind ∷ []) ≡ filter test out
+filter_less test out kind isnt =
+    filter-append test out (kind ∷ []) ∙ ap (λ (kinds : List RowKind). filter test out ++ kinds) (ap (λ b. cond b (kind ∷ []) []) isnt) ∙ append-nil (filter test out)
+
+-- one that is seen
+pub seen_more : (e : InEvent) (out : List RowKind) (kind : RowKind) → is_seen e.checking kind ≡ true → seen_rows e (out ++ kind ∷ []) ≡ seen_rows e out ++ row_of e kind ∷ []
+seen_more e out kind seen =
+    ap (λ (kinds : List RowKind). map (row_of e) kinds) (filter_more (is_seen e.checking) out kind seen)
+    ∙ map-append (row_of e) (filter (is_seen e.checking) out) (kind ∷ [])
+
+pub seen_here_more : (e : InEvent) (out : List RowKind) (kind : RowKind) → is_seen e.checking kind ≡ true → seen_here e (out ++ kind ∷ []) ≡ on_row (seen_here e out) (row_of e kind)
+seen_here_more e out kind seen =
+    ap (λ (rows_ : List LogRow). on_rows (seen_first e) rows_) (seen_more e out kind seen)
+    ∙ on_rows_append (seen_first e) (seen_rows e out) (row_of e kind ∷ [])
+
+pub now_more : (e : InEvent) (out : List RowKind) (kind : RowKind) → is_seen e.checking kind ≡ true → now_of e (out ++ kind ∷ []) ≡ after (now_of e out) (row_of e kind)
 unfolding now_of
-now_more e out kind = ap (λ (h : Here). h.now) (here_more e out kind)
+now_more e out kind seen = ap (λ (h : Here). h.now) (seen_here_more e out kind seen)
+
+-- one that isn't
+pub now_unseen : (e : InEvent) (out : List RowKind) (kind : RowKind) → is_seen e.checking kind ≡ false → now_of e (out ++ kind ∷ []) ≡ now_of e out
+unfolding now_of
+now_unseen e out kind unseen =
+    ap (λ (kinds : List RowKind). (on_rows (seen_first e) (map (row_of e) kinds)).now) (filter_less (is_seen e.checking) out kind unseen)
+
+-- what each row keeps holds after one more, whether it is seen or not
+pub now_step : (P : Seen → Type 0) (e : InEvent) (out : List RowKind) (kind : RowKind) → (P (now_of e out) → P (after (now_of e out) (row_of e kind))) → P (now_of e out) → P (now_of e (out ++ kind ∷ []))
+now_step P e out kind keeps holds_ = by_seen (is_seen e.checking kind) refl
+  where
+    by_seen : (b : Bool) → is_seen e.checking kind ≡ b → P (now_of e (out ++ kind ∷ []))
+    by_seen true is = subst P (sym (now_more e out kind is)) (keeps holds_)
+    by_seen false isnt = subst P (sym (now_unseen e out kind isnt)) holds_
 
 -- the event's own row alone
-pub now_own : (e : InEvent) → now_of e [] ≡ after e.start (row_of e e.own)
+pub now_own : (e : InEvent) → now_of e [] ≡ unasked e.checking (after e.start (row_of e e.own))
 unfolding now_of
 now_own e = refl
 
 -- the event one row on
-pub next_now : (e : InEvent) (out more : List RowKind) (kind : RowKind) → more ≡ out ++ kind ∷ [] → now_of e more ≡ after (now_of e out) (row_of e kind)
-next_now e out more kind is = ap (λ (l : List RowKind). now_of e l) is ∙ now_more e out kind
+pub next_now : (e : InEvent) (out more : List RowKind) (kind : RowKind) → is_seen e.checking kind ≡ true → more ≡ out ++ kind ∷ [] → now_of e more ≡ after (now_of e out) (row_of e kind)
+next_now e out more kind seen is = ap (λ (l : List RowKind). now_of e l) is ∙ now_more e out kind seen
 
 -- all rows of the event
 fold_rows : (h : Here) (rows : List LogRow) → (on_rows h rows).now ≡ fold after h.now rows
 fold_rows h [] = refl
 fold_rows h (row ∷ rows) = fold_rows (on_row h row) rows
 
-pub now_fold : (e : InEvent) (out : List RowKind) → now_of e out ≡ fold after e.start (row_of e e.own ∷ map (row_of e) out)
-unfolding now_of
-now_fold e out = fold_rows (start_of e) (row_of e e.own ∷ map (row_of e) out)
+pub log_fold : (e : InEvent) (out : List RowKind) → log_of e out ≡ fold after e.start (row_of e e.own ∷ map (row_of e) out)
+log_fold e out = fold_rows (start_of e) (row_of e e.own ∷ map (row_of e) out)
 
 -- a row that asks no document
 abbrev pub IsQuiet : InEvent → RowKind → Type 0

@@ -1,6 +1,6 @@
 -- An event in which the coordinator works: its own row, and the rows put out so far.
 -- This project's own.
-use Rattle.std.specs.Prelude.{◌≡◌, ℕ, Bool, true, false, ◌==◌, List, [], ◌∷◌, ◌++◌, map}
+use Rattle.std.specs.Prelude.{◌≡◌, ℕ, Bool, true, false, not, ◌==◌, List, [], ◌∷◌, ◌++◌, map, filter}
 use Rattle.std.specs.List.{list_any, filter_map}
 use Rattle.tab_ids.specs.declared.ReqId.{ReqId}
 use Rattle.log_model.specs.declared.header.Header.{Header}
@@ -9,6 +9,7 @@ use Rattle.log_model.specs.declared.row_kind.LogRow.{LogRow}
 use Rattle.log_model.specs.declared.row_kind.RowKind.{RowKind}
 use Rattle.log_model.specs.declared.row_kind.RowKind.TheVariants as rows
 use Rattle.log_model.specs.Seen.{Seen}
+use Rattle.seen_laws.specs.Unasked.{is_question, unasked}
 use Rattle.log_model.specs.Orders.{question_in}
 use Rattle.log_model.specs.Queue.{is_delivered_duly}
 use Rattle.seen_laws.specs.Blocks.{Here, point_at, on_row, on_rows, MayLog}
@@ -21,6 +22,8 @@ pub record InEvent : Type 0 where
   pub event : ℕ
   pub actor : Actor
   pub own : RowKind
+  -- the requests that are in their unload check, as the coordinator has it
+  pub checking : ReqId → Bool
 
 -- a row of the event
 abbrev pub row_of : InEvent → RowKind → LogRow
@@ -37,8 +40,31 @@ abbrev pub here_of : InEvent → List RowKind → Here
 here_of e out = on_rows (first_of e) (map (row_of e) out)
 
 -- what the log has come to by then
+abbrev pub log_of : InEvent → List RowKind → Seen
+log_of e out = (here_of e out).now
+
+-- the row is seen in the log as it would be had nobody been asked
+abbrev pub is_seen : (ReqId → Bool) → RowKind → Bool
+is_seen checking (rows.Started req goal) = not (checking req)
+is_seen checking (rows.Prompted req doc) = false
+is_seen checking (rows.Answered req stay) = false
+is_seen checking (rows.Sent job) = not (is_question job.task)
+is_seen checking _ = true
+
+-- where the event stands in the log as it would be had nobody been asked: after its own row, and after those of these rows that are seen
+abbrev pub seen_first : InEvent → Here
+seen_first e =
+    record { header = e.header; start = unasked e.checking e.start; now = unasked e.checking (first_of e).now; done = row_of e e.own ∷ [] }
+
+abbrev pub seen_rows : InEvent → List RowKind → List LogRow
+seen_rows e out = map (row_of e) (filter (is_seen e.checking) out)
+
+abbrev pub seen_here : InEvent → List RowKind → Here
+seen_here e out = on_rows (seen_first e) (seen_rows e out)
+
+-- what that log has come to by then
 unfoldable pub now_of : InEvent → List RowKind → Seen
-now_of e out = (here_of e out).now
+now_of e out = (seen_here e out).now
 
 -- nothing is asked of what comes later
 abbrev pub Anything : List LogRow → Type 0

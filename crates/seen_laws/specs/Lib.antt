@@ -1,3 +1,4 @@
+pub mod Unasked
 pub mod Blocks
 pub mod Owing
 pub mod InEvent

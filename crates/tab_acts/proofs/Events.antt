@@ -5,9 +5,8 @@ use Rattle.log_model.specs.declared.row_kind.Actor.{Actor}
 use Rattle.log_model.specs.declared.row_kind.LogRow.{LogRow}
 use Rattle.log_model.specs.declared.row_kind.RowKind.{RowKind}
 use Rattle.move_queue.specs.Queue.{Queue}
-use Rattle.seen_laws.proofs.InEvents.{now_own}
 use Rattle.seen_laws.specs.Blocks.{EachPass}
-use Rattle.seen_laws.specs.InEvent.{InEvent, now_of, row_of, start_of}
+use Rattle.seen_laws.specs.InEvent.{InEvent, log_of, row_of, start_of}
 use Rattle.seen_laws.specs.Blocks.{Passes}
 use Rattle.std.proofs.Common.{List, [], ap, subst, sym, ℕ, ◌∙◌, ◌∷◌, ◌≡◌}
 use Rattle.tab_doors.specs.declared.tables.Tables.{Tables}
@@ -21,10 +20,9 @@ module _ (e : InEvent) (actor : Actor) (kind : RowKind) (by : e.actor ≡ actor)
       ap (λ (a : Actor). let r : LogRow = record { event = e.event; actor = a; row = e.own } in r) by
       ∙ ap (λ (k : RowKind). let r : LogRow = record { event = e.event; actor = actor; row = k } in r) own
 
-  pub now_is : now_of e [] ≡ next e.start e.event actor kind
-  now_is =
-      now_own e
-      ∙ ap (λ (a : Actor). next e.start e.event a e.own) by
+  pub log_is : log_of e [] ≡ next e.start e.event actor kind
+  log_is =
+      ap (λ (a : Actor). next e.start e.event a e.own) by
       ∙ ap (λ (k : RowKind). next e.start e.event actor k) own
 
   -- an event of this row alone
@@ -32,7 +30,7 @@ module _ (e : InEvent) (actor : Actor) (kind : RowKind) (by : e.actor ≡ actor)
     pub alone_acts : (t : Tables) (queue : Queue) (blame : List (StateId × ReqId)) → StandsFor (next e.start e.event actor kind) t queue blame → Passes e.header (record { start = e.start; now = e.start; done = []; later = [] }) (record { event = e.start.events; actor = actor; row = kind }) → HasActed e [] t queue blame
     alone_acts t queue blame stands passes =
         record {
-          stands = subst (λ (s : Seen). StandsFor s t queue blame) (sym now_is) stands;
+          stands = subst (λ (s : Seen). StandsFor s t queue blame) (sym log_is) stands;
           passes =
               subst (λ (r : LogRow). EachPass (start_of e) (r ∷ []) []) (sym own_row)
               (subst (λ (i : ℕ). EachPass (start_of e) ((let r : LogRow = record { event = i; actor = actor; row = kind } in r) ∷ []) []) (sym event) (passes, tt));

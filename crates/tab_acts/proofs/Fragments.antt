@@ -36,11 +36,11 @@ use Rattle.seen_facts.specs.Each.Items.{Each}
 use Rattle.seen_facts.proofs.Request.LookUps.{on_itself}
 use Rattle.seen_facts.proofs.Request.Readers.{SameReads, on_read}
 use Rattle.seen_laws.specs.Blocks.{EachPass}
-use Rattle.seen_laws.proofs.InEvents.{now_more}
-use Rattle.seen_laws.specs.InEvent.{InEvent, now_of, row_of, start_of}
+use Rattle.seen_laws.proofs.InEvents.{log_more}
+use Rattle.seen_laws.specs.InEvent.{InEvent, log_of, row_of, start_of}
 use Rattle.std.proofs.Common.{Bool, List, None, Option, Some, [], ap, arith, cond, eqb-true, false, map, not, refl, subst, sym, true, ℕ, ℤ, ◌++◌, ◌&&◌, ◌==◌, ◌∙◌, ◌∷◌, ◌≡◌}
 use Rattle.std.specs.Prelude.{find, is_none, is_some, length, option_map, option_to_list}
-use Rattle.tab_acts.proofs.Events.{now_is, own_row}
+use Rattle.tab_acts.proofs.Events.{log_is, own_row}
 use Rattle.tab_acts.proofs.Left.{StaysTold, left_stands}
 use Rattle.tab_stands.proofs.Coming.{bare}
 use Rattle.tab_doors.proofs.Sights.{IsSeen, seen_of, sight_of, sights_same, unseen_at}
@@ -298,15 +298,15 @@ module _ (e : InEvent) (t : Tables) (queue : Queue) (blame : List (StateId × Re
   pub fragment_acts : e.actor ≡ actors.Proc proc → e.own ≡ rows.Finished proc order.job.nr outcomes.Fragmented → HasActed e (rows.Made proc (made_for view req (fragment_of view mode address)) ∷ []) t queue blame
   fragment_acts by own =
       record {
-        stands = subst (λ (x : Seen). StandsFor x t queue blame) (sym now) fragment_stands;
+        stands = subst (λ (x : Seen). StandsFor x t queue blame) (sym came) fragment_stands;
         passes =
             subst (λ (r : LogRow). EachPass (start_of e) (r ∷ map (row_of e) out) []) (sym (own_row e (actors.Proc proc) (rows.Finished proc order.job.nr outcomes.Fragmented) by own))
             (subst (λ (a : Actor). EachPass (start_of e) ((let r : LogRow = record { event = e.event; actor = actors.Proc proc; row = rows.Finished proc order.job.nr outcomes.Fragmented } in r) ∷ (let r : LogRow = record { event = e.event; actor = a; row = rows.Made proc made } in r) ∷ []) []) (sym by)
             (fragment_event_passes e.header s e.event proc order req mode address d view in_hand load.q load.is.asked load.is.unmade));
       }
     where
-      now : now_of e out ≡ n
-      now =
-          now_more e [] (rows.Made proc made)
-          ∙ ap (λ (x : Seen). next x e.event e.actor (rows.Made proc made)) (now_is e (actors.Proc proc) (rows.Finished proc order.job.nr outcomes.Fragmented) by own)
+      came : log_of e out ≡ n
+      came =
+          log_more e [] (rows.Made proc made)
+          ∙ ap (λ (x : Seen). next x e.event e.actor (rows.Made proc made)) (log_is e (actors.Proc proc) (rows.Finished proc order.job.nr outcomes.Fragmented) by own)
           ∙ ap (λ (a : Actor). next half e.event a (rows.Made proc made)) by

@@ -1,4 +1,5 @@
 -- The report of an order that neither made nor showed a document is taken: where no document is left to be discarded, the coordinator that stood for the log stands for it still, and the event is over.
+use Rattle.tab_stands.proofs.Ended.{paid_log}
 use Rattle.log_model.specs.Equal.{holds}
 use Rattle.log_model.specs.History.{has_state}
 use Rattle.log_model.specs.Orders.{ongoing_load}
@@ -45,26 +46,26 @@ use Rattle.tab_stands.proofs.PassedOn.{of_load, unstood_by}
 use Rattle.tab_stands.proofs.Reports.{told_kept, told_legal}
 use Rattle.tab_stands.specs.Delivering.{IsDelivery, IsQuietTask}
 use Rattle.tab_stands.specs.PassedOn.{IsStray}
-use Rattle.tab_stands.specs.Standing.{HasActed, HasBegun, HasRoomFor, StandsFor}
+use Rattle.tab_stands.specs.Standing.{HasActed, HasBegun, HasRoomFor, StandsFor, StartsUnasked}
 
-module _ (e : InEvent) (proc : ProcId) (job : Job) (outcome : Outcome) (del : IsDelivery e proc (reports.Done job outcome None)) (t : Tables) (queue : Queue) (blame : List (StateId × ReqId)) (stands : StandsFor e.start t queue blame) (quiet : IsQuietTask job.task) (room : HasRoomFor e.start) (header : t.kept.keep ≡ e.header.keep) (clear : blame ≡ []) where
+module _ (e : InEvent) (proc : ProcId) (job : Job) (outcome : Outcome) (del : IsDelivery e proc (reports.Done job outcome None)) (t : Tables) (queue : Queue) (blame : List (StateId × ReqId)) (stands : StandsFor e.start t queue blame) (aside : StartsUnasked e) (quiet : IsQuietTask job.task) (room : HasRoomFor e.start) (header : t.kept.keep ≡ e.header.keep) (clear : blame ≡ []) where
   abbrev s : Seen
   s = e.start
 
   abbrev n : Seen
-  n = did e proc job outcome del t queue blame stands
+  n = did e proc job outcome del t queue blame stands aside
 
   docs : n.documents ≡ s.documents
-  docs = documents_same e proc job outcome del t queue blame stands quiet
+  docs = documents_same e proc job outcome del t queue blame stands aside quiet
 
   places : n.places ≡ s.places
-  places = places_same e proc job outcome del t queue blame stands quiet
+  places = places_same e proc job outcome del t queue blame stands aside quiet
 
   asked : n.requests ≡ s.requests
-  asked = did_requests e proc job outcome del t queue blame stands (quiet_asks e proc job outcome del t queue blame stands quiet)
+  asked = did_requests e proc job outcome del t queue blame stands aside (quiet_asks e proc job outcome del t queue blame stands aside quiet)
 
   begun : HasBegun (record { event = e; loads = []; hand = [] }) t queue blame
-  begun = quiet_begun e proc job outcome del t queue blame stands quiet room header
+  begun = quiet_begun e proc job outcome del t queue blame stands aside quiet room header
 
   -- what it leaves
   left : IsLeftBut t.running s n
@@ -76,9 +77,9 @@ module _ (e : InEvent) (proc : ProcId) (job : Job) (outcome : Outcome) (del : Is
         asked = same_left t.running s.requests n.requests (subst (λ (l : List Asked). SameReads lean s.requests l) (sym asked) (λ r. refl));
         history = refl;
         places = places;
-        kept = told_kept e proc del.by_coord del.own t queue blame stands (reports.Done job outcome None) del.first;
-        joined = did_joined e proc job outcome del t queue blame stands;
-        parked = did_parked e proc job outcome del t queue blame stands;
+        kept = told_kept e proc del.by_coord del.own t queue blame stands aside (reports.Done job outcome None) del.first;
+        joined = did_joined e proc job outcome del t queue blame stands aside;
+        parked = did_parked e proc job outcome del t queue blame stands aside;
       }
 
   told : StaysTold s n
@@ -119,7 +120,7 @@ module _ (e : InEvent) (proc : ProcId) (job : Job) (outcome : Outcome) (del : Is
 
   between : IsBetween t.kept.keep t.running n
   between =
-      between_but t.kept.keep t.running s n stands.between (did_tab e proc job outcome del t queue blame stands) left
+      between_but t.kept.keep t.running s n stands.between (did_tab e proc job outcome del t queue blame stands aside) left
       (done_flows t.running s e.event proc stands.between.tab stands.between.flows job outcome del.first)
       (delivered_rests s e.event actors.Coord [] stands.between.rests proc alive)
       (inl swept)
@@ -130,7 +131,7 @@ module _ (e : InEvent) (proc : ProcId) (job : Job) (outcome : Outcome) (del : Is
   pub told_stands : StandsFor n t queue blame
   told_stands =
       left_stands e t queue blame stands room n left told between
-      (subst (λ (x : Seen). AreLasting x) (did_now e proc job outcome del t queue blame stands) begun.passing.going.lasting)
+      (subst (λ (x : Seen). AreLasting x) (did_now e proc job outcome del t queue blame stands aside) begun.passing.going.lasting)
       (λ F are. orders_after F s e.event actors.Coord (rows.Delivered proc) tt (λ x is. cc) are)
       (theirs_same s n asked (λ doc d found. (d, ap (λ (l : List Document). find (λ (x : Document). x.nr.0 == doc.0) l) docs ∙ found, refl)) stands.lasts.made)
       (were_shown s e.event actors.Coord stands.lasts.were (rows.Delivered proc) tt)
@@ -140,9 +141,9 @@ module _ (e : InEvent) (proc : ProcId) (job : Job) (outcome : Outcome) (del : Is
   pub told_acts : HasActed e [] t queue blame
   told_acts =
       record {
-        stands = subst (λ (x : Seen). StandsFor x t queue blame) (sym (did_now e proc job outcome del t queue blame stands)) told_stands;
+        stands = subst (λ (x : Seen). StandsFor x t queue blame) (sym (aside.plain ∙ did_now e proc job outcome del t queue blame stands aside)) told_stands;
         passes =
-            legal_end e [] (told_legal e proc del.by_coord del.own t queue blame stands (reports.Done job outcome None) del.first)
-            (owed_paid e [] (loose_owed e [] begun.loose))
-            (did_takes e proc job outcome del t queue blame stands []);
+            legal_end e [] (told_legal e proc del.by_coord del.own t queue blame stands aside (reports.Done job outcome None) del.first)
+            (paid_log e [] begun.passing.work (owed_paid e [] (loose_owed e [] begun.loose)))
+            (did_takes e proc job outcome del t queue blame stands aside []);
       }

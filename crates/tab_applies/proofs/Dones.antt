@@ -104,7 +104,7 @@ module _ (p : InPass) (out : List RowKind) (t : Tables) (passing : IsPassing p o
     n = next s e.event e.actor (rows.Applied load.req change)
 
     now : now_of e more ≡ n
-    now = ap (λ (l : List RowKind). now_of e l) out_is ∙ now_more e out (rows.Applied load.req change)
+    now = ap (λ (l : List RowKind). now_of e l) out_is ∙ now_more e out (rows.Applied load.req change) refl
 
     going_then : IsGoing None p.loads p.hand n
     going_then =
@@ -116,7 +116,7 @@ module _ (p : InPass) (out : List RowKind) (t : Tables) (passing : IsPassing p o
     loose_then : IsLoose e more
     loose_then =
         subst (λ (l : List RowKind). IsLoose e l) (sym out_is)
-        (loose_more e out (rows.Applied load.req change) (passing.loose stand) (applied_lasts s e.event e.actor load.req change) (λ end on. refl))
+        (loose_more e out (rows.Applied load.req change) refl (passing.loose stand) (applied_lasts s e.event e.actor load.req change) (λ end on. refl))
 
     pub apply_passing : IsPassing p more u
     apply_passing =

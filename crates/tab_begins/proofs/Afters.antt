@@ -142,7 +142,7 @@ module _ (p : InPass) (out : List RowKind) (t : Tables) (passing : IsPassing p o
   change = change_for load it.over (new_entry t)
 
   now_is : n ≡ next s e.event e.actor (rows.Applied load.req change)
-  now_is = ap (λ (l : List RowKind). now_of e l) it.out ∙ now_more e out (rows.Applied load.req change)
+  now_is = ap (λ (l : List RowKind). now_of e l) it.out ∙ now_more e out (rows.Applied load.req change) refl
 
   history_is : n.history ≡ applied s.history change
   history_is = ap (λ (x : Seen). x.history) now_is

@@ -1,4 +1,6 @@
 -- A change is put out, and the coordinator goes on working.
+use Rattle.tab_doors.proofs.LogDues.{end_due, take_due}
+use Rattle.unasked.proofs.Ends.{applied_seen}
 use Rattle.apply_plan.specs.Order.{made_in}
 use Rattle.seen_facts.proofs.Coord.Held.{without_same}
 use Rattle.tab_doors.proofs.Ahead.{lawful_none, none_lawful}
@@ -12,8 +14,8 @@ use Rattle.tab_doors.proofs.Requests.{runs_applied_apart, runs_applied_own}
 use Rattle.tab_doors.proofs.Sights.{sights_on, sights_same}
 use Rattle.tab_doors.proofs.Takers.{lost_seen, none_lost, removed_holds, taken_holds}
 use Rattle.tab_doors.proofs.Whose.{whose_on}
-use Rattle.tab_doors.proofs.Works.{goal_of_none, goal_on, goal_read, work_more}
-use Rattle.tab_doors.specs.Dues.{IsAdded, IsEndDue, IsMadeFor, IsTakeDue, KeepsRows, SeesRows, lost_of}
+use Rattle.tab_doors.proofs.Works.{aimed_log, calm_more, goal_of_none, goal_on, goal_read, moving_log, work_more}
+use Rattle.tab_doors.specs.Dues.{IsAdded, IsEndDue, IsEndDueIn, IsMadeFor, IsTakeDue, IsTakeDueIn, KeepsRows, SeesRows, lost_of}
 use Rattle.tab_doors.specs.Ending.{destroy_all, unmove_all}
 use Rattle.tab_doors.specs.Keeping.{IsNoLoad}
 use Rattle.tab_doors.specs.Look.{Sight, look_of, moved_by, sight}
@@ -54,7 +56,7 @@ use Rattle.page_cache.specs.Kept.{Kept}
 use Rattle.seen_facts.proofs.Request.Readers.{SameReads, on_read, reads_then}
 use Rattle.seen_laws.proofs.InEvents.{led_here, now_more}
 use Rattle.seen_laws.specs.Blocks.{Here, MayLog, point_at}
-use Rattle.seen_laws.specs.InEvent.{Anything, InEvent, here_of, now_of, row_of}
+use Rattle.seen_laws.specs.InEvent.{Anything, InEvent, here_of, log_of, now_of, row_of}
 use Rattle.std.proofs.Common.{Bool, List, None, Option, Some, [], ap, arith, cond, false, inl, inr, length, map, refl, subst, sym, true, ℕ, ◌&&◌, ◌++◌, ◌+◌, ◌==◌, ◌∙◌, ◌∷◌, ◌≡◌, ◌≤◌, ◌⊎◌}
 use Rattle.std.proofs.lemmas.List.{length-map}
 use Rattle.std.specs.Prelude.{filter, filter_map}
@@ -106,17 +108,19 @@ module _ (e : InEvent) (out : List RowKind) (t u : Tables) (req : ReqId) (change
   abbrev IsNoTraverse : Type 0
   IsNoTraverse = (h : Here) (later : List LogRow) → is_traversed_duly (point_at h later) change ≡ true
 
-  take_may : IsNoTraverse → IsMadeFor (now_of e out) req due.asked due.made → MayLog (here_of e out) (row_of e (rows.Applied req change) ∷ []) Anything
-  unfolding now_of
-  take_may plain (inl poked) = taken_may (here_of e out) e.event e.actor (led_here e out work.own) req due.asked due.made change due.due poked due.unstarted due.changes due.at_once due.free due.taken (plain (here_of e out))
-  take_may plain (inr made) = fragment_applied_may (here_of e out) e.event e.actor req due.asked due.made change (led_here e out work.own) due.due made due.free due.taken
+  take_may : IsNoTraverse → (d : IsTakeDueIn (log_of e out) e out req change) → IsMadeFor (log_of e out) req d.asked d.made → MayLog (here_of e out) (row_of e (rows.Applied req change) ∷ []) Anything
+  take_may plain d (inl poked) =
+      taken_may (here_of e out) e.event e.actor (led_here e out work.own) req d.asked d.made change d.due poked d.unstarted d.changes d.at_once d.free d.taken (plain (here_of e out))
+  take_may plain d (inr made) =
+      fragment_applied_may (here_of e out) e.event e.actor req d.asked d.made change (led_here e out work.own) d.due made d.free d.taken
 
   take_lawful : IsNoTraverse → AreLawful e (out ++ rows.Applied req change ∷ [])
-  take_lawful plain = lawful_plain e out (rows.Applied req change) (λ r. refl) due.held (none_lawful e out work.lawful) (take_may plain due.by)
+  take_lawful plain =
+      lawful_plain e out (rows.Applied req change) (λ r. refl) due.held (none_lawful e out work.lawful) (let d : IsTakeDueIn (log_of e out) e out req change = take_due e out work.same (moving_log e out t work) work.checks.others req change (work.unchecked req) due in take_may plain d d.by)
 
   pub taken_work : IsNoTraverse → Holds (look_of then_ t.running) u → AreInitial then_.initial_states u.initial.entries → u.loads ≡ t.loads → u.kept ≡ t.kept → IsAtWork e (out ++ rows.Applied req change ∷ []) u
   taken_work plain holds initial loads kept =
-      work_more e out (rows.Applied req change) None t u work
+      work_more e out (rows.Applied req change) None t u work refl (applied_seen e.checking (log_of e out) e.event e.actor req change (λ q found. work.unchecked q.nr)) (work.unchecked req) (calm_more e out (rows.Applied req change) tt tt tt work.calm)
       (subst (λ (r : Option ReqId). Holds (look_of then_ r) u) (sym running) holds)
       (subst (λ (r : Option ReqId). IsRunning then_.requests r) (sym running) (runs_applied_apart (now_of e out) e.event e.actor t.running req change apart work.runs))
       (goal_on (now_of e out).requests then_.requests t u (applied_reads goal_read (now_of e out) e.event e.actor req change (λ q x. refl) (λ q x. refl) (λ q x. refl)) running goal work.goal)
@@ -265,20 +269,25 @@ module _ (e : InEvent) (out : List RowKind) (t u : Tables) (req : ReqId) (goal_ 
   held_then later asks = by_first due.first
     where
       left : (now_of e (out ++ rows.Applied req (changes.Traverse goal_) ∷ [])).parked ≡ (now_of e out).parked
-      left = ap (λ (s : Seen). s.parked) (now_more e out (rows.Applied req (changes.Traverse goal_))) ∙ without_same (now_of e out).parked req due.unparked
+      left = ap (λ (s : Seen). s.parked) (now_more e out (rows.Applied req (changes.Traverse goal_)) refl) ∙ without_same (now_of e out).parked req due.unparked
 
       by_first : ((now_of e out).parked ≡ held_at_first e) ⊎ (((now_of e out).parked ≡ []) × (has_req (held_at_first e) req ≡ false)) → ends_among (now_of e out).parked later ≡ (now_of e out).parked
       by_first (inl same) = ap (λ (l : List ReqId). ends_among l later) same ∙ asks.1 refl ∙ left
       by_first (inr none) = ap (λ (l : List ReqId). ends_among l later) none.0 ∙ none_ends (filter_map ends_in later) ∙ sym none.0
 
   end_lawful : AreLawful e (out ++ rows.Applied req (changes.Traverse goal_) ∷ [])
-  unfolding now_of
-  end_lawful =
-      lawful_more e out (rows.Applied req (changes.Traverse goal_)) (λ r. refl) end_held (none_lawful e out work.lawful) (λ later asks. end_may (here_of e out) e.event e.actor req due.asked goal_ (led_here e out work.own) due.due due.traverses due.makes due.passed due.stand due.unparked later (held_then later asks))
+  end_lawful = by_log (end_due e out work.same (aimed_log e out t work) req goal_ due)
+    where
+      parked : (now_of e out).parked ≡ (log_of e out).parked
+      parked = ap (λ (s : Seen). s.parked) work.same
+
+      by_log : IsEndDueIn (log_of e out) e out req goal_ → AreLawful e (out ++ rows.Applied req (changes.Traverse goal_) ∷ [])
+      by_log d =
+          lawful_more e out (rows.Applied req (changes.Traverse goal_)) (λ r. refl) end_held (none_lawful e out work.lawful) (λ later asks. end_may (here_of e out) e.event e.actor req d.asked goal_ (led_here e out work.own) d.due d.traverses d.makes d.passed d.stand d.unparked later (subst (λ (l : List ReqId). ends_among l later ≡ l) parked (held_then later asks)))
 
   pub end_work : u.tree ≡ unmove_all (made_in t.tree) t.tree → SameHistory (history_held u.store) (applied (now_of e out).history (changes.Traverse goal_)) → Changes t u → u.states ≡ t.states → u.entries ≡ t.entries → u.initial.entries ≡ t.initial.entries → u.running ≡ None → IsAtWork e (out ++ rows.Applied req (changes.Traverse goal_) ∷ []) u
   end_work tree history one states entries initial running =
-      work_more e out (rows.Applied req (changes.Traverse goal_)) None t u work
+      work_more e out (rows.Applied req (changes.Traverse goal_)) None t u work refl (applied_seen e.checking (log_of e out) e.event e.actor req (changes.Traverse goal_) (λ q found. work.unchecked q.nr)) (work.unchecked req) (calm_more e out (rows.Applied req (changes.Traverse goal_)) tt tt tt work.calm)
       (subst (λ (r : Option ReqId). Holds (look_of ended_ r) u) (sym running) (ended_holds (now_of e out) e.event e.actor req goal_ t u (subst (λ (r : Option ReqId). Holds (look_of (now_of e out) r) t) its work.holds) one (λ other is. is) tree history states entries))
       (subst (λ (r : Option ReqId). IsRunning ended_.requests r) (sym running) (runs_applied_own (now_of e out) e.event e.actor req (changes.Traverse goal_) (subst (λ (r : Option ReqId). IsRunning (now_of e out).requests r) its work.runs)))
       (subst (λ (r : Option ReqId). HasGoal ended_.requests r u.goal) (sym running) (goal_of_none ended_.requests u.goal))

@@ -22,6 +22,8 @@ pub mod Destroying
 pub mod Takers
 pub mod Ahead
 pub mod Works
+pub mod ReadOff
+pub mod LogDues
 pub mod Histories
 pub mod OrderWorks
 pub mod ShowWorks

@@ -1,11 +1,15 @@
 -- A document is told something, or is to be made, and the coordinator goes on working.
+use Rattle.unasked_dues.proofs.Shows.{numbered_in, update_due}
+use Rattle.unasked_dues.proofs.Making.{make_due}
+use Rattle.tab_doors.proofs.ReadOff.{proc_same, there as there_log}
+use Rattle.unasked.proofs.Sents.{sent_seen}
 use Rattle.tab_doors.proofs.Ahead.{lawful_none, none_lawful}
 use Rattle.tab_doors.proofs.Initial.{initial_same}
 use Rattle.tab_doors.proofs.Keeping.{unloaded_apart}
 use Rattle.tab_doors.proofs.Making.{MakesOne, make_holds}
 use Rattle.tab_doors.proofs.Telling.{SendsOne, tell_holds}
 use Rattle.tab_doors.proofs.Whose.{proc_found}
-use Rattle.tab_doors.proofs.Works.{few_made, few_sent, goal_on, header_here, kept_made, kept_on, loads_sent, numbered, runs_on, sent_held, work_more}
+use Rattle.tab_doors.proofs.Works.{aimed_log, at_seen, calm_more, few_made, few_sent, goal_on, header_here, kept_made, kept_on, loads_sent, moving_log, numbered, passed_log, runs_on, sent_held, work_more}
 use Rattle.tab_doors.specs.Look.{look_of, sight, sight_in}
 use Rattle.tab_doors.specs.Orders.{IsThere, next_order, order_to, proc_at}
 use Rattle.tab_doors.specs.Ties.{Holds, IsAwakeIn}
@@ -31,9 +35,9 @@ use Rattle.nav_tree.specs.Tree.{is_state, with_nav}
 use Rattle.nav_tree.specs.declared.nav.Nav.{Nav}
 use Rattle.seen_laws.proofs.InEvents.{led_here, order_quiet}
 use Rattle.seen_laws.proofs.Sendings.{update_may}
-use Rattle.seen_laws.specs.InEvent.{InEvent, here_of, now_of, row_of}
-use Rattle.seen_laws.specs.Sending.{IsUpdateDue}
-use Rattle.std.proofs.Common.{Bool, List, None, Option, Some, [], map, refl, subst, sym, ℕ, ◌++◌, ◌∷◌, ◌≡◌}
+use Rattle.seen_laws.specs.InEvent.{InEvent, here_of, log_of, now_of, row_of}
+use Rattle.seen_laws.specs.Sending.{IsUpdateDue, IsNumbered}
+use Rattle.std.proofs.Common.{Bool, List, None, Option, Some, [], ap, map, refl, subst, sym, ℕ, ◌++◌, ◌∙◌, ◌∷◌, ◌≡◌}
 use Rattle.std.proofs.lemmas.List.{length-map}
 use Rattle.std.specs.Map.{lookup}
 use Rattle.tab_ids.specs.declared.DocId.{DocId}
@@ -56,14 +60,27 @@ module _ (e : InEvent) (out : List RowKind) (t u : Tables) (nav : NavId) (doc : 
   same_proc : proc_at (now_of e out) doc ≡ there.document.proc
   same_proc = proc_found (now_of e out) doc there.document there.found
 
+  -- of the log itself
+  in_log : IsThere (log_of e out) doc
+  in_log = there_log e.checking (log_of e out) doc (at_seen e out t work (λ (s : Seen). IsThere s doc) there)
+
+  its_proc : proc_at (now_of e out) doc ≡ in_log.document.proc
+  its_proc =
+      ap (λ (s : Seen). proc_at s doc) work.same
+      ∙ proc_same e.checking (log_of e out) doc
+      ∙ proc_found (log_of e out) doc in_log.document in_log.found
+
   update_lawful : IsUpdateDue (now_of e out) update (long, at) → AreLawful e (out ++ rows.Sent update ∷ [])
-  unfolding now_of
   update_lawful due =
-      lawful_plain e out (rows.Sent update) (order_quiet e update (tasks.Update long at) refl tt) (sent_held e out update) (none_lawful e out work.lawful) (update_may (here_of e out) e.event e.actor update there.document long at refl (led_here e out work.own) (numbered (here_of e out).now (proc_at (now_of e out) doc) doc why (tasks.Update long at) (rw same_proc there.known)) (record { found = there.found; proc = sym same_proc; alive = there.alive }) due)
+      lawful_plain e out (rows.Sent update) (order_quiet e update (tasks.Update long at) refl tt) (sent_held e out update) (none_lawful e out work.lawful) (update_may (here_of e out) e.event e.actor update in_log.document long at refl (led_here e out work.own) is_numbered (record { found = in_log.found; proc = sym its_proc; alive = in_log.alive }) (update_due e.checking (log_of e out) (moving_log e out t work) update (long, at) (at_seen e out t work (λ (s : Seen). IsUpdateDue s update (long, at)) due)))
+    where
+      is_numbered : IsNumbered (log_of e out) update
+      is_numbered =
+          numbered_in e.checking (log_of e out) update (at_seen e out t work (λ (s : Seen). IsNumbered s update) (numbered (now_of e out) (proc_at (now_of e out) doc) doc why (tasks.Update long at) (rw same_proc there.known)))
 
   pub tell_work : IsUpdateDue (now_of e out) update (long, at) → u.tree ≡ with_nav (λ (n : Nav). record n { told = Some (long, at) }) nav t.tree → SendsOne t u t.shown.entries t.last.entries → u.running ≡ t.running → u.goal ≡ t.goal → u.kept ≡ t.kept → IsAtWork e (out ++ rows.Sent update ∷ []) u
   tell_work due tree one running goal kept =
-      work_more e out (rows.Sent update) None t u work
+      work_more e out (rows.Sent update) None t u work refl (sent_seen e.checking (log_of e out) update e.event e.actor refl) tt (calm_more e out (rows.Sent update) tt tt tt work.calm)
       (subst (λ (r : Option ReqId). Holds (look_of then_told r) u) (sym running) (tell_holds (now_of e out) t.running e.event e.actor (proc_at (now_of e out) doc) doc why (long, at) nav awake_.node t awake_.there awake_.wakes work.holds u tree one))
       (runs_on (now_of e out).requests then_told.requests t u (λ r. refl) running work.runs)
       (goal_on (now_of e out).requests then_told.requests t u (λ r. refl) running goal work.goal)
@@ -83,13 +100,20 @@ module _ (e : InEvent) (out : List RowKind) (t u : Tables) (proc : ProcId) (doc 
   then_made = after (now_of e out) (row_of e (rows.Sent make))
 
   make_lawful : IsMakeDue e.header (now_of e out) make nav state address initial → (desk_of (now_of e out) proc).known ≡ 0 → AreLawful e (out ++ rows.Sent make ∷ [])
-  unfolding now_of
   make_lawful due known =
-      lawful_plain e out (rows.Sent make) (make_quiet e make nav state address initial refl) (sent_held e out make) (none_lawful e out work.lawful) (make_may (here_of e out) e.event e.actor make nav state address initial (led_here e out work.own) (record { number = refl; incarnation = sym known }) (subst (λ (hd : Header). IsMakeDue hd (now_of e out) make nav state address initial) (sym (header_here e out)) due))
+      lawful_plain e out (rows.Sent make) (make_quiet e make nav state address initial refl) (sent_held e out make) (none_lawful e out work.lawful) (make_may (here_of e out) e.event e.actor make nav state address initial (led_here e out work.own) is_numbered (subst (λ (hd : Header). IsMakeDue hd (log_of e out) make nav state address initial) (sym (header_here e out)) in_log))
+    where
+      is_numbered : IsNumbered (log_of e out) make
+      is_numbered =
+          numbered_in e.checking (log_of e out) make (at_seen e out t work (λ (s : Seen). IsNumbered s make) (record { number = refl; incarnation = sym known }))
+
+      in_log : IsMakeDue e.header (log_of e out) make nav state address initial
+      in_log =
+          make_due e.checking (log_of e out) (aimed_log e out t work) e.header make nav state address initial (passed_log e out t work make.task why (λ req is. work.unchecked req) due.passed) (at_seen e out t work (λ (s : Seen). IsMakeDue e.header s make nav state address initial) due)
 
   pub make_work : IsMakeDue e.header (now_of e out) make nav state address initial → (desk_of (now_of e out) proc).known ≡ 0 → sight_in (map sight (now_of e out).documents) doc ≡ None → lookup (is_state state) t.making.entries ≡ None → load_in_log (now_of e out) state ≡ None → AreKeptDocs (now_of e out) → MakesOne nav state proc doc t u → u.running ≡ t.running → u.goal ≡ t.goal → u.loads ≡ t.loads → IsAtWork e (out ++ rows.Sent make ∷ []) u
   make_work due known unknown unmade unloaded kept_docs one running goal loads =
-      work_more e out (rows.Sent make) None t u work
+      work_more e out (rows.Sent make) None t u work refl (sent_seen e.checking (log_of e out) make e.event e.actor refl) tt (calm_more e out (rows.Sent make) tt tt tt work.calm)
       (subst (λ (r : Option ReqId). Holds (look_of then_made r) u) (sym running) (make_holds (now_of e out) t.running e.event e.actor proc doc why nav state address initial t work.holds unknown unmade u one))
       (runs_on (now_of e out).requests then_made.requests t u (λ r. refl) running work.runs)
       (goal_on (now_of e out).requests then_made.requests t u (λ r. refl) running goal work.goal)

@@ -1,12 +1,18 @@
 -- A traversal begins, or a request is refused or dropped, and the coordinator goes on working.
+use Rattle.tab_doors.proofs.ReadOff.{begin_due}
+use Rattle.tab_doors.proofs.LogDues.{deny_due, destroy_due, drop_due, nowhere}
+use Rattle.unasked_dues.specs.Checking.{NonePasses}
+use Rattle.checking_facts.specs.Checks.{GoesDuly}
+use Rattle.unasked.proofs.Ends.{dropped_seen, refused_seen, started_seen}
+use Rattle.log_model.specs.Orders.{due_questions}
 use Rattle.tab_doors.specs.Working as working  -- keep
 use Rattle.seen_laws.proofs.Startings.{IsWorker}  -- keep
 use Rattle.tab_doors.proofs.Ahead.{lawful_none, none_lawful}
 use Rattle.tab_doors.proofs.EndLaws.{left_holds}
 use Rattle.tab_doors.proofs.Keeping.{no_load_at}
 use Rattle.tab_doors.proofs.Requests.{ended_moved, moved_same, runs_ended_apart}
-use Rattle.tab_doors.proofs.Works.{done_here, goal_read, goal_same, start_here, started_held, work_more}
-use Rattle.tab_doors.specs.Dues.{IsBeginDue, IsDenyDue, IsDestroyDue, IsDropDue, IsNowhere}
+use Rattle.tab_doors.proofs.Works.{IsReadOff, at_log, at_seen, calm_more, done_here, goal_read, goal_same, none_calm, none_steps, start_here, started_held, work_more}
+use Rattle.tab_doors.specs.Dues.{IsBeginDue, IsDenyDue, IsDenyDueIn, IsDestroyDue, IsDestroyDueIn, IsDropDue, IsDropDueIn, IsNowhere, IsNowhereIn}
 use Rattle.tab_doors.specs.Keeping.{IsNoLoad}
 use Rattle.tab_doors.specs.Look.{look_of, moved_by, sight}
 use Rattle.tab_doors.specs.Ties.{AreInitial, Holds, IsRunning}
@@ -25,7 +31,7 @@ use Rattle.log_model.specs.AfterRequests.{on_request, request_begun}
 use Rattle.log_model.specs.Causes.{denial_at_acceptance, takes_report}
 use Rattle.log_model.specs.Places.{is_load, is_traversal}
 use Rattle.log_model.specs.Points.{own_row}
-use Rattle.log_model.specs.Seen.{Asked, Document, Seen, request_in}
+use Rattle.log_model.specs.Seen.{Asked, Document, Seen, request_in, request_of}
 use Rattle.log_model.specs.declared.outcome.Denial.{Denial}
 use Rattle.log_model.specs.declared.outcome.Ending.{Ending}
 use Rattle.log_model.specs.declared.request.Request.{Request}
@@ -38,8 +44,8 @@ use Rattle.seen_facts.proofs.Request.LookUps.{on_itself}
 use Rattle.seen_facts.proofs.Request.Readers.{on_read}
 use Rattle.seen_laws.proofs.InEvents.{led_here}
 use Rattle.seen_laws.specs.Blocks.{point_at}
-use Rattle.seen_laws.specs.InEvent.{InEvent, here_of, now_of, row_of}
-use Rattle.std.proofs.Common.{List, None, Option, Some, [], ap, false, inl, inr, length, map, refl, subst, sym, true, ℕ, ℤ, ◌++◌, ◌+◌, ◌∙◌, ◌∷◌, ◌≡◌, ◌≤◌, ◌⊎◌}
+use Rattle.seen_laws.specs.InEvent.{InEvent, here_of, is_seen, log_of, now_of, row_of}
+use Rattle.std.proofs.Common.{List, None, Option, Some, [], ap, false, inl, inr, length, map, refl, subst, sym, true, ℕ, ℤ, ◌++◌, ◌+◌, ◌∙◌, ◌∷◌, ◌≡◌, ◌≤◌, ◌⊎◌, not}
 use Rattle.std.specs.Prelude.{nat_lt, option_map}
 use Rattle.tab_ids.specs.declared.ReqId.{ReqId}
 use Rattle.tab_ids.specs.declared.StateId.{StateId}
@@ -58,9 +64,9 @@ module _ (e : InEvent) (out : List RowKind) (t : Tables) (req : ReqId) (kind : R
   abbrev then_ : Seen
   then_ = after (now_of e out) (row_of e kind)
 
-  pub ended_work : then_.requests ≡ ended (now_of e out).requests req ending → then_.documents ≡ (now_of e out).documents → then_.places ≡ (now_of e out).places → then_.history ≡ (now_of e out).history → then_.jobs ≡ (now_of e out).jobs → then_.states ≡ (now_of e out).states → then_.entries ≡ (now_of e out).entries → then_.initial_states ≡ (now_of e out).initial_states → kept_states then_ ≡ kept_states (now_of e out) → HasEnded (now_of e out) then_ req → IsNoLoad (now_of e out) req → AreLawful e (out ++ kind ∷ []) → IsAtWork e (out ++ kind ∷ []) t
-  ended_work requests_ documents places history jobs states entries initial kept ended_ no_load lawful =
-      work_more e out kind None t t work
+  pub ended_work : is_seen e.checking kind ≡ true → IsReadOff e out kind → GoesDuly e.checking (log_of e out) kind → NonePasses e.checking (after (log_of e out) (row_of e kind)) → then_.requests ≡ ended (now_of e out).requests req ending → then_.documents ≡ (now_of e out).documents → then_.places ≡ (now_of e out).places → then_.history ≡ (now_of e out).history → then_.jobs ≡ (now_of e out).jobs → then_.states ≡ (now_of e out).states → then_.entries ≡ (now_of e out).entries → then_.initial_states ≡ (now_of e out).initial_states → kept_states then_ ≡ kept_states (now_of e out) → HasEnded (now_of e out) then_ req → IsNoLoad (now_of e out) req → AreLawful e (out ++ kind ∷ []) → IsAtWork e (out ++ kind ∷ []) t
+  ended_work seen read duly calm requests_ documents places history jobs states entries initial kept ended_ no_load lawful =
+      work_more e out kind None t t work seen read duly calm
       (left_holds (look_now e out t.running) (look_of then_ t.running) t (ap (λ (l : List Document). map sight l) documents) places history moved jobs states entries work.holds)
       (subst (λ (l : List Asked). IsRunning l t.running) (sym requests_) (runs_ended_apart (now_of e out).requests t.running req ending apart work.runs))
       (subst (λ (l : List Asked). HasGoal l t.running t.goal) (sym requests_) (goal_same (now_of e out).requests (ended (now_of e out).requests req ending) t.running t.goal (on_read goal_read (now_of e out).requests req (λ q. record q { ending = Some ending }) (λ q. refl)) work.goal))
@@ -82,15 +88,14 @@ module _ (e : InEvent) (out : List RowKind) (t : Tables) (req : ReqId) (work : I
   worker_as _ is = elim is [ ]
 
   nowhere_lawful : IsNowhere e out req → AreLawful e (out ++ rows.Refused req denials.NoStep ∷ [])
-  unfolding now_of
-  nowhere_lawful due =
-      lawful_plain e out (rows.Refused req denials.NoStep) (λ r. refl) due.held (none_lawful e out work.lawful) (nowhere_may (here_of e out) e.event e.actor req due.delta due.asked (worker_as e.actor work.worker) (led_here e out work.own) due.at due.asks due.open_ (early_here due.early) due.nowhere due.turn due.unparked)
+  nowhere_lawful due = by_log (nowhere e out work.same work.checks.numbered (none_steps e.checking work.unchecked (log_of e out)) req due)
     where
-      start_is : (here_of e out).start ≡ e.start
-      start_is = start_here e out
-
-      early_here : (denial_at_acceptance e.start due.asked.what ≡ None ⊎ (nat_lt (length e.start.requests) due.asked.nr.0 ≡ false)) → denial_at_acceptance (here_of e out).start due.asked.what ≡ None ⊎ (nat_lt (length (here_of e out).start.requests) due.asked.nr.0 ≡ false)
-      early_here early = subst (λ (s : Seen). denial_at_acceptance s due.asked.what ≡ None ⊎ (nat_lt (length s.requests) due.asked.nr.0 ≡ false)) (sym start_is) early
+      by_log : IsNowhereIn (log_of e out) e out req → AreLawful e (out ++ rows.Refused req denials.NoStep ∷ [])
+      by_log d =
+          lawful_plain e out (rows.Refused req denials.NoStep) (λ r. refl) d.held (none_lawful e out work.lawful) (nowhere_may (here_of e out) e.event e.actor req d.delta d.asked (worker_as e.actor work.worker) (led_here e out work.own) d.at d.asks d.open_ early d.nowhere d.turn d.unparked)
+        where
+          early : denial_at_acceptance (here_of e out).start d.asked.what ≡ None ⊎ (nat_lt (length (here_of e out).start.requests) d.asked.nr.0 ≡ false)
+          early = subst (λ (s : Seen). denial_at_acceptance s d.asked.what ≡ None ⊎ (nat_lt (length s.requests) d.asked.nr.0 ≡ false)) (sym (start_here e out)) d.early
 
   goes_no_load : (what : Request) {delta : ℤ} → IsTraversalBy delta what → is_load what ≡ false
   goes_no_load what (inl is) = rw is refl
@@ -98,41 +103,47 @@ module _ (e : InEvent) (out : List RowKind) (t : Tables) (req : ReqId) (work : I
 
   pub nowhere_work : IsNowhere e out req → IsAtWork e (out ++ rows.Refused req denials.NoStep ∷ []) t
   nowhere_work due =
-      ended_work e out t req (rows.Refused req denials.NoStep) (endings.Refused denials.NoStep) work apart refl refl refl refl refl refl refl refl refl (refused_ended (now_of e out) e.event e.actor req denials.NoStep) (no_load_at (now_of e out) req due.asked due.at (goes_no_load due.asked.what (traversal_by due.asked.what due.delta due.asks))) (nowhere_lawful due)
+      ended_work e out t req (rows.Refused req denials.NoStep) (endings.Refused denials.NoStep) work apart refl (refused_seen e.checking (log_of e out) e.event e.actor req denials.NoStep) tt (calm_more e out (rows.Refused req denials.NoStep) tt tt tt work.calm) refl refl refl refl refl refl refl refl refl (refused_ended (now_of e out) e.event e.actor req denials.NoStep) (no_load_at (now_of e out) req due.asked due.at (goes_no_load due.asked.what (traversal_by due.asked.what due.delta due.asks))) (nowhere_lawful due)
 
   -- ---- what is refused as its report is taken
 
   deny_lawful : (reason : Denial) → IsDenyDue e out req reason → AreLawful e (out ++ rows.Refused req reason ∷ [])
-  unfolding now_of
-  deny_lawful reason due =
-      lawful_plain e out (rows.Refused req reason) (λ r. refl) due.held (none_lawful e out work.lawful) (denied_may (here_of e out) e.event e.actor (led_here e out work.own) due.by_coord req reason due.asked due.made due.poked due.unstarted (λ later. own_takes later) (subst (λ (s : Seen). nat_lt (length s.requests) due.asked.nr.0 ≡ false) (sym (start_here e out)) due.before) due.is due.free)
+  deny_lawful reason due = by_log (deny_due e out work.same work.checks.numbered work.checks.checks req reason due)
     where
       own_takes : (later : List LogRow) → takes_report (own_row (point_at (here_of e out) later) (record { event = e.event; actor = e.actor; row = rows.Refused req reason })) ≡ true
       own_takes later = subst (λ (l : List LogRow). takes_report (own_row (record { start = (here_of e out).start; now = (here_of e out).now; done = l; later = later }) (record { event = e.event; actor = e.actor; row = rows.Refused req reason })) ≡ true) (sym (done_here e out)) due.takes
 
+      by_log : IsDenyDueIn (log_of e out) e out req reason → AreLawful e (out ++ rows.Refused req reason ∷ [])
+      by_log d =
+          lawful_plain e out (rows.Refused req reason) (λ r. refl) d.held (none_lawful e out work.lawful) (denied_may (here_of e out) e.event e.actor (led_here e out work.own) d.by_coord req reason d.asked d.made d.poked d.unstarted (λ later. own_takes later) (subst (λ (s : Seen). nat_lt (length s.requests) d.asked.nr.0 ≡ false) (sym (start_here e out)) d.before) d.is d.free)
+
   pub deny_work : (reason : Denial) → IsDenyDue e out req reason → IsAtWork e (out ++ rows.Refused req reason ∷ []) t
   deny_work reason due =
-      ended_work e out t req (rows.Refused req reason) (endings.Refused reason) work apart refl refl refl refl refl refl refl refl refl (refused_ended (now_of e out) e.event e.actor req reason) (no_load_at (now_of e out) req due.asked due.poked.at (ap is_load due.poked.what)) (deny_lawful reason due)
+      ended_work e out t req (rows.Refused req reason) (endings.Refused reason) work apart refl (refused_seen e.checking (log_of e out) e.event e.actor req reason) tt (calm_more e out (rows.Refused req reason) tt tt tt work.calm) refl refl refl refl refl refl refl refl refl (refused_ended (now_of e out) e.event e.actor req reason) (no_load_at (now_of e out) req due.asked due.poked.at (ap is_load due.poked.what)) (deny_lawful reason due)
 
   -- ---- what is dropped
 
   pub destroy_lawful : (by : ReqId) → IsDestroyDue e out req by → AreLawful e (out ++ rows.Dropped req (drops.Destroyed by) ∷ [])
-  unfolding now_of
-  destroy_lawful by due =
-      lawful_plain e out (rows.Dropped req (drops.Destroyed by)) (λ r. refl) due.held (none_lawful e out work.lawful) (destroyed_may (here_of e out) e.event e.actor (led_here e out work.own) req by due.asked due.at due.open_ due.is due.free)
+  destroy_lawful by due = by_log (destroy_due e out work.same req by due)
+    where
+      by_log : IsDestroyDueIn (log_of e out) e out req by → AreLawful e (out ++ rows.Dropped req (drops.Destroyed by) ∷ [])
+      by_log d =
+          lawful_plain e out (rows.Dropped req (drops.Destroyed by)) (λ r. refl) d.held (none_lawful e out work.lawful) (destroyed_may (here_of e out) e.event e.actor (led_here e out work.own) req by d.asked d.at d.open_ d.is d.free)
 
   pub destroy_work : (by : ReqId) → IsDestroyDue e out req by → IsNoLoad (now_of e out) req → IsAtWork e (out ++ rows.Dropped req (drops.Destroyed by) ∷ []) t
   destroy_work by due no_load =
-      ended_work e out t req (rows.Dropped req (drops.Destroyed by)) (endings.Dropped (drops.Destroyed by)) work apart refl refl refl refl refl refl refl refl refl (dropped_ended (now_of e out) e.event e.actor req (drops.Destroyed by)) no_load (destroy_lawful by due)
+      ended_work e out t req (rows.Dropped req (drops.Destroyed by)) (endings.Dropped (drops.Destroyed by)) work apart refl (dropped_seen e.checking (log_of e out) e.event e.actor req (drops.Destroyed by)) tt (calm_more e out (rows.Dropped req (drops.Destroyed by)) tt tt tt work.calm) refl refl refl refl refl refl refl refl refl (dropped_ended (now_of e out) e.event e.actor req (drops.Destroyed by)) no_load (destroy_lawful by due)
 
   pub drop_lawful : (by : ReqId) → IsDropDue e out req by → AreLawful e (out ++ rows.Dropped req (drops.By by) ∷ [])
-  unfolding now_of
-  drop_lawful by due =
-      lawful_plain e out (rows.Dropped req (drops.By by)) (λ r. refl) due.held (none_lawful e out work.lawful) (moved_may (here_of e out) e.event e.actor (led_here e out work.own) req by due.asked due.mover due.at due.open_ due.found due.moved due.free)
+  drop_lawful by due = by_log (drop_due e out work.same work.checks.numbered work.checks.others req by due)
+    where
+      by_log : IsDropDueIn (log_of e out) e out req by → AreLawful e (out ++ rows.Dropped req (drops.By by) ∷ [])
+      by_log d =
+          lawful_plain e out (rows.Dropped req (drops.By by)) (λ r. refl) d.held (none_lawful e out work.lawful) (moved_may (here_of e out) e.event e.actor (led_here e out work.own) req by d.asked d.mover d.at d.open_ d.found d.moved d.free)
 
   pub drop_work : (by : ReqId) → IsDropDue e out req by → IsNoLoad (now_of e out) req → IsAtWork e (out ++ rows.Dropped req (drops.By by) ∷ []) t
   drop_work by due no_load =
-      ended_work e out t req (rows.Dropped req (drops.By by)) (endings.Dropped (drops.By by)) work apart refl refl refl refl refl refl refl refl refl (dropped_ended (now_of e out) e.event e.actor req (drops.By by)) no_load (drop_lawful by due)
+      ended_work e out t req (rows.Dropped req (drops.By by)) (endings.Dropped (drops.By by)) work apart refl (dropped_seen e.checking (log_of e out) e.event e.actor req (drops.By by)) tt (calm_more e out (rows.Dropped req (drops.By by)) tt tt tt work.calm) refl refl refl refl refl refl refl refl refl (dropped_ended (now_of e out) e.event e.actor req (drops.By by)) no_load (drop_lawful by due)
 
 -- ---- a traversal begins
 
@@ -185,14 +196,22 @@ module _ (e : InEvent) (out : List RowKind) (t : Tables) (req : ReqId) (goal : S
       let one : request_begun (now_of e out) (begin_ due.asked) ≡ q = cc in
       ap (λ (x : Asked). x.goal) (sym one)
 
+  -- nobody is to be asked
+  none_asked : (q : Asked) → request_of (log_of e out) req ≡ Some q → due_questions (log_of e out) q.what (Some goal) ≡ []
+  none_asked =
+      at_log e out t work (λ (s : Seen). (q : Asked) → request_of s req ≡ Some q → due_questions s q.what (Some goal) ≡ []) (λ q at. ap (λ (x : Asked). due_questions (now_of e out) x.what (Some goal)) (sym (it_is q at)) ∙ due.unasked)
+
   begin_lawful : AreLawful e (out ++ rows.Started req (Some goal) ∷ [])
-  unfolding now_of
   begin_lawful =
-      lawful_more e out (rows.Started req (Some goal)) (λ r. refl) (started_held e out req (Some goal)) (none_lawful e out work.lawful) (λ later asks. begin_may (here_of e out) e.event e.actor req goal.0 due.delta due.asked (led_here e out work.own) due.at due.asks due.unstarted due.open_ due.there due.turn due.unasked later (asks.0 req (nat_eq_refl req.0)))
+      by_log (begin_due e.checking (log_of e out) work.checks.numbered (none_steps e.checking work.unchecked (log_of e out)) req goal (work.unchecked req) none_asked (at_seen e out t work (λ (s : Seen). IsBeginDue s req goal) due))
+    where
+      by_log : IsBeginDue (log_of e out) req goal → AreLawful e (out ++ rows.Started req (Some goal) ∷ [])
+      by_log d =
+          lawful_more e out (rows.Started req (Some goal)) (λ r. refl) (started_held e out req (Some goal)) (none_lawful e out work.lawful) (λ later asks. begin_may (here_of e out) e.event e.actor req goal.0 d.delta d.asked (led_here e out work.own) d.at d.asks d.unstarted d.open_ d.there d.turn d.unasked later (asks.0 req (nat_eq_refl req.0)))
 
   pub begin_work : IsAtWork e (out ++ rows.Started req (Some goal) ∷ []) u
   begin_work =
-      work_more e out (rows.Started req (Some goal)) None t u work
+      work_more e out (rows.Started req (Some goal)) None t u work (ap not (work.unchecked req)) (started_seen e.checking (log_of e out) e.event e.actor req (Some goal) (λ q found. work.unchecked q.nr)) (λ by q r at there other traverses on runs. rw (work.unchecked req, work.unchecked by) refl) (none_calm e.checking work.unchecked (after (log_of e out) (row_of e (rows.Started req (Some goal)))))
       (on_tables (left_holds (look_now e out t.running) (look_of begun_ (Some req)) t refl refl refl moved refl states_same refl work.holds))
       runs
       goal_then

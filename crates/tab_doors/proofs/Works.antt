@@ -1,5 +1,14 @@
 -- One row more that the coordinator puts out: what makes it go on working, and what orders leave of loads and of kept documents.
-use Rattle.seen_laws.specs.InEvent.{first_of}  -- keep
+use Rattle.std.proofs.lemmas.List.{map-append}
+use Rattle.unasked_dues.proofs.Shows.{passed_off}
+use Rattle.unasked_dues.specs.Checking.{IsAimed, IsForOther, IsMoving, NoStepChecks, NonePasses}
+use Rattle.checking_facts.proofs.Moving.{are_aimed, are_moving}
+use Rattle.checking_facts.proofs.Waits.{none_waits}
+use Rattle.checking_facts.proofs.Settles.{silent_waits}
+use Rattle.checking_facts.proofs.Rows.{row_checks}
+use Rattle.checking_facts.specs.Checks.{AreInCheck, GoesDuly, IsCalm, IsSilent, NumbersNext, PutsNoneAsleep}
+use Rattle.seen_laws.specs.Unasked.{unasked}
+use Rattle.seen_laws.specs.InEvent.{first_of, seen_rows}  -- keep
 use Rattle.seen_facts.proofs.Each.Courses.{was_asked}  -- keep
 use Rattle.tab_doors.proofs.Keeping.{states_on, states_shown}
 use Rattle.tab_doors.proofs.Requests.{runs_same}
@@ -30,11 +39,11 @@ use Rattle.log_model.specs.declared.row_kind.RowKind.{RowKind}
 use Rattle.seen_facts.specs.Each.Runs.{is_run}
 use Rattle.page_cache.specs.Kept.{Kept, without}
 use Rattle.seen_facts.proofs.Request.Readers.{SameReads}
-use Rattle.seen_laws.proofs.InEvents.{now_more}
+use Rattle.seen_laws.proofs.InEvents.{log_more, now_more, seen_more}
 use Rattle.seen_laws.specs.Blocks.{Here, on_row, on_rows}
-use Rattle.seen_laws.specs.InEvent.{InEvent, here_of, now_of, row_of}
-use Rattle.seen_laws.specs.Sending.{IsNumbered}
-use Rattle.std.proofs.Common.{List, None, Option, Some, [], ap, append-nil, append_assoc, arith, length, length-append, map, refl, subst, sym, ℕ, ◌++◌, ◌+◌, ◌∙◌, ◌∷◌, ◌≡◌, ◌≤◌}
+use Rattle.seen_laws.specs.InEvent.{InEvent, here_of, is_seen, log_of, now_of, row_of}
+use Rattle.seen_laws.specs.Sending.{IsNumbered, is_passed}
+use Rattle.std.proofs.Common.{Bool, List, None, Option, Some, [], ap, append-nil, append_assoc, arith, false, length, length-append, map, refl, subst, sym, true, ℕ, ◌++◌, ◌+◌, ◌∙◌, ◌∷◌, ◌≡◌, ◌≤◌}
 use Rattle.std.specs.Option.{IsSome}
 use Rattle.std.specs.Prelude.{filter_map}
 use Rattle.tab_ids.specs.declared.DocId.{DocId}
@@ -47,23 +56,70 @@ use Rattle.log_model.specs.declared.row_kind.RowKind.TheVariants as rows
 
 -- ---- the whole
 
+-- nobody is asked by a row that is seen
+plain_more : (e : InEvent) (out : List RowKind) (kind : RowKind) → is_seen e.checking kind ≡ true → log_of e out ≡ now_of e out → log_of e (out ++ kind ∷ []) ≡ now_of e (out ++ kind ∷ [])
+plain_more e out kind seen is =
+    log_more e out kind ∙ ap (λ (s : Seen). after s (row_of e kind)) is ∙ sym (now_more e out kind seen)
+
+rows_more : (e : InEvent) (out : List RowKind) (kind : RowKind) → is_seen e.checking kind ≡ true → seen_rows e out ≡ map (row_of e) out → seen_rows e (out ++ kind ∷ []) ≡ map (row_of e) (out ++ kind ∷ [])
+rows_more e out kind seen are =
+    seen_more e out kind seen
+    ∙ ap (λ (l : List LogRow). l ++ row_of e kind ∷ []) are
+    ∙ sym (map-append (row_of e) out (kind ∷ []))
+
+-- what the row makes of the log without questions is read off what it makes of the log
+abbrev pub IsReadOff : InEvent → List RowKind → RowKind → Type 0
+IsReadOff e out kind =
+    unasked e.checking (after (log_of e out) (row_of e kind)) ≡ after (unasked e.checking (log_of e out)) (row_of e kind)
+
+same_more : (e : InEvent) (out : List RowKind) (kind : RowKind) → is_seen e.checking kind ≡ true → IsReadOff e out kind → now_of e out ≡ unasked e.checking (log_of e out) → now_of e (out ++ kind ∷ []) ≡ unasked e.checking (log_of e (out ++ kind ∷ []))
+same_more e out kind seen read is =
+    now_more e out kind seen
+    ∙ ap (λ (s : Seen). after s (row_of e kind)) is
+    ∙ sym read
+    ∙ ap (λ (s : Seen). unasked e.checking s) (sym (log_more e out kind))
+
+-- a row that settles no question leaves those that are in their check
+pub calm_more : (e : InEvent) (out : List RowKind) (kind : RowKind) → IsCalm kind → IsSilent (log_of e out) kind → NumbersNext (log_of e out) kind → NonePasses e.checking (log_of e out) → NonePasses e.checking (after (log_of e out) (row_of e kind))
+calm_more e out kind calm silent numbers was req q at on traverses checks =
+    silent_waits e.checking (λ (r : ReqId). false) (log_of e out) (row_of e kind) calm silent numbers (none_waits e.checking (log_of e out) was (λ (r : ReqId). false)) req q at on traverses checks refl
+
+-- where nobody is in a check, none passes, and nobody falls asleep for one
+pub none_calm : (checking : ReqId → Bool) → ((req : ReqId) → checking req ≡ false) → (s : Seen) → NonePasses checking s
+none_calm checking unchecked s req q at on traverses checks = absurd (let never : false ≡ true = sym (unchecked req) ∙ checks in cc)
+
+pub none_steps : (checking : ReqId → Bool) → ((req : ReqId) → checking req ≡ false) → (s : Seen) → NoStepChecks checking s
+none_steps checking unchecked s req q at checks = absurd (let never : false ≡ true = sym (unchecked req) ∙ checks in cc)
+
+pub none_asleep : (checking : ReqId → Bool) → ((req : ReqId) → checking req ≡ false) → (s : Seen) (job : Job) → PutsNoneAsleep checking s job
+none_asleep checking unchecked s job req is checks = absurd (let never : false ≡ true = sym (unchecked req) ∙ checks in cc)
+
 -- the move that had begun, if one had, and the one that has begun once the row is put out
 module _ {from : Option Move} (e : InEvent) (out : List RowKind) (kind : RowKind) (move : Option Move) (t u : Tables) (work : IsAtWorkFor from e out t) where
   abbrev pub then_ : Seen
   then_ = after (now_of e out) (row_of e kind)
 
-  pub work_more : Holds (look_of then_ u.running) u → IsRunning then_.requests u.running → HasGoal then_.requests u.running u.goal → length then_.documents ≤ then_.jobs + 1 → AreInitial then_.initial_states u.initial.entries → TiesLoads then_ u.loads → u.kept.states ≡ kept_in move u.kept.keep (kept_states then_) → AreLawfulFor move e (out ++ kind ∷ []) → IsAtWorkFor move e (out ++ kind ∷ []) u
-  work_more holds runs goal few initial loads kept lawful =
+  pub work_more : is_seen e.checking kind ≡ true → IsReadOff e out kind → GoesDuly e.checking (log_of e out) kind → NonePasses e.checking (after (log_of e out) (row_of e kind)) → Holds (look_of then_ u.running) u → IsRunning then_.requests u.running → HasGoal then_.requests u.running u.goal → length then_.documents ≤ then_.jobs + 1 → AreInitial then_.initial_states u.initial.entries → TiesLoads then_ u.loads → u.kept.states ≡ kept_in move u.kept.keep (kept_states then_) → AreLawfulFor move e (out ++ kind ∷ []) → IsAtWorkFor move e (out ++ kind ∷ []) u
+  work_more seen read duly calm holds runs goal few initial loads kept lawful =
       record {
         own = work.own;
         worker = work.worker;
-        holds = subst (λ (s : Seen). Holds (look_of s u.running) u) (sym (now_more e out kind)) holds;
-        runs = subst (λ (s : Seen). IsRunning s.requests u.running) (sym (now_more e out kind)) runs;
-        goal = subst (λ (s : Seen). HasGoal s.requests u.running u.goal) (sym (now_more e out kind)) goal;
-        few = subst (λ (s : Seen). length s.documents ≤ s.jobs + 1) (sym (now_more e out kind)) few;
-        initial = subst (λ (s : Seen). AreInitial s.initial_states u.initial.entries) (sym (now_more e out kind)) initial;
-        loads = subst (λ (s : Seen). TiesLoads s u.loads) (sym (now_more e out kind)) loads;
-        kept = subst (λ (s : Seen). u.kept.states ≡ kept_in move u.kept.keep (kept_states s)) (sym (now_more e out kind)) kept;
+        unchecked = work.unchecked;
+        begins = work.begins;
+        rows = rows_more e out kind seen work.rows;
+        plain = plain_more e out kind seen work.plain;
+        same = same_more e out kind seen read work.same;
+        checks =
+            subst (λ (s : Seen). AreInCheck e.checking s) (sym (log_more e out kind))
+            (row_checks e.checking (log_of e out) (row_of e kind) duly work.checks);
+        calm = subst (λ (s : Seen). NonePasses e.checking s) (sym (log_more e out kind)) calm;
+        holds = subst (λ (s : Seen). Holds (look_of s u.running) u) (sym (now_more e out kind seen)) holds;
+        runs = subst (λ (s : Seen). IsRunning s.requests u.running) (sym (now_more e out kind seen)) runs;
+        goal = subst (λ (s : Seen). HasGoal s.requests u.running u.goal) (sym (now_more e out kind seen)) goal;
+        few = subst (λ (s : Seen). length s.documents ≤ s.jobs + 1) (sym (now_more e out kind seen)) few;
+        initial = subst (λ (s : Seen). AreInitial s.initial_states u.initial.entries) (sym (now_more e out kind seen)) initial;
+        loads = subst (λ (s : Seen). TiesLoads s u.loads) (sym (now_more e out kind seen)) loads;
+        kept = subst (λ (s : Seen). u.kept.states ≡ kept_in move u.kept.keep (kept_states s)) (sym (now_more e out kind seen)) kept;
         lawful = lawful;
       }
 
@@ -76,10 +132,24 @@ next_work e new then_out u is work = next_for None e new then_out u is work
 
 -- ---- where the event stands
 
--- the point of the event is that of its rows
-pub here_now : (e : InEvent) (out : List RowKind) → (here_of e out).now ≡ now_of e out
-unfolding now_of
-here_now e out = refl
+-- what is so of the log without questions is so of what is read off the log
+pub at_seen : {move : Option Move} (e : InEvent) (out : List RowKind) (t : Tables) → IsAtWorkFor move e out t → (P : Seen → Type 0) → P (now_of e out) → P (unasked e.checking (log_of e out))
+at_seen e out t work P is = subst P work.same is
+
+-- and the aim is read off, who is moved, and which length and index are due
+pub aimed_log : {move : Option Move} (e : InEvent) (out : List RowKind) (t : Tables) → IsAtWorkFor move e out t → IsAimed e.checking (log_of e out)
+aimed_log e out t work = are_aimed e.checking (log_of e out) work.checks work.calm
+
+pub moving_log : {move : Option Move} (e : InEvent) (out : List RowKind) (t : Tables) → IsAtWorkFor move e out t → IsMoving e.checking (log_of e out)
+moving_log e out t work = are_moving e.checking (log_of e out) work.checks work.calm
+
+-- what an order is for has passed, where it isn't in its check
+pub passed_log : {move : Option Move} (e : InEvent) (out : List RowKind) (t : Tables) → IsAtWorkFor move e out t → (task : Task) (why : Why) → IsForOther e.checking why → is_passed (now_of e out) task why ≡ true → is_passed (log_of e out) task why ≡ true
+passed_log e out t work task why other is = passed_off e.checking (log_of e out) work.checks.others task why other (at_seen e out t work (λ (s : Seen). is_passed s task why ≡ true) is)
+
+-- what is so of the log without questions is so of the log, where nobody is asked
+pub at_log : {move : Option Move} (e : InEvent) (out : List RowKind) (t : Tables) → IsAtWorkFor move e out t → (P : Seen → Type 0) → P (now_of e out) → P (log_of e out)
+at_log e out t work P is = subst P (sym work.plain) is
 
 -- its settings are those of the event
 on_header : (h : Here) (more : List LogRow) → (on_rows h more).header ≡ h.header

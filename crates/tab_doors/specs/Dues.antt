@@ -38,17 +38,20 @@ abbrev pub IsMadeFor : Seen → ReqId → Asked → Made → Type 0
 IsMadeFor s req q made = IsPoked s req q made ⊎ IsFragmentMade s q made
 
 -- what a document made of a request is applied now, by this change
-pub record IsTakeDue (e : InEvent) (out : List RowKind) (req : ReqId) (change : Change) : Type 0 where
+pub record IsTakeDueIn (s : Seen) (e : InEvent) (out : List RowKind) (req : ReqId) (change : Change) : Type 0 where
   pub asked : Asked
   pub made : Made
-  pub due : IsDueNow (now_of e out) req asked change
-  pub by : IsMadeFor (now_of e out) req asked made
+  pub due : IsDueNow s req asked change
+  pub by : IsMadeFor s req asked made
   pub unstarted : asked.is_started ≡ false
   pub changes : changes_history made.what ≡ true
-  pub at_once : is_taken_up_at_once (now_of e out) made ≡ true
+  pub at_once : is_taken_up_at_once s made ≡ true
   pub free : IsFree (here_of e out) req
   pub taken : IsTakenNow (here_of e out) (row_of e (rows.Applied req change)) made
   pub held : KeepsHeld e out (rows.Applied req change)
+
+abbrev pub IsTakeDue : InEvent → List RowKind → ReqId → Change → Type 0
+IsTakeDue e out req change = IsTakeDueIn (now_of e out) e out req change
 
 -- the navigables that have a row have one still
 abbrev pub KeepsRows : Seen → Change → Type 0
@@ -61,36 +64,45 @@ pub record MayChange (s : Seen) (change : Change) : Type 0 where
   pub room : s.history.current < 4294967294
 
 -- it is refused now, for this reason
-pub record IsDenyDue (e : InEvent) (out : List RowKind) (req : ReqId) (reason : Denial) : Type 0 where
+pub record IsDenyDueIn (s : Seen) (e : InEvent) (out : List RowKind) (req : ReqId) (reason : Denial) : Type 0 where
   pub by_coord : e.actor ≡ actors.Coord
   pub asked : Asked
   pub made : Made
-  pub poked : IsPoked (now_of e out) req asked made
+  pub poked : IsPoked s req asked made
   pub unstarted : asked.is_started ≡ false
   pub takes : takes_report e.own ≡ true
   pub before : nat_lt (length e.start.requests) asked.nr.0 ≡ false
-  pub is : denial_at_delivery (now_of e out) made ≡ Some reason
+  pub is : denial_at_delivery s made ≡ Some reason
   pub free : IsFree (here_of e out) req
   pub held : KeepsHeld e out (rows.Refused req reason)
 
+abbrev pub IsDenyDue : InEvent → List RowKind → ReqId → Denial → Type 0
+IsDenyDue e out req reason = IsDenyDueIn (now_of e out) e out req reason
+
 -- it is dropped, since its navigable lost its entries, or was moved on
-pub record IsDestroyDue (e : InEvent) (out : List RowKind) (req by : ReqId) : Type 0 where
+pub record IsDestroyDueIn (s : Seen) (e : InEvent) (out : List RowKind) (req by : ReqId) : Type 0 where
   pub asked : Asked
-  pub at : request_of (now_of e out) req ≡ Some asked
+  pub at : request_of s req ≡ Some asked
   pub open_ : asked.ending ≡ None
-  pub is : is_destroyed_by (now_of e out) asked by ≡ true
+  pub is : is_destroyed_by s asked by ≡ true
   pub free : IsFree (here_of e out) req
   pub held : KeepsHeld e out (rows.Dropped req (drops.Destroyed by))
 
-pub record IsDropDue (e : InEvent) (out : List RowKind) (req by : ReqId) : Type 0 where
+abbrev pub IsDestroyDue : InEvent → List RowKind → ReqId → ReqId → Type 0
+IsDestroyDue e out req by = IsDestroyDueIn (now_of e out) e out req by
+
+pub record IsDropDueIn (s : Seen) (e : InEvent) (out : List RowKind) (req by : ReqId) : Type 0 where
   pub asked : Asked
-  pub at : request_of (now_of e out) req ≡ Some asked
+  pub at : request_of s req ≡ Some asked
   pub open_ : asked.ending ≡ None
   pub mover : Asked
-  pub found : request_of (now_of e out) by ≡ Some mover
-  pub moved : by_mover (now_of e out) asked mover ≡ true
+  pub found : request_of s by ≡ Some mover
+  pub moved : by_mover s asked mover ≡ true
   pub free : IsFree (here_of e out) req
   pub held : KeepsHeld e out (rows.Dropped req (drops.By by))
+
+abbrev pub IsDropDue : InEvent → List RowKind → ReqId → ReqId → Type 0
+IsDropDue e out req by = IsDropDueIn (now_of e out) e out req by
 
 -- a traversal begins in its turn, which leaves no document with a handler
 pub record IsBeginDue (s : Seen) (req : ReqId) (goal : Step) : Type 0 where
@@ -106,29 +118,35 @@ pub record IsBeginDue (s : Seen) (req : ReqId) (goal : Step) : Type 0 where
   pub unmoved : asked.moved ≡ []
 
 -- one that leads nowhere is refused in its turn
-pub record IsNowhere (e : InEvent) (out : List RowKind) (req : ReqId) : Type 0 where
+pub record IsNowhereIn (s : Seen) (e : InEvent) (out : List RowKind) (req : ReqId) : Type 0 where
   pub asked : Asked
   pub delta : ℤ
-  pub at : request_of (now_of e out) req ≡ Some asked
+  pub at : request_of s req ≡ Some asked
   pub asks : delta_of asked.what ≡ Some delta
   pub open_ : asked.ending ≡ None
   pub early : denial_at_acceptance e.start asked.what ≡ None ⊎ (nat_lt (length e.start.requests) asked.nr.0 ≡ false)
-  pub nowhere : step_at_delta (now_of e out) delta ≡ None
-  pub turn : begins_in_turn (now_of e out) req ≡ true
-  pub unparked : has_req (now_of e out).parked req ≡ false
+  pub nowhere : step_at_delta s delta ≡ None
+  pub turn : begins_in_turn s req ≡ true
+  pub unparked : has_req s.parked req ≡ false
   pub held : KeepsHeld e out (rows.Refused req denials.NoStep)
 
+abbrev pub IsNowhere : InEvent → List RowKind → ReqId → Type 0
+IsNowhere e out req = IsNowhereIn (now_of e out) e out req
+
 -- the traversal that runs has passed, and all stand at its goal
-pub record IsEndDue (e : InEvent) (out : List RowKind) (req : ReqId) (goal : Step) : Type 0 where
+pub record IsEndDueIn (s : Seen) (e : InEvent) (out : List RowKind) (req : ReqId) (goal : Step) : Type 0 where
   pub asked : Asked
-  pub due : IsDueNow (now_of e out) req asked (changes.Traverse goal)
+  pub due : IsDueNow s req asked (changes.Traverse goal)
   pub traverses : is_traversal asked.what ≡ true
   pub makes : (made : Made) → asked.made ≡ Some made → changes_history made.what ≡ false
-  pub passed : has_passed (now_of e out) asked ≡ true
-  pub stand : all_stand (now_of e out) (aim_of (now_of e out)) ≡ true
-  pub unparked : has_req (now_of e out).parked req ≡ false
+  pub passed : has_passed s asked ≡ true
+  pub stand : all_stand s (aim_of s) ≡ true
+  pub unparked : has_req s.parked req ≡ false
   -- all that were held back as the event began are still, or none is
-  pub first : ((now_of e out).parked ≡ held_at_first e) ⊎ (((now_of e out).parked ≡ []) × (has_req (held_at_first e) req ≡ false))
+  pub first : (s.parked ≡ held_at_first e) ⊎ ((s.parked ≡ []) × (has_req (held_at_first e) req ≡ false))
+
+abbrev pub IsEndDue : InEvent → List RowKind → ReqId → Step → Type 0
+IsEndDue e out req goal = IsEndDueIn (now_of e out) e out req goal
 
 -- the frame is new, and its parent's entries have the document state on which it hangs
 pub record IsAdded (s : Seen) (tree : Tree) (run : Option ReqId) (owner : StateId) (nav parent : NavId) : Type 0 where

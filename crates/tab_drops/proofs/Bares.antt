@@ -9,7 +9,7 @@ use Rattle.load_table.specs.Loads.{ongoing_load}
 use Rattle.load_table.specs.declared.load.Load.{Load}
 use Rattle.log_model.proofs.Refl.{nat_eq_refl}
 use Rattle.log_model.specs.Causes.{is_destroyed_by}
-use Rattle.log_model.specs.Equal.{implies}
+use Rattle.log_model.specs.Equal.{has_req, implies}
 use Rattle.log_model.specs.History.{has_row, is_of, target_entry}
 use Rattle.log_model.specs.Places.{aim_of, all_stand}
 use Rattle.log_model.specs.Queue.{is_traverse}
@@ -144,7 +144,9 @@ module _ (p : InPass) (out : List RowKind) (t : Tables) (pass : IsPassing p out 
 
     free : IsFree (here_of p.event out) req
     unfolding now_of
-    free = ap (λ (b : Bool). implies b (list_any is_traverse (here_of p.event out).done)) (unheld p out t pass req nav it.load).parked
+    free =
+        ap (λ (x : Seen). implies (has_req x.parked req) (list_any is_traverse (here_of p.event out).done)) pass.work.plain ∙
+        ap (λ (b : Bool). implies b (list_any is_traverse (here_of p.event out).done)) (unheld p out t pass req nav it.load).parked
 
     pub destroy_due : AreUnheld p.event s → IsDestroyDue p.event out req by
     destroy_due held =
@@ -159,8 +161,8 @@ module _ (p : InPass) (out : List RowKind) (t : Tables) (pass : IsPassing p out 
 
     pub destroy_owed : IsOwed p.event (out ++ rows.Dropped req (causes.Destroyed by) ∷ [])
     destroy_owed =
-        owed_more p.event out (rows.Dropped req (causes.Destroyed by)) pass.owed (dropped_stays s p.event.event p.event.actor req (reckoned_now p.event out) (idle p out t pass req nav it.load) (causes.Destroyed by)) (λ end stays. refl)
+        owed_more p.event out (rows.Dropped req (causes.Destroyed by)) refl pass.owed (dropped_stays s p.event.event p.event.actor req (reckoned_now p.event out) (idle p out t pass req nav it.load) (causes.Destroyed by)) (λ end stays. refl)
 
     pub destroy_loose : all_stand (next s p.event.event p.event.actor (rows.Dropped req (causes.Destroyed by))) (aim_of (next s p.event.event p.event.actor (rows.Dropped req (causes.Destroyed by)))) ≡ true → IsLoose p.event (out ++ rows.Dropped req (causes.Destroyed by) ∷ [])
     destroy_loose all =
-        loose_more p.event out (rows.Dropped req (causes.Destroyed by)) (pass.loose (dropped_stood s p.event.event p.event.actor req (causes.Destroyed by) (idle p out t pass req nav it.load) all)) (dropped_lasts s p.event.event p.event.actor req (causes.Destroyed by)) (λ end lasts. refl)
+        loose_more p.event out (rows.Dropped req (causes.Destroyed by)) refl (pass.loose (dropped_stood s p.event.event p.event.actor req (causes.Destroyed by) (idle p out t pass req nav it.load) all)) (dropped_lasts s p.event.event p.event.actor req (causes.Destroyed by)) (λ end lasts. refl)

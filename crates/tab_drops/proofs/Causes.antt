@@ -19,7 +19,7 @@ use Rattle.row_facts.proofs.Owed.Ends.{owed_more}
 use Rattle.row_facts.proofs.Owed.Rows.{dropped_stays, reckoned_now}
 use Rattle.row_facts.specs.Owed.Owed.{IsLoose, IsOwed}
 use Rattle.seen_laws.specs.Blocks.{point_at}
-use Rattle.seen_laws.specs.InEvent.{here_of, now_of}
+use Rattle.seen_laws.specs.InEvent.{now_of, seen_here}
 use Rattle.std.proofs.Common.{List, None, Option, Some, [], ap, false, inl, inr, refl, sym, true, ℕ, ◌++◌, ◌∙◌, ◌∷◌, ◌≡◌, ◌⊎◌}
 use Rattle.std.proofs.lemmas.Bool.{and_parts, and_right}
 use Rattle.std.specs.Option.{option_map_or}
@@ -62,7 +62,7 @@ module _ (p : InPass) (out : List RowKind) (t : Tables) (pass : IsPassing p out 
       absurd cc
 
   -- the other request is there
-  dropped_by : (r : Asked) → request_of s by ≡ Some r → IsLoadBy (here_of p.event out) (now_of p.event out) req by nav its.q r
+  dropped_by : (r : Asked) → request_of s by ≡ Some r → IsLoadBy (seen_here p.event out) (now_of p.event out) req by nav its.q r
   unfolding now_of
   dropped_by r found = record { at = its.at; mode = its.mode; address = its.address; what = its.what; other = found }
 
@@ -95,21 +95,21 @@ module _ (p : InPass) (out : List RowKind) (t : Tables) (pass : IsPassing p out 
         passed = pass.going.tab.asked.passed by it.q it.found;
       }
 
-  moved_by_run : t.running ≡ Some by → (it : IsRunningThere) → IsMovedBy (here_of p.event out) (now_of p.event out) nav it.q
+  moved_by_run : t.running ≡ Some by → (it : IsRunningThere) → IsMovedBy (seen_here p.event out) (now_of p.event out) nav it.q
   moved_by_run runs it =
       let nr : it.q.nr ≡ by = (pass.going.tab.asked.each by it.q it.found).nr in
       record {
         traverses = it.traverses;
         began = it.began;
         passed = it.passed;
-        unended = ap (had_ended (point_at (here_of p.event out) [])) nr ∙ open_before p.event out by it.q it.found it.unended;
+        unended = ap (had_ended (point_at (seen_here p.event out) [])) nr ∙ open_before p.event out by it.q it.found it.unended;
         displaced = displaced_at s (aim_of s) (way_to s nav) away.mover on_way (and_right (is_shown s.history.rows (aim_of s) away.mover) (stands s (aim_of s) away.mover) off);
       }
 
   run_owed : t.running ≡ Some by → IsOwed p.event (out ++ rows.Dropped req (causes.By by) ∷ [])
   run_owed runs =
       let it = running_there runs in
-      owed_more p.event out (rows.Dropped req (causes.By by)) pass.owed (dropped_stays s p.event.event p.event.actor req (reckoned_now p.event out) (idle p out t pass req nav load) (causes.By by)) (moved_owes p.event out req by nav its.q it.q (dropped_by it.q it.found) (moved_by_run runs it))
+      owed_more p.event out (rows.Dropped req (causes.By by)) refl pass.owed (dropped_stays s p.event.event p.event.actor req (reckoned_now p.event out) (idle p out t pass req nav load) (causes.By by)) (moved_owes p.event out req by nav its.q it.q (dropped_by it.q it.found) (moved_by_run runs it))
 
   -- ---- a load that was applied
 
@@ -133,7 +133,7 @@ module _ (p : InPass) (out : List RowKind) (t : Tables) (pass : IsPassing p out 
 
   load_owed : t.running ≡ None → IsByLoad s by nav → IsOwed p.event (out ++ rows.Dropped req (causes.By by) ∷ [])
   load_owed none it =
-      owed_more p.event out (rows.Dropped req (causes.By by)) pass.owed (dropped_stays s p.event.event p.event.actor req (reckoned_now p.event out) (idle p out t pass req nav load) (causes.By by)) (still_moved_owes p.event out req by nav its.q it.mover (dropped_by it.mover it.found) (still_moved none it))
+      owed_more p.event out (rows.Dropped req (causes.By by)) refl pass.owed (dropped_stays s p.event.event p.event.actor req (reckoned_now p.event out) (idle p out t pass req nav load) (causes.By by)) (still_moved_owes p.event out req by nav its.q it.mover (dropped_by it.mover it.found) (still_moved none it))
 
 -- either
 pub gives_owed : (p : InPass) (out : List RowKind) (t : Tables) (pass : IsPassing p out t) (req : ReqId) (nav : NavId) (load : IsLoadOf (now_of p.event out) req nav) (by : ReqId) → GivesWay (now_of p.event out) t.running by nav → IsOwed p.event (out ++ rows.Dropped req (causes.By by) ∷ [])

@@ -142,7 +142,7 @@ module _ (p : InPass) (out : List RowKind) (t : Tables) (pass : IsPassing p out 
       })
     where
       now_is : then_ cause ≡ now_of p.event (out ++ rows.Dropped req cause ∷ [])
-      now_is = sym (now_more p.event out (rows.Dropped req cause))
+      now_is = sym (now_more p.event out (rows.Dropped req cause) refl)
 
   -- ---- all else is as it was
 

@@ -12,9 +12,10 @@ use Rattle.row_facts.proofs.Owed.Requests.{req_same}
 use Rattle.seen_facts.proofs.Request.LookUps.{on_itself}
 use Rattle.seen_facts.proofs.Request.Readers.{IsBlind, SameReads, delivered_reads, finished_reads, on_read, reads_then, sent_reads}
 use Rattle.seen_laws.specs.Blocks.{Here, on_row, on_rows, point_at}
-use Rattle.seen_laws.specs.InEvent.{InEvent, first_of, here_of, now_of, row_of}
+use Rattle.seen_laws.specs.InEvent.{InEvent, first_of, now_of, row_of, seen_first, seen_here, seen_rows}
+use Rattle.seen_laws.specs.Unasked.{unasked_request, unbegun, without_asks}
 use Rattle.std.proofs.Common.{Bool, List, None, Option, Some, [], ap, cond, false, map, refl, subst, sym, true, zero, suc, ℕ, ◌++◌, ◌-◌, ◌==◌, ◌∙◌, ◌∷◌, ◌≡◌}
-use Rattle.std.specs.Prelude.{is_some, option_map, slice_get}
+use Rattle.std.specs.Prelude.{if◌then◌else◌, is_some, option_map, slice_get}
 use Rattle.tab_ids.specs.declared.ReqId.{ReqId}
 use Rattle.log_model.specs.declared.outcome.Ending.TheVariants as endings
 use Rattle.log_model.specs.declared.row_kind.RowKind.TheVariants as rows
@@ -107,10 +108,28 @@ outcome_on : (h : Here) (more : List LogRow) (req : ReqId) → HasOutcome h.now.
 outcome_on h [] req has = has
 outcome_on h (row ∷ more) req has = outcome_on (on_row h row) more req (outcome_stays h.now row req has)
 
+-- who has it has it in the log without questions too
+as_seen : (checking : ReqId → Bool) (asked : List Asked) (req : ReqId) → holds has_outcome (request_in (map (unasked_request checking) asked) req) ≡ holds has_outcome (request_in asked req)
+as_seen checking asked req = by_number (req.0 == 0) (at asked (req.0 - 1))
+  where
+    as_masked : (b : Bool) (q : Asked) → has_outcome (if b then unbegun q else without_asks q) ≡ has_outcome q
+    as_masked true q = refl
+    as_masked false q = refl
+
+    at : (list : List Asked) (n : ℕ) → holds has_outcome (slice_get (map (unasked_request checking) list) n) ≡ holds has_outcome (slice_get list n)
+    at [] n = refl
+    at (q ∷ list) zero = as_masked (checking q.nr) q
+    at (q ∷ list) (suc n) = at list n
+
+    by_number : (b : Bool) → holds has_outcome (slice_get (map (unasked_request checking) asked) (req.0 - 1)) ≡ holds has_outcome (slice_get asked (req.0 - 1)) → holds has_outcome (cond b None (slice_get (map (unasked_request checking) asked) (req.0 - 1))) ≡ holds has_outcome (cond b None (slice_get asked (req.0 - 1)))
+    by_number true same = refl
+    by_number false same = same
+
 -- so it is wherever the event stands
 outcome_now : (e : InEvent) (out : List RowKind) (req : ReqId) → HasOutcome e.start.requests req → HasOutcome (now_of e out).requests req
 unfolding now_of
-outcome_now e out req has = outcome_on (first_of e) (map (row_of e) out) req (outcome_stays e.start (row_of e e.own) req has)
+outcome_now e out req has =
+    outcome_on (seen_first e) (seen_rows e out) req (as_seen e.checking (first_of e).now.requests req ∙ outcome_stays e.start (row_of e e.own) req has)
 
 -- the event began where it did
 began : (h : Here) (more : List LogRow) → (on_rows h more).start ≡ h.start
@@ -118,14 +137,14 @@ began h [] = refl
 began h (row ∷ more) = began (on_row h row) more
 
 -- a request that is open had no outcome before the event
-pub open_before : (e : InEvent) (out : List RowKind) (req : ReqId) (q : Asked) → request_of (now_of e out) req ≡ Some q → q.ending ≡ None → had_ended (point_at (here_of e out) []) req ≡ false
+pub open_before : (e : InEvent) (out : List RowKind) (req : ReqId) (q : Asked) → request_of (now_of e out) req ≡ Some q → q.ending ≡ None → had_ended (point_at (seen_here e out) []) req ≡ false
 open_before e out req q at open_ = by_test (holds has_outcome (request_of e.start req)) refl
   where
-    start_is : (point_at (here_of e out) []).start ≡ e.start
-    start_is = began (first_of e) (map (row_of e) out)
+    start_is : (point_at (seen_here e out) []).start ≡ (seen_first e).start
+    start_is = began (seen_first e) (seen_rows e out)
 
-    by_test : (b : Bool) → holds has_outcome (request_of e.start req) ≡ b → had_ended (point_at (here_of e out) []) req ≡ false
-    by_test false is = ap (λ (s : Seen). holds has_outcome (request_of s req)) start_is ∙ is
+    by_test : (b : Bool) → holds has_outcome (request_of e.start req) ≡ b → had_ended (point_at (seen_here e out) []) req ≡ false
+    by_test false is = ap (λ (s : Seen). holds has_outcome (request_of s req)) start_is ∙ as_seen e.checking e.start.requests req ∙ is
     by_test true is =
         let now_ : holds has_outcome (request_of (now_of e out) req) ≡ true = outcome_now e out req is in
         let own : holds has_outcome (request_of (now_of e out) req) ≡ false = ap (holds has_outcome) at ∙ ap (λ (o : Option Ending). is_some o) open_ in

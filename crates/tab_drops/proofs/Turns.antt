@@ -141,7 +141,7 @@ module _ (p : InPass) (out : List RowKind) (t : Tables) (pass : IsPassing p out 
         }
       where
         now_is : then_ p out t pass req nav load cause ≡ now_of p.event new
-        now_is = sym (ap (λ (l : List RowKind). now_of p.event l) is ∙ now_more p.event out (rows.Dropped req cause))
+        now_is = sym (ap (λ (l : List RowKind). now_of p.event l) is ∙ now_more p.event out (rows.Dropped req cause) refl)
 
         apart_of : (other : NavId) → ((other.0 == nav.0) ≡ false) ⊎ (IsAnyNav other → ⊥) → (other.0 == nav.0) ≡ false
         apart_of other (inl apart) = apart

@@ -15,7 +15,7 @@ use Rattle.log_model.specs.declared.row_kind.RowKind.{RowKind}
 use Rattle.nav_tree.specs.Tree.{state_of}
 use Rattle.page_cache.specs.Kept.{left_first, without}
 use Rattle.seen_laws.proofs.InEvents.{led_here}
-use Rattle.seen_laws.specs.InEvent.{InEvent, here_of, now_of}
+use Rattle.seen_laws.specs.InEvent.{InEvent, here_of, now_of, log_of}
 use Rattle.row_facts.specs.FrameRows.Discarding.{SettlesNone}
 use Rattle.seen_laws.specs.InEvent.{row_of}
 use Rattle.std.proofs.Common.{Bool, List, None, Option, Some, [], ap, false, length, map, refl, subst, sym, true, ℕ, ◌++◌, ◌==◌, ◌∙◌, ◌∷◌, ◌≡◌, ◌≤◌}
@@ -49,10 +49,15 @@ use Rattle.log_model.specs.declared.job.Task.TheVariants as tasks
 use Rattle.log_model.specs.declared.row_kind.RowKind.TheVariants as rows
 
 -- such an order may be sent
-pub below_ahead : (e : InEvent) (out : List RowKind) (move : Option Move) (t : Tables) (doc : DocId) (why : Why) (d : Document) → IsAtWorkFor move e out t → IsBelowDue (now_of e out) (order_to (now_of e out) doc why tasks.Discard) d → (desk_of (now_of e out) (proc_at (now_of e out) doc)).known ≡ 0 → SettlesNone (now_of e out) (row_of e (rows.Sent (order_to (now_of e out) doc why tasks.Discard))) → MaySend move e out (order_to (now_of e out) doc why tasks.Discard)
-unfolding now_of
-below_ahead e out move t doc why d work due known settles later ahead =
+-- of the log itself
+below_ahead_log : (e : InEvent) (out : List RowKind) (move : Option Move) (t : Tables) (doc : DocId) (why : Why) (d : Document) → IsAtWorkFor move e out t → IsBelowDue (log_of e out) (order_to (log_of e out) doc why tasks.Discard) d → (desk_of (log_of e out) (proc_at (log_of e out) doc)).known ≡ 0 → SettlesNone (log_of e out) (row_of e (rows.Sent (order_to (log_of e out) doc why tasks.Discard))) → MaySend move e out (order_to (log_of e out) doc why tasks.Discard)
+below_ahead_log e out move t doc why d work due known settles later ahead =
     below_discard_may (here_of e out) e.event e.actor (order_to (here_of e out).now doc why tasks.Discard) d (led_here e out work.own) (numbered (here_of e out).now (proc_at (here_of e out).now doc) doc why tasks.Discard known) due settles later tt
+
+-- and so of the log without questions
+pub below_ahead : (e : InEvent) (out : List RowKind) (move : Option Move) (t : Tables) (doc : DocId) (why : Why) (d : Document) → IsAtWorkFor move e out t → IsBelowDue (now_of e out) (order_to (now_of e out) doc why tasks.Discard) d → (desk_of (now_of e out) (proc_at (now_of e out) doc)).known ≡ 0 → SettlesNone (now_of e out) (row_of e (rows.Sent (order_to (now_of e out) doc why tasks.Discard))) → MaySend move e out (order_to (now_of e out) doc why tasks.Discard)
+below_ahead e out move t doc why d work due known settles =
+    subst (λ (s_ : Seen). MaySend move e out (order_to s_ doc why tasks.Discard)) work.plain (below_ahead_log e out move t doc why d work (subst (λ (s_ : Seen). IsBelowDue s_ (order_to s_ doc why tasks.Discard) d) (sym work.plain) due) (subst (λ (s_ : Seen). (desk_of s_ (proc_at s_ doc)).known ≡ 0) (sym work.plain) known) (subst (λ (s_ : Seen). SettlesNone s_ (row_of e (rows.Sent (order_to s_ doc why tasks.Discard)))) (sym work.plain) settles))
 
 -- ---- a document below
 

@@ -26,7 +26,7 @@ use Rattle.nav_tree.specs.declared.place.Place as live_place
 use Rattle.page_cache.specs.Kept.{left_first, oldest_of, without}
 use Rattle.seen_laws.proofs.InEvents.{led_here}
 use Rattle.seen_laws.proofs.Keyed.{find_has as seen_number, find_on_same}
-use Rattle.seen_laws.specs.InEvent.{InEvent, here_of, now_of, row_of}
+use Rattle.seen_laws.specs.InEvent.{InEvent, here_of, now_of, row_of, log_of}
 use Rattle.row_facts.specs.FrameRows.Discarding.{SettlesNone}
 use Rattle.std.proofs.Common.{Bool, List, None, Option, Some, [], ap, arith, cond, drop, false, filter_map, inl, inr, length, map, not, refl, subst, suc, sym, true, zero, ℕ, ◌++◌, ◌-◌, ◌==◌, ◌||◌, ◌∙◌, ◌∷◌, ◌≡◌, ◌≤◌}
 use Rattle.std.proofs.lemmas.Bool.Decides.{nat_tests}
@@ -80,10 +80,15 @@ last_has (x ∷ []) doc is = inl (let same : x ≡ doc = cc in same)
 last_has (x ∷ y ∷ docs) doc is = inr (last_has (y ∷ docs) doc is)
 
 -- such an order may be sent
-over_ahead : (e : InEvent) (out : List RowKind) (move : Move) (t : Tables) (doc : DocId) (why : Why) (d new : Document) (place : Place) (left : DocId) → IsAtWorkFor (Some move) e out t → document_of (now_of e out) move.doc ≡ Some new → IsKeptLast (now_of e out) (order_to (now_of e out) doc why tasks.Discard) d (Some left) → (desk_of (now_of e out) (proc_at (now_of e out) doc)).known ≡ 0 → SettlesNone (now_of e out) (row_of e (rows.Sent (order_to (now_of e out) doc why tasks.Discard))) → nat_lt e.header.keep (length (kept_with (now_of e out) (Some left))) ≡ true → place_of (now_of e out) new.nav ≡ Some place → place.last ≡ Some left → (left.0 == move.doc.0) ≡ false → MaySend (Some move) e out (order_to (now_of e out) doc why tasks.Discard)
-unfolding now_of
-over_ahead e out move t doc why d new place left work found due known settles many placed last apart =
+-- of the log itself
+over_ahead_log : (e : InEvent) (out : List RowKind) (move : Move) (t : Tables) (doc : DocId) (why : Why) (d new : Document) (place : Place) (left : DocId) → IsAtWorkFor (Some move) e out t → document_of (log_of e out) move.doc ≡ Some new → IsKeptLast (log_of e out) (order_to (log_of e out) doc why tasks.Discard) d (Some left) → (desk_of (log_of e out) (proc_at (log_of e out) doc)).known ≡ 0 → SettlesNone (log_of e out) (row_of e (rows.Sent (order_to (log_of e out) doc why tasks.Discard))) → nat_lt e.header.keep (length (kept_with (log_of e out) (Some left))) ≡ true → place_of (log_of e out) new.nav ≡ Some place → place.last ≡ Some left → (left.0 == move.doc.0) ≡ false → MaySend (Some move) e out (order_to (log_of e out) doc why tasks.Discard)
+over_ahead_log e out move t doc why d new place left work found due known settles many placed last apart =
     overflow_sends (here_of e out) e.event e.actor (order_to (here_of e out).now doc why tasks.Discard) move (led_here e out work.own) (numbered (here_of e out).now (proc_at (here_of e out).now doc) doc why tasks.Discard known) new found d place left due settles (subst (λ (h : Header). nat_lt h.keep (length (kept_with (here_of e out).now (Some left))) ≡ true) (sym (header_here e out)) many) placed last apart
+
+-- and so of the log without questions
+over_ahead : (e : InEvent) (out : List RowKind) (move : Move) (t : Tables) (doc : DocId) (why : Why) (d new : Document) (place : Place) (left : DocId) → IsAtWorkFor (Some move) e out t → document_of (now_of e out) move.doc ≡ Some new → IsKeptLast (now_of e out) (order_to (now_of e out) doc why tasks.Discard) d (Some left) → (desk_of (now_of e out) (proc_at (now_of e out) doc)).known ≡ 0 → SettlesNone (now_of e out) (row_of e (rows.Sent (order_to (now_of e out) doc why tasks.Discard))) → nat_lt e.header.keep (length (kept_with (now_of e out) (Some left))) ≡ true → place_of (now_of e out) new.nav ≡ Some place → place.last ≡ Some left → (left.0 == move.doc.0) ≡ false → MaySend (Some move) e out (order_to (now_of e out) doc why tasks.Discard)
+over_ahead e out move t doc why d new place left work found due known settles many placed last apart =
+    subst (λ (s_ : Seen). MaySend (Some move) e out (order_to s_ doc why tasks.Discard)) work.plain (over_ahead_log e out move t doc why d new place left work (subst (λ (s_ : Seen). document_of s_ move.doc ≡ Some new) (sym work.plain) found) (subst (λ (s_ : Seen). IsKeptLast s_ (order_to s_ doc why tasks.Discard) d (Some left)) (sym work.plain) due) (subst (λ (s_ : Seen). (desk_of s_ (proc_at s_ doc)).known ≡ 0) (sym work.plain) known) (subst (λ (s_ : Seen). SettlesNone s_ (row_of e (rows.Sent (order_to s_ doc why tasks.Discard)))) (sym work.plain) settles) (subst (λ (s_ : Seen). nat_lt e.header.keep (length (kept_with s_ (Some left))) ≡ true) (sym work.plain) many) (subst (λ (s_ : Seen). place_of s_ new.nav ≡ Some place) (sym work.plain) placed) last apart)
 
 -- ---- the document that is kept longest
 

@@ -224,7 +224,7 @@ module _ (p : InPass) (move : Option Move) {docs : List DocId} (out : List RowKi
 
   module _ (new : List RowKind) (u : Tables) (is : new ≡ out ++ rows.Sent discard ∷ []) where
     pub gone_now : gone_seen ≡ now_of p.event new
-    gone_now = sym (ap (λ (x : List RowKind). now_of p.event x) is ∙ now_more p.event out (rows.Sent discard))
+    gone_now = sym (ap (λ (x : List RowKind). now_of p.event x) is ∙ now_more p.event out (rows.Sent discard) refl)
 
     pub gone_leaving : IsLeaving p move (left_then s doc docs) new u → IsLeaving p move (without_doc doc docs) new u
     gone_leaving so = subst (λ (x : List DocId). IsLeaving p move (x ++ without_doc doc docs) new u) (below_none s doc its.nobody) so

@@ -103,7 +103,7 @@ module _ (l : InLoad) (t : Tables) (asked : IsAsked l t) (placed_ : away_in t l.
   then_ = next n l.event.event l.event.actor (rows.Started l.req None)
 
   pub is_then : now_of l.event now ≡ then_
-  is_then = ap (λ (o : List RowKind). now_of l.event o) now_is ∙ now_more l.event out (rows.Started l.req None)
+  is_then = ap (λ (o : List RowKind). now_of l.event o) now_is ∙ now_more l.event out (rows.Started l.req None) (ap not (asked.asks.aside.unchecked l.req))
 
   pub run_same : w.running ≡ t.running
   run_same = keeps.running ∙ runs_on.running
@@ -150,7 +150,7 @@ module _ (l : InLoad) (t : Tables) (asked : IsAsked l t) (placed_ : away_in t l.
 
   pub loose_then : IsLoose l.event (out ++ rows.Started l.req None ∷ [])
   loose_then =
-      loose_since l.event out (rows.Started l.req None) made.paid (sole_owes l.event out l.req l.nav l.mode l.address own made.found refl refl (no_earlier_stays n (row_of l.event (rows.Started l.req None)) l.req l.nav itself alone_now))
+      loose_since l.event out (rows.Started l.req None) (ap not (asked.asks.aside.unchecked l.req)) made.paid (sole_owes l.event out l.req l.nav l.mode l.address own made.found refl refl (no_earlier_stays n (row_of l.event (rows.Started l.req None)) l.req l.nav itself alone_now))
 
   pub loose_now : IsLoose l.event now
   loose_now = subst (λ (o : List RowKind). IsLoose l.event o) (sym now_is) loose_then

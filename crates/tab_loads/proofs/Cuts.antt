@@ -30,7 +30,7 @@ use Rattle.row_facts.proofs.Owed.Rows.{dropped_lasts, dropped_stays, reckoned_no
 use Rattle.row_facts.specs.Owed.Owed.{IsLoose, IsOwed}
 use Rattle.seen_facts.specs.Place.Standing.{IsAskedBy}
 use Rattle.seen_laws.specs.Blocks.{point_at}
-use Rattle.seen_laws.specs.InEvent.{InEvent, here_of, now_of}
+use Rattle.seen_laws.specs.InEvent.{InEvent, now_of, seen_here}
 use Rattle.tab_facts.proofs.ShownWays.Keeps.{shown_on_way, way_more}
 use Rattle.std.proofs.Common.{Bool, List, None, Option, Some, [], ap, false, inl, inr, not, refl, subst, sym, true, ℕ, ◌&&◌, ◌==◌, ◌||◌, ◌∙◌, ◌∷◌, ◌≡◌, ◌⊎◌}
 use Rattle.std.proofs.lemmas.Bool.{and_parts, or_right}
@@ -43,7 +43,7 @@ use Rattle.tab_drops.proofs.Endings.{open_before}
 use Rattle.tab_drops.specs.Turns.{IsByLoad}
 use Rattle.tab_ids.specs.declared.NavId.{NavId}
 use Rattle.tab_ids.specs.declared.ReqId.{ReqId}
-use Rattle.tab_loads.proofs.Firsts.{accepted_here, found, idle, q}
+use Rattle.tab_loads.proofs.Firsts.{accepted_seen, found, idle, q}
 use Rattle.tab_loads.specs.Loading.{IsLoadAsk}
 use Rattle.tab_loads.specs.Telling.{cut_by, cut_by_in, is_new_nav, mover_of}
 use Rattle.tab_passes.proofs.Aims.{aim_is}
@@ -202,7 +202,7 @@ module _ (e : InEvent) (req : ReqId) (nav : NavId) (mode : Mode) (address : List
     abbrev n : Seen
     n = next s e.event e.actor (rows.Dropped req (drops.By by))
 
-    load_by : (r : Asked) → request_of s by ≡ Some r → IsLoadBy (here_of e []) (now_of e []) req by nav (q e req nav mode address asks) r
+    load_by : (r : Asked) → request_of s by ≡ Some r → IsLoadBy (seen_here e []) (now_of e []) req by nav (q e req nav mode address asks) r
     unfolding now_of
     load_by r at = record { at = found e req nav mode address asks; mode = mode; address = address; what = refl; other = at }
 
@@ -223,8 +223,8 @@ module _ (e : InEvent) (req : ReqId) (nav : NavId) (mode : Mode) (address : List
 
     adder_paid : IsLoose e [] → IsByAdder by → IsPaidFor
     adder_paid loose it =
-        let under : IsUnderAdder (here_of e []) (now_of e []) nav (q e req nav mode address asks) it.r = record {
-          accepted = accepted_here e req nav mode address asks;
+        let under : IsUnderAdder (seen_here e []) (now_of e []) nav (q e req nav mode address asks) it.r = record {
+          accepted = accepted_seen e req nav mode address asks;
           above = x;
           on_way = on_way;
           place = own;
@@ -232,7 +232,7 @@ module _ (e : InEvent) (req : ReqId) (nav : NavId) (mode : Mode) (address : List
           unshown = it.unshown;
           added = it.added ∙ ap (λ (r : ReqId). let o : Option ReqId = Some r in o) (sym (plain it.r it.at).nr);
         } in
-        let more : IsLoose e (row ∷ []) = loose_more e [] row loose (dropped_lasts s e.event e.actor req (drops.By by)) (adder_owes e [] req by nav (q e req nav mode address asks) it.r (load_by it.r it.at) under) in
+        let more : IsLoose e (row ∷ []) = loose_more e [] row refl loose (dropped_lasts s e.event e.actor req (drops.By by)) (adder_owes e [] req by nav (q e req nav mode address asks) it.r (load_by it.r it.at) under) in
         record { owed = loose_owed e (row ∷ []) more; loose = λ all. more }
 
     record IsRunningThere : Type 0 where
@@ -251,13 +251,13 @@ module _ (e : InEvent) (req : ReqId) (nav : NavId) (mode : Mode) (address : List
         let parts = and_parts it.q.is_started (is_none it.q.ending) under in
         record { r = it.q; at = it.found; traverses = it.traverses; began = parts.0; unended = none_of it.q.ending parts.1; passed = pass.going.tab.asked.passed by it.q it.found }
 
-    moved_by : t.running ≡ Some by → (it : IsRunningThere) → IsMovedBy (here_of e []) (now_of e []) nav it.r
+    moved_by : t.running ≡ Some by → (it : IsRunningThere) → IsMovedBy (seen_here e []) (now_of e []) nav it.r
     moved_by runs it =
         record {
           traverses = it.traverses;
           began = it.began;
           passed = it.passed;
-          unended = ap (had_ended (point_at (here_of e []) [])) (plain it.r it.at).nr ∙ open_before e [] by it.r it.at it.unended;
+          unended = ap (had_ended (point_at (seen_here e []) [])) (plain it.r it.at).nr ∙ open_before e [] by it.r it.at it.unended;
           displaced = displaced_at s (aim_of s) (way_to s nav) x on_way away;
         }
 
@@ -265,7 +265,7 @@ module _ (e : InEvent) (req : ReqId) (nav : NavId) (mode : Mode) (address : List
     run_paid runs =
         let it = running_there runs in
         record {
-          owed = owed_more e [] row pass.owed (dropped_stays s e.event e.actor req (reckoned_now e []) (idle e req nav mode address asks) (drops.By by)) (moved_owes e [] req by nav (q e req nav mode address asks) it.r (load_by it.r it.at) (moved_by runs it));
+          owed = owed_more e [] row refl pass.owed (dropped_stays s e.event e.actor req (reckoned_now e []) (idle e req nav mode address asks) (drops.By by)) (moved_owes e [] req by nav (q e req nav mode address asks) it.r (load_by it.r it.at) (moved_by runs it));
           loose = late;
         }
 
@@ -293,7 +293,7 @@ module _ (e : InEvent) (req : ReqId) (nav : NavId) (mode : Mode) (address : List
           off = off_at s s.history.current (way_to s nav) x on_way (off_here it.none);
         } in
         record {
-          owed = owed_more e [] row pass.owed (dropped_stays s e.event e.actor req (reckoned_now e []) (idle e req nav mode address asks) (drops.By by)) (still_moved_owes e [] req by nav (q e req nav mode address asks) it.last.mover (load_by it.last.mover it.last.found) still);
+          owed = owed_more e [] row refl pass.owed (dropped_stays s e.event e.actor req (reckoned_now e []) (idle e req nav mode address asks) (drops.By by)) (still_moved_owes e [] req by nav (q e req nav mode address asks) it.last.mover (load_by it.last.mover it.last.found) still);
           loose = late;
         }
 

@@ -56,14 +56,14 @@ module _ (e : InEvent) (t : Tables) (queue : Queue) (blame : List (StateId × Re
 
   tab : IsTab t.running (req ∷ []) [] (now_of e [])
   tab =
-      subst (λ (x : Seen). IsTab t.running (req ∷ []) [] x) (sym (now e req None load asks.by_user asks.own asks.next)) (load_accepted_tab t.running e.start e.event actors.Ui stands.between.tab stands.between.flows req asks.next nav mode address)
+      subst (λ (x : Seen). IsTab t.running (req ∷ []) [] x) (sym (now e req None load asks.by_user asks.own asks.next asks.aside)) (load_accepted_tab t.running e.start e.event actors.Ui stands.between.tab stands.between.flows req asks.next nav mode address)
 
   comes : IsComing blame e.start (now_of e [])
-  comes = comes_now e req None load asks.by_user asks.own asks.next t queue blame stands
+  comes = comes_now e req None load asks.by_user asks.own asks.next asks.aside t queue blame stands
 
   going : IsGoing t.running (req ∷ []) [] (now_of e [])
   going =
-      goes_on e req None load asks.by_user asks.own asks.next t queue blame stands room (λ x never. absurd cc) (req ∷ []) (load_accepted_tab t.running e.start e.event actors.Ui stands.between.tab stands.between.flows req asks.next nav mode address)
+      goes_on e req None load asks.by_user asks.own asks.next asks.aside t queue blame stands room (λ x never. absurd cc) (req ∷ []) (load_accepted_tab t.running e.start e.event actors.Ui stands.between.tab stands.between.flows req asks.next nav mode address)
 
   -- an ongoing load is on its way, and so isn't held back
   unheld : AreUnheld e (now_of e [])
@@ -75,18 +75,18 @@ module _ (e : InEvent) (t : Tables) (queue : Queue) (blame : List (StateId × Re
 
   taking : IsTaking e t.running blame (now_of e [])
   taking =
-      taking_then e t.running t.kept.keep t.goal blame (now_of e []) stands.between stands.lasts stands.tied.goal (req ∷ []) [] tab (load_tied e t queue blame stands room header req nav mode address asks.by_user asks.own asks.next).goal comes unheld
+      taking_then e t.running t.kept.keep t.goal blame (now_of e []) stands.between stands.lasts stands.tied.goal (req ∷ []) [] tab (load_tied e t queue blame stands asks.aside room header req nav mode address asks.by_user asks.own asks.next).goal comes unheld
 
   aim : aim_of (now_of e []) ≡ aim_of e.start
   aim =
-      aim_same e t.running t.kept.keep t.goal blame (now_of e []) stands.between stands.lasts stands.tied.goal (req ∷ []) [] tab (load_tied e t queue blame stands room header req nav mode address asks.by_user asks.own asks.next).goal comes
+      aim_same e t.running t.kept.keep t.goal blame (now_of e []) stands.between stands.lasts stands.tied.goal (req ∷ []) [] tab (load_tied e t queue blame stands asks.aside room header req nav mode address asks.by_user asks.own asks.next).goal comes
 
   -- who joined was there before
   early : (r : ReqId) (q : Asked) → has_req (now_of e []).joined r ≡ true → request_of (now_of e []) r ≡ Some q → denial_at_acceptance e.start q.what ≡ None ⊎ (nat_lt (length e.start.requests) r.0 ≡ false)
   early r q joined at =
-      by_old (old_or_new e req None load asks.by_user asks.own asks.next r q (ap (λ (x : Seen). request_of x r) (sym (now e req None load asks.by_user asks.own asks.next)) ∙ at))
+      by_old (old_or_new e req None load asks.by_user asks.own asks.next asks.aside r q (ap (λ (x : Seen). request_of x r) (sym (now e req None load asks.by_user asks.own asks.next asks.aside)) ∙ at))
     where
-      by_old : (request_in e.start.requests r ≡ Some q) ⊎ ((r ≡ req) × (q ≡ new e req None load asks.by_user asks.own asks.next)) → denial_at_acceptance e.start q.what ≡ None ⊎ (nat_lt (length e.start.requests) r.0 ≡ false)
+      by_old : (request_in e.start.requests r ≡ Some q) ⊎ ((r ≡ req) × (q ≡ new e req None load asks.by_user asks.own asks.next asks.aside)) → denial_at_acceptance e.start q.what ≡ None ⊎ (nat_lt (length e.start.requests) r.0 ≡ false)
       by_old (inl old) =
           let low : r.0 ≤ length e.start.requests = number_low e.start.requests r q old in inr (grind (arith, nat_tests, low))
       by_old (inr it) =
@@ -98,17 +98,17 @@ module _ (e : InEvent) (t : Tables) (queue : Queue) (blame : List (StateId × Re
 
   queued : HasQueue (now_of e []) t.running queue.waiting
   queued =
-      subst (λ (x : Seen). HasQueue x t.running queue.waiting) (sym (now e req None load asks.by_user asks.own asks.next)) (queued_still e req None load asks.by_user asks.own asks.next t queue blame stands refl)
+      subst (λ (x : Seen). HasQueue x t.running queue.waiting) (sym (now e req None load asks.by_user asks.own asks.next asks.aside)) (queued_still e req None load asks.by_user asks.own asks.next asks.aside t queue blame stands refl)
 
   pub load_denied : HasDenied e req t queue blame
   load_denied =
       record {
         going = going;
-        rests = rests_now e req None load asks.by_user asks.own asks.next t queue blame stands;
+        rests = rests_now e req None load asks.by_user asks.own asks.next asks.aside t queue blame stands;
         few = subst (λ (k : ℕ). k ≤ t.kept.keep) (sym (ap length comes.kept)) stands.between.few;
         taking = taking;
         late = late_first blame e.start (now_of e []) comes t.running tab.standing stands.lasts.off;
         moved = moved_coming blame e.start (now_of e []) comes t.running stands.between.tab.asked stands.lasts.moved;
         theirs = comes.theirs;
-        queueing = queueing_now e req None load asks.by_user asks.own asks.next t queue blame stands (req ∷ []) queue aim turning queued refl;
+        queueing = queueing_now e req None load asks.by_user asks.own asks.next asks.aside t queue blame stands (req ∷ []) queue aim turning queued refl;
       }

@@ -12,8 +12,8 @@ use Rattle.row_facts.proofs.Owed.Rows.{IsIdle, load_idle}
 use Rattle.seen_facts.proofs.Request.LookUps.{one_more}
 use Rattle.seen_facts.proofs.Request.Times.{itself, times_none}
 use Rattle.seen_facts.specs.Request.Whereabouts.{is_of_load}
-use Rattle.seen_laws.specs.Blocks.{point_at}
-use Rattle.seen_laws.specs.InEvent.{InEvent, here_of, now_of}
+use Rattle.seen_laws.specs.Blocks.{Here, point_at}
+use Rattle.seen_laws.specs.InEvent.{InEvent, here_of, now_of, seen_here}
 use Rattle.std.proofs.Common.{List, None, Option, Some, [], ap, arith, cond, false, length, refl, subst, sym, true, ℕ, ◌==◌, ◌∙◌, ◌∷◌, ◌≡◌}
 use Rattle.std.proofs.lemmas.Bool.Decides.{nat_tests}
 use Rattle.std.specs.Prelude.{nat_lt}
@@ -32,14 +32,17 @@ module _ (e : InEvent) (req : ReqId) (nav : NavId) (mode : Mode) (address : List
   q = new_request req None (requests.Load nav mode address)
 
   pub first_is : now_of e [] ≡ next e.start e.event e.actor (rows.Accepted req None (requests.Load nav mode address))
-  unfolding now_of
-  first_is = ap (λ (k : RowKind). next e.start e.event e.actor k) asks.own
+  first_is = sym asks.aside.plain ∙ ap (λ (k : RowKind). next e.start e.event e.actor k) asks.own
 
   pub found : request_of (now_of e []) req ≡ Some q
   found = ap (λ (s : Seen). request_of s req) first_is ∙ one_more e.start.requests q req asks.next
 
   pub accepted_here : is_accepted_here (point_at (here_of e []) []) req ≡ true
   accepted_here = (let number = asks.next in let more : nat_lt (length e.start.requests) req.0 ≡ true = grind (arith, nat_tests, number) in more)
+
+  -- so in the log as it would be had nobody been asked
+  pub accepted_seen : is_accepted_here (point_at (seen_here e []) []) req ≡ true
+  accepted_seen = subst (λ (h : Here). is_accepted_here (point_at h []) req ≡ true) (sym asks.aside.begins) accepted_here
 
   pub idle : IsIdle (now_of e []) req
   idle = load_idle (now_of e []) req nav mode address q found refl

@@ -19,15 +19,14 @@ use Rattle.log_model.specs.declared.request.Mode.{Mode}
 use Rattle.log_model.specs.declared.row_kind.RowKind.{RowKind}
 use Rattle.row_facts.proofs.Owed.Drops.{replaced_owes}
 use Rattle.row_facts.proofs.Owed.Ends.{owes_more}
-use Rattle.row_facts.specs.Owed.Owed.{Lasts}
+use Rattle.row_facts.specs.Owed.Owed.{Lasts, owes_seen}
 use Rattle.seen_facts.proofs.Request.Readers.{SameReads, on_read}
 use Rattle.row_facts.proofs.RestRows.Rows.{dropped_rests}
 use Rattle.row_facts.specs.RestRows.Moving.{AllRest}
 use Rattle.seen_laws.proofs.InEvents.{now_more}
 use Rattle.seen_laws.specs.Blocks.{point_at}
-use Rattle.seen_laws.specs.InEvent.{InEvent, here_of, now_of, row_of, start_of}
-use Rattle.seen_laws.specs.Owing.{owes}
-use Rattle.std.proofs.Common.{Bool, List, None, Option, Some, [], ap, arith, cond, false, inl, inr, length, map, refl, subst, sym, true, ℕ, ◌++◌, ◌+◌, ◌-◌, ◌<◌, ◌==◌, ◌∙◌, ◌∷◌, ◌≡◌, ◌≤◌, ◌⊎◌}
+use Rattle.seen_laws.specs.InEvent.{InEvent, now_of, row_of, seen_here}
+use Rattle.std.proofs.Common.{Bool, List, None, Option, Some, [], ap, arith, cond, false, inl, inr, length, refl, subst, sym, true, ℕ, ◌++◌, ◌+◌, ◌-◌, ◌<◌, ◌==◌, ◌∙◌, ◌∷◌, ◌≡◌, ◌≤◌, ◌⊎◌}
 use Rattle.std.proofs.lemmas.Bool.Decides.{nat_tests}
 use Rattle.std.proofs.lemmas.Option.{slice_get_past}
 use Rattle.std.specs.Prelude.{option_map, slice_get}
@@ -43,7 +42,7 @@ use Rattle.tab_ids.specs.declared.NavId.{NavId}
 use Rattle.tab_ids.specs.declared.ReqId.{ReqId}
 use Rattle.tab_ids.specs.declared.StateId.{StateId}
 use Rattle.tab_loads.proofs.Cuts.{first_pass}
-use Rattle.tab_loads.proofs.Firsts.{accepted_here, first_is, found, q}
+use Rattle.tab_loads.proofs.Firsts.{accepted_seen, first_is, found, q}
 use Rattle.tab_loads.proofs.Leaving.{LeavesMost, taking_by}
 use Rattle.tab_loads.specs.Giving.{HasDropped, HasMadeWay, HasNone}
 use Rattle.tab_loads.specs.Loading.{IsLoadAsk}
@@ -113,11 +112,11 @@ module _ (e : InEvent) (req : ReqId) (nav : NavId) (mode : Mode) (address : List
       pub left : LeavesQueue s n
       pub found : request_of n req ≡ Some (q e req nav mode address asks)
       pub alone : (r : ReqId) → IsLoadOf n r nav → ⊥
-      pub paid : (end : Seen) → Lasts (after n (row_of e (rows.Started req None))) end → owes (start_of e) (row_of e e.own ∷ map (row_of e) out) end ≡ true
+      pub paid : (end : Seen) → Lasts (after n (row_of e (rows.Started req None))) end → owes_seen e out end ≡ true
 
     -- the own row owes nothing
-    own_paid : (end : Seen) → owes (start_of e) (row_of e e.own ∷ []) end ≡ true
-    own_paid end = rw asks.own refl
+    own_paid : (end : Seen) → owes_seen e [] end ≡ true
+    own_paid end = refl
 
     none_way : (u : Tables) (noted : List (StateId × ReqId)) → HasNone nav t u [] blame noted → IsMadeWay s [] noted
     none_way u noted it =
@@ -221,18 +220,18 @@ module _ (e : InEvent) (req : ReqId) (nav : NavId) (mode : Mode) (address : List
           (λ x doc was. record { place = was.place; placed = was.placed; wakes = was.wakes })
           (λ state is one. record { doc = one.doc; d = one.d; found = one.found; of_state = one.of_state; there = one.there }) taking.live
 
-      load_by : IsLoadBy (here_of e []) (now_of e []) old.req req nav its.q (q e req nav mode address asks)
+      load_by : IsLoadBy (seen_here e []) (now_of e []) old.req req nav its.q (q e req nav mode address asks)
       unfolding now_of
       load_by = record { at = its.at; mode = its.mode; address = its.address; what = its.what; other = found e req nav mode address asks }
 
-      paid : (end : Seen) → Lasts (after n (row_of e (rows.Started req None))) end → owes (start_of e) (row_of e e.own ∷ map (row_of e) (rows.Dropped old.req (drops.By req) ∷ [])) end ≡ true
+      paid : (end : Seen) → Lasts (after n (row_of e (rows.Started req None))) end → owes_seen e (rows.Dropped old.req (drops.By req) ∷ []) end ≡ true
       paid end lasts =
-          owes_more e [] (rows.Dropped old.req (drops.By req)) end (own_paid end) (replaced_owes e [] old.req req nav its.q (q e req nav mode address asks) load_by replaced end lasts)
+          owes_more e [] (rows.Dropped old.req (drops.By req)) refl end (own_paid end) (replaced_owes e [] old.req req nav its.q (q e req nav mode address asks) load_by replaced end lasts)
         where
           number_is : its.q.nr ≡ old.req
           number_is = (pass.going.tab.asked.each old.req its.q its.at).nr
 
-          replaced : IsReplacedBy (here_of e []) nav its.q (record (q e req nav mode address asks) { is_started = true })
+          replaced : IsReplacedBy (seen_here e []) nav its.q (record (q e req nav mode address asks) { is_started = true })
           replaced =
               record {
                 mode = mode;
@@ -240,7 +239,7 @@ module _ (e : InEvent) (req : ReqId) (nav : NavId) (mode : Mode) (address : List
                 what = refl;
                 later = subst (λ (r : ReqId). r.0 < req.0) (sym number_is) earlier;
                 began = refl;
-                begins_here = new_unstarted (point_at (here_of e []) []) req (accepted_here e req nav mode address asks);
+                begins_here = new_unstarted (point_at (seen_here e []) []) req (accepted_seen e req nav mode address asks);
               }
 
       dropped_way : (noted : List (StateId × ReqId)) → AreBlamed n noted → IsMadeWay n (rows.Dropped old.req (drops.By req) ∷ []) noted
@@ -285,4 +284,4 @@ module _ (e : InEvent) (req : ReqId) (nav : NavId) (mode : Mode) (address : List
             (moved_blamed p [] t pass (rows.Dropped it.old.req (drops.By req) ∷ []) blame noted (subst (λ (x : Seen). LeavesAll s x) (sym now_is) (left_all it.old it.at)) req (subst (λ (x : Seen). MayServe x req) (sym now_is) (may_serve it.old it.at)) it.noted_is blamed))))
           where
             now_is : now_of e (rows.Dropped it.old.req (drops.By req) ∷ []) ≡ next s e.event e.actor (rows.Dropped it.old.req (drops.By req))
-            now_is = now_more e [] (rows.Dropped it.old.req (drops.By req))
+            now_is = now_more e [] (rows.Dropped it.old.req (drops.By req)) refl

@@ -14,7 +14,7 @@ use Rattle.log_model.specs.declared.row_kind.RowKind.{RowKind}
 use Rattle.move_queue.specs.Queue.{Queue}
 use Rattle.seen_facts.proofs.Request.Readers.{SameReads}
 use Rattle.seen_laws.proofs.InEvents.{now_more}
-use Rattle.seen_laws.specs.InEvent.{InEvent, now_of, row_of}
+use Rattle.seen_laws.specs.InEvent.{InEvent, is_seen, now_of, row_of}
 use Rattle.std.proofs.Common.{Bool, List, Option, [], ap, false, inl, inr, refl, subst, sym, true, ℕ, ◌||◌, ◌∙◌, ◌∷◌, ◌≡◌, ◌⊎◌}
 use Rattle.tab_doors.specs.declared.tables.Tables.{Tables}
 use Rattle.tab_facts.specs.TabGoing.Going.{IsGoing}
@@ -78,12 +78,12 @@ module _ (e : InEvent) (req : ReqId) (nav : NavId) (mode : Mode) (address : List
   abbrev s : Seen
   s = now_of e []
 
-  module _ (row : RowKind) (unmoving : IsUnmoving row) (steady : IsUnapplied row) (change : ChangesOne s (next s e.event e.actor row) req) (tab : IsTab t.running [] [] (next s e.event e.actor row)) (unapplied : is_traverse (row_of e row) ≡ false) (new : List RowKind) (u : Tables) (out_is : new ≡ row ∷ []) (run : u.running ≡ t.running) (keep : u.kept.keep ≡ t.kept.keep) (passing : IsPassing (pass_of e) new u) where
+  module _ (row : RowKind) (seen : is_seen e.checking row ≡ true) (unmoving : IsUnmoving row) (steady : IsUnapplied row) (change : ChangesOne s (next s e.event e.actor row) req) (tab : IsTab t.running [] [] (next s e.event e.actor row)) (unapplied : is_traverse (row_of e row) ≡ false) (new : List RowKind) (u : Tables) (out_is : new ≡ row ∷ []) (run : u.running ≡ t.running) (keep : u.kept.keep ≡ t.kept.keep) (passing : IsPassing (pass_of e) new u) where
     abbrev n : Seen
     n = next s e.event e.actor row
 
     now_is : now_of e new ≡ n
-    now_is = ap (λ (l : List RowKind). now_of e l) out_is ∙ now_more e [] row
+    now_is = ap (λ (l : List RowKind). now_of e l) out_is ∙ now_more e [] row seen
 
     taken : IsTaking e t.running blame n
     taken =

@@ -1,4 +1,6 @@
 -- The document of the load's navigable is sent to a fragment: the order may be sent, and all goes on then.
+use Rattle.seen_laws.specs.Sending.{IsNumbered}
+use Rattle.seen_laws.specs.Blocks.{Here}
 use Rattle.seen_facts.proofs.Coord.Unread.{next}
 use Rattle.seen_facts.specs.Home.Homes.{IsAtHome}
 use Rattle.tab_facts.proofs.Last.Orders.{fragment_lasting}
@@ -18,7 +20,7 @@ use Rattle.row_facts.specs.Owed.Owed.{IsLoose}
 use Rattle.row_facts.proofs.RestRows.Orders.{told_rests}
 use Rattle.row_facts.specs.RestRows.Moving.{AllRest}
 use Rattle.seen_laws.proofs.InEvents.{now_more}
-use Rattle.seen_laws.specs.InEvent.{InEvent, here_of, now_of}
+use Rattle.seen_laws.specs.InEvent.{InEvent, here_of, log_of, now_of, seen_here}
 use Rattle.std.proofs.Common.{Bool, List, None, Option, Some, [], ap, false, length, refl, subst, sym, true, ℕ, ◌||◌, ◌∙◌, ◌∷◌, ◌≡◌, ◌≤◌}
 use Rattle.tab_doors.proofs.Whose.{proc_found}
 use Rattle.tab_doors.proofs.Works.{numbered}
@@ -31,7 +33,7 @@ use Rattle.tab_ids.specs.declared.DocId.{DocId}
 use Rattle.tab_ids.specs.declared.NavId.{NavId}
 use Rattle.tab_ids.specs.declared.ReqId.{ReqId}
 use Rattle.tab_loads.proofs.Cuts.{first_pass}
-use Rattle.tab_loads.proofs.Firsts.{accepted_here, found, q}
+use Rattle.tab_loads.proofs.Firsts.{accepted_seen, found, q}
 use Rattle.tab_loads.specs.Loading.{IsLoadAsk, pass_of}
 use Rattle.tab_passes.specs.Passing.{IsPassing}
 use Rattle.tab_facts.proofs.TabWhole.Sending.{IsToMade, sent_home}
@@ -66,15 +68,15 @@ module _ (e : InEvent) (req : ReqId) (nav : NavId) (mode : Mode) (address : List
   named : place.nav ≡ nav
   named = found_nav s.places nav place placed
 
-  due : IsFragmentDue (here_of e []) order home.document req nav mode address (q e req nav mode address asks)
+  due_seen : IsFragmentDue (seen_here e []) order home.document req nav mode address (q e req nav mode address asks)
   unfolding now_of
-  due =
+  due_seen =
       (let row = some_row (given_row s place) (λ (r : Row). is_fragment_navigation r.address address) leads in record {
         task = refl;
         to = record { found = home.found; proc = proc_is; alive = alive };
         at = found e req nav mode address asks;
         what = refl;
-        accepted = accepted_here e req nav mode address asks;
+        accepted = accepted_seen e req nav mode address asks;
         place = place;
         placed = placed;
         is_awake = rw wakes (nat_eq_refl doc.0);
@@ -84,10 +86,17 @@ module _ (e : InEvent) (req : ReqId) (nav : NavId) (mode : Mode) (address : List
         is_fragment = row.2;
       })
 
+  due : IsFragmentDue (here_of e []) order home.document req nav mode address (q e req nav mode address asks)
+  due =
+      subst (λ (h : Here). IsFragmentDue h order home.document req nav mode address (q e req nav mode address asks)) asks.aside.begins due_seen
+
+  is_numbered : IsNumbered (log_of e []) order
+  is_numbered =
+      subst (λ (x : Seen). IsNumbered x order) (sym asks.aside.plain) (numbered s order.proc doc (whys.Req req) (tasks.DoFragment req mode address) (pass.going.tab.asked.died order.proc).0)
+
   pub may_send : MaySend None e [] order
-  unfolding now_of
   may_send =
-      fragment_may (here_of e []) e.event e.actor order home.document req nav mode address (q e req nav mode address asks) pass.work.own (numbered s order.proc doc (whys.Req req) (tasks.DoFragment req mode address) (pass.going.tab.asked.died order.proc).0) due
+      fragment_may (here_of e []) e.event e.actor order home.document req nav mode address (q e req nav mode address asks) pass.work.own is_numbered due
 
   pub there : IsThere s doc
   there = record { document = home.document; found = home.found; alive = alive; known = (pass.going.tab.asked.died home.document.proc).0 }
@@ -109,10 +118,10 @@ module _ (e : InEvent) (req : ReqId) (nav : NavId) (mode : Mode) (address : List
       sent_going t.running (req ∷ []) [] s e.event e.actor pass.going order [] [] tab_then (fragment_lasting s e.event e.actor pass.going.lasting order req mode address refl) tt
 
   loose_then : IsLoose e (rows.Sent order ∷ [])
-  loose_then = loose_more e [] (rows.Sent order) loose (sent_lasts s e.event e.actor order) (λ end lasts. refl)
+  loose_then = loose_more e [] (rows.Sent order) refl loose (sent_lasts s e.event e.actor order) (λ end lasts. refl)
 
   now_is : now_of e (rows.Sent order ∷ []) ≡ then_
-  now_is = now_more e [] (rows.Sent order)
+  now_is = now_more e [] (rows.Sent order) refl
 
   pub sent_passing : (new : List RowKind) (u : Tables) → new ≡ rows.Sent order ∷ [] → KeepsStore t u → IsAtWork e new u → IsPassing (pass_of e) new u
   sent_passing new u is keeps work =

@@ -100,7 +100,7 @@ module _ (l : InLoad) (t : Tables) (asked : IsAsked l t) (placed_ : away_in t l.
   fin = next m l.event.event l.event.actor (rows.Sent order)
 
   pub is_fin : now_of l.event last ≡ fin
-  is_fin = ap (λ (o : List RowKind). now_of l.event o) last_is ∙ now_more l.event now (rows.Sent order)
+  is_fin = ap (λ (o : List RowKind). now_of l.event o) last_is ∙ now_more l.event now (rows.Sent order) refl
 
   pub run_y : y.running ≡ t.running
   run_y = keeps_y.running ∙ run_same
@@ -128,7 +128,7 @@ module _ (l : InLoad) (t : Tables) (asked : IsAsked l t) (placed_ : away_in t l.
 
   pub loose_fin : IsLoose l.event last
   loose_fin =
-      subst (λ (o : List RowKind). IsLoose l.event o) (sym last_is) (loose_more l.event now (rows.Sent order) loose_now (sent_lasts m l.event.event l.event.actor order) (λ end lasts. refl))
+      subst (λ (o : List RowKind). IsLoose l.event o) (sym last_is) (loose_more l.event now (rows.Sent order) refl loose_now (sent_lasts m l.event.event l.event.actor order) (λ end lasts. refl))
 
   pub sent_home : IsSentHome m order
   sent_home = record { home = λ d found. absurd (none_there_ d found); lives = lives_first w.running [] [] m passing_now.going.tab order refl }

@@ -13,9 +13,9 @@ use Rattle.log_model.specs.Points.{is_accepted_here}
 use Rattle.log_model.specs.Seen.{Asked, Document, Place, Seen, document_of, place_in, place_of}
 use Rattle.log_model.specs.declared.row_kind.RowKind.{RowKind}
 use Rattle.seen_facts.proofs.Rest.Still.{found_itself}
-use Rattle.seen_laws.specs.Blocks.{point_at}
+use Rattle.seen_laws.specs.Blocks.{Here, point_at}
 use Rattle.seen_laws.specs.InEvent.{InEvent, here_of, now_of}
-use Rattle.std.proofs.Common.{Bool, List, None, Option, Some, [], ap, arith, false, inl, inr, length, not, refl, sym, true, ℕ, ◌+◌, ◌<◌, ◌==◌, ◌||◌, ◌∙◌, ◌≡◌, ◌≤◌, ◌⊎◌}
+use Rattle.std.proofs.Common.{Bool, List, None, Option, Some, [], ap, arith, false, inl, inr, length, not, refl, subst, sym, true, ℕ, ◌+◌, ◌<◌, ◌==◌, ◌||◌, ◌∙◌, ◌≡◌, ◌≤◌, ◌⊎◌}
 use Rattle.std.proofs.lemmas.Bool.Decides.{nat_tests}
 use Rattle.std.proofs.lemmas.Bool.{and_parts}
 use Rattle.std.specs.List.{list_all}
@@ -143,9 +143,12 @@ module _ (l : InLoad) (t : Tables) (asked : IsAsked l t) (placed_ : away_in t l.
       ap (λ (x : Seen). nat_lt (length x.requests) l.req.0) (start_here l.event out)
       ∙ (let number = asked.asks.next in let more : nat_lt (length l.event.start.requests) l.req.0 ≡ true = grind (arith, nat_tests, number) in more)
 
-  pub due : IsLoadToBegin (here_of l.event out) l.req l.nav l.mode l.address own
-  unfolding now_of
-  due =
+  -- where the event stands, and the log as it would be had nobody been asked
+  abbrev here_seen : Here
+  here_seen = record (here_of l.event out) { now = n }
+
+  due_seen : IsLoadToBegin here_seen l.req l.nav l.mode l.address own
+  due_seen =
       record {
         at = made.found;
         number = refl;
@@ -159,6 +162,10 @@ module _ (l : InLoad) (t : Tables) (asked : IsAsked l t) (placed_ : away_in t l.
         anew = anew;
         unasked = none_asked (now_of l.event out) made.going.tab.docs (requests.Load l.nav l.mode l.address) None;
       }
+
+  pub due : IsLoadToBegin (here_of l.event out) l.req l.nav l.mode l.address own
+  due =
+      subst (λ (h : Here). IsLoadToBegin h l.req l.nav l.mode l.address own) (ap (λ (x : Seen). let h : Here = record (here_of l.event out) { now = x } in h) (sym way.work.plain)) due_seen
 
   pub to_begin : (replace : Bool) → replace ≡ load_replaces n (requests.Load l.nav l.mode l.address) → IsToBegin l.event out v.loads l.req l.nav replace l.address
   to_begin replace is = record { q = own; mode = l.mode; due = due; none_ = none_there; handling = is; unmade = unmade }

@@ -1,5 +1,6 @@
 -- The rule of loads: a load that the user asks for is refused, dropped, sent to a fragment, or begins in the place of the one before, and its document is to be made.
 -- HTML Standard, "navigate", "navigate to a fragment" and "Navigables" ("ongoing navigation"); that the ways up have to stand, and that a load of a way that doesn't is dropped, is this project's own.
+use Rattle.tab_stands.specs.Standing.{StartsUnasked}
 use Rattle.row_facts.specs.LoadRows.Beginning.{is_to_fragment}
 use Rattle.log_model.specs.Causes.{denial_at_acceptance}
 use Rattle.log_model.specs.Places.{aim_of, is_placed, way_to}
@@ -27,11 +28,12 @@ use Rattle.log_model.specs.declared.row_kind.RowKind.TheVariants as rows
 
 -- ---- what is asked
 
--- in this event the user asks for the load, by the next number
+-- in this event the user asks for the load, by the next number, and nobody is in a check
 pub record IsLoadAsk (e : InEvent) (req : ReqId) (nav : NavId) (mode : Mode) (address : List ℕ) : Type 0 where
   pub by_user : e.actor ≡ actors.Ui
   pub own : e.own ≡ rows.Accepted req None (requests.Load nav mode address)
   pub next : req.0 ≡ length e.start.requests + 1
+  pub aside : StartsUnasked e
 
 -- a pass of the event with nothing at hand
 abbrev pub pass_of : InEvent → InPass

@@ -65,7 +65,7 @@ module _ (m : InMoving) (nav : NavId) (doc : DocId) (why : Why) (out : List RowK
   frozen = after s (row_of e (rows.Sent freeze))
 
   now_is : frozen ≡ now_of e then_out
-  now_is = sym (ap (λ (l : List RowKind). now_of e l) is ∙ now_more e out (rows.Sent freeze))
+  now_is = sym (ap (λ (l : List RowKind). now_of e l) is ∙ now_more e out (rows.Sent freeze) refl)
 
   -- ---- all are asleep
 

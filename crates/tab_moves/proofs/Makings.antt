@@ -314,10 +314,10 @@ module _ (p : InPass) (out : List RowKind) (t : Tables) (pass : IsPassing p out 
 
         owed_then : IsOwed p.event then_out
         owed_then =
-            owed_more p.event out (rows.Sent job) pass.owed (sent_stays s p.event.event p.event.actor job pass.going.tab.asked.passed (reckoned_now p.event out) refl) (λ end stays. refl)
+            owed_more p.event out (rows.Sent job) refl pass.owed (sent_stays s p.event.event p.event.actor job pass.going.tab.asked.passed (reckoned_now p.event out) refl) (λ end stays. refl)
 
         now_is : then_ ≡ now_of p.event then_out
-        now_is = sym (now_more p.event out (rows.Sent job))
+        now_is = sym (now_more p.event out (rows.Sent job) refl)
 
         -- not all stood, and nobody has moved
         late : all_stand then_ (aim_of then_) ≡ false

@@ -313,7 +313,7 @@ module _ (p : InPass) (move : Option Move) (out : List RowKind) (t : Tables) (le
             others_then.others up (subst (λ (n : NavId). IsApart s n up) (sym to.wanted.nav_is) (above_apart s nav place.above (place_chain s leaving.going.tab.sound leaving.going.tab.hangs nav place to.wanted.placed) (ap (λ (n : NavId). has_nav place.above n) (sym own) ∙ not_above_itself s leaving.going.tab.sound leaving.going.tab.hangs nav place to.wanted.placed) up has))
 
     now_is : then_ ≡ now_of p.event then_out
-    now_is = sym (now_more p.event out (rows.Sent job))
+    now_is = sym (now_more p.event out (rows.Sent job) refl)
 
     -- a request is there as before, but for whom it has moved
     causes_then : (u : Tables) → IsLeaving p None [] then_out u → (x : Why) → MayCause s x → MayCause then_ x

@@ -144,14 +144,14 @@ module _ (l : InFreezing) (why : Why) (left docs : List DocId) (doc : DocId) (ou
       }
     where
       now_is : after s (row_of l.pass.event (rows.Sent (order_to s doc why tasks.Freeze))) ≡ now_of l.pass.event new
-      now_is = sym (ap (λ (x : List RowKind). now_of l.pass.event x) is ∙ now_more l.pass.event out (rows.Sent (order_to s doc why tasks.Freeze)))
+      now_is = sym (ap (λ (x : List RowKind). now_of l.pass.event x) is ∙ now_more l.pass.event out (rows.Sent (order_to s doc why tasks.Freeze)) refl)
 
       leaving_now : IsLeaving l.pass (Some l.move) (without_doc doc left) new u
       leaving_now = subst (λ (x : List DocId). IsLeaving l.pass (Some l.move) (x ++ without_doc doc left) new u) (below_none s doc so.each.0.nobody) leaving
 
   pub freezing_still : (new : List RowKind) → new ≡ out ++ rows.Sent (order_to s doc why tasks.Freeze) ∷ [] → IsStill (doc ∷ []) s (now_of l.pass.event new)
   freezing_still new is =
-      subst (λ (x : Seen). IsStill (doc ∷ []) s x) (sym (ap (λ (x : List RowKind). now_of l.pass.event x) is ∙ now_more l.pass.event out (rows.Sent (order_to s doc why tasks.Freeze)))) (still_frozen l.pass.event s doc why so.each.0.nobody)
+      subst (λ (x : Seen). IsStill (doc ∷ []) s x) (sym (ap (λ (x : List RowKind). now_of l.pass.event x) is ∙ now_more l.pass.event out (rows.Sent (order_to s doc why tasks.Freeze)) refl)) (still_frozen l.pass.event s doc why so.each.0.nobody)
 
 -- ---- so many of them
 

@@ -52,6 +52,13 @@ begun_work e out t doc left states work is =
     record {
       own = work.own;
       worker = work.worker;
+      unchecked = work.unchecked;
+      begins = work.begins;
+      rows = work.rows;
+      plain = work.plain;
+      same = work.same;
+      checks = work.checks;
+      calm = work.calm;
       holds = record {
         navs = work.holds.navs;
         documents = work.holds.documents;
@@ -106,7 +113,7 @@ module _ (p : InPass) (move : Option Move) (docs : List DocId) (out : List RowKi
 
   frozen_owed : IsOwed p.event (out ++ rows.Sent freeze ∷ [])
   frozen_owed =
-      owed_more p.event out (rows.Sent freeze) leaving.owed (sent_stays s p.event.event p.event.actor freeze all_passed (reckoned_now p.event out) refl) (λ end stays. refl)
+      owed_more p.event out (rows.Sent freeze) refl leaving.owed (sent_stays s p.event.event p.event.actor freeze all_passed (reckoned_now p.event out) refl) (λ end stays. refl)
 
   frozen_rests : RestBut (left_then s doc docs) frozen
   frozen_rests =
@@ -122,7 +129,7 @@ module _ (p : InPass) (move : Option Move) (docs : List DocId) (out : List RowKi
       })
     where
       now_is : frozen ≡ now_of p.event (out ++ rows.Sent freeze ∷ [])
-      now_is = sym (now_more p.event out (rows.Sent freeze))
+      now_is = sym (now_more p.event out (rows.Sent freeze) refl)
 
   -- it is discarded
 
@@ -141,7 +148,7 @@ module _ (p : InPass) (move : Option Move) (docs : List DocId) (out : List RowKi
 
   gone_owed : IsOwed p.event (out ++ rows.Sent discard ∷ [])
   gone_owed =
-      owed_more p.event out (rows.Sent discard) leaving.owed (sent_stays s p.event.event p.event.actor discard all_passed (reckoned_now p.event out) refl) (λ end stays. refl)
+      owed_more p.event out (rows.Sent discard) refl leaving.owed (sent_stays s p.event.event p.event.actor discard all_passed (reckoned_now p.event out) refl) (λ end stays. refl)
 
   gone_rests : RestBut (left_then s doc docs) gone
   gone_rests =
@@ -157,7 +164,7 @@ module _ (p : InPass) (move : Option Move) (docs : List DocId) (out : List RowKi
       })
     where
       now_is : gone ≡ now_of p.event (out ++ rows.Sent discard ∷ [])
-      now_is = sym (now_more p.event out (rows.Sent discard))
+      now_is = sym (now_more p.event out (rows.Sent discard) refl)
 
 -- ---- a navigable is shown a document, which ends a move
 
@@ -180,7 +187,7 @@ module _ (p : InPass) (move : Option Move) (docs : List DocId) (out : List RowKi
 
   shown_owed : IsOwed p.event (out ++ rows.Sent showing ∷ [])
   shown_owed =
-      owed_more p.event out (rows.Sent showing) leaving.owed (sent_stays (now_of p.event out) p.event.event p.event.actor showing leaving.going.tab.asked.passed (reckoned_now p.event out) refl) (λ end stays. refl)
+      owed_more p.event out (rows.Sent showing) refl leaving.owed (sent_stays (now_of p.event out) p.event.event p.event.actor showing leaving.going.tab.asked.passed (reckoned_now p.event out) refl) (λ end stays. refl)
 
   pub shown_leaving : (docs_ : List DocId) → RestBut docs_ shown → (u : Tables) (new : List RowKind) → new ≡ out ++ rows.Sent showing ∷ [] → KeepsStore t u → IsAtWork p.event new u → IsLeaving p None docs_ new u
   shown_leaving docs_ rests u new is keeps work =
@@ -192,4 +199,4 @@ module _ (p : InPass) (move : Option Move) (docs : List DocId) (out : List RowKi
       })
     where
       now_is : shown ≡ now_of p.event (out ++ rows.Sent showing ∷ [])
-      now_is = sym (now_more p.event out (rows.Sent showing))
+      now_is = sym (now_more p.event out (rows.Sent showing) refl)

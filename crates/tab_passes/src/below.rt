@@ -11,8 +11,8 @@ use nav_tree::{NavStatus, NavTree};
 use std::alloc::Global;
 use tab_ids::{DocId, NavId};
 
-/// The document that the navigable is awake on.
-fn doc_on(tree: &NavTree, nav: NavId) -> Option<DocId>
+/// The document that the navigable is awake on: the active document of a navigable that is shown. HTML Standard, "active document".
+pub fn doc_on(tree: &NavTree, nav: NavId) -> Option<DocId>
     ensures { result ≡ doc_on tree.now nav }
 {
     match tree.nav(nav)?.status {

@@ -7,7 +7,7 @@ mod reading;
 mod sleeping;
 mod telling;
 
-pub use below::docs_below;
+pub use below::{doc_on, docs_below};
 pub use leaving::{begin_move, discard, freeze, freeze_each};
 pub use reading::{aim, pair_at};
 pub use telling::tell_all;

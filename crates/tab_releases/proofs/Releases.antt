@@ -1,4 +1,5 @@
 -- What was held back is taken up one after the other, until nothing is.
+use Rattle.row_facts.proofs.FrameRows.LawfulLaws.{ends_seen}
 use Rattle.seen_facts.proofs.Coord.Held.{held_alike, made_of, without_same}
 use Rattle.seen_facts.proofs.Coord.Unread.{next}
 use Rattle.seen_facts.specs.Coord.Leading.{held_back}
@@ -154,7 +155,7 @@ module _ (p : InPass) (t : Tables) (was : List RowKind) (u : Tables) (out : List
     n = next s p.event.event p.event.actor taken.ended.kind
 
     now : now_of p.event more ≡ n
-    now = ap (λ (l : List RowKind). now_of p.event l) taken.ended.out ∙ now_more p.event out taken.ended.kind
+    now = ap (λ (l : List RowKind). now_of p.event l) taken.ended.out ∙ now_more p.event out taken.ended.kind (ends_seen p.event taken.ended.kind made.req taken.ended.ends)
 
     its : IsEnding s (now_of p.event more) made.req
     its = subst (λ (x : Seen). IsEnding s x made.req) (sym now) (is_ending s p.event taken.ended.kind made.req taken.ended.ends)

@@ -80,7 +80,7 @@ module _ (p : InPass) (out : List RowKind) (t : Tables) (passing : IsPassing p o
 
   other : (r : ReqId) → (r.0 == req.0) ≡ false → look_of n r ≡ look_of s r
   other r apart =
-      ap (λ (x : Seen). look_of x r) (ap (λ (l : List RowKind). now_of e l) ended.out ∙ now_more e out (rows.Applied req change))
+      ap (λ (x : Seen). look_of x r) (ap (λ (l : List RowKind). now_of e l) ended.out ∙ now_more e out (rows.Applied req change) refl)
       ∙ ap (λ (o : Option Asked). option_map look o)
       (on_else (on_request req (λ (x : Asked). record x { change = Some change }) (on_request req (λ (x : Asked). record x { ending = Some endings.Applied }) s.requests)) req (λ (x : Asked). record x { took = entries_taken s.history change }) r apart
       ∙ on_else (on_request req (λ (x : Asked). record x { ending = Some endings.Applied }) s.requests) req (λ (x : Asked). record x { change = Some change }) r apart

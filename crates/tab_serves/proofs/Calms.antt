@@ -20,9 +20,10 @@ use Rattle.log_model.specs.declared.job.Why.{Why}
 use Rattle.log_model.specs.declared.row.Row.{Row}
 use Rattle.log_model.specs.declared.row_kind.RowKind.{RowKind}
 use Rattle.seen_facts.proofs.Mover.Orders.{PutsToSleep}
-use Rattle.seen_laws.proofs.InEvents.{now_more}
+use Rattle.seen_laws.proofs.InEvents.{now_more, now_step}
 use Rattle.seen_laws.specs.InEvent.{InEvent, now_of, row_of}
-use Rattle.std.proofs.Common.{Bool, List, None, Option, Some, [], ap, cond, inl, inr, refl, subst, sym, true, ℕ, ◌++◌, ◌==◌, ◌∙◌, ◌∷◌, ◌≡◌}
+use Rattle.seen_laws.specs.Unasked.{is_question}
+use Rattle.std.proofs.Common.{Bool, List, None, Option, Some, [], ap, cond, inl, inr, not, refl, subst, sym, true, ℕ, ◌++◌, ◌==◌, ◌∙◌, ◌∷◌, ◌≡◌}
 use Rattle.std.specs.Prelude.{option_map}
 use Rattle.tab_doors.specs.declared.tables.Tables.{Tables}
 use Rattle.tab_ids.specs.declared.DocId.{DocId}
@@ -77,14 +78,14 @@ module _ (header : Header) (t : Tables) (nav : NavId) (entry : EntryId) (cause :
       subst (λ (l : List RowKind). IsCalmTurn s (now_of e l) nav place) (sym making.1) (none_calm place placed)
   made_calm (inr made) place placed =
       subst (λ (l : List RowKind). IsCalmTurn s (now_of e l) nav place) (sym made.is)
-      (subst (λ (x : Seen). IsCalmTurn s x nav place) (sym (now_more e was (rows.Sent made.job))) (populate_calm made.job _ _ _ made.task place placed))
+      (subst (λ (x : Seen). IsCalmTurn s x nav place) (sym (now_more e was (rows.Sent made.job) (ap (λ (k : Task). not (is_question k)) made.task))) (populate_calm made.job _ _ _ made.task place placed))
 
 -- its place stays
 pub made_place : (header : Header) (t : Tables) (nav : NavId) (entry : EntryId) (cause : Why) (e : InEvent) (was out : List RowKind) → HasMade header t nav entry cause was out → place_of (now_of e out) nav ≡ place_of (now_of e was) nav
 made_place header t nav entry cause e was out (inl making) = ap (λ (l : List RowKind). place_of (now_of e l) nav) making.1
 made_place header t nav entry cause e was out (inr made) =
     ap (λ (l : List RowKind). place_of (now_of e l) nav) made.is
-    ∙ ap (λ (x : Seen). place_of x nav) (now_more e was (rows.Sent made.job))
+    ∙ ap (λ (x : Seen). place_of x nav) (now_more e was (rows.Sent made.job) (ap (λ (k : Task). not (is_question k)) made.task))
     ∙ (let task = made.task in rw task refl)
 
 -- ---- it is moved
@@ -101,7 +102,7 @@ module _ (e : InEvent) (nav : NavId) (was out : List RowKind) (moved : HasBeenMo
 
   then_ : now_of e out ≡ x
   then_ =
-      ap (λ (l : List RowKind). now_of e l) moved.is ∙ now_more e moved.mid (rows.Sent moved.job)
+      ap (λ (l : List RowKind). now_of e l) moved.is ∙ now_more e moved.mid (rows.Sent moved.job) (ap (λ (k : Task). not (is_question k)) moved.task)
 
   -- ---- the order that shows it
 
@@ -215,7 +216,7 @@ module _ (e : InEvent) (nav : NavId) (was out : List RowKind) (moved : HasBeenMo
 sent_loads : (e : InEvent) (was out : List RowKind) (job : Job) → out ≡ was ++ rows.Sent job ∷ [] → DiscardsNone job.task → LoadsHaveDocuments (now_of e was) → LoadsHaveDocuments (now_of e out)
 sent_loads e was out job is none are =
     subst (λ (l : List RowKind). LoadsHaveDocuments (now_of e l)) (sym is)
-    (subst (λ (x : Seen). LoadsHaveDocuments x) (sym (now_more e was (rows.Sent job))) (loads_sent (now_of e was) e.event e.actor job (inl none) are))
+    (now_step LoadsHaveDocuments e was (rows.Sent job) (λ were. loads_sent (now_of e was) e.event e.actor job (inl none) were) are)
 
 pub made_loads : (header : Header) (t : Tables) (nav : NavId) (entry : EntryId) (cause : Why) (e : InEvent) (was out : List RowKind) → HasMade header t nav entry cause was out → LoadsHaveDocuments (now_of e was) → LoadsHaveDocuments (now_of e out)
 made_loads header t nav entry cause e was out (inl making) are =

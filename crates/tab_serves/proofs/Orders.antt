@@ -19,7 +19,7 @@ use Rattle.seen_facts.specs.Mover.Movers.{IsMovedBy}
 use Rattle.seen_facts.proofs.Asked.Passed.{have_passed}
 use Rattle.row_facts.proofs.Owed.Requests.{AsksNone}
 use Rattle.seen_facts.specs.Asked.Asking.{HavePassed}
-use Rattle.seen_laws.proofs.InEvents.{now_more}
+use Rattle.seen_laws.proofs.InEvents.{now_step}
 use Rattle.seen_laws.specs.InEvent.{InEvent, now_of, row_of}
 use Rattle.std.proofs.Common.{Bool, List, None, Option, Some, [], ap, append-nil, append_assoc, cond, false, inl, inr, map, refl, subst, sym, true, ◌++◌, ◌==◌, ◌∙◌, ◌∷◌, ◌≡◌}
 use Rattle.std.specs.Option.{option_map_or}
@@ -53,13 +53,13 @@ over_rows : (Is : Task → Type 0) (P : Seen → Type 0) → KeptByEach Is P →
 over_rows Is P step e out [] each so = subst (λ (l : List RowKind). P (now_of e l)) (sym (append-nil out)) so
 over_rows Is P step e out (row ∷ more) each so =
     subst (λ (l : List RowKind). P (now_of e l)) (append_assoc out (row ∷ []) more)
-    (over_rows Is P step e (out ++ row ∷ []) more (λ other there. each other (inr there)) (subst (λ (x : Seen). P x) (sym (now_more e out row)) one))
+    (over_rows Is P step e (out ++ row ∷ []) more (λ other there. each other (inr there)) (now_step P e out row (λ was. one was) so))
   where
     its : IsOrderOf Is row
     its = each row (inl refl)
 
-    one : P (after (now_of e out) (row_of e row))
-    one = subst (λ (k : RowKind). P (after (now_of e out) (row_of e k))) (sym its.is) (step (now_of e out) e its.job its.task so)
+    one : P (now_of e out) → P (after (now_of e out) (row_of e row))
+    one was = subst (λ (k : RowKind). P (after (now_of e out) (row_of e k))) (sym its.is) (step (now_of e out) e its.job its.task was)
 
 -- all of them keep it
 pub over_orders : (Is : Task → Type 0) (P : Seen → Type 0) → KeptByEach Is P → (e : InEvent) (was out : List RowKind) → HasOnly (IsOrderOf Is) was out → P (now_of e was) → P (now_of e out)

@@ -149,7 +149,7 @@ module _ (p : InPass) (out : List RowKind) (t : Tables) (queue : Queue) (blame :
 
   many_m : length y.requests ≡ length s.requests
   many_m =
-      ap (λ (x : Seen). length x.requests) (ap (λ (l : List RowKind). now_of e l) ended.out ∙ now_more e out kind)
+      ap (λ (x : Seen). length x.requests) (ap (λ (l : List RowKind). now_of e l) ended.out ∙ now_more e out kind refl)
       ∙ (let its : IsEnding s (next s e.event e.actor kind) ended.req = is_ending s e kind ended.req refl in its.long)
 
   traversed_m : has_traversed e mid ≡ true

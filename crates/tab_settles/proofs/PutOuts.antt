@@ -20,15 +20,17 @@ use Rattle.log_model.specs.declared.row_kind.Actor.{Actor}
 use Rattle.log_model.specs.declared.row_kind.LogRow.{LogRow}
 use Rattle.log_model.specs.declared.row_kind.RowKind.{RowKind}
 use Rattle.seen_facts.proofs.Request.Readers.{on_read, reads_then, sent_reads}
-use Rattle.seen_laws.proofs.InEvents.{now_more}
+use Rattle.seen_laws.proofs.InEvents.{now_step}
 use Rattle.seen_laws.specs.InEvent.{InEvent, now_of, row_of}
-use Rattle.std.proofs.Common.{Bool, List, None, Option, Some, [], ap, append-nil, append_assoc, cond, false, inl, inr, length, map, refl, subst, sym, true, ℕ, ◌++◌, ◌==◌, ◌||◌, ◌∙◌, ◌∷◌, ◌≡◌}
+use Rattle.seen_laws.specs.Unasked.{is_question}
+use Rattle.tab_serves.specs.Serving.{IsOfWalk}
+use Rattle.std.proofs.Common.{Bool, List, None, Option, Some, [], ap, append-nil, append_assoc, cond, false, inl, inr, length, map, not, refl, subst, sym, true, ℕ, ◌++◌, ◌==◌, ◌||◌, ◌∙◌, ◌∷◌, ◌≡◌}
 use Rattle.std.proofs.lemmas.List.Folds.{list_any-append}
 use Rattle.std.proofs.lemmas.List.{map-append}
 use Rattle.std.specs.List.{list_any}
 use Rattle.std.specs.Prelude.{option_map}
 use Rattle.seen_laws.proofs.Keyed.{find_map}
-use Rattle.tab_releases.specs.PassedOn.{Drop, HasGivenWay, HasOnly, HasOnlyDropped, HasPutOut, IsServeFor, IsUpdateFor, row_of_drop}
+use Rattle.tab_releases.specs.PassedOn.{Drop, HasGivenWay, HasOnly, HasOnlyDropped, HasPutOut, IsServeFor, IsUpdateFor, length_index, row_of_drop}
 use Rattle.tab_releases.proofs.Endings.{as_many}
 use Rattle.tab_ids.specs.declared.DocId.{DocId}
 use Rattle.tab_ids.specs.declared.ReqId.{ReqId}
@@ -152,7 +154,7 @@ rows_off e was [] each =
     subst (λ (l : List RowKind). KeepsOff (now_of e was) (now_of e l)) (sym (append-nil was)) (off_none (now_of e was))
 rows_off e was (row ∷ more) each =
     subst (λ (l : List RowKind). KeepsOff (now_of e was) (now_of e l)) (append_assoc was (row ∷ []) more)
-    (off_then (now_of e was) (now_of e (was ++ row ∷ [])) (now_of e ((was ++ row ∷ []) ++ more)) (subst (λ (s : Seen). KeepsOff (now_of e was) s) (sym (now_more e was row)) (row_off (now_of e was) e.event e.actor row (each row (inl refl))))
+    (off_then (now_of e was) (now_of e (was ++ row ∷ [])) (now_of e ((was ++ row ∷ []) ++ more)) (now_step (λ (s : Seen). KeepsOff (now_of e was) s) e was row (λ same. row_off (now_of e was) e.event e.actor row (each row (inl refl))) (off_none (now_of e was)))
     (rows_off e (was ++ row ∷ []) more (λ x there. each x (inr there))))
 
 pub only_off : (e : InEvent) (was out : List RowKind) → HasOnly IsOrderOrDrop was out → KeepsOff (now_of e was) (now_of e out)
@@ -166,7 +168,7 @@ rows_leave e was [] each =
     subst (λ (l : List RowKind). LeavesPut (now_of e was) (now_of e l)) (sym (append-nil was)) (leaves_none (now_of e was))
 rows_leave e was (row ∷ more) each =
     subst (λ (l : List RowKind). LeavesPut (now_of e was) (now_of e l)) (append_assoc was (row ∷ []) more)
-    (leaves_then (now_of e was) (now_of e (was ++ row ∷ [])) (now_of e ((was ++ row ∷ []) ++ more)) (subst (λ (s : Seen). LeavesPut (now_of e was) s) (sym (now_more e was row)) (row_leaves (now_of e was) e.event e.actor row (each row (inl refl))))
+    (leaves_then (now_of e was) (now_of e (was ++ row ∷ [])) (now_of e ((was ++ row ∷ []) ++ more)) (now_step (λ (s : Seen). LeavesPut (now_of e was) s) e was row (λ same. row_leaves (now_of e was) e.event e.actor row (each row (inl refl))) (leaves_none (now_of e was)))
     (rows_leave e (was ++ row ∷ []) more (λ x there. each x (inr there))))
 
 -- none of them applies a traversal
@@ -210,14 +212,32 @@ put_each Is e run cause tells was out drops discards serves told put =
     swept =
         record { more = put.clears.sweeps.more; is = put.clears.sweeps.is; each = λ row there. (let it = put.clears.sweeps.each row there in subst Is (sym it.is) (discards it.job it.discards)) }
 
+walk_asks_none : (task : Task) → IsOfWalk task → not (is_question task) ≡ true
+walk_asks_none (tasks.Ask slot cause) never = absurd never
+walk_asks_none (tasks.Activate entry epoch length index memo address) is = refl
+walk_asks_none (tasks.Populate nav state address initial) is = refl
+walk_asks_none tasks.Freeze is = refl
+walk_asks_none tasks.Discard is = refl
+walk_asks_none (tasks.Update long at) is = refl
+walk_asks_none (tasks.DoFragment req mode address) is = refl
+
+update_asks_none : (task : Task) → length_index task ≡ true → not (is_question task) ≡ true
+update_asks_none (tasks.Ask slot cause) never = absurd cc
+update_asks_none (tasks.Activate entry epoch length index memo address) is = refl
+update_asks_none (tasks.Populate nav state address initial) is = refl
+update_asks_none tasks.Freeze is = refl
+update_asks_none tasks.Discard is = refl
+update_asks_none (tasks.Update long at) is = refl
+update_asks_none (tasks.DoFragment req mode address) is = refl
+
 told_only : (why : Why) (row : RowKind) → IsUpdateFor why row → IsOrderOrDrop row
-told_only why (rows.Sent job) is = tt
+told_only why (rows.Sent job) is = update_asks_none job.task is.1
 told_only why row is = elim is [ ]
 
 -- a pass puts out orders and drops alone
 pub put_only : (e : InEvent) (run : Option ReqId) (cause tells : Why) (was out : List RowKind) → HasPutOut e run cause tells was out → HasOnly IsOrderOrDrop was out
 put_only e run cause tells was out =
-    put_each IsOrderOrDrop e run cause tells was out (λ d. tt) (λ job is. tt) (λ row it. subst (λ (x : RowKind). IsOrderOrDrop x) (sym it.is) tt) (told_only tells)
+    put_each IsOrderOrDrop e run cause tells was out (λ d. tt) (λ job is. ap (λ (k : Task). not (is_question k)) is) (λ row it. subst (λ (x : RowKind). IsOrderOrDrop x) (sym it.is) (walk_asks_none it.job.task it.serves)) (told_only tells)
 
 -- and so it leaves these
 pub only_leaves : (e : InEvent) (was out : List RowKind) → HasOnly IsOrderOrDrop was out → LeavesPut (now_of e was) (now_of e out)

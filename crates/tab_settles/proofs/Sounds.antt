@@ -12,7 +12,7 @@ use Rattle.tab_facts.proofs.Order.Rows.{coord_within, orders_on, orders_over}
 use Rattle.tab_facts.proofs.Order.Stills.{still_over}
 use Rattle.tab_facts.specs.Order.Orders.{AreOrders, IsOfCoord}
 use Rattle.row_facts.specs.Owed.Owed.{IsStill}
-use Rattle.seen_laws.proofs.InEvents.{now_more}
+use Rattle.seen_laws.proofs.InEvents.{now_step}
 use Rattle.seen_laws.proofs.Keyed.{find_map}
 use Rattle.seen_laws.specs.InEvent.{InEvent, now_of}
 use Rattle.std.proofs.Common.{List, Option, Some, [], ap, append-nil, append_assoc, inl, inr, refl, subst, sym, ℕ, ◌++◌, ◌==◌, ◌∙◌, ◌∷◌, ◌≡◌}
@@ -83,9 +83,12 @@ module _ (e : InEvent) where
   docs_over : (more was : List RowKind) → ((kind : RowKind) → Has more kind → IsOfCoord kind) → (doc : DocId) (d : Document) → document_of (now_of e was) doc ≡ Some d → (now : Document) × (document_of (now_of e (was ++ more)) doc ≡ Some now) × (now.nav ≡ d.nav)
   docs_over [] was fine doc d found = (d, ap (λ (l : List RowKind). document_of (now_of e l) doc) (append-nil was) ∙ found, refl)
   docs_over (kind ∷ more) was fine doc d found =
-      let one = docs_after (now_of e was) e.event e.actor kind (fine kind (inl refl)) doc d found in
-      let two = docs_over more (was ++ kind ∷ []) (λ k has. fine k (inr has)) doc one.0 (ap (λ (x : Seen). document_of x doc) (now_more e was kind) ∙ one.1) in
+      let one : IsThen (now_of e (was ++ kind ∷ [])) = now_step IsThen e was kind (λ was_. docs_after (now_of e was) e.event e.actor kind (fine kind (inl refl)) doc d found) (d, found, refl) in
+      let two = docs_over more (was ++ kind ∷ []) (λ k has. fine k (inr has)) doc one.0 one.1 in
       (two.0, ap (λ (l : List RowKind). document_of (now_of e l) doc) (sym (append_assoc was (kind ∷ []) more)) ∙ two.1, two.2 ∙ one.2)
+    where
+      IsThen : Seen → Type 0
+      IsThen x = (now : Document) × (document_of x doc ≡ Some now) × (now.nav ≡ d.nav)
 
   keeps_over : (more was : List RowKind) → ((kind : RowKind) → Has more kind → IsOfCoord kind) → KeepsWhat (now_of e was) (now_of e (was ++ more))
   keeps_over more was fine =

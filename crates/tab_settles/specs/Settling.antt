@@ -26,7 +26,8 @@ use Rattle.move_queue.specs.Queue.{Queue}
 use Rattle.move_queue.specs.declared.queue_step.QueueStep.{QueueStep}
 use Rattle.seen_facts.proofs.Request.Readers.{SameReads}
 use Rattle.seen_laws.specs.InEvent.{InEvent, now_of}
-use Rattle.std.specs.Prelude.{List, None, Option, Some, [], false, length, true, ℕ, ◌++◌, ◌+◌, ◌≡◌, ◌⊎◌, if◌then◌else◌}
+use Rattle.seen_laws.specs.Unasked.{is_question}
+use Rattle.std.specs.Prelude.{List, None, Option, Some, [], false, length, not, true, ℕ, ◌++◌, ◌+◌, ◌≡◌, ◌⊎◌, if◌then◌else◌}
 use Rattle.tab_releases.specs.PassedOn.{AreBlamed, AreLeftStrays, HasPassed, HasQueue, IsLoadApplied, IsOpen, LoadsLive, MayStand, show_why}
 use Rattle.tab_facts.specs.TabEvents.Between.{AreSwept, orders_go}
 use Rattle.tab_ids.specs.declared.DocId.{DocId}
@@ -54,9 +55,9 @@ followed last reasons = record reasons { cause = show_why last reasons.cause }
 
 -- ---- what a pass puts out, and leaves
 
--- the row is an order, or drops a request
+-- the row is an order that asks nothing, or drops a request
 abbrev pub IsOrderOrDrop : RowKind → Type 0
-IsOrderOrDrop (rows.Sent job) = Unit {0}
+IsOrderOrDrop (rows.Sent job) = not (is_question job.task) ≡ true
 IsOrderOrDrop (rows.Dropped req cause) = Unit {0}
 IsOrderOrDrop _ = ⊥
 

@@ -22,7 +22,6 @@ use Rattle.seen_facts.specs.Request.Cores.{Core, core_of}
 use Rattle.seen_facts.specs.Request.Knowns.{AllOf, IsParked, req_itself}
 use Rattle.row_facts.proofs.RestRows.Rows.{accepted_rests}
 use Rattle.row_facts.specs.RestRows.Moving.{AllRest}
-use Rattle.seen_laws.proofs.InEvents.{now_own}
 use Rattle.seen_laws.specs.Blocks.{point_at}
 use Rattle.seen_laws.specs.InEvent.{InEvent, IsTakenIn, now_of, row_of, start_of}
 use Rattle.std.proofs.Common.{Bool, List, None, Option, Some, [], ap, arith, cond, eqb-true, false, inl, inr, length, length-append, refl, subst, sym, true, ℕ, ◌&&◌, ◌+◌, ◌-◌, ◌<◌, ◌==◌, ◌||◌, ◌∙◌, ◌∷◌, ◌≡◌, ◌≤◌, ◌⊎◌}
@@ -44,7 +43,7 @@ use Rattle.move_queue.specs.Queue.{Queue}
 use Rattle.tab_settles.specs.Settling.{HoldsParked}
 use Rattle.tab_stands.proofs.Coming.{IsComing}
 use Rattle.tab_stands.proofs.More.{coming_more, count_as, new_there, old_stays, one_of, strays_more}
-use Rattle.tab_stands.specs.Standing.{HasRoomFor, StandsFor}
+use Rattle.tab_stands.specs.Standing.{HasRoomFor, StandsFor, StartsUnasked}
 use Rattle.log_model.specs.declared.row_kind.Actor.TheVariants as actors
 use Rattle.log_model.specs.declared.row_kind.RowKind.TheVariants as rows
 
@@ -72,7 +71,7 @@ parked_there asked (r ∷ reqs) are req has at = by_test (r.0 == req.0) refl has
 
 -- ---- the row
 
-module _ (e : InEvent) (req : ReqId) (doc : Option DocId) (what : Request) (by_user : e.actor ≡ actors.Ui) (own : e.own ≡ rows.Accepted req doc what) (nr : req.0 ≡ length e.start.requests + 1) where
+module _ (e : InEvent) (req : ReqId) (doc : Option DocId) (what : Request) (by_user : e.actor ≡ actors.Ui) (own : e.own ≡ rows.Accepted req doc what) (nr : req.0 ≡ length e.start.requests + 1) (aside : StartsUnasked e) where
   abbrev pub new : Asked
   new = new_request req doc what
 
@@ -84,7 +83,7 @@ module _ (e : InEvent) (req : ReqId) (doc : Option DocId) (what : Request) (by_u
 
   pub now : now_of e [] ≡ went
   now =
-      now_own e
+      sym aside.plain
       ∙ (ap (λ (a : Actor). next e.start e.event a e.own) by_user
       ∙ ap (λ (k : RowKind). next e.start e.event actors.Ui k) own)
 

@@ -32,7 +32,7 @@ use Rattle.tab_ids.specs.declared.ReqId.{ReqId}
 use Rattle.tab_ids.specs.declared.StateId.{StateId}
 use Rattle.tab_stands.proofs.Unmade.{d, its_found, the_one}
 use Rattle.tab_stands.specs.Delivering.{IsDelivery}
-use Rattle.tab_stands.specs.Standing.{StandsFor}
+use Rattle.tab_stands.specs.Standing.{StandsFor, StartsUnasked}
 
 -- the document that is made for a load that waits for it
 record IsDocOf (documents : List Document) (doc : DocId) (state : StateId) : Type 0 where
@@ -58,15 +58,15 @@ doc_of documents doc state waits = by_made (made_for documents state) refl waits
     by_made None at never = absurd cc
     by_made (Some d) at is = by_ready d at d.is_ready is
 
-module _ (e : InEvent) (proc : ProcId) (job : Job) (outcome : Outcome) (del : IsDelivery e proc (reports.Done job outcome None)) (t : Tables) (queue : Queue) (blame : List (StateId × ReqId)) (stands : StandsFor e.start t queue blame) (nav : NavId) (state : StateId) (address : List ℕ) (initial : Bool) (task : job.task ≡ tasks.Populate nav state address initial) where
+module _ (e : InEvent) (proc : ProcId) (job : Job) (outcome : Outcome) (del : IsDelivery e proc (reports.Done job outcome None)) (t : Tables) (queue : Queue) (blame : List (StateId × ReqId)) (stands : StandsFor e.start t queue blame) (aside : StartsUnasked e) (nav : NavId) (state : StateId) (address : List ℕ) (initial : Bool) (task : job.task ≡ tasks.Populate nav state address initial) where
   abbrev s : Seen
   s = e.start
 
   abbrev own : Document
-  own = d e proc job outcome del t queue blame stands nav state address initial task
+  own = d e proc job outcome del t queue blame stands aside nav state address initial task
 
   found : document_of s job.doc ≡ Some own
-  found = its_found e proc job outcome del t queue blame stands nav state address initial task
+  found = its_found e proc job outcome del t queue blame stands aside nav state address initial task
 
   nav_is : nav_in t.whose.entries job.doc ≡ Some own.nav
   nav_is =
@@ -90,6 +90,6 @@ module _ (e : InEvent) (proc : ProcId) (job : Job) (outcome : Outcome) (del : Is
       let at : ongoing_load load.nav t.loads ≡ Some load = found_itself t.loads load one_each its.0 in
       let tied : IsLoadTied s load = stands.tied.loads.there load.nav load at in
       let made : IsDocOf s.documents job.doc load.state = doc_of s.documents job.doc load.state (ap (makes job.doc) (sym tied.phase) ∙ its.1) in
-      let it : made.d ≡ own = the_one e proc job outcome del t queue blame stands nav state address initial task made.d made.has made.number in
+      let it : made.d ≡ own = the_one e proc job outcome del t queue blame stands aside nav state address initial task made.d made.has made.number in
       let state_is : own.state.0 ≡ load.state.0 = ap (λ (x : Document). x.state.0) (sym it) ∙ made.state_is in
       nav_is ∙ ap (λ (x : NavId). let o : Option NavId = Some x in o) (load_nav load tied state_is)

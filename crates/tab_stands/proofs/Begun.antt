@@ -1,16 +1,20 @@
 -- An event of the coordinator begins: all goes on once its own row was logged, whatever it leaves of a tab as one is between two events.
+use Rattle.seen_facts.specs.Asked.Asking.{ArePlain}
+use Rattle.tab_doors.proofs.Works.{none_calm}
+use Rattle.checking_facts.specs.Checks.{AreInCheck}
+use Rattle.seen_laws.proofs.InEvents.{now_own}
 use Rattle.tab_stands.proofs.Orders.{keeps_coming, makes_first, sound_first}
 use Rattle.row_facts.proofs.FrameRows.LawfulLaws.{lawful_legal}
 use Rattle.seen_facts.proofs.Desk.Stays.{NoDeath}
 use Rattle.load_doors.specs.Tied.{AreTied}
-use Rattle.log_model.specs.Seen.{desk_of}
+use Rattle.log_model.specs.Seen.{Seen, desk_of}
 use Rattle.log_model.specs.declared.made.Report.{Report}
 use Rattle.move_queue.specs.Queue.{Queue}
 use Rattle.row_facts.proofs.Owed.Ends.{loose_first, loose_owed}
 use Rattle.row_facts.specs.RestRows.Moving.{AllRest}
-use Rattle.seen_laws.specs.InEvent.{AreLegal, InEvent, now_of}
+use Rattle.seen_laws.specs.InEvent.{AreLegal, InEvent, log_of, now_of}
 use Rattle.seen_laws.specs.Sending.{leads}
-use Rattle.std.proofs.Common.{List, None, Option, Some, [], ap, length, refl, subst, sym, true, ◌≡◌, ◌≤◌, ℕ}
+use Rattle.std.proofs.Common.{List, None, Option, Some, [], ap, false, length, refl, subst, sym, true, ℕ, ◌∙◌, ◌≡◌, ◌≤◌}
 use Rattle.std.specs.Prelude.{slice_get}
 use Rattle.tab_doors.proofs.Ahead.{lawful_none}
 use Rattle.tab_doors.specs.Working.{HasGoal, IsAtWork, IsWorker}
@@ -27,15 +31,35 @@ use Rattle.tab_stands.proofs.Coming.{IsComing, stand_then, taking_then}
 use Rattle.tab_stands.proofs.EpochRows.{own_under}
 use Rattle.tab_stands.proofs.LateEvents.{late_first}
 use Rattle.tab_stands.proofs.MovedEvents.{moved_coming}
-use Rattle.tab_stands.specs.Standing.{HasBegun, Lasts}
+use Rattle.tab_stands.specs.Standing.{HasBegun, Lasts, StartsUnasked}
 use Rattle.log_model.specs.declared.row_kind.RowKind.TheVariants as rows
 
+-- who isn't in a check has passed, which is everybody
+pub checks_first : (e : InEvent) → StartsUnasked e → (run : Option ReqId) → ArePlain run (now_of e []) → AreInCheck e.checking (log_of e [])
+checks_first e aside run plain =
+    subst (λ (s : Seen). AreInCheck e.checking s) (sym aside.plain) (record {
+      numbered = λ req q at. (plain.each req q at).nr;
+      others = λ req q at off. plain.passed req q at;
+      checks = λ req q at on. absurd (never req on);
+      alone = λ req by q r at there under runs traverses going on. absurd (never req on);
+    })
+  where
+    never : (req : ReqId) → e.checking req ≡ true → ⊥
+    never req on = let no : false ≡ true = sym (aside.unchecked req) ∙ on in cc
+
 -- a coordinator is at work once the own row was logged, whose tables stand for what the log has come to
-pub work_first : (e : InEvent) (t : Tables) → leads e.own ≡ true → IsWorker e.actor → AreLegal e [] → AreTied (now_of e []) t → IsAtWork e [] t
-work_first e t own worker legal tied =
+pub work_first : (e : InEvent) (t : Tables) → StartsUnasked e → AreInCheck e.checking (log_of e []) → leads e.own ≡ true → IsWorker e.actor → AreLegal e [] → AreTied (now_of e []) t → IsAtWork e [] t
+work_first e t aside checks own worker legal tied =
     record {
       own = own;
       worker = worker;
+      unchecked = aside.unchecked;
+      begins = aside.begins;
+      plain = aside.plain;
+      rows = refl;
+      same = now_own e;
+      checks = checks;
+      calm = none_calm e.checking aside.unchecked (log_of e []);
       holds = tied.holds;
       runs = tied.runs;
       goal = tied.goal;
@@ -46,14 +70,14 @@ work_first e t own worker legal tied =
       lawful = lawful_none e [] (lawful_legal e [] legal);
     }
 
-module _ (p : InPass) (t : Tables) (queue : Queue) (blame : List (StateId × ReqId)) (between : IsBetween t.kept.keep t.running p.event.start) (lasts : Lasts t.running p.event.start) (goal : HasGoal p.event.start.requests t.running t.goal) (header : t.kept.keep ≡ p.event.header.keep) (own : leads p.event.own ≡ true) (worker : IsWorker p.event.actor) (legal : AreLegal p.event []) (tied : AreTied (now_of p.event []) t) (going : IsGoing t.running p.loads p.hand (now_of p.event [])) (rests : AllRest (now_of p.event [])) (comes : IsComing blame p.event.start (now_of p.event [])) where
+module _ (p : InPass) (t : Tables) (queue : Queue) (blame : List (StateId × ReqId)) (between : IsBetween t.kept.keep t.running p.event.start) (lasts : Lasts t.running p.event.start) (goal : HasGoal p.event.start.requests t.running t.goal) (header : t.kept.keep ≡ p.event.header.keep) (aside : StartsUnasked p.event) (own : leads p.event.own ≡ true) (worker : IsWorker p.event.actor) (legal : AreLegal p.event []) (tied : AreTied (now_of p.event []) t) (going : IsGoing t.running p.loads p.hand (now_of p.event [])) (rests : AllRest (now_of p.event [])) (comes : IsComing blame p.event.start (now_of p.event [])) where
   passing : IsPassing p [] t
   passing =
       record {
-        work = work_first p.event t own worker legal tied;
+        work = work_first p.event t aside (checks_first p.event aside t.running going.tab.asked) own worker legal tied;
         going = going;
-        owed = loose_owed p.event [] (loose_first p.event own);
-        loose = λ all. loose_first p.event own;
+        owed = loose_owed p.event [] (loose_first p.event);
+        loose = λ all. loose_first p.event;
         rests = rests;
         few = subst (λ (k : ℕ). k ≤ t.kept.keep) (sym (ap (λ (l : List DocId). length l) comes.kept)) between.few;
       }
@@ -72,13 +96,13 @@ module _ (p : InPass) (t : Tables) (queue : Queue) (blame : List (StateId × Req
         passing = passing;
         header = header;
         taking = taking_then p.event t.running t.kept.keep t.goal blame (now_of p.event []) between lasts goal p.loads p.hand going.tab tied.goal comes (unheld_first p t passing);
-        loose = loose_first p.event own;
+        loose = loose_first p.event;
         stand = stand_then p.event t.running t.kept.keep t.goal blame (now_of p.event []) between lasts goal p.loads p.hand going.tab tied.goal comes;
         moved = moved_coming blame p.event.start (now_of p.event []) comes t.running between.tab.asked lasts.moved;
         theirs = comes.theirs;
         late = late_first blame p.event.start (now_of p.event []) comes t.running going.tab.standing lasts.off;
         shows = own_under p.event own alive lasts.shows;
-        makes = makes_first p.event own comes.serves lasts.makes;
-        sound = sound_first p.event own (keeps_coming blame p.event.start (now_of p.event []) comes) lasts.sound;
+        makes = makes_first p.event aside own comes.serves lasts.makes;
+        sound = sound_first p.event aside own (keeps_coming blame p.event.start (now_of p.event []) comes) lasts.sound;
         queueing = queueing;
       }

@@ -32,8 +32,8 @@ use Rattle.seen_facts.proofs.Request.Readers.{on_read}
 use Rattle.seen_facts.proofs.Request.Times.{times_none}
 use Rattle.seen_facts.specs.Request.Whereabouts.{times_found}
 use Rattle.row_facts.proofs.RestRows.Rows.{accepted_rests, refused_rests}
-use Rattle.seen_laws.proofs.InEvents.{now_more}
-use Rattle.seen_laws.specs.InEvent.{InEvent, now_of}
+use Rattle.seen_laws.proofs.InEvents.{log_more, now_more}
+use Rattle.seen_laws.specs.InEvent.{InEvent, log_of, now_of}
 use Rattle.std.proofs.Common.{List, None, Option, Some, [], ap, arith, false, filter, inl, inr, length, refl, subst, sym, true, ℕ, ◌++◌, ◌+◌, ◌-◌, ◌==◌, ◌∙◌, ◌∷◌, ◌≡◌, ◌⊎◌}
 use Rattle.std.proofs.lemmas.Bool.Decides.{nat_tests}
 use Rattle.std.proofs.lemmas.List.{map-id}
@@ -63,7 +63,7 @@ use Rattle.tab_stands.proofs.More.{coming_more, more, new_there, old_stays, one_
 use Rattle.tab_stands.proofs.Stays.{stands_still}
 use Rattle.tab_stands.proofs.Waiting.{steps_stay}
 use Rattle.tab_stands.specs.Offs.{AreShownUnder}
-use Rattle.tab_stands.specs.Standing.{HasRoomFor, StandsFor}
+use Rattle.tab_stands.specs.Standing.{HasRoomFor, StandsFor, StartsUnasked}
 use Rattle.log_model.specs.declared.outcome.Ending.TheVariants as endings
 use Rattle.log_model.specs.declared.row_kind.Actor.{Actor}
 use Rattle.log_model.specs.declared.row_kind.Actor.TheVariants as actors
@@ -77,7 +77,7 @@ set_last : {A : Type 0} (xs : List A) (x y : A) → slice_set (xs ++ x ∷ []) (
 set_last [] x y = refl
 set_last (z ∷ xs) x y = ap (λ l. z ∷ l) (set_last xs x y)
 
-module _ (e : InEvent) (t : Tables) (queue : Queue) (blame : List (StateId × ReqId)) (stands : StandsFor e.start t queue blame) (room : HasRoomFor e.start) (req : ReqId) (what : Request) (by_user : e.actor ≡ actors.Ui) (own : e.own ≡ rows.Accepted req None what) (nr : req.0 ≡ length e.start.requests + 1) (reason : Denial) (joins : joined_accepted e.start.joined req what ≡ e.start.joined) where
+module _ (e : InEvent) (t : Tables) (queue : Queue) (blame : List (StateId × ReqId)) (stands : StandsFor e.start t queue blame) (aside : StartsUnasked e) (room : HasRoomFor e.start) (req : ReqId) (what : Request) (by_user : e.actor ≡ actors.Ui) (own : e.own ≡ rows.Accepted req None what) (nr : req.0 ≡ length e.start.requests + 1) (reason : Denial) (joins : joined_accepted e.start.joined req what ≡ e.start.joined) where
   abbrev s : Seen
   s = e.start
 
@@ -85,10 +85,10 @@ module _ (e : InEvent) (t : Tables) (queue : Queue) (blame : List (StateId × Re
   run = t.running
 
   abbrev w : Seen
-  w = went e req None what by_user own nr
+  w = went e req None what by_user own nr aside
 
   abbrev asked : Asked
-  asked = new e req None what by_user own nr
+  asked = new e req None what by_user own nr aside
 
   -- the request, refused
   abbrev refuse : Asked → Asked
@@ -105,9 +105,15 @@ module _ (e : InEvent) (t : Tables) (queue : Queue) (blame : List (StateId × Re
 
   pub now_refused : now_of e out ≡ n
   now_refused =
-      now_more e [] (rows.Refused req reason)
+      now_more e [] (rows.Refused req reason) refl
       ∙ (ap (λ (a : Actor). next (now_of e []) e.event a (rows.Refused req reason)) by_user
-      ∙ ap (λ (x : Seen). next x e.event actors.Ui (rows.Refused req reason)) (now e req None what by_user own nr))
+      ∙ ap (λ (x : Seen). next x e.event actors.Ui (rows.Refused req reason)) (now e req None what by_user own nr aside))
+
+  log_refused : log_of e out ≡ n
+  log_refused =
+      log_more e [] (rows.Refused req reason)
+      ∙ (ap (λ (a : Actor). next (log_of e []) e.event a (rows.Refused req reason)) by_user
+      ∙ ap (λ (x : Seen). next x e.event actors.Ui (rows.Refused req reason)) (aside.plain ∙ now e req None what by_user own nr aside))
 
   -- ---- the requests: one more, which is refused
 
@@ -194,7 +200,7 @@ module _ (e : InEvent) (t : Tables) (queue : Queue) (blame : List (StateId × Re
       where
         going_w : IsGoing run (req ∷ []) [] w
         going_w =
-            subst (λ (x : Seen). IsGoing run (req ∷ []) [] x) (now e req None what by_user own nr) (goes_on e req None what by_user own nr t queue blame stands room (λ x never. absurd cc) (req ∷ []) tab)
+            subst (λ (x : Seen). IsGoing run (req ∷ []) [] x) (now e req None what by_user own nr aside) (goes_on e req None what by_user own nr aside t queue blame stands room (λ x never. absurd cc) (req ∷ []) tab)
 
     -- ---- the tables
 
@@ -212,7 +218,7 @@ module _ (e : InEvent) (t : Tables) (queue : Queue) (blame : List (StateId × Re
       where
         tied_w : AreTied w t
         tied_w =
-            subst (λ (x : Seen). AreTied x t) (now e req None what by_user own nr) (tied_now e req None what by_user own nr t queue blame stands (req ∷ []) tab)
+            subst (λ (x : Seen). AreTied x t) (now e req None what by_user own nr aside) (tied_now e req None what by_user own nr aside t queue blame stands (req ∷ []) tab)
 
         moved : moved_by n.requests run ≡ moved_by w.requests run
         moved =
@@ -255,17 +261,17 @@ module _ (e : InEvent) (t : Tables) (queue : Queue) (blame : List (StateId × Re
     makes =
         subst (λ (x : Seen). MakesServe x) now_refused
         (put_makes e run [] out (subst (λ (x : Seen). ArePlain run x) (sym now_refused) tab_then.asked) (refusal_put e req reason)
-        (makes_first e (ap (λ (k : RowKind). leads k) own) (comes_now e req None what by_user own nr t queue blame stands).serves stands.lasts.makes))
+        (makes_first e aside (ap (λ (k : RowKind). leads k) own) (comes_now e req None what by_user own nr aside t queue blame stands).serves stands.lasts.makes))
 
     sound : OrdersAreSound n
     sound =
         subst (λ (x : Seen). OrdersAreSound x) now_refused
-        (put_sound e [] out (refusal_put e req reason) (sound_first e (ap (λ (k : RowKind). leads k) own) (keeps_coming blame s (now_of e []) (comes_now e req None what by_user own nr t queue blame stands)) stands.lasts.sound))
+        (put_sound e [] out (refusal_put e req reason) (sound_first e aside (ap (λ (k : RowKind). leads k) own) (keeps_coming blame s (now_of e []) (comes_now e req None what by_user own nr aside t queue blame stands)) stands.lasts.sound))
 
     shows : AreShownUnder n
     shows =
         refused_under w e.event actors.Ui req reason (accepted_under s e.event actors.Ui req None what stands.lasts.shows)
 
-    pub denied_stands : StandsFor (now_of e out) t queue blame
+    pub denied_stands : StandsFor (log_of e out) t queue blame
     denied_stands =
-        subst (λ (x : Seen). StandsFor x t queue blame) (sym now_refused) (stands_still e t queue blame stands n comes between going tied makes sound shows strays queued held)
+        subst (λ (x : Seen). StandsFor x t queue blame) (sym log_refused) (stands_still e t queue blame stands n comes between going tied makes sound shows strays queued held)

@@ -44,7 +44,7 @@ use Rattle.tab_stands.proofs.Begun.{begun}
 use Rattle.tab_stands.proofs.Coming.{OnlyArrives}
 use Rattle.tab_stands.proofs.Reports.{told, told_comes, told_going, told_held, told_kept, told_legal, told_moved, told_now, told_rests, told_row, told_tied, told_turning}
 use Rattle.tab_stands.specs.Delivering.{IsDelivery, IsQuietTask}
-use Rattle.tab_stands.specs.Standing.{HasBegun, HasRoomFor, StandsFor}
+use Rattle.tab_stands.specs.Standing.{HasBegun, HasRoomFor, StandsFor, StartsUnasked}
 use Rattle.seen_facts.specs.Transit.Orders.{IsOutcomeOf}
 use Rattle.log_model.specs.declared.job.Task.TheVariants as tasks
 use Rattle.log_model.specs.declared.made.Report.TheVariants as reports
@@ -70,7 +70,7 @@ pub held_first : (e : InEvent) → (now_of e []).parked ≡ held_at_first e
 unfolding now_of
 held_first e = refl
 
-module _ (e : InEvent) (proc : ProcId) (job : Job) (outcome : Outcome) (del : IsDelivery e proc (reports.Done job outcome None)) (t : Tables) (queue : Queue) (blame : List (StateId × ReqId)) (stands : StandsFor e.start t queue blame) where
+module _ (e : InEvent) (proc : ProcId) (job : Job) (outcome : Outcome) (del : IsDelivery e proc (reports.Done job outcome None)) (t : Tables) (queue : Queue) (blame : List (StateId × ReqId)) (stands : StandsFor e.start t queue blame) (aside : StartsUnasked e) where
   abbrev report : Report
   report = reports.Done job outcome None
 
@@ -78,10 +78,10 @@ module _ (e : InEvent) (proc : ProcId) (job : Job) (outcome : Outcome) (del : Is
   s = e.start
 
   abbrev pub did : Seen
-  did = told e proc del.by_coord del.own t queue blame stands report del.first
+  did = told e proc del.by_coord del.own t queue blame stands aside report del.first
 
   pub did_now : now_of e [] ≡ did
-  did_now = told_now e proc del.by_coord del.own t queue blame stands report del.first
+  did_now = told_now e proc del.by_coord del.own t queue blame stands aside report del.first
 
   pub did_tab : IsTab t.running [] [] did
   did_tab = done_tab t.running s e.event proc stands.between.tab stands.between.flows job outcome del.first
@@ -92,7 +92,7 @@ module _ (e : InEvent) (proc : ProcId) (job : Job) (outcome : Outcome) (del : Is
   -- nothing that changes the history is delivered
   pub did_takes : (later : List LogRow) → IsTakenIn e later
   did_takes later =
-      subst (λ (r : LogRow). is_delivered_duly (point_at (start_of e) later) r ≡ true) (sym (told_row e proc del.by_coord del.own t queue blame stands report del.first)) (rw (del.first) refl)
+      subst (λ (r : LogRow). is_delivered_duly (point_at (start_of e) later) r ≡ true) (sym (told_row e proc del.by_coord del.own t queue blame stands aside report del.first)) (rw (del.first) refl)
 
   pub did_parked : did.parked ≡ e.start.parked
   did_parked = rw (del.first) refl
@@ -153,7 +153,7 @@ module _ (e : InEvent) (proc : ProcId) (job : Job) (outcome : Outcome) (del : Is
       pub did_queueing : (left : Queue) → HasQueue did t.running left.waiting → left.parked ≡ queue.parked → IsQueueing (record { event = e; loads = []; hand = [] }) [] u left
       did_queueing left queued parked =
           record {
-            turning = told_turning e proc del.by_coord del.own t queue blame stands report del.first same did_tab.known;
+            turning = told_turning e proc del.by_coord del.own t queue blame stands aside report del.first same did_tab.known;
             queued = subst (λ (r : Option ReqId). HasQueue (now_of e []) r left.waiting) (sym kept.running) (subst (λ (x : Seen). HasQueue x t.running left.waiting) (sym did_now) queued);
             parked = parked ∙ did_holds_parked;
             held = λ idle. subst (λ (x : Seen). x.parked ≡ []) (sym did_now) (did_parked ∙ stands.between.held (sym kept.running ∙ idle));
@@ -217,10 +217,10 @@ module _ (e : InEvent) (proc : ProcId) (job : Job) (outcome : Outcome) (del : Is
 
     tied : AreTied (now_of e []) t
     tied =
-        told_tied e proc del.by_coord del.own t queue blame stands report del.first (did_requests quiet_asks) t unchanged
-        (left_holds (sights_of s t.running) (sights_of did t.running) t (ap (λ (l : List Document). map sight l) documents_same) places_same refl (told_moved e proc del.by_coord del.own t queue blame stands report del.first (did_requests quiet_asks)) refl refl refl stands.tied.holds)
+        told_tied e proc del.by_coord del.own t queue blame stands aside report del.first (did_requests quiet_asks) t unchanged
+        (left_holds (sights_of s t.running) (sights_of did t.running) t (ap (λ (l : List Document). map sight l) documents_same) places_same refl (told_moved e proc del.by_coord del.own t queue blame stands aside report del.first (did_requests quiet_asks)) refl refl refl stands.tied.holds)
         (delivered_tied s e.event actors.Coord t.loads stands.tied.loads proc tells_none) refl
-        (stands.tied.kept ∙ ap (λ (l : List Document). filter_map (state_in l) s.kept) (sym documents_same) ∙ ap (λ (l : List DocId). filter_map (state_in did.documents) l) (sym (told_kept e proc del.by_coord del.own t queue blame stands report del.first)))
+        (stands.tied.kept ∙ ap (λ (l : List Document). filter_map (state_in l) s.kept) (sym documents_same) ∙ ap (λ (l : List DocId). filter_map (state_in did.documents) l) (sym (told_kept e proc del.by_coord del.own t queue blame stands aside report del.first)))
         (subst (λ (l : List Document). length l ≤ s.jobs + 1) (sym documents_same) stands.tied.few)
 
     abbrev p : InPass
@@ -228,10 +228,10 @@ module _ (e : InEvent) (proc : ProcId) (job : Job) (outcome : Outcome) (del : Is
 
     pub quiet_begun : HasRoomFor e.start → t.kept.keep ≡ e.header.keep → HasBegun (record { event = e; loads = []; hand = [] }) t queue blame
     quiet_begun room header =
-        begun p t queue blame stands.between stands.lasts stands.tied.goal header (ap (λ (k : RowKind). leads k) del.own) (subst (λ (a : Actor). IsWorker a) (sym del.by_coord) tt)
-        (told_legal e proc del.by_coord del.own t queue blame stands report del.first)
+        begun p t queue blame stands.between stands.lasts stands.tied.goal header aside (ap (λ (k : RowKind). leads k) del.own) (subst (λ (a : Actor). IsWorker a) (sym del.by_coord) tt)
+        (told_legal e proc del.by_coord del.own t queue blame stands aside report del.first)
         tied
-        (told_going e proc del.by_coord del.own t queue blame stands report del.first (did_requests quiet_asks) room [] [] did_tab (told_held e proc del.by_coord del.own t queue blame stands report del.first (did_requests quiet_asks) did_parked) (rw places_same stands.lasts.counted.epochs))
-        (told_rests e proc del.by_coord del.own t queue blame stands report del.first)
-        (told_comes e proc del.by_coord del.own t queue blame stands report del.first (did_requests quiet_asks) (λ p. p) itself (places_same ∙ sym (map-id s.places)) documents_same)
+        (told_going e proc del.by_coord del.own t queue blame stands aside report del.first (did_requests quiet_asks) room [] [] did_tab (told_held e proc del.by_coord del.own t queue blame stands aside report del.first (did_requests quiet_asks) did_parked) (rw places_same stands.lasts.counted.epochs))
+        (told_rests e proc del.by_coord del.own t queue blame stands aside report del.first)
+        (told_comes e proc del.by_coord del.own t queue blame stands aside report del.first (did_requests quiet_asks) (λ p. p) itself (places_same ∙ sym (map-id s.places)) documents_same)
         (did_queueing quiet_asks t unchanged queue (did_queue quiet_asks documents_same) refl)

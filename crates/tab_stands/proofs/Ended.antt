@@ -1,4 +1,10 @@
 -- An event of the coordinator ends as the tab has come to rest: the coordinator stands for what the log has come to, and each row passes.
+use Rattle.log_model.specs.declared.row_kind.RowKind.TheVariants as rows
+use Rattle.log_model.specs.declared.row_kind.LogRow.{LogRow}
+use Rattle.log_model.specs.declared.row_kind.Actor.{Actor}
+use Rattle.row_facts.specs.Owed.Owed.{owes_seen}
+use Rattle.seen_laws.specs.Sending.{leads}
+use Rattle.seen_laws.specs.Owing.{owes, owes_row}
 use Rattle.row_facts.proofs.FrameRows.LawfulLaws.{lawful_end}
 use Rattle.tab_facts.proofs.FrameWhole.FlowsAlike.{EachIsTold, flows_told}
 use Rattle.seen_facts.proofs.Hang.Members.{find_has}
@@ -15,9 +21,9 @@ use Rattle.move_queue.specs.Queue.{Queue}
 use Rattle.tab_facts.specs.Order.Orders.{IsOfCoord}
 use Rattle.row_facts.proofs.Owed.Ends.{owed_paid}
 use Rattle.seen_facts.proofs.Rest.Seated.{all_has}
-use Rattle.seen_laws.specs.Blocks.{EachPass}
-use Rattle.seen_laws.specs.InEvent.{IsTakenIn, now_of, row_of, start_of}
-use Rattle.std.proofs.Common.{List, None, Option, Some, [], map, subst, refl, true, ℕ, ◌==◌, ◌∷◌, ◌≡◌}
+use Rattle.seen_laws.specs.Blocks.{EachPass, Here}
+use Rattle.seen_laws.specs.InEvent.{InEvent, IsPaid, IsTakenIn, first_of, log_of, now_of, row_of, seen_rows, start_of}
+use Rattle.std.proofs.Common.{List, None, Option, Some, [], false, map, refl, subst, sym, true, ℕ, ◌==◌, ◌∷◌, ◌≡◌}
 use Rattle.std.specs.List.{list_all}
 use Rattle.std.specs.Prelude.{is_some, option_and_then}
 use Rattle.tab_doors.proofs.Ahead.{none_lawful}
@@ -34,7 +40,7 @@ use Rattle.tab_settles.specs.Settling.{HasSettled, MakesServe, OrdersAreSound}
 use Rattle.tab_stands.proofs.EpochRows.{event_under}
 use Rattle.tab_stands.proofs.LateEvents.{off_of}
 use Rattle.tab_stands.specs.Offs.{AreShownUnder}
-use Rattle.tab_stands.specs.Standing.{HasActed, Lasts}
+use Rattle.tab_stands.specs.Standing.{HasActed, Lasts, StandsFor}
 
 -- where all were told what is due, each was told something
 each_told : (s : Seen) → ends_told s ≡ true → EachIsTold s
@@ -53,12 +59,29 @@ each_told s told nav place doc d found wakes its =
     some_pair due None never = absurd cc
     some_pair due (Some pair) is = refl
 
+-- the own row owes nothing
+own_owes : (h : Here) (event : ℕ) (actor : Actor) (kind : RowKind) (end : Seen) → leads kind ≡ true → owes_row h (record { event = event; actor = actor; row = kind }) end ≡ true
+own_owes h event actor (rows.Accepted req doc what) end led = refl
+own_owes h event actor (rows.Answered req stay) end led = refl
+own_owes h event actor (rows.Evicted state) end led = refl
+own_owes h event actor (rows.Delivered proc) end led = refl
+own_owes h event actor _ end led = absurd (let never : false ≡ true = led in cc)
+
+-- what is paid in the log without questions is paid in the log
+pub paid_log : (e : InEvent) (out : List RowKind) {t : Tables} → IsAtWork e out t → owes_seen e out (now_of e out) ≡ true → IsPaid e out
+paid_log e out work paid = rw (own_owes (start_of e) e.event e.actor e.own (log_of e out) work.own) rest
+  where
+    rest : owes (first_of e) (map (row_of e) out) (log_of e out) ≡ true
+    rest =
+        subst (λ (s : Seen). owes (first_of e) (map (row_of e) out) s ≡ true) (sym work.plain)
+        (subst (λ (l : List LogRow). owes (first_of e) l (now_of e out) ≡ true) work.rows (subst (λ (h : Here). owes h (seen_rows e out) (now_of e out) ≡ true) work.begins paid))
+
 -- what a coordinator at work has of its tables
 pub work_tied : (p : InPass) (out : List RowKind) (t : Tables) → IsAtWork p.event out t → AreTied (now_of p.event out) t
 work_tied p out t work =
     record { holds = work.holds; runs = work.runs; goal = work.goal; few = work.few; initial = work.initial; loads = work.loads; kept = work.kept }
 
-module _ (p : InPass) (out : List RowKind) (t : Tables) (queue : Queue) (blame : List (StateId × ReqId)) (cause : Why) (none : p.loads ≡ []) (at : HasSettled p out t queue blame cause) (makes : MakesServe (now_of p.event out)) (sound : OrdersAreSound (now_of p.event out)) (of_coord : (row : RowKind) → Has out row → IsOfCoord row) (shows : AreShownUnder (now_of p.event [])) where
+module _ (p : InPass) (out : List RowKind) (t : Tables) (queue : Queue) (blame : List (StateId × ReqId)) (cause : Why) (none : p.loads ≡ []) (at : HasSettled p out t queue blame cause) (makes : MakesServe (now_of p.event out)) (sound : OrdersAreSound (now_of p.event out)) (of_coord : (row : RowKind) → Has out row → IsOfCoord row) (shows : AreShownUnder (log_of p.event [])) where
   abbrev s : Seen
   s = now_of p.event out
 
@@ -85,10 +108,14 @@ module _ (p : InPass) (out : List RowKind) (t : Tables) (queue : Queue) (blame :
         few = at.passing.few;
       }
 
+  -- what the rows owe is paid in the log, too
+  paid : IsPaid p.event out
+  paid = paid_log p.event out at.passing.work (owed_paid p.event out at.passing.owed)
+
   -- each row passes
   passes : IsTakenIn p.event (map (row_of p.event) out) → EachPass (start_of p.event) (row_of p.event p.event.own ∷ map (row_of p.event) out) []
   passes taken =
-      lawful_end p.event out (none_lawful p.event out at.passing.work.lawful) (owed_paid p.event out at.passing.owed) taken at.queueing.over
+      lawful_end p.event out (none_lawful p.event out at.passing.work.lawful) paid taken at.queueing.over
 
   lasts : AreShownUnder s → Lasts t.running s
   lasts shown =
@@ -112,13 +139,13 @@ module _ (p : InPass) (out : List RowKind) (t : Tables) (queue : Queue) (blame :
   pub acted : IsNoneDue s t.running queue.waiting → IsTakenIn p.event (map (row_of p.event) out) → HasActed p.event out t queue blame
   acted due taken =
       record {
-        stands = record {
+        stands = subst (λ (x : Seen). StandsFor x t queue blame) (sym at.passing.work.plain) (record {
           between = between due;
-          lasts = lasts (event_under p.event out (passes taken).1 of_coord shows);
+          lasts = lasts (subst (λ (x : Seen). AreShownUnder x) at.passing.work.plain (event_under p.event out (passes taken).1 of_coord shows));
           tied = work_tied p out t at.passing.work;
           strays = at.strays;
           queue = at.queueing.queued;
           parked = at.queueing.parked;
-        };
+        });
         passes = passes taken;
       }

@@ -31,7 +31,7 @@ use Rattle.tab_stands.proofs.Accepting.{comes_now, goes_on, its_row, new, now, n
 use Rattle.tab_stands.proofs.Begun.{begun}
 use Rattle.tab_stands.proofs.Coming.{aim_same}
 use Rattle.tab_stands.proofs.Waiting.{await_still, queueing_now, steps_stay}
-use Rattle.tab_stands.specs.Standing.{HasBegun, HasRoomFor, StandsFor}
+use Rattle.tab_stands.specs.Standing.{HasBegun, HasRoomFor, StandsFor, StartsUnasked}
 use Rattle.tab_settles.proofs.PassedOn.{turning_first, went, went_tab}
 use Rattle.log_model.specs.declared.request.Request.TheVariants as requests
 use Rattle.log_model.specs.declared.row_kind.Actor.TheVariants as actors
@@ -59,7 +59,7 @@ tab_more waiting last own each step has = by_place (has_more waiting last step h
     by_place (inl there) = each step there
     by_place (inr same) = subst (λ (x : QueueStep). IsOfTab x) same own
 
-module _ (e : InEvent) (t : Tables) (queue : Queue) (blame : List (StateId × ReqId)) (stands : StandsFor e.start t queue blame) (room : HasRoomFor e.start) (header : t.kept.keep ≡ e.header.keep) (req : ReqId) (delta : ℤ) (by_user : e.actor ≡ actors.Ui) (own : e.own ≡ rows.Accepted req None (requests.Go delta)) (nr : req.0 ≡ length e.start.requests + 1) where
+module _ (e : InEvent) (t : Tables) (queue : Queue) (blame : List (StateId × ReqId)) (stands : StandsFor e.start t queue blame) (aside : StartsUnasked e) (room : HasRoomFor e.start) (header : t.kept.keep ≡ e.header.keep) (req : ReqId) (delta : ℤ) (by_user : e.actor ≡ actors.Ui) (own : e.own ≡ rows.Accepted req None (requests.Go delta)) (nr : req.0 ≡ length e.start.requests + 1) where
   abbrev go : Request
   go = requests.Go delta
 
@@ -72,30 +72,30 @@ module _ (e : InEvent) (t : Tables) (queue : Queue) (blame : List (StateId × Re
   legal : AreLegal e []
   unfolding AreLegal
   legal later rest =
-      subst (λ (row : LogRow). EachPass (start_of e) (row ∷ []) later) (sym (its_row e req None go by_user own nr)) (go_passes e.header e.start e.event req delta later nr, tt)
+      subst (λ (row : LogRow). EachPass (start_of e) (row ∷ []) later) (sym (its_row e req None go by_user own nr aside)) (go_passes e.header e.start e.event req delta later nr, tt)
 
   -- what joined isn't refused as it is accepted
   early : (r : ReqId) (q : Asked) → request_in n.requests r ≡ Some q → denial_at_acceptance e.start q.what ≡ None ⊎ (nat_lt (length e.start.requests) r.0 ≡ false)
-  early r q at = by_old (old_or_new e req None go by_user own nr r q at)
+  early r q at = by_old (old_or_new e req None go by_user own nr aside r q at)
     where
-      by_old : (request_in e.start.requests r ≡ Some q) ⊎ ((r ≡ req) × (q ≡ new e req None go by_user own nr)) → denial_at_acceptance e.start q.what ≡ None ⊎ (nat_lt (length e.start.requests) r.0 ≡ false)
+      by_old : (request_in e.start.requests r ≡ Some q) ⊎ ((r ≡ req) × (q ≡ new e req None go by_user own nr aside)) → denial_at_acceptance e.start q.what ≡ None ⊎ (nat_lt (length e.start.requests) r.0 ≡ false)
       by_old (inl old) =
           let low : r.0 ≤ length e.start.requests = number_low e.start.requests r q old in inr (grind (arith, nat_tests, low))
       by_old (inr it) = inl (ap (λ (x : Asked). denial_at_acceptance e.start x.what) it.1)
 
   turning : IsTurning e []
   turning =
-      turning_first e (subst (λ (x : Seen). AreKnown x) (sym (now e req None go by_user own nr)) tab.known) (λ r q has at. early r q (ap (λ (x : Seen). request_of x r) (sym (now e req None go by_user own nr)) ∙ at))
+      turning_first e (subst (λ (x : Seen). AreKnown x) (sym (now e req None go by_user own nr aside)) tab.known) (λ r q has at. early r q (ap (λ (x : Seen). request_of x r) (sym (now e req None go by_user own nr aside)) ∙ at))
 
   -- ---- it joins
 
   delta_now : delta_in n.requests req ≡ Some delta
   delta_now =
-      ap (λ (o : Option Asked). option_and_then (λ (q : Asked). delta_of q.what) o) (there_now e req None go by_user own nr)
+      ap (λ (o : Option Asked). option_and_then (λ (q : Asked). delta_of q.what) o) (there_now e req None go by_user own nr aside)
 
   behind : (joined : List ReqId) (steps : List QueueStep) → AreStepsOf e.start.requests joined steps → AreStepsOf n.requests (joined ++ req ∷ []) (steps ++ Traverse req delta ∷ [])
   behind joined steps are =
-      steps_more n.requests joined steps req delta delta_now (steps_stay e.start.requests n.requests (stays e req None go by_user own nr) joined steps are)
+      steps_more n.requests joined steps req delta delta_now (steps_stay e.start.requests n.requests (stays e req None go by_user own nr aside) joined steps are)
 
   joined : (run : Option ReqId) (steps : List QueueStep) → HaveJoined e.start run steps → HaveJoined n run (steps ++ Traverse req delta ∷ [])
   joined None steps have = behind e.start.joined steps have
@@ -104,10 +104,10 @@ module _ (e : InEvent) (t : Tables) (queue : Queue) (blame : List (StateId × Re
 
   queued : (waiting : List QueueStep) → waiting ≡ queue.waiting ++ Traverse req delta ∷ [] → HasQueue (now_of e []) t.running waiting
   queued waiting is =
-      subst (λ (x : Seen). HasQueue x t.running waiting) (sym (now e req None go by_user own nr))
+      subst (λ (x : Seen). HasQueue x t.running waiting) (sym (now e req None go by_user own nr aside))
       (subst (λ (l : List QueueStep). HasQueue n t.running l) (sym is) (record {
         traversals = subst (λ (l : List QueueStep). HaveJoined n t.running l) (sym (traverses_more queue.waiting req delta)) (joined t.running (filter is_traverse queue.waiting) stands.queue.traversals);
-        ready = await_more n queue.waiting (Traverse req delta) (await_still e req None go by_user own nr t queue blame stands);
+        ready = await_more n queue.waiting (Traverse req delta) (await_still e req None go by_user own nr aside t queue blame stands);
         steps = tab_more queue.waiting (Traverse req delta) tt stands.queue.steps;
       }))
 
@@ -118,12 +118,12 @@ module _ (e : InEvent) (t : Tables) (queue : Queue) (blame : List (StateId × Re
 
   aim : aim_of (now_of e []) ≡ aim_of e.start
   aim =
-      aim_same e t.running t.kept.keep t.goal blame (now_of e []) stands.between stands.lasts stands.tied.goal [] [] (subst (λ (x : Seen). IsTab t.running [] [] x) (sym (now e req None go by_user own nr)) tab) (tied_now e req None go by_user own nr t queue blame stands [] tab).goal (comes_now e req None go by_user own nr t queue blame stands)
+      aim_same e t.running t.kept.keep t.goal blame (now_of e []) stands.between stands.lasts stands.tied.goal [] [] (subst (λ (x : Seen). IsTab t.running [] [] x) (sym (now e req None go by_user own nr aside)) tab) (tied_now e req None go by_user own nr aside t queue blame stands [] tab).goal (comes_now e req None go by_user own nr aside t queue blame stands)
 
   pub go_begun : (left : Queue) → left ≡ record queue { waiting = queue.waiting ++ Traverse req delta ∷ [] } → HasBegun (record { event = e; loads = []; hand = [] }) t left blame
   go_begun left pushed =
-      begun p t left blame stands.between stands.lasts stands.tied.goal header (ap (λ (k : RowKind). leads k) own) (subst (λ (a : Actor). IsWorker a) (sym by_user) tt) legal (tied_now e req None go by_user own nr t queue blame stands [] tab)
-      (goes_on e req None go by_user own nr t queue blame stands room (λ x never. absurd cc) [] tab)
-      (rests_now e req None go by_user own nr t queue blame stands)
-      (comes_now e req None go by_user own nr t queue blame stands)
-      (queueing_now e req None go by_user own nr t queue blame stands [] left aim turning (queued left.waiting (ap (λ (q : Queue). q.waiting) pushed)) (ap (λ (q : Queue). q.parked) pushed))
+      begun p t left blame stands.between stands.lasts stands.tied.goal header aside (ap (λ (k : RowKind). leads k) own) (subst (λ (a : Actor). IsWorker a) (sym by_user) tt) legal (tied_now e req None go by_user own nr aside t queue blame stands [] tab)
+      (goes_on e req None go by_user own nr aside t queue blame stands room (λ x never. absurd cc) [] tab)
+      (rests_now e req None go by_user own nr aside t queue blame stands)
+      (comes_now e req None go by_user own nr aside t queue blame stands)
+      (queueing_now e req None go by_user own nr aside t queue blame stands [] left aim turning (queued left.waiting (ap (λ (q : Queue). q.waiting) pushed)) (ap (λ (q : Queue). q.parked) pushed))

@@ -40,7 +40,7 @@ use Rattle.tab_stands.proofs.Mades.{IsMadeFor, heard, heard_begun, heard_comes, 
 use Rattle.tab_stands.proofs.Reports.{told_held, told_turning}
 use Rattle.tab_stands.proofs.Waiting.{off_where_runs}
 use Rattle.tab_stands.specs.Delivering.{IsDelivery, IsToldOf}
-use Rattle.tab_stands.specs.Standing.{HasBegun, HasRoomFor, StandsFor}
+use Rattle.tab_stands.specs.Standing.{HasBegun, HasRoomFor, StandsFor, StartsUnasked}
 use Rattle.log_model.specs.declared.action.Action.TheVariants as acts
 use Rattle.log_model.specs.declared.made.What.TheVariants as whats
 use Rattle.log_model.specs.declared.request.Request.TheVariants as requests
@@ -69,24 +69,24 @@ going_delta nav (acts.AddFrame child) e = absurd cc
 going_delta nav (acts.RemoveFrame child) e = absurd cc
 going_delta nav acts.Edit e = absurd cc
 
-module _ (e : InEvent) (proc : ProcId) (report : Report) (made : Made) (del : IsDelivery e proc report) (tells : IsToldOf report made) (t : Tables) (queue : Queue) (blame : List (StateId × ReqId)) (stands : StandsFor e.start t queue blame) where
+module _ (e : InEvent) (proc : ProcId) (report : Report) (made : Made) (del : IsDelivery e proc report) (tells : IsToldOf report made) (t : Tables) (queue : Queue) (blame : List (StateId × ReqId)) (stands : StandsFor e.start t queue blame) (aside : StartsUnasked e) where
   abbrev s : Seen
   s = e.start
 
   abbrev n : Seen
-  n = heard e proc report made del tells t queue blame stands
+  n = heard e proc report made del tells t queue blame stands aside
 
   abbrev same : n.requests ≡ e.start.requests
-  same = heard_requests e proc report made del tells t queue blame stands
+  same = heard_requests e proc report made del tells t queue blame stands aside
 
   documents_same : n.documents ≡ s.documents
-  documents_same = heard_documents e proc report made del tells t queue blame stands
+  documents_same = heard_documents e proc report made del tells t queue blame stands aside
 
   abbrev asked : IsMadeFor s made
-  asked = its_asked e proc report made del tells t queue blame stands
+  asked = its_asked e proc report made del tells t queue blame stands aside
 
   now : now_of e [] ≡ n
-  now = heard_now e proc report made del tells t queue blame stands
+  now = heard_now e proc report made del tells t queue blame stands aside
 
   joined_is : n.joined ≡ joined_delivered s.joined (Some made)
   joined_is =
@@ -113,10 +113,10 @@ module _ (e : InEvent) (proc : ProcId) (report : Report) (made : Made) (del : Is
 
   module _ (free : is_held_back e.start made ≡ false) where
     parked_same : n.parked ≡ s.parked
-    parked_same = heard_parked e proc report made del tells t queue blame stands false free
+    parked_same = heard_parked e proc report made del tells t queue blame stands aside false free
 
     held_free : AreHeldUp t.running n
-    held_free = told_held e proc del.by_coord del.own t queue blame stands report del.first same parked_same
+    held_free = told_held e proc del.by_coord del.own t queue blame stands aside report del.first same parked_same
 
     pub hand_release : MayRelease e []
     hand_release =
@@ -133,9 +133,9 @@ module _ (e : InEvent) (proc : ProcId) (report : Report) (made : Made) (del : Is
     queueing_free : (ids : List Made) → IsTab t.running [] ids n → (left : Queue) → HasQueue n t.running left.waiting → left.parked ≡ queue.parked → IsQueueing (record { event = e; loads = []; hand = ids }) [] t left
     queueing_free ids tab left queued parked =
         record {
-          turning = told_turning e proc del.by_coord del.own t queue blame stands report del.first same tab.known;
+          turning = told_turning e proc del.by_coord del.own t queue blame stands aside report del.first same tab.known;
           queued = subst (λ (x : Seen). HasQueue x t.running left.waiting) (sym now) queued;
-          parked = parked ∙ stands.parked ∙ sym (unheld_then s e.event proc made (heard_first e proc report made del tells t queue blame stands) free) ∙ ap (λ (x : Seen). held_back x.requests x.parked) (sym now);
+          parked = parked ∙ stands.parked ∙ sym (unheld_then s e.event proc made (heard_first e proc report made del tells t queue blame stands aside) free) ∙ ap (λ (x : Seen). held_back x.requests x.parked) (sym now);
           held = λ idle. ap (λ (x : Seen). x.parked) now ∙ parked_same ∙ stands.between.held idle;
           over = λ never. absurd cc;
           releasing = λ some all. hand_release;
@@ -145,7 +145,7 @@ module _ (e : InEvent) (proc : ProcId) (report : Report) (made : Made) (del : Is
 
   pub hand_begun : IsNoGo made.what → is_held_back e.start made ≡ false → HasRoomFor e.start → t.kept.keep ≡ e.header.keep → HasBegun (record { event = e; loads = []; hand = made ∷ [] }) t queue blame
   hand_begun no_go free room header =
-      heard_begun e proc report made del tells t queue blame stands room header (made ∷ []) tab (held_free free) queue (queueing_free free (made ∷ []) tab queue (queue_still (unqueued s [] e.event actors.Coord proc report made del.first tells no_go)) refl)
+      heard_begun e proc report made del tells t queue blame stands aside room header (made ∷ []) tab (held_free free) queue (queueing_free free (made ∷ []) tab queue (queue_still (unqueued s [] e.event actors.Coord proc report made del.first tells no_go)) refl)
     where
       tab : IsTab t.running [] (made ∷ []) n
       tab = hand_tab t.running s e.event proc stands.between.tab stands.between.flows report made del.first tells no_go free
@@ -157,10 +157,10 @@ module _ (e : InEvent) (proc : ProcId) (report : Report) (made : Made) (del : Is
     tab_held = held_tab t.running s e.event proc stands.between.tab stands.between.flows report made del.first tells no_go held
 
     parked_more : n.parked ≡ s.parked ++ made.req ∷ []
-    parked_more = heard_parked e proc report made del tells t queue blame stands true held
+    parked_more = heard_parked e proc report made del tells t queue blame stands aside true held
 
     abbrev its_own : IsByItsOwn s asked.q made
-    its_own = its_nav e proc report made del tells t queue blame stands
+    its_own = its_nav e proc report made del tells t queue blame stands aside
 
     -- the traversal that runs has shown its navigable a document
     up : holds (λ (q : Asked). has_nav q.activated its_own.d.nav) (running_traversal s) ≡ true
@@ -196,7 +196,7 @@ module _ (e : InEvent) (proc : ProcId) (report : Report) (made : Made) (del : Is
 
     aim : aim_of (now_of e []) ≡ aim_of s
     aim =
-        aim_same e t.running t.kept.keep t.goal blame (now_of e []) stands.between stands.lasts stands.tied.goal [] [] (subst (λ (x : Seen). IsTab t.running [] [] x) (sym now) tab_held) (heard_tied e proc report made del tells t queue blame stands).goal (heard_comes e proc report made del tells t queue blame stands)
+        aim_same e t.running t.kept.keep t.goal blame (now_of e []) stands.between stands.lasts stands.tied.goal [] [] (subst (λ (x : Seen). IsTab t.running [] [] x) (sym now) tab_held) (heard_tied e proc report made del tells t queue blame stands aside).goal (heard_comes e proc report made del tells t queue blame stands aside)
 
     -- not all stand where the traversal leads to
     stands_not : all_stand (now_of e []) (aim_of (now_of e [])) ≡ true → ⊥
@@ -206,7 +206,7 @@ module _ (e : InEvent) (proc : ProcId) (report : Report) (made : Made) (del : Is
         stood =
             ap (λ (k : ℕ). all_stand (now_of e []) k) aim
             ∙ ap (λ (x : Seen). all_stand_in x.history.rows x.places (aim_of s)) now
-            ∙ ap (λ (l : List Place). all_stand_in s.history.rows l (aim_of s)) (heard_places e proc report made del tells t queue blame stands)
+            ∙ ap (λ (l : List Place). all_stand_in s.history.rows l (aim_of s)) (heard_places e proc report made del tells t queue blame stands aside)
 
         by_run : (o : Option ReqId) → t.running ≡ o → ⊥
         by_run None is = busy is
@@ -217,10 +217,10 @@ module _ (e : InEvent) (proc : ProcId) (report : Report) (made : Made) (del : Is
 
     pub parked_begun : HasRoomFor e.start → t.kept.keep ≡ e.header.keep → (left : Queue) → left ≡ record queue { parked = queue.parked ++ made ∷ [] } → HasBegun (record { event = e; loads = []; hand = [] }) t left blame
     parked_begun room header left pushed =
-        heard_begun e proc report made del tells t queue blame stands room header [] tab_held held_more left (record {
-          turning = told_turning e proc del.by_coord del.own t queue blame stands report del.first same tab_held.known;
+        heard_begun e proc report made del tells t queue blame stands aside room header [] tab_held held_more left (record {
+          turning = told_turning e proc del.by_coord del.own t queue blame stands aside report del.first same tab_held.known;
           queued = subst (λ (x : Seen). HasQueue x t.running left.waiting) (sym now) (subst (λ (l : List QueueStep). HasQueue n t.running l) (sym (ap (λ (q : Queue). q.waiting) pushed)) (queue_still (unqueued s [] e.event actors.Coord proc report made del.first tells no_go)));
-          parked = ap (λ (q : Queue). q.parked) pushed ∙ ap (λ (l : List Made). l ++ made ∷ []) stands.parked ∙ sym (held_then s e.event proc made (heard_first e proc report made del tells t queue blame stands) asked.q asked.there asked.makes held) ∙ ap (λ (x : Seen). held_back x.requests x.parked) (sym now);
+          parked = ap (λ (q : Queue). q.parked) pushed ∙ ap (λ (l : List Made). l ++ made ∷ []) stands.parked ∙ sym (held_then s e.event proc made (heard_first e proc report made del tells t queue blame stands aside) asked.q asked.there asked.makes held) ∙ ap (λ (x : Seen). held_back x.requests x.parked) (sym now);
           held = λ idle. absurd (busy idle);
           over = λ never. absurd cc;
           releasing = λ some all. absurd (stands_not all);
@@ -240,7 +240,7 @@ module _ (e : InEvent) (proc : ProcId) (report : Report) (made : Made) (del : Is
 
     -- its delta is the one that the request asks for
     delta_there : delta_in n.requests made.req ≡ Some delta
-    delta_there = by_what asked.q.what refl (its_plain e proc report made del tells t queue blame stands).what begins
+    delta_there = by_what asked.q.what refl (its_plain e proc report made del tells t queue blame stands aside).what begins
       where
         what_is : asked.known.what ≡ asked.q.what
         what_is = sym (ap (λ (c : Core). c.what) asked.is)
@@ -288,4 +288,4 @@ module _ (e : InEvent) (proc : ProcId) (report : Report) (made : Made) (del : Is
 
     pub joined_begun : HasRoomFor e.start → t.kept.keep ≡ e.header.keep → (left : Queue) → left ≡ record queue { waiting = queue.waiting ++ Traverse made.req delta ∷ [] } → HasBegun (record { event = e; loads = []; hand = [] }) t left blame
     joined_begun room header left pushed =
-        heard_begun e proc report made del tells t queue blame stands room header [] tab_joined (held_free free_go) left (queueing_free free_go [] tab_joined left (subst (λ (l : List QueueStep). HasQueue n t.running l) (sym (ap (λ (q : Queue). q.waiting) pushed)) queue_more) (ap (λ (q : Queue). q.parked) pushed))
+        heard_begun e proc report made del tells t queue blame stands aside room header [] tab_joined (held_free free_go) left (queueing_free free_go [] tab_joined left (subst (λ (l : List QueueStep). HasQueue n t.running l) (sym (ap (λ (q : Queue). q.waiting) pushed)) queue_more) (ap (λ (q : Queue). q.parked) pushed))

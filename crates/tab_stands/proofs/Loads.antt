@@ -28,13 +28,13 @@ use Rattle.tab_stands.proofs.Accepting.{comes_now, goes_on, its_row, new, now, n
 use Rattle.tab_stands.proofs.Begun.{begun}
 use Rattle.tab_stands.proofs.Coming.{aim_same}
 use Rattle.tab_stands.proofs.Waiting.{queued_still, queueing_now}
-use Rattle.tab_stands.specs.Standing.{HasBegun, HasRoomFor, StandsFor}
+use Rattle.tab_stands.specs.Standing.{HasBegun, HasRoomFor, StandsFor, StartsUnasked}
 use Rattle.tab_settles.proofs.PassedOn.{load_accepted, load_accepted_tab, turning_first}
 use Rattle.log_model.specs.declared.request.Request.TheVariants as requests
 use Rattle.log_model.specs.declared.row_kind.Actor.TheVariants as actors
 use Rattle.log_model.specs.declared.row_kind.RowKind.TheVariants as rows
 
-module _ (e : InEvent) (t : Tables) (queue : Queue) (blame : List (StateId × ReqId)) (stands : StandsFor e.start t queue blame) (room : HasRoomFor e.start) (header : t.kept.keep ≡ e.header.keep) (req : ReqId) (nav : NavId) (mode : Mode) (address : List ℕ) (by_user : e.actor ≡ actors.Ui) (own : e.own ≡ rows.Accepted req None (requests.Load nav mode address)) (nr : req.0 ≡ length e.start.requests + 1) where
+module _ (e : InEvent) (t : Tables) (queue : Queue) (blame : List (StateId × ReqId)) (stands : StandsFor e.start t queue blame) (aside : StartsUnasked e) (room : HasRoomFor e.start) (header : t.kept.keep ≡ e.header.keep) (req : ReqId) (nav : NavId) (mode : Mode) (address : List ℕ) (by_user : e.actor ≡ actors.Ui) (own : e.own ≡ rows.Accepted req None (requests.Load nav mode address)) (nr : req.0 ≡ length e.start.requests + 1) where
   abbrev load : Request
   load = requests.Load nav mode address
 
@@ -46,7 +46,7 @@ module _ (e : InEvent) (t : Tables) (queue : Queue) (blame : List (StateId × Re
       load_accepted_tab t.running e.start e.event actors.Ui stands.between.tab stands.between.flows req nr nav mode address
 
   pub load_tied : AreTied (now_of e []) t
-  load_tied = tied_now e req None load by_user own nr t queue blame stands (req ∷ []) tab
+  load_tied = tied_now e req None load by_user own nr aside t queue blame stands (req ∷ []) tab
 
   -- ---- where no reason stands against it
 
@@ -54,36 +54,36 @@ module _ (e : InEvent) (t : Tables) (queue : Queue) (blame : List (StateId × Re
     legal : AreLegal e []
     unfolding AreLegal
     legal later rest =
-        subst (λ (row : LogRow). EachPass (start_of e) (row ∷ []) later) (sym (its_row e req None load by_user own nr)) (load_passes e.header e.start e.event req nav mode address later nr admitted, tt)
+        subst (λ (row : LogRow). EachPass (start_of e) (row ∷ []) later) (sym (its_row e req None load by_user own nr aside)) (load_passes e.header e.start e.event req nav mode address later nr admitted, tt)
 
     -- what joined isn't refused as it is accepted
     early : (r : ReqId) (q : Asked) → request_in n.requests r ≡ Some q → denial_at_acceptance e.start q.what ≡ None ⊎ (nat_lt (length e.start.requests) r.0 ≡ false)
-    early r q at = by_old (old_or_new e req None load by_user own nr r q at)
+    early r q at = by_old (old_or_new e req None load by_user own nr aside r q at)
       where
-        by_old : (request_in e.start.requests r ≡ Some q) ⊎ ((r ≡ req) × (q ≡ new e req None load by_user own nr)) → denial_at_acceptance e.start q.what ≡ None ⊎ (nat_lt (length e.start.requests) r.0 ≡ false)
+        by_old : (request_in e.start.requests r ≡ Some q) ⊎ ((r ≡ req) × (q ≡ new e req None load by_user own nr aside)) → denial_at_acceptance e.start q.what ≡ None ⊎ (nat_lt (length e.start.requests) r.0 ≡ false)
         by_old (inl old) =
             let low : r.0 ≤ length e.start.requests = number_low e.start.requests r q old in inr (grind (arith, nat_tests, low))
         by_old (inr it) = inl (ap (λ (x : Asked). denial_at_acceptance e.start x.what) it.1 ∙ admitted)
 
     turning : IsTurning e []
     turning =
-        turning_first e (subst (λ (x : Seen). AreKnown x) (sym (now e req None load by_user own nr)) tab.known) (λ r q has at. early r q (ap (λ (x : Seen). request_of x r) (sym (now e req None load by_user own nr)) ∙ at))
+        turning_first e (subst (λ (x : Seen). AreKnown x) (sym (now e req None load by_user own nr aside)) tab.known) (λ r q has at. early r q (ap (λ (x : Seen). request_of x r) (sym (now e req None load by_user own nr aside)) ∙ at))
 
     queued : HasQueue (now_of e []) t.running queue.waiting
     queued =
-        subst (λ (x : Seen). HasQueue x t.running queue.waiting) (sym (now e req None load by_user own nr)) (queued_still e req None load by_user own nr t queue blame stands refl)
+        subst (λ (x : Seen). HasQueue x t.running queue.waiting) (sym (now e req None load by_user own nr aside)) (queued_still e req None load by_user own nr aside t queue blame stands refl)
 
     abbrev p : InPass
     p = record { event = e; loads = req ∷ []; hand = [] }
 
     aim : aim_of (now_of e []) ≡ aim_of e.start
     aim =
-        aim_same e t.running t.kept.keep t.goal blame (now_of e []) stands.between stands.lasts stands.tied.goal (req ∷ []) [] (subst (λ (x : Seen). IsTab t.running (req ∷ []) [] x) (sym (now e req None load by_user own nr)) tab) load_tied.goal (comes_now e req None load by_user own nr t queue blame stands)
+        aim_same e t.running t.kept.keep t.goal blame (now_of e []) stands.between stands.lasts stands.tied.goal (req ∷ []) [] (subst (λ (x : Seen). IsTab t.running (req ∷ []) [] x) (sym (now e req None load by_user own nr aside)) tab) load_tied.goal (comes_now e req None load by_user own nr aside t queue blame stands)
 
     pub load_begun : HasBegun (record { event = e; loads = req ∷ []; hand = [] }) t queue blame
     load_begun =
-        begun p t queue blame stands.between stands.lasts stands.tied.goal header (ap (λ (k : RowKind). leads k) own) (subst (λ (a : Actor). IsWorker a) (sym by_user) tt) legal load_tied
-        (goes_on e req None load by_user own nr t queue blame stands room (λ x never. absurd cc) (req ∷ []) tab)
-        (rests_now e req None load by_user own nr t queue blame stands)
-        (comes_now e req None load by_user own nr t queue blame stands)
-        (queueing_now e req None load by_user own nr t queue blame stands (req ∷ []) queue aim turning queued refl)
+        begun p t queue blame stands.between stands.lasts stands.tied.goal header aside (ap (λ (k : RowKind). leads k) own) (subst (λ (a : Actor). IsWorker a) (sym by_user) tt) legal load_tied
+        (goes_on e req None load by_user own nr aside t queue blame stands room (λ x never. absurd cc) (req ∷ []) tab)
+        (rests_now e req None load by_user own nr aside t queue blame stands)
+        (comes_now e req None load by_user own nr aside t queue blame stands)
+        (queueing_now e req None load by_user own nr aside t queue blame stands (req ∷ []) queue aim turning queued refl)

@@ -48,7 +48,7 @@ use Rattle.tab_stands.proofs.Coming.{IsComing}
 use Rattle.tab_stands.proofs.Dones.{itself, unchanged}
 use Rattle.tab_stands.proofs.Reports.{told, told_comes, told_going, told_kept, told_legal, told_moved, told_now, told_rests, told_row, told_tied}
 use Rattle.tab_stands.specs.Delivering.{IsDelivery, IsToldOf}
-use Rattle.tab_stands.specs.Standing.{HasBegun, HasRoomFor, StandsFor}
+use Rattle.tab_stands.specs.Standing.{HasBegun, HasRoomFor, StandsFor, StartsUnasked}
 use Rattle.tab_settles.proofs.PassedOn.{its_report}
 use Rattle.seen_facts.specs.Transit.Orders.{IsOutcomeOf}
 use Rattle.log_model.specs.declared.job.Task.TheVariants as tasks
@@ -67,15 +67,15 @@ pub record IsMadeFor (s : Seen) (made : Made) : Type 0 where
   pub makes : q.made ≡ Some made
   pub open_ : q.ending ≡ None
 
-module _ (e : InEvent) (proc : ProcId) (report : Report) (made : Made) (del : IsDelivery e proc report) (tells : IsToldOf report made) (t : Tables) (queue : Queue) (blame : List (StateId × ReqId)) (stands : StandsFor e.start t queue blame) where
+module _ (e : InEvent) (proc : ProcId) (report : Report) (made : Made) (del : IsDelivery e proc report) (tells : IsToldOf report made) (t : Tables) (queue : Queue) (blame : List (StateId × ReqId)) (stands : StandsFor e.start t queue blame) (aside : StartsUnasked e) where
   abbrev s : Seen
   s = e.start
 
   abbrev pub heard : Seen
-  heard = told e proc del.by_coord del.own t queue blame stands report del.first
+  heard = told e proc del.by_coord del.own t queue blame stands aside report del.first
 
   pub heard_now : now_of e [] ≡ heard
-  heard_now = told_now e proc del.by_coord del.own t queue blame stands report del.first
+  heard_now = told_now e proc del.by_coord del.own t queue blame stands aside report del.first
 
   its : IsReportIn s.documents s.places proc report
   its = its_report t.running s e.event proc stands.between.tab stands.between.flows report del.first
@@ -191,31 +191,31 @@ module _ (e : InEvent) (proc : ProcId) (report : Report) (made : Made) (del : Is
 
   pub heard_comes : IsComing blame e.start (now_of e [])
   heard_comes =
-      told_comes e proc del.by_coord del.own t queue blame stands report del.first heard_requests (λ p. p) itself (heard_places ∙ sym (map-id s.places)) heard_documents
+      told_comes e proc del.by_coord del.own t queue blame stands aside report del.first heard_requests (λ p. p) itself (heard_places ∙ sym (map-id s.places)) heard_documents
 
   pub heard_tied : AreTied (now_of e []) t
   heard_tied =
-      told_tied e proc del.by_coord del.own t queue blame stands report del.first heard_requests t unchanged
-      (left_holds (sights_of s t.running) (sights_of heard t.running) t (ap (λ (l : List Document). map sight l) heard_documents) heard_places refl (told_moved e proc del.by_coord del.own t queue blame stands report del.first heard_requests) refl refl refl stands.tied.holds)
+      told_tied e proc del.by_coord del.own t queue blame stands aside report del.first heard_requests t unchanged
+      (left_holds (sights_of s t.running) (sights_of heard t.running) t (ap (λ (l : List Document). map sight l) heard_documents) heard_places refl (told_moved e proc del.by_coord del.own t queue blame stands aside report del.first heard_requests) refl refl refl stands.tied.holds)
       (delivered_tied s e.event actors.Coord t.loads stands.tied.loads proc (subst (λ (o : Option Report). TellsNone o) (sym del.first) of_own.none)) refl
-      (stands.tied.kept ∙ ap (λ (l : List Document). filter_map (state_in l) s.kept) (sym heard_documents) ∙ ap (λ (l : List DocId). filter_map (state_in heard.documents) l) (sym (told_kept e proc del.by_coord del.own t queue blame stands report del.first)))
+      (stands.tied.kept ∙ ap (λ (l : List Document). filter_map (state_in l) s.kept) (sym heard_documents) ∙ ap (λ (l : List DocId). filter_map (state_in heard.documents) l) (sym (told_kept e proc del.by_coord del.own t queue blame stands aside report del.first)))
       (subst (λ (l : List Document). length l ≤ s.jobs + 1) (sym heard_documents) stands.tied.few)
 
   -- with this at hand, and what waits
   pub heard_begun : HasRoomFor e.start → t.kept.keep ≡ e.header.keep → (hand : List Made) → IsTab t.running [] hand heard → AreHeldUp t.running heard → (left : Queue) → IsQueueing (record { event = e; loads = []; hand = hand }) [] t left → HasBegun (record { event = e; loads = []; hand = hand }) t left blame
   heard_begun room header hand tab held left queueing =
-      begun (record { event = e; loads = []; hand = hand }) t left blame stands.between stands.lasts stands.tied.goal header (ap (λ (k : RowKind). leads k) del.own) (subst (λ (a : Actor). IsWorker a) (sym del.by_coord) tt)
-      (told_legal e proc del.by_coord del.own t queue blame stands report del.first)
+      begun (record { event = e; loads = []; hand = hand }) t left blame stands.between stands.lasts stands.tied.goal header aside (ap (λ (k : RowKind). leads k) del.own) (subst (λ (a : Actor). IsWorker a) (sym del.by_coord) tt)
+      (told_legal e proc del.by_coord del.own t queue blame stands aside report del.first)
       heard_tied
-      (told_going e proc del.by_coord del.own t queue blame stands report del.first heard_requests room [] hand tab held (rw heard_places stands.lasts.counted.epochs))
-      (told_rests e proc del.by_coord del.own t queue blame stands report del.first)
+      (told_going e proc del.by_coord del.own t queue blame stands aside report del.first heard_requests room [] hand tab held (rw heard_places stands.lasts.counted.epochs))
+      (told_rests e proc del.by_coord del.own t queue blame stands aside report del.first)
       heard_comes queueing
 
   -- ---- what needn't be taken up in the event
 
   pub unneeded_takes : is_taken_up_at_once e.start made ≡ false → (later : List LogRow) → IsTakenIn e later
   unneeded_takes never later =
-      subst (λ (r : LogRow). is_delivered_duly (point_at (start_of e) later) r ≡ true) (sym (told_row e proc del.by_coord del.own t queue blame stands report del.first)) (rw (del.first) (rw tells (rw never refl)))
+      subst (λ (r : LogRow). is_delivered_duly (point_at (start_of e) later) r ≡ true) (sym (told_row e proc del.by_coord del.own t queue blame stands aside report del.first)) (rw (del.first) (rw tells (rw never refl)))
 
   -- so it is of what is held back
   pub held_takes : is_held_back e.start made ≡ true → (later : List LogRow) → IsTakenIn e later

@@ -1,4 +1,5 @@
 -- Orders on their way that make documents are for what orders may be for, over an event's own row and a refusal.
+use Rattle.tab_stands.specs.Standing.{StartsUnasked}
 use Rattle.seen_facts.proofs.Coord.Unread.{next}
 use Rattle.log_model.specs.Seen.{Asked, Seen}
 use Rattle.log_model.specs.declared.job.Job.{Job}
@@ -7,7 +8,6 @@ use Rattle.log_model.specs.declared.row_kind.Actor.{Actor}
 use Rattle.log_model.specs.declared.row_kind.RowKind.{RowKind}
 use Rattle.tab_facts.proofs.Order.Rows.{IsWithin, orders_after, orders_on}
 use Rattle.tab_facts.specs.Order.Orders.{AreOrders, IsOfCoord}
-use Rattle.seen_laws.proofs.InEvents.{now_own}
 use Rattle.seen_laws.specs.InEvent.{InEvent, now_of}
 use Rattle.seen_laws.specs.Sending.{leads}
 use Rattle.std.proofs.Common.{List, [], ap, false, inl, inr, refl, subst, sym, true, ℕ, ◌∙◌, ◌∷◌, ◌≡◌, ◌⊎◌}
@@ -39,9 +39,9 @@ own_within (rows.Evicted state) is = tt
 own_within (rows.Delivered proc) is = tt
 own_within _ is = absurd (let never : false ≡ true = is in cc)
 
-pub makes_first : (e : InEvent) → leads e.own ≡ true → ((req : ReqId) → MayServe e.start req → MayServe (now_of e []) req) → MakesServe e.start → MakesServe (now_of e [])
-makes_first e own serves makes =
-    makes_after e.start (now_of e []) e.event e.actor e.own (own_within e.own own) unsent serves (sym (now_own e)) makes
+pub makes_first : (e : InEvent) → StartsUnasked e → leads e.own ≡ true → ((req : ReqId) → MayServe e.start req → MayServe (now_of e []) req) → MakesServe e.start → MakesServe (now_of e [])
+makes_first e aside own serves makes =
+    makes_after e.start (now_of e []) e.event e.actor e.own (own_within e.own own) unsent serves (sym (sym aside.plain)) makes
   where
     unsent : (job : Job) → e.own ≡ rows.Sent job → ⊥
     unsent job is = let never : false ≡ true = sym (ap (λ (k : RowKind). leads k) is) ∙ own in absurd cc
@@ -55,9 +55,9 @@ sound_after s n event actor kind within unsent keeps is sound =
     here : Job → Type 0
     here job = IsSoundTask n job.doc job.task
 
-pub sound_first : (e : InEvent) → leads e.own ≡ true → KeepsWhat e.start (now_of e []) → OrdersAreSound e.start → OrdersAreSound (now_of e [])
-sound_first e own keeps sound =
-    sound_after e.start (now_of e []) e.event e.actor e.own (own_within e.own own) unsent keeps (sym (now_own e)) sound
+pub sound_first : (e : InEvent) → StartsUnasked e → leads e.own ≡ true → KeepsWhat e.start (now_of e []) → OrdersAreSound e.start → OrdersAreSound (now_of e [])
+sound_first e aside own keeps sound =
+    sound_after e.start (now_of e []) e.event e.actor e.own (own_within e.own own) unsent keeps (sym (sym aside.plain)) sound
   where
     unsent : (job : Job) → e.own ≡ rows.Sent job → ⊥
     unsent job is = let never : false ≡ true = sym (ap (λ (k : RowKind). leads k) is) ∙ own in absurd cc

@@ -36,7 +36,7 @@ use Rattle.tab_stands.proofs.Dones.{AsksNone, did, did_now, did_requests, itself
 use Rattle.tab_stands.proofs.Reports.{told_causes, told_kept}
 use Rattle.tab_stands.proofs.Unmade.{d, documents_now, its_found, its_number, its_state, made_at, not_ready, places_now, sole_one, the_one, undiscarded, unknown}
 use Rattle.tab_stands.specs.Delivering.{IsDelivery, IsMadeNoted, IsNotedFor}
-use Rattle.tab_stands.specs.Standing.{StandsFor}
+use Rattle.tab_stands.specs.Standing.{StandsFor, StartsUnasked}
 use Rattle.log_model.specs.declared.job.Task.TheVariants as tasks
 use Rattle.log_model.specs.declared.made.Report.TheVariants as reports
 use Rattle.log_model.specs.declared.row_kind.Actor.TheVariants as actors
@@ -51,36 +51,36 @@ states_alike old new keep (doc ∷ docs) = by_state (state_in old doc) refl (sta
     by_state None is rest = rw (keep doc ∙ is, is) rest
     by_state (Some x) is rest = rw (keep doc ∙ is, is) (ap (λ (l : List StateId). x ∷ l) rest)
 
-module _ (e : InEvent) (proc : ProcId) (job : Job) (outcome : Outcome) (del : IsDelivery e proc (reports.Done job outcome None)) (t : Tables) (queue : Queue) (blame : List (StateId × ReqId)) (stands : StandsFor e.start t queue blame) (nav : NavId) (state : StateId) (address : List ℕ) (initial : Bool) (task : job.task ≡ tasks.Populate nav state address initial) where
+module _ (e : InEvent) (proc : ProcId) (job : Job) (outcome : Outcome) (del : IsDelivery e proc (reports.Done job outcome None)) (t : Tables) (queue : Queue) (blame : List (StateId × ReqId)) (stands : StandsFor e.start t queue blame) (aside : StartsUnasked e) (nav : NavId) (state : StateId) (address : List ℕ) (initial : Bool) (task : job.task ≡ tasks.Populate nav state address initial) where
   abbrev s : Seen
   s = e.start
 
   abbrev n : Seen
-  n = did e proc job outcome del t queue blame stands
+  n = did e proc job outcome del t queue blame stands aside
 
   abbrev own : Document
-  own = d e proc job outcome del t queue blame stands nav state address initial task
+  own = d e proc job outcome del t queue blame stands aside nav state address initial task
 
   own_state : own.state ≡ state
-  own_state = its_state e proc job outcome del t queue blame stands nav state address initial task
+  own_state = its_state e proc job outcome del t queue blame stands aside nav state address initial task
 
   own_new : own.is_ready ≡ false
-  own_new = not_ready e proc job outcome del t queue blame stands nav state address initial task
+  own_new = not_ready e proc job outcome del t queue blame stands aside nav state address initial task
 
   own_there : own.is_discarded ≡ false
-  own_there = undiscarded e proc job outcome del t queue blame stands nav state address initial task
+  own_there = undiscarded e proc job outcome del t queue blame stands aside nav state address initial task
 
   own_lives : own.is_known_dead ≡ false
-  own_lives = unknown e proc job outcome del t queue blame stands nav state address initial task
+  own_lives = unknown e proc job outcome del t queue blame stands aside nav state address initial task
 
   pub made_asks : AsksNone job.task
   made_asks = subst (λ (k : Task). AsksNone k) (sym task) tt
 
   abbrev same : n.requests ≡ e.start.requests
-  same = did_requests e proc job outcome del t queue blame stands made_asks
+  same = did_requests e proc job outcome del t queue blame stands aside made_asks
 
   places_same : n.places ≡ s.places
-  places_same = places_now e proc job outcome del t queue blame stands nav state address initial task
+  places_same = places_now e proc job outcome del t queue blame stands aside nav state address initial task
 
   -- ---- documents
 
@@ -97,7 +97,7 @@ module _ (e : InEvent) (proc : ProcId) (job : Job) (outcome : Outcome) (del : Is
   made_state x = elim (x.nr.0 == job.doc.0) as (λ b. (let y : Document = cond b (record x { is_ready = true; is_fresh = true }) x in y).state ≡ x.state) [ true ↦ refl | false ↦ refl ]
 
   pub documents_are : n.documents ≡ map made_if e.start.documents
-  documents_are = documents_now e proc job outcome del t queue blame stands nav state address initial task
+  documents_are = documents_now e proc job outcome del t queue blame stands aside nav state address initial task
 
   pub made_then : (doc : DocId) → document_of n doc ≡ option_map made_if (document_of e.start doc)
   made_then doc =
@@ -128,7 +128,7 @@ module _ (e : InEvent) (proc : ProcId) (job : Job) (outcome : Outcome) (del : Is
       by_test true at =
           let found = find_has (λ (y : Document). y.nr.0 == doc.0) s.documents was.before was.found in
           let number : was.before.nr.0 ≡ doc.0 = eqb-true was.before.nr.0 doc.0 found.1 in
-          inl (the_one e proc job outcome del t queue blame stands nav state address initial task was.before found.0 at, ap (λ (i : ℕ). let y : DocId = record { 0 = i } in y) (sym number ∙ eqb-true was.before.nr.0 job.doc.0 at))
+          inl (the_one e proc job outcome del t queue blame stands aside nav state address initial task was.before found.0 at, ap (λ (i : ℕ). let y : DocId = record { 0 = i } in y) (sym number ∙ eqb-true was.before.nr.0 job.doc.0 at))
       by_test false at = inr (at, sym (ap (λ (b : Bool). let y : Document = cond b (record was.before { is_ready = true; is_fresh = true }) was.before in y) at) ∙ was.is)
 
   pub states_kept : KeepStates e.start.documents n.documents
@@ -138,7 +138,7 @@ module _ (e : InEvent) (proc : ProcId) (job : Job) (outcome : Outcome) (del : Is
 
   own_usable : (of : StateId) → own.state ≡ of → is_usable (made_if own) of ≡ true
   own_usable of is =
-      let number : (own.nr.0 == job.doc.0) ≡ true = ap (λ (i : ℕ). i == job.doc.0) (its_number e proc job outcome del t queue blame stands nav state address initial task) ∙ nat_eq_refl job.doc.0 in
+      let number : (own.nr.0 == job.doc.0) ≡ true = ap (λ (i : ℕ). i == job.doc.0) (its_number e proc job outcome del t queue blame stands aside nav state address initial task) ∙ nat_eq_refl job.doc.0 in
       let eq : (own.state.0 == of.0) ≡ true = ap (λ (x : StateId). x.0 == of.0) is ∙ nat_eq_refl of.0 in
       ap (λ (b : Bool). is_usable (let y : Document = cond b (record own { is_ready = true; is_fresh = true }) own in y) of) number ∙ rw (eq, own_there, own_lives) refl
 
@@ -163,7 +163,7 @@ module _ (e : InEvent) (proc : ProcId) (job : Job) (outcome : Outcome) (del : Is
 
       by_making : (of : StateId) (one : HasOne s of) → is_being_made one.d ≡ true → (b : Bool) → (one.d.nr.0 == job.doc.0) ≡ b → HasOne n of
       by_making of one making true at =
-          let it : one.d ≡ own = the_one e proc job outcome del t queue blame stands nav state address initial task one.d (find_has (λ (y : Document). y.nr.0 == one.doc.0) s.documents one.d one.found).0 at in
+          let it : one.d ≡ own = the_one e proc job outcome del t queue blame stands aside nav state address initial task one.d (find_has (λ (y : Document). y.nr.0 == one.doc.0) s.documents one.d one.found).0 at in
           record { doc = one.doc; d = made_if one.d; found = found_now of one; of_state = made_state one.d ∙ one.of_state; there = inl (ap (λ (x : Document). is_usable (made_if x) of) it ∙ own_usable of (ap (λ (x : Document). x.state) (sym it) ∙ one.of_state)) }
       by_making of one making false at =
           let unchanged : made_if one.d ≡ one.d = ap (λ (b : Bool). let y : Document = cond b (record one.d { is_ready = true; is_fresh = true }) one.d in y) at in
@@ -177,7 +177,7 @@ module _ (e : InEvent) (proc : ProcId) (job : Job) (outcome : Outcome) (del : Is
   -- ---- what comes
 
   serves_still : (r : ReqId) → MayServe s r → MayServe n r
-  serves_still r may = serve_on s n r (told_causes e proc del.by_coord del.own t queue blame stands (reports.Done job outcome None) del.first same) may
+  serves_still r may = serve_on s n r (told_causes e proc del.by_coord del.own t queue blame stands aside (reports.Done job outcome None) del.first same) may
 
   theirs_then : LoadsMadeOwn n
   theirs_then r q made found load makes =
@@ -201,7 +201,7 @@ module _ (e : InEvent) (proc : ProcId) (job : Job) (outcome : Outcome) (del : Is
         unshown : (x : NavId) (place : Place) → place_of n x ≡ Some place → place.status ≡ awake job.doc → ⊥
         unshown x place placed wakes =
             let h : IsHomed s.documents place job.doc = stands.between.tab.homes.homed x place job.doc (ap (λ (l : List Place). place_in l x) (sym places_same) ∙ placed) wakes in
-            let two : Some h.home.document ≡ Some own = sym h.home.found ∙ its_found e proc job outcome del t queue blame stands nav state address initial task in
+            let two : Some h.home.document ≡ Some own = sym h.home.found ∙ its_found e proc job outcome del t queue blame stands aside nav state address initial task in
             let one : h.home.document ≡ own = cc in
             let never : true ≡ false = sym h.home.ready ∙ ap (λ (y : Document). y.is_ready) one ∙ own_new in
             cc
@@ -235,8 +235,8 @@ module _ (e : InEvent) (proc : ProcId) (job : Job) (outcome : Outcome) (del : Is
                 by_test false at = refl
                 by_test true at =
                     let states : was.before.state ≡ state = before_state ∙ ap (λ (i : ℕ). let y : StateId = record { 0 = i } in y) (sym (eqb-true state.0 of.0 at)) in
-                    let one : was.before ≡ own = sole_one e proc job outcome del t queue blame stands nav state address initial task was.before doc was.found states there in
-                    let never : false ≡ true = sym apart ∙ ap (λ (x : Document). x.nr.0 == job.doc.0) one ∙ ap (λ (i : ℕ). i == job.doc.0) (its_number e proc job outcome del t queue blame stands nav state address initial task) ∙ nat_eq_refl job.doc.0 in
+                    let one : was.before ≡ own = sole_one e proc job outcome del t queue blame stands aside nav state address initial task was.before doc was.found states there in
+                    let never : false ≡ true = sym apart ∙ ap (λ (x : Document). x.nr.0 == job.doc.0) one ∙ ap (λ (i : ℕ). i == job.doc.0) (its_number e proc job outcome del t queue blame stands aside nav state address initial task) ∙ nat_eq_refl job.doc.0 in
                     absurd cc
 
         by_case : ((was.before ≡ own) × (doc ≡ job.doc)) ⊎ (((was.before.nr.0 == job.doc.0) ≡ false) × (was.before ≡ stray.document)) → IsLeftStray n noted doc of ⊎ IsBlamed n noted doc of
@@ -250,7 +250,7 @@ module _ (e : InEvent) (proc : ProcId) (job : Job) (outcome : Outcome) (del : Is
           arrives = itself;
           places = places_same ∙ sym (map-id s.places);
           history = refl;
-          kept = told_kept e proc del.by_coord del.own t queue blame stands (reports.Done job outcome None) del.first;
+          kept = told_kept e proc del.by_coord del.own t queue blame stands aside (reports.Done job outcome None) del.first;
           asked = λ r q at. record { now = q; at = ap (λ (l : List Asked). request_in l r) same ∙ at; same = refl };
           loads = λ r l at on. ap (λ (asked : List Asked). option_map look (request_in asked r)) (sym same) ∙ at;
           loading = loading_then;
@@ -267,4 +267,4 @@ module _ (e : InEvent) (proc : ProcId) (job : Job) (outcome : Outcome) (del : Is
 
     pub made_comes : IsComing noted e.start (now_of e [])
     made_comes =
-        subst (λ (x : Seen). IsComing noted s x) (sym (did_now e proc job outcome del t queue blame stands)) made_coming
+        subst (λ (x : Seen). IsComing noted s x) (sym (did_now e proc job outcome del t queue blame stands aside)) made_coming

@@ -56,7 +56,7 @@ use Rattle.tab_stands.proofs.Placed.{documents_are, made_asks, made_comes, made_
 use Rattle.tab_stands.proofs.Reports.{between_as, goal_as, lasts_as, told_going, told_held, told_kept, told_legal, told_moved, told_rests, told_tied}
 use Rattle.tab_stands.proofs.Unmade.{being, d, documents_now, its_found, its_number, its_outcome, its_own, its_state, made_at, made_of, not_ready, places_now, seen_found, sole_one, the_one, undiscarded, unknown, unplaced}
 use Rattle.tab_stands.specs.Delivering.{IsDelivery, IsMadeNoted, step_ready}
-use Rattle.tab_stands.specs.Standing.{HasBegun, HasRoomFor, StandsFor}
+use Rattle.tab_stands.specs.Standing.{HasBegun, HasRoomFor, StandsFor, StartsUnasked}
 use Rattle.load_table.specs.declared.phase.Phase.TheVariants as phases
 use Rattle.log_model.specs.declared.job.Task.TheVariants as tasks
 use Rattle.log_model.specs.declared.made.Report.TheVariants as reports
@@ -97,7 +97,7 @@ ready_of_tab table doc step has = by_found (find (is_populating doc) table) has
     by_found (Some load) (inl same) = subst (λ (x : QueueStep). IsOfTab x) same tt
     by_found (Some load) (inr never) = absurd never
 
-module _ (e : InEvent) (proc : ProcId) (job : Job) (outcome : Outcome) (del : IsDelivery e proc (reports.Done job outcome None)) (t : Tables) (queue : Queue) (blame : List (StateId × ReqId)) (stands : StandsFor e.start t queue blame) (nav : NavId) (state : StateId) (address : List ℕ) (initial : Bool) (task : job.task ≡ tasks.Populate nav state address initial) (one_each : HasOneEach t.loads) where
+module _ (e : InEvent) (proc : ProcId) (job : Job) (outcome : Outcome) (del : IsDelivery e proc (reports.Done job outcome None)) (t : Tables) (queue : Queue) (blame : List (StateId × ReqId)) (stands : StandsFor e.start t queue blame) (aside : StartsUnasked e) (nav : NavId) (state : StateId) (address : List ℕ) (initial : Bool) (task : job.task ≡ tasks.Populate nav state address initial) (one_each : HasOneEach t.loads) where
   abbrev report : Report
   report = reports.Done job outcome None
 
@@ -105,13 +105,13 @@ module _ (e : InEvent) (proc : ProcId) (job : Job) (outcome : Outcome) (del : Is
   s = e.start
 
   abbrev n : Seen
-  n = did e proc job outcome del t queue blame stands
+  n = did e proc job outcome del t queue blame stands aside
 
   abbrev own : Document
-  own = d e proc job outcome del t queue blame stands nav state address initial task
+  own = d e proc job outcome del t queue blame stands aside nav state address initial task
 
   abbrev same : n.requests ≡ e.start.requests
-  same = did_requests e proc job outcome del t queue blame stands (made_asks e proc job outcome del t queue blame stands nav state address initial task)
+  same = did_requests e proc job outcome del t queue blame stands aside (made_asks e proc job outcome del t queue blame stands aside nav state address initial task)
 
   abbrev made_if : Document → Document
   made_if x = made_at job.doc x
@@ -126,7 +126,7 @@ module _ (e : InEvent) (proc : ProcId) (job : Job) (outcome : Outcome) (del : Is
   for_own : (of : StateId) → own.state ≡ of → is_for_state of own ≡ true
   for_own of is =
       let eq : (own.state.0 == of.0) ≡ true = ap (λ (x : StateId). x.0 == of.0) is ∙ nat_eq_refl of.0 in
-      rw (eq, undiscarded e proc job outcome del t queue blame stands nav state address initial task, unknown e proc job outcome del t queue blame stands nav state address initial task) refl
+      rw (eq, undiscarded e proc job outcome del t queue blame stands aside nav state address initial task, unknown e proc job outcome del t queue blame stands aside nav state address initial task) refl
 
   -- it is the document that the log has for its state
   made_is : (of : StateId) → own.state ≡ of → made_for s.documents of ≡ Some own
@@ -134,7 +134,7 @@ module _ (e : InEvent) (proc : ProcId) (job : Job) (outcome : Outcome) (del : Is
     where
       own_has : Has s.documents own
       own_has =
-          (find_has (λ (x : Document). x.nr.0 == job.doc.0) s.documents own (its_found e proc job outcome del t queue blame stands nav state address initial task)).0
+          (find_has (λ (x : Document). x.nr.0 == job.doc.0) s.documents own (its_found e proc job outcome del t queue blame stands aside nav state address initial task)).0
 
       three : (a b c : Bool) → (a && not (b || c)) ≡ true → (a ≡ true) × (b ≡ false)
       three true false c h = (refl, refl)
@@ -149,8 +149,8 @@ module _ (e : InEvent) (proc : ProcId) (job : Job) (outcome : Outcome) (del : Is
           let parts = find_has (is_for_state of) s.documents x found in
           let both = three (x.state.0 == of.0) x.is_discarded x.is_known_dead parts.1 in
           let at : document_of s x.nr ≡ Some x = found_itself s.documents x stands.between.tab.whose.numbered parts.0 in
-          let states : x.state ≡ state = ap (λ (i : ℕ). let y : StateId = record { 0 = i } in y) (eqb-true x.state.0 of.0 both.0) ∙ sym is ∙ its_state e proc job outcome del t queue blame stands nav state address initial task in
-          let it : x ≡ own = sole_one e proc job outcome del t queue blame stands nav state address initial task x x.nr at states both.1 in
+          let states : x.state ≡ state = ap (λ (i : ℕ). let y : StateId = record { 0 = i } in y) (eqb-true x.state.0 of.0 both.0) ∙ sym is ∙ its_state e proc job outcome del t queue blame stands aside nav state address initial task in
+          let it : x ≡ own = sole_one e proc job outcome del t queue blame stands aside nav state address initial task x x.nr at states both.1 in
           found ∙ ap (λ (y : Document). let o : Option Document = Some y in o) it
 
   joins : (r : ReqId) (q : Asked) (of : NavId) → request_of s r ≡ Some q → is_ongoing_load q ≡ true → loads of q.what ≡ true → q.state ≡ Some own.state → Has (step_ready t.loads job.doc) (Ready r of)
@@ -162,8 +162,8 @@ module _ (e : InEvent) (proc : ProcId) (job : Job) (outcome : Outcome) (del : Is
       let asked : q ≡ tied.q = cc in
       let states : Some own.state ≡ Some has.load.state = sym is ∙ ap (λ (x : Asked). x.state) asked ∙ tied.state in
       let state_is : own.state ≡ has.load.state = cc in
-      let phase : has.load.phase ≡ phases.Populating own.nr = tied.phase ∙ ap (λ (o : Option Document). phase_with o) (made_is has.load.state state_is) ∙ new_phase own (not_ready e proc job outcome del t queue blame stands nav state address initial task) in
-      let waits : is_populating job.doc has.load ≡ true = ap (λ (p : Phase). makes job.doc p) phase ∙ ap (λ (i : ℕ). i == job.doc.0) (its_number e proc job outcome del t queue blame stands nav state address initial task) ∙ nat_eq_refl job.doc.0 in
+      let phase : has.load.phase ≡ phases.Populating own.nr = tied.phase ∙ ap (λ (o : Option Document). phase_with o) (made_is has.load.state state_is) ∙ new_phase own (not_ready e proc job outcome del t queue blame stands aside nav state address initial task) in
+      let waits : is_populating job.doc has.load ≡ true = ap (λ (p : Phase). makes job.doc p) phase ∙ ap (λ (i : ℕ). i == job.doc.0) (its_number e proc job outcome del t queue blame stands aside nav state address initial task) ∙ nat_eq_refl job.doc.0 in
       let first : find (is_populating job.doc) t.loads ≡ Some has.load = once of has.load has.at waits in
       subst (λ (o : Option Load). Has (option_map_or (λ (load : Load). Ready load.req load.nav ∷ []) o []) (Ready r of)) (sym first)
       (inl (ap (λ (x : ReqId). Ready x has.load.nav) has.req_is ∙ ap (λ (x : NavId). Ready r x) (found_nav of t.loads has.load has.at)))
@@ -188,7 +188,7 @@ module _ (e : InEvent) (proc : ProcId) (job : Job) (outcome : Outcome) (del : Is
 
           was : IsOf made_if s.documents usable.it
           was =
-              has_map made_if s.documents usable.it (subst (λ (l : List Document). Has l usable.it) (documents_are e proc job outcome del t queue blame stands nav state address initial task) usable.there)
+              has_map made_if s.documents usable.it (subst (λ (l : List Document). Has l usable.it) (documents_are e proc job outcome del t queue blame stands aside nav state address initial task) usable.there)
 
           passes : is_usable (made_if was.it) x ≡ true
           passes = ap (λ (y : Document). is_usable y x) was.is ∙ usable.passes
@@ -199,10 +199,10 @@ module _ (e : InEvent) (proc : ProcId) (job : Job) (outcome : Outcome) (del : Is
 
           by_test : (b : Bool) → (was.it.nr.0 == job.doc.0) ≡ b → (is_ready_load s q ≡ true) ⊎ (own.state ≡ x)
           by_test true at_ =
-              let it : was.it ≡ own = the_one e proc job outcome del t queue blame stands nav state address initial task was.it was.there at_ in
+              let it : was.it ≡ own = the_one e proc job outcome del t queue blame stands aside nav state address initial task was.it was.there at_ in
               let state_is : ((made_if was.it).state.0 == x.0) ≡ true = first ((made_if was.it).state.0 == x.0) (made_if was.it).is_ready (made_if was.it).is_discarded (made_if was.it).is_known_dead passes in
               let states : (made_if was.it).state ≡ x = ap (λ (i : ℕ). let y : StateId = record { 0 = i } in y) (eqb-true (made_if was.it).state.0 x.0 state_is) in
-              inr (ap (λ (y : Document). y.state) (sym it) ∙ sym (made_state e proc job outcome del t queue blame stands nav state address initial task was.it) ∙ states)
+              inr (ap (λ (y : Document). y.state) (sym it) ∙ sym (made_state e proc job outcome del t queue blame stands aside nav state address initial task was.it) ∙ states)
           by_test false at_ =
               let unchanged : made_if was.it ≡ was.it = ap (λ (b : Bool). let y : Document = cond b (record was.it { is_ready = true; is_fresh = true }) was.it in y) at_ in
               let had : list_any (λ (y : Document). is_usable y x) s.documents ≡ true = has_any (λ (y : Document). is_usable y x) s.documents was.it was.there (ap (λ (y : Document). is_usable y x) (sym unchanged) ∙ passes) in
@@ -235,9 +235,9 @@ module _ (e : InEvent) (proc : ProcId) (job : Job) (outcome : Outcome) (del : Is
 
   joined_then : (run : Option ReqId) (steps : List QueueStep) → HaveJoined s run steps → HaveJoined n run steps
   joined_then None steps have =
-      subst (λ (l : List ReqId). AreStepsOf n.requests l steps) (sym (did_joined e proc job outcome del t queue blame stands)) (subst (λ (l : List Asked). AreStepsOf l s.joined steps) (sym same) have)
+      subst (λ (l : List ReqId). AreStepsOf n.requests l steps) (sym (did_joined e proc job outcome del t queue blame stands aside)) (subst (λ (l : List Asked). AreStepsOf l s.joined steps) (sym same) have)
   joined_then (Some run) steps have =
-      record { rest = have.rest; joined = did_joined e proc job outcome del t queue blame stands ∙ have.joined; steps_ = subst (λ (l : List Asked). AreStepsOf l have.rest steps) (sym same) have.steps_ }
+      record { rest = have.rest; joined = did_joined e proc job outcome del t queue blame stands aside ∙ have.joined; steps_ = subst (λ (l : List Asked). AreStepsOf l have.rest steps) (sym same) have.steps_ }
 
   queue_then : HasQueue n t.running waiting
   queue_then =
@@ -257,35 +257,35 @@ module _ (e : InEvent) (proc : ProcId) (job : Job) (outcome : Outcome) (del : Is
     holds_then : Holds (sights_of n t.running) u
     holds_then =
         placed_holds (sights_of s t.running) (sights_of n t.running) t job.doc state (sight own) stands.tied.holds
-        (ap (λ (l : List Document). map sight l) (documents_now e proc job outcome del t queue blame stands nav state address initial task) ∙ sights_document job.doc made_of made_ready (λ x. refl) s.documents)
-        (places_now e proc job outcome del t queue blame stands nav state address initial task) refl (told_moved e proc del.by_coord del.own t queue blame stands report del.first same) refl refl refl
-        (seen_found e proc job outcome del t queue blame stands nav state address initial task)
-        (its_own e proc job outcome del t queue blame stands nav state address initial task)
-        (undiscarded e proc job outcome del t queue blame stands nav state address initial task)
-        (unknown e proc job outcome del t queue blame stands nav state address initial task)
-        (being e proc job outcome del t queue blame stands nav state address initial task)
-        (unplaced e proc job outcome del t queue blame stands nav state address initial task) u one
+        (ap (λ (l : List Document). map sight l) (documents_now e proc job outcome del t queue blame stands aside nav state address initial task) ∙ sights_document job.doc made_of made_ready (λ x. refl) s.documents)
+        (places_now e proc job outcome del t queue blame stands aside nav state address initial task) refl (told_moved e proc del.by_coord del.own t queue blame stands aside report del.first same) refl refl refl
+        (seen_found e proc job outcome del t queue blame stands aside nav state address initial task)
+        (its_own e proc job outcome del t queue blame stands aside nav state address initial task)
+        (undiscarded e proc job outcome del t queue blame stands aside nav state address initial task)
+        (unknown e proc job outcome del t queue blame stands aside nav state address initial task)
+        (being e proc job outcome del t queue blame stands aside nav state address initial task)
+        (unplaced e proc job outcome del t queue blame stands aside nav state address initial task) u one
 
     loads_then_ : TiesLoads n u.loads
     loads_then_ =
-        let slot = its_outcome e proc job outcome del t queue blame stands nav state address initial task in
+        let slot = its_outcome e proc job outcome del t queue blame stands aside nav state address initial task in
         noted_loads s e.event actors.Coord proc job slot.0 (del.first ∙ ap (λ (o : Outcome). let r : Option Report = Some (reports.Done job o None) in r) slot.1) state t u once one stands.tied.loads
 
     tied : AreTied (now_of e []) u
     tied =
-        told_tied e proc del.by_coord del.own t queue blame stands report del.first same u kept holds_then loads_then_ one.initial
-        (ap (λ (k : Kept). k.states) one.kept ∙ stands.tied.kept ∙ sym (states_alike s.documents n.documents (states_kept e proc job outcome del t queue blame stands nav state address initial task) s.kept) ∙ ap (λ (l : List DocId). filter_map (state_in n.documents) l) (sym (told_kept e proc del.by_coord del.own t queue blame stands report del.first)))
-        (subst (λ (i : ℕ). i ≤ s.jobs + 1) (sym (ap (λ (l : List Document). length l) (documents_are e proc job outcome del t queue blame stands nav state address initial task) ∙ length-map s.documents made_if)) stands.tied.few)
+        told_tied e proc del.by_coord del.own t queue blame stands aside report del.first same u kept holds_then loads_then_ one.initial
+        (ap (λ (k : Kept). k.states) one.kept ∙ stands.tied.kept ∙ sym (states_alike s.documents n.documents (states_kept e proc job outcome del t queue blame stands aside nav state address initial task) s.kept) ∙ ap (λ (l : List DocId). filter_map (state_in n.documents) l) (sym (told_kept e proc del.by_coord del.own t queue blame stands aside report del.first)))
+        (subst (λ (i : ℕ). i ≤ s.jobs + 1) (sym (ap (λ (l : List Document). length l) (documents_are e proc job outcome del t queue blame stands aside nav state address initial task) ∙ length-map s.documents made_if)) stands.tied.few)
 
     abbrev p : InPass
     p = record { event = e; loads = []; hand = [] }
 
     pub placed_begun : HasRoomFor e.start → t.kept.keep ≡ e.header.keep → (left : Queue) → left ≡ record queue { waiting = queue.waiting ++ step_ready t.loads job.doc } → (noted : List (StateId × ReqId)) → IsMadeNoted (now_of e []) blame noted job.doc state → HasBegun (record { event = e; loads = []; hand = [] }) u left noted
     placed_begun room header left pushed noted notes =
-        begun p u left noted (between_as t u kept s stands.between) (lasts_as t u kept s stands.lasts) (goal_as t u kept s.requests stands.tied.goal) (kept.keep ∙ header) (ap (λ (k : RowKind). leads k) del.own) (subst (λ (a : Actor). IsWorker a) (sym del.by_coord) tt)
-        (told_legal e proc del.by_coord del.own t queue blame stands report del.first)
+        begun p u left noted (between_as t u kept s stands.between) (lasts_as t u kept s stands.lasts) (goal_as t u kept s.requests stands.tied.goal) (kept.keep ∙ header) aside (ap (λ (k : RowKind). leads k) del.own) (subst (λ (a : Actor). IsWorker a) (sym del.by_coord) tt)
+        (told_legal e proc del.by_coord del.own t queue blame stands aside report del.first)
         tied
-        (subst (λ (r : Option ReqId). IsGoing r [] [] (now_of e [])) (sym kept.running) (told_going e proc del.by_coord del.own t queue blame stands report del.first same room [] [] (did_tab e proc job outcome del t queue blame stands) (told_held e proc del.by_coord del.own t queue blame stands report del.first same (did_parked e proc job outcome del t queue blame stands)) (rw (places_now e proc job outcome del t queue blame stands nav state address initial task) stands.lasts.counted.epochs)))
-        (told_rests e proc del.by_coord del.own t queue blame stands report del.first)
-        (made_comes e proc job outcome del t queue blame stands nav state address initial task noted (subst (λ (x : Seen). IsMadeNoted x blame noted job.doc state) (did_now e proc job outcome del t queue blame stands) notes))
-        (did_queueing e proc job outcome del t queue blame stands (made_asks e proc job outcome del t queue blame stands nav state address initial task) u kept left (subst (λ (l : List QueueStep). HasQueue n t.running l) (sym (ap (λ (q : Queue). q.waiting) pushed)) queue_then) (ap (λ (q : Queue). q.parked) pushed))
+        (subst (λ (r : Option ReqId). IsGoing r [] [] (now_of e [])) (sym kept.running) (told_going e proc del.by_coord del.own t queue blame stands aside report del.first same room [] [] (did_tab e proc job outcome del t queue blame stands aside) (told_held e proc del.by_coord del.own t queue blame stands aside report del.first same (did_parked e proc job outcome del t queue blame stands aside)) (rw (places_now e proc job outcome del t queue blame stands aside nav state address initial task) stands.lasts.counted.epochs)))
+        (told_rests e proc del.by_coord del.own t queue blame stands aside report del.first)
+        (made_comes e proc job outcome del t queue blame stands aside nav state address initial task noted (subst (λ (x : Seen). IsMadeNoted x blame noted job.doc state) (did_now e proc job outcome del t queue blame stands aside) notes))
+        (did_queueing e proc job outcome del t queue blame stands aside (made_asks e proc job outcome del t queue blame stands aside nav state address initial task) u kept left (subst (λ (l : List QueueStep). HasQueue n t.running l) (sym (ap (λ (q : Queue). q.waiting) pushed)) queue_then) (ap (λ (q : Queue). q.parked) pushed))

@@ -28,7 +28,7 @@ use Rattle.tab_stands.proofs.Stays.{stands_still}
 use Rattle.tab_stands.proofs.Waiting.{queued_still}
 use Rattle.tab_stands.specs.Offs.{AreShownUnder}
 use Rattle.tab_stands.specs.Poking.{ReachesOne}
-use Rattle.tab_stands.specs.Standing.{HasActed, HasRoomFor, StandsFor}
+use Rattle.tab_stands.specs.Standing.{HasActed, HasRoomFor, StandsFor, StartsUnasked}
 use Rattle.log_model.specs.declared.request.Request.TheVariants as requests
 use Rattle.log_model.specs.declared.row_kind.Actor.TheVariants as actors
 use Rattle.log_model.specs.declared.row_kind.RowKind.TheVariants as rows
@@ -36,7 +36,7 @@ use Rattle.log_model.specs.declared.row_kind.RowKind.TheVariants as rows
 some_same : {A : Type 0} {a b : A} → (let o : Option A = Some a in o) ≡ Some b → a ≡ b
 some_same e = cc
 
-module _ (e : InEvent) (t : Tables) (queue : Queue) (blame : List (StateId × ReqId)) (stands : StandsFor e.start t queue blame) (room : HasRoomFor e.start) (req : ReqId) (nav : NavId) (action : Action) (fine : IsNoEditing action) (reached : DocId) (by_user : e.actor ≡ actors.Ui) (own : e.own ≡ rows.Accepted req (Some reached) (requests.Poke nav action)) (nr : req.0 ≡ length e.start.requests + 1) (its : ReachesOne e.start nav reached) where
+module _ (e : InEvent) (t : Tables) (queue : Queue) (blame : List (StateId × ReqId)) (stands : StandsFor e.start t queue blame) (aside : StartsUnasked e) (room : HasRoomFor e.start) (req : ReqId) (nav : NavId) (action : Action) (fine : IsNoEditing action) (reached : DocId) (by_user : e.actor ≡ actors.Ui) (own : e.own ≡ rows.Accepted req (Some reached) (requests.Poke nav action)) (nr : req.0 ≡ length e.start.requests + 1) (its : ReachesOne e.start nav reached) where
   abbrev poke : Request
   poke = requests.Poke nav action
 
@@ -44,7 +44,7 @@ module _ (e : InEvent) (t : Tables) (queue : Queue) (blame : List (StateId × Re
   doc = Some reached
 
   abbrev n : Seen
-  n = went e req doc poke by_user own nr
+  n = went e req doc poke by_user own nr aside
 
   its_own : (x : DocId) → doc ≡ Some x → IsOfItsNav e.start.documents (wish (new_request req doc poke)) x
   its_own x is =
@@ -59,23 +59,23 @@ module _ (e : InEvent) (t : Tables) (queue : Queue) (blame : List (StateId × Re
 
   stands_then : StandsFor (now_of e []) t queue blame
   stands_then =
-      stands_still e t queue blame stands (now_of e []) (comes_now e req doc poke by_user own nr t queue blame stands)
+      stands_still e t queue blame stands (now_of e []) (comes_now e req doc poke by_user own nr aside t queue blame stands)
       (subst (λ (x : Seen). IsBetween t.kept.keep t.running x) (sym then_) between)
-      (goes_on e req doc poke by_user own nr t queue blame stands room its_own [] between.tab)
-      (tied_now e req doc poke by_user own nr t queue blame stands [] between.tab)
-      (makes_first e (ap (λ (k : RowKind). leads k) own) (comes_now e req doc poke by_user own nr t queue blame stands).serves stands.lasts.makes)
-      (sound_first e (ap (λ (k : RowKind). leads k) own) (keeps_coming blame e.start (now_of e []) (comes_now e req doc poke by_user own nr t queue blame stands)) stands.lasts.sound)
+      (goes_on e req doc poke by_user own nr aside t queue blame stands room its_own [] between.tab)
+      (tied_now e req doc poke by_user own nr aside t queue blame stands [] between.tab)
+      (makes_first e aside (ap (λ (k : RowKind). leads k) own) (comes_now e req doc poke by_user own nr aside t queue blame stands).serves stands.lasts.makes)
+      (sound_first e aside (ap (λ (k : RowKind). leads k) own) (keeps_coming blame e.start (now_of e []) (comes_now e req doc poke by_user own nr aside t queue blame stands)) stands.lasts.sound)
       (subst (λ (x : Seen). AreShownUnder x) (sym then_) (accepted_under e.start e.event actors.Ui req doc poke stands.lasts.shows))
-      (subst (λ (x : Seen). AreLeftStrays x blame) (sym then_) (strays_still e req doc poke by_user own nr t queue blame stands))
-      (subst (λ (x : Seen). HasQueue x t.running queue.waiting) (sym then_) (queued_still e req doc poke by_user own nr t queue blame stands unjoined))
-      (parked_now e req doc poke by_user own nr t queue blame stands)
+      (subst (λ (x : Seen). AreLeftStrays x blame) (sym then_) (strays_still e req doc poke by_user own nr aside t queue blame stands))
+      (subst (λ (x : Seen). HasQueue x t.running queue.waiting) (sym then_) (queued_still e req doc poke by_user own nr aside t queue blame stands unjoined))
+      (parked_now e req doc poke by_user own nr aside t queue blame stands)
     where
       then_ : now_of e [] ≡ n
-      then_ = now e req doc poke by_user own nr
+      then_ = now e req doc poke by_user own nr aside
 
   pub poke_acts : HasActed e [] t queue blame
   poke_acts =
       record {
-        stands = stands_then;
-        passes = subst (λ (row : LogRow). EachPass (start_of e) (row ∷ []) []) (sym (its_row e req doc poke by_user own nr)) (poke_passes e.header e.start e.event req nav reached its.d its.first its.others action nr its.row its.run its.reaches its.nr, tt);
+        stands = subst (λ (x : Seen). StandsFor x t queue blame) (sym aside.plain) stands_then;
+        passes = subst (λ (row : LogRow). EachPass (start_of e) (row ∷ []) []) (sym (its_row e req doc poke by_user own nr aside)) (poke_passes e.header e.start e.event req nav reached its.d its.first its.others action nr its.row its.run its.reaches its.nr, tt);
       }

@@ -34,7 +34,6 @@ use Rattle.seen_facts.proofs.Rest.Stands.{all_requests}
 use Rattle.row_facts.proofs.RestRows.Rows.{delivered_rests}
 use Rattle.row_facts.specs.RestRows.Moving.{AllRest}
 use Rattle.seen_laws.proofs.Deliveries.{delivered_may, delivered_row}
-use Rattle.seen_laws.proofs.InEvents.{now_own}
 use Rattle.seen_laws.specs.Blocks.{EachPass, point_at}
 use Rattle.seen_laws.specs.InEvent.{AreLegal, InEvent, now_of, row_of, start_of}
 use Rattle.std.proofs.Common.{Bool, List, None, Option, Some, [], ap, arith, false, inl, inr, length, map, not, refl, subst, sym, true, ℕ, ◌&&◌, ◌+◌, ◌<◌, ◌∙◌, ◌∷◌, ◌≡◌, ◌≤◌, ◌⊎◌}
@@ -57,7 +56,7 @@ use Rattle.tab_ids.specs.declared.Step.{Step}
 use Rattle.tab_settles.specs.Settling.{IsTurning}
 use Rattle.tab_stands.proofs.Accepting.{number_low}
 use Rattle.tab_stands.proofs.Coming.{IsComing, OnlyArrives}
-use Rattle.tab_stands.specs.Standing.{HasRoomFor, Lasts, StandsFor}
+use Rattle.tab_stands.specs.Standing.{HasRoomFor, Lasts, StandsFor, StartsUnasked}
 use Rattle.log_model.specs.declared.made.Report.TheVariants as reports
 use Rattle.log_model.specs.declared.row_kind.Actor.TheVariants as actors
 use Rattle.log_model.specs.declared.row_kind.RowKind.TheVariants as rows
@@ -74,7 +73,7 @@ pub goal_as : (t u : Tables) → KeepsRun t u → (asked : List Asked) → HasGo
 goal_as t u kept asked has req q is at =
     has req q (sym kept.running ∙ is) at ∙ ap (λ (g : Step). let o : Option Step = Some g in o) (sym kept.goal)
 
-module _ (e : InEvent) (proc : ProcId) (by_coord : e.actor ≡ actors.Coord) (own : e.own ≡ rows.Delivered proc) (t : Tables) (queue : Queue) (blame : List (StateId × ReqId)) (stands : StandsFor e.start t queue blame) (report : Report) (first : slice_get (desk_of e.start proc).reports 0 ≡ Some report) where
+module _ (e : InEvent) (proc : ProcId) (by_coord : e.actor ≡ actors.Coord) (own : e.own ≡ rows.Delivered proc) (t : Tables) (queue : Queue) (blame : List (StateId × ReqId)) (stands : StandsFor e.start t queue blame) (aside : StartsUnasked e) (report : Report) (first : slice_get (desk_of e.start proc).reports 0 ≡ Some report) where
   abbrev s : Seen
   s = e.start
 
@@ -83,7 +82,7 @@ module _ (e : InEvent) (proc : ProcId) (by_coord : e.actor ≡ actors.Coord) (ow
 
   pub told_now : now_of e [] ≡ told
   told_now =
-      now_own e
+      sym aside.plain
       ∙ (ap (λ (a : Actor). next e.start e.event a e.own) by_coord
       ∙ ap (λ (k : RowKind). next e.start e.event actors.Coord k) own)
 

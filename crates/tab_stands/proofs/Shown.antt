@@ -46,7 +46,7 @@ use Rattle.tab_stands.proofs.Coming.{OnlyArrives}
 use Rattle.tab_stands.proofs.Dones.{AsksNone, did, did_outcome, did_parked, did_queue, did_queueing, did_requests, did_tab}
 use Rattle.tab_stands.proofs.Reports.{told_comes, told_going, told_held, told_kept, told_legal, told_moved, told_rests, told_tied}
 use Rattle.tab_stands.specs.Delivering.{IsDelivery, IsShowTask}
-use Rattle.tab_stands.specs.Standing.{HasBegun, HasRoomFor, StandsFor}
+use Rattle.tab_stands.specs.Standing.{HasBegun, HasRoomFor, StandsFor, StartsUnasked}
 use Rattle.seen_facts.specs.Transit.Orders.{IsOutcomeOf}
 use Rattle.log_model.specs.declared.job.Task.TheVariants as tasks
 use Rattle.log_model.specs.declared.made.Report.TheVariants as reports
@@ -84,7 +84,7 @@ same_epoch : (nav : NavId) (job : Job) (p : Place) → (let x : Place = cond (p.
 same_epoch nav job p =
     elim (p.nav.0 == nav.0) as (λ b. (let x : Place = cond b (place_arrived job p) p in x).epoch ≡ p.epoch) [ true ↦ refl | false ↦ refl ]
 
-module _ (e : InEvent) (proc : ProcId) (job : Job) (outcome : Outcome) (del : IsDelivery e proc (reports.Done job outcome None)) (t : Tables) (queue : Queue) (blame : List (StateId × ReqId)) (stands : StandsFor e.start t queue blame) where
+module _ (e : InEvent) (proc : ProcId) (job : Job) (outcome : Outcome) (del : IsDelivery e proc (reports.Done job outcome None)) (t : Tables) (queue : Queue) (blame : List (StateId × ReqId)) (stands : StandsFor e.start t queue blame) (aside : StartsUnasked e) where
   abbrev report : Report
   report = reports.Done job outcome None
 
@@ -92,7 +92,7 @@ module _ (e : InEvent) (proc : ProcId) (job : Job) (outcome : Outcome) (del : Is
   s = e.start
 
   abbrev n : Seen
-  n = did e proc job outcome del t queue blame stands
+  n = did e proc job outcome del t queue blame stands aside
 
   its_order : IsOrderIn s.documents s.places proc job
   its_order = (its_report t.running s e.event proc stands.between.tab stands.between.flows report del.first).0
@@ -123,10 +123,10 @@ module _ (e : InEvent) (proc : ProcId) (job : Job) (outcome : Outcome) (del : Is
         by_task (tasks.Ask slot cause) never = absurd never
 
     abbrev same : n.requests ≡ e.start.requests
-    same = did_requests e proc job outcome del t queue blame stands asks
+    same = did_requests e proc job outcome del t queue blame stands aside asks
 
     its_outcome : outcome ≡ outcomes.Activated
-    its_outcome = by_task job.task outcome shows (did_outcome e proc job outcome del t queue blame stands)
+    its_outcome = by_task job.task outcome shows (did_outcome e proc job outcome del t queue blame stands aside)
       where
         by_task : (task : Task) (o : Outcome) → IsShowTask task → IsOutcomeOf task o → o ≡ outcomes.Activated
         by_task (tasks.Activate entry epoch long at memo address) outcomes.Activated is its = refl
@@ -179,10 +179,10 @@ module _ (e : InEvent) (proc : ProcId) (job : Job) (outcome : Outcome) (del : Is
 
     tied : AreTied (now_of e []) noted
     tied =
-        told_tied e proc del.by_coord del.own t queue blame stands report del.first same noted kept_run
-        (arrived_holds (sights_of s t.running) (sights_of n t.running) t job.doc job.nr (sight d) stands.tied.holds (sight_at s job.doc d its_order.lives.found) (ap (λ (l : List Document). map sight l) documents_same) places_are refl (told_moved e proc del.by_coord del.own t queue blame stands report del.first same) refl refl refl)
+        told_tied e proc del.by_coord del.own t queue blame stands aside report del.first same noted kept_run
+        (arrived_holds (sights_of s t.running) (sights_of n t.running) t job.doc job.nr (sight d) stands.tied.holds (sight_at s job.doc d its_order.lives.found) (ap (λ (l : List Document). map sight l) documents_same) places_are refl (told_moved e proc del.by_coord del.own t queue blame stands aside report del.first same) refl refl refl)
         (delivered_tied s e.event actors.Coord t.loads stands.tied.loads proc tells_none) refl
-        (stands.tied.kept ∙ ap (λ (l : List Document). filter_map (state_in l) s.kept) (sym documents_same) ∙ ap (λ (l : List DocId). filter_map (state_in n.documents) l) (sym (told_kept e proc del.by_coord del.own t queue blame stands report del.first)))
+        (stands.tied.kept ∙ ap (λ (l : List Document). filter_map (state_in l) s.kept) (sym documents_same) ∙ ap (λ (l : List DocId). filter_map (state_in n.documents) l) (sym (told_kept e proc del.by_coord del.own t queue blame stands aside report del.first)))
         (subst (λ (l : List Document). length l ≤ s.jobs + 1) (sym documents_same) stands.tied.few)
 
     abbrev p : InPass
@@ -190,13 +190,13 @@ module _ (e : InEvent) (proc : ProcId) (job : Job) (outcome : Outcome) (del : Is
 
     begun_noted : HasRoomFor e.start → t.kept.keep ≡ e.header.keep → HasBegun (record { event = e; loads = []; hand = [] }) noted queue blame
     begun_noted room header =
-        begun p noted queue blame stands.between stands.lasts stands.tied.goal header (ap (λ (k : RowKind). leads k) del.own) (subst (λ (a : Actor). IsWorker a) (sym del.by_coord) tt)
-        (told_legal e proc del.by_coord del.own t queue blame stands report del.first)
+        begun p noted queue blame stands.between stands.lasts stands.tied.goal header aside (ap (λ (k : RowKind). leads k) del.own) (subst (λ (a : Actor). IsWorker a) (sym del.by_coord) tt)
+        (told_legal e proc del.by_coord del.own t queue blame stands aside report del.first)
         tied
-        (told_going e proc del.by_coord del.own t queue blame stands report del.first same room [] [] (did_tab e proc job outcome del t queue blame stands) (told_held e proc del.by_coord del.own t queue blame stands report del.first same (did_parked e proc job outcome del t queue blame stands)) epochs_then)
-        (told_rests e proc del.by_coord del.own t queue blame stands report del.first)
-        (told_comes e proc del.by_coord del.own t queue blame stands report del.first same g (arrives_at d.nav job) places_are documents_same)
-        (did_queueing e proc job outcome del t queue blame stands asks noted kept_run queue (did_queue e proc job outcome del t queue blame stands asks documents_same) refl)
+        (told_going e proc del.by_coord del.own t queue blame stands aside report del.first same room [] [] (did_tab e proc job outcome del t queue blame stands aside) (told_held e proc del.by_coord del.own t queue blame stands aside report del.first same (did_parked e proc job outcome del t queue blame stands aside)) epochs_then)
+        (told_rests e proc del.by_coord del.own t queue blame stands aside report del.first)
+        (told_comes e proc del.by_coord del.own t queue blame stands aside report del.first same g (arrives_at d.nav job) places_are documents_same)
+        (did_queueing e proc job outcome del t queue blame stands aside asks noted kept_run queue (did_queue e proc job outcome del t queue blame stands aside asks documents_same) refl)
 
     pub shown_begun : HasRoomFor e.start → t.kept.keep ≡ e.header.keep → (u : Tables) → u ≡ record t { tree = shown_tree t job.doc job.nr } → HasBegun (record { event = e; loads = []; hand = [] }) u queue blame
     shown_begun room header u is =

@@ -1,4 +1,5 @@
 -- What a document made was taken up, refused or dropped as its report was delivered: the tab may be brought to rest.
+use Rattle.row_facts.proofs.FrameRows.LawfulLaws.{ends_seen}
 use Rattle.seen_facts.specs.Asked.Asking.{IsTabRequest}
 use Rattle.tab_facts.specs.Calm.Calm.{IsCalm, IsHere}
 use Rattle.seen_facts.proofs.Coord.Held.{held_alike, without_same}
@@ -56,7 +57,7 @@ use Rattle.tab_stands.proofs.Reports.{told_row}
 use Rattle.tab_stands.proofs.Taking.{begun, there_now, unparked_now, unstarted}
 use Rattle.tab_stands.specs.Delivering.{IsDelivery, IsToldOf}
 use Rattle.tab_stands.specs.Offs.{AreOffKnown, IsOffSince}
-use Rattle.tab_stands.specs.Standing.{HasBegun, HasRoomFor, IsTakenUp, StandsFor}
+use Rattle.tab_stands.specs.Standing.{HasBegun, HasRoomFor, IsTakenUp, StandsFor, StartsUnasked}
 use Rattle.seen_facts.proofs.Walk.Placed.{found_nav}
 use Rattle.log_model.specs.declared.request.Request.TheVariants as requests
 use Rattle.log_model.specs.declared.job.Why.TheVariants as whys
@@ -80,7 +81,7 @@ theirs_ended s n req its theirs r q made at load makes =
     by_home (Some d) there same =
         record { d = d; found = there; nav_is = ap (λ (w : Wish). nav_of_request w.what) (sym asked.2) ∙ had.nav_is ∙ sym same }
 
-module _ (e : InEvent) (proc : ProcId) (report : Report) (made : Made) (del : IsDelivery e proc report) (tells : IsToldOf report made) (t : Tables) (queue : Queue) (blame : List (StateId × ReqId)) (stands : StandsFor e.start t queue blame) (changes : changes_history made.what ≡ true) (free : is_held_back e.start made ≡ false) (room : HasRoomFor e.start) (header : t.kept.keep ≡ e.header.keep) (out : List RowKind) (u : Tables) (noted : List (StateId × ReqId)) (taken : HasTaken (record { event = e; loads = []; hand = made ∷ [] }) t made [] out u noted) where
+module _ (e : InEvent) (proc : ProcId) (report : Report) (made : Made) (del : IsDelivery e proc report) (tells : IsToldOf report made) (t : Tables) (queue : Queue) (blame : List (StateId × ReqId)) (stands : StandsFor e.start t queue blame) (aside : StartsUnasked e) (changes : changes_history made.what ≡ true) (free : is_held_back e.start made ≡ false) (room : HasRoomFor e.start) (header : t.kept.keep ≡ e.header.keep) (out : List RowKind) (u : Tables) (noted : List (StateId × ReqId)) (taken : HasTaken (record { event = e; loads = []; hand = made ∷ [] }) t made [] out u noted) where
   abbrev s : Seen
   s = e.start
 
@@ -91,14 +92,14 @@ module _ (e : InEvent) (proc : ProcId) (report : Report) (made : Made) (del : Is
   n = now_of e out
 
   first : HasBegun (record { event = e; loads = []; hand = made ∷ [] }) t queue blame
-  first = begun e proc report made del tells t queue blame stands changes free room header
+  first = begun e proc report made del tells t queue blame stands aside changes free room header
 
   its : IsEnding f n made.req
   its =
-      subst (λ (x : Seen). IsEnding f x made.req) (sym (ap (λ (l : List RowKind). now_of e l) taken.ended.out ∙ now_more e [] taken.ended.kind)) (is_ending f e taken.ended.kind made.req taken.ended.ends)
+      subst (λ (x : Seen). IsEnding f x made.req) (sym (ap (λ (l : List RowKind). now_of e l) taken.ended.out ∙ now_more e [] taken.ended.kind (ends_seen e taken.ended.kind made.req taken.ended.ends))) (is_ending f e taken.ended.kind made.req taken.ended.ends)
 
   apart : has_req f.parked made.req ≡ false
-  apart = unparked_now e proc report made del tells t queue blame stands changes free room header
+  apart = unparked_now e proc report made del tells t queue blame stands aside changes free room header
 
   parked_out : n.parked ≡ f.parked
   parked_out = its.parked ∙ without_same f.parked made.req apart
@@ -107,7 +108,7 @@ module _ (e : InEvent) (proc : ProcId) (report : Report) (made : Made) (del : Is
   joined_out = taken.queue.joined
 
   release : MayRelease e []
-  release = hand_release e proc report made del tells t queue blame stands free
+  release = hand_release e proc report made del tells t queue blame stands aside free
 
   queueing : IsQueueing (record { event = e; loads = []; hand = [] }) out u queue
   queueing =
@@ -140,7 +141,7 @@ module _ (e : InEvent) (proc : ProcId) (report : Report) (made : Made) (del : Is
 
   reach_s : SameReads reach s.requests n.requests
   reach_s =
-      subst (λ (l : List Asked). SameReads reach l n.requests) (ap (λ (x : Seen). x.requests) (heard_now e proc report made del tells t queue blame stands) ∙ heard_requests e proc report made del tells t queue blame stands)
+      subst (λ (l : List Asked). SameReads reach l n.requests) (ap (λ (x : Seen). x.requests) (heard_now e proc report made del tells t queue blame stands aside) ∙ heard_requests e proc report made del tells t queue blame stands aside)
       (only_reach e [] out (record { more = taken.ended.kind ∷ []; is = taken.ended.out; each = each }))
     where
       each : (kind : RowKind) → (taken.ended.kind ≡ kind) ⊎ ⊥ → IsUnmoving kind
@@ -155,22 +156,22 @@ module _ (e : InEvent) (proc : ProcId) (report : Report) (made : Made) (del : Is
   -- ---- who is late
 
   abbrev asked : IsMadeFor s made
-  asked = its_asked e proc report made del tells t queue blame stands
+  asked = its_asked e proc report made del tells t queue blame stands aside
 
   now_is : n ≡ next f e.event e.actor taken.ended.kind
-  now_is = ap (λ (l : List RowKind). now_of e l) taken.ended.out ∙ now_more e [] taken.ended.kind
+  now_is = ap (λ (l : List RowKind). now_of e l) taken.ended.out ∙ now_more e [] taken.ended.kind (ends_seen e taken.ended.kind made.req taken.ended.ends)
 
   places_f : f.places ≡ s.places
   places_f =
-      ap (λ (x : Seen). x.places) (heard_now e proc report made del tells t queue blame stands) ∙ heard_places e proc report made del tells t queue blame stands
+      ap (λ (x : Seen). x.places) (heard_now e proc report made del tells t queue blame stands aside) ∙ heard_places e proc report made del tells t queue blame stands aside
 
   no_step : IsNoStep f made.req
   no_step =
       record {
         q = asked.q;
-        there = there_now e proc report made del tells t queue blame stands changes free room header;
-        unstarted = unstarted e proc report made del tells t queue blame stands changes free room header;
-        no_reload = by_what asked.q.what (its_plain e proc report made del tells t queue blame stands).what;
+        there = there_now e proc report made del tells t queue blame stands aside changes free room header;
+        unstarted = unstarted e proc report made del tells t queue blame stands aside changes free room header;
+        no_reload = by_what asked.q.what (its_plain e proc report made del tells t queue blame stands aside).what;
         unchanged = (stands.between.tab.movers.ends made.req asked.q asked.there).unchanged asked.open_;
       }
     where
@@ -213,7 +214,7 @@ module _ (e : InEvent) (proc : ProcId) (report : Report) (made : Made) (del : Is
               ap (λ (x : NavId). is_shown s.history.rows s.history.current x) (sym (found_nav s.places nav w.old at_s)) ∙ here.shown
 
       comes : IsComing blame s f
-      comes = heard_comes e proc report made del tells t queue blame stands
+      comes = heard_comes e proc report made del tells t queue blame stands aside
 
       first_step : KeepsStep s f
       first_step =
@@ -251,18 +252,18 @@ module _ (e : InEvent) (proc : ProcId) (report : Report) (made : Made) (del : Is
   -- ---- what is delivered is taken up by that row, where it is to be taken up at once
 
   abbrev h : Seen
-  h = heard e proc report made del tells t queue blame stands
+  h = heard e proc report made del tells t queue blame stands aside
 
   same_up : is_taken_up_at_once f made ≡ is_taken_up_at_once s made
   same_up =
-      ap (λ (x : Seen). is_taken_up_at_once x made) (heard_now e proc report made del tells t queue blame stands)
-      ∙ ap (λ (l : List Document). is_taken_up_at_once (record h { documents = l }) made) (heard_documents e proc report made del tells t queue blame stands)
-      ∙ ap (λ (l : List Place). is_taken_up_at_once (record h { documents = s.documents; places = l }) made) (heard_places e proc report made del tells t queue blame stands)
-      ∙ ap (λ (l : List Asked). is_taken_up_at_once (record h { documents = s.documents; places = s.places; requests = l }) made) (heard_requests e proc report made del tells t queue blame stands)
+      ap (λ (x : Seen). is_taken_up_at_once x made) (heard_now e proc report made del tells t queue blame stands aside)
+      ∙ ap (λ (l : List Document). is_taken_up_at_once (record h { documents = l }) made) (heard_documents e proc report made del tells t queue blame stands aside)
+      ∙ ap (λ (l : List Place). is_taken_up_at_once (record h { documents = s.documents; places = l }) made) (heard_places e proc report made del tells t queue blame stands aside)
+      ∙ ap (λ (l : List Asked). is_taken_up_at_once (record h { documents = s.documents; places = s.places; requests = l }) made) (heard_requests e proc report made del tells t queue blame stands aside)
 
   pub taken_up : IsTakenUp e out
   taken_up later =
-      subst (λ (l : List RowKind). IsTakenIn e (map (row_of e) l ++ later)) (sym taken.ended.out) (subst (λ (r : LogRow). is_delivered_duly (point_at (start_of e) (row_of e taken.ended.kind ∷ later)) r ≡ true) (sym (told_row e proc del.by_coord del.own t queue blame stands report del.first)) (rw (del.first) (rw tells (by_up (is_taken_up_at_once s made) refl))))
+      subst (λ (l : List RowKind). IsTakenIn e (map (row_of e) l ++ later)) (sym taken.ended.out) (subst (λ (r : LogRow). is_delivered_duly (point_at (start_of e) (row_of e taken.ended.kind ∷ later)) r ≡ true) (sym (told_row e proc del.by_coord del.own t queue blame stands aside report del.first)) (rw (del.first) (rw tells (by_up (is_taken_up_at_once s made) refl))))
     where
       by_up : (b : Bool) → is_taken_up_at_once s made ≡ b → implies b (is_taken_up_in made.req (row_of e taken.ended.kind) || list_any (is_taken_up_in made.req) later) ≡ true
       by_up false is = refl

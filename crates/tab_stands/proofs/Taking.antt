@@ -45,7 +45,7 @@ use Rattle.tab_stands.proofs.Dones.{held_first}
 use Rattle.tab_stands.proofs.Hands.{hand_begun}
 use Rattle.tab_stands.proofs.Mades.{IsMadeFor, heard, heard_documents, heard_now, heard_parked, heard_requests, its_asked, its_nav, its_plain}
 use Rattle.tab_stands.specs.Delivering.{IsDelivery, IsToldOf}
-use Rattle.tab_stands.specs.Standing.{HasBegun, HasRoomFor, StandsFor}
+use Rattle.tab_stands.specs.Standing.{HasBegun, HasRoomFor, StandsFor, StartsUnasked}
 use Rattle.log_model.specs.declared.made.What.TheVariants as whats
 use Rattle.log_model.specs.declared.request.Request.TheVariants as requests
 use Rattle.log_model.specs.declared.row_kind.RowKind.TheVariants as rows
@@ -59,25 +59,24 @@ changes_no_go (whats.RemoveFrame nav) is = tt
 changes_no_go whats.Edit is = tt
 
 -- once the own row was logged
-pub here_now : (e : InEvent) → (here_of e []).now ≡ now_of e []
-unfolding now_of
-here_now e = refl
+here_now : (e : InEvent) → StartsUnasked e → (here_of e []).now ≡ now_of e []
+here_now e aside = aside.plain
 
-module _ (e : InEvent) (proc : ProcId) (report : Report) (made : Made) (del : IsDelivery e proc report) (tells : IsToldOf report made) (t : Tables) (queue : Queue) (blame : List (StateId × ReqId)) (stands : StandsFor e.start t queue blame) (changes : changes_history made.what ≡ true) (free : is_held_back e.start made ≡ false) (room : HasRoomFor e.start) (header : t.kept.keep ≡ e.header.keep) where
+module _ (e : InEvent) (proc : ProcId) (report : Report) (made : Made) (del : IsDelivery e proc report) (tells : IsToldOf report made) (t : Tables) (queue : Queue) (blame : List (StateId × ReqId)) (stands : StandsFor e.start t queue blame) (aside : StartsUnasked e) (changes : changes_history made.what ≡ true) (free : is_held_back e.start made ≡ false) (room : HasRoomFor e.start) (header : t.kept.keep ≡ e.header.keep) where
   abbrev s : Seen
   s = e.start
 
   abbrev n : Seen
-  n = heard e proc report made del tells t queue blame stands
+  n = heard e proc report made del tells t queue blame stands aside
 
   abbrev same : n.requests ≡ e.start.requests
-  same = heard_requests e proc report made del tells t queue blame stands
+  same = heard_requests e proc report made del tells t queue blame stands aside
 
   now : now_of e [] ≡ n
-  now = heard_now e proc report made del tells t queue blame stands
+  now = heard_now e proc report made del tells t queue blame stands aside
 
   abbrev asked : IsMadeFor s made
-  asked = its_asked e proc report made del tells t queue blame stands
+  asked = its_asked e proc report made del tells t queue blame stands aside
 
   no_go : IsNoGo made.what
   no_go = changes_no_go made.what changes
@@ -86,13 +85,13 @@ module _ (e : InEvent) (proc : ProcId) (report : Report) (made : Made) (del : Is
   p = record { event = e; loads = []; hand = made ∷ [] }
 
   pub begun : HasBegun p t queue blame
-  begun = hand_begun e proc report made del tells t queue blame stands no_go free room header
+  begun = hand_begun e proc report made del tells t queue blame stands aside no_go free room header
 
   tab : IsTab t.running [] (made ∷ []) n
   tab = hand_tab t.running s e.event proc stands.between.tab stands.between.flows report made del.first tells no_go free
 
   parked_same : n.parked ≡ s.parked
-  parked_same = heard_parked e proc report made del tells t queue blame stands false free
+  parked_same = heard_parked e proc report made del tells t queue blame stands aside false free
 
   -- ---- it is at hand alone
 
@@ -149,10 +148,10 @@ module _ (e : InEvent) (proc : ProcId) (report : Report) (made : Made) (del : Is
 
       by_load : (b : Bool) → is_load asked.q.what ≡ b → asked.q.is_started ≡ false
       by_load true load = by_started load asked.q.is_started refl
-      by_load false none = (its_plain e proc report made del tells t queue blame stands).unstarted rests none
+      by_load false none = (its_plain e proc report made del tells t queue blame stands aside).unstarted rests none
 
   kind : IsOfPoke asked.q ⊎ IsOfFragment (now_of e []) asked.q
-  kind = by_what asked.q.what refl (its_plain e proc report made del tells t queue blame stands).what
+  kind = by_what asked.q.what refl (its_plain e proc report made del tells t queue blame stands aside).what
     where
       by_what : (what : Request) → asked.q.what ≡ what → IsTabRequest what → IsOfPoke asked.q ⊎ IsOfFragment (now_of e []) asked.q
       by_what (requests.Go delta) is plain = absurd (let never : true ≡ false = sym (ap is_traversal is) ∙ rests in cc)
@@ -163,8 +162,8 @@ module _ (e : InEvent) (proc : ProcId) (report : Report) (made : Made) (del : Is
 
   own_now : IsByItsOwn (now_of e []) asked.q made
   own_now =
-      let its : IsByItsOwn s asked.q made = its_nav e proc report made del tells t queue blame stands in
-      let found : document_in n.documents made.doc ≡ Some its.d = ap (λ (l : List Document). document_in l made.doc) (heard_documents e proc report made del tells t queue blame stands) ∙ its.found in
+      let its : IsByItsOwn s asked.q made = its_nav e proc report made del tells t queue blame stands aside in
+      let found : document_in n.documents made.doc ≡ Some its.d = ap (λ (l : List Document). document_in l made.doc) (heard_documents e proc report made del tells t queue blame stands aside) ∙ its.found in
       record { d = its.d; found = ap (λ (x : Seen). document_in x.documents made.doc) now ∙ found; nav_is = its.nav_is }
 
   -- ---- where the event stands
@@ -183,7 +182,7 @@ module _ (e : InEvent) (proc : ProcId) (report : Report) (made : Made) (del : Is
   before : nat_lt (length e.start.requests) asked.q.nr.0 ≡ false
   before =
       let low : made.req.0 ≤ length s.requests = number_low s.requests made.req asked.q asked.there in
-      let nr : asked.q.nr.0 ≡ made.req.0 = ap (λ (r : ReqId). r.0) (its_plain e proc report made del tells t queue blame stands).nr in
+      let nr : asked.q.nr.0 ≡ made.req.0 = ap (λ (r : ReqId). r.0) (its_plain e proc report made del tells t queue blame stands aside).nr in
       let within : asked.q.nr.0 ≤ length s.requests = omega (arith, low, nr) in grind (arith, nat_tests, within)
 
   taken_now : (change : Change) → IsTakenNow (here_of e []) (row_of e (rows.Applied made.req change)) made
@@ -211,7 +210,7 @@ module _ (e : InEvent) (proc : ProcId) (report : Report) (made : Made) (del : Is
         by_coord = del.by_coord;
         takes = ap takes_report del.own;
         before = before;
-        free = ap (λ (b : Bool). implies b (list_any is_traverse (here_of e []).done)) (ap (λ (x : Seen). has_req x.parked made.req) (here_now e) ∙ unparked_now);
+        free = ap (λ (b : Bool). implies b (list_any is_traverse (here_of e []).done)) (ap (λ (x : Seen). has_req x.parked made.req) (here_now e aside) ∙ unparked_now);
         taken = taken_now;
         held = λ kind_ ends. ends_other e [] kind_ made.req (ends, ends_parked e kind_ made.req ends) (ap (λ (l : List ReqId). has_req l made.req) (sym (held_first e)) ∙ unparked_now) unparked_now;
       }

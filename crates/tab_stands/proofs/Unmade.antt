@@ -33,7 +33,7 @@ use Rattle.tab_ids.specs.declared.ReqId.{ReqId}
 use Rattle.tab_ids.specs.declared.StateId.{StateId}
 use Rattle.tab_stands.proofs.Dones.{did, did_outcome}
 use Rattle.tab_stands.specs.Delivering.{IsDelivery}
-use Rattle.tab_stands.specs.Standing.{StandsFor}
+use Rattle.tab_stands.specs.Standing.{StandsFor, StartsUnasked}
 use Rattle.tab_settles.proofs.PassedOn.{its_report}
 use Rattle.seen_facts.specs.Transit.Orders.{IsOutcomeOf}
 use Rattle.log_model.specs.declared.job.Task.TheVariants as tasks
@@ -55,7 +55,7 @@ made_of x = record x { is_ready = true; is_fresh = true }
 abbrev pub made_at : DocId → Document → Document
 made_at doc x = cond (x.nr.0 == doc.0) (made_of x) x
 
-module _ (e : InEvent) (proc : ProcId) (job : Job) (outcome : Outcome) (del : IsDelivery e proc (reports.Done job outcome None)) (t : Tables) (queue : Queue) (blame : List (StateId × ReqId)) (stands : StandsFor e.start t queue blame) (nav : NavId) (state : StateId) (address : List ℕ) (initial : Bool) (task : job.task ≡ tasks.Populate nav state address initial) where
+module _ (e : InEvent) (proc : ProcId) (job : Job) (outcome : Outcome) (del : IsDelivery e proc (reports.Done job outcome None)) (t : Tables) (queue : Queue) (blame : List (StateId × ReqId)) (stands : StandsFor e.start t queue blame) (aside : StartsUnasked e) (nav : NavId) (state : StateId) (address : List ℕ) (initial : Bool) (task : job.task ≡ tasks.Populate nav state address initial) where
   abbrev report : Report
   report = reports.Done job outcome None
 
@@ -63,7 +63,7 @@ module _ (e : InEvent) (proc : ProcId) (job : Job) (outcome : Outcome) (del : Is
   s = e.start
 
   abbrev n : Seen
-  n = did e proc job outcome del t queue blame stands
+  n = did e proc job outcome del t queue blame stands aside
 
   pub its_order : IsOrderIn s.documents s.places proc job
   its_order = (its_report t.running s e.event proc stands.between.tab stands.between.flows report del.first).0
@@ -188,7 +188,7 @@ module _ (e : InEvent) (proc : ProcId) (job : Job) (outcome : Outcome) (del : Is
   -- ---- what the report leaves
 
   pub its_outcome : (slot : Option ℕ) × (outcome ≡ outcomes.Populated slot)
-  its_outcome = by_outcome outcome (subst (λ (k : Task). IsOutcomeOf k outcome) task (did_outcome e proc job outcome del t queue blame stands))
+  its_outcome = by_outcome outcome (subst (λ (k : Task). IsOutcomeOf k outcome) task (did_outcome e proc job outcome del t queue blame stands aside))
     where
       by_outcome : (u : Outcome) → IsOutcomeOf (tasks.Populate nav state address initial) u → (slot : Option ℕ) × (u ≡ outcomes.Populated slot)
       by_outcome (outcomes.Populated slot) its = (slot, refl)

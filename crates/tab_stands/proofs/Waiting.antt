@@ -24,7 +24,7 @@ use Rattle.tab_ids.specs.declared.StateId.{StateId}
 use Rattle.tab_settles.proofs.PassedOn.{passed_is, running_is}
 use Rattle.tab_settles.specs.Settling.{IsQueueing, IsTurning}
 use Rattle.tab_stands.proofs.Accepting.{new, now, old_or_new, parked_now, stays, went}
-use Rattle.tab_stands.specs.Standing.{StandsFor}
+use Rattle.tab_stands.specs.Standing.{StandsFor, StartsUnasked}
 use Rattle.log_model.specs.declared.row_kind.Actor.TheVariants as actors
 use Rattle.log_model.specs.declared.row_kind.RowKind.TheVariants as rows
 
@@ -77,18 +77,18 @@ module _ (old asked : List Asked) (stay : (req : ReqId) (q : Asked) → request_
 
 -- ---- the row
 
-module _ (e : InEvent) (req : ReqId) (doc : Option DocId) (what : Request) (by_user : e.actor ≡ actors.Ui) (own : e.own ≡ rows.Accepted req doc what) (nr : req.0 ≡ length e.start.requests + 1) (t : Tables) (queue : Queue) (blame : List (StateId × ReqId)) (stands : StandsFor e.start t queue blame) where
+module _ (e : InEvent) (req : ReqId) (doc : Option DocId) (what : Request) (by_user : e.actor ≡ actors.Ui) (own : e.own ≡ rows.Accepted req doc what) (nr : req.0 ≡ length e.start.requests + 1) (aside : StartsUnasked e) (t : Tables) (queue : Queue) (blame : List (StateId × ReqId)) (stands : StandsFor e.start t queue blame) where
   abbrev s : Seen
   s = e.start
 
   abbrev n : Seen
-  n = went e req doc what by_user own nr
+  n = went e req doc what by_user own nr aside
 
   -- each ready load was so
   pub await_still : AwaitTurns n queue.waiting
-  await_still r q nav at ready its = by_old (old_or_new e req doc what by_user own nr r q at)
+  await_still r q nav at ready its = by_old (old_or_new e req doc what by_user own nr aside r q at)
     where
-      by_old : (request_in s.requests r ≡ Some q) ⊎ ((r ≡ req) × (q ≡ new e req doc what by_user own nr)) → Has queue.waiting (Ready r nav)
+      by_old : (request_in s.requests r ≡ Some q) ⊎ ((r ≡ req) × (q ≡ new e req doc what by_user own nr aside)) → Has queue.waiting (Ready r nav)
       by_old (inl old) = stands.queue.ready r q nav old ready its
       by_old (inr it) =
           let never : false ≡ true = ap (λ (x : Asked). is_ready_load n x) (sym it.1) ∙ ready in absurd cc
@@ -96,16 +96,16 @@ module _ (e : InEvent) (req : ReqId) (doc : Option DocId) (what : Request) (by_u
   -- where none has joined, the steps that wait are those of who joined
   joined_still : n.joined ≡ s.joined → (run : Option ReqId) (steps : List QueueStep) → HaveJoined s run steps → HaveJoined n run steps
   joined_still same None steps have =
-      subst (λ (l : List ReqId). AreStepsOf n.requests l steps) (sym same) (steps_stay s.requests n.requests (stays e req doc what by_user own nr) s.joined steps have)
+      subst (λ (l : List ReqId). AreStepsOf n.requests l steps) (sym same) (steps_stay s.requests n.requests (stays e req doc what by_user own nr aside) s.joined steps have)
   joined_still same (Some run) steps have =
-      record { rest = have.rest; joined = same ∙ have.joined; steps_ = steps_stay s.requests n.requests (stays e req doc what by_user own nr) have.rest steps have.steps_ }
+      record { rest = have.rest; joined = same ∙ have.joined; steps_ = steps_stay s.requests n.requests (stays e req doc what by_user own nr aside) have.rest steps have.steps_ }
 
   pub queued_still : n.joined ≡ s.joined → HasQueue n t.running queue.waiting
   queued_still same =
       record { traversals = joined_still same t.running (filter is_traverse queue.waiting) stands.queue.traversals; ready = await_still; steps = stands.queue.steps }
 
   held_now : NoneHeld t.running (now_of e [])
-  held_now = subst (λ (x : Seen). NoneHeld t.running x) (sym (now e req doc what by_user own nr)) stands.between.held
+  held_now = subst (λ (x : Seen). NoneHeld t.running x) (sym (now e req doc what by_user own nr aside)) stands.between.held
 
   -- where a report is held back, a traversal runs, and not all stand
   stands_not : (aim_of (now_of e []) ≡ aim_of s) → ((now_of e []).parked ≡ [] → ⊥) → all_stand (now_of e []) (aim_of (now_of e [])) ≡ true → ⊥
@@ -114,7 +114,7 @@ module _ (e : InEvent) (req : ReqId) (doc : Option DocId) (what : Request) (by_u
       same : all_stand (now_of e []) (aim_of (now_of e [])) ≡ all_stand s (aim_of s)
       same =
           ap (λ (k : ℕ). all_stand (now_of e []) k) aim
-          ∙ ap (λ (x : Seen). all_stand_in x.history.rows x.places (aim_of s)) (now e req doc what by_user own nr)
+          ∙ ap (λ (x : Seen). all_stand_in x.history.rows x.places (aim_of s)) (now e req doc what by_user own nr aside)
 
       by_run : (o : Option ReqId) → t.running ≡ o → ⊥
       by_run None is = some (held_now is)
@@ -129,7 +129,7 @@ module _ (e : InEvent) (req : ReqId) (doc : Option DocId) (what : Request) (by_u
       record {
         turning = turning;
         queued = queued;
-        parked = parked ∙ parked_now e req doc what by_user own nr t queue blame stands;
+        parked = parked ∙ parked_now e req doc what by_user own nr aside t queue blame stands;
         held = held_now;
         over = λ never. absurd cc;
         releasing = λ some all. absurd (stands_not aim some all);

@@ -11,8 +11,8 @@ use Rattle.log_model.specs.declared.row_kind.RowKind.{RowKind}
 use Rattle.move_queue.specs.Queue.{Queue}
 use Rattle.row_facts.specs.Owed.Owed.{IsLoose}
 use Rattle.seen_laws.specs.Blocks.{EachPass}
-use Rattle.seen_laws.specs.InEvent.{InEvent, IsTakenIn, now_of, row_of, start_of}
-use Rattle.std.specs.Prelude.{List, None, Option, [], length, map, ℕ, ◌++◌, ◌+◌, ◌<◌, ◌∷◌, ◌≡◌}
+use Rattle.seen_laws.specs.InEvent.{InEvent, IsTakenIn, first_of, log_of, now_of, row_of, seen_first, start_of}
+use Rattle.std.specs.Prelude.{List, None, Option, [], length, map, ℕ, ◌++◌, ◌+◌, ◌<◌, ◌∷◌, ◌≡◌, false}
 use Rattle.tab_settles.specs.PassedOn.{AreCounted, AreHeldUp, AreLeftStrays, AreSteps, HasQueue, InPass, IsPassing, IsTaking, LoadsMadeOwn, ParentsShown, TakersServe}
 use Rattle.tab_doors.specs.declared.tables.Tables.{Tables}
 use Rattle.tab_facts.specs.TabEvents.Between.{IsBetween}
@@ -72,6 +72,12 @@ opened_at address proc =
 
 -- ---- an event begins
 
+-- nobody is in a check as the event begins, and both then and once its own row was logged the log is as it would be had nobody been asked
+pub record StartsUnasked (e : InEvent) : Type 0 where
+  pub unchecked : (req : ReqId) → e.checking req ≡ false
+  pub begins : seen_first e ≡ first_of e
+  pub plain : log_of e [] ≡ now_of e []
+
 -- there is room for the requests that an event may accept
 abbrev pub HasRoomFor : Seen → Type 0
 HasRoomFor s = length s.requests + 3 < 4294967296
@@ -87,7 +93,7 @@ pub record HasBegun (p : InPass) (t : Tables) (queue : Queue) (blame : List (Sta
   pub theirs : LoadsMadeOwn (now_of p.event [])
   pub makes : MakesServe (now_of p.event [])
   pub late : LateKnown t.running (now_of p.event [])
-  pub shows : AreShownUnder (now_of p.event [])
+  pub shows : AreShownUnder (log_of p.event [])
   pub sound : OrdersAreSound (now_of p.event [])
   pub queueing : IsQueueing p [] t queue
 
@@ -99,5 +105,5 @@ IsTakenUp e out = (later : List LogRow) → IsTakenIn e (map (row_of e) out ++ l
 
 -- the event ends with these rows, each of which passes, and the coordinator stands for what the log has come to
 pub record HasActed (e : InEvent) (out : List RowKind) (t : Tables) (queue : Queue) (blame : List (StateId × ReqId)) : Type 0 where
-  pub stands : StandsFor (now_of e out) t queue blame
+  pub stands : StandsFor (log_of e out) t queue blame
   pub passes : EachPass (start_of e) (row_of e e.own ∷ map (row_of e) out) []

@@ -210,7 +210,7 @@ module _ (p : InPass) {left : List DocId} (out : List RowKind) (t : Tables) (lea
 
   module _ (new : List RowKind) (u : Tables) (is : new ≡ out ++ rows.Sent discard ∷ []) {then_left : List DocId} (leaving_ : IsLeaving p None then_left new u) where
     pub now_is : then_ ≡ now_of p.event new
-    now_is = sym (ap (λ (x : List RowKind). now_of p.event x) is ∙ now_more p.event out (rows.Sent discard))
+    now_is = sym (ap (λ (x : List RowKind). now_of p.event x) is ∙ now_more p.event out (rows.Sent discard) refl)
 
     pub causes_then : (cause : Why) → MayCause s cause → MayCause then_ cause
     causes_then cause may =

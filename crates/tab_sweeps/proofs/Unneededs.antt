@@ -1,4 +1,5 @@
 -- A document that nothing needs as it is made may be discarded; nobody is awake on it.
+use Rattle.seen_laws.specs.Blocks.{Here, MayLog}
 use Rattle.seen_facts.proofs.Hang.Hung.{places_distinct}
 use Rattle.seen_facts.proofs.Hang.Members.{find_has, has_any}
 use Rattle.seen_facts.proofs.Hang.Targets.{IsTarget, target_has}
@@ -35,7 +36,7 @@ use Rattle.std.specs.Prelude.{is_some, slice_get}
 use Rattle.tab_doors.proofs.Whose.{proc_found}
 use Rattle.tab_doors.proofs.Works.{done_here, numbered, start_here}
 use Rattle.tab_doors.specs.Orders.{order_to, proc_at}
-use Rattle.tab_doors.specs.Working.{KeepsStore, MaySend}
+use Rattle.tab_doors.specs.Working.{KeepsStore, MaySend, IsAhead}
 use Rattle.tab_doors.specs.declared.tables.Tables.{Tables}
 use Rattle.tab_ids.specs.declared.DocId.{DocId}
 use Rattle.tab_ids.specs.declared.NavId.{NavId}
@@ -167,8 +168,14 @@ module _ (p : InPass) (out : List RowKind) (t : Tables) (passing : IsPassing p o
   alive : (stray.document.is_discarded || stray.document.is_known_dead) ≡ false
   alive = ap (λ (b : Bool). b || stray.document.is_known_dead) stray.undiscarded ∙ stray_unknown p out t leaving doc state stray
 
-  due : IsUnneededDue (here_of p.event out) (order_to (here_of p.event out).now doc why tasks.Discard) stray.document
-  unfolding now_of
+  -- where the event stands, with the log without questions
+  abbrev at_now : Here
+  at_now = record (here_of p.event out) { now = s }
+
+  here_plain : at_now ≡ here_of p.event out
+  here_plain = ap (λ (x : Seen). let h : Here = record (here_of p.event out) { now = x } in h) (sym leaving.work.plain)
+
+  due : IsUnneededDue at_now (order_to s doc why tasks.Discard) stray.document
   due =
       record {
         discards = record {
@@ -194,9 +201,8 @@ module _ (p : InPass) (out : List RowKind) (t : Tables) (passing : IsPassing p o
       }
 
   pub unneeded_sends : MaySend None p.event out discard
-  unfolding now_of
-  unneeded_sends later ahead =
-      unneeded_may (here_of p.event out) p.event.event p.event.actor (order_to (here_of p.event out).now doc why tasks.Discard) stray.document (led_here p.event out leaving.work.own) (numbered (here_of p.event out).now (proc_at (here_of p.event out).now doc) doc why tasks.Discard (leaving.going.tab.asked.died (proc_at s doc)).0) due (settles_none p out t leaving doc state stray (row_of p.event (rows.Sent discard))) later tt
+  unneeded_sends =
+      subst (λ (h : Here). MayLog h (row_of p.event (rows.Sent discard) ∷ []) (IsAhead None)) here_plain (λ later ahead. unneeded_may at_now p.event.event p.event.actor (order_to s doc why tasks.Discard) stray.document (led_here p.event out leaving.work.own) (numbered s (proc_at s doc) doc why tasks.Discard (leaving.going.tab.asked.died (proc_at s doc)).0) due (settles_none p out t leaving doc state stray (row_of p.event (rows.Sent discard))) later tt)
 
   -- ---- the row was put out
 
@@ -209,7 +215,7 @@ module _ (p : InPass) (out : List RowKind) (t : Tables) (passing : IsPassing p o
 
     loose_then : all_stand then_ (aim_of then_) ≡ true → IsLoose p.event (out ++ rows.Sent discard ∷ [])
     loose_then stand =
-        loose_more p.event out (rows.Sent discard) (passing.loose (sent_stood s p.event.event p.event.actor discard all_passed tt stand)) (sent_lasts s p.event.event p.event.actor discard) (λ end lasts. refl)
+        loose_more p.event out (rows.Sent discard) refl (passing.loose (sent_stood s p.event.event p.event.actor discard all_passed tt stand)) (sent_lasts s p.event.event p.event.actor discard) (λ end lasts. refl)
 
     few_then : length then_.kept ≤ u.kept.keep
     few_then =

@@ -252,12 +252,12 @@ module _ (p : InPass) (out : List RowKind) (t : Tables) (blame : List (StateId �
 
     module _ (new : List RowKind) (u : Tables) (out_is : new ≡ out ++ rows.Applied made.req change ∷ []) (keeps : KeepsRun t u) (work : IsAtWork e new u) (no_turn : is_traverse (row_of e (rows.Applied made.req change)) ≡ false) (no_reload : is_reloading (rows.Applied made.req change) ≡ false) where
       now_is : now_of e new ≡ n
-      now_is = ap (λ (l : List RowKind). now_of e l) out_is ∙ now_more e out (rows.Applied made.req change)
+      now_is = ap (λ (l : List RowKind). now_of e l) out_is ∙ now_more e out (rows.Applied made.req change) refl
 
       loose_n : IsLoose e new
       loose_n =
           subst (λ (l : List RowKind). IsLoose e l) (sym out_is)
-          (loose_more e out (rows.Applied made.req change) at.loose (applied_lasts now_ e.event e.actor made.req change) (λ end on. refl))
+          (loose_more e out (rows.Applied made.req change) refl at.loose (applied_lasts now_ e.event e.actor made.req change) (λ end on. refl))
 
       passing_n : IsPassing (record p { hand = rest }) new u
       passing_n =

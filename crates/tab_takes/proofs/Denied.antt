@@ -72,7 +72,7 @@ module _ (p : InPass) (out : List RowKind) (t : Tables) (blame : List (StateId �
     n = next now_ e.event e.actor (rows.Refused made.req reason)
 
     now_is : now_of e new ≡ n
-    now_is = ap (λ (l : List RowKind). now_of e l) out_is ∙ now_more e out (rows.Refused made.req reason)
+    now_is = ap (λ (l : List RowKind). now_of e l) out_is ∙ now_more e out (rows.Refused made.req reason) refl
 
     tab_n : IsTab t.running p.loads rest n
     tab_n =
@@ -86,7 +86,7 @@ module _ (p : InPass) (out : List RowKind) (t : Tables) (blame : List (StateId �
     loose_n : IsLoose e new
     loose_n =
         subst (λ (l : List RowKind). IsLoose e l) (sym out_is)
-        (loose_more e out (rows.Refused made.req reason) at.loose (refused_lasts now_ e.event e.actor made.req reason) (λ end on. refl))
+        (loose_more e out (rows.Refused made.req reason) refl at.loose (refused_lasts now_ e.event e.actor made.req reason) (λ end on. refl))
 
     passing_n : IsPassing (record p { hand = rest }) new u
     passing_n =

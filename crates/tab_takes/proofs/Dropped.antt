@@ -33,7 +33,7 @@ use Rattle.row_facts.specs.RestRows.Moving.{AllRest}
 use Rattle.seen_laws.proofs.InEvents.{now_more}
 use Rattle.seen_laws.proofs.Keyed.{find_has as seen_number}
 use Rattle.seen_laws.specs.Blocks.{point_at}
-use Rattle.seen_laws.specs.InEvent.{InEvent, here_of, now_of, row_of}
+use Rattle.seen_laws.specs.InEvent.{InEvent, seen_here, now_of, row_of}
 use Rattle.seen_laws.specs.Owing.{owes_row}
 use Rattle.std.proofs.Common.{Bool, List, None, Option, Some, [], ap, arith, false, inl, inr, length, not, refl, subst, sym, true, ℕ, ◌&&◌, ◌++◌, ◌==◌, ◌∙◌, ◌∷◌, ◌≡◌, ◌≤◌}
 use Rattle.std.proofs.lemmas.Bool.{and_parts, or_right}
@@ -78,10 +78,10 @@ has_front (x ∷ xs) ys y (inl same) = inl same
 has_front (x ∷ xs) ys y (inr more) = inr (has_front xs ys y more)
 
 -- what the drop of one that was moved owes is paid as it is dropped
-moved_pays : (e : InEvent) (out : List RowKind) (req by : ReqId) (q mover : Asked) → request_of (now_of e out) req ≡ Some q → request_of (now_of e out) by ≡ Some mover → by_mover (now_of e out) q mover ≡ true → (end : Seen) → owes_row (here_of e out) (row_of e (rows.Dropped req (drops.By by))) end ≡ true
+moved_pays : (e : InEvent) (out : List RowKind) (req by : ReqId) (q mover : Asked) → request_of (now_of e out) req ≡ Some q → request_of (now_of e out) by ≡ Some mover → by_mover (now_of e out) q mover ≡ true → (end : Seen) → owes_row (seen_here e out) (row_of e (rows.Dropped req (drops.By by))) end ≡ true
 unfolding now_of
 moved_pays e out req by q mover there found moved end =
-    rw there (or_right (by_event (point_at (here_of e out) []) end q by) (holds (by_mover (here_of e out).now q) (request_of (here_of e out).now by)) (rw found moved))
+    rw there (or_right (by_event (point_at (seen_here e out) []) end q by) (holds (by_mover (seen_here e out).now q) (request_of (seen_here e out).now by)) (rw found moved))
 
 module _ (p : InPass) (out : List RowKind) (t : Tables) (blame : List (StateId × ReqId)) (made : Made) (at : IsToTake p out t blame made) where
   abbrev e : InEvent
@@ -107,12 +107,12 @@ module _ (p : InPass) (out : List RowKind) (t : Tables) (blame : List (StateId �
 
   -- ---- the row
 
-  module _ (cause : Cause) (pays : (end : Seen) → owes_row (here_of e out) (row_of e (rows.Dropped made.req cause)) end ≡ true) (then_ : IsTab t.running (without_req made.req p.loads) rest (next now_ e.event e.actor (rows.Dropped made.req cause))) (off : is_taken_up_at_once now_ made ≡ true → ⊥) (new : List RowKind) (u : Tables) (out_is : new ≡ out ++ rows.Dropped made.req cause ∷ []) (same : u ≡ t) (work : IsAtWork e new u) where
+  module _ (cause : Cause) (pays : (end : Seen) → owes_row (seen_here e out) (row_of e (rows.Dropped made.req cause)) end ≡ true) (then_ : IsTab t.running (without_req made.req p.loads) rest (next now_ e.event e.actor (rows.Dropped made.req cause))) (off : is_taken_up_at_once now_ made ≡ true → ⊥) (new : List RowKind) (u : Tables) (out_is : new ≡ out ++ rows.Dropped made.req cause ∷ []) (same : u ≡ t) (work : IsAtWork e new u) where
     abbrev n : Seen
     n = next now_ e.event e.actor (rows.Dropped made.req cause)
 
     now_is : now_of e new ≡ n
-    now_is = ap (λ (l : List RowKind). now_of e l) out_is ∙ now_more e out (rows.Dropped made.req cause)
+    now_is = ap (λ (l : List RowKind). now_of e l) out_is ∙ now_more e out (rows.Dropped made.req cause) refl
 
     tab_n : IsTab t.running p.loads rest n
     tab_n = loads_same p out t blame made at n then_
@@ -124,7 +124,7 @@ module _ (p : InPass) (out : List RowKind) (t : Tables) (blame : List (StateId �
     loose_n : IsLoose e new
     loose_n =
         subst (λ (l : List RowKind). IsLoose e l) (sym out_is)
-        (loose_more e out (rows.Dropped made.req cause) at.loose (dropped_lasts now_ e.event e.actor made.req cause) (λ end on. pays end))
+        (loose_more e out (rows.Dropped made.req cause) refl at.loose (dropped_lasts now_ e.event e.actor made.req cause) (λ end on. pays end))
 
     passing_n : IsPassing (record p { hand = rest }) new u
     passing_n =

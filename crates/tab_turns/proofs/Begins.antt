@@ -27,9 +27,9 @@ use Rattle.seen_facts.proofs.Request.Readers.{on_read, reads_then}
 use Rattle.row_facts.proofs.RestRows.Rows.{refused_rests, started_rests}
 use Rattle.row_facts.specs.RestRows.Moving.{AllRest}
 use Rattle.seen_laws.proofs.InEvents.{now_more}
-use Rattle.seen_laws.specs.InEvent.{InEvent, here_of, now_of, row_of}
+use Rattle.seen_laws.specs.InEvent.{InEvent, now_of, row_of, seen_here}
 use Rattle.seen_laws.specs.Owing.{is_sole_load, owes_row}
-use Rattle.std.proofs.Common.{Bool, List, None, Option, Some, [], ap, false, length, negsuc, pos, refl, subst, sym, true, ℕ, ℤ, ◌+ℤ◌, ◌++◌, ◌∙◌, ◌∷◌, ◌≡◌, ◌≤◌, ◌⊎◌}
+use Rattle.std.proofs.Common.{Bool, List, None, Option, Some, [], ap, false, length, negsuc, pos, refl, subst, sym, true, ℕ, ℤ, ◌+ℤ◌, ◌++◌, ◌∙◌, ◌∷◌, ◌≡◌, ◌≤◌, ◌⊎◌, not}
 use Rattle.std.specs.Prelude.{nat_lt, option_map}
 use Rattle.step_index.specs.contracts.step_index.StepIndexStore.TheImpl.Laws.{sound-law}
 use Rattle.step_index.specs.Held.{history_held}
@@ -107,7 +107,7 @@ sole (requests.Reload nav) is req end = refl
 sole (requests.Load nav mode address) is req end = absurd cc
 
 -- so one that begins owes nothing
-owes_none : (e : InEvent) (out : List RowKind) (req : ReqId) (goal : Step) (q : Asked) → request_of (now_of e out) req ≡ Some q → is_traversal q.what ≡ true → (end : Seen) → owes_row (here_of e out) (row_of e (rows.Started req (Some goal))) end ≡ true
+owes_none : (e : InEvent) (out : List RowKind) (req : ReqId) (goal : Step) (q : Asked) → request_of (now_of e out) req ≡ Some q → is_traversal q.what ≡ true → (end : Seen) → owes_row (seen_here e out) (row_of e (rows.Started req (Some goal))) end ≡ true
 unfolding now_of
 owes_none e out req goal q at goes end = rw at (sole q.what goes q.nr end)
 
@@ -166,7 +166,7 @@ module _ (p : InPass) (out : List RowKind) (t : Tables) (passing : IsPassing p o
       n = next s e.event e.actor (rows.Started req (Some goal))
 
       now : now_of e more ≡ n
-      now = ap (λ (l : List RowKind). now_of e l) out_is ∙ now_more e out (rows.Started req (Some goal))
+      now = ap (λ (l : List RowKind). now_of e l) out_is ∙ now_more e out (rows.Started req (Some goal)) (ap not (passing.work.unchecked req))
 
       abbrev begin : Asked → Asked
       begin q = record q { is_started = true; goal = Some goal }
@@ -195,7 +195,7 @@ module _ (p : InPass) (out : List RowKind) (t : Tables) (passing : IsPassing p o
       loose_then : IsLoose e more
       loose_then =
           subst (λ (l : List RowKind). IsLoose e l) (sym out_is)
-          (loose_more e out (rows.Started req (Some goal)) loose (begun_lasts s e.event e.actor req (Some goal) its.q its.at (no_load its.q.what its.goes)) (λ end on. owes_none e out req goal its.q its.at its.goes end))
+          (loose_more e out (rows.Started req (Some goal)) (ap not (passing.work.unchecked req)) loose (begun_lasts s e.event e.actor req (Some goal) its.q its.at (no_load its.q.what its.goes)) (λ end on. owes_none e out req goal its.q its.at its.goes end))
 
       pub begin_passing : s.parked ≡ [] → IsPassing p more u
       begin_passing none =
@@ -251,7 +251,7 @@ module _ (p : InPass) (out : List RowKind) (t : Tables) (passing : IsPassing p o
       gone = next s e.event e.actor (rows.Refused req denials.NoStep)
 
       now_gone : now_of e more ≡ gone
-      now_gone = ap (λ (l : List RowKind). now_of e l) out_is ∙ now_more e out (rows.Refused req denials.NoStep)
+      now_gone = ap (λ (l : List RowKind). now_of e l) out_is ∙ now_more e out (rows.Refused req denials.NoStep) refl
 
       no_process : (actor : Actor) → IsWorker actor → IsNoProcess actor
       no_process actors.Ui works = tt
@@ -288,7 +288,7 @@ module _ (p : InPass) (out : List RowKind) (t : Tables) (passing : IsPassing p o
       loose_gone : IsLoose e more
       loose_gone =
           subst (λ (l : List RowKind). IsLoose e l) (sym out_is)
-          (loose_more e out (rows.Refused req denials.NoStep) loose (refused_lasts s e.event e.actor req denials.NoStep) (λ end on. refl))
+          (loose_more e out (rows.Refused req denials.NoStep) refl loose (refused_lasts s e.event e.actor req denials.NoStep) (λ end on. refl))
 
       going_gone : IsGoing None p.loads p.hand gone
       going_gone =

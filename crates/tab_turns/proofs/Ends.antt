@@ -231,7 +231,7 @@ module _ (p : InPass) (out : List RowKind) (t : Tables) (passing : IsPassing p o
       n = next s e.event e.actor (rows.Applied req (changes.Traverse goal))
 
       now : now_of e more ≡ n
-      now = ap (λ (l : List RowKind). now_of e l) out_is ∙ now_more e out (rows.Applied req (changes.Traverse goal))
+      now = ap (λ (l : List RowKind). now_of e l) out_is ∙ now_more e out (rows.Applied req (changes.Traverse goal)) refl
 
       tab_then : IsTab None p.loads p.hand n
       tab_then = ended_tab p.loads p.hand s e.event e.actor req tab its.q goal its.at fit
@@ -256,7 +256,7 @@ module _ (p : InPass) (out : List RowKind) (t : Tables) (passing : IsPassing p o
       loose_then : IsLoose e more
       loose_then =
           subst (λ (l : List RowKind). IsLoose e l) (sym out_is)
-          (loose_more e out (rows.Applied req (changes.Traverse goal)) (passing.loose stand) (applied_lasts s e.event e.actor req (changes.Traverse goal)) (λ end on. refl))
+          (loose_more e out (rows.Applied req (changes.Traverse goal)) refl (passing.loose stand) (applied_lasts s e.event e.actor req (changes.Traverse goal)) (λ end on. refl))
 
       pub end_passing : IsPassing p more u
       end_passing =

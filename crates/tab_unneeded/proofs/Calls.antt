@@ -31,13 +31,13 @@ module _ (m : InMade) (doc : DocId) (state : StateId) (why : Why) (its : IsMadeU
   pub proc_as : IsSome (proc_in t.whose.entries doc)
   proc_as =
       subst (λ (x : DocId). IsSome (proc_in t.whose.entries x)) its.doc_is
-      (proc_known m.event.start t.whose.entries stands.tied.holds.whose m.job.doc (d m.event m.proc m.job m.outcome its.tells t m.queue m.noted stands its.nav state its.address its.initial its.task) (its_found m.event m.proc m.job m.outcome its.tells t m.queue m.noted stands its.nav state its.address its.initial its.task))
+      (proc_known m.event.start t.whose.entries stands.tied.holds.whose m.job.doc (d m.event m.proc m.job m.outcome its.tells t m.queue m.noted stands its.aside its.nav state its.address its.initial its.task) (its_found m.event m.proc m.job m.outcome its.tells t m.queue m.noted stands its.aside its.nav state its.address its.initial its.task))
 
   -- the load that waits for it, if one does, is of its navigable
   pub waits_as : HasOneEach t.loads → WaitsAtItsNav t doc
   waits_as one_each =
       subst (λ (x : DocId). WaitsAtItsNav t x) its.doc_is
-      (awaited_own m.event m.proc m.job m.outcome its.tells t m.queue m.noted stands its.nav state its.address its.initial its.task one_each)
+      (awaited_own m.event m.proc m.job m.outcome its.tells t m.queue m.noted stands its.aside its.nav state its.address its.initial its.task one_each)
 
   own_stray : IsStray (now_of m.event []) m.job.doc state
   own_stray = subst (λ (x : DocId). IsStray (now_of m.event []) x state) (sym its.doc_is) its.stray
@@ -45,7 +45,7 @@ module _ (m : InMade) (doc : DocId) (state : StateId) (why : Why) (its : IsMadeU
   module _ (one_each : HasOneEach t.loads) (u : Tables) (one : PlacesOne state doc t u) (kept : KeepsRun t u) where
     passing : IsPassing (record { event = m.event; loads = []; hand = [] }) [] u
     passing =
-        noted_passing m.event m.proc m.job m.outcome its.tells t m.queue m.noted stands its.nav state its.address its.initial its.task one_each u (subst (λ (x : DocId). PlacesOne state x t u) (sym its.doc_is) one) kept room
+        noted_passing m.event m.proc m.job m.outcome its.tells t m.queue m.noted stands its.aside its.nav state its.address its.initial its.task one_each u (subst (λ (x : DocId). PlacesOne state x t u) (sym its.doc_is) one) kept room
 
     pub may_as : (old : List RowKind) → MayCause (now_of m.event old) why
     may_as old req is = absurd (its.unasked req is)
@@ -58,7 +58,7 @@ module _ (m : InMade) (doc : DocId) (state : StateId) (why : Why) (its : IsMadeU
       pub unneeded_as : IsUnneeded m.event (now_of m.event old) doc state
       unneeded_as =
           subst (λ (l : List RowKind). IsUnneeded m.event (now_of m.event l) doc state) (sym first)
-          (subst (λ (x : DocId). IsUnneeded m.event (now_of m.event []) x state) its.doc_is (made_unneeded m.event m.proc m.job m.outcome its.tells t m.queue m.noted stands its.nav state its.address its.initial its.task own_stray))
+          (subst (λ (x : DocId). IsUnneeded m.event (now_of m.event []) x state) its.doc_is (made_unneeded m.event m.proc m.job m.outcome its.tells t m.queue m.noted stands its.aside its.nav state its.address its.initial its.task own_stray))
 
       module _ (out : List RowKind) (put : out ≡ old ++ rows.Sent (order_to (now_of m.event old) doc why tasks.Discard) ∷ []) where
         pub out_as : out ≡ rows.Sent (order_to (now_of m.event []) doc why tasks.Discard) ∷ []
@@ -74,8 +74,8 @@ module _ (m : InMade) (doc : DocId) (state : StateId) (why : Why) (its : IsMadeU
 
           pub ready_as : IsReady (record { event = m.event; loads = []; hand = [] }) out v m.queue m.noted whys.Start
           ready_as =
-              discarded_ready m.event m.proc m.job m.outcome its.tells t m.queue m.noted stands its.nav state its.address its.initial its.task why its.unasked own_stray u kept passing out v own_out keeps then_ header
+              discarded_ready m.event m.proc m.job m.outcome its.tells t m.queue m.noted stands its.aside its.nav state its.address its.initial its.task why its.unasked own_stray u kept passing out v own_out keeps then_ header
 
           pub kept_as : KeepsRun t v
           kept_as =
-              kept_run m.event m.proc m.job m.outcome its.tells t m.queue m.noted stands its.nav state its.address its.initial its.task why its.unasked own_stray u kept passing out v own_out keeps then_ header
+              kept_run m.event m.proc m.job m.outcome its.tells t m.queue m.noted stands its.aside its.nav state its.address its.initial its.task why its.unasked own_stray u kept passing out v own_out keeps then_ header

@@ -47,7 +47,7 @@ use Rattle.tab_stands.proofs.Reports.{told_kept}
 use Rattle.tab_stands.proofs.Unmade.{d, its_found, its_state, made_at, places_now}
 use Rattle.tab_stands.specs.Delivering.{IsDelivery}
 use Rattle.tab_stands.specs.PassedOn.{IsLeftStray, IsStray, LoadsMadeOwn, MayCause}
-use Rattle.tab_stands.specs.Standing.{StandsFor}
+use Rattle.tab_stands.specs.Standing.{StandsFor, StartsUnasked}
 use Rattle.tab_sweeps.proofs.Loads.{loaded_never}
 use Rattle.tab_unneeded.proofs.Needs.{made_nobody, made_unkept}
 use Rattle.row_facts.proofs.WalkRows.Leaves.{none_places}
@@ -73,7 +73,7 @@ without_none doc (x ∷ docs) none = by_test (x.0 == doc.0) refl none (without_n
     by_test true e h more = absurd cc
     by_test false e h more = rw e (ap (λ (l : List DocId). x ∷ l) (more h))
 
-module _ (e : InEvent) (proc : ProcId) (job : Job) (outcome : Outcome) (del : IsDelivery e proc (reports.Done job outcome None)) (t : Tables) (queue : Queue) (blame : List (StateId × ReqId)) (stands : StandsFor e.start t queue blame) (nav : NavId) (state : StateId) (address : List ℕ) (initial : Bool) (task : job.task ≡ tasks.Populate nav state address initial) (why : Why) (unasked : (req : ReqId) → why ≡ whys.Req req → ⊥) (stray : IsStray (now_of e []) job.doc state) where
+module _ (e : InEvent) (proc : ProcId) (job : Job) (outcome : Outcome) (del : IsDelivery e proc (reports.Done job outcome None)) (t : Tables) (queue : Queue) (blame : List (StateId × ReqId)) (stands : StandsFor e.start t queue blame) (aside : StartsUnasked e) (nav : NavId) (state : StateId) (address : List ℕ) (initial : Bool) (task : job.task ≡ tasks.Populate nav state address initial) (why : Why) (unasked : (req : ReqId) → why ≡ whys.Req req → ⊥) (stray : IsStray (now_of e []) job.doc state) where
   abbrev s : Seen
   s = e.start
 
@@ -81,7 +81,7 @@ module _ (e : InEvent) (proc : ProcId) (job : Job) (outcome : Outcome) (del : Is
   n = now_of e []
 
   abbrev told : Seen
-  told = did e proc job outcome del t queue blame stands
+  told = did e proc job outcome del t queue blame stands aside
 
   abbrev pub discard : Job
   discard = order_to (now_of e []) job.doc why tasks.Discard
@@ -90,13 +90,13 @@ module _ (e : InEvent) (proc : ProcId) (job : Job) (outcome : Outcome) (del : Is
   then_ = after (now_of e []) (row_of e (rows.Sent discard))
 
   now : n ≡ told
-  now = did_now e proc job outcome del t queue blame stands
+  now = did_now e proc job outcome del t queue blame stands aside
 
   abbrev own : Document
-  own = d e proc job outcome del t queue blame stands nav state address initial task
+  own = d e proc job outcome del t queue blame stands aside nav state address initial task
 
   own_found : document_of s job.doc ≡ Some own
-  own_found = its_found e proc job outcome del t queue blame stands nav state address initial task
+  own_found = its_found e proc job outcome del t queue blame stands aside nav state address initial task
 
   -- ---- requests and navigables
 
@@ -104,19 +104,19 @@ module _ (e : InEvent) (proc : ProcId) (job : Job) (outcome : Outcome) (del : Is
   requests_same =
       unserved why unasked (request_served n discard tasks.Discard) n.requests
       ∙ ap (λ (x : Seen). x.requests) now
-      ∙ did_requests e proc job outcome del t queue blame stands (made_asks e proc job outcome del t queue blame stands nav state address initial task)
+      ∙ did_requests e proc job outcome del t queue blame stands aside (made_asks e proc job outcome del t queue blame stands aside nav state address initial task)
 
   pub places_same : then_.places ≡ e.start.places
   places_same =
-      none_places n e.event e.actor discard (made_nobody e proc job outcome del t queue blame stands nav state address initial task) tasks.Discard refl tt
+      none_places n e.event e.actor discard (made_nobody e proc job outcome del t queue blame stands aside nav state address initial task) tasks.Discard refl tt
       ∙ ap (λ (x : Seen). x.places) now
-      ∙ places_now e proc job outcome del t queue blame stands nav state address initial task
+      ∙ places_now e proc job outcome del t queue blame stands aside nav state address initial task
 
   kept_same : then_.kept ≡ s.kept
   kept_same =
-      without_none job.doc n.kept (made_unkept e proc job outcome del t queue blame stands nav state address initial task)
+      without_none job.doc n.kept (made_unkept e proc job outcome del t queue blame stands aside nav state address initial task)
       ∙ ap (λ (x : Seen). x.kept) now
-      ∙ told_kept e proc del.by_coord del.own t queue blame stands (reports.Done job outcome None) del.first
+      ∙ told_kept e proc del.by_coord del.own t queue blame stands aside (reports.Done job outcome None) del.first
 
   pub history_same : then_.history ≡ e.start.history
   history_same = ap (λ (x : Seen). x.history) now
@@ -141,10 +141,10 @@ module _ (e : InEvent) (proc : ProcId) (job : Job) (outcome : Outcome) (del : Is
     where
       by_was : (y : Document) → document_of told doc ≡ Some y → (y.nr.0 == job.doc.0) ≡ false → y ≡ x → WasOther doc x
       by_was y found apart same =
-          by_case (one_or_same e proc job outcome del t queue blame stands nav state address initial task doc y was)
+          by_case (one_or_same e proc job outcome del t queue blame stands aside nav state address initial task doc y was)
         where
-          was : WasDoc e proc job outcome del t queue blame stands nav state address initial task doc y
-          was = was_doc e proc job outcome del t queue blame stands nav state address initial task doc y found
+          was : WasDoc e proc job outcome del t queue blame stands aside nav state address initial task doc y
+          was = was_doc e proc job outcome del t queue blame stands aside nav state address initial task doc y found
 
           by_case : ((was.before ≡ own) × (doc ≡ job.doc)) ⊎ (((was.before.nr.0 == job.doc.0) ≡ false) × (was.before ≡ y)) → WasOther doc x
           by_case (inl it) =
@@ -170,7 +170,7 @@ module _ (e : InEvent) (proc : ProcId) (job : Job) (outcome : Outcome) (del : Is
   still_other : (doc : DocId) (x : Document) → document_of s doc ≡ Some x → (x.nr.0 == job.doc.0) ≡ false → document_of then_ doc ≡ Some x
   still_other doc x found apart =
       found_then doc
-      ∙ ap (λ (o : Option Document). option_map (λ (y : Document). cond (y.nr.0 == job.doc.0) (gone y) y) o) (made_then e proc job outcome del t queue blame stands nav state address initial task doc ∙ ap (λ (o : Option Document). option_map (λ (y : Document). made_at job.doc y) o) found)
+      ∙ ap (λ (o : Option Document). option_map (λ (y : Document). cond (y.nr.0 == job.doc.0) (gone y) y) o) (made_then e proc job outcome del t queue blame stands aside nav state address initial task doc ∙ ap (λ (o : Option Document). option_map (λ (y : Document). made_at job.doc y) o) found)
       ∙ (rw (apart, apart) refl)
 
   -- each that was there is of its navigable
@@ -183,7 +183,7 @@ module _ (e : InEvent) (proc : ProcId) (job : Job) (outcome : Outcome) (del : Is
   still_of doc x found =
       record {
         new = cond ((made_at job.doc x).nr.0 == job.doc.0) (gone (made_at job.doc x)) (made_at job.doc x);
-        found = found_then doc ∙ ap (λ (o : Option Document). option_map (λ (y : Document). cond (y.nr.0 == job.doc.0) (gone y) y) o) (made_then e proc job outcome del t queue blame stands nav state address initial task doc ∙ ap (λ (o : Option Document). option_map (λ (y : Document). made_at job.doc y) o) found);
+        found = found_then doc ∙ ap (λ (o : Option Document). option_map (λ (y : Document). cond (y.nr.0 == job.doc.0) (gone y) y) o) (made_then e proc job outcome del t queue blame stands aside nav state address initial task doc ∙ ap (λ (o : Option Document). option_map (λ (y : Document). made_at job.doc y) o) found);
         nav_is = second ((made_at job.doc x).nr.0 == job.doc.0) ∙ first (x.nr.0 == job.doc.0);
       }
     where
@@ -199,13 +199,13 @@ module _ (e : InEvent) (proc : ProcId) (job : Job) (outcome : Outcome) (del : Is
   states_same doc =
       states_stay n (rows.Sent discard) tt doc
       ∙ ap (λ (x : Seen). option_map (λ (y : Document). y.state) (document_in x.documents doc)) now
-      ∙ states_kept e proc job outcome del t queue blame stands nav state address initial task doc
+      ∙ states_kept e proc job outcome del t queue blame stands aside nav state address initial task doc
 
   -- ---- loads
 
   loaded_none : ongoing_load s state ≡ None
   loaded_none =
-      ap (λ (l : List Asked). let x : Seen = record s { requests = l } in ongoing_load x state) (sym (ap (λ (x : Seen). x.requests) now ∙ did_requests e proc job outcome del t queue blame stands (made_asks e proc job outcome del t queue blame stands nav state address initial task)))
+      ap (λ (l : List Asked). let x : Seen = record s { requests = l } in ongoing_load x state) (sym (ap (λ (x : Seen). x.requests) now ∙ did_requests e proc job outcome del t queue blame stands aside (made_asks e proc job outcome del t queue blame stands aside nav state address initial task)))
       ∙ stray.unloaded
 
   loading : LoadsHaveDocuments then_
@@ -220,7 +220,7 @@ module _ (e : InEvent) (proc : ProcId) (job : Job) (outcome : Outcome) (del : Is
           let doc_is : one.doc ≡ job.doc = ap (λ (k : ℕ). let x : DocId = record { 0 = k } in x) (sym number ∙ eqb-true one.d.nr.0 job.doc.0 same) in
           let both : Some one.d ≡ Some own = sym one.found ∙ ap (λ (x : DocId). document_of s x) doc_is ∙ own_found in
           let it : one.d ≡ own = cc in
-          let states : of ≡ state = sym one.of_state ∙ ap (λ (x : Document). x.state) it ∙ its_state e proc job outcome del t queue blame stands nav state address initial task in
+          let states : of ≡ state = sym one.of_state ∙ ap (λ (x : Document). x.state) it ∙ its_state e proc job outcome del t queue blame stands aside nav state address initial task in
           absurd (loaded_never s state loaded_none is.req is.q of is.found is.ongoing is.own (ap (λ (x : StateId). x.0) states))
 
       keeps : (of : StateId) → IsLoads s of → HasOne s of → HasOne then_ of
@@ -234,7 +234,7 @@ module _ (e : InEvent) (proc : ProcId) (job : Job) (outcome : Outcome) (del : Is
     where
       told_away : all_stand told told.history.current ≡ false
       told_away =
-          ap (λ (l : List Place). all_stand_in s.history.rows l s.history.current) (places_now e proc job outcome del t queue blame stands nav state address initial task ∙ sym places_same)
+          ap (λ (l : List Place). all_stand_in s.history.rows l s.history.current) (places_now e proc job outcome del t queue blame stands aside nav state address initial task ∙ sym places_same)
           ∙ ap (λ (h : History). all_stand_in h.rows then_.places h.current) (sym history_same)
           ∙ away
 
@@ -305,7 +305,7 @@ module _ (e : InEvent) (proc : ProcId) (job : Job) (outcome : Outcome) (del : Is
 
   module _ (out : List RowKind) (is : out ≡ rows.Sent discard ∷ []) where
     pub then_is : then_ ≡ now_of e out
-    then_is = sym (ap (λ (l : List RowKind). now_of e l) is ∙ now_more e [] (rows.Sent discard))
+    then_is = sym (ap (λ (l : List RowKind). now_of e l) is ∙ now_more e [] (rows.Sent discard) refl)
 
     pub discarded_comes : ArePlain t.running (now_of e out) → IsComing blame e.start (now_of e out)
     discarded_comes plain =

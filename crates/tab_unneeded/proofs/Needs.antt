@@ -27,14 +27,14 @@ use Rattle.tab_stands.proofs.Reports.{told_kept}
 use Rattle.tab_stands.proofs.Unmade.{d, its_found, its_outcome, not_ready, places_now}
 use Rattle.tab_stands.specs.Delivering.{IsDelivery}
 use Rattle.tab_stands.specs.PassedOn.{IsStray, IsTab}
-use Rattle.tab_stands.specs.Standing.{StandsFor}
+use Rattle.tab_stands.specs.Standing.{StandsFor, StartsUnasked}
 use Rattle.tab_sweeps.specs.Unneeded.{IsUnneeded}
 use Rattle.row_facts.proofs.WalkRows.Sleeping.{no_shower, nobody_awake}
 use Rattle.log_model.specs.declared.job.Task.TheVariants as tasks
 use Rattle.log_model.specs.declared.made.Report.TheVariants as reports
 use Rattle.log_model.specs.declared.outcome.Outcome.TheVariants as outcomes
 
-module _ (e : InEvent) (proc : ProcId) (job : Job) (outcome : Outcome) (del : IsDelivery e proc (reports.Done job outcome None)) (t : Tables) (queue : Queue) (blame : List (StateId × ReqId)) (stands : StandsFor e.start t queue blame) (nav : NavId) (state : StateId) (address : List ℕ) (initial : Bool) (task : job.task ≡ tasks.Populate nav state address initial) where
+module _ (e : InEvent) (proc : ProcId) (job : Job) (outcome : Outcome) (del : IsDelivery e proc (reports.Done job outcome None)) (t : Tables) (queue : Queue) (blame : List (StateId × ReqId)) (stands : StandsFor e.start t queue blame) (aside : StartsUnasked e) (nav : NavId) (state : StateId) (address : List ℕ) (initial : Bool) (task : job.task ≡ tasks.Populate nav state address initial) where
   abbrev s : Seen
   s = e.start
 
@@ -42,24 +42,24 @@ module _ (e : InEvent) (proc : ProcId) (job : Job) (outcome : Outcome) (del : Is
   n = now_of e []
 
   abbrev own : Document
-  own = d e proc job outcome del t queue blame stands nav state address initial task
+  own = d e proc job outcome del t queue blame stands aside nav state address initial task
 
   found : document_of s job.doc ≡ Some own
-  found = its_found e proc job outcome del t queue blame stands nav state address initial task
+  found = its_found e proc job outcome del t queue blame stands aside nav state address initial task
 
   new : own.is_ready ≡ false
-  new = not_ready e proc job outcome del t queue blame stands nav state address initial task
+  new = not_ready e proc job outcome del t queue blame stands aside nav state address initial task
 
   places_same : n.places ≡ s.places
   places_same =
-      ap (λ (x : Seen). x.places) (did_now e proc job outcome del t queue blame stands) ∙ places_now e proc job outcome del t queue blame stands nav state address initial task
+      ap (λ (x : Seen). x.places) (did_now e proc job outcome del t queue blame stands aside) ∙ places_now e proc job outcome del t queue blame stands aside nav state address initial task
 
   place_same : (x : NavId) → place_of n x ≡ place_of s x
   place_same x = ap (λ (l : List Place). place_in l x) places_same
 
   pub tab_made : IsTab t.running [] [] n
   tab_made =
-      subst (λ (x : Seen). IsTab t.running [] [] x) (sym (did_now e proc job outcome del t queue blame stands)) (did_tab e proc job outcome del t queue blame stands)
+      subst (λ (x : Seen). IsTab t.running [] [] x) (sym (did_now e proc job outcome del t queue blame stands aside)) (did_tab e proc job outcome del t queue blame stands aside)
 
   -- ---- nobody is awake on it
 
@@ -81,7 +81,7 @@ module _ (e : InEvent) (proc : ProcId) (job : Job) (outcome : Outcome) (del : Is
     where
       kept_same : n.kept ≡ s.kept
       kept_same =
-          ap (λ (x : Seen). x.kept) (did_now e proc job outcome del t queue blame stands) ∙ told_kept e proc del.by_coord del.own t queue blame stands (reports.Done job outcome None) del.first
+          ap (λ (x : Seen). x.kept) (did_now e proc job outcome del t queue blame stands aside) ∙ told_kept e proc del.by_coord del.own t queue blame stands aside (reports.Done job outcome None) del.first
 
       by_test : (b : Bool) → has_doc n.kept job.doc ≡ b → has_doc n.kept job.doc ≡ false
       by_test false is = is
@@ -142,4 +142,4 @@ module _ (e : InEvent) (proc : ProcId) (job : Job) (outcome : Outcome) (del : Is
       }
     where
       slot : (slot : Option ℕ) × (outcome ≡ outcomes.Populated slot)
-      slot = its_outcome e proc job outcome del t queue blame stands nav state address initial task
+      slot = its_outcome e proc job outcome del t queue blame stands aside nav state address initial task

@@ -39,14 +39,14 @@ use Rattle.tab_stands.proofs.Ready.{calm_before}
 use Rattle.tab_stands.proofs.Reports.{between_as, goal_as, lasts_as, told_turning}
 use Rattle.tab_stands.specs.Delivering.{IsDelivery}
 use Rattle.tab_stands.specs.PassedOn.{AreUnheld, HasQueue, IsPassing, IsQueueing, IsReady, IsStray, IsTaking, LateKnown, LeavesQueue, MayRelease, MovedAreShown}
-use Rattle.tab_stands.specs.Standing.{StandsFor}
+use Rattle.tab_stands.specs.Standing.{StandsFor, StartsUnasked}
 use Rattle.tab_unneeded.proofs.Comes.{discarded_comes, discarded_usable, requests_same, then_is}
 use Rattle.log_model.specs.declared.job.Task.TheVariants as tasks
 use Rattle.log_model.specs.declared.job.Why.TheVariants as whys
 use Rattle.log_model.specs.declared.made.Report.TheVariants as reports
 use Rattle.log_model.specs.declared.row_kind.RowKind.TheVariants as rows
 
-module _ (e : InEvent) (proc : ProcId) (job : Job) (outcome : Outcome) (del : IsDelivery e proc (reports.Done job outcome None)) (t : Tables) (queue : Queue) (blame : List (StateId × ReqId)) (stands : StandsFor e.start t queue blame) (nav : NavId) (state : StateId) (address : List ℕ) (initial : Bool) (task : job.task ≡ tasks.Populate nav state address initial) (why : Why) (unasked : (req : ReqId) → why ≡ whys.Req req → ⊥) (stray : IsStray (now_of e []) job.doc state) (u : Tables) (noted : KeepsRun t u) (first : IsPassing (record { event = e; loads = []; hand = [] }) [] u) (out : List RowKind) (v : Tables) (is : out ≡ rows.Sent (order_to (now_of e []) job.doc why tasks.Discard) ∷ []) (keeps : KeepsStore u v) (passing : IsPassing (record { event = e; loads = []; hand = [] }) out v) (header : t.kept.keep ≡ e.header.keep) where
+module _ (e : InEvent) (proc : ProcId) (job : Job) (outcome : Outcome) (del : IsDelivery e proc (reports.Done job outcome None)) (t : Tables) (queue : Queue) (blame : List (StateId × ReqId)) (stands : StandsFor e.start t queue blame) (aside : StartsUnasked e) (nav : NavId) (state : StateId) (address : List ℕ) (initial : Bool) (task : job.task ≡ tasks.Populate nav state address initial) (why : Why) (unasked : (req : ReqId) → why ≡ whys.Req req → ⊥) (stray : IsStray (now_of e []) job.doc state) (u : Tables) (noted : KeepsRun t u) (first : IsPassing (record { event = e; loads = []; hand = [] }) [] u) (out : List RowKind) (v : Tables) (is : out ≡ rows.Sent (order_to (now_of e []) job.doc why tasks.Discard) ∷ []) (keeps : KeepsStore u v) (passing : IsPassing (record { event = e; loads = []; hand = [] }) out v) (header : t.kept.keep ≡ e.header.keep) where
   abbrev s : Seen
   s = e.start
 
@@ -54,7 +54,7 @@ module _ (e : InEvent) (proc : ProcId) (job : Job) (outcome : Outcome) (del : Is
   n = now_of e out
 
   abbrev told : Seen
-  told = did e proc job outcome del t queue blame stands
+  told = did e proc job outcome del t queue blame stands aside
 
   -- the traversal that runs is as it was
   pub kept_run : KeepsRun t v
@@ -65,25 +65,25 @@ module _ (e : InEvent) (proc : ProcId) (job : Job) (outcome : Outcome) (del : Is
   plain = subst (λ (r : Option ReqId). ArePlain r n) kept_run.running passing.going.tab.asked
 
   comes : IsComing blame s n
-  comes = discarded_comes e proc job outcome del t queue blame stands nav state address initial task why unasked stray out is plain
+  comes = discarded_comes e proc job outcome del t queue blame stands aside nav state address initial task why unasked stray out is plain
 
   requests : n.requests ≡ s.requests
   requests =
-      ap (λ (x : Seen). x.requests) (sym (then_is e proc job outcome del t queue blame stands nav state address initial task why unasked stray out is))
-      ∙ requests_same e proc job outcome del t queue blame stands nav state address initial task why unasked stray
+      ap (λ (x : Seen). x.requests) (sym (then_is e proc job outcome del t queue blame stands aside nav state address initial task why unasked stray out is))
+      ∙ requests_same e proc job outcome del t queue blame stands aside nav state address initial task why unasked stray
 
   asks : AsksNone job.task
-  asks = made_asks e proc job outcome del t queue blame stands nav state address initial task
+  asks = made_asks e proc job outcome del t queue blame stands aside nav state address initial task
 
   same : told.requests ≡ s.requests
-  same = did_requests e proc job outcome del t queue blame stands asks
+  same = did_requests e proc job outcome del t queue blame stands aside asks
 
   taking : IsTaking e v.running blame n
   taking =
       taking_then e v.running v.kept.keep v.goal blame n (between_as t v kept_run s stands.between) (lasts_as t v kept_run s stands.lasts) (goal_as t v kept_run s.requests stands.tied.goal) [] [] passing.going.tab passing.work.goal comes unheld
     where
       before : (now_of e []).requests ≡ s.requests
-      before = ap (λ (x : Seen). x.requests) (did_now e proc job outcome del t queue blame stands) ∙ same
+      before = ap (λ (x : Seen). x.requests) (did_now e proc job outcome del t queue blame stands aside) ∙ same
 
       unheld : AreUnheld e n
       unheld req x its =
@@ -93,28 +93,28 @@ module _ (e : InEvent) (proc : ProcId) (job : Job) (outcome : Outcome) (del : Is
 
   parked : n.parked ≡ s.parked
   parked =
-      ap (λ (x : Seen). x.parked) (sym (then_is e proc job outcome del t queue blame stands nav state address initial task why unasked stray out is))
-      ∙ ap (λ (x : Seen). x.parked) (did_now e proc job outcome del t queue blame stands)
-      ∙ did_parked e proc job outcome del t queue blame stands
+      ap (λ (x : Seen). x.parked) (sym (then_is e proc job outcome del t queue blame stands aside nav state address initial task why unasked stray out is))
+      ∙ ap (λ (x : Seen). x.parked) (did_now e proc job outcome del t queue blame stands aside)
+      ∙ did_parked e proc job outcome del t queue blame stands aside
 
   joined : n.joined ≡ s.joined
   joined =
-      ap (λ (x : Seen). x.joined) (sym (then_is e proc job outcome del t queue blame stands nav state address initial task why unasked stray out is))
-      ∙ ap (λ (x : Seen). x.joined) (did_now e proc job outcome del t queue blame stands)
-      ∙ did_joined e proc job outcome del t queue blame stands
+      ap (λ (x : Seen). x.joined) (sym (then_is e proc job outcome del t queue blame stands aside nav state address initial task why unasked stray out is))
+      ∙ ap (λ (x : Seen). x.joined) (did_now e proc job outcome del t queue blame stands aside)
+      ∙ did_joined e proc job outcome del t queue blame stands aside
 
   parked_first : n.parked ≡ (now_of e []).parked
   parked_first =
       parked
-      ∙ sym (ap (λ (x : Seen). x.parked) (did_now e proc job outcome del t queue blame stands) ∙ did_parked e proc job outcome del t queue blame stands)
+      ∙ sym (ap (λ (x : Seen). x.parked) (did_now e proc job outcome del t queue blame stands aside) ∙ did_parked e proc job outcome del t queue blame stands aside)
 
   joined_first : n.joined ≡ (now_of e []).joined
   joined_first =
       joined
-      ∙ sym (ap (λ (x : Seen). x.joined) (did_now e proc job outcome del t queue blame stands) ∙ did_joined e proc job outcome del t queue blame stands)
+      ∙ sym (ap (λ (x : Seen). x.joined) (did_now e proc job outcome del t queue blame stands aside) ∙ did_joined e proc job outcome del t queue blame stands aside)
 
   requests_first : n.requests ≡ (now_of e []).requests
-  requests_first = requests ∙ sym (ap (λ (x : Seen). x.requests) (did_now e proc job outcome del t queue blame stands) ∙ same)
+  requests_first = requests ∙ sym (ap (λ (x : Seen). x.requests) (did_now e proc job outcome del t queue blame stands aside) ∙ same)
 
   leaves : LeavesQueue s n
   leaves =
@@ -126,7 +126,7 @@ module _ (e : InEvent) (proc : ProcId) (job : Job) (outcome : Outcome) (del : Is
     where
       usable : (own : StateId) → HasUsable n own → HasUsable s own
       usable =
-          discarded_usable e proc job outcome del t queue blame stands nav state address initial task why unasked stray out is passing.going.tab.whose.numbered
+          discarded_usable e proc job outcome del t queue blame stands aside nav state address initial task why unasked stray out is passing.going.tab.whose.numbered
 
       ready_was : (q : Asked) → is_ready_load n q ≡ true → is_ready_load s q ≡ true
       ready_was q ready = by_state q.state refl (and_parts (is_ongoing_load q) (holds (λ (own : StateId). list_any (λ (x : Document). is_usable x own) n.documents) q.state) ready)
@@ -154,7 +154,7 @@ module _ (e : InEvent) (proc : ProcId) (job : Job) (outcome : Outcome) (del : Is
   queueing : IsQueueing (record { event = e; loads = []; hand = [] }) out v queue
   queueing =
       record {
-        turning = turning_on e [] out (inl parked_first) (λ req. ap (λ (l : List Asked). option_map wish (request_in l req)) requests_first) (λ req has. ap (λ (l : List ReqId). has_req l req) (sym joined_first) ∙ has) (told_turning e proc del.by_coord del.own t queue blame stands (reports.Done job outcome None) del.first same (did_tab e proc job outcome del t queue blame stands).known);
+        turning = turning_on e [] out (inl parked_first) (λ req. ap (λ (l : List Asked). option_map wish (request_in l req)) requests_first) (λ req has. ap (λ (l : List ReqId). has_req l req) (sym joined_first) ∙ has) (told_turning e proc del.by_coord del.own t queue blame stands aside (reports.Done job outcome None) del.first same (did_tab e proc job outcome del t queue blame stands aside).known);
         queued = subst (λ (r : Option ReqId). HasQueue n r queue.waiting) (sym kept_run.running) (queue_over s n leaves t.running queue.waiting stands.queue);
         parked = stands.parked ∙ ap (λ (l : List Asked). held_back l s.parked) (sym requests) ∙ ap (λ (l : List ReqId). held_back n.requests l) (sym parked);
         held = λ idle. parked ∙ stands.between.held (sym kept_run.running ∙ idle);

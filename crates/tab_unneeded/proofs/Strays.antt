@@ -30,7 +30,7 @@ use Rattle.tab_stands.proofs.Placed.{made_asks, made_then}
 use Rattle.tab_stands.proofs.Unmade.{d, its_found, its_number, its_state, made_at, undiscarded}
 use Rattle.tab_stands.specs.Delivering.{IsDelivery}
 use Rattle.tab_stands.specs.PassedOn.{IsStray}
-use Rattle.tab_stands.specs.Standing.{StandsFor}
+use Rattle.tab_stands.specs.Standing.{StandsFor, StartsUnasked}
 use Rattle.tab_sweeps.proofs.Loads.{log_unloaded, state_unloaded}
 use Rattle.tab_sweeps.specs.Sweeping.{loads_state, unneeded_in}
 use Rattle.tab_unneeded.specs.Telling.{is_unneeded_in}
@@ -44,7 +44,7 @@ state_held state held history same =
     ∙ ap (nat_lt 0) (sym (count_by-ordered (λ (row : Row). row.state.0 == state.0) held.rows) ∙ ap (count_by (λ (row : Row). row.state.0 == state.0)) same.rows ∙ count_by-ordered (λ (row : Row). row.state.0 == state.0) history.rows)
     ∙ any_counted (λ (row : Row). row.state.0 == state.0) history.rows
 
-module _ (e : InEvent) (proc : ProcId) (job : Job) (outcome : Outcome) (del : IsDelivery e proc (reports.Done job outcome None)) (t : Tables) (queue : Queue) (blame : List (StateId × ReqId)) (stands : StandsFor e.start t queue blame) (nav : NavId) (state : StateId) (address : List ℕ) (initial : Bool) (task : job.task ≡ tasks.Populate nav state address initial) where
+module _ (e : InEvent) (proc : ProcId) (job : Job) (outcome : Outcome) (del : IsDelivery e proc (reports.Done job outcome None)) (t : Tables) (queue : Queue) (blame : List (StateId × ReqId)) (stands : StandsFor e.start t queue blame) (aside : StartsUnasked e) (nav : NavId) (state : StateId) (address : List ℕ) (initial : Bool) (task : job.task ≡ tasks.Populate nav state address initial) where
   abbrev s : Seen
   s = e.start
 
@@ -52,19 +52,19 @@ module _ (e : InEvent) (proc : ProcId) (job : Job) (outcome : Outcome) (del : Is
   n = now_of e []
 
   abbrev told : Seen
-  told = did e proc job outcome del t queue blame stands
+  told = did e proc job outcome del t queue blame stands aside
 
   abbrev own : Document
-  own = d e proc job outcome del t queue blame stands nav state address initial task
+  own = d e proc job outcome del t queue blame stands aside nav state address initial task
 
   found : document_of s job.doc ≡ Some own
-  found = its_found e proc job outcome del t queue blame stands nav state address initial task
+  found = its_found e proc job outcome del t queue blame stands aside nav state address initial task
 
   states : own.state ≡ state
-  states = its_state e proc job outcome del t queue blame stands nav state address initial task
+  states = its_state e proc job outcome del t queue blame stands aside nav state address initial task
 
   now : n ≡ told
-  now = did_now e proc job outcome del t queue blame stands
+  now = did_now e proc job outcome del t queue blame stands aside
 
   -- ---- what the tables tell
 
@@ -81,7 +81,7 @@ module _ (e : InEvent) (proc : ProcId) (job : Job) (outcome : Outcome) (del : Is
   same : n.requests ≡ s.requests
   same =
       ap (λ (x : Seen). x.requests) now
-      ∙ did_requests e proc job outcome del t queue blame stands (made_asks e proc job outcome del t queue blame stands nav state address initial task)
+      ∙ did_requests e proc job outcome del t queue blame stands aside (made_asks e proc job outcome del t queue blame stands aside nav state address initial task)
 
   loaded_same : ongoing_load n state ≡ ongoing_load s state
   loaded_same = ap (λ (l : List Asked). let x : Seen = record s { requests = l } in ongoing_load x state) same
@@ -114,12 +114,12 @@ module _ (e : InEvent) (proc : ProcId) (job : Job) (outcome : Outcome) (del : Is
 
   number : (own.nr.0 == job.doc.0) ≡ true
   number =
-      ap (λ (k : ℕ). k == job.doc.0) (its_number e proc job outcome del t queue blame stands nav state address initial task) ∙ nat_eq_refl job.doc.0
+      ap (λ (k : ℕ). k == job.doc.0) (its_number e proc job outcome del t queue blame stands aside nav state address initial task) ∙ nat_eq_refl job.doc.0
 
   made_found : document_of n job.doc ≡ Some (record own { is_ready = true; is_fresh = true })
   made_found =
       ap (λ (x : Seen). document_of x job.doc) now
-      ∙ made_then e proc job outcome del t queue blame stands nav state address initial task job.doc
+      ∙ made_then e proc job outcome del t queue blame stands aside nav state address initial task job.doc
       ∙ ap (λ (o : Option Document). option_map (λ (x : Document). made_at job.doc x) o) found
       ∙ ap (λ (b : Bool). let o : Option Document = Some (cond b (record own { is_ready = true; is_fresh = true }) own) in o) number
 
@@ -130,7 +130,7 @@ module _ (e : InEvent) (proc : ProcId) (job : Job) (outcome : Outcome) (del : Is
         found = made_found;
         its_state = states;
         ready = refl;
-        undiscarded = undiscarded e proc job outcome del t queue blame stands nav state address initial task;
+        undiscarded = undiscarded e proc job outcome del t queue blame stands aside nav state address initial task;
         bare = ap (λ (h : History). has_state state h.rows) history_same ∙ sym held ∙ parts.0;
         unloaded = loaded_same ∙ ap (λ (x : StateId). ongoing_load s x) (sym states) ∙ log_unloaded s t.loads stands.tied.loads stands.between.tab.loading job.doc own found (ap (λ (x : StateId). loads_state t.loads own.nav x) states ∙ parts.1);
       }

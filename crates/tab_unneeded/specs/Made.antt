@@ -1,5 +1,6 @@
 -- A document that nothing needs as it is made, and that was made for no request.
 -- HTML Standard, "attempt to populate the history entry's document" and "destroy a document"; that such a document is discarded at once, for what it was made for, is this project's own.
+use Rattle.tab_stands.specs.Standing.{StartsUnasked}
 use Rattle.log_model.specs.declared.job.Job.{Job}
 use Rattle.log_model.specs.declared.job.Why.{Why}
 use Rattle.log_model.specs.declared.outcome.Outcome.{Outcome}
@@ -30,8 +31,9 @@ pub record InMade : Type 0 where
 abbrev pub pass_in : InMade → InPass
 pass_in m = record { event = m.event; loads = []; hand = [] }
 
--- the report tells that the document was made for the document state, for this reason, which is no request; and the document is stray then
+-- nobody is in a check, and the report tells that the document was made for the document state, for this reason, which is no request; and the document is stray then
 pub record IsMadeUnneeded (m : InMade) (doc : DocId) (state : StateId) (why : Why) : Type 0 where
+  pub aside : StartsUnasked m.event
   pub tells : IsDelivery m.event m.proc (reports.Done m.job m.outcome None)
   pub nav : NavId
   pub address : List ℕ

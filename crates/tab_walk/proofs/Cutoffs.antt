@@ -29,7 +29,7 @@ use Rattle.seen_facts.proofs.Rest.Stands.{all_requests}
 use Rattle.seen_facts.proofs.Rest.Still.{found_itself}
 use Rattle.seen_laws.proofs.InEvents.{led_here}
 use Rattle.seen_laws.proofs.Keyed.{find_has as seen_number}
-use Rattle.seen_laws.specs.InEvent.{InEvent, here_of, now_of, row_of}
+use Rattle.seen_laws.specs.InEvent.{InEvent, here_of, now_of, row_of, log_of}
 use Rattle.std.proofs.Common.{Bool, List, Option, Some, [], ap, arith, false, filter_map, inl, map, not, refl, subst, sym, true, ℕ, ◌&&◌, ◌||◌, ◌==◌, ◌∙◌, ◌≡◌}
 use Rattle.std.proofs.lemmas.Bool.Decides.{nat_tests}
 use Rattle.std.specs.Prelude.{find, option_map}
@@ -64,13 +64,18 @@ neither true b e f = absurd cc
 neither false true e f = absurd cc
 
 -- such an order may be sent
-cut_ahead : (e : InEvent) (out : List RowKind) (move : Move) (t : Tables) (doc : DocId) (why : Why) (d new : Document) → IsAtWorkFor (Some move) e out t → document_of (now_of e out) move.doc ≡ Some new → IsLeaveDue (now_of e out) (order_to (now_of e out) doc why tasks.Discard) d → (desk_of (now_of e out) (proc_at (now_of e out) doc)).known ≡ 0 → SettlesNone (now_of e out) (row_of e (rows.Sent (order_to (now_of e out) doc why tasks.Discard))) → e.header.keep ≡ 0 → (now_of e out).kept ≡ [] → new.nav ≡ d.nav → (move.doc.0 == d.nr.0) ≡ false → MaySend (Some move) e out (order_to (now_of e out) doc why tasks.Discard)
-unfolding now_of
-cut_ahead e out move t doc why d new work found due known settles none kept same apart =
+-- of the log itself
+cut_ahead_log : (e : InEvent) (out : List RowKind) (move : Move) (t : Tables) (doc : DocId) (why : Why) (d new : Document) → IsAtWorkFor (Some move) e out t → document_of (log_of e out) move.doc ≡ Some new → IsLeaveDue (log_of e out) (order_to (log_of e out) doc why tasks.Discard) d → (desk_of (log_of e out) (proc_at (log_of e out) doc)).known ≡ 0 → SettlesNone (log_of e out) (row_of e (rows.Sent (order_to (log_of e out) doc why tasks.Discard))) → e.header.keep ≡ 0 → (log_of e out).kept ≡ [] → new.nav ≡ d.nav → (move.doc.0 == d.nr.0) ≡ false → MaySend (Some move) e out (order_to (log_of e out) doc why tasks.Discard)
+cut_ahead_log e out move t doc why d new work found due known settles none kept same apart =
     left_sends (here_of e out) e.event e.actor (order_to (here_of e out).now doc why tasks.Discard) move (led_here e out work.own) (numbered (here_of e out).now (proc_at (here_of e out).now doc) doc why tasks.Discard known) new found d due settles
     (subst (λ (h : Header). IsTooMany h (here_of e out).now d) (sym (header_here e out)) (none_kept e.header (here_of e out).now d none kept))
     same
     apart
+
+-- and so of the log without questions
+cut_ahead : (e : InEvent) (out : List RowKind) (move : Move) (t : Tables) (doc : DocId) (why : Why) (d new : Document) → IsAtWorkFor (Some move) e out t → document_of (now_of e out) move.doc ≡ Some new → IsLeaveDue (now_of e out) (order_to (now_of e out) doc why tasks.Discard) d → (desk_of (now_of e out) (proc_at (now_of e out) doc)).known ≡ 0 → SettlesNone (now_of e out) (row_of e (rows.Sent (order_to (now_of e out) doc why tasks.Discard))) → e.header.keep ≡ 0 → (now_of e out).kept ≡ [] → new.nav ≡ d.nav → (move.doc.0 == d.nr.0) ≡ false → MaySend (Some move) e out (order_to (now_of e out) doc why tasks.Discard)
+cut_ahead e out move t doc why d new work found due known settles none kept same apart =
+    subst (λ (s_ : Seen). MaySend (Some move) e out (order_to s_ doc why tasks.Discard)) work.plain (cut_ahead_log e out move t doc why d new work (subst (λ (s_ : Seen). document_of s_ move.doc ≡ Some new) (sym work.plain) found) (subst (λ (s_ : Seen). IsLeaveDue s_ (order_to s_ doc why tasks.Discard) d) (sym work.plain) due) (subst (λ (s_ : Seen). (desk_of s_ (proc_at s_ doc)).known ≡ 0) (sym work.plain) known) (subst (λ (s_ : Seen). SettlesNone s_ (row_of e (rows.Sent (order_to s_ doc why tasks.Discard)))) (sym work.plain) settles) none (subst (λ (s_ : Seen). s_.kept ≡ []) (sym work.plain) kept) same apart)
 
 module _ (m : InMove) (out : List RowKind) (t : Tables) (leaving : IsLeaving m.pass (Some (cut_of m)) [] out t) (why : Why) (may : MayCut m t.running (now_of m.pass.event out) m.nav m.left m.state why) where
   abbrev s : Seen

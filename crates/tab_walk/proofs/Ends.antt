@@ -63,7 +63,7 @@ module _ (m : InMove) (out : List RowKind) (t : Tables) (leaving : IsLeaving m.p
   then_ = cut_then m out t leaving why may
 
   now_is : then_ ≡ now
-  now_is = sym (ap (λ (l : List RowKind). now_of m.pass.event l) is ∙ now_more m.pass.event out (rows.Sent (order_to s m.left why tasks.Discard)))
+  now_is = sym (ap (λ (l : List RowKind). now_of m.pass.event l) is ∙ now_more m.pass.event out (rows.Sent (order_to s m.left why tasks.Discard)) refl)
 
   quiet : HasOnly IsQuietRow out new_out
   quiet =

@@ -22,7 +22,7 @@ use Rattle.seen_facts.proofs.Mover.Orders.{PutsToSleep}
 use Rattle.seen_facts.specs.Mover.Movers.{IsMovedBy}
 use Rattle.row_facts.proofs.Owed.Requests.{AsksNone}
 use Rattle.seen_facts.proofs.Request.Readers.{sent_reads}
-use Rattle.seen_laws.proofs.InEvents.{now_more}
+use Rattle.seen_laws.proofs.InEvents.{now_step}
 use Rattle.seen_laws.specs.InEvent.{InEvent, now_of, row_of}
 use Rattle.std.proofs.Common.{List, Option, Some, [], ap, append-nil, append_assoc, cond, false, inl, inr, map, refl, subst, sym, true, Bool, None, ◌==◌, ◌++◌, ◌∙◌, ◌∷◌, ◌≡◌}
 use Rattle.std.specs.List.{list_any}
@@ -63,7 +63,7 @@ over_rows : (Is : RowKind → Type 0) (P : Seen → Type 0) (e : InEvent) → ((
 over_rows Is P e step out [] each so = subst (λ (l : List RowKind). P (now_of e l)) (sym (append-nil out)) so
 over_rows Is P e step out (row ∷ more) each so =
     subst (λ (l : List RowKind). P (now_of e l)) (append_assoc out (row ∷ []) more)
-    (over_rows Is P e step (out ++ row ∷ []) more (λ other there. each other (inr there)) (subst (λ (x : Seen). P x) (sym (now_more e out row)) (step (now_of e out) row (each row (inl refl)) so)))
+    (over_rows Is P e step (out ++ row ∷ []) more (λ other there. each other (inr there)) (now_step P e out row (λ (was : P (now_of e out)). step (now_of e out) row (each row (inl refl)) was) so))
 
 pub over_each : (Is : RowKind → Type 0) (P : Seen → Type 0) (e : InEvent) → ((s : Seen) (row : RowKind) → Is row → P s → P (after s (row_of e row))) → (was out : List RowKind) → HasOnly Is was out → P (now_of e was) → P (now_of e out)
 over_each Is P e step was out only so =
@@ -164,7 +164,7 @@ sights_over why docs e was out only = subst (λ (l : List RowKind). map sight (n
     over [] mid each so = subst (λ (l : List RowKind). map sight (now_of e l).documents ≡ map sight (now_of e was).documents) (sym (append-nil mid)) so
     over (row ∷ more) mid each so =
         subst (λ (l : List RowKind). map sight (now_of e l).documents ≡ map sight (now_of e was).documents) (append_assoc mid (row ∷ []) more)
-        (over more (mid ++ row ∷ []) (λ other there. each other (inr there)) (subst (λ (x : Seen). map sight x.documents ≡ map sight (now_of e was).documents) (sym (now_more e mid row)) one))
+        (over more (mid ++ row ∷ []) (λ other there. each other (inr there)) (now_step (λ (x : Seen). map sight x.documents ≡ map sight (now_of e was).documents) e mid row (λ was_. one) so))
       where
         its : IsFreezeOf why docs row
         its = each row (inl refl)

@@ -23,7 +23,7 @@ use Rattle.log_model.specs.After.{after, new_request}
 use Rattle.log_model.specs.AfterPlaces.{sleepers_below}
 use Rattle.log_model.specs.AfterRequests.{entries_taken, is_running, on_asking, on_request, on_served, request_begun, request_served, requests_delivered, requests_finished, requests_sent, with_activated, with_moved}
 use Rattle.unasked.specs.Premises.{AreFresh, Beginning, IsNumbered, beginning_of, unstarted}
-use Rattle.unasked.specs.Unasked.{unasked, unasked_request, unbegun, without_asks}
+use Rattle.seen_laws.specs.Unasked.{unasked, unasked_request, unbegun, without_asks}
 use Rattle.unasked.proofs.Lists.{found_at, found_in, map_same, on_twice}
 use Rattle.unasked.proofs.Whole.{row_of}
 

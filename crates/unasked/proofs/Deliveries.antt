@@ -26,7 +26,7 @@ use Rattle.log_model.specs.AfterDocuments.{documents_delivered}
 use Rattle.log_model.specs.AfterPlaces.{is_dead_by, is_taken_by, kept_delivered, on_place, place_arrived, places_delivered}
 use Rattle.log_model.specs.AfterRequests.{changes_history, is_held_back, is_held_up, is_in_place, is_traversed, joined_delivered, made_of_report, requests_delivered}
 use Rattle.unasked.specs.Premises.{IsUnheld}
-use Rattle.unasked.specs.Unasked.{is_question, no_answer, quiet_desk, unasked, unasked_request, unhandled, without_slot}
+use Rattle.seen_laws.specs.Unasked.{is_question, no_answer, quiet_desk, unasked, unasked_request, unhandled, without_slot}
 use Rattle.unasked.proofs.Lists.{desk_past, map_past}
 use Rattle.unasked.proofs.Readings.{desk_read, document_read, tested_read, traversed_read}
 use Rattle.unasked.proofs.Rows.{document_past, reports_first, reports_rest, served_past}

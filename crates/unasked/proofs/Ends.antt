@@ -18,13 +18,13 @@ use Rattle.log_model.specs.declared.row_kind.RowKind.TheVariants as rows
 use Rattle.log_model.specs.Equal.{holds}
 use Rattle.log_model.specs.History.{applied}
 use Rattle.log_model.specs.Places.{is_load, is_reload}
-use Rattle.log_model.specs.Seen.{Asked, Document, Seen, request_in, request_of}
+use Rattle.log_model.specs.Seen.{Asked, Document, Seen, request_of}
 use Rattle.log_model.specs.After.{after, desk_dropped, desks_refused, ended, is_load_request, is_new_step, states_after}
 use Rattle.log_model.specs.AfterDocuments.{applied_to, told_after_change, with_applied}
 use Rattle.log_model.specs.AfterPlaces.{given_entry, on_place, places_after, places_given, with_taker}
 use Rattle.log_model.specs.AfterRequests.{entries_taken, on_request, request_begun}
-use Rattle.unasked.specs.Premises.{IsNumbered}
-use Rattle.unasked.specs.Unasked.{quiet_desk, unasked, unasked_request, unbegun, unhandled, without_asks}
+use Rattle.unasked.specs.Premises.{IsNumbered, IsOff}
+use Rattle.seen_laws.specs.Unasked.{quiet_desk, unasked, unasked_request, unbegun, unhandled, without_asks}
 use Rattle.unasked.proofs.Lists.{desk_past, map_past, on_past, on_twice}
 use Rattle.unasked.proofs.Readings.{request_read}
 use Rattle.unasked.proofs.Rows.{IsAside, request_past}
@@ -112,7 +112,7 @@ module _ (checking : ReqId → Bool) (s : Seen) (event : ℕ) (actor : Actor) wh
       })
 
   -- a request that isn't in its check is found so
-  pub found_off : (req : ReqId) → checking req ≡ false → IsNumbered s req → (q : Asked) → request_in s.requests req ≡ Some q → checking q.nr ≡ false
+  pub found_off : (req : ReqId) → checking req ≡ false → IsNumbered s req → IsOff checking s req
   found_off req off numbered q found = ap checking (numbered q found) ∙ off
 
   -- it loads or doesn't
@@ -124,8 +124,8 @@ module _ (checking : ReqId → Bool) (s : Seen) (event : ℕ) (actor : Actor) wh
       by_found (Some q) = elim (checking q.nr) as (λ b. is_load q.what ≡ is_load (let r : Asked = cond b (unbegun q) (without_asks q) in r).what) [ true ↦ refl | false ↦ refl ]
 
   -- one that begins, and isn't in its check
-  pub started_seen : (req : ReqId) (goal : Option Step) → checking req ≡ false → IsNumbered s req → unasked checking (after s (row_of event actor (rows.Started req goal))) ≡ after (unasked checking s) (row_of event actor (rows.Started req goal))
-  started_seen req goal off numbered =
+  pub started_seen : (req : ReqId) (goal : Option Step) → IsOff checking s req → unasked checking (after s (row_of event actor (rows.Started req goal))) ≡ after (unasked checking s) (row_of event actor (rows.Started req goal))
+  started_seen req goal off =
       let row = row_of event actor (rows.Started req goal) in
       seen checking s row row (record {
         fixed = refl;
@@ -133,7 +133,7 @@ module _ (checking : ReqId → Bool) (s : Seen) (event : ℕ) (actor : Actor) wh
         desks = refl;
         requests =
             ap (λ l. map (unasked_request checking) l) (on_twice (λ q. record q { is_started = true; goal = goal }) (request_begun s) req s.requests)
-            ∙ on_past (unasked_request checking) _ (λ q. request_begun (unasked checking s) (record q { is_started = true; goal = goal })) req s.requests (λ q found. begun q (found_off req off numbered q found))
+            ∙ on_past (unasked_request checking) _ (λ q. request_begun (unasked checking s) (record q { is_started = true; goal = goal })) req s.requests (λ q found. begun q (off q found))
             ∙ sym (on_twice (λ q. record q { is_started = true; goal = goal }) (request_begun (unasked checking s)) req (map (unasked_request checking) s.requests));
         places = refl;
         kept = refl;
@@ -149,14 +149,14 @@ module _ (checking : ReqId → Bool) (s : Seen) (event : ℕ) (actor : Actor) wh
       begun q e = rw e refl
 
   -- it is a new step or isn't
-  pub step_same : (req : ReqId) → checking req ≡ false → IsNumbered s req → is_new_step s req ≡ is_new_step (unasked checking s) req
-  step_same req off numbered =
+  pub step_same : (req : ReqId) → IsOff checking s req → is_new_step s req ≡ is_new_step (unasked checking s) req
+  step_same req off =
       by_found (request_of s req) refl
       ∙ ap (λ o. holds (λ (q : Asked). is_reload q.what || (is_load q.what && q.is_started)) o) (sym (request_read checking s req))
     where
       by_found : (o : Option Asked) → request_of s req ≡ o → holds (λ (q : Asked). is_reload q.what || (is_load q.what && q.is_started)) o ≡ holds (λ (q : Asked). is_reload q.what || (is_load q.what && q.is_started)) (option_map (unasked_request checking) o)
       by_found None e = refl
-      by_found (Some q) e = rw (found_off req off numbered q e) refl
+      by_found (Some q) e = rw (off q e) refl
 
   -- what was made of a request
   pub made_same : (req : ReqId) → option_and_then (λ (q : Asked). q.made) (request_of s req) ≡ option_and_then (λ (q : Asked). q.made) (request_of (unasked checking s) req)
@@ -201,8 +201,8 @@ module _ (checking : ReqId → Bool) (s : Seen) (event : ℕ) (actor : Actor) wh
       ∙ ap (on_request req (λ q. record q { took = took })) (request_past checking _ _ req _ (change_aside change) ∙ ap (on_request req (λ q. record q { change = Some change })) (request_past checking _ _ req s.requests (ended_aside endings.Applied)))
 
   -- one that is applied, and isn't in its check
-  pub applied_seen : (req : ReqId) (change : Change) → checking req ≡ false → IsNumbered s req → unasked checking (after s (row_of event actor (rows.Applied req change))) ≡ after (unasked checking s) (row_of event actor (rows.Applied req change))
-  applied_seen req change off numbered =
+  pub applied_seen : (req : ReqId) (change : Change) → IsOff checking s req → unasked checking (after s (row_of event actor (rows.Applied req change))) ≡ after (unasked checking s) (row_of event actor (rows.Applied req change))
+  applied_seen req change off =
       let row = row_of event actor (rows.Applied req change) in
       seen checking s row row (record {
         fixed = refl;
@@ -215,6 +215,6 @@ module _ (checking : ReqId → Bool) (s : Seen) (event : ℕ) (actor : Actor) wh
         parked = refl;
         states = change_states req change;
         finished = refl;
-        step = ap (λ b. cond b (Some req) s.last_step) (step_same req off numbered);
-        stood = ap (λ b. not b && s.has_stood) (step_same req off numbered);
+        step = ap (λ b. cond b (Some req) s.last_step) (step_same req off);
+        stood = ap (λ b. not b && s.has_stood) (step_same req off);
       })

@@ -20,7 +20,7 @@ use Rattle.log_model.specs.declared.row_kind.Actor.{Actor}
 use Rattle.log_model.specs.declared.row_kind.RowKind.TheVariants as rows
 use Rattle.log_model.specs.Seen.{Desk, Document, Seen, document_of, desk_of}
 use Rattle.log_model.specs.After.{after, desk_killed, desk_taken, desks_accepted, new_request, on_desk, poked}
-use Rattle.unasked.specs.Unasked.{is_question, no_question_in_hand, quiet_desk, unasked, unasked_request, unbegun, unhandled, without_asks}
+use Rattle.seen_laws.specs.Unasked.{is_question, no_question_in_hand, quiet_desk, unasked, unasked_request, unbegun, unhandled, without_asks}
 use Rattle.unasked.proofs.Lists.{desk_past, map_past}
 use Rattle.unasked.proofs.Readings.{document_read}
 use Rattle.unasked.proofs.Rows.{mail_first, mail_rest, reports_more}

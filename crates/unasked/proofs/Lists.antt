@@ -10,7 +10,7 @@ use Rattle.log_model.specs.Seen.{Asked, Desk, desk_in, empty_desk, request_in}
 use Rattle.log_model.specs.After.{on_desk}
 use Rattle.log_model.specs.AfterRequests.{on_request}
 use Rattle.unasked.specs.Premises.{has_desk}
-use Rattle.unasked.specs.Unasked.{quiet_desk}
+use Rattle.seen_laws.specs.Unasked.{quiet_desk}
 
 -- ---- any lists
 

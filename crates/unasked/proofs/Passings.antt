@@ -7,7 +7,7 @@ use Rattle.tab_ids.specs.declared.ReqId.{ReqId}
 use Rattle.log_model.specs.Seen.{Asked, Seen, request_of}
 use Rattle.log_model.specs.AfterRequests.{on_request}
 use Rattle.unasked.specs.Premises.{IsNumbered}
-use Rattle.unasked.specs.Unasked.{unasked, unasked_request, unbegun, without_asks}
+use Rattle.seen_laws.specs.Unasked.{unasked, unasked_request, unbegun, without_asks}
 use Rattle.unasked.proofs.Lists.{found_at, found_in, found_real, map_but, map_same, request_map}
 
 -- a request as this one began

@@ -27,7 +27,7 @@ use Rattle.log_model.specs.AfterDocuments.{addressed, documents_delivered, docum
 use Rattle.log_model.specs.AfterPlaces.{kept_delivered, kept_sent, places_delivered, places_sent}
 use Rattle.log_model.specs.AfterRequests.{is_held_back, joined_delivered, made_of_report, on_asking, request_begun, requests_delivered, requests_finished, requests_sent, with_asking}
 use Rattle.unasked.specs.Premises.{IsNumbered, has_desk}
-use Rattle.unasked.specs.Unasked.{is_question, no_answer, no_question, no_question_in_hand, without_slot, quiet_desk, unasked, unasked_request, unhandled}
+use Rattle.seen_laws.specs.Unasked.{is_question, no_answer, no_question, no_question_in_hand, without_slot, quiet_desk, unasked, unasked_request, unhandled}
 use Rattle.unasked.proofs.Lists.{desk_still, desk_there, on_still, on_twice}
 use Rattle.unasked.proofs.Rows.{IsAside, document_still, mail_behind, mail_same, reports_behind, reports_same, request_still, served_still}
 use Rattle.unasked.proofs.Whole.{row_of, silent, still, unseen}

@@ -14,7 +14,7 @@ use Rattle.log_model.specs.Seen.{Asked, Document, Place, Seen, request_in, desk_
 use Rattle.log_model.specs.Places.{aim_of, all_stand, due_pair, is_moved, pair_in, has_passed, has_passed_with, is_gone, is_standing, is_traversal, is_under_way, passed_in, running_in, running_traversal, stands}
 use Rattle.seen_laws.proofs.Keyed.{find_map}
 use Rattle.unasked.specs.Premises.{IsAlone, IsNumbered, IsPassedOff, IsUnheld, IsUnmoved}
-use Rattle.unasked.specs.Unasked.{quiet_desk, unasked, unasked_request, unbegun, unhandled, without_asks}
+use Rattle.seen_laws.specs.Unasked.{quiet_desk, unasked, unasked_request, unbegun, unhandled, without_asks}
 use Rattle.unasked.proofs.Lists.{desk_map, find_at, find_none, find_same, found_in, request_map}
 
 -- ---- one request

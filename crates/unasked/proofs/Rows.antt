@@ -11,7 +11,7 @@ use Rattle.log_model.specs.declared.made.Report.{Report}
 use Rattle.log_model.specs.Seen.{Asked, Document}
 use Rattle.log_model.specs.AfterDocuments.{on_document}
 use Rattle.log_model.specs.AfterRequests.{on_request, on_served}
-use Rattle.unasked.specs.Unasked.{is_question, no_answer, unasked_request, unbegun, unhandled, without_asks}
+use Rattle.seen_laws.specs.Unasked.{is_question, no_answer, unasked_request, unbegun, unhandled, without_asks}
 use Rattle.unasked.proofs.Lists.{map_past, map_still, on_past, on_still}
 
 -- ---- documents

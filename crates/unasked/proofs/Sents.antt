@@ -15,7 +15,7 @@ use Rattle.log_model.specs.After.{after}
 use Rattle.log_model.specs.AfterDocuments.{addressed, documents_sent, new_document}
 use Rattle.log_model.specs.AfterPlaces.{activated, kept_leaving, kept_sent, on_place, places_sent, put_to_sleep, sleepers_below, without_doc}
 use Rattle.log_model.specs.AfterRequests.{request_served, requests_sent, with_activated, with_moved}
-use Rattle.unasked.specs.Unasked.{is_question, quiet_desk, unasked, unasked_request, unbegun, unhandled, without_asks}
+use Rattle.seen_laws.specs.Unasked.{is_question, quiet_desk, unasked, unasked_request, unbegun, unhandled, without_asks}
 use Rattle.unasked.proofs.Lists.{desk_past}
 use Rattle.unasked.proofs.Readings.{desk_read, document_read, gone_read}
 use Rattle.unasked.proofs.Rows.{IsAside, document_past, mail_more, request_past, served_past}

@@ -13,7 +13,7 @@ use Rattle.log_model.specs.Places.{all_stand, all_stand_in}
 use Rattle.log_model.specs.After.{after, changed, desks_after, documents_after, finished_by, has_stood_after, has_stood_now, last_step_after, states_after}
 use Rattle.log_model.specs.AfterPlaces.{kept_after, places_after}
 use Rattle.log_model.specs.AfterRequests.{joined_after, parked_after}
-use Rattle.unasked.specs.Unasked.{no_question, quiet_desk, unasked, unasked_request, unhandled}
+use Rattle.seen_laws.specs.Unasked.{no_question, quiet_desk, unasked, unasked_request, unhandled}
 
 -- a row of an event
 abbrev pub row_of : ℕ → Actor → RowKind → LogRow

@@ -26,7 +26,7 @@ use Rattle.log_model.specs.Views.{View, after_made}
 use Rattle.log_model.specs.After.{after, desk_finished, desk_made, desks_made, follows_finished, on_desk, reports_joined, reports_made}
 use Rattle.log_model.specs.AfterDocuments.{documents_finished, slot_finished, task_in_hand, view_finished}
 use Rattle.log_model.specs.AfterRequests.{is_running, on_asking, requests_finished}
-use Rattle.unasked.specs.Unasked.{is_question, no_answer, no_question, no_question_in_hand, quiet_desk, unasked, unasked_request, unhandled, without_slot}
+use Rattle.seen_laws.specs.Unasked.{is_question, no_answer, no_question, no_question_in_hand, quiet_desk, unasked, unasked_request, unhandled, without_slot}
 use Rattle.unasked.proofs.Lists.{desk_past}
 use Rattle.unasked.proofs.Readings.{desk_read, tested_read}
 use Rattle.unasked.proofs.Rows.{IsAside, document_past, reports_more, request_past, served_past}

@@ -1,2 +1,1 @@
-pub mod Unasked
 pub mod Premises

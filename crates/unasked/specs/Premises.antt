@@ -9,7 +9,7 @@ use Rattle.tab_ids.specs.declared.StateId.{StateId}
 use Rattle.tab_ids.specs.declared.Step.{Step}
 use Rattle.log_model.specs.Places.{has_passed, is_traversal, is_under_way, running_traversal}
 use Rattle.log_model.specs.Seen.{Seen, Asked, Desk, Document, request_in}
-use Rattle.unasked.specs.Unasked.{unasked}
+use Rattle.seen_laws.specs.Unasked.{unasked}
 
 -- the process has a desk: a row has named it
 abbrev pub has_desk : List Desk → ProcId → Bool
@@ -18,6 +18,10 @@ has_desk desks proc = list_any (λ (desk : Desk). desk.proc.0 == proc.0) desks
 -- the request that is found under the number has it
 abbrev pub IsNumbered : Seen → ReqId → Type 0
 IsNumbered s req = (q : Asked) → request_in s.requests req ≡ Some q → q.nr ≡ req
+
+-- the request that is found under the number isn't in its check
+abbrev pub IsOff : (ReqId → Bool) → Seen → ReqId → Type 0
+IsOff checking s req = (q : Asked) → request_in s.requests req ≡ Some q → checking q.nr ≡ false
 
 -- the traversal under way, where it is in its check, has shown nobody a document, and no other is under way
 abbrev pub IsUnheld : (ReqId → Bool) → Seen → Type 0

@@ -18,7 +18,7 @@ use Rattle.log_model.specs.declared.made.Made.{Made}
 use Rattle.log_model.specs.Seen.{Asked, Document, Seen, document_of, request_of}
 use Rattle.log_model.specs.Places.{aim_of, all_stand, due_pair, has_passed, is_gone, is_moved, is_traversal, is_under_way, pair_in, passed_traversal, running_traversal}
 use Rattle.row_facts.specs.LoadRows.LoadMaking.{is_ongoing_of}
-use Rattle.unasked.specs.Unasked.{unasked, unasked_request, unbegun, unhandled, without_asks}
+use Rattle.seen_laws.specs.Unasked.{unasked, unasked_request, unbegun, unhandled, without_asks}
 use Rattle.unasked.proofs.Readings.{checked_off, document_read, found_from, is_run_off, passed_run_read, running_none, running_off, running_read, under_way_read}
 use Rattle.unasked_dues.specs.Checking.{AreNumbered, IsAimed, IsChecking, IsMoving, NoStepChecks, NoneChecksFor, RunsIn}
 

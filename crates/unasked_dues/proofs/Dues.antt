@@ -1,5 +1,5 @@
 -- What is taken up, refused or dropped, and when a traversal begins or ends: read off the log as it would be had nobody been asked.
-use Rattle.std.proofs.Common.{◌≡◌, Bool, true, false, cond, not, ◌&&◌, ◌||◌, ◌==◌, [], Option, Some, None, refl, sym, ap, ◌∙◌}
+use Rattle.std.proofs.Common.{◌≡◌, Bool, true, false, cond, not, ◌&&◌, ◌||◌, ◌==◌, Option, Some, None, refl, sym, ap, ◌∙◌}
 use Rattle.std.specs.Prelude.{option_map, option_and_then}
 use Rattle.std.specs.List.{list_any}
 use Rattle.std.proofs.lemmas.Bool.{and_parts}
@@ -7,14 +7,12 @@ use Rattle.tab_ids.specs.declared.EntryId.{EntryId}
 use Rattle.tab_ids.specs.declared.NavId.{NavId}
 use Rattle.tab_ids.specs.declared.ReqId.{ReqId}
 use Rattle.tab_ids.specs.declared.StateId.{StateId}
-use Rattle.tab_ids.specs.declared.Step.{Step}
 use Rattle.log_model.specs.AfterRequests.{changes_history, is_in_place}
 use Rattle.log_model.specs.Causes.{any_place, by_mover, changed_one_of, denial_at_delivery, has_moved_away, is_destroyed_by, is_outdated, is_passed_traversal}
 use Rattle.log_model.specs.Checks.{is_checked}
 use Rattle.log_model.specs.Equal.{holds, implies, same_why}
 use Rattle.log_model.specs.History.{has_row, owner_of, same_entry}
-use Rattle.log_model.specs.Once.{change_of_begun, change_of_made, change_of_report, delta_of, due_change, has_to_begin, is_in_order, is_later_entry}
-use Rattle.log_model.specs.Orders.{due_questions}
+use Rattle.log_model.specs.Once.{change_of_begun, change_of_made, change_of_report, due_change, has_to_begin, is_in_order, is_later_entry}
 use Rattle.log_model.specs.Places.{has_passed, is_awake, is_load, is_present, is_shown, is_traversal, way_to}
 use Rattle.log_model.specs.Points.{nav_of_request}
 use Rattle.log_model.specs.Queue.{is_jump, is_load_step, is_taken_up_at_once}
@@ -30,10 +28,9 @@ use Rattle.log_model.specs.declared.request.Request.TheVariants as requests
 use Rattle.log_model.specs.declared.job.Why.TheVariants as whys
 use Rattle.row_facts.specs.FrameRows.Taking.{IsDueNow, IsPoked}
 use Rattle.row_facts.specs.LeaveRows.Fragments.{IsFragmentMade}
-use Rattle.tab_doors.specs.Dues.{IsBeginDue}
-use Rattle.unasked.specs.Unasked.{unasked, unasked_request, unbegun, unhandled, without_asks}
-use Rattle.unasked.proofs.Readings.{checked_off, document_read, found_from}
-use Rattle.unasked_dues.proofs.Base.{aim_same, free_same, held_same, turn_same}
+use Rattle.seen_laws.specs.Unasked.{unasked, unasked_request, unbegun, unhandled, without_asks}
+use Rattle.unasked.proofs.Readings.{document_read}
+use Rattle.unasked_dues.proofs.Base.{aim_same, free_same, held_same}
 use Rattle.unasked_dues.proofs.Making.{every_same}
 use Rattle.unasked_dues.specs.Checking.{AreChecking, AreNumbered, IsAimed, IsMoving, NoStepChecks}
 
@@ -283,23 +280,3 @@ module _ (checking : ReqId → Bool) (s : Seen) where
       by_nav : (o : Option NavId) → holds (has_moved_away (unasked checking s) (unasked_request checking q) (unasked_request checking r)) o ≡ true → holds (has_moved_away s q r) o ≡ true
       by_nav None e = cc
       by_nav (Some nav) e = away_kept q r nav passed e
-
-  -- ---- a traversal begins
-
-  -- it begins, where it isn't in its check and nobody is to be asked
-  pub begin_due : AreNumbered s → NoStepChecks checking s → (req : ReqId) (goal : Step) → checking req ≡ false → ((q : Asked) → request_of s req ≡ Some q → due_questions s q.what (Some goal) ≡ []) → IsBeginDue (unasked checking s) req goal → IsBeginDue s req goal
-  begin_due numbered none req goal off unasked_ due =
-      let from = found_from checking s req due.asked due.at in
-      let is : due.asked ≡ without_asks from.0 = from.2 ∙ checked_off checking from.0 (ap checking (numbered req from.0 from.1) ∙ off) in
-      record {
-        asked = from.0;
-        delta = due.delta;
-        at = from.1;
-        asks = ap (λ (x : Asked). delta_of x.what) (sym is) ∙ due.asks;
-        unstarted = ap (λ (x : Asked). x.is_started) (sym is) ∙ due.unstarted;
-        open_ = ap (λ (x : Asked). x.ending) (sym is) ∙ due.open_;
-        there = due.there;
-        turn = sym (turn_same checking s numbered none req) ∙ due.turn;
-        unasked = unasked_ from.0 from.1;
-        unmoved = ap (λ (x : Asked). x.moved) (sym is) ∙ due.unmoved;
-      }

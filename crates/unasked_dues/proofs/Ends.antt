@@ -12,7 +12,7 @@ use Rattle.log_model.specs.Places.{all_stand, is_awake, is_ongoing_load, passed_
 use Rattle.log_model.specs.Queue.{is_queue_free, is_step_under_way}
 use Rattle.log_model.specs.Seen.{Asked, Place, Seen, request_of}
 use Rattle.seen_laws.proofs.Sendings.{both}
-use Rattle.unasked.specs.Unasked.{unasked, unasked_request, unbegun, without_asks}
+use Rattle.seen_laws.specs.Unasked.{unasked, unasked_request, unbegun, without_asks}
 use Rattle.unasked.proofs.Lists.{found_at}
 use Rattle.unasked_dues.proofs.Base.{aim_stand_same, all_same, at_index, due_same, free_same, item_found, passed_same}
 use Rattle.unasked_dues.proofs.Loads.{has_same}

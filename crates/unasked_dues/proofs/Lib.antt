@@ -4,4 +4,3 @@ pub mod Making
 pub mod Dues
 pub mod Loads
 pub mod Ends
-pub mod Doors

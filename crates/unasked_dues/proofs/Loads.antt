@@ -1,6 +1,6 @@
 -- When a load begins, is applied, refused or dropped, or goes to a fragment: read off the log as it would be had nobody been asked.
 use Rattle.std.proofs.Common.{◌≡◌, ℕ, ◌<◌, suc, Bool, true, false, cond, not, ◌&&◌, ◌==◌, List, [], ◌∷◌, length, map, Option, Some, None, refl, sym, ap, ◌∙◌, subst}
-use Rattle.std.specs.Prelude.{filter, option_map, option_and_then}
+use Rattle.std.specs.Prelude.{filter, option_and_then}
 use Rattle.std.specs.List.{list_all, list_any}
 use Rattle.std.proofs.lemmas.List.{length-map}
 use Rattle.tab_ids.specs.declared.NavId.{NavId}
@@ -14,7 +14,7 @@ use Rattle.log_model.specs.Formed.{running_documents}
 use Rattle.log_model.specs.History.{has_row}
 use Rattle.log_model.specs.Once.{change_of_load}
 use Rattle.log_model.specs.Orders.{due_questions, is_usable}
-use Rattle.log_model.specs.Places.{aim_of, given_row, has_passed, is_ongoing_load, is_placed, is_traversal, is_under_way, stands, way_to}
+use Rattle.log_model.specs.Places.{aim_of, given_row, has_passed, is_placed, is_traversal, is_under_way, stands, way_to}
 use Rattle.log_model.specs.Points.{had_ended, had_started, is_accepted_here}
 use Rattle.log_model.specs.Seen.{Asked, Desk, Document, Seen, desk_of, document_of, place_of, request_of}
 use Rattle.log_model.specs.declared.change.Change.{Change}
@@ -32,14 +32,13 @@ use Rattle.row_facts.specs.LoadRows.Loaded.{IsLoadToApply}
 use Rattle.seen_facts.specs.LoadTies.Tying.{is_for_state, made_for}
 use Rattle.seen_laws.specs.Blocks.{Here, point_at}
 use Rattle.seen_laws.specs.Sending.{IsTo}
-use Rattle.tab_doors.specs.Keeping.{IsNoLoad}
-use Rattle.unasked.specs.Unasked.{is_question, no_question_in_hand, unasked, unasked_request, unbegun, unhandled, without_asks}
-use Rattle.unasked.proofs.Readings.{checked_off, desk_read, found_from, request_read}
+use Rattle.seen_laws.specs.Unasked.{is_question, no_question_in_hand, unasked, unasked_request, unbegun, unhandled, without_asks}
+use Rattle.unasked.proofs.Readings.{checked_off, desk_read, found_from}
 use Rattle.unasked_dues.proofs.Base.{aim_same, free_same, runs_in}
 use Rattle.unasked_dues.proofs.Dues.{order_same, part_of}
 use Rattle.unasked_dues.proofs.Making.{any_same}
 use Rattle.unasked_dues.proofs.Shows.{goes_on, to_read}
-use Rattle.unasked_dues.specs.Checking.{AreNumbered, IsAimed, NoStepChecks}
+use Rattle.unasked_dues.specs.Checking.{IsAimed, NoStepChecks}
 
 module _ (checking : ReqId → Bool) (s : Seen) where
   -- ---- requests that are found
@@ -104,12 +103,6 @@ module _ (checking : ReqId → Bool) (s : Seen) where
       by_each : (ds : List Document) → made_for (map unhandled ds) state ≡ None → made_for ds state ≡ None
       by_each [] e = refl
       by_each (d ∷ ds) e = by_test d ds (is_for_state state d) (by_each ds) e
-
-  -- the request is no ongoing load, where it isn't in its check
-  pub no_load : AreNumbered s → (req : ReqId) → checking req ≡ false → IsNoLoad (unasked checking s) req → IsNoLoad s req
-  no_load numbered req off none q found =
-      ap is_ongoing_load (sym (checked_off checking q (ap checking (numbered req q found) ∙ off)))
-      ∙ none (unasked_request checking q) (request_read checking s req ∙ ap (λ o. option_map (unasked_request checking) o) found)
 
   -- ---- a load is dropped
 

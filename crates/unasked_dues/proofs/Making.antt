@@ -21,7 +21,7 @@ use Rattle.log_model.specs.Equal.{holds}
 use Rattle.row_facts.specs.FrameRows.Making.{IsMakeDue}
 use Rattle.row_facts.specs.LoadRows.LoadMaking.{IsMakeOfLoadDue, is_ongoing_of}
 use Rattle.seen_laws.specs.Sending.{is_passed}
-use Rattle.unasked.specs.Unasked.{unasked, unasked_request, unhandled, without_asks}
+use Rattle.seen_laws.specs.Unasked.{unasked, unasked_request, unhandled, without_asks}
 use Rattle.unasked.proofs.Readings.{checked_off, document_read}
 use Rattle.unasked_dues.proofs.Base.{aim_same, at_index, find_at, item_found, ongoing_same}
 use Rattle.unasked_dues.specs.Checking.{AreNumbered, IsAimed, NoneChecksFor}

@@ -1,32 +1,29 @@
 -- When a navigable is shown a document, or one is told something: read off the log as it would be had nobody been asked.
-use Rattle.std.proofs.Common.{◌≡◌, ℕ, Bool, true, false, ◌||◌, List, [], Option, Some, None, refl, sym, ap, ◌∙◌, subst}
-use Rattle.std.specs.Prelude.{option_map, option_and_then}
+use Rattle.log_model.specs.declared.job.Task.TheVariants as tasks
+use Rattle.log_model.specs.declared.job.Why.TheVariants as whys
+use Rattle.std.proofs.Common.{◌≡◌, ℕ, Bool, true, false, List, Option, Some, None, refl, sym, ap, ◌∙◌}
+use Rattle.std.specs.Prelude.{option_and_then, option_map}
 use Rattle.std.specs.Option.{option_map_or}
 use Rattle.tab_ids.specs.declared.DocId.{DocId}
 use Rattle.tab_ids.specs.declared.EntryId.{EntryId}
 use Rattle.tab_ids.specs.declared.Epoch.{Epoch}
-use Rattle.tab_ids.specs.declared.NavId.{NavId}
 use Rattle.tab_ids.specs.declared.ProcId.{ProcId}
 use Rattle.tab_ids.specs.declared.ReqId.{ReqId}
 use Rattle.log_model.specs.ActsAtOnce.{is_for_passed}
-use Rattle.log_model.specs.AfterPlaces.{sleepers_below}
 use Rattle.log_model.specs.Checks.{is_checked, may_go_on}
 use Rattle.log_model.specs.Equal.{holds, implies, same_pair}
 use Rattle.log_model.specs.History.{target_entry}
 use Rattle.log_model.specs.Orders.{is_for, is_usable}
-use Rattle.log_model.specs.Places.{awake_document, is_shown, is_under_way, pair_at, passed_traversal, told_pair}
+use Rattle.log_model.specs.Places.{awake_document, has_passed, is_shown, is_under_way, pair_at, passed_traversal, told_pair}
 use Rattle.log_model.specs.Seen.{Asked, Document, Place, Seen, desk_of, document_of, place_of, request_of}
 use Rattle.log_model.specs.declared.job.Job.{Job}
 use Rattle.log_model.specs.declared.job.Task.{Task}
 use Rattle.log_model.specs.declared.job.Why.{Why}
-use Rattle.nav_tree.specs.Tree.{Tree}
-use Rattle.seen_facts.specs.Each.Runs.{is_run}
 use Rattle.seen_laws.specs.Sending.{IsNumbered, IsShowDue, IsTo, IsUpdateDue, is_passed}
-use Rattle.tab_doors.specs.Orders.{IsForRunning, IsThere, MayShow, order_to, proc_at}
-use Rattle.unasked.specs.Unasked.{unasked, unasked_request, unhandled, without_asks}
-use Rattle.unasked.proofs.Readings.{checked_off, desk_read, document_read, request_read}
-use Rattle.unasked_dues.proofs.Base.{aim_same, document_from, due_same, passed_same, runs_in}
-use Rattle.unasked_dues.specs.Checking.{AreNumbered, IsAimed, IsForOther, IsMoving}
+use Rattle.seen_laws.specs.Unasked.{unasked, unasked_request, unhandled, without_asks}
+use Rattle.unasked.proofs.Readings.{desk_read, document_read, request_read}
+use Rattle.unasked_dues.proofs.Base.{aim_same, due_same, passed_same, runs_in}
+use Rattle.unasked_dues.specs.Checking.{AllOthersPass, IsAimed, IsForOther, IsMoving}
 
 module _ (checking : ReqId → Bool) (s : Seen) where
   -- ---- what an order is to be
@@ -38,31 +35,6 @@ module _ (checking : ReqId → Bool) (s : Seen) where
   -- an order is numbered
   pub numbered_in : (job : Job) → IsNumbered (unasked checking s) job → IsNumbered s job
   numbered_in job is = record { number = is.number; incarnation = is.incarnation ∙ known_same job.proc }
-
-  -- the process of a document
-  pub proc_same : (doc : DocId) → proc_at (unasked checking s) doc ≡ proc_at s doc
-  proc_same doc =
-      ap (λ (o : Option Document). option_map_or (λ (d : Document). d.proc) o (record { 0 = 0 })) (document_read checking s doc)
-      ∙ by_found (document_of s doc)
-    where
-      by_found : (o : Option Document) → option_map_or (λ (d : Document). d.proc) (option_map unhandled o) (record { 0 = 0 }) ≡ option_map_or (λ (d : Document). d.proc) o (record { 0 = 0 })
-      by_found None = refl
-      by_found (Some d) = refl
-
-  -- the order that is sent next to a document
-  pub order_same : (doc : DocId) (why : Why) (task : Task) → order_to (unasked checking s) doc why task ≡ order_to s doc why task
-  order_same doc why task = λ i. record (order_to s doc why task) { proc = proc_same doc i }
-
-  -- the document is there
-  pub there : (doc : DocId) → IsThere (unasked checking s) doc → IsThere s doc
-  there doc is =
-      let from = document_from checking s doc is.document is.found in
-      record {
-        document = from.0;
-        found = from.1;
-        alive = ap (λ (d : Document). d.is_discarded || d.is_known_dead) (sym from.2) ∙ is.alive;
-        known = sym (known_same from.0.proc) ∙ ap (λ (d : Document). (desk_of (unasked checking s) d.proc).known) (sym from.2) ∙ is.known;
-      }
 
   -- the order goes to it
   pub to_read : (job : Job) (d : Document) → document_of s job.doc ≡ Some d → IsTo (unasked checking s) job (unhandled d) → IsTo s job d
@@ -78,12 +50,6 @@ module _ (checking : ReqId → Bool) (s : Seen) where
       by_run None = refl
       by_run (Some q) = refl
 
-  -- the order is for the traversal that runs, or for none
-  pub for_running : AreNumbered s → (run : Option ReqId) (why : Why) → IsForOther checking why → IsForRunning (unasked checking s) run why → IsForRunning s run why
-  for_running numbered None why other forr =
-      λ req is q found. ap is_run (sym (checked_off checking q (ap checking (numbered req q found) ∙ other req is))) ∙ forr req is (unasked_request checking q) (request_read checking s req ∙ ap (λ o. option_map (unasked_request checking) o) found)
-  for_running numbered (Some run) why other forr = forr
-
   -- what is for a request that is under way, as it would be, goes on
   pub goes_on : IsAimed checking s → (req : ReqId) (run : Asked) → request_of (unasked checking s) req ≡ Some run → is_under_way run ≡ true → may_go_on s req ≡ true
   goes_on aimed req run found is =
@@ -93,6 +59,51 @@ module _ (checking : ReqId → Bool) (s : Seen) where
       always : (b : Bool) → implies b true ≡ true
       always true = refl
       always false = refl
+
+  -- what isn't in its check has passed in the log, if it is there
+  pub passed_off : AllOthersPass checking s → (task : Task) (why : Why) → IsForOther checking why → is_passed (unasked checking s) task why ≡ true → is_passed s task why ≡ true
+  passed_off others task why other is = by_task task why other is
+    where
+      goes : (b : Bool) → implies b true ≡ true
+      goes true = refl
+      goes false = refl
+
+      by_found : (req : ReqId) → checking req ≡ false → (o : Option Asked) → request_of s req ≡ o → holds (λ (q : Asked). implies (is_checked q) (has_passed (unasked checking s) q)) (option_map (unasked_request checking) o) ≡ true → may_go_on s req ≡ true
+      by_found req off None at never = absurd cc
+      by_found req off (Some q) at goes_on_ =
+          ap (λ (o : Option Asked). holds (λ (x : Asked). implies (is_checked x) (has_passed s x)) o) at
+          ∙ ap (λ (b : Bool). implies (is_checked q) b) (others req q at off)
+          ∙ goes (is_checked q)
+
+      by_req : (req : ReqId) → checking req ≡ false → may_go_on (unasked checking s) req ≡ true → may_go_on s req ≡ true
+      by_req req off is_ = by_found req off (request_of s req) refl (ap (λ (o : Option Asked). holds (λ (q : Asked). implies (is_checked q) (has_passed (unasked checking s) q)) o) (sym (request_read checking s req)) ∙ is_)
+
+      by_task : (task : Task) (why : Why) → IsForOther checking why → is_passed (unasked checking s) task why ≡ true → is_passed s task why ≡ true
+      by_task (tasks.Update length index) why other_ is_ = refl
+      by_task (tasks.Populate nav state address initial) (whys.Req req) other_ is_ = by_req req (other_ req refl) is_
+      by_task (tasks.Activate entry epoch length index memo address) (whys.Req req) other_ is_ = by_req req (other_ req refl) is_
+      by_task tasks.Freeze (whys.Req req) other_ is_ = by_req req (other_ req refl) is_
+      by_task tasks.Discard (whys.Req req) other_ is_ = by_req req (other_ req refl) is_
+      by_task (tasks.DoFragment r mode address) (whys.Req req) other_ is_ = by_req req (other_ req refl) is_
+      by_task (tasks.Ask slot cause) (whys.Req req) other_ is_ = by_req req (other_ req refl) is_
+      by_task (tasks.Populate nav state address initial) whys.Start other_ is_ = refl
+      by_task (tasks.Populate nav state address initial) whys.Evict other_ is_ = refl
+      by_task (tasks.Populate nav state address initial) (whys.Death death) other_ is_ = refl
+      by_task (tasks.Activate entry epoch length index memo address) whys.Start other_ is_ = refl
+      by_task (tasks.Activate entry epoch length index memo address) whys.Evict other_ is_ = refl
+      by_task (tasks.Activate entry epoch length index memo address) (whys.Death death) other_ is_ = refl
+      by_task tasks.Freeze whys.Start other_ is_ = refl
+      by_task tasks.Freeze whys.Evict other_ is_ = refl
+      by_task tasks.Freeze (whys.Death death) other_ is_ = refl
+      by_task tasks.Discard whys.Start other_ is_ = refl
+      by_task tasks.Discard whys.Evict other_ is_ = refl
+      by_task tasks.Discard (whys.Death death) other_ is_ = refl
+      by_task (tasks.DoFragment r mode address) whys.Start other_ is_ = refl
+      by_task (tasks.DoFragment r mode address) whys.Evict other_ is_ = refl
+      by_task (tasks.DoFragment r mode address) (whys.Death death) other_ is_ = refl
+      by_task (tasks.Ask slot cause) whys.Start other_ is_ = refl
+      by_task (tasks.Ask slot cause) whys.Evict other_ is_ = refl
+      by_task (tasks.Ask slot cause) (whys.Death death) other_ is_ = refl
 
   -- ---- length and index
 
@@ -123,7 +134,7 @@ module _ (checking : ReqId → Bool) (s : Seen) where
   -- ---- a document that is shown
 
   -- a navigable is to be shown a document
-  pub show_due : IsAimed checking s → (job : Job) (d bare : Document) (entry : EntryId) (epoch : Epoch) (pair : ℕ × ℕ) (memo : Option (List ℕ)) (address : List ℕ) → bare ≡ unhandled d → IsShowDue (unasked checking s) job bare entry epoch pair memo address → IsShowDue s job d entry epoch pair memo address
+  unfoldable pub show_due : IsAimed checking s → (job : Job) (d bare : Document) (entry : EntryId) (epoch : Epoch) (pair : ℕ × ℕ) (memo : Option (List ℕ)) (address : List ℕ) → bare ≡ unhandled d → IsShowDue (unasked checking s) job bare entry epoch pair memo address → IsShowDue s job d entry epoch pair memo address
   show_due aimed job d bare entry epoch pair memo address is due =
       let nav_is : bare.nav ≡ d.nav = ap (λ (x : Document). x.nav) is in
       record {
@@ -140,24 +151,4 @@ module _ (checking : ReqId → Bool) (s : Seen) where
         pair_is = due.pair_is ∙ ap (λ step. pair_at s step) (aim_same checking s aimed);
         shown = (λ i. is_shown s.history.rows (sym (aim_same checking s aimed) i) (sym nav_is i)) ∙ due.shown;
         for_passed = sym (for_passed_same aimed job) ∙ due.for_passed;
-      }
-
-  -- and may be, where what it is for has passed
-  pub may_show : IsAimed checking s → (tree : Tree) (nav : NavId) (job : Job) (entry : EntryId) (epoch : Epoch) (pair : ℕ × ℕ) (memo : Option (List ℕ)) (address : List ℕ) → is_passed s job.task job.why ≡ true → MayShow (unasked checking s) tree nav job entry epoch pair memo address → MayShow s tree nav job entry epoch pair memo address
-  unfolding show_due
-  may_show aimed tree nav job entry epoch pair memo address passed may =
-      let from = document_from checking s job.doc may.document may.goes.found in
-      let nav_is : may.document.nav ≡ from.0.nav = ap (λ (x : Document). x.nav) from.2 in
-      record {
-        document = from.0;
-        goes = to_read job from.0 from.1 (subst (λ d. IsTo (unasked checking s) job d) from.2 may.goes);
-        nav_is = sym nav_is ∙ may.nav_is;
-        known = may.known ∙ known_same job.proc;
-        due = show_due aimed job from.0 may.document entry epoch pair memo address from.2 may.due;
-        passed = passed;
-        nobody = ap (λ n. option_map_or (sleepers_below s job.doc) (place_of s n) []) (sym nav_is) ∙ may.nobody;
-        unreloaded = may.unreloaded;
-        node = may.node;
-        there = may.there;
-        next = may.next;
       }

@@ -14,7 +14,7 @@ use Rattle.log_model.specs.Queue.{is_step_under_way}
 use Rattle.log_model.specs.Seen.{Seen, Asked, request_of}
 use Rattle.row_facts.specs.LoadRows.LoadMaking.{is_ongoing_of}
 use Rattle.unasked.specs.Premises.{IsNumbered}
-use Rattle.unasked.specs.Unasked.{without_asks}
+use Rattle.seen_laws.specs.Unasked.{without_asks}
 
 -- a request that has begun and hasn't ended is in its check, or has passed
 abbrev pub OthersPass : (ReqId → Bool) → Seen → Type 0

@@ -19,7 +19,7 @@ use Rattle.tab_facts.specs.TabEvents.Between.{AreSwept, orders_go}
 use Rattle.tab_facts.specs.TabWhole.Tab.{IsTab}
 use Rattle.tab_facts.proofs.TabWhole.Beginning.{IsToGo, no_load}
 use Rattle.unasked.specs.Premises.{IsNumbered}
-use Rattle.unasked.specs.Unasked.{unasked}
+use Rattle.seen_laws.specs.Unasked.{unasked}
 use Rattle.unasked.proofs.Passings.{begun_as, passed_unasked}
 use Rattle.unasked_tab.specs.Between.{IsBetweenChecks}
 use Rattle.unasked_tab.proofs.Alike.{read_alike}

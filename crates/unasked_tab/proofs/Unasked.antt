@@ -14,7 +14,7 @@ use Rattle.seen_facts.proofs.Load.Rows.{KeepLooks}
 use Rattle.tab_facts.specs.TabWhole.Tab.{IsTab}
 use Rattle.tab_facts.proofs.TabWhole.Beginning.{IsToGo}
 use Rattle.unasked.specs.Premises.{IsNumbered}
-use Rattle.unasked.specs.Unasked.{unasked, unasked_request, unbegun, unhandled, without_asks}
+use Rattle.seen_laws.specs.Unasked.{unasked, unasked_request, unbegun, unhandled, without_asks}
 use Rattle.unasked.proofs.Lists.{request_map}
 use Rattle.unasked.proofs.Passings.{passed_unasked}
 use Rattle.unasked.proofs.Whole.{silent}

@@ -25,7 +25,7 @@ use Rattle.tab_ids.specs.declared.ReqId.{ReqId}
 use Rattle.tab_ids.specs.declared.StateId.{StateId}
 use Rattle.tab_passes.proofs.Onlies.{only_then}
 use Rattle.tab_stands.specs.PassedOn.{IsReady}
-use Rattle.tab_stands.specs.Standing.{HasRoomFor, StandsFor}
+use Rattle.tab_stands.specs.Standing.{HasRoomFor, StandsFor, StartsUnasked}
 use Rattle.user_evicts.proofs.Gones.{below_listed, first_fewer, first_letting, first_only, first_stays, first_unkept}
 use Rattle.user_evicts.proofs.Kepts.{its_evicted, its_listed}
 use Rattle.user_evicts.proofs.Lefts.{gone_over}
@@ -37,7 +37,7 @@ use Rattle.log_model.specs.declared.job.Task.TheVariants as tasks
 use Rattle.log_model.specs.declared.job.Why.TheVariants as whys
 use Rattle.log_model.specs.declared.row_kind.RowKind.TheVariants as rows
 
-module _ (e : InEvent) (state : StateId) (asks : IsEvictAsk e state) (t : Tables) (queue : Queue) (blame : List (StateId × ReqId)) (stands : StandsFor e.start t queue blame) (room : HasRoomFor e.start) where
+module _ (e : InEvent) (state : StateId) (asks : IsEvictAsk e state) (t : Tables) (queue : Queue) (blame : List (StateId × ReqId)) (stands : StandsFor e.start t queue blame) (aside : StartsUnasked e) (room : HasRoomFor e.start) where
   abbrev n : Seen
   n = now_of e []
 
@@ -62,7 +62,7 @@ module _ (e : InEvent) (state : StateId) (asks : IsEvictAsk e state) (t : Tables
   longest_is longest at = let both : Some longest ≡ Some state = sym at ∙ oldest_is in cc
 
   listed : option_map (λ (q : live_place.Place). q.doc) (document_at state t.tree) ≡ Some asks.doc
-  listed = its_listed e state asks t (tied_own e state asks t queue blame stands) (tab_own e state asks t queue blame stands) (were_own e state asks t queue blame stands) (due_own e state asks t queue blame stands)
+  listed = its_listed e state asks t (tied_own e state asks t queue blame stands aside) (tab_own e state asks t queue blame stands aside) (were_own e state asks t queue blame stands aside) (due_own e state asks t queue blame stands aside)
 
   -- ---- under the names of the call: the state, and the document
 
@@ -83,7 +83,7 @@ module _ (e : InEvent) (state : StateId) (asks : IsEvictAsk e state) (t : Tables
       pub evicted_as : IsEvicted e t doc own
       evicted_as =
           subst (λ (x : StateId). IsEvicted e t doc x) (sym (longest_is own at))
-          (subst (λ (d : DocId). IsEvicted e t d state) doc_is (its_evicted e state asks t (tied_own e state asks t queue blame stands) (tab_own e state asks t queue blame stands) (were_own e state asks t queue blame stands) (due_own e state asks t queue blame stands)))
+          (subst (λ (d : DocId). IsEvicted e t d state) doc_is (its_evicted e state asks t (tied_own e state asks t queue blame stands aside) (tab_own e state asks t queue blame stands aside) (were_own e state asks t queue blame stands aside) (due_own e state asks t queue blame stands aside) aside))
 
       -- ---- it was discarded
 
@@ -92,7 +92,7 @@ module _ (e : InEvent) (state : StateId) (asks : IsEvictAsk e state) (t : Tables
         is = put ∙ ap (λ (d : DocId). let l : List RowKind = rows.Sent (order_to n d whys.Evict tasks.Discard) ∷ [] in l) (sym doc_is)
 
         letting : IsLetting (record { pass = record { event = e; loads = []; hand = [] }; moved = None }) state whys.Evict first v
-        letting = first_letting e state asks t queue blame stands room first v is keeps work
+        letting = first_letting e state asks t queue blame stands aside room first v is keeps work
 
         pub letting_as : IsLetting (record { pass = record { event = e; loads = []; hand = [] }; moved = None }) own whys.Evict first v
         letting_as =
@@ -102,7 +102,7 @@ module _ (e : InEvent) (state : StateId) (asks : IsEvictAsk e state) (t : Tables
 
         module _ (out : List RowKind) (u : Tables) (more : HasOnlyDiscarded whys.Evict first out) (stays : StaysPlaced (now_of e first) (now_of e out)) (then_ : KeepsStore v u) where
           only : HasOnlyDiscarded whys.Evict [] out
-          only = only_then (IsDiscardFor whys.Evict) [] first out (first_only e state asks t queue blame stands room first v is) more
+          only = only_then (IsDiscardFor whys.Evict) [] first out (first_only e state asks t queue blame stands aside room first v is) more
 
           pub kept_as : KeepsStore t u
           kept_as =
@@ -110,7 +110,7 @@ module _ (e : InEvent) (state : StateId) (asks : IsEvictAsk e state) (t : Tables
 
           pub ready_as : t.kept.keep ≡ e.header.keep → IsLetting (record { pass = record { event = e; loads = []; hand = [] }; moved = None }) own whys.Evict out u → IsReady (record { event = e; loads = []; hand = [] }) out u queue blame whys.Evict
           ready_as header so =
-              evicted_ready e state asks t queue blame stands room header out u kept_as (subst (λ (x : StateId). IsLetting (record { pass = record { event = e; loads = []; hand = [] }; moved = None }) x whys.Evict out u) (longest_is own at) so) only (stays_then n (now_of e first) (now_of e out) (first_stays e state asks t queue blame stands room first v is) stays)
+              evicted_ready e state asks t queue blame stands aside room header out u kept_as (subst (λ (x : StateId). IsLetting (record { pass = record { event = e; loads = []; hand = [] }; moved = None }) x whys.Evict out u) (longest_is own at) so) only (stays_then n (now_of e first) (now_of e out) (first_stays e state asks t queue blame stands aside room first v is) stays)
 
           unkept : has_doc (now_of e out).kept asks.doc ≡ false
           unkept = by_test (has_doc (now_of e out).kept asks.doc) refl
@@ -118,7 +118,7 @@ module _ (e : InEvent) (state : StateId) (asks : IsEvictAsk e state) (t : Tables
               by_test : (b : Bool) → has_doc (now_of e out).kept asks.doc ≡ b → has_doc (now_of e out).kept asks.doc ≡ false
               by_test false none = none
               by_test true has =
-                  let never : true ≡ false = sym ((gone_over e first out more).kept asks.doc has) ∙ first_unkept e state asks t queue blame stands room first v is in
+                  let never : true ≡ false = sym ((gone_over e first out more).kept asks.doc has) ∙ first_unkept e state asks t queue blame stands aside room first v is in
                   absurd cc
 
           pub came_as : (docs : List DocId) → IsPermutation (docs_of t.tree) docs → NoMoreBelow own (now_of e first) (now_of e out) → NoneOfBelow docs (now_of e out) own → HasEvicted e state out
@@ -134,6 +134,6 @@ module _ (e : InEvent) (state : StateId) (asks : IsEvictAsk e state) (t : Tables
                 task = refl;
                 why = refl;
                 only = only;
-                none = none_there (record { pass = record { event = e; loads = []; hand = [] }; moved = None }) state whys.Evict first v letting n (now_of e out) docs t.tree (below_listed e state asks t queue blame stands room) order (first_fewer e state asks t queue blame stands room first v is) (subst (λ (x : StateId). NoMoreBelow x (now_of e first) (now_of e out)) (longest_is own at) fewer) (subst (λ (x : StateId). NoneOfBelow docs (now_of e out) x) (longest_is own at) none);
+                none = none_there (record { pass = record { event = e; loads = []; hand = [] }; moved = None }) state whys.Evict first v letting n (now_of e out) docs t.tree (below_listed e state asks t queue blame stands aside room) order (first_fewer e state asks t queue blame stands aside room first v is) (subst (λ (x : StateId). NoMoreBelow x (now_of e first) (now_of e out)) (longest_is own at) fewer) (subst (λ (x : StateId). NoneOfBelow docs (now_of e out) x) (longest_is own at) none);
                 unkept = unkept;
               }

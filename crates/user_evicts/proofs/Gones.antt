@@ -48,7 +48,7 @@ use Rattle.tab_ids.specs.declared.StateId.{StateId}
 use Rattle.tab_passes.proofs.Freezings.{below_none}
 use Rattle.tab_passes.proofs.Onlies.{only_one}
 use Rattle.tab_stands.specs.PassedOn.{IsGoing, IsLoadOf, IsTab}
-use Rattle.tab_stands.specs.Standing.{HasRoomFor, StandsFor}
+use Rattle.tab_stands.specs.Standing.{HasRoomFor, StandsFor, StartsUnasked}
 use Rattle.user_evicts.proofs.Kepts.{its_kept, its_unloaded, nobody}
 use Rattle.user_evicts.proofs.Owns.{due_own, going_own, rests_own, tab_own, taking_own, tied_own, were_own}
 use Rattle.user_evicts.specs.Evicting.{IsEvictAsk}
@@ -66,7 +66,7 @@ without_itself doc (d ∷ docs) = by_test (d.0 == doc.0) refl (without_itself do
     by_test true same rest = rw same rest
     by_test false apart rest = rw apart (rw apart rest)
 
-module _ (e : InEvent) (state : StateId) (asks : IsEvictAsk e state) (t : Tables) (queue : Queue) (blame : List (StateId × ReqId)) (stands : StandsFor e.start t queue blame) (room : HasRoomFor e.start) where
+module _ (e : InEvent) (state : StateId) (asks : IsEvictAsk e state) (t : Tables) (queue : Queue) (blame : List (StateId × ReqId)) (stands : StandsFor e.start t queue blame) (aside : StartsUnasked e) (room : HasRoomFor e.start) where
   abbrev n : Seen
   n = now_of e []
 
@@ -83,22 +83,22 @@ module _ (e : InEvent) (state : StateId) (asks : IsEvictAsk e state) (t : Tables
   then_ = after n (row_of e (rows.Sent order))
 
   abbrev tab : IsTab t.running [] [] n
-  tab = tab_own e state asks t queue blame stands
+  tab = tab_own e state asks t queue blame stands aside
 
   abbrev were : WereShown n
-  were = were_own e state asks t queue blame stands
+  were = were_own e state asks t queue blame stands aside
 
   found : document_of n doc ≡ Some document
-  found = (due_own e state asks t queue blame stands).found
+  found = (due_own e state asks t queue blame stands aside).found
 
   states : document.state ≡ state
-  states = (due_own e state asks t queue blame stands).state_is
+  states = (due_own e state asks t queue blame stands aside).state_is
 
   kept : Has n.kept doc
-  kept = its_kept e state asks t (tied_own e state asks t queue blame stands) tab were (due_own e state asks t queue blame stands)
+  kept = its_kept e state asks t (tied_own e state asks t queue blame stands aside) tab were (due_own e state asks t queue blame stands aside)
 
   none_sleep : sleepers_with n doc ≡ []
-  none_sleep = nobody e state asks t (tied_own e state asks t queue blame stands) tab were (due_own e state asks t queue blame stands)
+  none_sleep = nobody e state asks t (tied_own e state asks t queue blame stands aside) tab were (due_own e state asks t queue blame stands aside)
 
   all_passed : HavePassed n
   all_passed = tab.asked.passed
@@ -117,18 +117,18 @@ module _ (e : InEvent) (state : StateId) (asks : IsEvictAsk e state) (t : Tables
 
   going_then : IsGoing t.running [] [] then_
   going_then =
-      sent_going t.running [] [] n e.event e.actor (going_own e state asks t queue blame stands room) order [] [] (discard_tab t.running [] [] n e.event e.actor tab order document to_discard moves refl) (discarded_lasting n e.event e.actor (going_own e state asks t queue blame stands room).lasting order refl (inl none_sleep)) tt
+      sent_going t.running [] [] n e.event e.actor (going_own e state asks t queue blame stands aside room) order [] [] (discard_tab t.running [] [] n e.event e.actor tab order document to_discard moves refl) (discarded_lasting n e.event e.actor (going_own e state asks t queue blame stands aside room).lasting order refl (inl none_sleep)) tt
 
   rests_then : RestBut [] then_
   rests_then =
-      subst (λ (l : List DocId). RestBut (l ++ []) then_) (below_none n doc none_sleep) (discarded_less n e.event e.actor [] (rests_own e state asks t queue blame stands) order (sent_home t.running [] [] n tab order document to_discard) refl)
+      subst (λ (l : List DocId). RestBut (l ++ []) then_) (below_none n doc none_sleep) (discarded_less n e.event e.actor [] (rests_own e state asks t queue blame stands aside) order (sent_home t.running [] [] n tab order document to_discard) refl)
 
   own_leads : leads e.own ≡ true
   own_leads = ap (λ (k : RowKind). leads k) asks.own
 
   loose_then : IsLoose e (rows.Sent order ∷ [])
   loose_then =
-      loose_more e [] (rows.Sent order) (loose_first e own_leads) (sent_lasts n e.event e.actor order) (λ end lasts. refl)
+      loose_more e [] (rows.Sent order) refl (loose_first e) (sent_lasts n e.event e.actor order) (λ end lasts. refl)
 
   -- ---- what is left
 
@@ -148,7 +148,7 @@ module _ (e : InEvent) (state : StateId) (asks : IsEvictAsk e state) (t : Tables
           let both : Some d ≡ Some document = sym at ∙ found in
           let same : d ≡ document = cc in
           let own : d.state ≡ state = ap (λ (x : Document). x.state) same ∙ states in
-          no_loads n t.loads (tied_own e state asks t queue blame stands).loads state (its_unloaded e state asks t (tied_own e state asks t queue blame stands) tab were (due_own e state asks t queue blame stands)) (subst (λ (x : StateId). IsLoads n x) own loads_it)
+          no_loads n t.loads (tied_own e state asks t queue blame stands aside).loads state (its_unloaded e state asks t (tied_own e state asks t queue blame stands aside) tab were (due_own e state asks t queue blame stands aside)) (subst (λ (x : StateId). IsLoads n x) own loads_it)
 
   placed_was : (nav : NavId) (place : Place) → place_of then_ nav ≡ Some place → place_of n nav ≡ Some place
   placed_was nav place at = ap (λ (l : List Place). place_in l nav) (sym places_then) ∙ at
@@ -174,7 +174,7 @@ module _ (e : InEvent) (state : StateId) (asks : IsEvictAsk e state) (t : Tables
   loads_then : NoLoadBelow then_ state
   loads_then req l nav place at ongoing its_own placed =
       let its : IsLoadOf n req nav = record { look = l; at = sym (sent_reads look look_blind n order tasks.Discard n.requests req) ∙ at; ongoing = ongoing; loads_it = its_own } in
-      let up = (taking_own e state asks t queue blame stands).live.awake req nav its in
+      let up = (taking_own e state asks t queue blame stands aside).live.awake req nav its in
       none_hung nav place up.0 (placed_was nav place placed) (let both : Some up.1.place ≡ Some place = sym up.1.placed ∙ placed_was nav place placed in let same : up.1.place ≡ place = cc in ap (λ (p : Place). p.status) (sym same) ∙ up.1.wakes)
 
   -- none is there below it that wasn't
@@ -204,13 +204,13 @@ module _ (e : InEvent) (state : StateId) (asks : IsEvictAsk e state) (t : Tables
 
   -- those that are there below it are listed
   pub below_listed : (x : DocId) → IsThereBelow n state x → Has (docs_of t.tree) x
-  below_listed x it = there_listed n t (tied_own e state asks t queue blame stands).holds.documents state x it
+  below_listed x it = there_listed n t (tied_own e state asks t queue blame stands aside).holds.documents state x it
 
   -- ---- the order was put out
 
   module _ (new : List RowKind) (u : Tables) (is : new ≡ rows.Sent order ∷ []) where
     now_is : then_ ≡ now_of e new
-    now_is = sym (ap (λ (l : List RowKind). now_of e l) is ∙ now_more e [] (rows.Sent order))
+    now_is = sym (ap (λ (l : List RowKind). now_of e l) is ∙ now_more e [] (rows.Sent order) refl)
 
     pub first_only : HasOnlyDiscarded whys.Evict [] new
     first_only = only_one (IsDiscardFor whys.Evict) [] new (rows.Sent order) is (record { job = order; is = refl; why_is = refl; discards = refl })

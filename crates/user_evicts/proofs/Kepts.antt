@@ -1,4 +1,6 @@
 -- The document that is kept longest, as the user evicts it: nobody is awake on it, and the tables have it for its state alone.
+use Rattle.tab_stands.proofs.Begun.{checks_first}
+use Rattle.tab_stands.specs.Standing.{StartsUnasked}
 use Rattle.seen_facts.proofs.Asked.Passed.{asked_all}
 use Rattle.seen_facts.proofs.Hang.Hung.{places_distinct}
 use Rattle.seen_facts.proofs.Hang.Members.{has_map}
@@ -201,9 +203,11 @@ module _ (e : InEvent) (state : StateId) (asks : IsEvictAsk e state) (t : Tables
           let one : of_.it ≡ document = cc in
           ap (λ (y : Sight). y.state) (sym of_.is) ∙ ap (λ (y : Document). y.state) one ∙ due.state_is
 
-  pub its_evicted : IsEvicted e t asks.doc state
-  its_evicted =
+  pub its_evicted : StartsUnasked e → IsEvicted e t asks.doc state
+  its_evicted aside =
       record {
+        aside = aside;
+        checks = checks_first e aside t.running tab.asked;
         by_user = asks.by_user;
         own = asks.own;
         document = document;

@@ -19,7 +19,7 @@ use Rattle.log_model.specs.declared.row_kind.LogRow.{LogRow}
 use Rattle.log_model.specs.declared.row_kind.RowKind.{RowKind}
 use Rattle.seen_laws.proofs.InEvents.{led_here}
 use Rattle.seen_laws.proofs.Keyed.{find_has as seen_number}
-use Rattle.seen_laws.specs.Blocks.{MayLog}
+use Rattle.seen_laws.specs.Blocks.{Here, MayLog}
 use Rattle.seen_laws.specs.InEvent.{InEvent, here_of, now_of, row_of, start_of}
 use Rattle.seen_laws.specs.Sending.{leads}
 use Rattle.std.proofs.Common.{Bool, List, None, Option, Some, [], ap, arith, cond, false, inl, inr, not, refl, subst, sym, true, ℕ, ◌==◌, ◌∙◌, ◌∷◌, ◌≡◌}
@@ -179,10 +179,20 @@ module _ (e : InEvent) (t : Tables) (doc : DocId) (state : StateId) (its : IsEvi
   evicting : is_evicting (row_of e e.own ∷ []) ≡ true
   evicting = ap (λ (row : LogRow). is_evicting (row ∷ [])) own_row
 
+  -- where the event stands, and the log as it would be had nobody been asked
+  abbrev here_seen : Here
+  here_seen = record (here_of e []) { now = n }
+
+  here_plain : here_seen ≡ here_of e []
+  here_plain = ap (λ (x : Seen). let h : Here = record (here_of e []) { now = x } in h) (sym its.aside.plain)
+
+  second_seen : MayLog here_seen (row_of e (rows.Sent discard) ∷ []) (IsRestOf e (rows.Sent discard ∷ []))
+  second_seen later rest =
+      evict_may here_seen e.event e.actor discard its.document (newly_left n later) (led_here e [] own_leads) (numbered n (proc_at n doc) doc whys.Evict tasks.Discard its.known) (due_for (newly_left n later) (λ x is. left_last n later x is)) (its.settles (row_of e (rows.Sent discard))) evicting later refl
+
   second_may : MayLog (here_of e []) (row_of e (rows.Sent discard) ∷ []) (IsRestOf e (rows.Sent discard ∷ []))
-  unfolding now_of
-  second_may later rest =
-      evict_may (here_of e []) e.event e.actor (order_to (here_of e []).now doc whys.Evict tasks.Discard) its.document (newly_left (here_of e []).now later) (led_here e [] own_leads) (numbered (here_of e []).now (proc_at (here_of e []).now doc) doc whys.Evict tasks.Discard its.known) (due_for (newly_left n later) (λ x is. left_last n later x is)) (its.settles (row_of e (rows.Sent discard))) evicting later refl
+  second_may =
+      subst (λ (h : Here). MayLog h (row_of e (rows.Sent discard) ∷ []) (IsRestOf e (rows.Sent discard ∷ []))) here_plain second_seen
 
   pub evicted_lawful : AreLawful e (rows.Sent discard ∷ [])
   unfolding AreLawful

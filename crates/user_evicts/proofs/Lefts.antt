@@ -1,4 +1,5 @@
 -- What orders leave that discard documents for an eviction, one after the other.
+use Rattle.seen_laws.specs.Unasked.{is_question}
 use Rattle.tab_facts.proofs.Calm.Sents.{found_on, usable_was}
 use Rattle.tab_facts.specs.Calm.Calm.{HasUsable}
 use Rattle.seen_facts.specs.Hang.Members.{Has}
@@ -22,7 +23,7 @@ use Rattle.row_facts.proofs.Owed.Rows.{sent_lasts}
 use Rattle.row_facts.specs.Owed.Owed.{IsLoose}
 use Rattle.row_facts.proofs.RestRows.Again.{part_without}
 use Rattle.seen_laws.specs.InEvent.{InEvent, now_of, row_of}
-use Rattle.std.proofs.Common.{Bool, List, None, Option, Some, [], ap, append-nil, append_assoc, arith, cond, false, inl, inr, length, refl, subst, sym, true, ◌++◌, ◌==◌, ◌||◌, ◌∙◌, ◌∷◌, ◌≡◌, ◌≤◌}
+use Rattle.std.proofs.Common.{Bool, List, None, Option, Some, [], ap, append-nil, append_assoc, arith, cond, false, inl, inr, length, not, refl, subst, sym, true, ◌++◌, ◌==◌, ◌||◌, ◌∙◌, ◌∷◌, ◌≡◌, ◌≤◌}
 use Rattle.std.specs.Prelude.{option_map}
 use Rattle.tab_evicts.specs.Evicting.{HasOnlyDiscarded, IsDiscardFor}
 use Rattle.tab_ids.specs.declared.DocId.{DocId}
@@ -131,7 +132,7 @@ loose_rows : (e : InEvent) (out more : List RowKind) → ((row : RowKind) → Ha
 loose_rows e out [] each loose = subst (λ (l : List RowKind). IsLoose e l) (sym (append-nil out)) loose
 loose_rows e out (row ∷ more) each loose =
     subst (λ (l : List RowKind). IsLoose e l) (append_assoc out (row ∷ []) more)
-    (loose_rows e (out ++ row ∷ []) more (λ other there. each other (inr there)) (subst (λ (k : RowKind). IsLoose e (out ++ k ∷ [])) (sym it.is) (loose_more e out (rows.Sent it.job) loose (sent_lasts (now_of e out) e.event e.actor it.job) (λ end lasts. refl))))
+    (loose_rows e (out ++ row ∷ []) more (λ other there. each other (inr there)) (subst (λ (k : RowKind). IsLoose e (out ++ k ∷ [])) (sym it.is) (loose_more e out (rows.Sent it.job) (ap (λ (k : Task). not (is_question k)) it.discards) loose (sent_lasts (now_of e out) e.event e.actor it.job) (λ end lasts. refl))))
   where
     it : IsDiscardFor whys.Evict row
     it = each row (inl refl)

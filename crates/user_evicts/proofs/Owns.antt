@@ -19,7 +19,6 @@ use Rattle.log_model.specs.declared.row_kind.RowKind.{RowKind}
 use Rattle.move_queue.specs.Queue.{Queue}
 use Rattle.row_facts.proofs.RestRows.Rows.{evicted_rests}
 use Rattle.row_facts.specs.RestRows.Moving.{AllRest}
-use Rattle.seen_laws.proofs.InEvents.{now_own}
 use Rattle.seen_laws.specs.Blocks.{point_at}
 use Rattle.seen_laws.specs.InEvent.{InEvent, IsTakenIn, now_of, row_of, start_of}
 use Rattle.std.proofs.Common.{List, None, Option, Some, [], ap, arith, false, inl, inr, length, refl, subst, sym, true, ℕ, ◌+◌, ◌<◌, ◌∙◌, ◌≡◌, ◌≤◌, ◌⊎◌}
@@ -40,7 +39,7 @@ use Rattle.tab_stands.proofs.MovedEvents.{moved_coming}
 use Rattle.tab_stands.proofs.PassedOn.{queue_over, steps_still, turning_first, unstood_by}
 use Rattle.tab_stands.proofs.Waiting.{off_where_runs}
 use Rattle.tab_stands.specs.PassedOn.{AreHeldUp, AreUnheld, HasQueue, HoldsParked, IsGoing, IsLeftStray, IsStray, IsTab, IsTaking, IsTurning, LateKnown, LeavesQueue, LoadsMadeOwn, MayServe, MovedAreShown}
-use Rattle.tab_stands.specs.Standing.{HasRoomFor, StandsFor}
+use Rattle.tab_stands.specs.Standing.{HasRoomFor, StandsFor, StartsUnasked}
 use Rattle.tab_facts.proofs.TabWhole.Beginning.{evicted_tab}
 use Rattle.tab_facts.proofs.TabWhole.Where.{way_unheld}
 use Rattle.user_evicts.specs.Evicting.{IsEvictAsk}
@@ -52,7 +51,7 @@ pub evicted_takes : (e : InEvent) (state : StateId) → IsEvictAsk e state → (
 evicted_takes e state asks later =
     ap (λ (k : RowKind). is_delivered_duly (point_at (start_of e) later) (row_of e k)) asks.own
 
-module _ (e : InEvent) (state : StateId) (asks : IsEvictAsk e state) (t : Tables) (queue : Queue) (blame : List (StateId × ReqId)) (stands : StandsFor e.start t queue blame) where
+module _ (e : InEvent) (state : StateId) (asks : IsEvictAsk e state) (t : Tables) (queue : Queue) (blame : List (StateId × ReqId)) (stands : StandsFor e.start t queue blame) (aside : StartsUnasked e) where
   abbrev s : Seen
   s = e.start
 
@@ -61,7 +60,7 @@ module _ (e : InEvent) (state : StateId) (asks : IsEvictAsk e state) (t : Tables
 
   now : now_of e [] ≡ went
   now =
-      now_own e
+      sym aside.plain
       ∙ (ap (λ (a : Actor). next e.start e.event a e.own) asks.by_user
       ∙ ap (λ (k : RowKind). next e.start e.event actors.Ui k) asks.own)
 

@@ -1,4 +1,8 @@
 -- The document that the user evicts is discarded by the first row that is put out, and the coordinator is at work then.
+use Rattle.checking_facts.proofs.Rows.{row_checks}
+use Rattle.checking_facts.specs.Checks.{AreInCheck}
+use Rattle.seen_laws.specs.Unasked.{unasked}
+use Rattle.unasked.proofs.Sents.{sent_seen}
 use Rattle.nav_tree.specs.Tree.{discarded}  -- keep
 use Rattle.seen_facts.proofs.Hang.Members.{into_map}
 use Rattle.seen_facts.specs.Hang.Members.{Has}
@@ -14,8 +18,8 @@ use Rattle.log_model.specs.declared.row_kind.Actor.{Actor}
 use Rattle.log_model.specs.declared.row_kind.RowKind.{RowKind}
 use Rattle.page_cache.specs.Kept.{without}
 use Rattle.seen_facts.specs.Each.Runs.{is_run}
-use Rattle.seen_laws.proofs.InEvents.{now_more}
-use Rattle.seen_laws.specs.InEvent.{InEvent, now_of, row_of}
+use Rattle.seen_laws.proofs.InEvents.{log_more, now_more, now_own}
+use Rattle.seen_laws.specs.InEvent.{InEvent, log_of, now_of, row_of}
 use Rattle.seen_laws.specs.Sending.{leads}
 use Rattle.std.proofs.Common.{List, None, Option, Some, [], ap, false, length, refl, subst, sym, true, ℕ, ◌++◌, ◌+◌, ◌==◌, ◌∙◌, ◌∷◌, ◌≡◌, ◌≤◌}
 use Rattle.std.proofs.lemmas.List.{length-map}
@@ -25,7 +29,7 @@ use Rattle.tab_doors.proofs.Initial.{initial_same}
 use Rattle.tab_doors.proofs.Keeping.{gone_tied}
 use Rattle.tab_doors.proofs.ShowWorks.{served_same}
 use Rattle.tab_doors.proofs.Telling.{SendsOne}
-use Rattle.tab_doors.proofs.Works.{few_sent, goal_on, goal_read, kept_gone, runs_on}
+use Rattle.tab_doors.proofs.Works.{few_sent, goal_on, goal_read, kept_gone, none_asleep, none_calm, runs_on}
 use Rattle.tab_doors.specs.Look.{look_of, sight}
 use Rattle.tab_doors.proofs.Whose.{proc_known, proc_same}
 use Rattle.tab_doors.specs.Orders.{numbered_order, order_to, proc_at}
@@ -59,13 +63,29 @@ module _ (e : InEvent) (t u : Tables) (doc : DocId) (state : StateId) (tied : Ar
       ap (λ (y : StateId). y.0 == load.state.0) (its.gone.its_state (sight x) (into_map sight n.documents x has) is) ∙ its.gone.unloaded nav load at
 
   now_is : then_ ≡ now_of e (rows.Sent order ∷ [])
-  now_is = sym (now_more e [] (rows.Sent order))
+  now_is = sym (now_more e [] (rows.Sent order) refl)
 
   pub evicted_work : u.tree ≡ discarded state t.tree → SendsOne t u t.shown.entries t.last.entries → u.running ≡ t.running → u.goal ≡ t.goal → u.kept ≡ record t.kept { states = without state t.kept.states } → IsAtWork e (rows.Sent order ∷ []) u
   evicted_work tree one running goal kept =
       record {
         own = ap (λ (k : RowKind). leads k) its.own;
         worker = subst (λ (a : Actor). IsWorker a) (sym its.by_user) tt;
+        unchecked = its.aside.unchecked;
+        begins = its.aside.begins;
+        rows = refl;
+        plain =
+            log_more e [] (rows.Sent order)
+            ∙ ap (λ (x : Seen). after x (row_of e (rows.Sent order))) its.aside.plain
+            ∙ now_is;
+        same =
+            sym now_is
+            ∙ ap (λ (x : Seen). after x (row_of e (rows.Sent order))) (now_own e)
+            ∙ sym (sent_seen e.checking (log_of e []) order e.event e.actor refl)
+            ∙ ap (λ (x : Seen). unasked e.checking x) (sym (log_more e [] (rows.Sent order)));
+        checks =
+            subst (λ (x : Seen). AreInCheck e.checking x) (sym (log_more e [] (rows.Sent order)))
+            (row_checks e.checking (log_of e []) (row_of e (rows.Sent order)) (none_asleep e.checking its.aside.unchecked (log_of e []) order) its.checks);
+        calm = none_calm e.checking its.aside.unchecked (log_of e (rows.Sent order ∷ []));
         holds = subst (λ (x : Seen). Holds (look_of x u.running) u) now_is (subst (λ (r : Option ReqId). Holds (look_of then_ r) u) (sym running) (discard_holds n t.running e.event e.actor (proc_at n doc) doc whys.Evict state [] t tied.holds tied.runs its.gone.are its.gone.its_state its.gone.its u tree one));
         runs = subst (λ (x : Seen). IsRunning x.requests u.running) now_is (runs_on n.requests then_.requests t u (served_same is_run n order tasks.Discard whys.Evict (λ q. refl)) running tied.runs);
         goal = subst (λ (x : Seen). HasGoal x.requests u.running u.goal) now_is (goal_on n.requests then_.requests t u (served_same goal_read n order tasks.Discard whys.Evict (λ q. refl)) running goal tied.goal);

@@ -17,12 +17,12 @@ use Rattle.log_model.specs.Views.{View}
 use Rattle.log_model.proofs.FurtherLaws.{begins_below_more}
 use Rattle.log_model.proofs.Laws.{seen_of_append}
 use Rattle.log_model.proofs.Refl.{nat_eq_refl}
-use Rattle.seen_laws.specs.InEvent.{InEvent, first_of, now_of}
+use Rattle.seen_laws.specs.InEvent.{InEvent, first_of, log_of}
 use Rattle.seen_laws.specs.Sending.{leads}
 use Rattle.seen_laws.proofs.Sendings.{both}
 use Rattle.tab_doors.specs.Working.{IsWorker}
 use Rattle.coord.specs.Standing.{HasActed}
-use Rattle.seen_laws.proofs.InEvents.{now_fold}
+use Rattle.seen_laws.proofs.InEvents.{log_fold}
 use Rattle.coord.proofs.EventLaws.{event_keeps}
 use Rattle.world.specs.declared.state.State.{State}
 use Rattle.world.specs.Asking.{event_of}
@@ -86,9 +86,9 @@ module _ (header : Header) (log : List LogRow) (t : State) (is : IsOpen header l
   at = (seen_of log).events
 
   -- the event's rows pass, and the rest is kept
-  pub opens_on : (out : List RowKind) (new : State) → HasActed e out new.coordinator → Holds (now_of e out) new → AreSited header (now_of e out).documents → IsOpen header (log ++ row_with at actor own ∷ map (row_with at actor) out) new
+  pub opens_on : (out : List RowKind) (new : State) → HasActed e out new.coordinator → Holds (log_of e out) new → AreSited header (log_of e out).documents → IsOpen header (log ++ row_with at actor own ∷ map (row_with at actor) out) new
   opens_on out new acted holds sites =
-      let led : seen_of (log ++ row_with at actor own ∷ map (row_with at actor) out) ≡ now_of e out = seen_of_append log (row_with at actor own ∷ map (row_with at actor) out) ∙ sym (now_fold e out) in
+      let led : seen_of (log ++ row_with at actor own ∷ map (row_with at actor) out) ≡ log_of e out = seen_of_append log (row_with at actor own ∷ map (row_with at actor) out) ∙ sym (log_fold e out) in
       record {
         keeps = event_keeps e log t.coordinator is.keeps (record { start = refl; event = refl }) out new.coordinator acted;
         limited = begins_below_more row_limit log (row_with at actor own) (map (row_with at actor) out) is.keeps.some (have_its at actor (own ∷ out)) is.limited short;
@@ -99,7 +99,6 @@ module _ (header : Header) (log : List LogRow) (t : State) (is : IsOpen header l
 
   -- what the coordinator puts out is noted, and no view changes
   pub works_on : (out : List RowKind) (new : State) (waits : ProcId → Desk) (ends : List (Option Ending)) → IsWorker actor → leads own ≡ true → HasActed e out new.coordinator → Keeping header (after (seen_of log) (row_with at actor own)) at waits (view_at t.views) t.runners ends → new.events ≡ t.events + 1 → new.views ≡ t.views → new.runners ≡ t.runners → ((proc : ProcId) → desk_at new.desks proc ≡ fold (desk_noted proc) (waits proc) out) → new.endings.items ≡ fold endings_noted ends out → IsOpen header (log ++ row_with at actor own ∷ map (row_with at actor) out) new
-  unfolding now_of
   works_on out new waits ends worker led acted keeps events views run desks endings =
       let all = works_keep header (first_of e) (row_with at actor own) [] at actor out waits (view_at t.views) t.runners ends refl refl led worker acted.passes.1 keeps in
       let stays : Stays t.views new.views = λ doc. ap (λ (v : List (DocId × View)). view_at v doc) views in
@@ -107,19 +106,17 @@ module _ (header : Header) (log : List LogRow) (t : State) (is : IsOpen header l
         events = all.events ∙ sym (events ∙ ap (λ (k : ℕ). k + 1) (sym is.holds.events));
         desks = λ proc. all.desks proc ∙ sym (desks proc);
         views = λ doc. all.views doc ∙ sym (stays doc);
-        runners = subst (λ (r : RunnersState). IsTold (now_of e out) r) (sym run) all.runners;
+        runners = subst (λ (r : RunnersState). IsTold (log_of e out) r) (sym run) all.runners;
         endings = all.endings ∙ sym endings;
         small = stays_small t.views new.views t.events new.events events stays is.holds.small;
       }) all.sited
 
   -- an event of its own row alone
   pub alone_on : (new : State) → HasActed e [] new.coordinator → Keeping header (after (seen_of log) (row_with at actor own)) at (desk_at new.desks) (view_at new.views) new.runners new.endings.items → new.events ≡ t.events + 1 → ((doc : DocId) → IfSome (view_at new.views doc) (IsSmall new.events)) → IsOpen header (log ++ row_with at actor own ∷ []) new
-  unfolding now_of
   alone_on new acted keeps events small =
       opens_on [] new acted (holds_all header (after (seen_of log) (row_with at actor own)) new at keeps (events ∙ ap (λ (k : ℕ). k + 1) (sym is.holds.events)) small) keeps.sited
 
   -- an event of two rows
   pub two_on : (other : RowKind) (new : State) → HasActed e (other ∷ []) new.coordinator → Keeping header (after (after (seen_of log) (row_with at actor own)) (row_with at actor other)) at (desk_at new.desks) (view_at new.views) new.runners new.endings.items → new.events ≡ t.events + 1 → ((doc : DocId) → IfSome (view_at new.views doc) (IsSmall new.events)) → IsOpen header (log ++ row_with at actor own ∷ row_with at actor other ∷ []) new
-  unfolding now_of
   two_on other new acted keeps events small =
       opens_on (other ∷ []) new acted (holds_all header (after (after (seen_of log) (row_with at actor own)) (row_with at actor other)) new at keeps (events ∙ ap (λ (k : ℕ). k + 1) (sym is.holds.events)) small) keeps.sited

@@ -3,7 +3,7 @@
 use Rattle.std.specs.Prelude.{List, None}
 use Rattle.coord.specs.Evicting.{InEviction}
 use Rattle.coord.specs.Delivering.{InDelivery}
-use Rattle.coord.specs.Standing.{asked_for}
+use Rattle.coord.specs.Standing.{asked_for, nobody}
 use Rattle.coord.specs.declared.ask.Ask.{Ask}
 use Rattle.coord.specs.declared.ask.Ask.TheVariants as asks
 use Rattle.tab_ids.specs.declared.ProcId.{ProcId}
@@ -25,7 +25,7 @@ use Rattle.world.specs.Open.{bare}
 -- the next event of a log, with its own row
 abbrev pub event_of : Header → List LogRow → Actor → RowKind → InEvent
 event_of header log actor own =
-    record { header = bare header; start = seen_of log; event = (seen_of log).events; actor = actor; own = own }
+    record { header = bare header; start = seen_of log; event = (seen_of log).events; actor = actor; own = own; checking = nobody }
 
 -- the event in which the user asks for this
 abbrev pub event_asking : Ask → Event

@@ -19,7 +19,7 @@ use Rattle.row_facts.proofs.Owed.Rows.{IsIdle, dropped_lasts, dropped_stays, loa
 use Rattle.row_facts.specs.Owed.Owed.{IsStill, IsThereStill, Lasts, Stays}
 use Rattle.seen_laws.proofs.Keyed.{find_has}
 use Rattle.seen_laws.specs.Blocks.{Here, point_at}
-use Rattle.seen_laws.specs.InEvent.{InEvent, here_of, now_of, row_of}
+use Rattle.seen_laws.specs.InEvent.{InEvent, seen_here, now_of, row_of}
 use Rattle.seen_laws.specs.Owing.{owes_row}
 use Rattle.std.proofs.Common.{Bool, List, None, Option, Some, [], ap, false, inl, inr, not, refl, subst, sym, true, ℕ, ◌<◌, ◌⊎◌, ◌||◌, ◌∙◌, ◌∷◌, ◌≡◌}
 use Rattle.std.proofs.lemmas.Bool.{and_cases, and_left, and_right, not-true, or_left, or_right}
@@ -149,19 +149,19 @@ abbrev pub dropped_by : InEvent → ReqId → ReqId → LogRow
 dropped_by e req by = row_of e (rows.Dropped req (drops.By by))
 
 -- one whose cause is read at the drop, since the other one moved its navigable away, owes nothing
-pub mover_owes : (e : InEvent) (out : List RowKind) (req by : ReqId) (q mover : Asked) → request_of (now_of e out) req ≡ Some q → request_of (now_of e out) by ≡ Some mover → by_mover (now_of e out) q mover ≡ true → (end : Seen) → owes_row (here_of e out) (dropped_by e req by) end ≡ true
+pub mover_owes : (e : InEvent) (out : List RowKind) (req by : ReqId) (q mover : Asked) → request_of (now_of e out) req ≡ Some q → request_of (now_of e out) by ≡ Some mover → by_mover (now_of e out) q mover ≡ true → (end : Seen) → owes_row (seen_here e out) (dropped_by e req by) end ≡ true
 unfolding now_of
 mover_owes e out req by q mover at other moved end =
-    rw at (or_right (by_event (point_at (here_of e out) []) end q by) (holds (by_mover (here_of e out).now q) (request_of (here_of e out).now by)) (rw other moved))
+    rw at (or_right (by_event (point_at (seen_here e out) []) end q by) (holds (by_mover (seen_here e out).now q) (request_of (seen_here e out).now by)) (rw other moved))
 
-module _ (e : InEvent) (out : List RowKind) (req by : ReqId) (nav : NavId) (q r : Asked) (is : IsLoadBy (here_of e out) (now_of e out) req by nav q r) where
+module _ (e : InEvent) (out : List RowKind) (req by : ReqId) (nav : NavId) (q r : Asked) (is : IsLoadBy (seen_here e out) (now_of e out) req by nav q r) where
   -- a load is no running traversal
   idle : IsIdle (now_of e out) req
   unfolding now_of
   idle = load_idle (now_of e out) req nav is.mode is.address q is.at is.what
 
   -- the other one is there at the end
-  at_end : (end : Seen) (x : Asked) → request_of end by ≡ Some x → IsLoadBy (here_of e out) end req by nav q x
+  at_end : (end : Seen) (x : Asked) → request_of end by ≡ Some x → IsLoadBy (seen_here e out) end req by nav q x
   at_end end x there = record { at = is.at; mode = is.mode; address = is.address; what = is.what; other = there }
 
   -- the drop undoes nothing of what stays
@@ -175,36 +175,36 @@ module _ (e : InEvent) (out : List RowKind) (req by : ReqId) (nav : NavId) (q r 
       lasts_trans (now_of e out) (after (now_of e out) (dropped_by e req by)) end (dropped_lasts (now_of e out) e.event e.actor req (drops.By by)) lasts
 
   -- a passed traversal leads elsewhere
-  pub moved_owes : IsMovedBy (here_of e out) (now_of e out) nav r → (end : Seen) → Stays (after (now_of e out) (dropped_by e req by)) end → owes_row (here_of e out) (dropped_by e req by) end ≡ true
+  pub moved_owes : IsMovedBy (seen_here e out) (now_of e out) nav r → (end : Seen) → Stays (after (now_of e out) (dropped_by e req by)) end → owes_row (seen_here e out) (dropped_by e req by) end ≡ true
   moved_owes by_ end stays =
       let all : Stays (now_of e out) end = stays_then end stays in
       let it : IsStill end by r = all.lasts.asked by r is.other in
-      moved_paid (here_of e out) end e.event e.actor req by nav q it.r (at_end end it.r it.at) (moved_still (here_of e out) (now_of e out) end nav r by is.other all by_)
+      moved_paid (seen_here e out) end e.event e.actor req by nav q it.r (at_end end it.r it.at) (moved_still (seen_here e out) (now_of e out) end nav r by is.other all by_)
 
   -- the last step has moved it, and not all have stood since
-  pub still_moved_owes : IsStillMovedBy (now_of e out) nav r → (end : Seen) → Stays (after (now_of e out) (dropped_by e req by)) end → owes_row (here_of e out) (dropped_by e req by) end ≡ true
+  pub still_moved_owes : IsStillMovedBy (now_of e out) nav r → (end : Seen) → Stays (after (now_of e out) (dropped_by e req by)) end → owes_row (seen_here e out) (dropped_by e req by) end ≡ true
   still_moved_owes by_ end stays =
       let all : Stays (now_of e out) end = stays_then end stays in
       let it : IsStill end by r = all.lasts.asked by r is.other in
-      still_moved_paid (here_of e out) end e.event e.actor req by nav q it.r (at_end end it.r it.at) (still_moved_still (here_of e out) (now_of e out) end nav r by is.other all by_)
+      still_moved_paid (seen_here e out) end e.event e.actor req by nav q it.r (at_end end it.r it.at) (still_moved_still (seen_here e out) (now_of e out) end nav r by is.other all by_)
 
   -- the other request added the navigable, or one above, and none was ever shown a document there
-  pub adder_owes : IsUnderAdder (here_of e out) (now_of e out) nav q r → (end : Seen) → Lasts (after (now_of e out) (dropped_by e req by)) end → owes_row (here_of e out) (dropped_by e req by) end ≡ true
+  pub adder_owes : IsUnderAdder (seen_here e out) (now_of e out) nav q r → (end : Seen) → Lasts (after (now_of e out) (dropped_by e req by)) end → owes_row (seen_here e out) (dropped_by e req by) end ≡ true
   adder_owes by_ end lasts =
       let all : Lasts (now_of e out) end = lasts_then end lasts in
       let it : IsStill end by r = all.asked by r is.other in
-      adder_paid (here_of e out) end e.event e.actor req by nav q it.r (at_end end it.r it.at) (adder_still (here_of e out) (now_of e out) end nav r by is.other all q by_)
+      adder_paid (seen_here e out) end e.event e.actor req by nav q it.r (at_end end it.r it.at) (adder_still (seen_here e out) (now_of e out) end nav r by is.other all q by_)
 
   -- a later load of its navigable begins as the next row
-  pub replaced_owes : IsReplacedBy (here_of e out) nav q (record r { is_started = true }) → (end : Seen) → Lasts (after (after (now_of e out) (dropped_by e req by)) (row_of e (rows.Started by None))) end → owes_row (here_of e out) (dropped_by e req by) end ≡ true
+  pub replaced_owes : IsReplacedBy (seen_here e out) nav q (record r { is_started = true }) → (end : Seen) → Lasts (after (after (now_of e out) (dropped_by e req by)) (row_of e (rows.Started by None))) end → owes_row (seen_here e out) (dropped_by e req by) end ≡ true
   replaced_owes by_ end lasts =
-      replaced_paid (here_of e out) end e.event e.actor req by nav q then_.r (at_end end then_.r then_.at) (record {
+      replaced_paid (seen_here e out) end e.event e.actor req by nav q then_.r (at_end end then_.r then_.at) (record {
         mode = by_.mode;
         address = by_.address;
         what = then_.what ∙ was.what ∙ by_.what;
         later = subst (λ (nr : ReqId). q.nr.0 < nr.0) (sym (then_.nr ∙ was.nr)) by_.later;
         began = then_.began refl;
-        begins_here = ap (had_started (point_at (here_of e out) [])) (then_.nr ∙ was.nr) ∙ by_.begins_here;
+        begins_here = ap (had_started (point_at (seen_here e out) [])) (then_.nr ∙ was.nr) ∙ by_.begins_here;
       })
     where
       -- it is there after the drop
@@ -221,7 +221,7 @@ module _ (e : InEvent) (out : List RowKind) (req by : ReqId) (nav : NavId) (q r 
 -- ---- a load that begins
 
 -- it owes that no earlier one of its navigable is ongoing
-pub sole_owes : (e : InEvent) (out : List RowKind) (req : ReqId) (nav : NavId) (mode : Mode) (address : List ℕ) (q : Asked) → request_of (now_of e out) req ≡ Some q → q.what ≡ requests.Load nav mode address → q.nr ≡ req → has_no_earlier_load (after (now_of e out) (row_of e (rows.Started req None))) req nav ≡ true → (end : Seen) → Lasts (after (now_of e out) (row_of e (rows.Started req None))) end → owes_row (here_of e out) (row_of e (rows.Started req None)) end ≡ true
+pub sole_owes : (e : InEvent) (out : List RowKind) (req : ReqId) (nav : NavId) (mode : Mode) (address : List ℕ) (q : Asked) → request_of (now_of e out) req ≡ Some q → q.what ≡ requests.Load nav mode address → q.nr ≡ req → has_no_earlier_load (after (now_of e out) (row_of e (rows.Started req None))) req nav ≡ true → (end : Seen) → Lasts (after (now_of e out) (row_of e (rows.Started req None))) end → owes_row (seen_here e out) (row_of e (rows.Started req None)) end ≡ true
 unfolding now_of
 sole_owes e out req nav mode address q at what number sole end lasts =
     rw at (rw what (rw number (lasts.sole req nav sole)))

@@ -4,15 +4,12 @@ use Rattle.log_model.specs.Places.{has_passed}
 use Rattle.log_model.specs.Seen.{Asked, Seen}
 use Rattle.log_model.specs.declared.row_kind.LogRow.{LogRow}
 use Rattle.log_model.specs.declared.row_kind.RowKind.{RowKind}
-use Rattle.log_model.specs.declared.row_kind.RowKind.TheVariants as rows
-use Rattle.row_facts.specs.Owed.Owed.{IsLoose, IsOwed, Lasts, Stays}
-use Rattle.seen_laws.proofs.InEvents.{now_more}
+use Rattle.row_facts.specs.Owed.Owed.{IsLoose, IsOwed, Lasts, Stays, owes_seen}
+use Rattle.seen_laws.proofs.InEvents.{now_more, seen_more}
 use Rattle.seen_laws.proofs.Owings.{owes_append}
-use Rattle.seen_laws.specs.InEvent.{InEvent, IsPaid, here_of, now_of, row_of, start_of}
+use Rattle.seen_laws.specs.InEvent.{InEvent, is_seen, now_of, row_of, seen_first, seen_here, seen_rows}
 use Rattle.seen_laws.specs.Owing.{owes, owes_row}
-use Rattle.seen_laws.specs.Sending.{leads}
-use Rattle.std.proofs.Common.{List, [], map, refl, subst, sym, true, ◌++◌, ◌∙◌, ◌∷◌, ◌≡◌}
-use Rattle.std.proofs.lemmas.List.{map-append}
+use Rattle.std.proofs.Common.{List, [], refl, subst, sym, true, ◌++◌, ◌∙◌, ◌∷◌, ◌≡◌}
 use Rattle.std.proofs.lemmas.Option.{same_Some}
 
 -- ---- what lasts
@@ -72,49 +69,32 @@ pub loose_owed : (e : InEvent) (out : List RowKind) → IsLoose e out → IsOwed
 loose_owed e out loose end stays = loose end stays.lasts
 
 -- where the event ends here, all is paid
-pub owed_paid : (e : InEvent) (out : List RowKind) → IsOwed e out → IsPaid e out
+pub owed_paid : (e : InEvent) (out : List RowKind) → IsOwed e out → owes_seen e out (now_of e out) ≡ true
 unfolding now_of
 owed_paid e out owed = owed (now_of e out) (stays_refl (now_of e out))
 
 -- an end that pays the rows so far, and one more
-pub owes_more : (e : InEvent) (out : List RowKind) (kind : RowKind) (end : Seen) → owes (start_of e) (row_of e e.own ∷ map (row_of e) out) end ≡ true → owes_row (here_of e out) (row_of e kind) end ≡ true → owes (start_of e) (row_of e e.own ∷ map (row_of e) (out ++ kind ∷ [])) end ≡ true
-owes_more e out kind end before own =
-    subst (λ (l : List LogRow). owes (start_of e) (row_of e e.own ∷ l) end ≡ true) (sym (map-append (row_of e) out (kind ∷ []))) (owes_append (start_of e) (row_of e e.own ∷ map (row_of e) out) (row_of e kind ∷ []) end ∙ rw before (rw own refl))
+pub owes_more : (e : InEvent) (out : List RowKind) (kind : RowKind) → is_seen e.checking kind ≡ true → (end : Seen) → owes_seen e out end ≡ true → owes_row (seen_here e out) (row_of e kind) end ≡ true → owes_seen e (out ++ kind ∷ []) end ≡ true
+owes_more e out kind seen end before own =
+    subst (λ (l : List LogRow). owes (seen_first e) l end ≡ true) (sym (seen_more e out kind seen)) (owes_append (seen_first e) (seen_rows e out) (row_of e kind ∷ []) end ∙ rw before (rw own refl))
 
 -- a row more that undoes nothing of what stays, and is paid by the ends that undo nothing of it
-pub owed_more : (e : InEvent) (out : List RowKind) (kind : RowKind) → IsOwed e out → Stays (now_of e out) (after (now_of e out) (row_of e kind)) → ((end : Seen) → Stays (after (now_of e out) (row_of e kind)) end → owes_row (here_of e out) (row_of e kind) end ≡ true) → IsOwed e (out ++ kind ∷ [])
-owed_more e out kind owed stays own end on =
-    let then_ : Stays (after (now_of e out) (row_of e kind)) end = subst (λ (s : Seen). Stays s end) (now_more e out kind) on in
-    owes_more e out kind end (owed end (stays_trans (now_of e out) (after (now_of e out) (row_of e kind)) end stays then_)) (own end then_)
+pub owed_more : (e : InEvent) (out : List RowKind) (kind : RowKind) → is_seen e.checking kind ≡ true → IsOwed e out → Stays (now_of e out) (after (now_of e out) (row_of e kind)) → ((end : Seen) → Stays (after (now_of e out) (row_of e kind)) end → owes_row (seen_here e out) (row_of e kind) end ≡ true) → IsOwed e (out ++ kind ∷ [])
+owed_more e out kind seen owed stays own end on =
+    let then_ : Stays (after (now_of e out) (row_of e kind)) end = subst (λ (s : Seen). Stays s end) (now_more e out kind seen) on in
+    owes_more e out kind seen end (owed end (stays_trans (now_of e out) (after (now_of e out) (row_of e kind)) end stays then_)) (own end then_)
 
 -- any row more, where the ends that undo nothing of what lasts after it pay both it and the rows before it
-pub loose_since : (e : InEvent) (out : List RowKind) (kind : RowKind) → ((end : Seen) → Lasts (after (now_of e out) (row_of e kind)) end → owes (start_of e) (row_of e e.own ∷ map (row_of e) out) end ≡ true) → ((end : Seen) → Lasts (after (now_of e out) (row_of e kind)) end → owes_row (here_of e out) (row_of e kind) end ≡ true) → IsLoose e (out ++ kind ∷ [])
-loose_since e out kind before own end on =
-    let then_ : Lasts (after (now_of e out) (row_of e kind)) end = subst (λ (s : Seen). Lasts s end) (now_more e out kind) on in
-    owes_more e out kind end (before end then_) (own end then_)
+pub loose_since : (e : InEvent) (out : List RowKind) (kind : RowKind) → is_seen e.checking kind ≡ true → ((end : Seen) → Lasts (after (now_of e out) (row_of e kind)) end → owes_seen e out end ≡ true) → ((end : Seen) → Lasts (after (now_of e out) (row_of e kind)) end → owes_row (seen_here e out) (row_of e kind) end ≡ true) → IsLoose e (out ++ kind ∷ [])
+loose_since e out kind seen before own end on =
+    let then_ : Lasts (after (now_of e out) (row_of e kind)) end = subst (λ (s : Seen). Lasts s end) (now_more e out kind seen) on in
+    owes_more e out kind seen end (before end then_) (own end then_)
 
 -- so they do where it undoes nothing of what lasts
-pub loose_more : (e : InEvent) (out : List RowKind) (kind : RowKind) → IsLoose e out → Lasts (now_of e out) (after (now_of e out) (row_of e kind)) → ((end : Seen) → Lasts (after (now_of e out) (row_of e kind)) end → owes_row (here_of e out) (row_of e kind) end ≡ true) → IsLoose e (out ++ kind ∷ [])
-loose_more e out kind loose lasts own =
-    loose_since e out kind (λ end then_. loose end (lasts_trans (now_of e out) (after (now_of e out) (row_of e kind)) end lasts then_)) own
+pub loose_more : (e : InEvent) (out : List RowKind) (kind : RowKind) → is_seen e.checking kind ≡ true → IsLoose e out → Lasts (now_of e out) (after (now_of e out) (row_of e kind)) → ((end : Seen) → Lasts (after (now_of e out) (row_of e kind)) end → owes_row (seen_here e out) (row_of e kind) end ≡ true) → IsLoose e (out ++ kind ∷ [])
+loose_more e out kind seen loose lasts own =
+    loose_since e out kind seen (λ end then_. loose end (lasts_trans (now_of e out) (after (now_of e out) (row_of e kind)) end lasts then_)) own
 
--- the own row of an event in which the coordinator works owes nothing
-pub loose_first : (e : InEvent) → leads e.own ≡ true → IsLoose e []
-loose_first e own end on = rw (by_own e.own own) refl
-  where
-    by_own : (kind : RowKind) → leads kind ≡ true → owes_row (start_of e) (row_of e kind) end ≡ true
-    by_own (rows.Accepted req doc what) is = refl
-    by_own (rows.Answered req stay) is = refl
-    by_own (rows.Evicted state) is = refl
-    by_own (rows.Delivered proc) is = refl
-    by_own (rows.Opened entry state doc proc slot address) is = refl
-    by_own (rows.Started req goal) is = cc
-    by_own (rows.Applied req change) is = refl
-    by_own (rows.Refused req reason) is = refl
-    by_own (rows.Dropped req cause) is = cc
-    by_own (rows.Prompted req doc) is = refl
-    by_own (rows.Sent job) is = refl
-    by_own (rows.Taken proc job live dirty) is = refl
-    by_own (rows.Finished proc job outcome) is = refl
-    by_own (rows.Made proc made) is = refl
-    by_own (rows.Killed proc death) is = refl
+-- before any row is put out nothing is owed
+pub loose_first : (e : InEvent) → IsLoose e []
+loose_first e end on = refl

@@ -4,9 +4,9 @@ use Rattle.log_model.specs.Once.{has_no_earlier_load}
 use Rattle.log_model.specs.Places.{aim_of, all_stand, has_passed, stands}
 use Rattle.log_model.specs.Seen.{Asked, Place, Seen, place_of, request_of}
 use Rattle.log_model.specs.declared.row_kind.RowKind.{RowKind}
-use Rattle.seen_laws.specs.InEvent.{InEvent, now_of, row_of, start_of}
+use Rattle.seen_laws.specs.InEvent.{InEvent, now_of, seen_first, seen_rows}
 use Rattle.seen_laws.specs.Owing.{owes}
-use Rattle.std.specs.Prelude.{List, Some, false, map, true, ℕ, ◌∷◌, ◌≡◌}
+use Rattle.std.specs.Prelude.{Bool, List, Some, false, true, ℕ, ◌≡◌}
 use Rattle.tab_ids.specs.declared.NavId.{NavId}
 use Rattle.tab_ids.specs.declared.ReqId.{ReqId}
 
@@ -48,10 +48,14 @@ pub record Stays (s end : Seen) : Type 0 where
 abbrev pub IsReckoned : Seen → Type 0
 IsReckoned s = s.has_stood ≡ false → all_stand s s.history.current ≡ false
 
+-- this end pays what the event's rows so far owe, in the log as it would be had nobody been asked; the own row owes nothing
+abbrev pub owes_seen : InEvent → List RowKind → Seen → Bool
+owes_seen e out end = owes (seen_first e) (seen_rows e out) end
+
 -- each end pays what the event's rows so far owe that undoes nothing which orders leave
 abbrev pub IsOwed : InEvent → List RowKind → Type 0
-IsOwed e out = (end : Seen) → Stays (now_of e out) end → owes (start_of e) (row_of e e.own ∷ map (row_of e) out) end ≡ true
+IsOwed e out = (end : Seen) → Stays (now_of e out) end → owes_seen e out end ≡ true
 
 -- each end pays it that undoes nothing which any row leaves, but one that delivers a report or begins a load
 abbrev pub IsLoose : InEvent → List RowKind → Type 0
-IsLoose e out = (end : Seen) → Lasts (now_of e out) end → owes (start_of e) (row_of e e.own ∷ map (row_of e) out) end ≡ true
+IsLoose e out = (end : Seen) → Lasts (now_of e out) end → owes_seen e out end ≡ true

@@ -19,7 +19,7 @@ use Rattle.log_model.specs.declared.row_kind.Actor.{Actor}
 use Rattle.log_model.specs.declared.row_kind.RowKind.{RowKind}
 use Rattle.tab_facts.specs.Order.Orders.{AreOrders, EachOrder, IsOfCoord, TellsOf}
 use Rattle.seen_laws.proofs.Desks.{desk_on_other, desk_on_same}
-use Rattle.seen_laws.proofs.InEvents.{now_more}
+use Rattle.seen_laws.proofs.InEvents.{now_step}
 use Rattle.seen_laws.specs.InEvent.{InEvent, now_of}
 use Rattle.std.proofs.Common.{Bool, List, None, Option, Some, [], ap, append-nil, append_assoc, false, inl, inr, refl, subst, sym, true, ℕ, ◌++◌, ◌==◌, ◌∙◌, ◌∷◌, ◌≡◌}
 use Rattle.std.specs.Prelude.{option_map, option_to_list}
@@ -170,4 +170,4 @@ module _ (F : Job → Type 0) (e : InEvent) where
   orders_over (kind ∷ more) was fine sent are =
       subst (λ (l : List RowKind). AreOrders F (now_of e l)) (append_assoc was (kind ∷ []) more)
       (orders_over more (was ++ kind ∷ []) (λ k has. fine k (inr has)) (λ job has. sent job (inr has))
-      (subst (AreOrders F) (sym (now_more e was kind)) (orders_after F (now_of e was) e.event e.actor kind (fine kind (inl refl)) (λ job is. sent job (inl is)) are)))
+      (now_step (AreOrders F) e was kind (λ a. orders_after F (now_of e was) e.event e.actor kind (fine kind (inl refl)) (λ job is. sent job (inl is)) a) are))

@@ -7,7 +7,7 @@ use Rattle.log_model.specs.declared.row_kind.RowKind.{RowKind}
 use Rattle.tab_facts.specs.Order.Orders.{IsOfCoord}
 use Rattle.row_facts.proofs.Owed.Rows.{applied_lasts, begun_still, dropped_lasts, refused_lasts, sent_lasts}
 use Rattle.row_facts.specs.Owed.Owed.{IsStill}
-use Rattle.seen_laws.proofs.InEvents.{now_more}
+use Rattle.seen_laws.proofs.InEvents.{now_step}
 use Rattle.seen_laws.specs.InEvent.{InEvent, now_of}
 use Rattle.std.proofs.Common.{List, Some, [], append-nil, append_assoc, inl, inr, refl, subst, sym, ℕ, ◌++◌, ◌∙◌, ◌∷◌, ◌≡◌}
 use Rattle.tab_ids.specs.declared.ReqId.{ReqId}
@@ -45,4 +45,4 @@ still_over e (kind ∷ more) was fine req q at =
   where
     one : IsStill (now_of e (was ++ kind ∷ [])) req q
     one =
-        subst (λ (x : Seen). IsStill x req q) (sym (now_more e was kind)) (still_after (now_of e was) e.event e.actor kind (fine kind (inl refl)) req q at)
+        now_step (λ (x : Seen). IsStill x req q) e was kind (λ is. still_after (now_of e was) e.event e.actor kind (fine kind (inl refl)) req q at) (still_itself (now_of e was) req q at)

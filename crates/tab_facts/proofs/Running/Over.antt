@@ -11,7 +11,7 @@ use Rattle.tab_facts.proofs.Running.Orders.{making_running, sent_running}
 use Rattle.tab_facts.proofs.Running.Rows.{accepted_running, answered_running, applied_running, delivered_running, dropped_running, evicted_running, finished_running, made_running, prompted_running, refused_running, started_running, taken_running}
 use Rattle.tab_facts.specs.Running.Fitting.{EachFits, IsFittingOrder, IsFittingRow}
 use Rattle.tab_facts.specs.Running.Running.{AreFoundRunning}
-use Rattle.seen_laws.proofs.InEvents.{now_more}
+use Rattle.seen_laws.proofs.InEvents.{now_step}
 use Rattle.seen_laws.specs.InEvent.{InEvent, now_of}
 use Rattle.std.proofs.Common.{Bool, List, [], append-nil, append_assoc, refl, subst, sym, ℕ, ◌++◌, ◌∷◌, ◌≡◌}
 use Rattle.tab_ids.specs.declared.JobId.{JobId}
@@ -53,4 +53,4 @@ pub running_over : (e : InEvent) (more was : List RowKind) → EachFits e was mo
 running_over e [] was fits are = subst (λ (l : List RowKind). AreFoundRunning (now_of e l)) (sym (append-nil was)) are
 running_over e (kind ∷ more) was fits are =
     subst (λ (l : List RowKind). AreFoundRunning (now_of e l)) (append_assoc was (kind ∷ []) more)
-    (running_over e more (was ++ kind ∷ []) fits.1 (subst AreFoundRunning (sym (now_more e was kind)) (running_after (now_of e was) e.event e.actor are kind fits.0)))
+    (running_over e more (was ++ kind ∷ []) fits.1 (now_step AreFoundRunning e was kind (λ a. running_after (now_of e was) e.event e.actor a kind fits.0) are))

@@ -19,9 +19,9 @@ use Rattle.tab_facts.proofs.Running.Lists.{live_doc}
 use Rattle.tab_facts.proofs.Running.Over.{running_over}
 use Rattle.tab_facts.specs.Running.Fitting.{EachFits, IsFittingOrder, IsFittingRow, IsOfThere, IsQuietOrder}
 use Rattle.tab_facts.specs.Running.Running.{AreFoundRunning, EachFinds, Finds}
-use Rattle.seen_laws.proofs.InEvents.{now_more}
+use Rattle.seen_laws.proofs.InEvents.{now_step}
 use Rattle.seen_laws.specs.InEvent.{InEvent, now_of}
-use Rattle.std.proofs.Common.{Bool, List, None, Option, Some, [], ap, false, inl, inr, length, refl, subst, sym, true, ◌++◌, ◌∙◌, ◌∷◌, ◌≡◌}
+use Rattle.std.proofs.Common.{Bool, List, None, Option, Some, [], ap, false, inl, inr, length, refl, sym, true, ◌++◌, ◌∙◌, ◌∷◌, ◌≡◌}
 use Rattle.std.specs.Prelude.{filter}
 use Rattle.tab_ids.specs.declared.DocId.{DocId}
 use Rattle.tab_ids.specs.declared.ProcId.{ProcId}
@@ -109,7 +109,7 @@ each_quiet base e (kind ∷ more) was there fine quiet =
 
     then_ : AreOrders (IsOfThere base) (now_of e (was ++ kind ∷ []))
     then_ =
-        subst (AreOrders (IsOfThere base)) (sym (now_more e was kind)) (orders_after (IsOfThere base) (now_of e was) e.event e.actor kind (coord_within kind own) (λ job is fragment. absurd (quiet_there base job job.task (quiet job (inl is)) fragment)) there)
+        now_step (AreOrders (IsOfThere base)) e was kind (λ a. orders_after (IsOfThere base) (now_of e was) e.event e.actor kind (coord_within kind own) (λ job is fragment. absurd (quiet_there base job job.task (quiet job (inl is)) fragment)) a) there
 
 -- what each process had was of its documents, and the orders make only documents that weren't there
 pub quiet_over : (e : InEvent) (more was : List RowKind) → AreDesksIn (now_of e was) → ((kind : RowKind) → Has more kind → IsOfCoord kind) → ((job : Job) → Has more (rows.Sent job) → IsQuietOrder (now_of e was) job job.task) → AreFoundRunning (now_of e was) → AreFoundRunning (now_of e (was ++ more))

@@ -23,7 +23,7 @@ use Rattle.log_model.specs.declared.row_kind.RowKind.TheVariants as rows
 use Rattle.tab_facts.specs.Order.Orders.{IsOfCoord}
 use Rattle.tab_facts.specs.Running.Telling.{AreTelling, EndsNoFragment, TellsOfMade}
 use Rattle.seen_facts.specs.Hang.Members.{Has}
-use Rattle.seen_laws.proofs.InEvents.{now_more}
+use Rattle.seen_laws.proofs.InEvents.{now_step}
 use Rattle.seen_laws.specs.InEvent.{InEvent, now_of}
 use Rattle.seen_laws.proofs.Desks.{desk_on_other, desk_on_same}
 use Rattle.std.proofs.Common.{Bool, List, None, Option, Some, [], ap, append-nil, append_assoc, cond, false, inl, inr, refl, subst, sym, true, ℕ, ◌&&◌, ◌++◌, ◌+◌, ◌==◌, ◌∙◌, ◌∷◌, ◌≡◌}
@@ -160,7 +160,7 @@ pub telling_over : (e : InEvent) (more was : List RowKind) → ((kind : RowKind)
 telling_over e [] was fine are = subst (λ (l : List RowKind). AreTelling (now_of e l)) (sym (append-nil was)) are
 telling_over e (kind ∷ more) was fine are =
     subst (λ (l : List RowKind). AreTelling (now_of e l)) (append_assoc was (kind ∷ []) more)
-    (telling_over e more (was ++ kind ∷ []) (λ k has. fine k (inr has)) (subst AreTelling (sym (now_more e was kind)) (telling_after (now_of e was) e.event e.actor are kind (coord_ends (now_of e was) kind (fine kind (inl refl))))))
+    (telling_over e more (was ++ kind ∷ []) (λ k has. fine k (inr has)) (now_step AreTelling e was kind (λ a. telling_after (now_of e was) e.event e.actor a kind (coord_ends (now_of e was) kind (fine kind (inl refl)))) are))
 
 -- ---- the opening
 

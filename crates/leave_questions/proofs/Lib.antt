@@ -1,0 +1,5 @@
+pub mod Walks
+pub mod Docs
+pub mod Lives
+pub mod Rows
+pub mod Due
