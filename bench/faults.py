@@ -108,7 +108,7 @@ WORDS = ["0", "1", "-1", "00", "999", "1000", "-999", "4095", "4096", "16", "17"
          "s", "auto", "push", "replace", "stay", "leave", "open", "keep", "site", "page", "session", "load", "settle", "x" * 64,
          "x" * 65, "x" * 2048, "x" * 2049, "kill", "act", "#", "evict"]
 BYTES = " \n\r\t#-/:.01239azA~\x7f\x00\x80"
-PLAYED = {"session", "keep", "site", "open", "load", "go", "push", "replace", "fragment", "frame", "remove", "docgo", "evict", "act", "begin", "finish", "deliver", "settle"}
+PLAYED = {"session", "keep", "site", "open", "load", "go", "push", "replace", "fragment", "frame", "remove", "docgo", "edit", "answer", "evict", "act", "begin", "finish", "deliver", "settle"}
 
 
 def line(rng):

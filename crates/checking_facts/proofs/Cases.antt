@@ -1,5 +1,5 @@
 -- Single rows that ask, answer or begin, and what a row asks where it is for another request.
-use Rattle.std.proofs.Common.{◌≡◌, ℕ, Bool, true, false, [], Option, Some, sym, ap, ◌∙◌, subst}
+use Rattle.std.proofs.Common.{◌≡◌, inl, ℕ, Bool, true, false, [], Option, Some, sym, ap, ◌∙◌, subst}
 use Rattle.tab_ids.specs.declared.DocId.{DocId}
 use Rattle.tab_ids.specs.declared.ProcId.{ProcId}
 use Rattle.tab_ids.specs.declared.ReqId.{ReqId}
@@ -18,8 +18,8 @@ use Rattle.log_model.specs.Places.{is_traversal}
 use Rattle.log_model.specs.Seen.{Asked, Seen, request_of}
 use Rattle.unasked_dues.specs.Checking.{IsForOther}
 use Rattle.check_facts.specs.Rows.{IsNoQuestion}
-use Rattle.checking_facts.specs.Checks.{AreInCheck, BeginsApart, IsForChecked, MayEnter, NoneRunsInCheck, NoOtherUnderWay, PutsNoneAsleep, SameBut, SendsDuly}
-use Rattle.checking_facts.proofs.Entering.{entered_checks}
+use Rattle.checking_facts.specs.Checks.{AreInCheck, BeginsApart, IsForChecked, IsOwnFragment, NoneRunsInCheck, PutsNoneAsleep, SendsDuly}
+use Rattle.checking_facts.specs.States.{MakesOff}
 use Rattle.checking_facts.proofs.Rows.{row_checks}
 
 -- ---- orders
@@ -33,15 +33,15 @@ module _ (checking : ReqId → Bool) (s : Seen) (job : Job) where
   pub none_wakes : sleepers_with s job.doc ≡ [] → PutsNoneAsleep checking s job
   none_wakes none req why on = none
 
-  -- what is asked of an order, for a request that isn't in its check, that is no question
-  pub other_sends : (task : Task) → IsNoQuestion task → IsForOther checking job.why → SendsDuly checking s job task
-  other_sends (tasks.Activate entry epoch length index memo address) is other = other
-  other_sends tasks.Freeze is other = other_wakes other
-  other_sends tasks.Discard is other = other_wakes other
-  other_sends (tasks.Ask slot cause) never other = absurd never
-  other_sends (tasks.Populate nav state address initial) is other = tt
-  other_sends (tasks.Update length index) is other = tt
-  other_sends (tasks.DoFragment req mode address) is other = tt
+  -- what is asked of an order, for a request that isn't in its check, that is no question, and sends no document to a fragment for another one
+  pub other_sends : (task : Task) → IsNoQuestion task → IsOwnFragment job task → IsForOther checking job.why → SendsDuly checking s job task
+  other_sends (tasks.Activate entry epoch length index memo address) is own other = other
+  other_sends tasks.Freeze is own other = other_wakes other
+  other_sends tasks.Discard is own other = other_wakes other
+  other_sends (tasks.Ask slot cause) never own other = absurd never
+  other_sends (tasks.Populate nav state address initial) is own other = tt
+  other_sends (tasks.Update length index) is own other = tt
+  other_sends (tasks.DoFragment req mode address) is own other = other req own
 
   -- what is asked of a question for a request in its check
   pub checked_asks : (req : ReqId) → job.why ≡ whys.Req req → checking req ≡ true → IsForChecked checking job
@@ -58,46 +58,36 @@ module _ (checking : ReqId → Bool) (s : Seen) (event : ℕ) (actor : Actor) (a
   next kind = after s (record { event = event; actor = actor; row = kind })
 
   -- an order that is no question, for a request that isn't in its check
-  pub other_checks : (job : Job) → IsNoQuestion job.task → IsForOther checking job.why → AreInCheck checking (next (rows.Sent job))
-  other_checks job is other =
-      row_checks checking s (record { event = event; actor = actor; row = rows.Sent job }) (other_sends checking s job job.task is other) are
+  pub other_checks : (job : Job) → IsNoQuestion job.task → IsOwnFragment job job.task → MakesOff checking s job.task → IsForOther checking job.why → AreInCheck checking (next (rows.Sent job))
+  other_checks job is own off other =
+      row_checks checking s (record { event = event; actor = actor; row = rows.Sent job }) (other_sends checking s job job.task is own other) off are
 
   -- a question of a request in its check
   pub asked_checks : (job : Job) (slot : ℕ) (cause : LeaveCause) (req : ReqId) → job.task ≡ tasks.Ask slot cause → job.why ≡ whys.Req req → checking req ≡ true → AreInCheck checking (next (rows.Sent job))
   asked_checks job slot cause req task why on =
-      row_checks checking s (record { event = event; actor = actor; row = rows.Sent job }) (subst (λ (t : Task). SendsDuly checking s job t) (sym task) (checked_asks checking s job req why on)) are
+      row_checks checking s (record { event = event; actor = actor; row = rows.Sent job }) (subst (λ (t : Task). SendsDuly checking s job t) (sym task) (checked_asks checking s job req why on)) (subst (λ (t : Task). MakesOff checking s t) (sym task) tt) are
 
   -- the user is asked for it
   pub prompted_checks : (req : ReqId) (doc : DocId) → checking req ≡ true → AreInCheck checking (next (rows.Prompted req doc))
   prompted_checks req doc on =
-      row_checks checking s (record { event = event; actor = actor; row = rows.Prompted req doc }) on are
+      row_checks checking s (record { event = event; actor = actor; row = rows.Prompted req doc }) on tt are
 
   -- the user answers
   pub answered_checks : (req : ReqId) (stay : Bool) → checking req ≡ true → AreInCheck checking (next (rows.Answered req stay))
   answered_checks req stay on =
-      row_checks checking s (record { event = event; actor = actor; row = rows.Answered req stay }) (λ off. let never : true ≡ false = sym on ∙ off in absurd cc) are
+      row_checks checking s (record { event = event; actor = actor; row = rows.Answered req stay }) (λ off. let never : true ≡ false = sym on ∙ off in absurd cc) tt are
 
   -- a report is delivered, be it an answer
   pub delivered_checks : (proc : ProcId) → AreInCheck checking (next (rows.Delivered proc))
   delivered_checks proc =
-      row_checks checking s (record { event = event; actor = actor; row = rows.Delivered proc }) tt are
+      row_checks checking s (record { event = event; actor = actor; row = rows.Delivered proc }) tt tt are
 
   -- ---- a request begins
 
   -- one that isn't in its check
   pub begun_outside : (req : ReqId) (goal : Option Step) → checking req ≡ false → ((q : Asked) → request_of s req ≡ Some q → is_traversal q.what ≡ true → NoneRunsInCheck checking s) → AreInCheck checking (next (rows.Started req goal))
   begun_outside req goal off none =
-      row_checks checking s (record { event = event; actor = actor; row = rows.Started req goal }) apart are
+      row_checks checking s (record { event = event; actor = actor; row = rows.Started req goal }) apart (inl off) are
     where
       apart : BeginsApart checking s req
       apart by q r at there other goes runs goes_ = rw off (none q at goes by r there runs goes_)
-
-  -- one that is, or isn't
-  pub begun_alone : (req : ReqId) (goal : Option Step) → ((q : Asked) → request_of s req ≡ Some q → is_traversal q.what ≡ true → NoOtherUnderWay s req) → AreInCheck checking (next (rows.Started req goal))
-  begun_alone req goal none =
-      row_checks checking s (record { event = event; actor = actor; row = rows.Started req goal }) (λ by q r at there other goes runs goes_. absurd (none q at goes by r there other runs goes_)) are
-
--- one enters its check as it begins
-pub begun_entered : (checking entered : ReqId → Bool) (s : Seen) (event : ℕ) (actor : Actor) (req : ReqId) (goal : Option Step) → SameBut req checking entered → entered req ≡ true → ((q : Asked) → request_of s req ≡ Some q → MayEnter q) → ((q : Asked) → request_of s req ≡ Some q → is_traversal q.what ≡ true → NoOtherUnderWay s req) → AreInCheck checking s → AreInCheck entered (after s (record { event = event; actor = actor; row = rows.Started req goal }))
-begun_entered checking entered s event actor req goal same on may none are =
-    begun_alone entered s event actor (entered_checks checking entered s req same on may are) req goal none

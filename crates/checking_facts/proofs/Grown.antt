@@ -1,11 +1,13 @@
 -- A request as it was and as it is after a change, and what of the requests in their checks goes on to hold.
-use Rattle.std.proofs.Common.{◌≡◌, Bool, true, false, cond, ◌&&◌, ◌||◌, ◌==◌, List, [], ◌∷◌, map, Option, Some, refl, sym, ap, ◌∙◌}
+use Rattle.std.proofs.Common.{◌≡◌, ℕ, Bool, true, false, cond, ◌&&◌, ◌||◌, ◌==◌, List, [], ◌∷◌, map, Option, Some, refl, sym, ap, ◌∙◌, arith}
 use Rattle.std.specs.List.{list_all}
 use Rattle.std.proofs.lemmas.Bool.{and_parts}
+use Rattle.std.proofs.lemmas.Bool.Decides.{nat_tests}
 use Rattle.tab_ids.specs.declared.DocId.{DocId}
 use Rattle.tab_ids.specs.declared.JobId.{JobId}
 use Rattle.tab_ids.specs.declared.NavId.{NavId}
 use Rattle.tab_ids.specs.declared.ReqId.{ReqId}
+use Rattle.tab_ids.specs.declared.StateId.{StateId}
 use Rattle.log_model.specs.declared.change.Change.{Change}
 use Rattle.log_model.specs.declared.job.Why.{Why}
 use Rattle.log_model.specs.declared.job.Why.TheVariants as whys
@@ -17,32 +19,43 @@ use Rattle.log_model.specs.Seen.{Asked, Asking, Seen, request_in, request_of}
 use Rattle.seen_facts.proofs.Asked.Passed.{passes_more}
 use Rattle.seen_facts.proofs.Each.Runs.{each_asked_on}
 use Rattle.unasked_dues.specs.Checking.{AllOthersPass, AreChecking, AreNumbered, NoOtherRuns}
+use Rattle.checking_facts.specs.States.{AreBegun}
 
 -- ---- one request
 
--- what was moved, shown or changed for a request
+-- numbers that pass the test are the same
+pub req_same : (a b : ReqId) → (a.0 == b.0) ≡ true → a ≡ b
+req_same a b e =
+    let n : a.0 ≡ b.0 = grind (arith, nat_tests, e) in ap (λ (i : ℕ). let x : ReqId = record { 0 = i } in x) n
+
+-- what was moved, shown or changed for a request, and the document that was sent to a fragment
 pub record Deeds : Type 0 where
   pub moved : List NavId
   pub activated : List NavId
   pub change : Option Change
+  pub fragment : Option DocId
 
 -- of a request
 abbrev pub deeds_of : Asked → Deeds
-deeds_of q = record { moved = q.moved; activated = q.activated; change = q.change }
+deeds_of q = record { moved = q.moved; activated = q.activated; change = q.change; fragment = q.fragment }
 
--- of a request in its check what was done stays, and one that isn't passes still; none is under way that wasn't, but those that begin
+-- of a request in its check what was done stays, and one that isn't passes still; none is under way that wasn't, and none has another document state, but those that begin
 pub record Grows (checking begins : ReqId → Bool) (gone : DocId → Bool) (req : ReqId) (p q : Asked) : Type 0 where
   pub nr : q.nr ≡ p.nr
   pub what : q.what ≡ p.what
+  pub starts : p.is_started ≡ true → q.is_started ≡ true
   pub runs : begins req ≡ false → is_under_way q ≡ true → is_under_way p ≡ true
   pub passes : checking req ≡ false → has_passed_with gone p ≡ true → has_passed_with gone q ≡ true
   pub still : checking req ≡ true → deeds_of q ≡ deeds_of p
+  pub state : begins req ≡ false → q.state ≡ p.state
 
 -- whatever no check reads
 pub record Looks : Type 0 where
   pub nr : ReqId
   pub what : Request
+  pub is_started : Bool
   pub is_under_way : Bool
+  pub state : Option StateId
   pub asks : List Asking
   pub prompted : Option DocId
   pub answered : Option Bool
@@ -54,7 +67,9 @@ looks_of q =
     record {
       nr = q.nr;
       what = q.what;
+      is_started = q.is_started;
       is_under_way = is_under_way q;
+      state = q.state;
       asks = q.asks;
       prompted = q.prompted;
       answered = q.answered;
@@ -68,7 +83,7 @@ module _ (checking begins : ReqId → Bool) (gone : DocId → Bool) where
 
   -- a request that stays
   pub same_goes : (req : ReqId) (q : Asked) → Goes req q q
-  same_goes req q = record { nr = refl; what = refl; runs = λ off is. is; passes = λ off is. is; still = λ on. refl }
+  same_goes req q = record { nr = refl; what = refl; starts = λ is. is; runs = λ off is. is; passes = λ off is. is; still = λ on. refl; state = λ off. refl }
 
   -- two changes are one
   pub goes_then : (req : ReqId) (p q r : Asked) → Goes req p q → Goes req q r → Goes req p r
@@ -76,9 +91,11 @@ module _ (checking begins : ReqId → Bool) (gone : DocId → Bool) where
       record {
         nr = two.nr ∙ one.nr;
         what = two.what ∙ one.what;
+        starts = λ is. two.starts (one.starts is);
         runs = λ off is. one.runs off (two.runs off is);
         passes = λ off is. two.passes off (one.passes off is);
         still = λ on. two.still on ∙ one.still on;
+        state = λ off. two.state off ∙ one.state off;
       }
 
   -- ---- all of them
@@ -116,7 +133,11 @@ module _ (checking begins : ReqId → Bool) (s t : Seen) (all : AllGo checking b
       let p = all req q at in
       passes_more (is_gone s) (is_gone t) stays q (p.2.passes off (others req p.0 p.1 off))
 
-  -- those in their checks have done nothing
+  -- those in their checks have begun
+  pub go_begun : AreBegun checking s → AreBegun checking t
+  go_begun begun req q at on = let p = all req q at in p.2.starts (begun req p.0 p.1 on)
+
+  -- and done nothing
   pub go_checks : AreChecking checking s → AreChecking checking t
   go_checks checks req q at on =
       let p = all req q at in
@@ -128,6 +149,7 @@ module _ (checking begins : ReqId → Bool) (s t : Seen) (all : AllGo checking b
         unmoved = ap (λ (d : Deeds). d.moved) still ∙ was.unmoved;
         shows = ap (λ (d : Deeds). d.activated) still ∙ was.shows;
         unchanged = ap (λ (d : Deeds). d.change) still ∙ was.unchanged;
+        unsent = ap (λ (d : Deeds). d.fragment) still ∙ was.unsent;
       }
 
   -- and a traversal in its check is alone
@@ -153,9 +175,11 @@ module _ (checking begins : ReqId → Bool) (gone : DocId → Bool) (req : ReqId
       record {
         nr = ap (λ (x : Looks). x.nr) same;
         what = ap (λ (x : Looks). x.what) same;
+        starts = λ is. ap (λ (x : Looks). x.is_started) same ∙ is;
         runs = λ off is. sym (ap (λ (x : Looks). x.is_under_way) same) ∙ is;
         passes = λ off is. passes_same is;
         still = λ on. ap (λ (x : Looks). x.deeds) same;
+        state = λ off. ap (λ (x : Looks). x.state) same;
       }
     where
       passed : Looks → Bool
@@ -167,26 +191,26 @@ module _ (checking begins : ReqId → Bool) (gone : DocId → Bool) (req : ReqId
   -- an end
   pub ended_goes : (ending : Ending) (q : Asked) → Goes checking begins gone req q (record q { ending = Some ending })
   ended_goes ending q =
-      record { nr = refl; what = refl; runs = λ off is. never q.is_started is; passes = λ off is. is; still = λ on. refl }
+      record { nr = refl; what = refl; starts = λ is. is; runs = λ off is. never q.is_started is; passes = λ off is. is; still = λ on. refl; state = λ off. refl }
     where
       never : (b : Bool) → (b && false) ≡ true → is_under_way q ≡ true
       never true is = absurd cc
       never false is = absurd cc
 
   -- a beginning, of one that begins
-  pub begun_goes : (p q : Asked) → begins req ≡ true → q.nr ≡ p.nr → q.what ≡ p.what → (has_passed_with gone p ≡ true → has_passed_with gone q ≡ true) → deeds_of q ≡ deeds_of p → Goes checking begins gone req p q
-  begun_goes p q on nr what passes still =
-      record { nr = nr; what = what; runs = λ off is. (let never : true ≡ false = sym on ∙ off in absurd cc); passes = λ off is. passes is; still = λ on_. still }
+  pub begun_goes : (p q : Asked) → begins req ≡ true → q.nr ≡ p.nr → q.what ≡ p.what → (p.is_started ≡ true → q.is_started ≡ true) → (has_passed_with gone p ≡ true → has_passed_with gone q ≡ true) → deeds_of q ≡ deeds_of p → Goes checking begins gone req p q
+  begun_goes p q on nr what starts passes still =
+      record { nr = nr; what = what; starts = starts; runs = λ off is. (let never : true ≡ false = sym on ∙ off in absurd cc); passes = λ off is. passes is; still = λ on_. still; state = λ off. (let never : true ≡ false = sym on ∙ off in absurd cc) }
 
   -- one of a request that isn't in its check
-  pub outside_goes : (p q : Asked) → checking req ≡ false → q.nr ≡ p.nr → q.what ≡ p.what → (is_under_way q ≡ true → is_under_way p ≡ true) → (has_passed_with gone p ≡ true → has_passed_with gone q ≡ true) → Goes checking begins gone req p q
-  outside_goes p q off nr what runs passes =
-      record { nr = nr; what = what; runs = λ b is. runs is; passes = λ o is. passes is; still = λ on. (let never : true ≡ false = sym on ∙ off in absurd cc) }
+  pub outside_goes : (p q : Asked) → checking req ≡ false → q.nr ≡ p.nr → q.what ≡ p.what → q.state ≡ p.state → (p.is_started ≡ true → q.is_started ≡ true) → (is_under_way q ≡ true → is_under_way p ≡ true) → (has_passed_with gone p ≡ true → has_passed_with gone q ≡ true) → Goes checking begins gone req p q
+  outside_goes p q off nr what state starts runs passes =
+      record { nr = nr; what = what; starts = starts; runs = λ b is. runs is; passes = λ o is. passes is; still = λ on. (let never : true ≡ false = sym on ∙ off in absurd cc); state = λ b. state }
 
   -- one of a request that is in its check: what it asks
-  pub inside_goes : (p q : Asked) → checking req ≡ true → q.nr ≡ p.nr → q.what ≡ p.what → (is_under_way q ≡ true → is_under_way p ≡ true) → deeds_of q ≡ deeds_of p → Goes checking begins gone req p q
-  inside_goes p q on nr what runs still =
-      record { nr = nr; what = what; runs = λ b is. runs is; passes = λ off is. (let never : true ≡ false = sym on ∙ off in absurd cc); still = λ o. still }
+  pub inside_goes : (p q : Asked) → checking req ≡ true → q.nr ≡ p.nr → q.what ≡ p.what → q.state ≡ p.state → (p.is_started ≡ true → q.is_started ≡ true) → (is_under_way q ≡ true → is_under_way p ≡ true) → deeds_of q ≡ deeds_of p → Goes checking begins gone req p q
+  inside_goes p q on nr what state starts runs still =
+      record { nr = nr; what = what; starts = starts; runs = λ b is. runs is; passes = λ off is. (let never : true ≡ false = sym on ∙ off in absurd cc); still = λ o. still; state = λ b. state }
 
   -- ---- answers
 
@@ -204,7 +228,7 @@ module _ (checking begins : ReqId → Bool) (gone : DocId → Bool) (req : ReqId
   -- a question is answered, or its answer delivered
   pub heard_goes : (job : JobId) (f : Asking → Asking) → ((asking : Asking) → is_settled_asking gone asking ≡ true → is_settled_asking gone (f asking) ≡ true) → (q : Asked) → Goes checking begins gone req q (on_asking job f q)
   heard_goes job f own q =
-      record { nr = refl; what = refl; runs = λ b is. is; passes = λ off is. passes is; still = λ on. refl }
+      record { nr = refl; what = refl; starts = λ is. is; runs = λ b is. is; passes = λ off is. passes is; still = λ on. refl; state = λ b. refl }
     where
       passes : has_passed_with gone q ≡ true → has_passed_with gone (on_asking job f q) ≡ true
       passes is =

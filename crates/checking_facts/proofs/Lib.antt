@@ -1,4 +1,5 @@
 pub mod Grown
+pub mod States
 pub mod Rows
 pub mod Entering
 pub mod Cases
@@ -7,3 +8,4 @@ pub mod Waits
 pub mod Settles
 pub mod Askings
 pub mod Moving
+pub mod Brings

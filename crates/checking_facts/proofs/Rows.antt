@@ -1,5 +1,5 @@
 -- What of the requests in their checks is carried goes on to hold over each row.
-use Rattle.std.proofs.Common.{◌≡◌, ℕ, ◌-◌, Bool, true, false, not, cond, ◌&&◌, ◌||◌, ◌==◌, List, [], ◌∷◌, ◌++◌, length, Option, Some, None, refl, sym, ap, ◌∙◌, subst, arith}
+use Rattle.std.proofs.Common.{◌≡◌, ◌⊎◌, ℕ, ◌+◌, ◌-◌, Bool, true, false, not, cond, ◌&&◌, ◌||◌, ◌==◌, List, [], ◌∷◌, ◌++◌, length, Option, Some, None, refl, sym, ap, ◌∙◌, subst, arith}
 use Rattle.std.specs.Prelude.{is_none, slice_get}
 use Rattle.std.specs.List.{list_all}
 use Rattle.std.proofs.lemmas.Bool.{and_parts}
@@ -26,22 +26,20 @@ use Rattle.log_model.specs.declared.row_kind.RowKind.TheVariants as rows
 use Rattle.log_model.specs.After.{after, ended, new_request}
 use Rattle.log_model.specs.AfterPlaces.{sleepers_with}
 use Rattle.log_model.specs.AfterRequests.{entries_taken, is_running, on_request, request_begun, request_served, requests_delivered, requests_finished, requests_sent, with_asking}
-use Rattle.log_model.specs.Places.{has_passed, is_gone, is_settled_asking, is_traversal, is_under_way, may_leave}
+use Rattle.log_model.specs.Places.{has_passed, is_gone, is_reload, is_settled_asking, is_traversal, is_under_way, may_leave}
+use Rattle.log_model.specs.Queue.{is_step_under_way}
 use Rattle.log_model.specs.Seen.{Asked, Document, Seen, desk_of, document_of, request_in, request_of}
 use Rattle.seen_facts.proofs.Asked.Passed.{IsNoOpening, gone_stays}
 use Rattle.seen_facts.proofs.Each.Runs.{each_asked_more}
-use Rattle.unasked_dues.specs.Checking.{AreNumbered, IsChecking}
-use Rattle.checking_facts.proofs.Grown.{AllGo, Deeds, Goes, all_on, all_same, all_served, begun_goes, ended_goes, go_alone, go_checks, go_numbered, go_others, heard_goes, inside_goes, looks_of, outside_goes, unread_goes}
-use Rattle.checking_facts.specs.Checks.{AreInCheck, BeginsApart, GoesDuly, IsNextOutside, SendsDuly, just}
+use Rattle.unasked_dues.specs.Checking.{AreNumbered, IsChecking, NoStepChecks}
+use Rattle.checking_facts.proofs.Grown.{AllGo, Deeds, Goes, all_on, all_same, all_served, begun_goes, ended_goes, go_alone, go_begun, go_checks, go_numbered, go_others, heard_goes, inside_goes, looks_of, outside_goes, req_same, unread_goes}
+use Rattle.checking_facts.proofs.States.{accepted_states, begun_states, row_states}
+use Rattle.checking_facts.specs.Checks.{AreInCheck, BeginsApart, BeginsOff, GoesDuly, IsNextOutside, SendsDuly, just}
+use Rattle.checking_facts.specs.States.{IsNextState, LeavesStates}
 
 -- none begins
 abbrev pub no_one : ReqId → Bool
 no_one req = false
-
--- numbers that pass the test are the same
-req_same : (a b : ReqId) → (a.0 == b.0) ≡ true → a ≡ b
-req_same a b e =
-    let n : a.0 ≡ b.0 = grind (arith, nat_tests, e) in ap (λ (i : ℕ). let x : ReqId = record { 0 = i } in x) n
 
 -- a test that holds at its end
 or_true : (b : Bool) → (b || true) ≡ true
@@ -62,7 +60,7 @@ module _ (checking : ReqId → Bool) (s : Seen) where
   -- an order that shows a document, for a request that isn't in its check
   shown_goes : (job : Job) (task : Task) (req : ReqId) (q : Asked) → checking req ≡ false → looks_of (record (request_served s job task q) { moved = []; activated = [] }) ≡ looks_of (record q { moved = []; activated = [] }) → Stays req q (request_served s job task q)
   shown_goes job task req q off same =
-      outside_goes checking no_one (is_gone s) req q (request_served s job task q) off (ap (λ x. x.nr) same) (ap (λ x. x.what) same) (λ is. sym (ap (λ x. x.is_under_way) same) ∙ is)
+      outside_goes checking no_one (is_gone s) req q (request_served s job task q) off (ap (λ x. x.nr) same) (ap (λ x. x.what) same) (ap (λ x. x.state) same) (λ is. ap (λ x. x.is_started) same ∙ is) (λ is. sym (ap (λ x. x.is_under_way) same) ∙ is)
       (λ is. ap (λ x. list_all (is_settled_asking (is_gone s)) x.asks && may_leave (record q { prompted = x.prompted; answered = x.answered })) same ∙ is)
 
   -- one that puts documents to sleep, where nobody is with it for a request in its check
@@ -71,14 +69,14 @@ module _ (checking : ReqId → Bool) (s : Seen) where
     where
       by_check : (b : Bool) → checking req ≡ b → Stays req q (request_served s job tasks.Freeze q)
       by_check true e =
-          inside_goes checking no_one (is_gone s) req q (request_served s job tasks.Freeze q) e refl refl (λ is. is) (ap (λ l. let d : Deeds = record { moved = l ++ q.moved; activated = q.activated; change = q.change } in d) (none e))
+          inside_goes checking no_one (is_gone s) req q (request_served s job tasks.Freeze q) e refl refl refl (λ is. is) (λ is. is) (ap (λ l. let d : Deeds = record { moved = l ++ q.moved; activated = q.activated; change = q.change; fragment = q.fragment } in d) (none e))
       by_check false e =
-          outside_goes checking no_one (is_gone s) req q (request_served s job tasks.Freeze q) e refl refl (λ is. is) (λ is. is)
+          outside_goes checking no_one (is_gone s) req q (request_served s job tasks.Freeze q) e refl refl refl (λ is. is) (λ is. is) (λ is. is)
 
   -- each order
   sent_all : (job : Job) (task : Task) → SendsDuly checking s job task → Kept (requests_sent s job task s.requests)
   sent_all job (tasks.DoFragment req mode address) duly =
-      all_on checking no_one (is_gone s) s.requests s.requests req _ (λ q. unread_goes checking no_one (is_gone s) req q (record q { fragment = Some job.doc }) refl) (all_same checking no_one (is_gone s) s.requests)
+      all_on checking no_one (is_gone s) s.requests s.requests req _ (λ q. outside_goes checking no_one (is_gone s) req q (record q { fragment = Some job.doc }) duly refl refl refl (λ is. is) (λ is. is) (λ is. is)) (all_same checking no_one (is_gone s) s.requests)
   sent_all job (tasks.Populate nav state address initial) duly = all_same checking no_one (is_gone s) s.requests
   sent_all job (tasks.Update length index) duly = all_same checking no_one (is_gone s) s.requests
   sent_all job (tasks.Activate entry epoch length index memo address) other =
@@ -92,7 +90,7 @@ module _ (checking : ReqId → Bool) (s : Seen) where
   sent_all job tasks.Discard none =
       all_served checking no_one (is_gone s) s.requests job.why _ (λ req why q. slept_goes job req q (none req why))
   sent_all job (tasks.Ask slot cause) is =
-      all_served checking no_one (is_gone s) s.requests job.why _ (λ req why q. inside_goes checking no_one (is_gone s) req q (with_asking job q) (is req why) refl refl (λ on. on) refl)
+      all_served checking no_one (is_gone s) s.requests job.why _ (λ req why q. inside_goes checking no_one (is_gone s) req q (with_asking job q) (is req why) refl refl refl (λ is. is) (λ on. on) refl)
 
   -- one that is finished
   finished_all : (hand : Option Order) (outcome : Outcome) → Kept (requests_finished s hand outcome s.requests)
@@ -145,7 +143,7 @@ module _ (checking : ReqId → Bool) (s : Seen) where
   applied_all : (req : ReqId) (change : Change) → checking req ≡ false → Kept (on_request req (λ q. record q { took = entries_taken s.history change }) (on_request req (λ q. record q { change = Some change }) (ended s.requests req endings.Applied)))
   applied_all req change off =
       all_on checking no_one (is_gone s) s.requests (on_request req (λ q. record q { change = Some change }) (ended s.requests req endings.Applied)) req _ (λ q. unread_goes checking no_one (is_gone s) req q (record q { took = entries_taken s.history change }) refl)
-      (all_on checking no_one (is_gone s) s.requests (ended s.requests req endings.Applied) req _ (λ q. outside_goes checking no_one (is_gone s) req q (record q { change = Some change }) off refl refl (λ is. is) (λ is. is))
+      (all_on checking no_one (is_gone s) s.requests (ended s.requests req endings.Applied) req _ (λ q. outside_goes checking no_one (is_gone s) req q (record q { change = Some change }) off refl refl refl (λ is. is) (λ is. is) (λ is. is))
       (ended_all req endings.Applied))
 
   -- the user's answer
@@ -162,9 +160,9 @@ module _ (checking : ReqId → Bool) (s : Seen) where
     where
       by_check : (b : Bool) → checking req ≡ b → Stays req q (record q { answered = Some stay })
       by_check true e =
-          inside_goes checking no_one (is_gone s) req q (record q { answered = Some stay }) e refl refl (λ is. is) refl
+          inside_goes checking no_one (is_gone s) req q (record q { answered = Some stay }) e refl refl refl (λ is. is) (λ is. is) refl
       by_check false e =
-          outside_goes checking no_one (is_gone s) req q (record q { answered = Some stay }) e refl refl (λ is. is) (λ is. let parts = and_parts (list_all (is_settled_asking (is_gone s)) q.asks) (may_leave q) is in rw (parts.0) (lets_go q stay (leave e)))
+          outside_goes checking no_one (is_gone s) req q (record q { answered = Some stay }) e refl refl refl (λ is. is) (λ is. is) (λ is. let parts = and_parts (list_all (is_settled_asking (is_gone s)) q.asks) (may_leave q) is in rw (parts.0) (lets_go q stay (leave e)))
 
 -- ---- rows
 
@@ -185,7 +183,7 @@ module _ (checking : ReqId → Bool) (s : Seen) (row : LogRow) where
   plain_all (rows.Refused r reason) e is duly = rw e (ended_all checking s r (endings.Refused reason))
   plain_all (rows.Dropped r cause) e is duly = rw e (ended_all checking s r (endings.Dropped cause))
   plain_all (rows.Prompted r doc) e is on =
-      rw e (all_on checking no_one (is_gone s) s.requests s.requests r _ (λ q. inside_goes checking no_one (is_gone s) r q (record q { prompted = Some doc }) on refl refl (λ x. x) refl) (all_same checking no_one (is_gone s) s.requests))
+      rw e (all_on checking no_one (is_gone s) s.requests s.requests r _ (λ q. inside_goes checking no_one (is_gone s) r q (record q { prompted = Some doc }) on refl refl refl (λ is. is) (λ x. x) refl) (all_same checking no_one (is_gone s) s.requests))
   plain_all (rows.Answered r stay) e is leave =
       rw e (all_on checking no_one (is_gone s) s.requests s.requests r _ (answered_goes checking s r stay leave) (all_same checking no_one (is_gone s) s.requests))
   plain_all (rows.Sent job) e is duly = rw e (sent_all checking s job job.task duly)
@@ -198,14 +196,16 @@ module _ (checking : ReqId → Bool) (s : Seen) (row : LogRow) where
   plain_all (rows.Evicted state) e is duly = rw e (all_same checking no_one (is_gone s) s.requests)
 
   -- such a row
-  plain_checks : (kind : RowKind) → row.row ≡ kind → IsPlain kind → IsNoOpening row.row → GoesDuly checking s kind → AreInCheck checking s → AreInCheck checking (after s row)
-  plain_checks kind e plain opens duly are =
+  plain_checks : (kind : RowKind) → row.row ≡ kind → IsPlain kind → IsNoOpening row.row → GoesDuly checking s kind → LeavesStates checking s row.row → AreInCheck checking s → AreInCheck checking (after s row)
+  plain_checks kind e plain opens duly leaves are =
       let all = plain_all kind e plain duly in
       record {
         numbered = go_numbered checking no_one s (after s row) all are.numbered;
         others = go_others checking no_one s (after s row) all (gone_stays s row opens) are.others;
+        begun = go_begun checking no_one s (after s row) all are.begun;
         checks = go_checks checking no_one s (after s row) all are.checks;
         alone = go_alone checking no_one s (after s row) all (λ req by q r at there runs runs_ goes goes_ on begins. absurd cc) are.alone;
+        states = row_states checking s row no_one (λ req. refl) all leaves are.states;
       }
 
 module _ (checking : ReqId → Bool) (s : Seen) (event : ℕ) (actor : Actor) where
@@ -221,7 +221,9 @@ module _ (checking : ReqId → Bool) (s : Seen) (event : ℕ) (actor : Actor) wh
       record {
         numbered = each_asked_more (λ r q. q.nr ≡ r) s.requests new req is.next refl are.numbered;
         others = each_asked_more (λ r q. checking r ≡ false → has_passed s q ≡ true) s.requests new req is.next (λ off. refl) are.others;
+        begun = each_asked_more (λ r q. checking r ≡ true → q.is_started ≡ true) s.requests new req is.next (λ on. let never : true ≡ false = sym on ∙ is.outside in absurd cc) are.begun;
         checks = each_asked_more (λ r q. checking r ≡ true → IsChecking r q) s.requests new req is.next (λ on. let never : true ≡ false = sym on ∙ is.outside in absurd cc) are.checks;
+        states = accepted_states checking s event actor req doc what is.next are.states;
         alone = λ r by p q at there. each_asked_more (λ x y. (z : ReqId) (w : Asked) → request_in more z ≡ Some w → Apart x y w) s.requests new req is.next (λ z w found. new_apart req w) (λ x y here. each_asked_more (λ z w. Apart x y w) s.requests new req is.next (apart_new x y) (λ z w found. are.alone x z y w here found)) r p at by q there;
       }
     where
@@ -245,7 +247,7 @@ module _ (checking : ReqId → Bool) (s : Seen) (event : ℕ) (actor : Actor) wh
 
   module _ (req : ReqId) (goal : Option Step) where
     -- what the log has come to then
-    abbrev begun : Seen
+    abbrev pub begun : Seen
     begun = next (rows.Started req goal)
 
     -- it is this one
@@ -253,19 +255,21 @@ module _ (checking : ReqId → Bool) (s : Seen) (event : ℕ) (actor : Actor) wh
     itself = grind (arith, nat_tests)
 
     -- it alone begins
-    begun_all : AllGo checking (just req) (is_gone s) s.requests begun.requests
+    pub begun_all : AllGo checking (just req) (is_gone s) s.requests begun.requests
     begun_all =
-        all_on checking (just req) (is_gone s) s.requests (on_request req (λ q. record q { is_started = true; goal = goal }) s.requests) req (request_begun s) (λ q. unread_goes checking (just req) (is_gone s) req q (request_begun s q) refl)
-        (all_on checking (just req) (is_gone s) s.requests s.requests req _ (λ q. begun_goes checking (just req) (is_gone s) req q (record q { is_started = true; goal = goal }) itself refl refl (λ is. is) refl) (all_same checking (just req) (is_gone s) s.requests))
+        all_on checking (just req) (is_gone s) s.requests (on_request req (λ q. record q { is_started = true; goal = goal }) s.requests) req (request_begun s) (λ q. begun_goes checking (just req) (is_gone s) req q (request_begun s q) itself refl refl (λ is. is) (λ is. is) refl)
+        (all_on checking (just req) (is_gone s) s.requests s.requests req _ (λ q. begun_goes checking (just req) (is_gone s) req q (record q { is_started = true; goal = goal }) itself refl refl (λ is. refl) (λ is. is) refl) (all_same checking (just req) (is_gone s) s.requests))
 
     -- and is apart
-    begun_checks : BeginsApart checking s req → AreInCheck checking s → AreInCheck checking begun
-    begun_checks apart are =
+    begun_checks : BeginsApart checking s req → (checking req ≡ false) ⊎ IsNextState s (record { 0 = s.states + 1 }) → AreInCheck checking s → AreInCheck checking begun
+    begun_checks apart next are =
         record {
           numbered = numbered;
           others = go_others checking (just req) s begun begun_all (λ doc gone. gone) are.others;
+          begun = go_begun checking (just req) s begun begun_all are.begun;
           checks = go_checks checking (just req) s begun begun_all are.checks;
           alone = go_alone checking (just req) s begun begun_all begins_apart are.alone;
+          states = begun_states checking s event actor req goal begun_all next are.states;
         }
       where
         numbered : AreNumbered begun
@@ -300,32 +304,85 @@ module _ (checking : ReqId → Bool) (s : Seen) (event : ℕ) (actor : Actor) wh
 -- ---- each row
 
 -- over each row the requests in their checks stay as they are, and the others have passed
-pub row_checks : (checking : ReqId → Bool) (s : Seen) (row : LogRow) → GoesDuly checking s row.row → AreInCheck checking s → AreInCheck checking (after s row)
-row_checks checking s row duly are = by_kind row.row refl duly
+pub row_checks : (checking : ReqId → Bool) (s : Seen) (row : LogRow) → GoesDuly checking s row.row → LeavesStates checking s row.row → AreInCheck checking s → AreInCheck checking (after s row)
+row_checks checking s row duly leaves are = by_kind row.row refl duly
   where
     by_kind : (kind : RowKind) → row.row ≡ kind → GoesDuly checking s kind → AreInCheck checking (after s row)
     by_kind (rows.Opened entry state doc proc slot address) e never = absurd never
     by_kind (rows.Accepted r doc what) e is =
         subst (λ (kind : RowKind). AreInCheck checking (after s (record { event = row.event; actor = row.actor; row = kind }))) (sym e) (accepted_checks checking s row.event row.actor r doc what is are)
     by_kind (rows.Started r goal) e is =
-        subst (λ (kind : RowKind). AreInCheck checking (after s (record { event = row.event; actor = row.actor; row = kind }))) (sym e) (begun_checks checking s row.event row.actor r goal is are)
+        subst (λ (kind : RowKind). AreInCheck checking (after s (record { event = row.event; actor = row.actor; row = kind }))) (sym e) (begun_checks checking s row.event row.actor r goal is (subst (λ (kind : RowKind). LeavesStates checking s kind) e leaves) are)
     by_kind (rows.Applied r change) e is =
-        plain_checks checking s row (rows.Applied r change) e tt (rw e tt) is are
+        plain_checks checking s row (rows.Applied r change) e tt (rw e tt) is leaves are
     by_kind (rows.Refused r reason) e is =
-        plain_checks checking s row (rows.Refused r reason) e tt (rw e tt) is are
+        plain_checks checking s row (rows.Refused r reason) e tt (rw e tt) is leaves are
     by_kind (rows.Dropped r cause) e is =
-        plain_checks checking s row (rows.Dropped r cause) e tt (rw e tt) is are
-    by_kind (rows.Prompted r doc) e is = plain_checks checking s row (rows.Prompted r doc) e tt (rw e tt) is are
-    by_kind (rows.Answered r stay) e is = plain_checks checking s row (rows.Answered r stay) e tt (rw e tt) is are
-    by_kind (rows.Sent job) e is = plain_checks checking s row (rows.Sent job) e tt (rw e tt) is are
+        plain_checks checking s row (rows.Dropped r cause) e tt (rw e tt) is leaves are
+    by_kind (rows.Prompted r doc) e is = plain_checks checking s row (rows.Prompted r doc) e tt (rw e tt) is leaves are
+    by_kind (rows.Answered r stay) e is = plain_checks checking s row (rows.Answered r stay) e tt (rw e tt) is leaves are
+    by_kind (rows.Sent job) e is = plain_checks checking s row (rows.Sent job) e tt (rw e tt) is leaves are
     by_kind (rows.Taken proc job live dirty) e is =
-        plain_checks checking s row (rows.Taken proc job live dirty) e tt (rw e tt) is are
+        plain_checks checking s row (rows.Taken proc job live dirty) e tt (rw e tt) is leaves are
     by_kind (rows.Finished proc job outcome) e is =
-        plain_checks checking s row (rows.Finished proc job outcome) e tt (rw e tt) is are
-    by_kind (rows.Made proc made) e is = plain_checks checking s row (rows.Made proc made) e tt (rw e tt) is are
-    by_kind (rows.Delivered proc) e is = plain_checks checking s row (rows.Delivered proc) e tt (rw e tt) is are
-    by_kind (rows.Killed proc death) e is = plain_checks checking s row (rows.Killed proc death) e tt (rw e tt) is are
-    by_kind (rows.Evicted state) e is = plain_checks checking s row (rows.Evicted state) e tt (rw e tt) is are
+        plain_checks checking s row (rows.Finished proc job outcome) e tt (rw e tt) is leaves are
+    by_kind (rows.Made proc made) e is = plain_checks checking s row (rows.Made proc made) e tt (rw e tt) is leaves are
+    by_kind (rows.Delivered proc) e is = plain_checks checking s row (rows.Delivered proc) e tt (rw e tt) is leaves are
+    by_kind (rows.Killed proc death) e is = plain_checks checking s row (rows.Killed proc death) e tt (rw e tt) is leaves are
+    by_kind (rows.Evicted state) e is = plain_checks checking s row (rows.Evicted state) e tt (rw e tt) is leaves are
+
+-- ---- steps
+
+-- no step under way is in its check, where none in its check begins
+go_steps : (checking begins : ReqId → Bool) (s t : Seen) → ((req : ReqId) → checking req ≡ true → begins req ≡ false) → AllGo checking begins (is_gone s) s.requests t.requests → NoStepChecks checking s → NoStepChecks checking t
+go_steps checking begins s t none all steps req q at on = by_step (is_step_under_way q) refl
+  where
+    by_step : (b : Bool) → is_step_under_way q ≡ b → b ≡ false
+    by_step false e = refl
+    by_step true e =
+        let p = all req q at in
+        let parts = and_parts (is_under_way q) (is_traversal q.what || is_reload q.what) e in
+        let runs : is_under_way p.0 ≡ true = p.2.runs (none req on) parts.0 in
+        let steps_ : (is_traversal p.0.what || is_reload p.0.what) ≡ true = ap (λ (w : Request). is_traversal w || is_reload w) (sym p.2.what) ∙ parts.1 in
+        let was : is_step_under_way p.0 ≡ true = rw (runs, steps_) refl in
+        sym was ∙ steps req p.0 p.1 on
+
+-- so over each row as which none in its check begins
+pub row_steps : (checking : ReqId → Bool) (s : Seen) (row : LogRow) → BeginsOff checking row.row → GoesDuly checking s row.row → NoStepChecks checking s → NoStepChecks checking (after s row)
+row_steps checking s row off duly steps = by_kind row.row refl off duly
+  where
+    plain : (kind : RowKind) → row.row ≡ kind → IsPlain kind → GoesDuly checking s kind → NoStepChecks checking (after s row)
+    plain kind e is goes = go_steps checking no_one s (after s row) (λ req on. refl) (plain_all checking s row kind e is goes) steps
+
+    by_kind : (kind : RowKind) → row.row ≡ kind → BeginsOff checking kind → GoesDuly checking s kind → NoStepChecks checking (after s row)
+    by_kind (rows.Opened entry state doc proc slot address) e begins never = absurd never
+    by_kind (rows.Accepted r doc what) e begins is =
+        subst (λ (kind : RowKind). NoStepChecks checking (after s (record { event = row.event; actor = row.actor; row = kind }))) (sym e)
+        (each_asked_more (λ x q. checking x ≡ true → is_step_under_way q ≡ false) s.requests (new_request r doc what) r is.next (λ on. refl) steps)
+    by_kind (rows.Started r goal) e begins is =
+        subst (λ (kind : RowKind). NoStepChecks checking (after s (record { event = row.event; actor = row.actor; row = kind }))) (sym e)
+        (go_steps checking (just r) s (begun checking s row.event row.actor r goal) none (begun_all checking s row.event row.actor r goal) steps)
+      where
+        by_own : (req : ReqId) → checking req ≡ true → (b : Bool) → just r req ≡ b → b ≡ false
+        by_own req on false f = refl
+        by_own req on true f = let never : false ≡ true = sym begins ∙ ap checking (sym (req_same req r f)) ∙ on in absurd cc
+
+        none : (req : ReqId) → checking req ≡ true → just r req ≡ false
+        none req on = by_own req on (just r req) refl
+    by_kind (rows.Applied r change) e begins is = plain (rows.Applied r change) e tt is
+    by_kind (rows.Refused r reason) e begins is = plain (rows.Refused r reason) e tt is
+    by_kind (rows.Dropped r cause) e begins is = plain (rows.Dropped r cause) e tt is
+    by_kind (rows.Prompted r doc) e begins is = plain (rows.Prompted r doc) e tt is
+    by_kind (rows.Answered r stay) e begins is = plain (rows.Answered r stay) e tt is
+    by_kind (rows.Sent job) e begins is = plain (rows.Sent job) e tt is
+    by_kind (rows.Taken proc job live dirty) e begins is = plain (rows.Taken proc job live dirty) e tt is
+    by_kind (rows.Finished proc job outcome) e begins is = plain (rows.Finished proc job outcome) e tt is
+    by_kind (rows.Made proc made) e begins is = plain (rows.Made proc made) e tt is
+    by_kind (rows.Delivered proc) e begins is = plain (rows.Delivered proc) e tt is
+    by_kind (rows.Killed proc death) e begins is = plain (rows.Killed proc death) e tt is
+    by_kind (rows.Evicted state) e begins is = plain (rows.Evicted state) e tt is
+
+-- ---- a log without requests
 
 -- where no request was accepted yet
 pub none_checks : (checking : ReqId → Bool) (s : Seen) → s.requests ≡ [] → AreInCheck checking s
@@ -333,8 +390,10 @@ none_checks checking s none =
     record {
       numbered = λ req q at. never req q at;
       others = λ req q at off. never req q at;
+      begun = λ req q at on. never req q at;
       checks = λ req q at on. never req q at;
       alone = λ req by q r at there runs runs_ goes goes_ on. never req q at;
+      states = λ state held. never held.req held.q held.at;
     }
   where
     no_request : (b : Bool) (n : ℕ) (q : Asked) → (let o : Option Asked = cond b None (slice_get [] n) in o) ≡ Some q → ⊥

@@ -14,6 +14,7 @@ use Rattle.log_model.specs.AfterPlaces.{sleepers_with}
 use Rattle.log_model.specs.Checks.{is_checked}
 use Rattle.log_model.specs.Places.{all_asked, has_passed, is_traversal, is_under_way}
 use Rattle.log_model.specs.Seen.{Seen, Asked, desk_of, request_of}
+use Rattle.checking_facts.specs.States.{AreBegun, AreOwnStates}
 use Rattle.check_facts.specs.Rows.{IsNoAnswerOf, IsServing}
 use Rattle.unasked_dues.specs.Checking.{AllOthersPass, AreChecking, AreNumbered, IsForOther, NoOtherRuns}
 
@@ -21,16 +22,19 @@ use Rattle.unasked_dues.specs.Checking.{AllOthersPass, AreChecking, AreNumbered,
 pub record AreInCheck (checking : ReqId → Bool) (s : Seen) : Type 0 where
   pub numbered : AreNumbered s
   pub others : AllOthersPass checking s
+  pub begun : AreBegun checking s
   pub checks : AreChecking checking s
   pub alone : NoOtherRuns checking s
+  pub states : AreOwnStates checking s
 
--- a request may enter its check: it is one that is checked, isn't under way, moved nobody, and showed and changed nothing
+-- a request may enter its check as it begins: it is one that is checked, isn't under way, moved nobody, showed and changed nothing, and sent no document to a fragment
 pub record MayEnter (q : Asked) : Type 0 where
   pub waits : is_under_way q ≡ false
   pub checked : is_checked q ≡ true
   pub unmoved : q.moved ≡ []
   pub shows : q.activated ≡ []
   pub unchanged : q.change ≡ None
+  pub unsent : q.fragment ≡ None
 
 -- of all numbers but one the same are in their checks
 abbrev pub SameBut : ReqId → (ReqId → Bool) → (ReqId → Bool) → Type 0
@@ -65,11 +69,17 @@ PutsNoneAsleep checking s job =
 abbrev pub IsForChecked : (ReqId → Bool) → Job → Type 0
 IsForChecked checking job = (req : ReqId) → job.why ≡ whys.Req req → checking req ≡ true
 
+-- an order that sends a document to a fragment is for the request that it names
+abbrev pub IsOwnFragment : Job → Task → Type 0
+IsOwnFragment job (tasks.DoFragment req mode address) = job.why ≡ whys.Req req
+IsOwnFragment job _ = Unit {0}
+
 -- what is asked of an order
 abbrev pub SendsDuly : (ReqId → Bool) → Seen → Job → Task → Type 0
 SendsDuly checking s job (tasks.Activate entry epoch length index memo address) = IsForOther checking job.why
 SendsDuly checking s job tasks.Freeze = PutsNoneAsleep checking s job
 SendsDuly checking s job tasks.Discard = PutsNoneAsleep checking s job
+SendsDuly checking s job (tasks.DoFragment req mode address) = checking req ≡ false
 SendsDuly checking s job (tasks.Ask slot cause) = IsForChecked checking job
 SendsDuly checking s job _ = Unit {0}
 
@@ -83,6 +93,11 @@ GoesDuly checking s (rows.Prompted req doc) = checking req ≡ true
 GoesDuly checking s (rows.Answered req stay) = checking req ≡ false → stay ≡ false
 GoesDuly checking s (rows.Sent job) = SendsDuly checking s job job.task
 GoesDuly checking s _ = Unit {0}
+
+-- none in its check begins as the row
+abbrev pub BeginsOff : (ReqId → Bool) → RowKind → Type 0
+BeginsOff checking (rows.Started req goal) = checking req ≡ false
+BeginsOff checking _ = Unit {0}
 
 -- an accepted request has the next number, whatever the row else
 abbrev pub NumbersNext : Seen → RowKind → Type 0

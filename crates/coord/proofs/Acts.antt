@@ -1,18 +1,35 @@
 -- A document makes something of the first poke of its process, or the process refuses that: the coordinator has acted, which does nothing itself.
-use Rattle.coord.proofs.Asides.{made_plain, refused_plain}
+use Rattle.coord.proofs.Asides.{IsPlain, made_plain, off, plain_more, refused_plain}
 use Rattle.coord.specs.Standing.{HasActed, IsOpenTo}
 use Rattle.coord.specs.declared.coordinator.Coordinator.{Coordinator}
-use Rattle.coord.proofs.Idle.{alone_acts}
+use Rattle.coord.proofs.Idle.{alone_acts, found_now, telling_now}
 use Rattle.log_model.specs.AfterRequests.{is_running}
 use Rattle.log_model.specs.Seen.{Document, desk_of, document_of}
 use Rattle.log_model.specs.Views.{View, made_by, made_for}
+use Rattle.log_model.specs.declared.change.Change.{Change}
+use Rattle.log_model.specs.declared.change.Change.TheVariants as changes
+use Rattle.log_model.specs.declared.made.Made.{Made}
 use Rattle.log_model.specs.declared.made.What.{What}
+use Rattle.log_model.specs.declared.made.What.TheVariants as whats
 use Rattle.log_model.specs.declared.request.Poke.{Poke}
-use Rattle.seen_laws.specs.InEvent.{InEvent}
-use Rattle.std.proofs.Common.{None, Some, [], false, true, ◌≡◌}
+use Rattle.log_model.specs.declared.row_kind.RowKind.{RowKind}
+use Rattle.seen_facts.specs.Hang.Members.{Has}
+use Rattle.seen_facts.specs.LoadEnds.Standing.{is_change_unsettled}
+use Rattle.seen_laws.specs.Acting.{IsNoEdit}
+use Rattle.seen_laws.specs.InEvent.{InEvent, log_of}
+use Rattle.std.proofs.Common.{List, None, Some, [], false, inl, inr, refl, subst, sym, true, ◌∷◌, ◌≡◌}
 use Rattle.std.specs.Prelude.{slice_get}
 use Rattle.tab_acts.proofs.Acts as acts
+use Rattle.tab_acts.proofs.Edits as edits
+use Rattle.tab_facts.proofs.Running.Over.{running_over}
+use Rattle.tab_facts.proofs.Running.Tells.{telling_over}
+use Rattle.tab_facts.specs.Order.Orders.{IsOfCoord}
+use Rattle.tab_facts.specs.Running.Running.{AreFoundRunning}
+use Rattle.tab_facts.specs.Running.Telling.{AreTelling}
 use Rattle.tab_ids.specs.declared.ProcId.{ProcId}
+use Rattle.tab_ids.specs.declared.ReqId.{ReqId}
+use Rattle.tab_stands.specs.Standing as tab
+use Rattle.unasked.proofs.Ends.{applied_seen}
 use Rattle.log_model.specs.declared.outcome.Denial.TheVariants as denials
 use Rattle.log_model.specs.declared.row_kind.Actor.TheVariants as actors
 use Rattle.log_model.specs.declared.row_kind.RowKind.TheVariants as rows
@@ -20,10 +37,55 @@ use Rattle.log_model.specs.declared.row_kind.RowKind.TheVariants as rows
 module _ (e : InEvent) (c : Coordinator) (open_ : IsOpenTo e c) (proc : ProcId) (poke : Poke) (first : slice_get (desk_of e.start proc).input 0 ≡ Some poke) (by : e.actor ≡ actors.Proc proc) (event : e.event ≡ e.start.events) where
   -- the poked document runs
   module _ (d : Document) (view : View) (found : document_of e.start poke.doc ≡ Some d) (has : d.view ≡ Some view) (runs : view.running ≡ true) where
-    pub made_acts : (what : What) → made_by view poke.action ≡ Some what → e.own ≡ rows.Made proc (made_for view poke.req what) → HasActed e [] c
-    made_acts what makes own =
+    -- it makes something, but no edit
+    pub made_acts : (what : What) → made_by view poke.action ≡ Some what → IsNoEdit what → e.own ≡ rows.Made proc (made_for view poke.req what) → HasActed e [] c
+    made_acts what makes no_edit own =
         alone_acts e c open_ (rows.Made proc (made_for view poke.req what)) own (made_plain e c open_ proc (made_for view poke.req what) event own) tt tt
-        (acts.made_acts e c.tables c.queue c.blame.entries open_.stands.stands open_.room proc poke first d view found has runs what makes by event own)
+        (acts.made_acts e c.tables c.queue c.blame.entries open_.stands.stands open_.room proc poke first d view found has runs what makes no_edit by event own)
+
+    -- it edits itself, which is applied at once
+    pub edit_acts : made_by view poke.action ≡ Some whats.Edit → e.own ≡ rows.Made proc (made_for view poke.req whats.Edit) → HasActed e (rows.Applied poke.req changes.Edit ∷ []) c
+    edit_acts makes own =
+        record {
+          stands = record {
+            stands = its.stands;
+            keep = open_.stands.keep;
+            plain = at.plain;
+            found = subst AreFoundRunning (sym at.same) (running_over e out [] (tt, tt) (found_now e c open_ (rows.Made proc made) own accepted tt));
+            telling = subst AreTelling (sym at.same) (telling_over e out [] of_coord (telling_now e c open_ (rows.Made proc made) own accepted tt));
+          };
+          header = open_.header;
+          passes = its.passes;
+          off = λ req change has. is_off req change has;
+        }
+      where
+        made : Made
+        made = made_for view poke.req whats.Edit
+
+        out : List RowKind
+        out = rows.Applied poke.req changes.Edit ∷ []
+
+        its : tab.HasActed e (rows.Applied poke.req changes.Edit ∷ []) c.tables c.queue c.blame.entries
+        its =
+            edits.edit_acts e c.tables c.queue c.blame.entries open_.stands.stands open_.room proc poke first d view found has runs makes by event own
+
+        accepted : IsPlain e []
+        accepted = made_plain e c open_ proc (made_for view poke.req whats.Edit) event own
+
+        at : IsPlain e (rows.Applied poke.req changes.Edit ∷ [])
+        at =
+            plain_more e c open_ [] (rows.Applied poke.req changes.Edit) refl (applied_seen e.checking (log_of e []) e.event e.actor poke.req changes.Edit (λ q there. off e c open_ q.nr)) accepted
+
+        of_coord : (row : RowKind) → Has (rows.Applied poke.req changes.Edit ∷ []) row → IsOfCoord row
+        of_coord row (inl is) = subst (λ (r : RowKind). IsOfCoord r) is tt
+        of_coord row (inr never) = absurd never
+
+        -- an edit moves no navigable
+        is_off : (req : ReqId) (change : Change) → Has (rows.Applied poke.req changes.Edit ∷ []) (rows.Applied req change) → is_change_unsettled (log_of e (rows.Applied poke.req changes.Edit ∷ [])) req change ≡ true
+        is_off req change (inr never) = absurd never
+        is_off req change (inl is) =
+            let same : changes.Edit ≡ change = cc in
+            subst (λ (x : Change). is_change_unsettled (log_of e (rows.Applied poke.req changes.Edit ∷ [])) req x ≡ true) same refl
 
     -- the address is none for it
     pub no_address_acts : made_by view poke.action ≡ None → e.own ≡ rows.Refused poke.req denials.BadAddress → HasActed e [] c

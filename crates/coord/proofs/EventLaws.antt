@@ -54,7 +54,7 @@ pub stands_told : (s : Seen) (c : Coordinator) → StandsFor s c → ends_told s
 stands_told s c its = its.stands.between.told
 
 pub stands_stepped : (s : Seen) (c : Coordinator) → StandsFor s c → ends_stepped s ≡ true
-stands_stepped s c its = its.stands.between.stepped
+stands_stepped s c its = its.stands.between.stepped refl
 
 -- ---- the event's rows
 

@@ -20,3 +20,4 @@ pub mod Idle
 pub mod Orders
 pub mod Acts
 pub mod Pokes
+pub mod Prompts

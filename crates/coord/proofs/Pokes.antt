@@ -1,7 +1,6 @@
 -- A poke is accepted by the document that it reaches, or refused at once: the coordinator has acted, which does nothing itself.
 use Rattle.unasked.proofs.Ends.{refused_seen}
 use Rattle.coord.proofs.Asides.{IsPlain, accepted_aside, accepted_plain, plain_more}
-use Rattle.seen_facts.specs.Asked.Asking.{IsNoEditing}
 use Rattle.coord.specs.Standing.{HasActed, IsOpenTo}
 use Rattle.coord.specs.declared.coordinator.Coordinator.{Coordinator}
 use Rattle.coord.proofs.Idle.{alone_acts, found_now, idle_acts, telling_now}
@@ -25,17 +24,17 @@ use Rattle.log_model.specs.declared.request.Request.TheVariants as requests
 use Rattle.log_model.specs.declared.row_kind.Actor.TheVariants as actors
 use Rattle.log_model.specs.declared.row_kind.RowKind.TheVariants as rows
 
-module _ (e : InEvent) (c : Coordinator) (open_ : IsOpenTo e c) (req : ReqId) (nav : NavId) (action : Action) (fine : IsNoEditing action) (by_user : e.actor ≡ actors.Ui) (nr : req.0 ≡ length e.start.requests + 1) where
+module _ (e : InEvent) (c : Coordinator) (open_ : IsOpenTo e c) (req : ReqId) (nav : NavId) (action : Action) (by_user : e.actor ≡ actors.Ui) (nr : req.0 ≡ length e.start.requests + 1) where
   pub poke_acts : (reached : DocId) → ReachesOne e.start nav reached → e.own ≡ rows.Accepted req (Some reached) (requests.Poke nav action) → HasActed e [] c
   poke_acts reached its own =
       alone_acts e c open_ (rows.Accepted req (Some reached) (requests.Poke nav action)) own (accepted_plain e c open_ req (Some reached) (requests.Poke nav action) own) tt tt
-      (pokes.poke_acts e c.tables c.queue c.blame.entries open_.stands.stands (accepted_aside e c open_ req (Some reached) (requests.Poke nav action) own) open_.room req nav action fine reached by_user own nr its)
+      (pokes.poke_acts e c.tables c.queue c.blame.entries open_.stands.stands (accepted_aside e c open_ req (Some reached) (requests.Poke nav action) own) open_.room req nav action reached by_user own nr its)
 
   -- it reaches no document
   pub poke_refused_acts : (reason : Denial) → denial_of_poke e.start nav ≡ Some reason → e.event ≡ e.start.events → e.own ≡ rows.Accepted req None (requests.Poke nav action) → HasActed e (rows.Refused req reason ∷ []) c
   poke_refused_acts reason denied event own =
       idle_acts e c open_ (rows.Refused req reason ∷ []) (tt, tt)
-      (refusals.poke_refused_acts e c.tables c.queue c.blame.entries open_.stands.stands (accepted_aside e c open_ req None (requests.Poke nav action) own) open_.room req by_user nr reason nav action fine event own denied)
+      (refusals.poke_refused_acts e c.tables c.queue c.blame.entries open_.stands.stands (accepted_aside e c open_ req None (requests.Poke nav action) own) open_.room req by_user nr reason nav action event own denied)
       (plain_more e c open_ [] (rows.Refused req reason) refl (refused_seen e.checking (log_of e []) e.event e.actor req reason) accepted)
       (running_over e (rows.Refused req reason ∷ []) [] (tt, tt) (found_now e c open_ (rows.Accepted req None (requests.Poke nav action)) own accepted tt))
       (telling_over e (rows.Refused req reason ∷ []) [] of_coord (telling_now e c open_ (rows.Accepted req None (requests.Poke nav action)) own accepted tt))

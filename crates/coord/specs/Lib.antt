@@ -2,3 +2,4 @@ pub mod Standing
 pub mod Delivering
 pub mod Evicting
 pub mod Keeping
+pub mod PassedOn

@@ -1,6 +1,7 @@
 //! The coordinator of a tab: it takes requests and reports, and answers with the rows that follow.
 #![tactic(auto)]
 
+mod answering;
 mod ask;
 mod asking;
 mod coordinator;

@@ -3,3 +3,4 @@ pub mod Docs
 pub mod Lives
 pub mod Rows
 pub mod Due
+pub mod Slots

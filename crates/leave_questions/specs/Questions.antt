@@ -7,19 +7,14 @@ use Rattle.log_model.specs.declared.handler.LeaveCause.TheVariants as leavings
 use Rattle.log_model.specs.declared.handler.LeaveCause.{LeaveCause}
 use Rattle.log_model.specs.declared.row.Row.{Row}
 use Rattle.nav_tree.specs.Tree.{Tree}
-use Rattle.std.specs.Map.{lookup}
+use Rattle.slot_facts.specs.Slots.{slot_in}
 use Rattle.std.specs.Option.{option_to_list}
 use Rattle.std.specs.Prelude.{List, Option, Some, filter_map, option_map, true, ℕ, ◌++◌, ◌≡◌}
-use Rattle.tab_doors.specs.Ties.{is_doc}
 use Rattle.tab_ids.specs.declared.DocId.{DocId}
 use Rattle.tab_ids.specs.declared.NavId.{NavId}
 use Rattle.tab_passes.specs.Sleepers.{doc_on, docs_below}
 
 -- ---- slots
-
--- the slot of a document's handler, if it has one
-abbrev pub slot_in : List (DocId × ℕ) → DocId → Option ℕ
-slot_in slots doc = lookup (is_doc doc) slots
 
 -- the table has the slot of each document that is made
 abbrev pub HasSlots : Seen → List (DocId × ℕ) → Type 0

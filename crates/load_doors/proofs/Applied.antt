@@ -2,6 +2,9 @@
 use Rattle.seen_laws.specs.Unasked.{without_asks}
 use Rattle.unasked_dues.proofs.Loads.{load_to_apply}
 use Rattle.unasked.proofs.Ends.{applied_seen}
+use Rattle.unasked.proofs.Readings.{under_way_read}
+use Rattle.checking_facts.proofs.Brings.{brings_load}
+use Rattle.log_model.specs.Places.{is_ongoing_load}
 use Rattle.row_facts.specs.LoadRows.Loaded.{IsLoadToApply}
 use Rattle.apply_plan.specs.Order.{made_in}
 use Rattle.seen_facts.specs.Each.Runs.{is_this}
@@ -36,7 +39,7 @@ use Rattle.tab_doors.proofs.EndLaws.{history_holds}
 use Rattle.tab_doors.proofs.Requests.{applied_moved, moved_same, runs_applied_apart}
 use Rattle.tab_doors.proofs.Sights.{sights_on, sights_same}
 use Rattle.tab_doors.proofs.Takers.{lost_seen, taken_holds}
-use Rattle.tab_doors.proofs.Works.{aimed_log, at_seen, calm_more, goal_on, goal_read, next_work, none_steps, work_more}
+use Rattle.tab_doors.proofs.Works.{aimed_log, at_seen, goal_on, goal_read, next_work, work_more}
 use Rattle.tab_doors.specs.Dues.{SeesRows, lost_of}
 use Rattle.tab_doors.specs.Ending.{destroy_all}
 use Rattle.tab_doors.specs.Look.{Look, Sight, look_of, sight, sight_in}
@@ -60,10 +63,14 @@ sights_none doc g (d ∷ documents) none = by_test (d.nr.0 == doc.0) refl none (
     by_test true is there more = cc
     by_test false is there more = rw is (ap (λ (l : List Sight). d ∷ l) (more there))
 
+-- of the log itself
+apply_log : (e : InEvent) (out : List RowKind) (req : ReqId) (nav : NavId) (change : Change) {t : Tables} → IsAtWork e out t → (due : IsApplyDue e out req nav change) → (q : Asked) × (due.asked ≡ without_asks q) × IsLoadToApply (log_of e out) req nav due.mode due.address q change
+apply_log e out req nav change {t} work due =
+    load_to_apply e.checking (log_of e out) (aimed_log e out t work) work.unheld req nav due.mode due.address due.asked change (at_seen e out t work (λ (s : Seen). IsLoadToApply s req nav due.mode due.address due.asked change) due.due)
+
 -- the row passes whatever comes later
 apply_may : (e : InEvent) (out : List RowKind) (req : ReqId) (nav : NavId) (change : Change) {t : Tables} → IsAtWork e out t → IsApplyDue e out req nav change → MayLog (here_of e out) (row_of e (rows.Applied req change) ∷ []) Anything
-apply_may e out req nav change {t} work due =
-    by_log (load_to_apply e.checking (log_of e out) (aimed_log e out t work) (none_steps e.checking work.unchecked (log_of e out)) req nav due.mode due.address due.asked change (at_seen e out t work (λ (s : Seen). IsLoadToApply s req nav due.mode due.address due.asked change) due.due))
+apply_may e out req nav change work due = by_log (apply_log e out req nav change work due)
   where
     by_log : (q : Asked) × (due.asked ≡ without_asks q) × IsLoadToApply (log_of e out) req nav due.mode due.address q change → MayLog (here_of e out) (row_of e (rows.Applied req change) ∷ []) Anything
     by_log from =
@@ -149,9 +156,20 @@ module _ (e : InEvent) (out : List RowKind) (t : Tables) (nav : NavId) (load : L
         may : MayLog (here_of e out) (row_of e (rows.Applied load.req (change_by b)) ∷ []) Anything
         may = apply_may e out load.req nav (change_by b) work due
 
+    -- the load is ongoing, and isn't in its check
+    from : (q : Asked) × (due.asked ≡ without_asks q) × IsLoadToApply (log_of e out) load.req nav due.mode due.address q (change_by b)
+    from = apply_log e out load.req nav (change_by b) work due
+
+    going : is_ongoing_load from.0 ≡ true
+    going = rw (from.2.started, from.2.open_, from.2.what) refl
+
+    off : e.checking load.req ≡ false
+    off =
+        under_way_read e.checking (log_of e out) load.req due.asked (work.checks.numbered load.req) (subst (λ (s : Seen). request_of s load.req ≡ Some due.asked) work.same due.due.at) (rw (due.due.started, due.due.open_) refl)
+
     pub applied_work : ongoing_load nav t.loads ≡ Some load → (next : List Load) → next ≡ cancelled nav t.loads → KeepsOthers nav t.loads next → IsAtWork e (out ++ rows.Applied load.req (change_by b) ∷ []) (record with_lost { loads = next })
     applied_work at next loads others =
-        work_more e out (rows.Applied load.req (change_by b)) None t (record with_lost { loads = next }) work refl (applied_seen e.checking (log_of e out) e.event e.actor load.req (change_by b) (λ q found. work.unchecked q.nr)) (work.unchecked load.req) (calm_more e out (rows.Applied load.req (change_by b)) tt tt tt work.calm)
+        work_more e out (rows.Applied load.req (change_by b)) None t (record with_lost { loads = next }) work refl (applied_seen e.checking (log_of e out) e.event e.actor load.req (change_by b) (λ q found. ap e.checking (work.checks.numbered load.req q found) ∙ off)) off (brings_load e.checking (log_of e out) work.checks.states load.req from.0 nav due.address (change_by b) from.2.at off going from.2.due)
         (record {
           navs = lost_holds.navs;
           documents = lost_holds.documents;

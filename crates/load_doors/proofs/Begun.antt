@@ -21,13 +21,13 @@ use Rattle.seen_facts.proofs.Request.Readers.{SameReads}
 use Rattle.seen_facts.proofs.Coord.Held.{on_else}
 use Rattle.seen_laws.proofs.InEvents.{led_here}
 use Rattle.seen_laws.specs.InEvent.{InEvent, here_of, log_of, now_of, row_of}
-use Rattle.std.proofs.Common.{Bool, List, None, Option, Some, [], ap, arith, false, refl, subst, sym, true, ℕ, ◌++◌, ◌+◌, ◌==◌, ◌∙◌, ◌∷◌, ◌≡◌, not}
+use Rattle.std.proofs.Common.{Bool, List, None, Option, Some, [], ap, arith, false, inl, refl, subst, sym, true, ℕ, ◌++◌, ◌+◌, ◌==◌, ◌∙◌, ◌∷◌, ◌≡◌, not}
 use Rattle.std.proofs.lemmas.Bool.Decides.{nat_tests}
 use Rattle.std.specs.Prelude.{option_map}
 use Rattle.tab_doors.proofs.Ahead.{lawful_none, none_lawful}
 use Rattle.tab_doors.proofs.EndLaws.{left_holds}
 use Rattle.tab_doors.proofs.Requests.{moved_read, moved_same, runs_same}
-use Rattle.tab_doors.proofs.Works.{none_calm, started_held, work_more}
+use Rattle.tab_doors.proofs.Works.{off_runs, started_held, work_more}
 use Rattle.tab_doors.specs.Look.{look_of, moved_by}
 use Rattle.tab_doors.specs.Ties.{Holds}
 use Rattle.tab_doors.specs.Working.{HasGoal, IsAtWork}
@@ -63,7 +63,7 @@ begun_reads {B} read s req goal q there same r = by_test (r.0 == req.0) refl
 
 -- ---- the row
 
-module _ (e : InEvent) (out : List RowKind) (t : Tables) (req : ReqId) (nav : NavId) (replace : Bool) (address : List ℕ) (next : List Load) (work : IsAtWork e out t) (its : IsToBegin e out t.loads req nav replace address) (loads_ : next ≡ begun (begun_load req nav replace address (t.states + 1)) t.loads) (others : KeepsOthers nav t.loads next) where
+module _ (e : InEvent) (out : List RowKind) (t : Tables) (req : ReqId) (nav : NavId) (replace : Bool) (address : List ℕ) (next : List Load) (work : IsAtWork e out t) (off : e.checking req ≡ false) (its : IsToBegin e out t.loads req nav replace address) (loads_ : next ≡ begun (begun_load req nav replace address (t.states + 1)) t.loads) (others : KeepsOthers nav t.loads next) where
   abbrev s : Seen
   s = now_of e out
 
@@ -110,7 +110,7 @@ module _ (e : InEvent) (out : List RowKind) (t : Tables) (req : ReqId) (nav : Na
 
   pub begin_load_work : IsAtWork e (out ++ rows.Started req None ∷ []) with_begun
   begin_load_work =
-      work_more e out (rows.Started req None) None t with_begun work (ap not (work.unchecked req)) (started_seen e.checking (log_of e out) e.event e.actor req None (λ q found. work.unchecked q.nr)) (λ by q r at there other traverses on runs. rw (work.unchecked req, work.unchecked by) refl) (none_calm e.checking work.unchecked (after (log_of e out) (row_of e (rows.Started req None))))
+      work_more e out (rows.Started req None) None t with_begun work (ap not off) (started_seen e.checking (log_of e out) e.event e.actor req None (λ q found. ap e.checking (work.checks.numbered req q found) ∙ off)) (λ by q r at there_ other traverses on runs. rw off (off_runs e.checking (log_of e out) work.unheld by r there_ on runs)) (inl off)
       (record {
         navs = record { navs = as_before.navs.navs; order = as_before.navs.order };
         documents = as_before.documents;

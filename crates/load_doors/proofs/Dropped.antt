@@ -25,7 +25,7 @@ use Rattle.tab_doors.proofs.Ahead.{lawful_none, none_lawful}
 use Rattle.tab_doors.proofs.EndLaws.{left_holds}
 use Rattle.tab_doors.proofs.Requests.{ended_moved, moved_same, runs_ended_apart}
 use Rattle.tab_doors.proofs.TurnWorks.{destroy_lawful}
-use Rattle.tab_doors.proofs.Works.{at_seen, calm_more, goal_read, goal_same, work_more}
+use Rattle.tab_doors.proofs.Works.{at_seen, goal_read, goal_same, work_more}
 use Rattle.tab_doors.specs.Dues.{IsDestroyDue}
 use Rattle.tab_doors.specs.Keeping.{IsNoLoad}
 use Rattle.tab_doors.specs.Look.{look_of, moved_by}
@@ -60,7 +60,7 @@ module _ (e : InEvent) (out : List RowKind) (t : Tables) (req : ReqId) (work : I
 
   dropped_work : (cause : Cause) (next : List Load) → AreLawful e (out ++ rows.Dropped req cause ∷ []) → TiesLoads (then_dropped cause) next → IsAtWork e (out ++ rows.Dropped req cause ∷ []) (with_loads next)
   dropped_work cause next lawful loads =
-      work_more e out (rows.Dropped req cause) None t (with_loads next) work refl (dropped_seen e.checking (log_of e out) e.event e.actor req cause) tt (calm_more e out (rows.Dropped req cause) tt tt tt work.calm)
+      work_more e out (rows.Dropped req cause) None t (with_loads next) work refl (dropped_seen e.checking (log_of e out) e.event e.actor req cause) tt tt
       (on_tables (left_holds (look_now e out t.running) (look_of (then_dropped cause) t.running) t refl refl refl moved refl refl refl work.holds))
       (runs_ended_apart (now_of e out).requests t.running req (endings.Dropped cause) apart work.runs)
       (goal_same (now_of e out).requests (ended (now_of e out).requests req (endings.Dropped cause)) t.running t.goal (on_read goal_read (now_of e out).requests req (λ q. record q { ending = Some (endings.Dropped cause) }) (λ q. refl)) work.goal)

@@ -17,7 +17,7 @@ use Rattle.tab_doors.proofs.Ahead.{sent_for}
 use Rattle.tab_doors.proofs.EndLaws.{left_holds}
 use Rattle.tab_doors.proofs.Requests.{moved_read, moved_same}
 use Rattle.tab_doors.proofs.Sights.{sights_same}
-use Rattle.tab_doors.proofs.Works.{calm_more, few_sent, goal_on, goal_read, kept_on, runs_on, work_more}
+use Rattle.tab_doors.proofs.Works.{few_sent, goal_on, goal_read, kept_on, runs_on, work_more}
 use Rattle.tab_doors.specs.Look.{look_of, moved_by, sight}
 use Rattle.tab_doors.specs.Orders.{order_to}
 use Rattle.tab_doors.specs.Ties.{Holds}
@@ -54,9 +54,9 @@ module _ (e : InEvent) (out : List RowKind) (t : Tables) (doc : DocId) (req : Re
   as_before =
       left_holds (look_of (now_of e out) t.running) (record (look_of then_sent t.running) { jobs = (now_of e out).jobs }) t sights refl refl moved refl refl refl work.holds
 
-  pub fragment_work : MaySend None e out order → (u : Tables) → u ≡ record t { sent = u.sent } → length u.sent.items ≡ length t.sent.items + 1 → IsAtWork e (out ++ rows.Sent order ∷ []) u
-  fragment_work may u same more =
-      subst (λ (x : Tables). IsAtWork e (out ++ rows.Sent order ∷ []) x) (sym same) (work_more e out (rows.Sent order) None t (record t { sent = u.sent }) work refl (sent_seen e.checking (log_of e out) order e.event e.actor refl) tt (calm_more e out (rows.Sent order) tt tt tt work.calm)
+  pub fragment_work : MaySend None e out order → e.checking req ≡ false → (u : Tables) → u ≡ record t { sent = u.sent } → length u.sent.items ≡ length t.sent.items + 1 → IsAtWork e (out ++ rows.Sent order ∷ []) u
+  fragment_work may off u same more =
+      subst (λ (x : Tables). IsAtWork e (out ++ rows.Sent order ∷ []) x) (sym same) (work_more e out (rows.Sent order) None t (record t { sent = u.sent }) work refl (sent_seen e.checking (log_of e out) order e.event e.actor refl) off tt
       (record {
         navs = record { navs = as_before.navs.navs; order = as_before.navs.order };
         documents = as_before.documents;

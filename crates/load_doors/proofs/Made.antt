@@ -1,5 +1,7 @@
 -- The document of a load is sent for, and the coordinator goes on working.
-use Rattle.unasked_dues.specs.Checking.{NoneChecksFor}
+use Rattle.unasked_dues.specs.Checking.{IsForOther, NoneChecksFor}
+use Rattle.checking_facts.proofs.States.{of_ongoing}
+use Rattle.log_model.specs.Orders.{ongoing_load as load_in_log}
 use Rattle.unasked_dues.proofs.Shows.{numbered_in}
 use Rattle.unasked_dues.proofs.Making.{make_of_load_due}
 use Rattle.unasked.proofs.Sents.{sent_seen}
@@ -21,13 +23,13 @@ use Rattle.log_model.specs.declared.row_kind.RowKind.{RowKind}
 use Rattle.nav_tree.specs.Tree.{is_state}
 use Rattle.seen_laws.proofs.InEvents.{led_here}
 use Rattle.seen_laws.specs.InEvent.{InEvent, here_of, log_of, now_of, row_of}
-use Rattle.std.proofs.Common.{List, None, Option, Some, [], ap, false, map, refl, subst, sym, true, ℕ, ◌++◌, ◌∙◌, ◌∷◌, ◌≡◌}
+use Rattle.std.proofs.Common.{List, None, Option, Some, [], ap, false, map, refl, subst, sym, ℕ, ◌++◌, ◌∙◌, ◌∷◌, ◌≡◌}
 use Rattle.std.specs.Map.{lookup}
 use Rattle.std.specs.Prelude.{option_map}
 use Rattle.tab_doors.proofs.Ahead.{lawful_none, none_lawful}
 use Rattle.tab_doors.proofs.Initial.{initial_same}
 use Rattle.tab_doors.proofs.Making.{MakesOne, make_holds}
-use Rattle.tab_doors.proofs.Works.{aimed_log, at_seen, calm_more, few_made, header_here, kept_made, passed_log, sent_held, work_more}
+use Rattle.tab_doors.proofs.Works.{aimed_log, at_seen, few_made, header_here, kept_made, passed_log, sent_held, work_more}
 use Rattle.tab_doors.specs.Keeping.{IsUnmadeLoad}
 use Rattle.tab_doors.specs.Look.{look_of, sight, sight_in}
 use Rattle.tab_doors.specs.Orders.{next_order}
@@ -44,12 +46,17 @@ use Rattle.load_table.specs.declared.phase.Phase.TheVariants as phases
 use Rattle.log_model.specs.declared.job.Task.TheVariants as tasks
 use Rattle.log_model.specs.declared.row_kind.RowKind.TheVariants as rows
 
-module _ (e : InEvent) (out : List RowKind) (t u : Tables) (proc : ProcId) (doc : DocId) (why : Why) (nav : NavId) (state : StateId) (address : List ℕ) (work : IsAtWork e out t) where
+module _ (e : InEvent) (out : List RowKind) (t u : Tables) (proc : ProcId) (doc : DocId) (why : Why) (nav : NavId) (state : StateId) (address : List ℕ) (work : IsAtWork e out t) (for_other : IsForOther e.checking why) where
   abbrev pub load_make : Job
   load_make = next_order (now_of e out).jobs proc doc why (tasks.Populate nav state address false)
 
   abbrev then_made : Seen
   then_made = after (now_of e out) (row_of e (rows.Sent load_make))
+
+  -- the document state is that of a load that has passed
+  none_checks : IsMakeOfLoadDue e.header (now_of e out) load_make nav state address → NoneChecksFor e.checking (log_of e out) state
+  none_checks due =
+      of_ongoing e.checking (log_of e out) work.checks.states work.checks.numbered state due.q (subst (λ (s : Seen). load_in_log s state ≡ Some due.q) work.same due.loads)
 
   load_make_lawful : IsMakeOfLoadDue e.header (now_of e out) load_make nav state address → (desk_of (now_of e out) proc).known ≡ 0 → AreLawful e (out ++ rows.Sent load_make ∷ [])
   load_make_lawful due known =
@@ -59,16 +66,13 @@ module _ (e : InEvent) (out : List RowKind) (t u : Tables) (proc : ProcId) (doc 
       is_numbered =
           numbered_in e.checking (log_of e out) load_make (at_seen e out t work (λ (s : Seen). IsNumbered s load_make) (record { number = refl; incarnation = sym known }))
 
-      none_checks : NoneChecksFor e.checking (log_of e out) state
-      none_checks req q at checks = absurd (let never : false ≡ true = sym (work.unchecked req) ∙ checks in cc)
-
       in_log : IsMakeOfLoadDue e.header (log_of e out) load_make nav state address
       in_log =
-          make_of_load_due e.checking (log_of e out) (aimed_log e out t work) e.header load_make nav state address none_checks (passed_log e out t work load_make.task why (λ req is. work.unchecked req) due.passed) (at_seen e out t work (λ (s : Seen). IsMakeOfLoadDue e.header s load_make nav state address) due)
+          make_of_load_due e.checking (log_of e out) (aimed_log e out t work) e.header load_make nav state address (none_checks due) (passed_log e out t work load_make.task why for_other due.passed) (at_seen e out t work (λ (s : Seen). IsMakeOfLoadDue e.header s load_make nav state address) due)
 
   pub load_make_work : IsMakeOfLoadDue e.header (now_of e out) load_make nav state address → (desk_of (now_of e out) proc).known ≡ 0 → sight_in (map sight (now_of e out).documents) doc ≡ None → lookup (is_state state) t.making.entries ≡ None → IsUnmadeLoad (now_of e out) t.loads nav state → AreKeptDocs (now_of e out) → MakesOne nav state proc doc t u → u.running ≡ t.running → u.goal ≡ t.goal → u.initial.entries ≡ t.initial.entries → u.loads ≡ moved_on (is_of nav) (phases.Populating doc) t.loads → KeepsOthers nav t.loads u.loads → IsAtWork e (out ++ rows.Sent load_make ∷ []) u
   load_make_work due known unknown unmade its kept_docs one running goal initial loads others =
-      work_more e out (rows.Sent load_make) None t u work refl (sent_seen e.checking (log_of e out) load_make e.event e.actor refl) tt (calm_more e out (rows.Sent load_make) tt tt tt work.calm)
+      work_more e out (rows.Sent load_make) None t u work refl (sent_seen e.checking (log_of e out) load_make e.event e.actor refl) tt (none_checks due)
       (subst (λ (r : Option ReqId). Holds (look_of then_made r) u) (sym running) (make_holds (now_of e out) t.running e.event e.actor proc doc why nav state address false t work.holds unknown unmade u one))
       (subst (λ (r : Option ReqId). IsRunning (now_of e out).requests r) (sym running) work.runs)
       (subst (λ (r : Option ReqId). HasGoal (now_of e out).requests r u.goal) (sym running) (subst (λ (g : Step). HasGoal (now_of e out).requests t.running g) (sym goal) work.goal))

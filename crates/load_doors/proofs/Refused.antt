@@ -28,7 +28,7 @@ use Rattle.tab_doors.proofs.Ahead.{lawful_none}
 use Rattle.tab_doors.proofs.EndLaws.{left_holds}
 use Rattle.tab_doors.proofs.Keeping.{unstarted_no_load}
 use Rattle.tab_doors.proofs.Requests.{ended_moved, moved_same, runs_ended_apart}
-use Rattle.tab_doors.proofs.Works.{goal_read, goal_same, none_calm}
+use Rattle.tab_doors.proofs.Works.{goal_read, goal_same, none_steps}
 use Rattle.tab_doors.specs.Look.{look_of, moved_by}
 use Rattle.tab_doors.specs.Ties.{AreInitial, Holds, IsRunning}
 use Rattle.tab_doors.specs.Working.{HasGoal, IsAtWork, IsWorker}
@@ -93,8 +93,8 @@ module _ (e : InEvent) (t : Tables) (req : ReqId) (reason : Denial) (denied : Is
         same = now_is ∙ ap (λ (x : Seen). after x (row_of e (rows.Refused req reason))) (now_own e) ∙ sym (refused_seen e.checking (log_of e []) e.event e.actor req reason) ∙ ap (λ (x : Seen). unasked e.checking x) (sym (log_more e [] (rows.Refused req reason)));
         checks =
             subst (λ (x : Seen). AreInCheck e.checking x) (sym (log_more e [] (rows.Refused req reason)))
-            (row_checks e.checking (log_of e []) (row_of e (rows.Refused req reason)) tt denied.checks);
-        calm = none_calm e.checking denied.unchecked (log_of e (rows.Refused req reason ∷ []));
+            (row_checks e.checking (log_of e []) (row_of e (rows.Refused req reason)) tt tt denied.checks);
+        unheld = none_steps e.checking denied.unchecked (log_of e (rows.Refused req reason ∷ []));
         holds = subst (λ (x : Seen). Holds (look_of x t.running) t) (sym now_is) (left_holds (look_of s t.running) (look_of n t.running) t refl refl refl moved refl refl refl tied.holds);
         runs = subst (λ (x : Seen). IsRunning x.requests t.running) (sym now_is) (runs_ended_apart s.requests t.running req (endings.Refused reason) apart tied.runs);
         goal = subst (λ (x : Seen). HasGoal x.requests t.running t.goal) (sym now_is) (goal_same s.requests over t.running t.goal (on_read goal_read s.requests req (λ q. record q { ending = Some (endings.Refused reason) }) (λ q. refl)) tied.goal);

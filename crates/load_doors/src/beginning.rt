@@ -1,7 +1,7 @@
 //! A load begins.
 ghost use Rattle.std.specs.Map.{lookup};
 ghost use Rattle.std.specs.Option.{option_copied};
-ghost use Rattle.std.specs.Prelude.{◌≡◌, ◌<◌, ◌+◌, ◌^◌, ◌++◌, ◌∷◌, [], OnOk, None, Some, is_some, option_and_then};
+ghost use Rattle.std.specs.Prelude.{◌≡◌, ◌<◌, ◌+◌, ◌^◌, ◌++◌, ◌∷◌, [], OnOk, None, Some, false, is_some, option_and_then};
 ghost use Rattle.load_doors.specs.Loading.{IsGiven, IsToBegin, begun_load};
 ghost use Rattle.load_table.specs.Loads.{ongoing_load};
 ghost use Rattle.log_model.specs.AfterRequests.{load_replaces};
@@ -76,6 +76,7 @@ pub fn begin_load(
 ) -> Result<(), OutOfMemory>
     ghost e: { InEvent }
     requires work { IsAtWork e out.old tables.old }
+    requires off { e.checking req ≡ false }
     requires due { IsToBegin e out.old tables.old.loads req nav replace address }
     requires room { tables.old.states + 1 < 2 ^ 32 }
     ensures work { OnOk result (IsAtWork e out.new tables.new) }

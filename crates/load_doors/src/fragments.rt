@@ -1,5 +1,5 @@
 //! A load that is a fragment navigation is sent to the document.
-ghost use Rattle.std.specs.Prelude.{◌≡◌, ◌++◌, ◌∷◌, [], OnOk, None};
+ghost use Rattle.std.specs.Prelude.{◌≡◌, ◌++◌, ◌∷◌, [], false, OnOk, None};
 ghost use Rattle.log_model.specs.declared.job.Task.TheVariants as tasks;
 ghost use Rattle.log_model.specs.declared.job.Why.TheVariants as whys;
 ghost use Rattle.log_model.specs.declared.row_kind.RowKind.TheVariants as rows;
@@ -23,6 +23,7 @@ pub fn send_fragment(
 ) -> Result<(), OutOfMemory>
     ghost e: { InEvent }
     requires work { IsAtWork e out.old tables.old }
+    requires off { e.checking req ≡ false }
     requires may { MaySend None e out.old (order_to (now_of e out.old) doc (whys.Req req) (tasks.DoFragment req mode address)) }
     requires there { IsThere (now_of e out.old) doc }
     ensures work { OnOk result (IsAtWork e out.new tables.new) }

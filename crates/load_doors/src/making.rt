@@ -11,6 +11,7 @@ ghost use Rattle.seen_laws.specs.InEvent.{InEvent, now_of};
 ghost use Rattle.tab_doors.specs.Keeping.{IsUnmadeLoad};
 ghost use Rattle.tab_doors.specs.Look.{sight, sight_in};
 ghost use Rattle.tab_doors.specs.Orders.{next_order};
+ghost use Rattle.unasked_dues.specs.Checking.{IsForOther};
 ghost use Rattle.tab_doors.specs.Working.{IsAtWork, KeepsStore};
 
 use address::{Address, OutOfMemory};
@@ -30,6 +31,7 @@ pub fn make_load(
 ) -> Result<(), OutOfMemory>
     ghost e: { InEvent }
     requires work { IsAtWork e out.old tables.old }
+    requires for_other { IsForOther e.checking why }
     requires due { IsMakeOfLoadDue e.header (now_of e out.old) (next_order (now_of e out.old).jobs proc (record { 0 = tables.old.documents + 1 }) why (tasks.Populate nav state address false)) nav state address }
     requires known { (desk_of (now_of e out.old) proc).known ≡ 0 }
     requires unknown { sight_in (map sight (now_of e out.old).documents) (record { 0 = tables.old.documents + 1 }) ≡ None }

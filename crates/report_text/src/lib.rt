@@ -8,4 +8,5 @@ mod writing;
 pub use counting::summary;
 pub use log_reading::{LogTextError, read_log};
 pub use log_text::{Line, line_length, row_line};
+pub use world::World;
 pub use writing::report;

@@ -9,3 +9,5 @@ pub mod FragmentSends
 pub mod FragmentMakes
 pub mod FragmentTakes
 pub mod Ahead
+pub mod LeftRows
+pub mod LeftMays

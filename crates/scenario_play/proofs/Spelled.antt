@@ -8,10 +8,7 @@ use Rattle.scenario_text.specs.declared.line.ScenarioLine.{ScenarioLine}
 use Rattle.scenario_text.specs.Scenarios.{Scenario}
 use Rattle.scenario_text.specs.Grammar.{scenario_of}
 use Rattle.log_model.specs.Entries.{HasPassed}
-use Rattle.log_model.specs.declared.action.Action.{Action}
-use Rattle.log_model.specs.declared.action.Action.TheVariants as actions
-use Rattle.scenario_text.specs.Plays.{plays, is_no_edit, is_of_loads}
-use Rattle.world.specs.Steps as taken
+use Rattle.scenario_text.specs.Plays.{plays, is_of_loads}
 use Rattle.scenario_text.proofs.ForCallers.{IsNamed, lines_played, header_played, sites_named}
 use Rattle.scenario_text.specs.Written.{Each}
 use Rattle.world.specs.Kept.{OpensUnhandled}
@@ -59,13 +56,3 @@ sites_have_turns header named proc (inr of) =
 pub spelled_turns : (in_run : Bool) (bytes : List ℕ) (scenario : Scenario) → scenario_of in_run builts.Loads bytes ≡ Ok scenario → HaveTurns scenario.header
 spelled_turns in_run bytes scenario e =
     sites_have_turns scenario.header (sites_named in_run builts.Loads bytes scenario e)
-
--- an action that is played is one that a world takes
-pub action_built : (action : Action) → HasPassed (is_no_edit action) → HasPassed (taken.is_no_edit action)
-action_built (actions.Push memo reference) is = tt
-action_built (actions.Replace memo reference) is = tt
-action_built (actions.Fragment text) is = tt
-action_built (actions.AddFrame nav) is = tt
-action_built (actions.RemoveFrame nav) is = tt
-action_built (actions.Go delta) is = tt
-action_built actions.Edit is = is

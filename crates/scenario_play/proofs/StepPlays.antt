@@ -1,5 +1,5 @@
 -- A step of a world is the event of its line, or the line is passed over, or there is an error where the event was due.
-use Rattle.std.proofs.Common.{◌≡◌, ℕ, ◌+◌, ◌<◌, Bool, true, false, ◌&&◌, ◌||◌, ◌==◌, List, [], ◌∷◌, ◌++◌, map, length, Option, Some, None, Result, Ok, Err, IsTrue, refl, sym, ap, ◌∙◌, subst, arith}
+use Rattle.std.proofs.Common.{◌≡◌, ℕ, ◌+◌, ◌<◌, Bool, true, false, not, ◌&&◌, ◌||◌, ◌==◌, List, [], ◌∷◌, ◌++◌, map, length, Option, Some, None, Result, Ok, Err, IsTrue, refl, sym, ap, ◌∙◌, subst, arith}
 use Rattle.std.specs.Prelude.{IsSome, IsSomeAnd, slice_get, is_some, is_none, option_map, if◌then◌else◌}
 use Rattle.std.proofs.lemmas.Bool.{eq-eqb}
 use Rattle.tab_ids.specs.declared.ProcId.{ProcId}
@@ -17,8 +17,9 @@ use Rattle.log_model.specs.declared.row_kind.RowKind.TheVariants as rows
 use Rattle.log_model.specs.After.{desk_taken}
 use Rattle.log_model.specs.Events.{events_of, have_number}
 use Rattle.log_model.specs.Legal.{IsLegal, opens}
-use Rattle.log_model.specs.Logs.{seen_of, is_idle, in_hand_of, mail_of}
-use Rattle.log_model.specs.Seen.{Seen, Desk, nothing, desk_of}
+use Rattle.log_model.specs.Equal.{holds}
+use Rattle.log_model.specs.Logs.{seen_of, is_idle, in_hand_of, is_prompt_up, mail_of}
+use Rattle.log_model.specs.Seen.{Seen, Desk, nothing, desk_of, request_of}
 use Rattle.log_model.specs.Views.{View, made_by}
 use Rattle.log_model.proofs.Laws.{next_event, events_fold, seen_of_append}
 use Rattle.seen_laws.proofs.Desks.{desk_on_same}
@@ -63,11 +64,17 @@ some_if : (b : Bool) (reply : Reply) → b ≡ is_some (if b then Some reply els
 some_if true reply = refl
 some_if false reply = refl
 
+-- an answer where a test fails
+none_if : (b : Bool) (reply : Reply) → not b ≡ is_some (let o : Option Reply = if b then None else Some reply in o)
+none_if true reply = refl
+none_if false reply = refl
+
 -- the line is passed over where the event logs nothing
 passed_is : (kinds : List HandlerKind) (log : List LogRow) (event : Event) → IsOfHand kinds log event → is_passed (seen_of log) (line_of event) ≡ is_some (idle_reply kinds (seen_of log) event)
 passed_is kinds log (events.Load nav mode address) hand = refl
 passed_is kinds log (events.Go delta) hand = refl
 passed_is kinds log (events.Poke nav action) hand = refl
+passed_is kinds log (events.Answer req stay) hand = none_if (holds is_prompt_up (request_of (seen_of log) req)) replies.NoPrompt
 passed_is kinds log events.Evict hand = some_if (length (seen_of log).kept == 0) replies.NothingKept
 passed_is kinds log (events.Act proc) hand = some_if (length (desk_of (seen_of log) proc).input == 0) replies.Empty
 passed_is kinds log (events.Begin proc) hand = by_hand (in_hand_of log proc) (length (mail_of log proc))
@@ -88,17 +95,23 @@ actor_is : (event : Event) → is_actor (line_of event) (actor_of event) ≡ tru
 actor_is (events.Load nav mode address) = refl
 actor_is (events.Go delta) = refl
 actor_is (events.Poke nav action) = refl
+actor_is (events.Answer req stay) = refl
 actor_is events.Evict = refl
 actor_is (events.Act proc) = number_itself proc.0
 actor_is (events.Begin proc) = number_itself proc.0
 actor_is (events.Finish proc done) = number_itself proc.0
 actor_is (events.Deliver proc) = refl
 
+same_stay : (stay : Bool) → (if stay then stay else not stay) ≡ true
+same_stay true = refl
+same_stay false = refl
+
 -- and its own row
 own_is : (s : Seen) (event : Event) (reply : Reply) (own : RowKind) (out : List RowKind) → Begins s event reply own out → is_own (line_of event) own ≡ true
 own_is s (events.Load nav mode address) reply own out begins = rw begins.1 (same_request_itself (requests.Load nav mode address))
 own_is s (events.Go delta) reply own out begins = rw begins.1 (same_request_itself (requests.Go delta))
 own_is s (events.Poke nav action) reply own out begins = rw begins.1 (same_request_itself (requests.Poke nav action))
+own_is s (events.Answer req stay) reply own out begins = rw (begins.1, number_itself req.0) (same_stay stay)
 own_is s events.Evict reply own out begins = of_some (longest_kept s) _ (λ d is. rw is refl) begins.1
 own_is s (events.Act proc) reply own out begins =
     of_some (slice_get (desk_of s proc).input 0) _ (λ poke is. rw is (by_view poke (view_in s poke.doc))) begins.2

@@ -46,6 +46,7 @@ abbrev pub line_of : Event → ScenarioLine
 line_of (events.Load nav mode address) = lines.Ask (requests.Load nav mode address)
 line_of (events.Go delta) = lines.Ask (requests.Go delta)
 line_of (events.Poke nav action) = lines.Ask (requests.Poke nav action)
+line_of (events.Answer req stay) = lines.Answer req stay
 line_of events.Evict = lines.Evict
 line_of (events.Act proc) = lines.Act proc
 line_of (events.Begin proc) = lines.Begin proc
@@ -57,6 +58,7 @@ abbrev pub IsOfHand : List HandlerKind → List LogRow → Event → Type 0
 IsOfHand kinds log (events.Load nav mode address) = Unit {0}
 IsOfHand kinds log (events.Go delta) = Unit {0}
 IsOfHand kinds log (events.Poke nav action) = Unit {0}
+IsOfHand kinds log (events.Answer req stay) = Unit {0}
 IsOfHand kinds log events.Evict = Unit {0}
 IsOfHand kinds log (events.Act proc) = Unit {0}
 IsOfHand kinds log (events.Begin proc) = Unit {0}

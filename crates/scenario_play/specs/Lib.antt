@@ -1,3 +1,4 @@
 pub mod Lines
+pub mod PassedOn
 pub mod Moves
 pub mod Courses

@@ -5,3 +5,4 @@ mod playing;
 mod round;
 
 pub use playing::{Played, play};
+pub use world::{StepError, World};

@@ -11,6 +11,7 @@ use crate::round::{act, deliver, finish_in_hand, settle, step, take_up};
 use handler_table::HandlerTable;
 use log_model::Request;
 use scenario_text::{Scenario, ScenarioLine};
+use tab_ids::ReqId;
 use world::{Event, StepError, World};
 
 /// A world after the lines of a scenario, and why not all of them were played, if so.
@@ -100,8 +101,9 @@ fn play_line(
         ScenarioLine::Finish { proc } => finish_in_hand(world, *proc, handlers),
         ScenarioLine::Deliver { proc } => deliver(world, *proc),
         ScenarioLine::Settle => settle(world, handlers),
+        ScenarioLine::Answer { req, stay } => answer(world, *req, *stay),
         ScenarioLine::Evict => evict(world),
-        ScenarioLine::Answer { .. } | ScenarioLine::Kill { .. } => unreachable!(),
+        ScenarioLine::Kill { .. } => unreachable!(),
     }
 }
 
@@ -140,6 +142,21 @@ fn ask(world: &mut World, request: &Request) -> Result<(), StepError>
             }
         }
         Request::Reload { .. } => unreachable!(),
+    }
+}
+
+/// Answers the prompt of a request.
+fn answer(world: &mut World, req: ReqId, stay: bool) -> Result<(), StepError>
+    requires open { world.old.closed ≡ false }
+    ensures open { OnOk result (world.new.closed ≡ false) }
+    ensures header { world.new.header ≡ world.old.header }
+    ensures kinds { world.new.kinds ≡ world.old.kinds }
+    ensures faults { IfErr result (IsFault world.new) }
+    ensures plays { Plays (does (lines.Answer req stay)) world.old.log result world.new.log }
+{
+    match step(world, Event::Answer { req, stay }) {
+        Ok(_) => return Ok(()),
+        Err(error) => return Err(error),
     }
 }
 

@@ -243,6 +243,8 @@ fn taken(reply: Reply) -> Option<Order>
     match reply {
         Reply::Took(order) => Some(order),
         Reply::Accepted(_)
+        | Reply::Answered
+        | Reply::NoPrompt
         | Reply::Evicted
         | Reply::NothingKept
         | Reply::Acted

@@ -1,8 +1,6 @@
 -- Which lines a caller can play.
 -- This project's own.
 use Rattle.std.specs.Prelude.{Bool, true, false}
-use Rattle.log_model.specs.declared.action.Action.{Action}
-use Rattle.log_model.specs.declared.action.Action.TheVariants as actions
 use Rattle.log_model.specs.declared.request.Request.{Request}
 use Rattle.log_model.specs.declared.request.Request.TheVariants as requests
 use Rattle.scenario_text.specs.declared.built.Built.{Built}
@@ -22,21 +20,17 @@ is_step (lines.Finish proc) = true
 is_step (lines.Deliver proc) = true
 is_step _ = false
 
--- any action but an edit of the page
-abbrev pub is_no_edit : Action → Bool
-is_no_edit actions.Edit = false
-is_no_edit _ = true
-
--- a request of a tab with loads: a load, a traversal, or such an action of a document
+-- a request of a tab with loads: a load, a traversal, or an action of a document
 abbrev pub is_request_of_loads : Request → Bool
 is_request_of_loads (requests.Load nav mode address) = true
 is_request_of_loads (requests.Go delta) = true
-is_request_of_loads (requests.Poke nav action) = is_no_edit action
+is_request_of_loads (requests.Poke nav action) = true
 is_request_of_loads _ = false
 
--- a line of a tab with loads, in which nobody is asked and no process dies
+-- a line of a tab with loads, in which no document is asked and no process dies
 abbrev pub is_of_loads : ScenarioLine → Bool
 is_of_loads (lines.Ask request) = is_request_of_loads request
+is_of_loads (lines.Answer req stay) = true
 is_of_loads lines.Evict = true
 is_of_loads lines.Settle = true
 is_of_loads line = is_step line

@@ -4,12 +4,12 @@ ghost use Rattle.scenario_text.specs.Plays as spec;
 
 use crate::line::ScenarioLine;
 use crate::place::{Place, Stage};
-use log_model::{Action, Request};
+use log_model::Request;
 
 /// The lines that a caller can play; any other is refused as `unbuilt`, once it has no other fault.
 #[derive(Clone, Copy, PartialEq, Eq, Debug)]
 pub enum Built {
-    /// The lines of a tab with loads, in which nobody is asked and no process dies: `load`, `go`, `push`, `replace`, `fragment`, `frame`, `remove`, `docgo`, `evict`, `act`, `begin`, `finish`, `deliver` and `settle`.
+    /// The lines of a tab with loads, in which no document is asked and no process dies: `load`, `go`, `push`, `replace`, `fragment`, `frame`, `remove`, `docgo`, `edit`, `answer`, `evict`, `act`, `begin`, `finish`, `deliver` and `settle`.
     Loads,
     /// All lines.
     All,
@@ -73,9 +73,10 @@ fn is_of_loads(line: &ScenarioLine) -> bool
         | ScenarioLine::Begin { .. }
         | ScenarioLine::Finish { .. }
         | ScenarioLine::Deliver { .. }
+        | ScenarioLine::Answer { .. }
         | ScenarioLine::Evict
         | ScenarioLine::Settle => true,
-        ScenarioLine::Answer { .. } | ScenarioLine::Kill { .. } => false,
+        ScenarioLine::Kill { .. } => false,
     }
 }
 
@@ -83,22 +84,7 @@ fn is_request_of_loads(request: &Request) -> bool
     ensures { result ≡ spec.is_request_of_loads request.now }
 {
     match request {
-        Request::Load { .. } | Request::Go { .. } => true,
-        Request::Poke { action, .. } => is_no_edit(action),
+        Request::Load { .. } | Request::Go { .. } | Request::Poke { .. } => true,
         Request::Reload { .. } => false,
-    }
-}
-
-fn is_no_edit(action: &Action) -> bool
-    ensures { result ≡ spec.is_no_edit action.now }
-{
-    match action {
-        Action::Push { .. }
-        | Action::Replace { .. }
-        | Action::Fragment { .. }
-        | Action::AddFrame { .. }
-        | Action::RemoveFrame { .. }
-        | Action::Go { .. } => true,
-        Action::Edit => false,
     }
 }

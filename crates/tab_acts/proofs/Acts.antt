@@ -1,11 +1,9 @@
--- A document makes something of the first poke of its process, or the process refuses that poke: the coordinator that stood for the log stands for it still.
-use Rattle.seen_facts.specs.Asked.Asking.{IsNoEditing, IsTabRequest}
+-- A document makes something of the first poke of its process, but for an edit, or the process refuses that poke: the coordinator that stood for the log stands for it still.
 use Rattle.seen_facts.proofs.Coord.Held.{held_apart, held_on, on_else, without_same}
 use Rattle.seen_facts.proofs.Coord.Unread.{next}
 use Rattle.seen_facts.specs.Desk.Own as owning
 use Rattle.seen_facts.proofs.Each.Eaches.{each_first}
 use Rattle.seen_facts.proofs.Entry.Stays.{its_number}
-use Rattle.tab_facts.proofs.FrameEvents.Processes.{made_of_action}
 use Rattle.tab_facts.proofs.Last.Rows.{made_lasting, refused_lasting}
 use Rattle.row_facts.proofs.Left.Rows.{were_shown}
 use Rattle.log_model.proofs.Refl.{nat_eq_refl}
@@ -29,14 +27,14 @@ use Rattle.seen_facts.proofs.Request.Readers.{on_read}
 use Rattle.seen_facts.specs.Request.Cores.{Core, core, core_of}
 use Rattle.seen_facts.specs.Request.Knowns.{IsPoke}
 use Rattle.seen_laws.proofs.Makings.{made_passes, refused_passes, unturned}
-use Rattle.seen_laws.specs.Acting.{IsToAct}
+use Rattle.seen_laws.specs.Acting.{IsNoEdit, IsToAct}
 use Rattle.seen_laws.specs.Blocks.{Passes}
 use Rattle.seen_laws.specs.InEvent.{InEvent}
 use Rattle.std.proofs.Common.{Bool, List, None, Option, Some, [], ap, arith, cond, drop, eqb-true, false, map, refl, subst, sym, true, ℕ, ℤ, ◌&&◌, ◌+◌, ◌==◌, ◌∙◌, ◌≡◌}
 use Rattle.std.proofs.lemmas.List.{map-id}
 use Rattle.std.specs.Prelude.{is_some, option_map, slice_get}
 use Rattle.tab_acts.proofs.Events.{alone_acts}
-use Rattle.tab_acts.proofs.Left.{StaysTold, left_stands}
+use Rattle.tab_acts.proofs.Left.{StaysTold, changes_kept, left_stands}
 use Rattle.tab_stands.proofs.Coming.{bare}
 use Rattle.tab_doors.proofs.Sights.{seen_of, sight_of, sights_same, unseen_at, IsSeen}
 use Rattle.tab_doors.specs.Look.{Sight, sight, sight_in}
@@ -80,7 +78,7 @@ goes_by view nav (actions.RemoveFrame child) what delta makes never = absurd cc
 goes_by view nav actions.Edit what delta makes never = absurd cc
 
 -- what was made of loads is as it was, where another request is changed
-theirs_else : (s n : Seen) (req : ReqId) → ((q : Asked) → request_in s.requests req ≡ Some q → is_load q.what ≡ false) → ((r : ReqId) → (r.0 == req.0) ≡ false → request_in n.requests r ≡ request_in s.requests r) → ((q : Asked) → request_in n.requests req ≡ Some q → (old : Asked) × (request_in s.requests req ≡ Some old) × (old.what ≡ q.what)) → ((doc : DocId) (d : Document) → document_of s doc ≡ Some d → (new : Document) × (document_of n doc ≡ Some new) × (new.nav ≡ d.nav)) → LoadsMadeOwn s → LoadsMadeOwn n
+pub theirs_else : (s n : Seen) (req : ReqId) → ((q : Asked) → request_in s.requests req ≡ Some q → is_load q.what ≡ false) → ((r : ReqId) → (r.0 == req.0) ≡ false → request_in n.requests r ≡ request_in s.requests r) → ((q : Asked) → request_in n.requests req ≡ Some q → (old : Asked) × (request_in s.requests req ≡ Some old) × (old.what ≡ q.what)) → ((doc : DocId) (d : Document) → document_of s doc ≡ Some d → (new : Document) × (document_of n doc ≡ Some new) × (new.nav ≡ d.nav)) → LoadsMadeOwn s → LoadsMadeOwn n
 theirs_else s n req no_load others own homes theirs r q made found load makes = by_test (r.0 == req.0) refl
   where
     by_test : (b : Bool) → (r.0 == req.0) ≡ b → IsByItsOwn n q made × (is_new_entry made.what ≡ true)
@@ -99,17 +97,16 @@ module _ (e : InEvent) (t : Tables) (queue : Queue) (blame : List (StateId × Re
 
   -- ---- the request of the poke
 
-  record Asks : Type 0 where
-    nav : NavId
-    q : Asked
-    there : request_in e.start.requests poke.req ≡ Some q
-    what : q.what ≡ requests.Poke nav poke.action
-    doc : q.doc ≡ Some poke.doc
-    unmade : q.made ≡ None
-    unended : q.ending ≡ None
-    fine : IsNoEditing poke.action
+  pub record Asks : Type 0 where
+    pub nav : NavId
+    pub q : Asked
+    pub there : request_in e.start.requests poke.req ≡ Some q
+    pub what : q.what ≡ requests.Poke nav poke.action
+    pub doc : q.doc ≡ Some poke.doc
+    pub unmade : q.made ≡ None
+    pub unended : q.ending ≡ None
 
-  its_asked : Asks
+  pub its_asked : Asks
   its_asked = by_found (request_in s.requests poke.req) refl (first_poke s [] proc poke first stands.between.tab.once stands.between.tab.known)
     where
       by_found : (o : Option Asked) → request_in s.requests poke.req ≡ o → IsPoke (core_of o) poke → Asks
@@ -125,15 +122,14 @@ module _ (e : InEvent) (t : Tables) (queue : Queue) (blame : List (StateId × Re
             doc = ap (λ (c : Core). c.doc) same;
             unmade = ap (λ (c : Core). c.made) same;
             unended = ap (λ (c : Core). c.ending) same;
-            fine = subst IsTabRequest what (stands.between.tab.asked.each poke.req q at).what;
           }
 
-  no_load : (q : Asked) → request_in s.requests poke.req ≡ Some q → is_load q.what ≡ false
+  pub no_load : (q : Asked) → request_in s.requests poke.req ≡ Some q → is_load q.what ≡ false
   no_load q there =
       let one : its_asked.q ≡ q = some_same (sym its_asked.there ∙ there) in
       ap (λ (x : Asked). is_load x.what) (sym one) ∙ ap is_load its_asked.what
 
-  unheld : has_req s.parked poke.req ≡ false
+  pub unheld : has_req s.parked poke.req ≡ false
   unheld = unparked t.running s proc stands.between.tab stands.between.flows poke first
 
   -- ---- the document acts
@@ -143,7 +139,7 @@ module _ (e : InEvent) (t : Tables) (queue : Queue) (blame : List (StateId × Re
     number =
         (stands.between.tab.docs.each poke.doc d found).live.viewed view has ∙ ap (λ (n : ℕ). let x : DocId = record { 0 = n } in x) (its_number s.documents poke.doc d found)
 
-    to_act : IsToAct s proc poke its_asked.q its_asked.nav d view
+    pub to_act : IsToAct s proc poke its_asked.q its_asked.nav d view
     to_act =
         record {
           first = first;
@@ -174,10 +170,10 @@ module _ (e : InEvent) (t : Tables) (queue : Queue) (blame : List (StateId × Re
       abbrev made_ : Seen
       made_ = next s s.events (actors.Proc proc) (rows.Made proc (made_for view poke.req what))
 
-      acting : IsActing t.running s proc stands.between.tab stands.between.flows poke first d view what
+      pub acting : IsActing t.running s proc stands.between.tab stands.between.flows poke first d view what
       acting = record { found = found; has = has; runs = runs; makes = makes }
 
-      sights : map sight made_.documents ≡ map sight s.documents
+      pub sights : map sight made_.documents ≡ map sight s.documents
       sights =
           sights_same (λ (x : Document). cond (x.nr.0 == view.doc.0) (record x { view = option_map (λ (v : View). after_made v what) x.view }) x) (unseen_at view.doc (λ (x : Document). record x { view = option_map (λ (v : View). after_made v what) x.view }) (λ x. refl)) s.documents
 
@@ -186,6 +182,7 @@ module _ (e : InEvent) (t : Tables) (queue : Queue) (blame : List (StateId × Re
           record {
             sights = sights;
             ways = on_read bare s.requests poke.req (λ (x : Asked). record x { made = Some its_made }) (λ x. refl);
+            changes = changes_kept s.requests made_.requests (on_read (λ (x : Asked). x.change) s.requests poke.req (λ (x : Asked). record x { made = Some its_made }) (λ x. refl));
             held = held_apart s.requests s.parked poke.req (λ (x : Asked). record x { made = Some its_made }) unheld;
             jobs = refl;
             states = refl;
@@ -198,20 +195,21 @@ module _ (e : InEvent) (t : Tables) (queue : Queue) (blame : List (StateId × Re
             unstood = λ off away. unstood_by s (record { event = s.events; actor = actors.Proc proc; row = rows.Made proc its_made }) refl away off;
           }
 
-      homes : (doc : DocId) (x : Document) → document_of s doc ≡ Some x → (new : Document) × (document_of made_ doc ≡ Some new) × (new.nav ≡ x.nav)
+      pub homes : (doc : DocId) (x : Document) → document_of s doc ≡ Some x → (new : Document) × (document_of made_ doc ≡ Some new) × (new.nav ≡ x.nav)
       homes doc x at =
           let seen : IsSeen made_ doc (sight x) = seen_of made_ doc (sight x) (ap (λ (l : List Sight). sight_in l doc) sights ∙ sight_of s doc x at) in
           (seen.document, seen.found, ap (λ (y : Sight). y.nav) seen.is)
 
-      goes : (q : Asked) (delta : ℤ) → request_of s poke.req ≡ Some q → delta_of q.what ≡ Some delta → what ≡ whats.Go delta
+      pub goes : (q : Asked) (delta : ℤ) → request_of s poke.req ≡ Some q → delta_of q.what ≡ Some delta → what ≡ whats.Go delta
       goes q delta at asks =
           let one : its_asked.q ≡ q = some_same (sym its_asked.there ∙ at) in
           goes_by view its_asked.nav poke.action what delta makes (ap delta_of (sym its_asked.what) ∙ ap (λ (x : Asked). delta_of x.what) one ∙ asks)
 
-      pub made_stands : StandsFor (next e.start e.start.events (actors.Proc proc) (rows.Made proc (made_for view poke.req what))) t queue blame
-      made_stands =
+      -- what it made is no edit
+      pub made_stands : IsNoEdit what → StandsFor (next e.start e.start.events (actors.Proc proc) (rows.Made proc (made_for view poke.req what))) t queue blame
+      made_stands no_edit =
           left_stands e t queue blame stands room made_ (but_of t.running s made_ (made_left t.running s s.events (actors.Proc proc) proc its_made)) made_told
-          (acted_between t.kept.keep t.running s proc stands.between poke first d view what acting)
+          (acted_between t.kept.keep t.running s proc stands.between poke first d view what acting no_edit)
           (made_lasting s s.events (actors.Proc proc) stands.lasts.lasting proc its_made d view to_act.there has runs refl goes)
           (λ F. orders_after F s s.events (actors.Proc proc) (rows.Made proc its_made) tt (λ x is. cc))
           (theirs_else s made_ poke.req no_load (λ r apart. on_else s.requests poke.req (λ (x : Asked). record x { made = Some its_made }) r apart) own_was homes stands.lasts.made)
@@ -223,11 +221,11 @@ module _ (e : InEvent) (t : Tables) (queue : Queue) (blame : List (StateId × Re
               let same : record its_asked.q { made = Some its_made } ≡ q = some_same (sym (ap (λ (o : Option Asked). option_map (λ (x : Asked). record x { made = Some its_made }) o) its_asked.there) ∙ sym (on_itself s.requests poke.req (λ (x : Asked). record x { made = Some its_made })) ∙ at) in
               (its_asked.q, its_asked.there, ap (λ (x : Asked). x.what) same)
 
-      pub made_acts : e.actor ≡ actors.Proc proc → e.event ≡ e.start.events → e.own ≡ rows.Made proc (made_for view poke.req what) → HasActed e [] t queue blame
-      made_acts by event own =
+      pub made_acts : IsNoEdit what → e.actor ≡ actors.Proc proc → e.event ≡ e.start.events → e.own ≡ rows.Made proc (made_for view poke.req what) → HasActed e [] t queue blame
+      made_acts no_edit by event own =
           alone_acts e (actors.Proc proc) (rows.Made proc its_made) by own event t queue blame
-          (subst (λ (n : ℕ). StandsFor (next e.start n (actors.Proc proc) (rows.Made proc its_made)) t queue blame) (sym event) made_stands)
-          (made_passes e.header s proc poke its_asked.q its_asked.nav d view what to_act makes (made_of_action view poke.action what its_asked.fine makes).no_edit)
+          (subst (λ (n : ℕ). StandsFor (next e.start n (actors.Proc proc) (rows.Made proc its_made)) t queue blame) (sym event) (made_stands no_edit))
+          (made_passes e.header s proc poke its_asked.q its_asked.nav d view what to_act makes no_edit)
 
     -- ---- its address is none for the document
 
@@ -283,6 +281,7 @@ module _ (e : InEvent) (t : Tables) (queue : Queue) (blame : List (StateId × Re
         record {
           sights = refl;
           ways = on_read bare s.requests poke.req refuse (λ q. refl);
+          changes = changes_kept s.requests refused.requests (on_read (λ (x : Asked). x.change) s.requests poke.req refuse (λ q. refl));
           held = held_on s.requests s.parked poke.req refuse (λ q. refl);
           jobs = refl;
           states = refl;

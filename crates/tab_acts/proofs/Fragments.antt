@@ -41,7 +41,7 @@ use Rattle.seen_laws.specs.InEvent.{InEvent, log_of, row_of, start_of}
 use Rattle.std.proofs.Common.{Bool, List, None, Option, Some, [], ap, arith, cond, eqb-true, false, map, not, refl, subst, sym, true, ℕ, ℤ, ◌++◌, ◌&&◌, ◌==◌, ◌∙◌, ◌∷◌, ◌≡◌}
 use Rattle.std.specs.Prelude.{find, is_none, is_some, length, option_map, option_to_list}
 use Rattle.tab_acts.proofs.Events.{log_is, own_row}
-use Rattle.tab_acts.proofs.Left.{StaysTold, left_stands}
+use Rattle.tab_acts.proofs.Left.{StaysTold, changes_kept, left_stands}
 use Rattle.tab_stands.proofs.Coming.{bare}
 use Rattle.tab_doors.proofs.Sights.{IsSeen, seen_of, sight_of, sights_same, unseen_at}
 use Rattle.tab_doors.specs.Look.{Sight, sight, sight_in}
@@ -182,6 +182,12 @@ module _ (e : InEvent) (t : Tables) (queue : Queue) (blame : List (StateId × Re
       ∙ on_read bare (on_request req found s.requests) req with_made (λ q. refl) r
       ∙ on_read bare s.requests req found (λ q. refl) r
 
+  changes : SameReads (λ (q : Asked). q.change) s.requests n.requests
+  changes r =
+      ap (λ (l : List Asked). option_map (λ (q : Asked). q.change) (request_in l r)) requests_are
+      ∙ on_read (λ (q : Asked). q.change) (on_request req found s.requests) req with_made (λ q. refl) r
+      ∙ on_read (λ (q : Asked). q.change) s.requests req found (λ q. refl) r
+
   same_count : (test : Asked → Bool) → ((q : Asked) → test (found q) ≡ test q) → ((q : Asked) → test (with_made q) ≡ test q) → count_of test n.requests ≡ count_of test s.requests
   same_count test first second =
       ap (λ (l : List Asked). count_of test l) requests_are
@@ -193,6 +199,7 @@ module _ (e : InEvent) (t : Tables) (queue : Queue) (blame : List (StateId × Re
       record {
         sights = sights;
         ways = ways;
+        changes = changes_kept s.requests n.requests changes;
         held = ap (λ (l : List Asked). held_back l s.parked) requests_are ∙ held_apart (on_request req found s.requests) s.parked req with_made unheld ∙ held_apart s.requests s.parked req found unheld;
         jobs = refl;
         states = refl;

@@ -22,6 +22,7 @@ use Rattle.log_model.specs.ActsAtOnce.{is_ready_load}
 use Rattle.log_model.specs.Places.{all_stand, has_passed, is_moved, is_ongoing_load, is_traversal}
 use Rattle.log_model.specs.Seen.{Asked, Document, Place, Seen, document_of, place_in, request_in, request_of}
 use Rattle.log_model.specs.History.{History}
+use Rattle.log_model.specs.declared.change.Change.{Change}
 use Rattle.log_model.specs.declared.job.Job.{Job}
 use Rattle.log_model.specs.declared.request.Request.{Request}
 use Rattle.move_queue.specs.Queue.{Queue}
@@ -61,12 +62,21 @@ use Rattle.tab_stands.specs.Offs.{AreShownUnder}
 use Rattle.tab_stands.specs.PassedOn.{AreLeftStrays, HasQueue, HoldsParked, IsMake, IsReadyLoadOf, IsSoundTask, IsStray, LoadsMadeOwn, MakesServe, MayCause, MayServe, OrdersAreSound}
 use Rattle.tab_stands.specs.Standing.{HasRoomFor, StandsFor}
 
+some_same : {A : Type 0} {a b : A} → (let o : Option A = Some a in o) ≡ Some b → a ≡ b
+some_same e = cc
+
 -- ---- what a row leaves
+
+-- each request to which a change was applied is there with that
+abbrev pub KeepChanges : List Asked → List Asked → Type 0
+KeepChanges asked then =
+    (req : ReqId) (q now : Asked) → request_in asked req ≡ Some q → request_in then req ≡ Some now → (change : Change) → q.change ≡ Some change → now.change ≡ Some change
 
 -- what the tables tell of, and what is held back; as many requests are there, and none is open again
 pub record StaysTold (s n : Seen) : Type 0 where
   pub sights : map sight n.documents ≡ map sight s.documents
   pub ways : SameReads bare s.requests n.requests
+  pub changes : KeepChanges s.requests n.requests
   pub held : held_back n.requests s.parked ≡ held_back s.requests s.parked
   pub jobs : n.jobs ≡ s.jobs
   pub states : n.states ≡ s.states
@@ -79,13 +89,14 @@ pub record StaysTold (s n : Seen) : Type 0 where
   pub step : n.last_step ≡ s.last_step
   pub unstood : s.has_stood ≡ false → all_stand n n.history.current ≡ false → n.has_stood ≡ false
 
+pub changes_kept : (asked then : List Asked) → SameReads (λ (q : Asked). q.change) asked then → KeepChanges asked then
+changes_kept asked then same req q now at at_then change is =
+    some_same (sym (ap (λ (o : Option Asked). option_map (λ (x : Asked). x.change) o) at_then) ∙ same req ∙ ap (λ (o : Option Asked). option_map (λ (x : Asked). x.change) o) at) ∙ is
+
 -- a test that a change leaves
 any_map : (g : Document → Document) (test : Document → Bool) (xs : List Document) → ((d : Document) → test (g d) ≡ test d) → list_any test (map g xs) ≡ list_any test xs
 any_map g test [] same = refl
 any_map g test (x ∷ xs) same = rw (same x) (ap (λ (b : Bool). test x || b) (any_map g test xs same))
-
-some_same : {A : Type 0} {a b : A} → (let o : Option A = Some a in o) ≡ Some b → a ≡ b
-some_same e = cc
 
 module _ (e : InEvent) (t : Tables) (queue : Queue) (blame : List (StateId × ReqId)) (stands : StandsFor e.start t queue blame) (room : HasRoomFor e.start) (n : Seen) (left : IsLeftBut t.running e.start n) (told : StaysTold e.start n) (between : IsBetween t.kept.keep t.running n) (lasting : AreLasting n) (rows_ : (F : Job → Type 0) → AreOrders F e.start → AreOrders F n) (theirs : LoadsMadeOwn n) (were : WereShown n) (shows : AreShownUnder n) where
   abbrev s : Seen
@@ -398,7 +409,7 @@ module _ (e : InEvent) (t : Tables) (queue : Queue) (blame : List (StateId × Re
         loading = between.loading;
         serves = serves;
         moved = is_moved_same;
-        asked = λ req q at. (let now = there req q at in record { now = now.0; at = now.1; same = now.2 });
+        asked = λ req q at. (let now = there req q at in record { now = now.0; at = now.1; same = now.2; changed = λ change is. told.changes req q now.0 at now.1 change is });
         homes = keeps.homes;
         states = states_kept;
         strays = λ doc state stray. inl (strays_then doc state stray);

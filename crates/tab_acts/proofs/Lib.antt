@@ -4,3 +4,4 @@ pub mod Orders
 pub mod Acts
 pub mod Fragments
 pub mod Told
+pub mod Edits

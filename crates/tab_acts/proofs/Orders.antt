@@ -32,7 +32,7 @@ use Rattle.std.proofs.Common.{Bool, List, None, Option, Some, [], ap, arith, con
 use Rattle.std.proofs.lemmas.List.{map-id}
 use Rattle.std.specs.Prelude.{option_map, option_to_list, slice_get}
 use Rattle.tab_acts.proofs.Events.{alone_acts}
-use Rattle.tab_acts.proofs.Left.{StaysTold, left_stands}
+use Rattle.tab_acts.proofs.Left.{StaysTold, changes_kept, left_stands}
 use Rattle.tab_stands.proofs.Coming.{bare as as_read}
 use Rattle.tab_acts.specs.Pages.{HasNoPages}
 use Rattle.tab_doors.proofs.Sights.{IsSeen, seen_of, sight_of, sights_same, unseen_at}
@@ -83,7 +83,7 @@ module _ (e : InEvent) (t : Tables) (queue : Queue) (blame : List (StateId × Re
 
     took_told : StaysTold s took
     took_told =
-        record { sights = refl; ways = λ r. refl; held = refl; jobs = refl; states = refl; entries = refl; initial = refl; spent = omega arith; ended = omega arith; long = refl; step = refl; unstood = λ off away. unstood_by s (record { event = e.event; actor = actors.Proc proc; row = rows.Taken proc job.nr true dirty }) refl away off }
+        record { sights = refl; ways = λ r. refl; changes = changes_kept s.requests took.requests (λ r. refl); held = refl; jobs = refl; states = refl; entries = refl; initial = refl; spent = omega arith; ended = omega arith; long = refl; step = refl; unstood = λ off away. unstood_by s (record { event = e.event; actor = actors.Proc proc; row = rows.Taken proc job.nr true dirty }) refl away off }
 
     pub taken_stands : StandsFor (next e.start e.event (actors.Proc proc) (rows.Taken proc job.nr true dirty)) t queue blame
     taken_stands =
@@ -174,6 +174,7 @@ module _ (e : InEvent) (t : Tables) (queue : Queue) (blame : List (StateId × Re
         record {
           sights = ap (λ (o : Option Order). map sight (slot_finished (documents_finished s.documents (option_map (λ (x : Order). x.job) o)) (option_map (λ (x : Order). x.job) o) outcome)) hand ∙ sights_by outcome bare;
           ways = λ r. ap (λ (l : List Asked). option_map as_read (request_in l r)) requests_same;
+          changes = changes_kept s.requests did.requests (λ r. ap (λ (l : List Asked). option_map (λ (q : Asked). q.change) (request_in l r)) requests_same);
           held = ap (λ (l : List Asked). held_back l s.parked) requests_same;
           jobs = refl;
           states = refl;

@@ -21,7 +21,7 @@ use Rattle.std.proofs.Common.{Bool, List, None, Option, Some, [], ap, arith, fal
 use Rattle.std.proofs.lemmas.List.{map-id}
 use Rattle.std.specs.Map.{lookup}
 use Rattle.std.specs.Prelude.{find, slice_get}
-use Rattle.tab_acts.proofs.Left.{StaysTold, left_stands}
+use Rattle.tab_acts.proofs.Left.{StaysTold, changes_kept, left_stands}
 use Rattle.tab_acts.proofs.Orders.{theirs_same}
 use Rattle.tab_doors.specs.Look.{sight}
 use Rattle.tab_doors.specs.declared.tables.Tables.{Tables}
@@ -87,6 +87,7 @@ module _ (e : InEvent) (proc : ProcId) (job : Job) (outcome : Outcome) (del : Is
       record {
         sights = ap (λ (l : List Document). map sight l) docs;
         ways = subst (λ (l : List Asked). SameReads bare s.requests l) (sym asked) (λ r. refl);
+        changes = changes_kept s.requests n.requests (subst (λ (l : List Asked). SameReads (λ (q : Asked). q.change) s.requests l) (sym asked) (λ r. refl));
         held = ap (λ (l : List Asked). held_back l s.parked) asked;
         jobs = refl;
         states = refl;

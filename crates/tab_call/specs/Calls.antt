@@ -8,7 +8,7 @@ use Rattle.scenario_text.specs.declared.error.Refusal.{Refusal}
 use Rattle.scenario_text.specs.Scenarios.{Scenario}
 use Rattle.scenario_text.specs.Grammar.{scenario_of}
 use Rattle.scenario_text.specs.Follows.{Follows, IsCutShort, FollowsUpTo}
-use Rattle.world.specs.Open.{row_limit}
+use Rattle.scenario_play.specs.PassedOn.{row_limit}
 use Rattle.tab_io.specs.Causes.{Rose}
 use Rattle.tab_call.specs.declared.status.Status.{Status}
 use Rattle.tab_call.specs.declared.status.Status.TheVariants as statuses

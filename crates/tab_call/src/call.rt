@@ -5,7 +5,7 @@ ghost use Rattle.log_model.specs.LoadsEndInTime.{LoadsEndInTime};
 ghost use Rattle.log_model.specs.Legal.{IsLegal};
 ghost use Rattle.log_model.specs.Limits.{BeginsBelow};
 ghost use Rattle.proc_work.specs.Answers.{AnswersBy};
-ghost use Rattle.world.specs.Open.{row_limit};
+ghost use Rattle.scenario_play.specs.PassedOn.{row_limit};
 ghost use Rattle.tab_io.specs.Causes.{Rose};
 ghost use Rattle.tab_call.specs.Words.{text_due, work_of};
 ghost use Rattle.tab_call.specs.Writes.{text_of_log};
@@ -22,11 +22,10 @@ use crate::writing::{Unwritten, write_due};
 use handler_table::HandlerTable;
 use history_log::Log;
 use report_text::report;
-use scenario_play::{Played, play};
+use scenario_play::{Played, StepError, World, play};
 use scenario_text::{Built, Reason, Refusal, Scenario, ScenarioError};
 use std::alloc::Global;
 use tab_io::{ReadAllError, Sink, Source, read_bytes};
-use world::{StepError, World};
 
 /// The most bytes that a scenario may have.
 const BYTE_LIMIT: usize = 4_194_304;

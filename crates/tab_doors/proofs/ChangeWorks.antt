@@ -1,5 +1,6 @@
 -- A change is put out, and the coordinator goes on working.
-use Rattle.tab_doors.proofs.LogDues.{end_due, take_due}
+use Rattle.checking_facts.proofs.Brings.{brings_made}
+use Rattle.tab_doors.proofs.LogDues.{end_due, end_off, take_due}
 use Rattle.unasked.proofs.Ends.{applied_seen}
 use Rattle.apply_plan.specs.Order.{made_in}
 use Rattle.seen_facts.proofs.Coord.Held.{without_same}
@@ -14,7 +15,7 @@ use Rattle.tab_doors.proofs.Requests.{runs_applied_apart, runs_applied_own}
 use Rattle.tab_doors.proofs.Sights.{sights_on, sights_same}
 use Rattle.tab_doors.proofs.Takers.{lost_seen, none_lost, removed_holds, taken_holds}
 use Rattle.tab_doors.proofs.Whose.{whose_on}
-use Rattle.tab_doors.proofs.Works.{aimed_log, calm_more, goal_of_none, goal_on, goal_read, moving_log, work_more}
+use Rattle.tab_doors.proofs.Works.{aimed_log, goal_of_none, goal_on, goal_read, moving_log, work_more}
 use Rattle.tab_doors.specs.Dues.{IsAdded, IsEndDue, IsEndDueIn, IsMadeFor, IsTakeDue, IsTakeDueIn, KeepsRows, SeesRows, lost_of}
 use Rattle.tab_doors.specs.Ending.{destroy_all, unmove_all}
 use Rattle.tab_doors.specs.Keeping.{IsNoLoad}
@@ -100,9 +101,13 @@ its_made s req q made (inr by) = by.makes
 
 -- ---- a change of what a document made
 
-module _ (e : InEvent) (out : List RowKind) (t u : Tables) (req : ReqId) (change : Change) (work : IsAtWork e out t) (due : IsTakeDue e out req change) (apart : is_this t.running req ≡ false) (running : u.running ≡ t.running) (goal : u.goal ≡ t.goal) where
+module _ (e : InEvent) (out : List RowKind) (t u : Tables) (req : ReqId) (change : Change) (work : IsAtWork e out t) (due : IsTakeDue e out req change) (off : e.checking req ≡ false) (apart : is_this t.running req ≡ false) (running : u.running ≡ t.running) (goal : u.goal ≡ t.goal) where
   abbrev then_ : Seen
   then_ = after (now_of e out) (row_of e (rows.Applied req change))
+
+  -- of the log itself
+  in_log : IsTakeDueIn (log_of e out) e out req change
+  in_log = take_due e out work.same (moving_log e out t work) work.checks.others req change off due
 
   -- no traversal is it
   abbrev IsNoTraverse : Type 0
@@ -116,11 +121,11 @@ module _ (e : InEvent) (out : List RowKind) (t u : Tables) (req : ReqId) (change
 
   take_lawful : IsNoTraverse → AreLawful e (out ++ rows.Applied req change ∷ [])
   take_lawful plain =
-      lawful_plain e out (rows.Applied req change) (λ r. refl) due.held (none_lawful e out work.lawful) (let d : IsTakeDueIn (log_of e out) e out req change = take_due e out work.same (moving_log e out t work) work.checks.others req change (work.unchecked req) due in take_may plain d d.by)
+      lawful_plain e out (rows.Applied req change) (λ r. refl) due.held (none_lawful e out work.lawful) (take_may plain in_log in_log.by)
 
   pub taken_work : IsNoTraverse → Holds (look_of then_ t.running) u → AreInitial then_.initial_states u.initial.entries → u.loads ≡ t.loads → u.kept ≡ t.kept → IsAtWork e (out ++ rows.Applied req change ∷ []) u
   taken_work plain holds initial loads kept =
-      work_more e out (rows.Applied req change) None t u work refl (applied_seen e.checking (log_of e out) e.event e.actor req change (λ q found. work.unchecked q.nr)) (work.unchecked req) (calm_more e out (rows.Applied req change) tt tt tt work.calm)
+      work_more e out (rows.Applied req change) None t u work refl (applied_seen e.checking (log_of e out) e.event e.actor req change (λ q found. ap e.checking (work.checks.numbered req q found) ∙ off)) off (brings_made e.checking (log_of e out) work.checks.states in_log.asked change in_log.unstarted in_log.due.due)
       (subst (λ (r : Option ReqId). Holds (look_of then_ r) u) (sym running) holds)
       (subst (λ (r : Option ReqId). IsRunning then_.requests r) (sym running) (runs_applied_apart (now_of e out) e.event e.actor t.running req change apart work.runs))
       (goal_on (now_of e out).requests then_.requests t u (applied_reads goal_read (now_of e out) e.event e.actor req change (λ q x. refl) (λ q x. refl) (λ q x. refl)) running goal work.goal)
@@ -149,7 +154,7 @@ lost_by e out t mid change lost work history is = is ∙ held_lost t.store mid.s
 pub tree_changes : (t : Tables) (store : StepIndex) (tree : Tree) → Changes t (record t { store = store; tree = tree })
 tree_changes t store tree = record { making = refl; whose = refl; shown = refl; last = refl; documents = refl; sent = refl; loads = refl; kept = refl }
 
-module _ (e : InEvent) (out : List RowKind) (t : Tables) (req : ReqId) (nav : NavId) (entry : EntryId) (state : StateId) (address : List ℕ) (memo : Option (List ℕ)) (work : IsAtWork e out t) (awake_ : IsAwakeIn t.tree nav (record { 0 = entry.maker })) (due : IsTakeDue e out req (changes.Push nav entry state address memo)) (sees : SeesRows (now_of e out) (changes.Push nav entry state address memo)) (of_document : (entry.maker == 0) ≡ false) (apart : is_this t.running req ≡ false) where
+module _ (e : InEvent) (out : List RowKind) (t : Tables) (req : ReqId) (nav : NavId) (entry : EntryId) (state : StateId) (address : List ℕ) (memo : Option (List ℕ)) (work : IsAtWork e out t) (awake_ : IsAwakeIn t.tree nav (record { 0 = entry.maker })) (due : IsTakeDue e out req (changes.Push nav entry state address memo)) (off : e.checking req ≡ false) (sees : SeesRows (now_of e out) (changes.Push nav entry state address memo)) (of_document : (entry.maker == 0) ≡ false) (apart : is_this t.running req ≡ false) where
   abbrev maker : DocId
   maker = record { 0 = entry.maker }
 
@@ -190,7 +195,7 @@ module _ (e : InEvent) (out : List RowKind) (t : Tables) (req : ReqId) (nav : Na
 
   pub push_work : (store : StepIndex) → SameHistory (history_held store) (applied (now_of e out).history push) → IsAtWork e (out ++ rows.Applied req push ∷ []) (record t { store = store; tree = destroy_all lost req given_tree })
   push_work store history =
-      taken_work e out t (record t { store = store; tree = destroy_all lost req given_tree }) req push work due apart refl refl (λ h later. refl)
+      taken_work e out t (record t { store = store; tree = destroy_all lost req given_tree }) req push work due off apart refl refl (λ h later. refl)
       (taken_holds (given_look (now_of e out) t.running e.event e.actor req nav entry push) (record t { store = store; tree = given_tree }) (record t { store = store; tree = destroy_all lost req given_tree }) (now_of e out).history (applied (now_of e out).history push) req lost (push_given store history) (lost_seen (now_of e out) push t.running t work.holds sees) refl (tree_changes (record t { store = store; tree = given_tree }) store (destroy_all lost req given_tree)) refl refl refl)
       work.initial
       refl
@@ -208,7 +213,7 @@ module _ (e : InEvent) (out : List RowKind) (t : Tables) (req : ReqId) (nav : Na
 
 -- ---- a replace
 
-module _ (e : InEvent) (out : List RowKind) (t : Tables) (req : ReqId) (nav : NavId) (over entry : EntryId) (state : StateId) (address : List ℕ) (memo : Option (List ℕ)) (work : IsAtWork e out t) (due : IsTakeDue e out req (changes.Replace nav over entry state address memo)) (keeps : KeepsRows (now_of e out) (changes.Replace nav over entry state address memo)) (of_document : (entry.maker == 0) ≡ false) (apart : is_this t.running req ≡ false) where
+module _ (e : InEvent) (out : List RowKind) (t : Tables) (req : ReqId) (nav : NavId) (over entry : EntryId) (state : StateId) (address : List ℕ) (memo : Option (List ℕ)) (work : IsAtWork e out t) (due : IsTakeDue e out req (changes.Replace nav over entry state address memo)) (off : e.checking req ≡ false) (keeps : KeepsRows (now_of e out) (changes.Replace nav over entry state address memo)) (of_document : (entry.maker == 0) ≡ false) (apart : is_this t.running req ≡ false) where
   homes_then : (other : NavId) (n : Node) (p : Place) → node_of other t.tree ≡ Some n → place_in (now_of e out).places other ≡ Some p → p.nav ≡ other → IsTied (map sight (now_of e out).documents) (moved_by (now_of e out).requests t.running) n p → IsAwakeAtHome (map sight (now_of e out).documents) p.nav (cond (nav.0 == other.0 && false) None n.nav.told) p.status
   homes_then other n p at at_ is tied = by_test (nav.0 == other.0) refl
     where
@@ -228,7 +233,7 @@ module _ (e : InEvent) (out : List RowKind) (t : Tables) (req : ReqId) (nav : Na
 
   pub replace_work : (store : StepIndex) → SameHistory (history_held store) (applied (now_of e out).history replace) → IsAtWork e (out ++ rows.Applied req replace ∷ []) (record t { store = store; tree = replaced_tree })
   replace_work store history =
-      taken_work e out t (record t { store = store; tree = replaced_tree }) req replace work due apart refl refl (λ h later. refl)
+      taken_work e out t (record t { store = store; tree = replaced_tree }) req replace work due off apart refl refl (λ h later. refl)
       (taken_holds (given_look (now_of e out) t.running e.event e.actor req nav entry replace) (record t { store = store; tree = replaced_tree }) (record t { store = store; tree = replaced_tree }) (now_of e out).history (applied (now_of e out).history replace) req [] (replace_given store history) (none_lost (now_of e out) replace keeps) refl (tree_changes (record t { store = store; tree = replaced_tree }) store replaced_tree) refl refl refl)
       work.initial
       refl
@@ -236,10 +241,10 @@ module _ (e : InEvent) (out : List RowKind) (t : Tables) (req : ReqId) (nav : Na
 
 -- ---- a frame is added
 
-module _ (e : InEvent) (out : List RowKind) (t u : Tables) (req : ReqId) (owner : StateId) (nav parent : NavId) (entry : EntryId) (state : StateId) (work : IsAtWork e out t) (due : IsTakeDue e out req (changes.AddFrame owner nav entry state)) (keeps : KeepsRows (now_of e out) (changes.AddFrame owner nav entry state)) (added : IsAdded (now_of e out) t.tree t.running owner nav parent) (apart : is_this t.running req ≡ false) where
+module _ (e : InEvent) (out : List RowKind) (t u : Tables) (req : ReqId) (owner : StateId) (nav parent : NavId) (entry : EntryId) (state : StateId) (work : IsAtWork e out t) (due : IsTakeDue e out req (changes.AddFrame owner nav entry state)) (off : e.checking req ≡ false) (keeps : KeepsRows (now_of e out) (changes.AddFrame owner nav entry state)) (added : IsAdded (now_of e out) t.tree t.running owner nav parent) (apart : is_this t.running req ≡ false) where
   pub add_work : u.tree ≡ record t.tree { navs = t.tree.navs ++ (nav, child_node parent owner req) ∷ [] } → SameHistory (history_held u.store) (applied (now_of e out).history (changes.AddFrame owner nav entry state)) → Changes t u → u.states ≡ t.states + 1 → u.entries ≡ t.entries + 1 → (value : Unit {0}) → u.initial.entries ≡ insert_entry is_state t.initial.entries state value → u.running ≡ t.running → u.goal ≡ t.goal → IsAtWork e (out ++ rows.Applied req (changes.AddFrame owner nav entry state) ∷ []) u
   add_work tree history one states entries value initial running goal =
-      taken_work e out t u req (changes.AddFrame owner nav entry state) work due apart running goal (λ h later. refl)
+      taken_work e out t u req (changes.AddFrame owner nav entry state) work due off apart running goal (λ h later. refl)
       (added_holds (now_of e out) t.running e.event e.actor req owner nav parent entry state added.up t u work.holds one added.holder added.up_there added.new_nav added.unmoved keeps tree history (states ∙ ap (λ (n : ℕ). n + 1) work.holds.states) (entries ∙ ap (λ (n : ℕ). n + 1) work.holds.entries))
       (initial_same ((now_of e out).initial_states ++ state ∷ []) (insert_entry is_state t.initial.entries state value) u.initial.entries initial (initial_put (now_of e out).initial_states t.initial.entries state value work.initial))
       one.loads
@@ -285,9 +290,13 @@ module _ (e : InEvent) (out : List RowKind) (t u : Tables) (req : ReqId) (goal_ 
       by_log d =
           lawful_more e out (rows.Applied req (changes.Traverse goal_)) (λ r. refl) end_held (none_lawful e out work.lawful) (λ later asks. end_may (here_of e out) e.event e.actor req d.asked goal_ (led_here e out work.own) d.due d.traverses d.makes d.passed d.stand d.unparked later (subst (λ (l : List ReqId). ends_among l later ≡ l) parked (held_then later asks)))
 
+  -- it isn't in its check
+  off : e.checking req ≡ false
+  off = end_off e out work.same (aimed_log e out t work) req goal_ due
+
   pub end_work : u.tree ≡ unmove_all (made_in t.tree) t.tree → SameHistory (history_held u.store) (applied (now_of e out).history (changes.Traverse goal_)) → Changes t u → u.states ≡ t.states → u.entries ≡ t.entries → u.initial.entries ≡ t.initial.entries → u.running ≡ None → IsAtWork e (out ++ rows.Applied req (changes.Traverse goal_) ∷ []) u
   end_work tree history one states entries initial running =
-      work_more e out (rows.Applied req (changes.Traverse goal_)) None t u work refl (applied_seen e.checking (log_of e out) e.event e.actor req (changes.Traverse goal_) (λ q found. work.unchecked q.nr)) (work.unchecked req) (calm_more e out (rows.Applied req (changes.Traverse goal_)) tt tt tt work.calm)
+      work_more e out (rows.Applied req (changes.Traverse goal_)) None t u work refl (applied_seen e.checking (log_of e out) e.event e.actor req (changes.Traverse goal_) (λ q found. ap e.checking (work.checks.numbered req q found) ∙ off)) off tt
       (subst (λ (r : Option ReqId). Holds (look_of ended_ r) u) (sym running) (ended_holds (now_of e out) e.event e.actor req goal_ t u (subst (λ (r : Option ReqId). Holds (look_of (now_of e out) r) t) its work.holds) one (λ other is. is) tree history states entries))
       (subst (λ (r : Option ReqId). IsRunning ended_.requests r) (sym running) (runs_applied_own (now_of e out) e.event e.actor req (changes.Traverse goal_) (subst (λ (r : Option ReqId). IsRunning (now_of e out).requests r) its work.runs)))
       (subst (λ (r : Option ReqId). HasGoal ended_.requests r u.goal) (sym running) (goal_of_none ended_.requests u.goal))
@@ -302,13 +311,13 @@ module _ (e : InEvent) (out : List RowKind) (t u : Tables) (req : ReqId) (goal_ 
 
 -- ---- a frame is removed
 
-module _ (e : InEvent) (out : List RowKind) (t : Tables) (req : ReqId) (nav : NavId) (work : IsAtWork e out t) (due : IsTakeDue e out req (changes.RemoveFrame nav)) (sees : SeesRows (now_of e out) (changes.RemoveFrame nav)) (apart : is_this t.running req ≡ false) where
+module _ (e : InEvent) (out : List RowKind) (t : Tables) (req : ReqId) (nav : NavId) (work : IsAtWork e out t) (due : IsTakeDue e out req (changes.RemoveFrame nav)) (off : e.checking req ≡ false) (sees : SeesRows (now_of e out) (changes.RemoveFrame nav)) (apart : is_this t.running req ≡ false) where
   abbrev removed_navs : List NavId
   removed_navs = lost_of (now_of e out).history.rows (applied (now_of e out).history (changes.RemoveFrame nav)).rows (made_in t.tree)
 
   pub remove_work : (store : StepIndex) → SameHistory (history_held store) (applied (now_of e out).history (changes.RemoveFrame nav)) → IsAtWork e (out ++ rows.Applied req (changes.RemoveFrame nav) ∷ []) (record t { store = store; tree = destroy_all removed_navs req t.tree })
   remove_work store history =
-      taken_work e out t (record t { store = store; tree = destroy_all removed_navs req t.tree }) req (changes.RemoveFrame nav) work due apart refl refl (λ h later. refl)
+      taken_work e out t (record t { store = store; tree = destroy_all removed_navs req t.tree }) req (changes.RemoveFrame nav) work due off apart refl refl (λ h later. refl)
       (removed_holds (now_of e out) t.running e.event e.actor req nav t work.holds store removed_navs (lost_seen (now_of e out) (changes.RemoveFrame nav) t.running t work.holds sees) history)
       work.initial
       refl

@@ -24,6 +24,7 @@ pub mod Ahead
 pub mod Works
 pub mod ReadOff
 pub mod LogDues
+pub mod Leavable
 pub mod Histories
 pub mod OrderWorks
 pub mod ShowWorks

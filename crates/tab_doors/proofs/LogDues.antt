@@ -7,7 +7,7 @@ use Rattle.log_model.specs.Causes.{by_mover, denial_at_acceptance, denial_at_del
 use Rattle.log_model.specs.Equal.{has_req}
 use Rattle.log_model.specs.Once.{delta_of, due_change, step_at_delta}
 use Rattle.log_model.specs.Places.{aim_of, all_stand, has_passed, is_traversal, is_under_way}
-use Rattle.log_model.specs.Queue.{begins_in_turn, is_taken_up_at_once}
+use Rattle.log_model.specs.Queue.{begins_in_turn, is_step_under_way, is_taken_up_at_once}
 use Rattle.log_model.specs.Seen.{Asked, Seen, request_of}
 use Rattle.log_model.specs.declared.change.Change.{Change}
 use Rattle.log_model.specs.declared.change.Change.TheVariants as changes
@@ -23,6 +23,7 @@ use Rattle.unasked.proofs.Readings.{checked_off, found_from}
 use Rattle.unasked_dues.proofs.Base.{aim_stand_same, runs_in, turn_same}
 use Rattle.log_model.specs.declared.request.Request.{Request}
 use Rattle.unasked_dues.proofs.Dues.{at_once_same, denial_same, destroyed_same, due_now, fragment_made, moved_away, part_of, poked, poked_off}
+use Rattle.checking_facts.specs.States.{AreBegun}
 use Rattle.unasked_dues.specs.Checking.{AllOthersPass, AreChecking, AreNumbered, IsAimed, IsMoving, NoStepChecks}
 
 -- a step that isn't begun has no change
@@ -163,3 +164,25 @@ module _ (e : InEvent) (out : List RowKind) (same : now_of e out ≡ unasked e.c
         unparked = subst (λ (x : Seen). has_req x.parked req ≡ false) same due.unparked;
         first = subst (λ (x : Seen). (x.parked ≡ held_at_first e) ⊎ ((x.parked ≡ []) × (has_req (held_at_first e) req ≡ false))) same due.first;
       }
+
+  -- so it isn't in its check
+  pub end_off : IsAimed checking now → (req : ReqId) (goal : Step) → IsEndDue e out req goal → checking req ≡ false
+  end_off aimed req goal due =
+      let began : due.asked.is_started ≡ true = begun_for (now_of e out) due.asked (changes.Traverse goal) due.traverses due.due.due in
+      let run : is_under_way due.asked ≡ true = rw (began, due.due.open_) refl in
+      (runs_in checking now aimed req due.asked (subst (λ (x : Seen). request_of x req ≡ Some due.asked) same due.due.at) run).off
+
+  -- nor is one that is still to begin, as no step is
+  pub turn_off : AreBegun checking now → NoStepChecks checking now → (req : ReqId) (bare : Asked) → request_of (now_of e out) req ≡ Some bare → bare.ending ≡ None → is_traversal bare.what ≡ true → checking req ≡ false
+  turn_off begun none req bare found open_ traverses = by_check (checking req) refl
+    where
+      by_check : (b : Bool) → checking req ≡ b → b ≡ false
+      by_check false off = refl
+      by_check true on =
+          let from = found_from checking now req bare (subst (λ (x : Seen). request_of x req ≡ Some bare) same found) in
+          let what_is : bare.what ≡ from.0.what = part_of checking (λ (x : Asked). x.what) (λ x. refl) (λ x. refl) from.0 bare from.2 in
+          let ending_is : from.0.ending ≡ None = sym (part_of checking (λ (x : Asked). x.ending) (λ x. refl) (λ x. refl) from.0 bare from.2) ∙ open_ in
+          let goes : is_traversal from.0.what ≡ true = ap is_traversal (sym what_is) ∙ traverses in
+          let step_ : is_step_under_way from.0 ≡ true = rw (begun req from.0 from.1 on, ending_is, goes) refl in
+          let never : false ≡ true = sym (none req from.0 from.1 on) ∙ step_ in
+          absurd cc

@@ -1,6 +1,11 @@
 -- A document is told something, or is to be made, and the coordinator goes on working.
 use Rattle.unasked_dues.proofs.Shows.{numbered_in, update_due}
 use Rattle.unasked_dues.proofs.Making.{make_due}
+use Rattle.unasked_dues.specs.Checking.{IsForOther, NoneChecksFor}
+use Rattle.checking_facts.proofs.States.{of_entry}
+use Rattle.seen_facts.proofs.Hang.Targets.{target_has}
+use Rattle.seen_facts.specs.Hang.Members.{Has}
+use Rattle.log_model.specs.Places.{aim_of}
 use Rattle.tab_doors.proofs.ReadOff.{proc_same, there as there_log}
 use Rattle.unasked.proofs.Sents.{sent_seen}
 use Rattle.tab_doors.proofs.Ahead.{lawful_none, none_lawful}
@@ -9,7 +14,7 @@ use Rattle.tab_doors.proofs.Keeping.{unloaded_apart}
 use Rattle.tab_doors.proofs.Making.{MakesOne, make_holds}
 use Rattle.tab_doors.proofs.Telling.{SendsOne, tell_holds}
 use Rattle.tab_doors.proofs.Whose.{proc_found}
-use Rattle.tab_doors.proofs.Works.{aimed_log, at_seen, calm_more, few_made, few_sent, goal_on, header_here, kept_made, kept_on, loads_sent, moving_log, numbered, passed_log, runs_on, sent_held, work_more}
+use Rattle.tab_doors.proofs.Works.{aimed_log, at_seen, few_made, few_sent, goal_on, header_here, kept_made, kept_on, loads_sent, moving_log, numbered, passed_log, runs_on, sent_held, work_more}
 use Rattle.tab_doors.specs.Look.{look_of, sight, sight_in}
 use Rattle.tab_doors.specs.Orders.{IsThere, next_order, order_to, proc_at}
 use Rattle.tab_doors.specs.Ties.{Holds, IsAwakeIn}
@@ -80,7 +85,7 @@ module _ (e : InEvent) (out : List RowKind) (t u : Tables) (nav : NavId) (doc : 
 
   pub tell_work : IsUpdateDue (now_of e out) update (long, at) → u.tree ≡ with_nav (λ (n : Nav). record n { told = Some (long, at) }) nav t.tree → SendsOne t u t.shown.entries t.last.entries → u.running ≡ t.running → u.goal ≡ t.goal → u.kept ≡ t.kept → IsAtWork e (out ++ rows.Sent update ∷ []) u
   tell_work due tree one running goal kept =
-      work_more e out (rows.Sent update) None t u work refl (sent_seen e.checking (log_of e out) update e.event e.actor refl) tt (calm_more e out (rows.Sent update) tt tt tt work.calm)
+      work_more e out (rows.Sent update) None t u work refl (sent_seen e.checking (log_of e out) update e.event e.actor refl) tt tt
       (subst (λ (r : Option ReqId). Holds (look_of then_told r) u) (sym running) (tell_holds (now_of e out) t.running e.event e.actor (proc_at (now_of e out) doc) doc why (long, at) nav awake_.node t awake_.there awake_.wakes work.holds u tree one))
       (runs_on (now_of e out).requests then_told.requests t u (λ r. refl) running work.runs)
       (goal_on (now_of e out).requests then_told.requests t u (λ r. refl) running goal work.goal)
@@ -92,7 +97,7 @@ module _ (e : InEvent) (out : List RowKind) (t u : Tables) (nav : NavId) (doc : 
 
 -- ---- a document is to be made
 
-module _ (e : InEvent) (out : List RowKind) (t u : Tables) (proc : ProcId) (doc : DocId) (why : Why) (nav : NavId) (state : StateId) (address : List ℕ) (initial : Bool) (work : IsAtWork e out t) where
+module _ (e : InEvent) (out : List RowKind) (t u : Tables) (proc : ProcId) (doc : DocId) (why : Why) (nav : NavId) (state : StateId) (address : List ℕ) (initial : Bool) (work : IsAtWork e out t) (for_other : IsForOther e.checking why) where
   abbrev pub make : Job
   make = next_order (now_of e out).jobs proc doc why (tasks.Populate nav state address initial)
 
@@ -109,11 +114,16 @@ module _ (e : InEvent) (out : List RowKind) (t u : Tables) (proc : ProcId) (doc 
 
       in_log : IsMakeDue e.header (log_of e out) make nav state address initial
       in_log =
-          make_due e.checking (log_of e out) (aimed_log e out t work) e.header make nav state address initial (passed_log e out t work make.task why (λ req is. work.unchecked req) due.passed) (at_seen e out t work (λ (s : Seen). IsMakeDue e.header s make nav state address initial) due)
+          make_due e.checking (log_of e out) (aimed_log e out t work) e.header make nav state address initial (passed_log e out t work make.task why for_other due.passed) (at_seen e out t work (λ (s : Seen). IsMakeDue e.header s make nav state address initial) due)
+
+  -- of no load in its check
+  none_makes : IsMakeDue e.header (now_of e out) make nav state address initial → NoneChecksFor e.checking (log_of e out) state
+  none_makes due =
+      subst (λ (x : StateId). NoneChecksFor e.checking (log_of e out) x) due.state_is (of_entry e.checking (log_of e out) work.checks.states due.target (subst (λ (x : Seen). Has x.history.rows due.target) work.same (target_has (now_of e out).history.rows nav (aim_of (now_of e out)) due.target due.at).there))
 
   pub make_work : IsMakeDue e.header (now_of e out) make nav state address initial → (desk_of (now_of e out) proc).known ≡ 0 → sight_in (map sight (now_of e out).documents) doc ≡ None → lookup (is_state state) t.making.entries ≡ None → load_in_log (now_of e out) state ≡ None → AreKeptDocs (now_of e out) → MakesOne nav state proc doc t u → u.running ≡ t.running → u.goal ≡ t.goal → u.loads ≡ t.loads → IsAtWork e (out ++ rows.Sent make ∷ []) u
   make_work due known unknown unmade unloaded kept_docs one running goal loads =
-      work_more e out (rows.Sent make) None t u work refl (sent_seen e.checking (log_of e out) make e.event e.actor refl) tt (calm_more e out (rows.Sent make) tt tt tt work.calm)
+      work_more e out (rows.Sent make) None t u work refl (sent_seen e.checking (log_of e out) make e.event e.actor refl) tt (none_makes due)
       (subst (λ (r : Option ReqId). Holds (look_of then_made r) u) (sym running) (make_holds (now_of e out) t.running e.event e.actor proc doc why nav state address initial t work.holds unknown unmade u one))
       (runs_on (now_of e out).requests then_made.requests t u (λ r. refl) running work.runs)
       (goal_on (now_of e out).requests then_made.requests t u (λ r. refl) running goal work.goal)

@@ -1,5 +1,7 @@
 -- A document is frozen or discarded, navigables fall asleep for it, and the coordinator goes on working; a move that has begun goes on.
 use Rattle.unasked.proofs.Sents.{sent_seen}
+use Rattle.unasked_dues.specs.Checking.{IsForOther}
+use Rattle.checking_facts.proofs.Cases.{other_wakes}
 use Rattle.nav_tree.specs.Tree.{discarded}  -- keep
 use Rattle.tab_doors.proofs.Ahead.{sent_for}
 use Rattle.tab_doors.proofs.Discarding.{discard_holds}
@@ -8,7 +10,7 @@ use Rattle.tab_doors.proofs.Initial.{initial_same}
 use Rattle.tab_doors.proofs.Keeping.{gone_tied}
 use Rattle.tab_doors.proofs.ShowWorks.{served_same}
 use Rattle.tab_doors.proofs.Telling.{SendsOne}
-use Rattle.tab_doors.proofs.Works.{calm_more, few_sent, goal_on, goal_read, kept_gone, kept_on, loads_sent, none_asleep, none_calm, runs_on, work_more}
+use Rattle.tab_doors.proofs.Works.{few_sent, goal_on, goal_read, kept_gone, kept_on, loads_sent, runs_on, work_more}
 use Rattle.tab_doors.specs.Keeping.{LetsGo, Move}
 use Rattle.tab_doors.specs.Look.{look_of, sight}
 use Rattle.tab_doors.specs.Orders.{IsToGo, order_to, proc_at}
@@ -56,7 +58,7 @@ none_if false = refl
 pub freeze_quiet : (e : InEvent) (job : Job) → job.task ≡ tasks.Freeze → IsQuiet e (rows.Sent job)
 freeze_quiet e job is req = rw is (none_if (is_of_request req job))
 
-module _ {move : Option Move} (e : InEvent) (out : List RowKind) (t u : Tables) (doc : DocId) (why : Why) (navs : List NavId) (work : IsAtWorkFor move e out t) where
+module _ {move : Option Move} (e : InEvent) (out : List RowKind) (t u : Tables) (doc : DocId) (why : Why) (navs : List NavId) (work : IsAtWorkFor move e out t) (for_other : IsForOther e.checking why) where
   abbrev pub freeze : Job
   freeze = order_to (now_of e out) doc why tasks.Freeze
 
@@ -65,7 +67,7 @@ module _ {move : Option Move} (e : InEvent) (out : List RowKind) (t u : Tables) 
 
   pub freeze_work : MaySend move e out freeze → ((other : NavId) → has_nav (sleepers_with (now_of e out) doc) other ≡ has_nav navs other) → u.tree ≡ sleep_all navs why (is_for t.running why) t.tree → SendsOne t u t.shown.entries t.last.entries → u.running ≡ t.running → u.goal ≡ t.goal → u.kept ≡ t.kept → IsAtWorkFor move e (out ++ rows.Sent freeze ∷ []) u
   freeze_work may are tree one running goal kept =
-      work_more e out (rows.Sent freeze) move t u work refl (sent_seen e.checking (log_of e out) freeze e.event e.actor refl) (none_asleep e.checking work.unchecked (log_of e out) freeze) (calm_more e out (rows.Sent freeze) tt tt tt work.calm)
+      work_more e out (rows.Sent freeze) move t u work refl (sent_seen e.checking (log_of e out) freeze e.event e.actor refl) (other_wakes e.checking (log_of e out) freeze for_other) tt
       (subst (λ (r : Option ReqId). Holds (look_of then_frozen r) u) (sym running) (freeze_holds (now_of e out) t.running e.event e.actor (proc_at (now_of e out) doc) doc why navs t work.holds work.runs are u tree one))
       (runs_on (now_of e out).requests then_frozen.requests t u (served_same is_run (now_of e out) freeze tasks.Freeze why (λ q. refl)) running work.runs)
       (goal_on (now_of e out).requests then_frozen.requests t u (served_same goal_read (now_of e out) freeze tasks.Freeze why (λ q. refl)) running goal work.goal)
@@ -77,7 +79,7 @@ module _ {move : Option Move} (e : InEvent) (out : List RowKind) (t u : Tables) 
 
 -- ---- a document is discarded
 
-module _ {move : Option Move} (e : InEvent) (out : List RowKind) (t u : Tables) (doc : DocId) (state : StateId) (why : Why) (navs : List NavId) (work : IsAtWorkFor move e out t) (its : IsToGo (now_of e out) t.tree t.loads navs doc state) where
+module _ {move : Option Move} (e : InEvent) (out : List RowKind) (t u : Tables) (doc : DocId) (state : StateId) (why : Why) (navs : List NavId) (work : IsAtWorkFor move e out t) (for_other : IsForOther e.checking why) (its : IsToGo (now_of e out) t.tree t.loads navs doc state) where
   abbrev pub discard : Job
   discard = order_to (now_of e out) doc why tasks.Discard
 
@@ -90,7 +92,7 @@ module _ {move : Option Move} (e : InEvent) (out : List RowKind) (t u : Tables) 
 
   pub discard_work : MaySend move e out discard → u.tree ≡ sleep_all navs why (is_for t.running why) (discarded state t.tree) → SendsOne t u t.shown.entries t.last.entries → u.running ≡ t.running → u.goal ≡ t.goal → AreOfOwnStates (now_of e out).documents (now_of e out).kept doc state → LetsGo move t.kept.keep (kept_states (now_of e out)) state → u.kept ≡ record t.kept { states = without state t.kept.states } → IsAtWorkFor move e (out ++ rows.Sent discard ∷ []) u
   discard_work may tree one running goal own lets kept =
-      work_more e out (rows.Sent discard) move t u work refl (sent_seen e.checking (log_of e out) discard e.event e.actor refl) (none_asleep e.checking work.unchecked (log_of e out) discard) (none_calm e.checking work.unchecked (after (log_of e out) (row_of e (rows.Sent discard))))
+      work_more e out (rows.Sent discard) move t u work refl (sent_seen e.checking (log_of e out) discard e.event e.actor refl) (other_wakes e.checking (log_of e out) discard for_other) tt
       (subst (λ (x : Option ReqId). Holds (look_of then_gone x) u) (sym running) (discard_holds (now_of e out) t.running e.event e.actor (proc_at (now_of e out) doc) doc why state navs t work.holds work.runs its.are its.its_state its.its u tree one))
       (runs_on (now_of e out).requests then_gone.requests t u (served_same is_run (now_of e out) discard tasks.Discard why (λ q. refl)) running work.runs)
       (goal_on (now_of e out).requests then_gone.requests t u (served_same goal_read (now_of e out) discard tasks.Discard why (λ q. refl)) running goal work.goal)

@@ -1,7 +1,7 @@
 -- A traversal begins, or a request is refused or dropped, and the coordinator goes on working.
 use Rattle.tab_doors.proofs.ReadOff.{begin_due}
-use Rattle.tab_doors.proofs.LogDues.{deny_due, destroy_due, drop_due, nowhere}
-use Rattle.unasked_dues.specs.Checking.{NonePasses}
+use Rattle.tab_doors.proofs.LogDues.{deny_due, destroy_due, drop_due, nowhere, turn_off}
+use Rattle.checking_facts.specs.States.{LeavesStates}
 use Rattle.checking_facts.specs.Checks.{GoesDuly}
 use Rattle.unasked.proofs.Ends.{dropped_seen, refused_seen, started_seen}
 use Rattle.log_model.specs.Orders.{due_questions}
@@ -11,7 +11,7 @@ use Rattle.tab_doors.proofs.Ahead.{lawful_none, none_lawful}
 use Rattle.tab_doors.proofs.EndLaws.{left_holds}
 use Rattle.tab_doors.proofs.Keeping.{no_load_at}
 use Rattle.tab_doors.proofs.Requests.{ended_moved, moved_same, runs_ended_apart}
-use Rattle.tab_doors.proofs.Works.{IsReadOff, at_log, at_seen, calm_more, done_here, goal_read, goal_same, none_calm, none_steps, start_here, started_held, work_more}
+use Rattle.tab_doors.proofs.Works.{IsReadOff, at_log, at_seen, done_here, goal_read, goal_same, off_runs, start_here, started_held, work_more}
 use Rattle.tab_doors.specs.Dues.{IsBeginDue, IsDenyDue, IsDenyDueIn, IsDestroyDue, IsDestroyDueIn, IsDropDue, IsDropDueIn, IsNowhere, IsNowhereIn}
 use Rattle.tab_doors.specs.Keeping.{IsNoLoad}
 use Rattle.tab_doors.specs.Look.{look_of, moved_by, sight}
@@ -64,9 +64,9 @@ module _ (e : InEvent) (out : List RowKind) (t : Tables) (req : ReqId) (kind : R
   abbrev then_ : Seen
   then_ = after (now_of e out) (row_of e kind)
 
-  pub ended_work : is_seen e.checking kind ≡ true → IsReadOff e out kind → GoesDuly e.checking (log_of e out) kind → NonePasses e.checking (after (log_of e out) (row_of e kind)) → then_.requests ≡ ended (now_of e out).requests req ending → then_.documents ≡ (now_of e out).documents → then_.places ≡ (now_of e out).places → then_.history ≡ (now_of e out).history → then_.jobs ≡ (now_of e out).jobs → then_.states ≡ (now_of e out).states → then_.entries ≡ (now_of e out).entries → then_.initial_states ≡ (now_of e out).initial_states → kept_states then_ ≡ kept_states (now_of e out) → HasEnded (now_of e out) then_ req → IsNoLoad (now_of e out) req → AreLawful e (out ++ kind ∷ []) → IsAtWork e (out ++ kind ∷ []) t
-  ended_work seen read duly calm requests_ documents places history jobs states entries initial kept ended_ no_load lawful =
-      work_more e out kind None t t work seen read duly calm
+  pub ended_work : is_seen e.checking kind ≡ true → IsReadOff e out kind → GoesDuly e.checking (log_of e out) kind → LeavesStates e.checking (log_of e out) kind → then_.requests ≡ ended (now_of e out).requests req ending → then_.documents ≡ (now_of e out).documents → then_.places ≡ (now_of e out).places → then_.history ≡ (now_of e out).history → then_.jobs ≡ (now_of e out).jobs → then_.states ≡ (now_of e out).states → then_.entries ≡ (now_of e out).entries → then_.initial_states ≡ (now_of e out).initial_states → kept_states then_ ≡ kept_states (now_of e out) → HasEnded (now_of e out) then_ req → IsNoLoad (now_of e out) req → AreLawful e (out ++ kind ∷ []) → IsAtWork e (out ++ kind ∷ []) t
+  ended_work seen read duly leaves requests_ documents places history jobs states entries initial kept ended_ no_load lawful =
+      work_more e out kind None t t work seen read duly leaves
       (left_holds (look_now e out t.running) (look_of then_ t.running) t (ap (λ (l : List Document). map sight l) documents) places history moved jobs states entries work.holds)
       (subst (λ (l : List Asked). IsRunning l t.running) (sym requests_) (runs_ended_apart (now_of e out).requests t.running req ending apart work.runs))
       (subst (λ (l : List Asked). HasGoal l t.running t.goal) (sym requests_) (goal_same (now_of e out).requests (ended (now_of e out).requests req ending) t.running t.goal (on_read goal_read (now_of e out).requests req (λ q. record q { ending = Some ending }) (λ q. refl)) work.goal))
@@ -88,7 +88,7 @@ module _ (e : InEvent) (out : List RowKind) (t : Tables) (req : ReqId) (work : I
   worker_as _ is = elim is [ ]
 
   nowhere_lawful : IsNowhere e out req → AreLawful e (out ++ rows.Refused req denials.NoStep ∷ [])
-  nowhere_lawful due = by_log (nowhere e out work.same work.checks.numbered (none_steps e.checking work.unchecked (log_of e out)) req due)
+  nowhere_lawful due = by_log (nowhere e out work.same work.checks.numbered work.unheld req due)
     where
       by_log : IsNowhereIn (log_of e out) e out req → AreLawful e (out ++ rows.Refused req denials.NoStep ∷ [])
       by_log d =
@@ -103,7 +103,7 @@ module _ (e : InEvent) (out : List RowKind) (t : Tables) (req : ReqId) (work : I
 
   pub nowhere_work : IsNowhere e out req → IsAtWork e (out ++ rows.Refused req denials.NoStep ∷ []) t
   nowhere_work due =
-      ended_work e out t req (rows.Refused req denials.NoStep) (endings.Refused denials.NoStep) work apart refl (refused_seen e.checking (log_of e out) e.event e.actor req denials.NoStep) tt (calm_more e out (rows.Refused req denials.NoStep) tt tt tt work.calm) refl refl refl refl refl refl refl refl refl (refused_ended (now_of e out) e.event e.actor req denials.NoStep) (no_load_at (now_of e out) req due.asked due.at (goes_no_load due.asked.what (traversal_by due.asked.what due.delta due.asks))) (nowhere_lawful due)
+      ended_work e out t req (rows.Refused req denials.NoStep) (endings.Refused denials.NoStep) work apart refl (refused_seen e.checking (log_of e out) e.event e.actor req denials.NoStep) tt tt refl refl refl refl refl refl refl refl refl (refused_ended (now_of e out) e.event e.actor req denials.NoStep) (no_load_at (now_of e out) req due.asked due.at (goes_no_load due.asked.what (traversal_by due.asked.what due.delta due.asks))) (nowhere_lawful due)
 
   -- ---- what is refused as its report is taken
 
@@ -119,7 +119,7 @@ module _ (e : InEvent) (out : List RowKind) (t : Tables) (req : ReqId) (work : I
 
   pub deny_work : (reason : Denial) → IsDenyDue e out req reason → IsAtWork e (out ++ rows.Refused req reason ∷ []) t
   deny_work reason due =
-      ended_work e out t req (rows.Refused req reason) (endings.Refused reason) work apart refl (refused_seen e.checking (log_of e out) e.event e.actor req reason) tt (calm_more e out (rows.Refused req reason) tt tt tt work.calm) refl refl refl refl refl refl refl refl refl (refused_ended (now_of e out) e.event e.actor req reason) (no_load_at (now_of e out) req due.asked due.poked.at (ap is_load due.poked.what)) (deny_lawful reason due)
+      ended_work e out t req (rows.Refused req reason) (endings.Refused reason) work apart refl (refused_seen e.checking (log_of e out) e.event e.actor req reason) tt tt refl refl refl refl refl refl refl refl refl (refused_ended (now_of e out) e.event e.actor req reason) (no_load_at (now_of e out) req due.asked due.poked.at (ap is_load due.poked.what)) (deny_lawful reason due)
 
   -- ---- what is dropped
 
@@ -132,7 +132,7 @@ module _ (e : InEvent) (out : List RowKind) (t : Tables) (req : ReqId) (work : I
 
   pub destroy_work : (by : ReqId) → IsDestroyDue e out req by → IsNoLoad (now_of e out) req → IsAtWork e (out ++ rows.Dropped req (drops.Destroyed by) ∷ []) t
   destroy_work by due no_load =
-      ended_work e out t req (rows.Dropped req (drops.Destroyed by)) (endings.Dropped (drops.Destroyed by)) work apart refl (dropped_seen e.checking (log_of e out) e.event e.actor req (drops.Destroyed by)) tt (calm_more e out (rows.Dropped req (drops.Destroyed by)) tt tt tt work.calm) refl refl refl refl refl refl refl refl refl (dropped_ended (now_of e out) e.event e.actor req (drops.Destroyed by)) no_load (destroy_lawful by due)
+      ended_work e out t req (rows.Dropped req (drops.Destroyed by)) (endings.Dropped (drops.Destroyed by)) work apart refl (dropped_seen e.checking (log_of e out) e.event e.actor req (drops.Destroyed by)) tt tt refl refl refl refl refl refl refl refl refl (dropped_ended (now_of e out) e.event e.actor req (drops.Destroyed by)) no_load (destroy_lawful by due)
 
   pub drop_lawful : (by : ReqId) → IsDropDue e out req by → AreLawful e (out ++ rows.Dropped req (drops.By by) ∷ [])
   drop_lawful by due = by_log (drop_due e out work.same work.checks.numbered work.checks.others req by due)
@@ -143,7 +143,7 @@ module _ (e : InEvent) (out : List RowKind) (t : Tables) (req : ReqId) (work : I
 
   pub drop_work : (by : ReqId) → IsDropDue e out req by → IsNoLoad (now_of e out) req → IsAtWork e (out ++ rows.Dropped req (drops.By by) ∷ []) t
   drop_work by due no_load =
-      ended_work e out t req (rows.Dropped req (drops.By by)) (endings.Dropped (drops.By by)) work apart refl (dropped_seen e.checking (log_of e out) e.event e.actor req (drops.By by)) tt (calm_more e out (rows.Dropped req (drops.By by)) tt tt tt work.calm) refl refl refl refl refl refl refl refl refl (dropped_ended (now_of e out) e.event e.actor req (drops.By by)) no_load (drop_lawful by due)
+      ended_work e out t req (rows.Dropped req (drops.By by)) (endings.Dropped (drops.By by)) work apart refl (dropped_seen e.checking (log_of e out) e.event e.actor req (drops.By by)) tt tt refl refl refl refl refl refl refl refl refl (dropped_ended (now_of e out) e.event e.actor req (drops.By by)) no_load (drop_lawful by due)
 
 -- ---- a traversal begins
 
@@ -196,6 +196,10 @@ module _ (e : InEvent) (out : List RowKind) (t : Tables) (req : ReqId) (goal : S
       let one : request_begun (now_of e out) (begin_ due.asked) ≡ q = cc in
       ap (λ (x : Asked). x.goal) (sym one)
 
+  -- it isn't in its check
+  off : e.checking req ≡ false
+  off = turn_off e out work.same work.checks.begun work.unheld req due.asked due.at due.open_ (is_step due.asked.what its)
+
   -- nobody is to be asked
   none_asked : (q : Asked) → request_of (log_of e out) req ≡ Some q → due_questions (log_of e out) q.what (Some goal) ≡ []
   none_asked =
@@ -203,7 +207,7 @@ module _ (e : InEvent) (out : List RowKind) (t : Tables) (req : ReqId) (goal : S
 
   begin_lawful : AreLawful e (out ++ rows.Started req (Some goal) ∷ [])
   begin_lawful =
-      by_log (begin_due e.checking (log_of e out) work.checks.numbered (none_steps e.checking work.unchecked (log_of e out)) req goal (work.unchecked req) none_asked (at_seen e out t work (λ (s : Seen). IsBeginDue s req goal) due))
+      by_log (begin_due e.checking (log_of e out) work.checks.numbered work.unheld req goal off none_asked (at_seen e out t work (λ (s : Seen). IsBeginDue s req goal) due))
     where
       by_log : IsBeginDue (log_of e out) req goal → AreLawful e (out ++ rows.Started req (Some goal) ∷ [])
       by_log d =
@@ -211,7 +215,7 @@ module _ (e : InEvent) (out : List RowKind) (t : Tables) (req : ReqId) (goal : S
 
   pub begin_work : IsAtWork e (out ++ rows.Started req (Some goal) ∷ []) u
   begin_work =
-      work_more e out (rows.Started req (Some goal)) None t u work (ap not (work.unchecked req)) (started_seen e.checking (log_of e out) e.event e.actor req (Some goal) (λ q found. work.unchecked q.nr)) (λ by q r at there other traverses on runs. rw (work.unchecked req, work.unchecked by) refl) (none_calm e.checking work.unchecked (after (log_of e out) (row_of e (rows.Started req (Some goal)))))
+      work_more e out (rows.Started req (Some goal)) None t u work (ap not off) (started_seen e.checking (log_of e out) e.event e.actor req (Some goal) (λ q found. ap e.checking (work.checks.numbered req q found) ∙ off)) (λ by q r at there other traverses on runs. rw off (off_runs e.checking (log_of e out) work.unheld by r there on runs)) (inl off)
       (on_tables (left_holds (look_now e out t.running) (look_of begun_ (Some req)) t refl refl refl moved refl states_same refl work.holds))
       runs
       goal_then

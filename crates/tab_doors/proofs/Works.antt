@@ -3,10 +3,11 @@ use Rattle.std.proofs.lemmas.List.{map-append}
 use Rattle.unasked_dues.proofs.Shows.{passed_off}
 use Rattle.unasked_dues.specs.Checking.{IsAimed, IsForOther, IsMoving, NoStepChecks, NonePasses}
 use Rattle.checking_facts.proofs.Moving.{are_aimed, are_moving}
-use Rattle.checking_facts.proofs.Waits.{none_waits}
-use Rattle.checking_facts.proofs.Settles.{silent_waits}
-use Rattle.checking_facts.proofs.Rows.{row_checks}
-use Rattle.checking_facts.specs.Checks.{AreInCheck, GoesDuly, IsCalm, IsSilent, NumbersNext, PutsNoneAsleep}
+use Rattle.checking_facts.proofs.Rows.{row_checks, row_steps}
+use Rattle.checking_facts.specs.Checks.{AreInCheck, BeginsOff, GoesDuly}
+use Rattle.checking_facts.specs.States.{LeavesStates}
+use Rattle.log_model.specs.Places.{is_traversal, is_under_way}
+use Rattle.log_model.specs.Queue.{is_step_under_way}
 use Rattle.seen_laws.specs.Unasked.{unasked}
 use Rattle.seen_laws.specs.InEvent.{first_of, seen_rows}  -- keep
 use Rattle.seen_facts.proofs.Each.Courses.{was_asked}  -- keep
@@ -30,7 +31,7 @@ use Rattle.seen_facts.specs.LoadTies.Tying.{TiesLoads}
 use Rattle.log_model.specs.After.{after}
 use Rattle.log_model.specs.AfterDocuments.{new_document, on_document}
 use Rattle.log_model.specs.AfterPlaces.{without_doc}
-use Rattle.log_model.specs.Seen.{Asked, Document, Seen, desk_of, document_of as document_in_log}
+use Rattle.log_model.specs.Seen.{Asked, Document, Seen, desk_of, document_of as document_in_log, request_of}
 use Rattle.log_model.specs.declared.job.Job.{Job}
 use Rattle.log_model.specs.declared.job.Task.{Task}
 use Rattle.log_model.specs.declared.job.Why.{Why}
@@ -43,7 +44,7 @@ use Rattle.seen_laws.proofs.InEvents.{log_more, now_more, seen_more}
 use Rattle.seen_laws.specs.Blocks.{Here, on_row, on_rows}
 use Rattle.seen_laws.specs.InEvent.{InEvent, here_of, is_seen, log_of, now_of, row_of}
 use Rattle.seen_laws.specs.Sending.{IsNumbered, is_passed}
-use Rattle.std.proofs.Common.{Bool, List, None, Option, Some, [], ap, append-nil, append_assoc, arith, false, length, length-append, map, refl, subst, sym, true, ℕ, ◌++◌, ◌+◌, ◌∙◌, ◌∷◌, ◌≡◌, ◌≤◌}
+use Rattle.std.proofs.Common.{Bool, List, None, Option, Some, [], ap, append-nil, append_assoc, arith, false, length, length-append, map, refl, subst, sym, true, ℕ, ◌++◌, ◌+◌, ◌∙◌, ◌∷◌, ◌≡◌, ◌≤◌, not}
 use Rattle.std.specs.Option.{IsSome}
 use Rattle.std.specs.Prelude.{filter_map}
 use Rattle.tab_ids.specs.declared.DocId.{DocId}
@@ -79,28 +80,57 @@ same_more e out kind seen read is =
     ∙ sym read
     ∙ ap (λ (s : Seen). unasked e.checking s) (sym (log_more e out kind))
 
--- a row that settles no question leaves those that are in their check
-pub calm_more : (e : InEvent) (out : List RowKind) (kind : RowKind) → IsCalm kind → IsSilent (log_of e out) kind → NumbersNext (log_of e out) kind → NonePasses e.checking (log_of e out) → NonePasses e.checking (after (log_of e out) (row_of e kind))
-calm_more e out kind calm silent numbers was req q at on traverses checks =
-    silent_waits e.checking (λ (r : ReqId). false) (log_of e out) (row_of e kind) calm silent numbers (none_waits e.checking (log_of e out) was (λ (r : ReqId). false)) req q at on traverses checks refl
-
--- where nobody is in a check, none passes, and nobody falls asleep for one
-pub none_calm : (checking : ReqId → Bool) → ((req : ReqId) → checking req ≡ false) → (s : Seen) → NonePasses checking s
-none_calm checking unchecked s req q at on traverses checks = absurd (let never : false ≡ true = sym (unchecked req) ∙ checks in cc)
-
+-- where nobody is in a check, no step is
 pub none_steps : (checking : ReqId → Bool) → ((req : ReqId) → checking req ≡ false) → (s : Seen) → NoStepChecks checking s
 none_steps checking unchecked s req q at checks = absurd (let never : false ≡ true = sym (unchecked req) ∙ checks in cc)
 
-pub none_asleep : (checking : ReqId → Bool) → ((req : ReqId) → checking req ≡ false) → (s : Seen) (job : Job) → PutsNoneAsleep checking s job
-none_asleep checking unchecked s job req is checks = absurd (let never : false ≡ true = sym (unchecked req) ∙ checks in cc)
+-- where no step is in its check, no traversal in its check passes
+pub steps_calm : (checking : ReqId → Bool) (s : Seen) → NoStepChecks checking s → NonePasses checking s
+steps_calm checking s none req q at on traverses checks =
+    let never : is_step_under_way q ≡ true = rw (on, traverses) refl in
+    let no_ : false ≡ true = sym (none req q at checks) ∙ never in
+    absurd cc
+
+-- nor is one that is under way in its check
+pub off_runs : (checking : ReqId → Bool) (s : Seen) → NoStepChecks checking s → (by : ReqId) (r : Asked) → request_of s by ≡ Some r → is_under_way r ≡ true → is_traversal r.what ≡ true → checking by ≡ false
+off_runs checking s none by r there on runs = by_check (checking by) refl
+  where
+    by_check : (b : Bool) → checking by ≡ b → b ≡ false
+    by_check false e = refl
+    by_check true e =
+        let never : is_step_under_way r ≡ true = rw (on, runs) refl in
+        let no_ : false ≡ true = sym (none by r there e) ∙ never in
+        absurd cc
+
+-- none in its check begins as a row that is seen
+off_begins : (checking : ReqId → Bool) (kind : RowKind) → is_seen checking kind ≡ true → BeginsOff checking kind
+off_begins checking (rows.Started req goal) seen = by_check (checking req) seen
+  where
+    by_check : (b : Bool) → not b ≡ true → b ≡ false
+    by_check true never = absurd cc
+    by_check false is = refl
+off_begins checking (rows.Opened entry state doc proc slot address) seen = tt
+off_begins checking (rows.Accepted req doc what) seen = tt
+off_begins checking (rows.Applied req change) seen = tt
+off_begins checking (rows.Refused req reason) seen = tt
+off_begins checking (rows.Dropped req cause) seen = tt
+off_begins checking (rows.Prompted req doc) seen = tt
+off_begins checking (rows.Answered req stay) seen = tt
+off_begins checking (rows.Sent job) seen = tt
+off_begins checking (rows.Taken proc job live dirty) seen = tt
+off_begins checking (rows.Finished proc job outcome) seen = tt
+off_begins checking (rows.Made proc made) seen = tt
+off_begins checking (rows.Delivered proc) seen = tt
+off_begins checking (rows.Killed proc death) seen = tt
+off_begins checking (rows.Evicted state) seen = tt
 
 -- the move that had begun, if one had, and the one that has begun once the row is put out
 module _ {from : Option Move} (e : InEvent) (out : List RowKind) (kind : RowKind) (move : Option Move) (t u : Tables) (work : IsAtWorkFor from e out t) where
   abbrev pub then_ : Seen
   then_ = after (now_of e out) (row_of e kind)
 
-  pub work_more : is_seen e.checking kind ≡ true → IsReadOff e out kind → GoesDuly e.checking (log_of e out) kind → NonePasses e.checking (after (log_of e out) (row_of e kind)) → Holds (look_of then_ u.running) u → IsRunning then_.requests u.running → HasGoal then_.requests u.running u.goal → length then_.documents ≤ then_.jobs + 1 → AreInitial then_.initial_states u.initial.entries → TiesLoads then_ u.loads → u.kept.states ≡ kept_in move u.kept.keep (kept_states then_) → AreLawfulFor move e (out ++ kind ∷ []) → IsAtWorkFor move e (out ++ kind ∷ []) u
-  work_more seen read duly calm holds runs goal few initial loads kept lawful =
+  pub work_more : is_seen e.checking kind ≡ true → IsReadOff e out kind → GoesDuly e.checking (log_of e out) kind → LeavesStates e.checking (log_of e out) kind → Holds (look_of then_ u.running) u → IsRunning then_.requests u.running → HasGoal then_.requests u.running u.goal → length then_.documents ≤ then_.jobs + 1 → AreInitial then_.initial_states u.initial.entries → TiesLoads then_ u.loads → u.kept.states ≡ kept_in move u.kept.keep (kept_states then_) → AreLawfulFor move e (out ++ kind ∷ []) → IsAtWorkFor move e (out ++ kind ∷ []) u
+  work_more seen read duly leaves holds runs goal few initial loads kept lawful =
       record {
         own = work.own;
         worker = work.worker;
@@ -111,8 +141,10 @@ module _ {from : Option Move} (e : InEvent) (out : List RowKind) (kind : RowKind
         same = same_more e out kind seen read work.same;
         checks =
             subst (λ (s : Seen). AreInCheck e.checking s) (sym (log_more e out kind))
-            (row_checks e.checking (log_of e out) (row_of e kind) duly work.checks);
-        calm = subst (λ (s : Seen). NonePasses e.checking s) (sym (log_more e out kind)) calm;
+            (row_checks e.checking (log_of e out) (row_of e kind) duly leaves work.checks);
+        unheld =
+            subst (λ (s : Seen). NoStepChecks e.checking s) (sym (log_more e out kind))
+            (row_steps e.checking (log_of e out) (row_of e kind) (off_begins e.checking kind seen) duly work.unheld);
         holds = subst (λ (s : Seen). Holds (look_of s u.running) u) (sym (now_more e out kind seen)) holds;
         runs = subst (λ (s : Seen). IsRunning s.requests u.running) (sym (now_more e out kind seen)) runs;
         goal = subst (λ (s : Seen). HasGoal s.requests u.running u.goal) (sym (now_more e out kind seen)) goal;
@@ -138,10 +170,10 @@ at_seen e out t work P is = subst P work.same is
 
 -- and the aim is read off, who is moved, and which length and index are due
 pub aimed_log : {move : Option Move} (e : InEvent) (out : List RowKind) (t : Tables) → IsAtWorkFor move e out t → IsAimed e.checking (log_of e out)
-aimed_log e out t work = are_aimed e.checking (log_of e out) work.checks work.calm
+aimed_log e out t work = are_aimed e.checking (log_of e out) work.checks (steps_calm e.checking (log_of e out) work.unheld)
 
 pub moving_log : {move : Option Move} (e : InEvent) (out : List RowKind) (t : Tables) → IsAtWorkFor move e out t → IsMoving e.checking (log_of e out)
-moving_log e out t work = are_moving e.checking (log_of e out) work.checks work.calm
+moving_log e out t work = are_moving e.checking (log_of e out) work.checks (steps_calm e.checking (log_of e out) work.unheld)
 
 -- what an order is for has passed, where it isn't in its check
 pub passed_log : {move : Option Move} (e : InEvent) (out : List RowKind) (t : Tables) → IsAtWorkFor move e out t → (task : Task) (why : Why) → IsForOther e.checking why → is_passed (now_of e out) task why ≡ true → is_passed (log_of e out) task why ≡ true

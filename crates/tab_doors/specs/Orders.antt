@@ -2,6 +2,7 @@
 use Rattle.nav_tree.specs.declared.place.Place as live_place  -- keep
 use Rattle.nav_tree.specs.Tree.{document_of}  -- keep
 use Rattle.log_model.specs.Seen.{document_of as document_in_log}  -- keep
+pub use Rattle.unasked_dues.specs.Checking.{IsForOther}
 use Rattle.tab_doors.specs.Keeping.{Move}
 use Rattle.tab_doors.specs.Look.{Sight, sight}
 use Rattle.seen_facts.specs.Hang.Members.{Has}

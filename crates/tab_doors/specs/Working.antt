@@ -1,6 +1,6 @@
 -- A coordinator that works in an event: its tables stand for what the log has come to, and the rows so far pass.
 -- This project's own.
-use Rattle.unasked_dues.specs.Checking.{NonePasses}
+use Rattle.unasked_dues.specs.Checking.{NoStepChecks}
 use Rattle.checking_facts.specs.Checks.{AreInCheck}
 use Rattle.seen_laws.specs.Unasked.{unasked}
 use Rattle.tab_doors.specs.Look.{Look, look_of}
@@ -84,10 +84,10 @@ pub record IsAtWorkFor (move : Option Move) (e : InEvent) (out : List RowKind) (
   pub begins : seen_first e ≡ first_of e
   pub rows : seen_rows e out ≡ map (row_of e) out
   pub plain : log_of e out ≡ now_of e out
-  -- the log without questions is read off the log, and it is known who is in a check; a traversal in its check hasn't passed
+  -- the log without questions is read off the log, and it is known who is in a check: no step that is under way
   pub same : now_of e out ≡ unasked e.checking (log_of e out)
   pub checks : AreInCheck e.checking (log_of e out)
-  pub calm : NonePasses e.checking (log_of e out)
+  pub unheld : NoStepChecks e.checking (log_of e out)
   pub holds : Holds (look_now e out t.running) t
   pub runs : IsRunning (now_of e out).requests t.running
   pub goal : HasGoal (now_of e out).requests t.running t.goal

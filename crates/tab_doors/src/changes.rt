@@ -97,6 +97,7 @@ impl Tables {
         requires work { IsAtWork e out.old self.old }
         requires awake { IsAwakeIn self.old.tree nav (record { 0 = entry.maker }) }
         requires due { IsTakeDue e out.old req (changes.Push nav entry state address memo) }
+        requires off { e.checking req ≡ false }
         requires may { MayChange (now_of e out.old) (changes.Push nav entry state address memo) }
         requires sees { SeesRows (now_of e out.old) (changes.Push nav entry state address memo) }
         requires of_document { (entry.maker == 0) ≡ false }
@@ -135,6 +136,7 @@ impl Tables {
         requires work { IsAtWork e out.old self.old }
         requires awake { IsAwakeIn self.old.tree nav (record { 0 = entry.maker }) }
         requires due { IsTakeDue e out.old req (changes.Replace nav over entry state address memo) }
+        requires off { e.checking req ≡ false }
         requires may { MayChange (now_of e out.old) (changes.Replace nav over entry state address memo) }
         requires keeps { KeepsRows (now_of e out.old) (changes.Replace nav over entry state address memo) }
         requires of_document { (entry.maker == 0) ≡ false }
@@ -169,6 +171,7 @@ impl Tables {
         ghost e: { InEvent }
         requires work { IsAtWork e out.old self.old }
         requires due { IsTakeDue e out.old req (changes.AddFrame owner nav (record { maker = 0; nr = self.old.entries + 1 }) (record { 0 = self.old.states + 1 })) }
+        requires off { e.checking req ≡ false }
         requires may { MayChange (now_of e out.old) (changes.AddFrame owner nav (record { maker = 0; nr = self.old.entries + 1 }) (record { 0 = self.old.states + 1 })) }
         requires keeps { KeepsRows (now_of e out.old) (changes.AddFrame owner nav (record { maker = 0; nr = self.old.entries + 1 }) (record { 0 = self.old.states + 1 })) }
         requires added { IsAdded (now_of e out.old) self.old.tree self.old.running owner nav parent }
@@ -210,6 +213,7 @@ impl Tables {
         ghost e: { InEvent }
         requires work { IsAtWork e out.old self.old }
         requires due { IsTakeDue e out.old req (changes.RemoveFrame nav) }
+        requires off { e.checking req ≡ false }
         requires may { MayChange (now_of e out.old) (changes.RemoveFrame nav) }
         requires sees { SeesRows (now_of e out.old) (changes.RemoveFrame nav) }
         requires apart { is_this self.old.running req ≡ false }

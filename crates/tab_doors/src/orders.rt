@@ -23,6 +23,7 @@ ghost use Rattle.std.specs.Option.{IsSome};
 ghost use Rattle.tab_doors.specs.Sleeping.{AreThere, asleep_for, is_for, sleep_all};
 ghost use Rattle.tab_doors.specs.Orders.{InMove, numbered_order, next_order, order_to, IsThere, IsToGo, MayShow};
 ghost use Rattle.tab_doors.specs.Keeping.{LeavesFor, LetsGo};
+ghost use Rattle.unasked_dues.specs.Checking.{IsForOther};
 ghost use Rattle.tab_doors.specs.Working.{IsAtWork, IsAtWorkFor, KeepsStore, MaySend};
 
 use crate::birth::Birth;
@@ -100,6 +101,7 @@ impl Tables {
     ) -> Result<(), OutOfMemory>
         ghost m: { InMove }
         requires work { IsAtWorkFor m.move m.event out.old self.old }
+        requires for_other { IsForOther m.event.checking why }
         requires may { MayShow (now_of m.event out.old) self.old.tree nav (order_to (now_of m.event out.old) doc why (tasks.Activate entry epoch length index memo address)) entry epoch (length, index) memo address }
         requires for_run { (r : ReqId) → self.old.running ≡ Some r → why ≡ whys.Req r }
         requires fits { epoch.0 < 2 ^ 64 }
@@ -143,6 +145,7 @@ impl Tables {
     ) -> Result<(), OutOfMemory>
         ghost e: { InEvent }
         requires work { IsAtWork e out.old self.old }
+        requires for_other { IsForOther e.checking why }
         requires due { IsMakeDue e.header (now_of e out.old) (next_order (now_of e out.old).jobs proc (record { 0 = self.old.documents + 1 }) why (tasks.Populate nav state address initial)) nav state address initial }
         requires known { (desk_of (now_of e out.old) proc).known ≡ 0 }
         requires unknown { sight_in (map sight (now_of e out.old).documents) (record { 0 = self.old.documents + 1 }) ≡ None }
@@ -178,6 +181,7 @@ impl Tables {
     ) -> Result<(), OutOfMemory>
         ghost m: { InMove }
         requires work { IsAtWorkFor m.move m.event out.old self.old }
+        requires for_other { IsForOther m.event.checking why }
         requires may { MaySend m.move m.event out.old (order_to (now_of m.event out.old) doc why tasks.Freeze) }
         requires there { IsThere (now_of m.event out.old) doc }
         requires are { (other : NavId) → has_nav (sleepers_with (now_of m.event out.old) doc) other ≡ has_nav sleepers.now other }
@@ -205,6 +209,7 @@ impl Tables {
     ) -> Result<(), OutOfMemory>
         ghost m: { InMove }
         requires work { IsAtWorkFor m.move m.event out.old self.old }
+        requires for_other { IsForOther m.event.checking why }
         requires may { MaySend m.move m.event out.old (order_to (now_of m.event out.old) doc why tasks.Discard) }
         requires gone { IsToGo (now_of m.event out.old) self.old.tree self.old.loads sleepers.now doc state }
         requires listed { AreThere (discarded state self.old.tree) sleepers.now }

@@ -145,7 +145,7 @@ module _ (p : InPass) (out : List RowKind) (t : Tables) (pass : IsPassing p out 
     free : IsFree (here_of p.event out) req
     unfolding now_of
     free =
-        ap (λ (x : Seen). implies (has_req x.parked req) (list_any is_traverse (here_of p.event out).done)) pass.work.plain ∙
+        ap (λ (x : Seen). implies (has_req x.parked req) (list_any is_traverse (here_of p.event out).done)) (sym pass.work.same) ∙
         ap (λ (b : Bool). implies b (list_any is_traverse (here_of p.event out).done)) (unheld p out t pass req nav it.load).parked
 
     pub destroy_due : AreUnheld p.event s → IsDestroyDue p.event out req by

@@ -3,24 +3,26 @@ use Rattle.seen_facts.specs.Doc.Docs.{HasPlace}
 use Rattle.seen_facts.proofs.Hang.Hung.{places_distinct}
 use Rattle.seen_facts.proofs.Hang.Parts.{state_is}
 use Rattle.seen_facts.specs.Kept.Keeping.{kept_states}
-use Rattle.row_facts.proofs.LeaveRows.Evicts.{below_discard_may}
+use Rattle.row_facts.proofs.LeaveRows.LeftMays.{below_left_may}
 use Rattle.row_facts.specs.LeaveRows.Evicting.{IsBelowDue}
 use Rattle.log_model.proofs.Refl.{nat_eq_refl}
 use Rattle.log_model.specs.AfterPlaces.{sleepers_with}
 use Rattle.log_model.specs.Orders.{is_below_gone}
 use Rattle.log_model.specs.Places.{hangs_on}
 use Rattle.log_model.specs.Seen.{Document, Place, Seen, awake, desk_of, document_of, place_in, place_of}
+use Rattle.log_model.specs.declared.job.Job.{Job}
 use Rattle.log_model.specs.declared.job.Why.{Why}
 use Rattle.log_model.specs.declared.row_kind.RowKind.{RowKind}
 use Rattle.nav_tree.specs.Tree.{state_of}
 use Rattle.page_cache.specs.Kept.{left_first, without}
 use Rattle.seen_laws.proofs.InEvents.{led_here}
-use Rattle.seen_laws.specs.InEvent.{InEvent, here_of, now_of, log_of}
+use Rattle.seen_laws.specs.InEvent.{InEvent, here_of, now_of}
 use Rattle.row_facts.specs.FrameRows.Discarding.{SettlesNone}
 use Rattle.seen_laws.specs.InEvent.{row_of}
 use Rattle.std.proofs.Common.{Bool, List, None, Option, Some, [], ap, false, length, map, refl, subst, sym, true, ℕ, ◌++◌, ◌==◌, ◌∙◌, ◌∷◌, ◌≡◌, ◌≤◌}
 use Rattle.std.specs.Prelude.{if◌then◌else◌, option_and_then, option_map}
 use Rattle.tab_doors.proofs.Sights.{seen_of, sight_of}
+use Rattle.tab_doors.proofs.Leavable.{IsLeftAs, below_log, discards_log, left_log, numbered_log, prompts_log}
 use Rattle.tab_doors.proofs.Works.{numbered}
 use Rattle.tab_doors.specs.Keeping.{LetsGo, Move, with_left}
 use Rattle.tab_doors.specs.Look.{Sight, is_live_for, sight}
@@ -49,15 +51,16 @@ use Rattle.log_model.specs.declared.job.Task.TheVariants as tasks
 use Rattle.log_model.specs.declared.row_kind.RowKind.TheVariants as rows
 
 -- such an order may be sent
--- of the log itself
-below_ahead_log : (e : InEvent) (out : List RowKind) (move : Option Move) (t : Tables) (doc : DocId) (why : Why) (d : Document) → IsAtWorkFor move e out t → IsBelowDue (log_of e out) (order_to (log_of e out) doc why tasks.Discard) d → (desk_of (log_of e out) (proc_at (log_of e out) doc)).known ≡ 0 → SettlesNone (log_of e out) (row_of e (rows.Sent (order_to (log_of e out) doc why tasks.Discard))) → MaySend move e out (order_to (log_of e out) doc why tasks.Discard)
-below_ahead_log e out move t doc why d work due known settles later ahead =
-    below_discard_may (here_of e out) e.event e.actor (order_to (here_of e out).now doc why tasks.Discard) d (led_here e out work.own) (numbered (here_of e out).now (proc_at (here_of e out).now doc) doc why tasks.Discard known) due settles later tt
-
--- and so of the log without questions
 pub below_ahead : (e : InEvent) (out : List RowKind) (move : Option Move) (t : Tables) (doc : DocId) (why : Why) (d : Document) → IsAtWorkFor move e out t → IsBelowDue (now_of e out) (order_to (now_of e out) doc why tasks.Discard) d → (desk_of (now_of e out) (proc_at (now_of e out) doc)).known ≡ 0 → SettlesNone (now_of e out) (row_of e (rows.Sent (order_to (now_of e out) doc why tasks.Discard))) → MaySend move e out (order_to (now_of e out) doc why tasks.Discard)
-below_ahead e out move t doc why d work due known settles =
-    subst (λ (s_ : Seen). MaySend move e out (order_to s_ doc why tasks.Discard)) work.plain (below_ahead_log e out move t doc why d work (subst (λ (s_ : Seen). IsBelowDue s_ (order_to s_ doc why tasks.Discard) d) (sym work.plain) due) (subst (λ (s_ : Seen). (desk_of s_ (proc_at s_ doc)).known ≡ 0) (sym work.plain) known) (subst (λ (s_ : Seen). SettlesNone s_ (row_of e (rows.Sent (order_to s_ doc why tasks.Discard)))) (sym work.plain) settles))
+below_ahead e out move t doc why d work due known settles later ahead =
+    below_left_may (here_of e out) e.event e.actor order its.d (led_here e out work.own) (numbered_log e out work.same order (numbered (now_of e out) (proc_at (now_of e out) doc) doc why tasks.Discard known)) (below_log e out work.same order d its due) later (prompts_log e out t work order settles later, tt)
+  where
+    order : Job
+    order = order_to (now_of e out) doc why tasks.Discard
+
+    its : IsLeftAs e out order d
+    its =
+        discards_log e out work.same order d (left_log e out t work order d due.discards.to.found due.discards.unhandled due.discards.for_one) due.discards
 
 -- ---- a document below
 

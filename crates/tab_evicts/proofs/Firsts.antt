@@ -18,6 +18,7 @@ use Rattle.log_model.specs.Formed.{last_of}
 use Rattle.log_model.specs.Places.{hangs_on, is_gone}
 use Rattle.log_model.specs.Seen.{Asked, Document, Place, Seen, awake, desk_of, document_of, place_in, place_of}
 use Rattle.log_model.specs.Suits.{kept_with}
+use Rattle.log_model.specs.declared.job.Job.{Job}
 use Rattle.log_model.specs.declared.job.Why.{Why}
 use Rattle.log_model.specs.declared.row_kind.RowKind.{RowKind}
 use Rattle.row_facts.specs.LeaveRows.Leaving.{IsDiscardOf}
@@ -33,6 +34,7 @@ use Rattle.std.proofs.lemmas.Bool.Decides.{nat_tests}
 use Rattle.std.specs.Prelude.{IsSome, nat_lt, option_and_then, option_map, slice_get}
 use Rattle.tab_doors.proofs.Sights.{sight_of}
 use Rattle.log_model.specs.declared.header.Header.{Header}
+use Rattle.tab_doors.proofs.Leavable.{IsInLog, IsLeftAs, discards_log, in_log, kept_last_log, kept_log, left_log, numbered_log, placed_log, prompts_log}
 use Rattle.tab_doors.proofs.Works.{header_here, numbered}
 use Rattle.tab_doors.specs.Keeping.{LetsGo, Move, with_left}
 use Rattle.tab_doors.specs.Look.{is_live_for, sight}
@@ -80,15 +82,24 @@ last_has (x ∷ []) doc is = inl (let same : x ≡ doc = cc in same)
 last_has (x ∷ y ∷ docs) doc is = inr (last_has (y ∷ docs) doc is)
 
 -- such an order may be sent
--- of the log itself
-over_ahead_log : (e : InEvent) (out : List RowKind) (move : Move) (t : Tables) (doc : DocId) (why : Why) (d new : Document) (place : Place) (left : DocId) → IsAtWorkFor (Some move) e out t → document_of (log_of e out) move.doc ≡ Some new → IsKeptLast (log_of e out) (order_to (log_of e out) doc why tasks.Discard) d (Some left) → (desk_of (log_of e out) (proc_at (log_of e out) doc)).known ≡ 0 → SettlesNone (log_of e out) (row_of e (rows.Sent (order_to (log_of e out) doc why tasks.Discard))) → nat_lt e.header.keep (length (kept_with (log_of e out) (Some left))) ≡ true → place_of (log_of e out) new.nav ≡ Some place → place.last ≡ Some left → (left.0 == move.doc.0) ≡ false → MaySend (Some move) e out (order_to (log_of e out) doc why tasks.Discard)
-over_ahead_log e out move t doc why d new place left work found due known settles many placed last apart =
-    overflow_sends (here_of e out) e.event e.actor (order_to (here_of e out).now doc why tasks.Discard) move (led_here e out work.own) (numbered (here_of e out).now (proc_at (here_of e out).now doc) doc why tasks.Discard known) new found d place left due settles (subst (λ (h : Header). nat_lt h.keep (length (kept_with (here_of e out).now (Some left))) ≡ true) (sym (header_here e out)) many) placed last apart
-
--- and so of the log without questions
 over_ahead : (e : InEvent) (out : List RowKind) (move : Move) (t : Tables) (doc : DocId) (why : Why) (d new : Document) (place : Place) (left : DocId) → IsAtWorkFor (Some move) e out t → document_of (now_of e out) move.doc ≡ Some new → IsKeptLast (now_of e out) (order_to (now_of e out) doc why tasks.Discard) d (Some left) → (desk_of (now_of e out) (proc_at (now_of e out) doc)).known ≡ 0 → SettlesNone (now_of e out) (row_of e (rows.Sent (order_to (now_of e out) doc why tasks.Discard))) → nat_lt e.header.keep (length (kept_with (now_of e out) (Some left))) ≡ true → place_of (now_of e out) new.nav ≡ Some place → place.last ≡ Some left → (left.0 == move.doc.0) ≡ false → MaySend (Some move) e out (order_to (now_of e out) doc why tasks.Discard)
 over_ahead e out move t doc why d new place left work found due known settles many placed last apart =
-    subst (λ (s_ : Seen). MaySend (Some move) e out (order_to s_ doc why tasks.Discard)) work.plain (over_ahead_log e out move t doc why d new place left work (subst (λ (s_ : Seen). document_of s_ move.doc ≡ Some new) (sym work.plain) found) (subst (λ (s_ : Seen). IsKeptLast s_ (order_to s_ doc why tasks.Discard) d (Some left)) (sym work.plain) due) (subst (λ (s_ : Seen). (desk_of s_ (proc_at s_ doc)).known ≡ 0) (sym work.plain) known) (subst (λ (s_ : Seen). SettlesNone s_ (row_of e (rows.Sent (order_to s_ doc why tasks.Discard)))) (sym work.plain) settles) (subst (λ (s_ : Seen). nat_lt e.header.keep (length (kept_with s_ (Some left))) ≡ true) (sym work.plain) many) (subst (λ (s_ : Seen). place_of s_ new.nav ≡ Some place) (sym work.plain) placed) last apart)
+    overflow_sends (here_of e out) e.event e.actor order move (led_here e out work.own) (numbered_log e out work.same order (numbered (now_of e out) (proc_at (now_of e out) doc) doc why tasks.Discard known)) shown.d shown.found its.d place left (kept_last_log e out work.same order d its (Some left) due) (prompts_log e out t work order settles)
+    (subst (λ (h : Header). nat_lt h.keep (length (kept_with (log_of e out) (Some left))) ≡ true) (sym (header_here e out)) (subst (λ (docs : List DocId). nat_lt e.header.keep (length docs) ≡ true) (kept_log e out work.same (Some left)) many))
+    (placed_log e out work.same shown.d.nav place (ap (λ (x : Document). place_of (now_of e out) x.nav) (sym shown.is) ∙ placed))
+    last
+    apart
+  where
+    order : Job
+    order = order_to (now_of e out) doc why tasks.Discard
+
+    its : IsLeftAs e out order d
+    its =
+        discards_log e out work.same order d (left_log e out t work order d due.discards.to.found due.discards.unhandled due.discards.for_one) due.discards
+
+    -- the document that is shown, as the log has it
+    shown : IsInLog e out move.doc new
+    shown = in_log e out work.same move.doc new found
 
 -- ---- the document that is kept longest
 

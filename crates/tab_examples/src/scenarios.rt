@@ -4,10 +4,9 @@ use crate::out::{put, put_line};
 use address::OutOfMemory;
 use handler_table::HandlerTable;
 use log_model::Header;
-use report_text::summary;
+use report_text::{World, summary};
 use scenario_text::{Built, Refusal, Scenario, ScenarioError};
 use std::alloc::Global;
-use world::World;
 
 /// The scenario as it is printed, or why the bytes are none. `scenario` is read for a caller that plays all lines, `scenario one` for one of one document, `scenario run` for the second where threads run.
 pub fn tell(alloc: Global, out: &mut Vec<u8>, case: &Case) -> Result<(), OutOfMemory> {

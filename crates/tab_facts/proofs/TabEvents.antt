@@ -7,3 +7,4 @@ pub mod Poking
 pub mod Working
 pub mod Acting
 pub mod Settled
+pub mod Editing

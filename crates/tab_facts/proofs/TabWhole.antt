@@ -33,3 +33,4 @@ pub mod Fragments
 pub mod Passing
 pub mod Delivering
 pub mod Handing
+pub mod Editing

@@ -1,4 +1,5 @@
 -- A load begins: what its doors ask, and what has become of it, in the words of the code.
+use Rattle.tab_doors.specs.Orders.{IsForOther}
 use Rattle.seen_facts.specs.Kept.Keeping.{AreKeptDocs}
 use Rattle.load_doors.specs.Loading.{IsGiven, IsToBegin, begun_load}
 use Rattle.row_facts.specs.LoadRows.LoadMaking.{IsMakeOfLoadDue}
@@ -69,9 +70,9 @@ module _ (l : InLoad) (t : Tables) (asked : IsAsked l t) (req : ReqId) (req_is :
     pub given_now : IsAtWork l.event out v × IsGiven (now_of l.event out) v nav
     given_now = given its t asked_its placed_its anew_its noted v out way
 
-    pub begin_now : (a : List ℕ) → a ≡ address → (replace : Bool) → replace ≡ load_replaces (now_of l.event out) (requests.Load nav mode a) → IsAtWork l.event out v × (IsToBegin l.event out v.loads req nav replace address × (v.states + 1 < 4294967296))
+    pub begin_now : (a : List ℕ) → a ≡ address → (replace : Bool) → replace ≡ load_replaces (now_of l.event out) (requests.Load nav mode a) → IsAtWork l.event out v × ((l.event.checking req ≡ false) × (IsToBegin l.event out v.loads req nav replace address × (v.states + 1 < 4294967296)))
     begin_now a a_is replace is =
-        (way.work, (to_begin its t asked_its placed_its anew_its noted v out way replace (is ∙ ap (λ (x : List ℕ). load_replaces (now_of l.event out) (requests.Load nav mode x)) a_is), states_room its t asked_its placed_its anew_its noted v out way))
+        (way.work, (way.work.unchecked req, (to_begin its t asked_its placed_its anew_its noted v out way replace (is ∙ ap (λ (x : List ℕ). load_replaces (now_of l.event out) (requests.Load nav mode x)) a_is), states_room its t asked_its placed_its anew_its noted v out way)))
 
     module _ (w : Tables) (now : List RowKind) (work : IsAtWork l.event now w) (now_is : now ≡ out ++ rows.Started req None ∷ []) (keeps : KeepsStore v w) where
       pub home_now : (header : Header) (a : List ℕ) → is_some (home_in header w nav a) ≡ true
@@ -85,20 +86,23 @@ module _ (l : InLoad) (t : Tables) (asked : IsAsked l t) (req : ReqId) (req_is :
         abbrev order : Job
         order = next_order (now_of l.event now).jobs proc (record { 0 = w.documents + 1 }) (whys.Req req) (tasks.Populate nav (record { 0 = w.states }) address false)
 
-        pub make_now : (replace : Bool) (own : List ℕ) → ongoing_load nav w.loads ≡ Some (begun_load req nav replace own (v.states + 1)) → IsAtWork l.event now w × (IsMakeOfLoadDue l.event.header (now_of l.event now) (next_order (now_of l.event now).jobs proc (record { 0 = w.documents + 1 }) (whys.Req req) (tasks.Populate nav (record { 0 = w.states }) address false)) nav (record { 0 = w.states }) address × (((desk_of (now_of l.event now) proc).known ≡ 0) × ((sight_in (map sight (now_of l.event now).documents) (record { 0 = w.documents + 1 }) ≡ None) × ((lookup (is_state (record { 0 = w.states })) w.making.entries ≡ None) × (IsUnmadeLoad (now_of l.event now) w.loads nav (record { 0 = w.states }) × AreKeptDocs (now_of l.event now))))))
+        pub make_now : (replace : Bool) (own : List ℕ) → ongoing_load nav w.loads ≡ Some (begun_load req nav replace own (v.states + 1)) → IsAtWork l.event now w × (IsForOther l.event.checking (whys.Req req) × (IsMakeOfLoadDue l.event.header (now_of l.event now) (next_order (now_of l.event now).jobs proc (record { 0 = w.documents + 1 }) (whys.Req req) (tasks.Populate nav (record { 0 = w.states }) address false)) nav (record { 0 = w.states }) address × (((desk_of (now_of l.event now) proc).known ≡ 0) × ((sight_in (map sight (now_of l.event now).documents) (record { 0 = w.documents + 1 }) ≡ None) × ((lookup (is_state (record { 0 = w.states })) w.making.entries ≡ None) × (IsUnmadeLoad (now_of l.event now) w.loads nav (record { 0 = w.states }) × AreKeptDocs (now_of l.event now)))))))
         make_now replace own began = (
           work,
           (
-            due_make its t asked_its placed_its anew_its noted v out way w now work now_is keeps proc home_its,
+            λ r is. work.unchecked r,
             (
-              known its t asked_its placed_its anew_its noted v out way w now work now_is keeps proc home_its,
+              due_make its t asked_its placed_its anew_its noted v out way w now work now_is keeps proc home_its,
               (
-                unknown its t asked_its placed_its anew_its noted v out way w now work now_is keeps,
+                known its t asked_its placed_its anew_its noted v out way w now work now_is keeps proc home_its,
                 (
-                  unmaking its t asked_its placed_its anew_its noted v out way w now work now_is keeps,
+                  unknown its t asked_its placed_its anew_its noted v out way w now work now_is keeps,
                   (
-                    unmade_load its t asked_its placed_its anew_its noted v out way w now work now_is keeps replace own began,
-                    (passing_now its t asked_its placed_its anew_its noted v out way w now work now_is keeps).going.tab.kept,
+                    unmaking its t asked_its placed_its anew_its noted v out way w now work now_is keeps,
+                    (
+                      unmade_load its t asked_its placed_its anew_its noted v out way w now work now_is keeps replace own began,
+                      (passing_now its t asked_its placed_its anew_its noted v out way w now work now_is keeps).going.tab.kept,
+                    ),
                   ),
                 ),
               ),

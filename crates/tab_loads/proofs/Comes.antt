@@ -159,9 +159,9 @@ module _ (l : InLoad) (t : Tables) (asked : IsAsked l t) where
       abbrev pub order : Job
       order = order_to s doc (whys.Req l.req) (tasks.DoFragment l.req l.mode l.address)
 
-      pub send_may : IsAtWork l.event [] t × (MaySend None l.event [] (order_to s doc (whys.Req l.req) (tasks.DoFragment l.req l.mode l.address)) × IsThere s doc)
+      pub send_may : IsAtWork l.event [] t × ((l.event.checking l.req ≡ false) × (MaySend None l.event [] (order_to s doc (whys.Req l.req) (tasks.DoFragment l.req l.mode l.address)) × IsThere s doc))
       send_may =
-          (pass.work, (may_be_sent l.event l.req l.nav l.mode l.address asked.asks t pass asked.begun.loose place placed standing doc sent.wakes sent.leads, there l.event l.req l.nav l.mode l.address asked.asks t pass asked.begun.loose place placed standing doc sent.wakes sent.leads))
+          (pass.work, (pass.work.unchecked l.req, (may_be_sent l.event l.req l.nav l.mode l.address asked.asks t pass asked.begun.loose place placed standing doc sent.wakes sent.leads, there l.event l.req l.nav l.mode l.address asked.asks t pass asked.begun.loose place placed standing doc sent.wakes sent.leads)))
 
       pub sent_come : (u : Tables) (out : List RowKind) → IsAtWork l.event out u → out ≡ rows.Sent (order_to s doc (whys.Req l.req) (tasks.DoFragment l.req l.mode l.address)) ∷ [] → KeepsStore t u → HasCome l t u out l.noted ToFragment
       sent_come u out work out_is keeps =
@@ -192,9 +192,9 @@ module _ (l : InLoad) (t : Tables) (asked : IsAsked l t) (was : List RowKind) (f
     job_of o r m a = order_to (now_of l.event o) doc (whys.Req r) (tasks.DoFragment r m a)
 
     abbrev asks_for : List RowKind → ReqId → Mode → List ℕ → Type 0
-    asks_for o r m a = IsAtWork l.event o t × (MaySend None l.event o (job_of o r m a) × IsThere (now_of l.event o) doc)
+    asks_for o r m a = IsAtWork l.event o t × ((l.event.checking r ≡ false) × (MaySend None l.event o (job_of o r m a) × IsThere (now_of l.event o) doc))
 
-    pub send_now : IsAtWork l.event was t × (MaySend None l.event was (order_to (now_of l.event was) doc (whys.Req req) (tasks.DoFragment req mode address)) × IsThere (now_of l.event was) doc)
+    pub send_now : IsAtWork l.event was t × ((l.event.checking req ≡ false) × (MaySend None l.event was (order_to (now_of l.event was) doc (whys.Req req) (tasks.DoFragment req mode address)) × IsThere (now_of l.event was) doc))
     send_now =
         subst (λ (o : List RowKind). asks_for o req mode address) (sym first)
         (subst (λ (r : ReqId). asks_for [] r mode address) req_is

@@ -1,11 +1,13 @@
 -- Orders of a move may be sent, since the order that shows its document comes later: what is left is frozen or discarded, and the one that is kept too long is discarded.
-use Rattle.row_facts.proofs.LeaveRows.Evicts.{activate_leaves, left_then, overflow_may}
-use Rattle.row_facts.proofs.LeaveRows.Freezes.{activate_displaces, displaced_by, freeze_may}
-use Rattle.row_facts.proofs.LeaveRows.Leaves.{activate_shows_another, left_by, unkept_left_may}
-use Rattle.row_facts.specs.LeaveRows.Evicting.{IsKeptLast, LeavesLater, shows_none}
-use Rattle.row_facts.specs.LeaveRows.Freezing.{IsDisplacedLater, IsFreezeDue}
-use Rattle.row_facts.specs.LeaveRows.Leaving.{IsLeaveDue, IsLeftLater, IsTooMany}
-use Rattle.row_facts.specs.FrameRows.Discarding.{SettlesNone}
+use Rattle.row_facts.proofs.LeaveRows.Evicts.{activate_leaves, left_then}
+use Rattle.row_facts.proofs.LeaveRows.Freezes.{activate_displaces, displaced_by}
+use Rattle.row_facts.proofs.LeaveRows.Leaves.{activate_shows_another, left_by}
+use Rattle.row_facts.proofs.LeaveRows.LeftMays.{overflow_left_may, unkept_last_may}
+use Rattle.row_facts.proofs.LeaveRows.LeftRows.{freeze_left_may}
+use Rattle.row_facts.specs.LeaveRows.Evicting.{LeavesLater, shows_none}
+use Rattle.row_facts.specs.LeaveRows.Freezing.{IsDisplacedLater}
+use Rattle.row_facts.specs.LeaveRows.Leaving.{IsLeftLater, IsTooMany}
+use Rattle.row_facts.specs.LeaveRows.MayLeave.{IsFreezeLeft, IsKeptLeft, IsLastLeft, PromptsLater}
 use Rattle.log_model.specs.Equal.{holds}
 use Rattle.log_model.specs.History.{has_nav}
 use Rattle.log_model.specs.Places.{is_awake_on, way_of}
@@ -110,22 +112,22 @@ shows_first (row ∷ later) doc is = by_kind row.event row.actor row.row (shows_
 
 module _ (h : Here) (event : ℕ) (actor : Actor) (job : Job) (move : Move) (led : is_led h.done ≡ true) (numbered : IsNumbered h.now job) (new : Document) (found : document_of h.now move.doc ≡ Some new) where
   -- a document that is left is frozen: its navigable, or one above, is the one that is moved, which wasn't awake on the new document as the event began
-  pub freeze_sends : (d : Document) (due : IsFreezeDue h job d) → has_nav (way_of due.place) new.nav ≡ true → holds (is_awake_on move.doc) (place_of h.start new.nav) ≡ false → MayLog h (sent_row event actor job ∷ []) (IsAhead (Some move))
+  pub freeze_sends : (d : Document) (due : IsFreezeLeft h job d) → has_nav (way_of due.place) new.nav ≡ true → holds (is_awake_on move.doc) (place_of h.start new.nav) ≡ false → MayLog h (sent_row event actor job ∷ []) (IsAhead (Some move))
   freeze_sends d due on_way other later ahead =
       let so = shows_first later move.doc ahead in
-      freeze_may h event actor job d led numbered due later
+      freeze_left_may h event actor job d led numbered due later
       (subst (λ (l : List LogRow). IsDisplacedLater h due.place l) (sym so.is) (displaced_by h due.place new.nav so.before (sent_row so.event so.actor so.job) so.rest on_way (activate_displaces (point_at h (so.before ++ sent_row so.event so.actor so.job ∷ so.rest)) new.nav so.event so.actor so.job new so.entry so.epoch so.long so.at so.memo so.address so.task (ap (λ (x : DocId). document_of h.now x) so.own ∙ found) refl (ap (λ (x : DocId). holds (is_awake_on x) (place_of h.start new.nav)) so.own ∙ other))))
 
   -- one that is left is discarded, since none may be kept
-  pub left_sends : (d : Document) → IsLeaveDue h.now job d → SettlesNone h.now (sent_row event actor job) → IsTooMany h.header h.now d → new.nav ≡ d.nav → (move.doc.0 == d.nr.0) ≡ false → MayLog h (sent_row event actor job ∷ []) (IsAhead (Some move))
-  left_sends d due settles many same apart later ahead =
+  pub left_sends : (d : Document) → IsLastLeft h job d → ((later : List LogRow) → PromptsLater h (sent_row event actor job) later) → IsTooMany h.header h.now d → new.nav ≡ d.nav → (move.doc.0 == d.nr.0) ≡ false → MayLog h (sent_row event actor job ∷ []) (IsAhead (Some move))
+  left_sends d due prompts many same apart later ahead =
       let so = shows_first later move.doc ahead in
-      unkept_left_may h event actor job d led numbered due settles many later
-      (subst (λ (l : List LogRow). IsLeftLater h.now d l) (sym so.is) (left_by h.now d so.before (sent_row so.event so.actor so.job) so.rest (activate_shows_another h.now d so.event so.actor so.job new so.entry so.epoch so.long so.at so.memo so.address so.task (ap (λ (x : DocId). document_of h.now x) so.own ∙ found) same (ap (λ (x : DocId). x.0 == d.nr.0) so.own ∙ apart))))
+      unkept_last_may h event actor job d led numbered due many later
+      (prompts later, subst (λ (l : List LogRow). IsLeftLater h.now d l) (sym so.is) (left_by h.now d so.before (sent_row so.event so.actor so.job) so.rest (activate_shows_another h.now d so.event so.actor so.job new so.entry so.epoch so.long so.at so.memo so.address so.task (ap (λ (x : DocId). document_of h.now x) so.own ∙ found) same (ap (λ (x : DocId). x.0 == d.nr.0) so.own ∙ apart))))
 
   -- the one that is kept longest is discarded, since with the one that is left too many would be kept
-  pub overflow_sends : (d : Document) (place : Place) (left : DocId) → IsKeptLast h.now job d (Some left) → SettlesNone h.now (sent_row event actor job) → nat_lt h.header.keep (length (kept_with h.now (Some left))) ≡ true → place_of h.now new.nav ≡ Some place → place.last ≡ Some left → (left.0 == move.doc.0) ≡ false → MayLog h (sent_row event actor job ∷ []) (IsAhead (Some move))
-  overflow_sends d place left due settles many placed last apart later ahead =
+  pub overflow_sends : (d : Document) (place : Place) (left : DocId) → IsKeptLeft h job d (Some left) → ((later : List LogRow) → PromptsLater h (sent_row event actor job) later) → nat_lt h.header.keep (length (kept_with h.now (Some left))) ≡ true → place_of h.now new.nav ≡ Some place → place.last ≡ Some left → (left.0 == move.doc.0) ≡ false → MayLog h (sent_row event actor job ∷ []) (IsAhead (Some move))
+  overflow_sends d place left due prompts many placed last apart later ahead =
       let so = shows_first later move.doc ahead in
-      overflow_may h event actor job d (Some left) led numbered due settles many later
-      (subst (λ (l : List LogRow). LeavesLater h.now (Some left) l) (sym so.is) (left_then h.now so.before (sent_row so.event so.actor so.job) so.rest left so.none (activate_leaves h.now so.event so.actor so.job new place left so.entry so.epoch so.long so.at so.memo so.address so.rest so.task (ap (λ (x : DocId). document_of h.now x) so.own ∙ found) placed last (ap (λ (x : DocId). left.0 == x.0) so.own ∙ apart))))
+      overflow_left_may h event actor job d led numbered (Some left) due many later
+      (prompts later, subst (λ (l : List LogRow). LeavesLater h.now (Some left) l) (sym so.is) (left_then h.now so.before (sent_row so.event so.actor so.job) so.rest left so.none (activate_leaves h.now so.event so.actor so.job new place left so.entry so.epoch so.long so.at so.memo so.address so.rest so.task (ap (λ (x : DocId). document_of h.now x) so.own ∙ found) placed last (ap (λ (x : DocId). left.0 == x.0) so.own ∙ apart))))

@@ -23,14 +23,13 @@ use Rattle.seen_facts.proofs.Request.Readers.{on_read, reads_then, sent_reads}
 use Rattle.seen_laws.proofs.InEvents.{now_step}
 use Rattle.seen_laws.specs.InEvent.{InEvent, now_of, row_of}
 use Rattle.seen_laws.specs.Unasked.{is_question}
-use Rattle.tab_serves.specs.Serving.{IsOfWalk}
 use Rattle.std.proofs.Common.{Bool, List, None, Option, Some, [], ap, append-nil, append_assoc, cond, false, inl, inr, length, map, not, refl, subst, sym, true, ℕ, ◌++◌, ◌==◌, ◌||◌, ◌∙◌, ◌∷◌, ◌≡◌}
 use Rattle.std.proofs.lemmas.List.Folds.{list_any-append}
 use Rattle.std.proofs.lemmas.List.{map-append}
 use Rattle.std.specs.List.{list_any}
 use Rattle.std.specs.Prelude.{option_map}
 use Rattle.seen_laws.proofs.Keyed.{find_map}
-use Rattle.tab_releases.specs.PassedOn.{Drop, HasGivenWay, HasOnly, HasOnlyDropped, HasPutOut, IsServeFor, IsUpdateFor, length_index, row_of_drop}
+use Rattle.tab_releases.specs.PassedOn.{Drop, HasGivenWay, HasOnly, HasOnlyDropped, HasPutOut, IsOfWalk, IsServeFor, IsUpdateFor, length_index, row_of_drop}
 use Rattle.tab_releases.proofs.Endings.{as_many}
 use Rattle.tab_ids.specs.declared.DocId.{DocId}
 use Rattle.tab_ids.specs.declared.ReqId.{ReqId}

@@ -1,6 +1,6 @@
 -- An event of the coordinator begins: all goes on once its own row was logged, whatever it leaves of a tab as one is between two events.
 use Rattle.seen_facts.specs.Asked.Asking.{ArePlain}
-use Rattle.tab_doors.proofs.Works.{none_calm}
+use Rattle.tab_doors.proofs.Works.{none_steps}
 use Rattle.checking_facts.specs.Checks.{AreInCheck}
 use Rattle.seen_laws.proofs.InEvents.{now_own}
 use Rattle.tab_stands.proofs.Orders.{keeps_coming, makes_first, sound_first}
@@ -40,8 +40,10 @@ checks_first e aside run plain =
     subst (λ (s : Seen). AreInCheck e.checking s) (sym aside.plain) (record {
       numbered = λ req q at. (plain.each req q at).nr;
       others = λ req q at off. plain.passed req q at;
+      begun = λ req q at on. absurd (never req on);
       checks = λ req q at on. absurd (never req on);
       alone = λ req by q r at there under runs traverses going on. absurd (never req on);
+      states = λ state held. absurd (never held.req held.on);
     })
   where
     never : (req : ReqId) → e.checking req ≡ true → ⊥
@@ -59,7 +61,7 @@ work_first e t aside checks own worker legal tied =
       rows = refl;
       same = now_own e;
       checks = checks;
-      calm = none_calm e.checking aside.unchecked (log_of e []);
+      unheld = none_steps e.checking aside.unchecked (log_of e []);
       holds = tied.holds;
       runs = tied.runs;
       goal = tied.goal;

@@ -13,6 +13,7 @@ use Rattle.log_model.specs.Equal.{holds}
 use Rattle.log_model.specs.History.{History, has_nav, has_row}
 use Rattle.log_model.specs.Places.{aim_of, all_stand, has_arrived, is_given_target, is_lost_in, is_moved, is_placed, is_shown, is_standing, way_to}
 use Rattle.log_model.specs.Seen.{Asked, Document, Place, Seen, document_of, place_in, place_of, request_of}
+use Rattle.log_model.specs.declared.change.Change.{Change}
 use Rattle.log_model.specs.declared.job.Why.{Why}
 use Rattle.seen_facts.proofs.Mover.Places.{WasThere, place_then, was_there, ways_mapped}
 use Rattle.seen_facts.proofs.Mover.Stays.{KeepWays}
@@ -52,17 +53,19 @@ pub record OnlyArrives (g : Place → Place) : Type 0 where
   pub ever : (p : Place) → (g p).ever_given ≡ p.ever_given
   pub arrived : (p : Place) → has_arrived p ≡ true → has_arrived (g p) ≡ true
 
--- a request but for how it ended, and what documents answered and made
+-- a request but for how it ended, and by which change, and what documents answered and made
 abbrev pub bare : Asked → Asked
-bare q = record q { ending = None; made = None; fragment = None; is_not_found = false; asks = [] }
+bare q =
+    record q { ending = None; made = None; fragment = None; is_not_found = false; asks = []; change = None; took = [] }
 
--- the request is there still, and read as the same but for that
+-- the request is there still, and read as the same but for that; the change by which it ended is
 pub record IsAlike (n : Seen) (req : ReqId) (q : Asked) : Type 0 where
   pub now : Asked
   pub at : request_of n req ≡ Some now
   pub same : bare now ≡ bare q
+  pub changed : (change : Change) → q.change ≡ Some change → now.change ≡ Some change
 
--- the history and the kept documents are as they were, and each request that was there but for how it ended and what documents answered and made; a navigable may have arrived; each ongoing load was one, and has its document; orders may be for whom they might be, the traversal that runs has moved whom it had, each document is of its state, and for each stray document a request is noted; the load that was applied last is, and where not all have stood since, they haven't, if not all stand
+-- the history and the kept documents are as they were, and each request that was there but for how it ended, and by which change, and what documents answered and made; a navigable may have arrived; each ongoing load was one, and has its document; orders may be for whom they might be, the traversal that runs has moved whom it had, each document is of its state, and for each stray document a request is noted; the load that was applied last is, and where not all have stood since, they haven't, if not all stand
 pub record IsComing (blame : List (StateId × ReqId)) (s n : Seen) : Type 0 where
   pub g : Place → Place
   pub arrives : OnlyArrives g

@@ -98,7 +98,7 @@ module _ (p : InPass) (out : List RowKind) (t : Tables) (queue : Queue) (blame :
         flows = flows_told s tab.flows (each_told s at.told) at.passed.rows_;
         served = at.served;
         told = at.told;
-        stepped = stepped s t.running tab.asked queue.waiting at.queueing.queued due;
+        stepped = λ none. stepped s t.running tab.asked queue.waiting at.queueing.queued due;
         held = at.queueing.held;
         rows_ = at.passed.rows_;
         rests = at.passing.rests;

@@ -4,7 +4,7 @@ use Rattle.tab_facts.specs.Calm.Calm.{IsCalm, IsHere}
 use Rattle.log_model.specs.Equal.{holds}
 use Rattle.log_model.specs.History.{History}
 use Rattle.log_model.specs.Places.{all_stand, has_arrived, is_awake, is_given_target, is_shown, is_standing, stands, top}
-use Rattle.log_model.specs.Seen.{Asked, Place, Seen, Status, asleep, awake, lost, place_in, place_of}
+use Rattle.log_model.specs.Seen.{Place, Seen, Status, asleep, awake, lost, place_in, place_of}
 use Rattle.seen_facts.proofs.Mover.Places.{WasThere, was_there}
 use Rattle.seen_facts.specs.Place.Standing.{AreStanding}
 use Rattle.std.proofs.Common.{Bool, List, None, Option, Some, ap, arith, false, inl, inr, not, refl, subst, suc, sym, true, zero, ℕ, ◌&&◌, ◌∙◌, ◌≡◌, ◌≤◌, ◌⊎◌}
@@ -54,7 +54,7 @@ module _ (blame : List (StateId × ReqId)) (s n : Seen) (comes : IsComing blame 
   pub step_coming : all_stand n n.history.current ≡ false → KeepsStep s n
   step_coming away =
       record {
-        changes = λ req q change at changed. (let a : IsAlike n req q = comes.asked req q at in (a.now, a.at, ap (λ (x : Asked). x.change) a.same ∙ changed));
+        changes = λ req q change at changed. (let a : IsAlike n req q = comes.asked req q at in (a.now, a.at, a.changed change changed));
         last = comes.step;
         unstood = λ off. comes.unstood off away;
       }

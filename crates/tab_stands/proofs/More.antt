@@ -140,7 +140,7 @@ module _ (s rest : Seen) (new : Asked) (req : ReqId) (nr : req.0 ≡ length s.re
             places = sym (map-id s.places);
             history = refl;
             kept = refl;
-            asked = λ r q at. record { now = q; at = old_stays r q at; same = refl };
+            asked = λ r q at. record { now = q; at = old_stays r q at; same = refl; changed = λ change is. is };
             loads = loads_were;
             loading = loads_same s more loads_were (λ doc. refl) stands.between.loading;
             serves = serves_still;

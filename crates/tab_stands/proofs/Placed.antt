@@ -251,7 +251,7 @@ module _ (e : InEvent) (proc : ProcId) (job : Job) (outcome : Outcome) (del : Is
           places = places_same ∙ sym (map-id s.places);
           history = refl;
           kept = told_kept e proc del.by_coord del.own t queue blame stands aside (reports.Done job outcome None) del.first;
-          asked = λ r q at. record { now = q; at = ap (λ (l : List Asked). request_in l r) same ∙ at; same = refl };
+          asked = λ r q at. record { now = q; at = ap (λ (l : List Asked). request_in l r) same ∙ at; same = refl; changed = λ change is. is };
           loads = λ r l at on. ap (λ (asked : List Asked). option_map look (request_in asked r)) (sym same) ∙ at;
           loading = loading_then;
           serves = serves_still;

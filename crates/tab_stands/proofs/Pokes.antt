@@ -3,7 +3,6 @@ use Rattle.log_model.specs.declared.row_kind.RowKind.{RowKind}
 use Rattle.seen_laws.specs.Sending.{leads}
 use Rattle.tab_stands.proofs.Orders.{keeps_coming, makes_first, sound_first}
 use Rattle.tab_facts.specs.Frame.Lasting.{IsOfItsNav, wish}
-use Rattle.seen_facts.specs.Asked.Asking.{IsNoEditing}
 use Rattle.log_model.specs.After.{new_request}
 use Rattle.log_model.specs.Seen.{Seen}
 use Rattle.log_model.specs.declared.action.Action.{Action}
@@ -36,7 +35,7 @@ use Rattle.log_model.specs.declared.row_kind.RowKind.TheVariants as rows
 some_same : {A : Type 0} {a b : A} → (let o : Option A = Some a in o) ≡ Some b → a ≡ b
 some_same e = cc
 
-module _ (e : InEvent) (t : Tables) (queue : Queue) (blame : List (StateId × ReqId)) (stands : StandsFor e.start t queue blame) (aside : StartsUnasked e) (room : HasRoomFor e.start) (req : ReqId) (nav : NavId) (action : Action) (fine : IsNoEditing action) (reached : DocId) (by_user : e.actor ≡ actors.Ui) (own : e.own ≡ rows.Accepted req (Some reached) (requests.Poke nav action)) (nr : req.0 ≡ length e.start.requests + 1) (its : ReachesOne e.start nav reached) where
+module _ (e : InEvent) (t : Tables) (queue : Queue) (blame : List (StateId × ReqId)) (stands : StandsFor e.start t queue blame) (aside : StartsUnasked e) (room : HasRoomFor e.start) (req : ReqId) (nav : NavId) (action : Action) (reached : DocId) (by_user : e.actor ≡ actors.Ui) (own : e.own ≡ rows.Accepted req (Some reached) (requests.Poke nav action)) (nr : req.0 ≡ length e.start.requests + 1) (its : ReachesOne e.start nav reached) where
   abbrev poke : Request
   poke = requests.Poke nav action
 
@@ -52,7 +51,7 @@ module _ (e : InEvent) (t : Tables) (queue : Queue) (blame : List (StateId × Re
 
   between : IsBetween t.kept.keep t.running n
   between =
-      poked_between t.kept.keep t.running e.start e.event actors.Ui stands.between req nr nav action fine reached its.d its.found
+      poked_between t.kept.keep t.running e.start e.event actors.Ui stands.between req nr nav action reached its.d its.found
 
   unjoined : n.joined ≡ e.start.joined
   unjoined = refl

@@ -1,5 +1,4 @@
 -- A load that a reason stands against is accepted and refused, and so is a poke that reaches no document: the event ends with that, and the coordinator stands for the log still.
-use Rattle.seen_facts.specs.Asked.Asking.{IsNoEditing}
 use Rattle.row_facts.proofs.LoadRows.Accepts.{denied_load_may}
 use Rattle.log_model.specs.After.{new_request}
 use Rattle.log_model.specs.Causes.{denial_at_acceptance, denial_of_poke}
@@ -55,7 +54,7 @@ module _ (e : InEvent) (t : Tables) (queue : Queue) (blame : List (StateId × Re
 
   -- ---- a poke
 
-  module _ (nav : NavId) (action : Action) (fine : IsNoEditing action) (event : e.event ≡ e.start.events) (own : e.own ≡ rows.Accepted req None (requests.Poke nav action)) (denied : denial_of_poke e.start nav ≡ Some reason) where
+  module _ (nav : NavId) (action : Action) (event : e.event ≡ e.start.events) (own : e.own ≡ rows.Accepted req None (requests.Poke nav action)) (denied : denial_of_poke e.start nav ≡ Some reason) where
     abbrev poke : Request
     poke = requests.Poke nav action
 
@@ -81,6 +80,6 @@ module _ (e : InEvent) (t : Tables) (queue : Queue) (blame : List (StateId × Re
     pub poke_refused_acts : HasActed e (rows.Refused req reason ∷ []) t queue blame
     poke_refused_acts =
         record {
-          stands = denied_stands e t queue blame stands aside room req poke by_user own nr reason refl (strayed_tab t.running e.start e.event actors.Ui stands.between.tab stands.between.flows req nr nav action fine) (strayed_flows t.running e.start e.event actors.Ui stands.between.tab stands.between.flows req nr nav action fine);
+          stands = denied_stands e t queue blame stands aside room req poke by_user own nr reason refl (strayed_tab t.running e.start e.event actors.Ui stands.between.tab stands.between.flows req nr nav action) (strayed_flows t.running e.start e.event actors.Ui stands.between.tab stands.between.flows req nr nav action);
           passes = poke_pass;
         }

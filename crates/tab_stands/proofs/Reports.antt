@@ -219,7 +219,7 @@ module _ (e : InEvent) (proc : ProcId) (by_coord : e.actor ≡ actors.Coord) (ow
             places = places;
             history = refl;
             kept = told_kept;
-            asked = λ req q at. record { now = q; at = ap (λ (l : List Asked). request_in l req) same ∙ at; same = refl };
+            asked = λ req q at. record { now = q; at = ap (λ (l : List Asked). request_in l req) same ∙ at; same = refl; changed = λ change is. is };
             loads = loads_were;
             loading = loads_same s told loads_were (λ doc. ap (λ (l : List Document). document_in l doc) documents) stands.between.loading;
             serves = λ req may. serve_on s told req told_causes may;

@@ -36,7 +36,7 @@ unfolding ends_stepped
 off_where_runs keep run s between req is = off (all_stand s (aim_of s)) (some ∙ reason)
   where
     reason : has_reason_to_run s ≡ true
-    reason = (and_parts (has_reason_to_run s) _ between.stepped).0
+    reason = (and_parts (has_reason_to_run s) _ (between.stepped refl)).0
 
     ran : IsThere s req
     ran = between.tab.asked.runs req is

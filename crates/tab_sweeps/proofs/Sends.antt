@@ -1,5 +1,6 @@
 -- A stray document may be discarded, for the request that is noted for its state.
-use Rattle.row_facts.proofs.FrameRows.Discards.{discard_may}
+use Rattle.row_facts.proofs.LeaveRows.LeftMays.{gone_left_may}
+use Rattle.row_facts.specs.LeaveRows.Leaving.{IsDiscardOf}
 use Rattle.row_facts.specs.FrameRows.Discarding.{IsDiscardDue, SettlesNone}
 use Rattle.seen_facts.proofs.Hang.Hung.{places_distinct}
 use Rattle.seen_facts.specs.Hang.AsPlaces.{AreDistinct}
@@ -11,10 +12,11 @@ use Rattle.log_model.specs.declared.job.Job.{Job}
 use Rattle.log_model.specs.declared.row_kind.RowKind.{RowKind}
 use Rattle.nav_tree.specs.Tree.{is_state, state_of}
 use Rattle.seen_laws.proofs.InEvents.{led_here}
-use Rattle.seen_laws.specs.InEvent.{InEvent, here_of, now_of, row_of, log_of}
+use Rattle.seen_laws.specs.InEvent.{InEvent, here_of, now_of, row_of}
 use Rattle.std.proofs.Common.{List, None, Option, Some, ap, false, inr, refl, subst, sym, true, ◌∙◌, ◌≡◌}
 use Rattle.std.specs.Map.{lookup}
 use Rattle.tab_doors.proofs.Whose.{proc_found}
+use Rattle.tab_doors.proofs.Leavable.{IsLeftAs, discards_log, gone_log, left_log, numbered_log, prompts_log}
 use Rattle.tab_doors.proofs.Works.{numbered}
 use Rattle.tab_doors.specs.Keeping.{Move}
 use Rattle.tab_doors.specs.Orders.{order_to, proc_at}
@@ -37,15 +39,25 @@ use Rattle.log_model.specs.declared.job.Why.TheVariants as whys
 use Rattle.log_model.specs.declared.row_kind.RowKind.TheVariants as rows
 
 -- an order may be sent to a document of no entry and no load
--- of the log itself
-stray_ahead_log : {move : Option Move} (e : InEvent) (out : List RowKind) (t : Tables) (doc : DocId) (d : Document) (by : ReqId) (r : Asked) → IsAtWorkFor move e out t → IsDiscardDue (log_of e out) (order_to (log_of e out) doc (whys.Req by) tasks.Discard) d by r → (desk_of (log_of e out) (proc_at (log_of e out) doc)).known ≡ 0 → SettlesNone (log_of e out) (row_of e (rows.Sent (order_to (log_of e out) doc (whys.Req by) tasks.Discard))) → MaySend None e out (order_to (log_of e out) doc (whys.Req by) tasks.Discard)
-stray_ahead_log e out t doc d by r work due known settles later ahead =
-    discard_may (here_of e out) e.event e.actor (order_to (here_of e out).now doc (whys.Req by) tasks.Discard) d by r (led_here e out work.own) (numbered (here_of e out).now (proc_at (here_of e out).now doc) doc (whys.Req by) tasks.Discard known) due settles later tt
-
--- and so of the log without questions
 stray_ahead : {move : Option Move} (e : InEvent) (out : List RowKind) (t : Tables) (doc : DocId) (d : Document) (by : ReqId) (r : Asked) → IsAtWorkFor move e out t → IsDiscardDue (now_of e out) (order_to (now_of e out) doc (whys.Req by) tasks.Discard) d by r → (desk_of (now_of e out) (proc_at (now_of e out) doc)).known ≡ 0 → SettlesNone (now_of e out) (row_of e (rows.Sent (order_to (now_of e out) doc (whys.Req by) tasks.Discard))) → MaySend None e out (order_to (now_of e out) doc (whys.Req by) tasks.Discard)
-stray_ahead e out t doc d by r work due known settles =
-    subst (λ (s_ : Seen). MaySend None e out (order_to s_ doc (whys.Req by) tasks.Discard)) work.plain (stray_ahead_log e out t doc d by r work (subst (λ (s_ : Seen). IsDiscardDue s_ (order_to s_ doc (whys.Req by) tasks.Discard) d by r) (sym work.plain) due) (subst (λ (s_ : Seen). (desk_of s_ (proc_at s_ doc)).known ≡ 0) (sym work.plain) known) (subst (λ (s_ : Seen). SettlesNone s_ (row_of e (rows.Sent (order_to s_ doc (whys.Req by) tasks.Discard)))) (sym work.plain) settles))
+stray_ahead e out t doc d by r work due known settles later ahead =
+    gone_left_may (here_of e out) e.event e.actor order its.d (led_here e out work.own) (numbered_log e out work.same order (numbered (now_of e out) (proc_at (now_of e out) doc) doc (whys.Req by) tasks.Discard known)) (gone_log e out t work order d its gone unloaded) later (prompts_log e out t work order settles later, tt)
+  where
+    order : Job
+    order = order_to (now_of e out) doc (whys.Req by) tasks.Discard
+
+    discards : IsDiscardOf (now_of e out) order d
+    discards = record { task = refl; to = due.to; unhandled = due.unhandled; for_one = rw due.there refl }
+
+    its : IsLeftAs e out order d
+    its =
+        discards_log e out work.same order d (left_log e out t work order d due.to.found due.unhandled discards.for_one) discards
+
+    gone : has_state d.state (now_of e out).history.rows ≡ false
+    gone = due.gone
+
+    unloaded : ongoing_load (now_of e out) d.state ≡ None
+    unloaded = due.unloaded
 
 -- a request for which an order may be sent is there
 pub record IsAsked (s : Seen) (req : ReqId) : Type 0 where

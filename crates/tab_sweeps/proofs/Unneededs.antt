@@ -1,11 +1,10 @@
 -- A document that nothing needs as it is made may be discarded; nobody is awake on it.
-use Rattle.seen_laws.specs.Blocks.{Here, MayLog}
 use Rattle.seen_facts.proofs.Hang.Hung.{places_distinct}
 use Rattle.seen_facts.proofs.Hang.Members.{find_has, has_any}
 use Rattle.seen_facts.proofs.Hang.Targets.{IsTarget, target_has}
 use Rattle.seen_facts.specs.Hang.AsPlaces.{AreDistinct}
 use Rattle.seen_facts.specs.Home.Homes.{IsHomed}
-use Rattle.row_facts.proofs.LeaveRows.Evicts.{unneeded_may}
+use Rattle.row_facts.proofs.LeaveRows.LeftMays.{unneeded_left_may}
 use Rattle.row_facts.specs.LeaveRows.Evicting.{IsUnneededDue, is_a_target, is_last}
 use Rattle.row_facts.specs.LeaveRows.Leaving.{is_for_one}
 use Rattle.log_model.proofs.Refl.{nat_eq_refl}
@@ -34,9 +33,10 @@ use Rattle.std.specs.List.{list_any}
 use Rattle.std.specs.Option.{option_map_or}
 use Rattle.std.specs.Prelude.{is_some, slice_get}
 use Rattle.tab_doors.proofs.Whose.{proc_found}
+use Rattle.tab_doors.proofs.Leavable.{IsLeftAs, discards_log, left_log, numbered_log, prompts_log, seen_at, unneeded_log}
 use Rattle.tab_doors.proofs.Works.{done_here, numbered, start_here}
 use Rattle.tab_doors.specs.Orders.{order_to, proc_at}
-use Rattle.tab_doors.specs.Working.{KeepsStore, MaySend, IsAhead}
+use Rattle.tab_doors.specs.Working.{KeepsStore, MaySend}
 use Rattle.tab_doors.specs.declared.tables.Tables.{Tables}
 use Rattle.tab_ids.specs.declared.DocId.{DocId}
 use Rattle.tab_ids.specs.declared.NavId.{NavId}
@@ -168,14 +168,7 @@ module _ (p : InPass) (out : List RowKind) (t : Tables) (passing : IsPassing p o
   alive : (stray.document.is_discarded || stray.document.is_known_dead) ≡ false
   alive = ap (λ (b : Bool). b || stray.document.is_known_dead) stray.undiscarded ∙ stray_unknown p out t leaving doc state stray
 
-  -- where the event stands, with the log without questions
-  abbrev at_now : Here
-  at_now = record (here_of p.event out) { now = s }
-
-  here_plain : at_now ≡ here_of p.event out
-  here_plain = ap (λ (x : Seen). let h : Here = record (here_of p.event out) { now = x } in h) (sym leaving.work.plain)
-
-  due : IsUnneededDue at_now (order_to s doc why tasks.Discard) stray.document
+  due : IsUnneededDue (seen_at p.event out leaving.work.same) (order_to s doc why tasks.Discard) stray.document
   due =
       record {
         discards = record {
@@ -200,9 +193,14 @@ module _ (p : InPass) (out : List RowKind) (t : Tables) (passing : IsPassing p o
         unkept = ap (λ (n : ℕ). has_doc s.kept (record { 0 = n })) (number_found s doc stray.document stray.found) ∙ its.unkept;
       }
 
+  -- the document as the log has it: it may be left
+  left_as : IsLeftAs p.event out (order_to s doc why tasks.Discard) stray.document
+  left_as =
+      discards_log p.event out leaving.work.same (order_to s doc why tasks.Discard) stray.document (left_log p.event out t leaving.work (order_to s doc why tasks.Discard) stray.document stray.found due.discards.unhandled due.discards.for_one) due.discards
+
   pub unneeded_sends : MaySend None p.event out discard
-  unneeded_sends =
-      subst (λ (h : Here). MayLog h (row_of p.event (rows.Sent discard) ∷ []) (IsAhead None)) here_plain (λ later ahead. unneeded_may at_now p.event.event p.event.actor (order_to s doc why tasks.Discard) stray.document (led_here p.event out leaving.work.own) (numbered s (proc_at s doc) doc why tasks.Discard (leaving.going.tab.asked.died (proc_at s doc)).0) due (settles_none p out t leaving doc state stray (row_of p.event (rows.Sent discard))) later tt)
+  unneeded_sends later ahead =
+      unneeded_left_may (here_of p.event out) p.event.event p.event.actor (order_to s doc why tasks.Discard) left_as.d (led_here p.event out leaving.work.own) (numbered_log p.event out leaving.work.same (order_to s doc why tasks.Discard) (numbered s (proc_at s doc) doc why tasks.Discard (leaving.going.tab.asked.died (proc_at s doc)).0)) (unneeded_log p.event out t leaving.work (order_to s doc why tasks.Discard) stray.document left_as due) later (prompts_log p.event out t leaving.work (order_to s doc why tasks.Discard) (settles_none p out t leaving doc state stray (row_of p.event (rows.Sent discard))) later, tt)
 
   -- ---- the row was put out
 

@@ -283,7 +283,7 @@ module _ (e : InEvent) (proc : ProcId) (job : Job) (outcome : Outcome) (del : Is
           places = places_same ∙ sym (map-id s.places);
           history = history_same;
           kept = kept_same;
-          asked = λ r q at. record { now = q; at = ap (λ (l : List Asked). request_in l r) requests_same ∙ at; same = refl };
+          asked = λ r q at. record { now = q; at = ap (λ (l : List Asked). request_in l r) requests_same ∙ at; same = refl; changed = λ change is. is };
           loads = λ r l at on. ap (λ (asked : List Asked). option_map look (request_in asked r)) (sym requests_same) ∙ at;
           loading = loading;
           serves = λ r may. serve_on s then_ r causes may;

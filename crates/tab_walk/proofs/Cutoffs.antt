@@ -18,6 +18,7 @@ use Rattle.log_model.specs.Equal.{has_doc}
 use Rattle.log_model.specs.History.{has_nav}
 use Rattle.log_model.specs.Seen.{Asked, Document, Place, Seen, asleep, awake, desk_of, document_of, place_of}
 use Rattle.log_model.specs.declared.header.Header.{Header}
+use Rattle.log_model.specs.declared.job.Job.{Job}
 use Rattle.log_model.specs.declared.job.Why.{Why}
 use Rattle.log_model.specs.declared.row_kind.RowKind.{RowKind}
 use Rattle.nav_tree.specs.Tree.{document_of as document_at}
@@ -35,6 +36,7 @@ use Rattle.std.proofs.lemmas.Bool.Decides.{nat_tests}
 use Rattle.std.specs.Prelude.{find, option_map}
 use Rattle.tab_doors.proofs.Sights.{sight_of}
 use Rattle.tab_doors.proofs.Whose.{proc_found}
+use Rattle.tab_doors.proofs.Leavable.{IsInLog, IsLeftAs, discards_log, in_log, last_log, left_log, many_log, numbered_log, prompts_log}
 use Rattle.tab_doors.proofs.Works.{header_here, numbered}
 use Rattle.tab_doors.specs.Keeping.{Move}
 use Rattle.tab_doors.specs.Look.{Sight, is_live_for, sight}
@@ -64,18 +66,23 @@ neither true b e f = absurd cc
 neither false true e f = absurd cc
 
 -- such an order may be sent
--- of the log itself
-cut_ahead_log : (e : InEvent) (out : List RowKind) (move : Move) (t : Tables) (doc : DocId) (why : Why) (d new : Document) → IsAtWorkFor (Some move) e out t → document_of (log_of e out) move.doc ≡ Some new → IsLeaveDue (log_of e out) (order_to (log_of e out) doc why tasks.Discard) d → (desk_of (log_of e out) (proc_at (log_of e out) doc)).known ≡ 0 → SettlesNone (log_of e out) (row_of e (rows.Sent (order_to (log_of e out) doc why tasks.Discard))) → e.header.keep ≡ 0 → (log_of e out).kept ≡ [] → new.nav ≡ d.nav → (move.doc.0 == d.nr.0) ≡ false → MaySend (Some move) e out (order_to (log_of e out) doc why tasks.Discard)
-cut_ahead_log e out move t doc why d new work found due known settles none kept same apart =
-    left_sends (here_of e out) e.event e.actor (order_to (here_of e out).now doc why tasks.Discard) move (led_here e out work.own) (numbered (here_of e out).now (proc_at (here_of e out).now doc) doc why tasks.Discard known) new found d due settles
-    (subst (λ (h : Header). IsTooMany h (here_of e out).now d) (sym (header_here e out)) (none_kept e.header (here_of e out).now d none kept))
-    same
-    apart
-
--- and so of the log without questions
 cut_ahead : (e : InEvent) (out : List RowKind) (move : Move) (t : Tables) (doc : DocId) (why : Why) (d new : Document) → IsAtWorkFor (Some move) e out t → document_of (now_of e out) move.doc ≡ Some new → IsLeaveDue (now_of e out) (order_to (now_of e out) doc why tasks.Discard) d → (desk_of (now_of e out) (proc_at (now_of e out) doc)).known ≡ 0 → SettlesNone (now_of e out) (row_of e (rows.Sent (order_to (now_of e out) doc why tasks.Discard))) → e.header.keep ≡ 0 → (now_of e out).kept ≡ [] → new.nav ≡ d.nav → (move.doc.0 == d.nr.0) ≡ false → MaySend (Some move) e out (order_to (now_of e out) doc why tasks.Discard)
 cut_ahead e out move t doc why d new work found due known settles none kept same apart =
-    subst (λ (s_ : Seen). MaySend (Some move) e out (order_to s_ doc why tasks.Discard)) work.plain (cut_ahead_log e out move t doc why d new work (subst (λ (s_ : Seen). document_of s_ move.doc ≡ Some new) (sym work.plain) found) (subst (λ (s_ : Seen). IsLeaveDue s_ (order_to s_ doc why tasks.Discard) d) (sym work.plain) due) (subst (λ (s_ : Seen). (desk_of s_ (proc_at s_ doc)).known ≡ 0) (sym work.plain) known) (subst (λ (s_ : Seen). SettlesNone s_ (row_of e (rows.Sent (order_to s_ doc why tasks.Discard)))) (sym work.plain) settles) none (subst (λ (s_ : Seen). s_.kept ≡ []) (sym work.plain) kept) same apart)
+    left_sends (here_of e out) e.event e.actor order move (led_here e out work.own) (numbered_log e out work.same order (numbered (now_of e out) (proc_at (now_of e out) doc) doc why tasks.Discard known)) shown.d shown.found its.d (last_log e out work.same order d its due) (prompts_log e out t work order settles)
+    (subst (λ (h : Header). IsTooMany h (log_of e out) its.d) (sym (header_here e out)) (many_log e out work.same order d its e.header (none_kept e.header (now_of e out) d none kept)))
+    (ap (λ (x : Document). x.nav) (sym shown.is) ∙ same ∙ ap (λ (x : Document). x.nav) its.is)
+    (ap (λ (x : Document). move.doc.0 == x.nr.0) (sym its.is) ∙ apart)
+  where
+    order : Job
+    order = order_to (now_of e out) doc why tasks.Discard
+
+    its : IsLeftAs e out order d
+    its =
+        discards_log e out work.same order d (left_log e out t work order d due.discards.to.found due.discards.unhandled due.discards.for_one) due.discards
+
+    -- the document that is shown, as the log has it
+    shown : IsInLog e out move.doc new
+    shown = in_log e out work.same move.doc new found
 
 module _ (m : InMove) (out : List RowKind) (t : Tables) (leaving : IsLeaving m.pass (Some (cut_of m)) [] out t) (why : Why) (may : MayCut m t.running (now_of m.pass.event out) m.nav m.left m.state why) where
   abbrev s : Seen

@@ -4,3 +4,5 @@ pub mod Making
 pub mod Dues
 pub mod Loads
 pub mod Ends
+pub mod Owed
+pub mod Leaves

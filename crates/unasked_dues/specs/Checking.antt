@@ -12,9 +12,9 @@ use Rattle.log_model.specs.Once.{loads}
 use Rattle.log_model.specs.Places.{has_passed, is_ongoing_load, is_traversal, is_under_way}
 use Rattle.log_model.specs.Queue.{is_step_under_way}
 use Rattle.log_model.specs.Seen.{Seen, Asked, request_of}
-use Rattle.row_facts.specs.LoadRows.LoadMaking.{is_ongoing_of}
+pub use Rattle.row_facts.specs.LoadRows.LoadMaking.{IsAloneWith, is_ongoing_of}
 use Rattle.unasked.specs.Premises.{IsNumbered}
-use Rattle.seen_laws.specs.Unasked.{without_asks}
+pub use Rattle.seen_laws.specs.Unasked.{unasked, without_asks}
 
 -- a request that has begun and hasn't ended is in its check, or has passed
 abbrev pub OthersPass : (ReqId → Bool) → Seen → Type 0
@@ -26,13 +26,14 @@ abbrev pub NonePasses : (ReqId → Bool) → Seen → Type 0
 NonePasses checking s =
     (req : ReqId) (q : Asked) → request_of s req ≡ Some q → is_under_way q ≡ true → is_traversal q.what ≡ true → checking req ≡ true → has_passed s q ≡ false
 
--- who is in its check is one that is checked, has a number, and has moved nobody
+-- who is in its check is one that is checked, has a number, has moved nobody, and sent no document to a fragment
 pub record IsChecking (req : ReqId) (q : Asked) : Type 0 where
   pub nr : q.nr ≡ req
   pub checked : is_checked q ≡ true
   pub unmoved : q.moved ≡ []
   pub shows : q.activated ≡ []
   pub unchanged : q.change ≡ None
+  pub unsent : q.fragment ≡ None
 
 -- each of them is so
 abbrev pub AreChecking : (ReqId → Bool) → Seen → Type 0

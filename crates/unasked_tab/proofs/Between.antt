@@ -1,5 +1,5 @@
--- What holds between two events of the log without questions: it is what holds of a tab in which nobody is in a check, where nobody is; a row that isn't seen leaves it; and a traversal in its check holds the queue.
-use Rattle.std.proofs.Common.{◌≡◌, ◌⊎◌, ℕ, ◌≤◌, Bool, true, false, List, [], Option, refl, sym, subst, inl, inr}
+-- What holds between two events of the log without questions: a row that isn't seen leaves it; and a traversal in its check holds the queue.
+use Rattle.std.proofs.Common.{◌≡◌, ◌⊎◌, ℕ, ◌≤◌, Bool, true, false, List, [], Option, sym, subst, inl, inr}
 use Rattle.tab_ids.specs.declared.ReqId.{ReqId}
 use Rattle.log_model.specs.ActsAtOnce.{ends_stepped, ends_told}
 use Rattle.log_model.specs.History.{has_state}
@@ -7,48 +7,9 @@ use Rattle.log_model.specs.Seen.{Asked, Document, Seen}
 use Rattle.seen_facts.specs.Coord.Flowing.{Flows}
 use Rattle.seen_facts.specs.Rest.Between.{HasLoadDocument, IsOfLoad}
 use Rattle.seen_facts.specs.Walk.Serving.{AreServed}
-use Rattle.tab_facts.specs.TabEvents.Between.{AreSwept, IsBetween, orders_go}
+use Rattle.tab_facts.specs.TabEvents.Between.{AreSwept, IsBetweenChecks, orders_go}
 use Rattle.unasked.proofs.Whole.{silent}
-use Rattle.unasked_tab.specs.Between.{IsBetweenChecks}
 use Rattle.unasked_tab.proofs.Silent.{silent_tab}
-
--- ---- where nobody is in a check
-
--- what holds between two events holds so
-pub between_checks : (keep : ℕ) (run : Option ReqId) (s : Seen) → IsBetween keep run s → IsBetweenChecks keep run [] false s
-between_checks keep run s is =
-    record {
-      tab = is.tab;
-      flows = is.flows;
-      served = is.served;
-      told = is.told;
-      stepped = λ none. is.stepped;
-      held = is.held;
-      rows_ = is.rows_;
-      rests = is.rests;
-      swept = is.swept;
-      stands = is.stands;
-      loading = is.loading;
-      few = is.few;
-    }
-
--- and back
-pub checks_between : (keep : ℕ) (run : Option ReqId) (s : Seen) → IsBetweenChecks keep run [] false s → IsBetween keep run s
-checks_between keep run s is =
-    record {
-      tab = is.tab;
-      flows = is.flows;
-      served = is.served;
-      told = is.told;
-      stepped = is.stepped refl;
-      held = is.held;
-      rows_ = is.rows_;
-      rests = is.rests;
-      swept = is.swept;
-      stands = is.stands;
-      loading = is.loading;
-      few = is.few;
-    }
 
 -- ---- a traversal in its check
 

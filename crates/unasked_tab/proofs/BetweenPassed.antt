@@ -15,13 +15,12 @@ use Rattle.seen_facts.proofs.Coord.Flowings.{left_flows}
 use Rattle.seen_facts.proofs.Coord.Held.{held_alike, made_of, on_else}
 use Rattle.seen_facts.proofs.Load.Rows.{req_same}
 use Rattle.tab_facts.specs.Calm.Loads.{LoadsHaveDocuments}
-use Rattle.tab_facts.specs.TabEvents.Between.{AreSwept, orders_go}
+use Rattle.tab_facts.specs.TabEvents.Between.{AreSwept, IsBetweenChecks, orders_go}
 use Rattle.tab_facts.specs.TabWhole.Tab.{IsTab}
 use Rattle.tab_facts.proofs.TabWhole.Beginning.{IsToGo, no_load}
 use Rattle.unasked.specs.Premises.{IsNumbered}
 use Rattle.seen_laws.specs.Unasked.{unasked}
 use Rattle.unasked.proofs.Passings.{begun_as, passed_unasked}
-use Rattle.unasked_tab.specs.Between.{IsBetweenChecks}
 use Rattle.unasked_tab.proofs.Alike.{read_alike}
 use Rattle.unasked_tab.proofs.Begun.{begun, begun_alike, begun_now, some_same, with_begun}
 use Rattle.unasked_tab.proofs.Passed.{passed_tab}

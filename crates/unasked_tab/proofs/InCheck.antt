@@ -33,15 +33,13 @@ use Rattle.seen_facts.proofs.Request.LookUps.{none_before, on_itself, one_more, 
 use Rattle.seen_facts.proofs.Request.Times.{times_none}
 use Rattle.row_facts.proofs.RestRows.Rows.{accepted_rests, dropped_rests}
 use Rattle.tab_facts.proofs.FrameWhole.Ending.{some_times}
-use Rattle.tab_facts.specs.TabEvents.Between.{has_order}
+use Rattle.tab_facts.specs.TabEvents.Between.{IsBetweenChecks, has_order}
 use Rattle.tab_facts.specs.TabWhole.Tab.{IsTab}
+use Rattle.tab_facts.proofs.TabWhole.Accepting as accepting
 use Rattle.tab_facts.proofs.TabWhole.Refusing.{hand_load_dropped_tab, load_other, queued_dropped_tab}
 use Rattle.tab_facts.proofs.TabWhole.Where.{at_most_once}
-use Rattle.unasked_tab.specs.Between.{IsBetweenChecks}
 use Rattle.unasked_tab.specs.Steady.{AreSteady}
 use Rattle.unasked_tab.proofs.Begun.{some_same}
-use Rattle.unasked_tab.proofs.GoAccepted.{joined_flows, joined_queue, joined_tab}
-use Rattle.unasked_tab.proofs.LoadAccepted.{accepted, accepted_flows, accepted_tab}
 use Rattle.unasked_tab.proofs.Reordered.{AreAsOften, reordered_tab}
 use Rattle.unasked_tab.proofs.Steady.{steady_between}
 
@@ -119,13 +117,13 @@ module _ (keep : ℕ) (run : Option ReqId) (loads : List ReqId) (waits : Bool) (
 
   module _ (is : IsBetweenChecks keep run loads waits s) (nr : req.0 ≡ length s.requests + 1) (nav : NavId) (mode : Mode) (address : List ℕ) where
     abbrev come : Seen
-    come = accepted run loads s event actor is.tab is.flows req nr nav mode address
+    come = accepting.load_accepted run s event actor is.tab is.flows req nr nav mode address
 
     abbrev new : Asked
     new = new_request req None (requests.Load nav mode address)
 
     tab : IsTab run (req ∷ loads) [] come
-    tab = accepted_tab run loads s event actor is.tab is.flows req nr nav mode address
+    tab = accepting.load_accepted_tab run s event actor is.tab is.flows req nr nav mode address
 
     steady : AreSteady s.requests come.requests
     steady =
@@ -139,7 +137,7 @@ module _ (keep : ℕ) (run : Option ReqId) (loads : List ReqId) (waits : Bool) (
     pub load_in_check : IsBetweenChecks keep run (req ∷ loads) waits come
     load_in_check =
         steady_between s come.requests come.desks come.joined come.parked come.events come.jobs come.states come.just_finished come.has_stood keep run loads (req ∷ loads) waits is tab steady (λ none free. refl) refl (λ go. go)
-        (accepted_flows run loads s event actor is.tab is.flows req nr nav mode address)
+        (accepting.load_accepted_flows run s event actor is.tab is.flows req nr nav mode address)
         (accepted_rests s event actor [] is.rests req None (requests.Load nav mode address))
 
   -- ---- a load is dropped in its check
@@ -187,13 +185,13 @@ module _ (keep : ℕ) (run : Option ReqId) (loads : List ReqId) (waits : Bool) (
 
   module _ (is : IsBetweenChecks keep run loads waits s) (nr : req.0 ≡ length s.requests + 1) (delta : ℤ) where
     abbrev went : Seen
-    went = joined_queue run loads s event actor is.tab is.flows req nr delta
+    went = accepting.went run s event actor is.tab is.flows req nr delta
 
     abbrev step : Asked
     step = new_request req None (requests.Go delta)
 
     went_tab : IsTab run loads [] went
-    went_tab = joined_tab run loads s event actor is.tab is.flows req nr delta
+    went_tab = accepting.went_tab run s event actor is.tab is.flows req nr delta
 
     went_steady : AreSteady s.requests went.requests
     went_steady =
@@ -208,7 +206,7 @@ module _ (keep : ℕ) (run : Option ReqId) (loads : List ReqId) (waits : Bool) (
     go_waits full =
         steady_between s went.requests went.desks went.joined went.parked went.events went.jobs went.states went.just_finished went.has_stood keep run loads loads waits is went_tab went_steady
         (λ none free. (let never : true ≡ false = sym free ∙ full none in absurd cc)) refl (λ go. go)
-        (joined_flows run loads s event actor is.tab is.flows req nr delta)
+        (accepting.went_flows run s event actor is.tab is.flows req nr delta)
         (accepted_rests s event actor [] is.rests req None (requests.Go delta))
 
   -- ---- a step that waits is dropped

@@ -7,8 +7,6 @@ pub mod LoadFresh
 pub mod Reordered
 pub mod Unasked
 pub mod Between
-pub mod LoadAccepted
 pub mod Steady
-pub mod GoAccepted
 pub mod InCheck
 pub mod BetweenPassed

@@ -22,10 +22,9 @@ use Rattle.seen_facts.specs.Walk.Serving.{AreServed, IsServed}
 use Rattle.seen_facts.proofs.Rest.Stands.{all_requests, request_has}
 use Rattle.row_facts.specs.RestRows.Moving.{AllRest}
 use Rattle.tab_facts.specs.Calm.Loads.{LoadsHaveDocuments}
-use Rattle.tab_facts.specs.TabEvents.Between.{AreSwept, orders_go}
+use Rattle.tab_facts.specs.TabEvents.Between.{AreSwept, IsBetweenChecks, orders_go}
 use Rattle.tab_facts.specs.TabWhole.Tab.{IsTab}
 use Rattle.tab_facts.proofs.TabEvents.Left.{passed_runs, steps_run}
-use Rattle.unasked_tab.specs.Between.{IsBetweenChecks}
 use Rattle.unasked_tab.specs.Steady.{AreSteady}
 
 -- ---- lists

@@ -3,7 +3,11 @@ use Rattle.row_facts.specs.FrameRows.Lawful.{AreLawful, IsRestOf}
 use Rattle.seen_facts.specs.Hang.Members.{Has}
 use Rattle.seen_facts.specs.Kept.Keeping.{is_last}
 use Rattle.row_facts.proofs.LeaveRows.Ahead.{evicted_ahead}
-use Rattle.row_facts.proofs.LeaveRows.Evicts.{discard_discards, evict_may, evicted_may, evicted_row}
+use Rattle.row_facts.proofs.LeaveRows.Evicts.{discard_discards, evicted_may, evicted_row}
+use Rattle.row_facts.proofs.LeaveRows.LeftMays.{evict_left_may}
+use Rattle.row_facts.proofs.LeaveRows.LeftRows.{prompts_none}
+use Rattle.row_facts.specs.FrameRows.Discarding.{SettlesNone}
+use Rattle.row_facts.specs.LeaveRows.MayLeave.{PromptsLater}
 use Rattle.row_facts.specs.LeaveRows.Evicting.{IsDiscardedLater, IsKeptLast, is_evicting, is_last as is_its_last}
 use Rattle.log_model.specs.AfterPlaces.{without_doc}
 use Rattle.log_model.specs.Equal.{has_doc, holds}
@@ -17,13 +21,14 @@ use Rattle.log_model.specs.declared.job.Task.{Task}
 use Rattle.log_model.specs.declared.row_kind.Actor.{Actor}
 use Rattle.log_model.specs.declared.row_kind.LogRow.{LogRow}
 use Rattle.log_model.specs.declared.row_kind.RowKind.{RowKind}
-use Rattle.seen_laws.proofs.InEvents.{led_here}
+use Rattle.seen_laws.proofs.InEvents.{led_here, now_own}
 use Rattle.seen_laws.proofs.Keyed.{find_has as seen_number}
-use Rattle.seen_laws.specs.Blocks.{Here, MayLog}
+use Rattle.seen_laws.specs.Blocks.{MayLog}
 use Rattle.seen_laws.specs.InEvent.{InEvent, here_of, now_of, row_of, start_of}
 use Rattle.seen_laws.specs.Sending.{leads}
 use Rattle.std.proofs.Common.{Bool, List, None, Option, Some, [], ap, arith, cond, false, inl, inr, not, refl, subst, sym, true, ℕ, ◌==◌, ◌∙◌, ◌∷◌, ◌≡◌}
 use Rattle.std.proofs.lemmas.Bool.Decides.{nat_tests}
+use Rattle.tab_doors.proofs.Leavable.{IsLeftAs, discards_log, kept_last_log, leaves_log, numbered_log}
 use Rattle.tab_doors.proofs.Works.{numbered}
 use Rattle.tab_doors.specs.Orders.{order_to, proc_at}
 use Rattle.tab_doors.specs.declared.tables.Tables.{Tables}
@@ -179,20 +184,18 @@ module _ (e : InEvent) (t : Tables) (doc : DocId) (state : StateId) (its : IsEvi
   evicting : is_evicting (row_of e e.own ∷ []) ≡ true
   evicting = ap (λ (row : LogRow). is_evicting (row ∷ [])) own_row
 
-  -- where the event stands, and the log as it would be had nobody been asked
-  abbrev here_seen : Here
-  here_seen = record (here_of e []) { now = n }
+  -- the document as the log has it: an eviction is for no request, so it may be left
+  left_as : IsLeftAs e [] discard its.document
+  left_as = discards_log e [] (now_own e) discard its.document (λ req why. cc) its.discards
 
-  here_plain : here_seen ≡ here_of e []
-  here_plain = ap (λ (x : Seen). let h : Here = record (here_of e []) { now = x } in h) (sym its.aside.plain)
-
-  second_seen : MayLog here_seen (row_of e (rows.Sent discard) ∷ []) (IsRestOf e (rows.Sent discard ∷ []))
-  second_seen later rest =
-      evict_may here_seen e.event e.actor discard its.document (newly_left n later) (led_here e [] own_leads) (numbered n (proc_at n doc) doc whys.Evict tasks.Discard its.known) (due_for (newly_left n later) (λ x is. left_last n later x is)) (its.settles (row_of e (rows.Sent discard))) evicting later refl
+  -- nobody is asked, so no prompt is due
+  no_prompts : (later : List LogRow) → PromptsLater (here_of e []) (row_of e (rows.Sent discard)) later
+  no_prompts later =
+      prompts_none (here_of e []) (row_of e (rows.Sent discard)) (subst (λ (x : Seen). SettlesNone x (row_of e (rows.Sent discard))) (sym its.aside.plain) (its.settles (row_of e (rows.Sent discard)))) later
 
   second_may : MayLog (here_of e []) (row_of e (rows.Sent discard) ∷ []) (IsRestOf e (rows.Sent discard ∷ []))
-  second_may =
-      subst (λ (h : Here). MayLog h (row_of e (rows.Sent discard) ∷ []) (IsRestOf e (rows.Sent discard ∷ []))) here_plain second_seen
+  second_may later rest =
+      evict_left_may (here_of e []) e.event e.actor discard left_as.d (led_here e [] own_leads) (numbered_log e [] (now_own e) discard (numbered n (proc_at n doc) doc whys.Evict tasks.Discard its.known)) (newly_left n later) (kept_last_log e [] (now_own e) discard its.document left_as (newly_left n later) (due_for (newly_left n later) (λ x is. left_last n later x is))) evicting later (no_prompts later, sym (leaves_log e [] (now_own e) later))
 
   pub evicted_lawful : AreLawful e (rows.Sent discard ∷ [])
   unfolding AreLawful

@@ -116,7 +116,7 @@ module _ (e : InEvent) (state : StateId) (asks : IsEvictAsk e state) (t : Tables
         places = sym (map-id s.places);
         history = refl;
         kept = refl;
-        asked = λ req q at. record { now = q; at = at; same = refl };
+        asked = λ req q at. record { now = q; at = at; same = refl; changed = λ change is. is };
         loads = λ req l at on. at;
         loading = loads_same s went (λ req l at on. at) (λ doc. refl) stands.between.loading;
         serves = serves;

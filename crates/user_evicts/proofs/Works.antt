@@ -1,4 +1,5 @@
 -- The document that the user evicts is discarded by the first row that is put out, and the coordinator is at work then.
+use Rattle.checking_facts.proofs.Cases.{other_wakes}
 use Rattle.checking_facts.proofs.Rows.{row_checks}
 use Rattle.checking_facts.specs.Checks.{AreInCheck}
 use Rattle.seen_laws.specs.Unasked.{unasked}
@@ -29,7 +30,7 @@ use Rattle.tab_doors.proofs.Initial.{initial_same}
 use Rattle.tab_doors.proofs.Keeping.{gone_tied}
 use Rattle.tab_doors.proofs.ShowWorks.{served_same}
 use Rattle.tab_doors.proofs.Telling.{SendsOne}
-use Rattle.tab_doors.proofs.Works.{few_sent, goal_on, goal_read, kept_gone, none_asleep, none_calm, runs_on}
+use Rattle.tab_doors.proofs.Works.{few_sent, goal_on, goal_read, kept_gone, none_steps, runs_on}
 use Rattle.tab_doors.specs.Look.{look_of, sight}
 use Rattle.tab_doors.proofs.Whose.{proc_known, proc_same}
 use Rattle.tab_doors.specs.Orders.{numbered_order, order_to, proc_at}
@@ -84,8 +85,8 @@ module _ (e : InEvent) (t u : Tables) (doc : DocId) (state : StateId) (tied : Ar
             ∙ ap (λ (x : Seen). unasked e.checking x) (sym (log_more e [] (rows.Sent order)));
         checks =
             subst (λ (x : Seen). AreInCheck e.checking x) (sym (log_more e [] (rows.Sent order)))
-            (row_checks e.checking (log_of e []) (row_of e (rows.Sent order)) (none_asleep e.checking its.aside.unchecked (log_of e []) order) its.checks);
-        calm = none_calm e.checking its.aside.unchecked (log_of e (rows.Sent order ∷ []));
+            (row_checks e.checking (log_of e []) (row_of e (rows.Sent order)) (other_wakes e.checking (log_of e []) order (λ req is. its.aside.unchecked req)) tt its.checks);
+        unheld = none_steps e.checking its.aside.unchecked (log_of e (rows.Sent order ∷ []));
         holds = subst (λ (x : Seen). Holds (look_of x u.running) u) now_is (subst (λ (r : Option ReqId). Holds (look_of then_ r) u) (sym running) (discard_holds n t.running e.event e.actor (proc_at n doc) doc whys.Evict state [] t tied.holds tied.runs its.gone.are its.gone.its_state its.gone.its u tree one));
         runs = subst (λ (x : Seen). IsRunning x.requests u.running) now_is (runs_on n.requests then_.requests t u (served_same is_run n order tasks.Discard whys.Evict (λ q. refl)) running tied.runs);
         goal = subst (λ (x : Seen). HasGoal x.requests u.running u.goal) now_is (goal_on n.requests then_.requests t u (served_same goal_read n order tasks.Discard whys.Evict (λ q. refl)) running goal tied.goal);

@@ -10,7 +10,6 @@ use Rattle.tab_ids.specs.declared.NavId.{NavId}
 use Rattle.tab_ids.specs.declared.ProcId.{ProcId}
 use Rattle.tab_ids.specs.declared.ReqId.{ReqId}
 use Rattle.log_model.specs.declared.action.Action.{Action}
-use Rattle.log_model.specs.declared.action.Action.TheVariants as acts
 use Rattle.log_model.specs.declared.header.Header.{Header}
 use Rattle.log_model.specs.declared.outcome.Ending.{Ending}
 use Rattle.log_model.specs.declared.outcome.Ending.TheVariants as ends
@@ -22,7 +21,6 @@ use Rattle.log_model.specs.declared.row_kind.LogRow.{LogRow}
 use Rattle.log_model.specs.declared.row_kind.RowKind.{RowKind}
 use Rattle.log_model.specs.declared.row_kind.RowKind.TheVariants as rows
 use Rattle.log_model.specs.After.{after, new_request}
-use Rattle.log_model.specs.Entries.{HasPassed}
 use Rattle.log_model.specs.Causes.{denial_of_poke}
 use Rattle.log_model.specs.declared.outcome.Denial.{Denial}
 use Rattle.log_model.specs.Logs.{seen_of}
@@ -31,7 +29,6 @@ use Rattle.history_log.proofs.DeskLaws.{desk_of-after, desk_poked, with_poke}
 use Rattle.proc_tables.specs.declared.item.Item.TheVariants as items
 use Rattle.proc_tables.specs.Desks.{Changes, desk_at, desk_noted, desk_with, on_proc}
 use Rattle.proc_tables.specs.Views.{view_at}
-use Rattle.seen_facts.specs.Asked.Asking.{IsNoEditing}
 use Rattle.seen_laws.specs.InEvent.{InEvent}
 use Rattle.coord.specs.Standing.{HasActed, IsAsk, IsOpenTo, asked_for}
 use Rattle.coord.specs.declared.ask.Ask.{Ask}
@@ -46,7 +43,7 @@ use Rattle.world.specs.Asking.{event_asking, event_of, asking}
 use Rattle.world.specs.Notes.{endings_noted, ended_in, row_with}
 use Rattle.world.specs.Open.{IsOpen, row_limit}
 use Rattle.world.specs.Reaching.{Reaches}
-use Rattle.world.specs.Steps.{Begins, actor_of, is_no_edit, next_request, reached_in}
+use Rattle.world.specs.Steps.{Begins, actor_of, next_request, reached_in}
 use Rattle.world.specs.Turns.{HasGone}
 use Rattle.world.proofs.EndingLaws.{endings}
 use Rattle.world.proofs.EventLaws.{works_on}
@@ -68,16 +65,6 @@ ended_last endings_ req ending nr =
     let real : (req.0 == 0) ≡ false = grind (arith, nat_tests, nr) in
     let at : (req.0 - 1) ≡ length endings_ = omega (arith, nr) in
     rw (real, at) (set_last endings_ (Some ending))
-
--- such an action is no edit
-no_editing : (action : Action) → HasPassed (is_no_edit action) → IsNoEditing action
-no_editing (acts.Push memo reference) is = tt
-no_editing (acts.Replace memo reference) is = tt
-no_editing (acts.Fragment text) is = tt
-no_editing (acts.AddFrame child) is = tt
-no_editing (acts.RemoveFrame child) is = tt
-no_editing (acts.Go delta) is = tt
-no_editing acts.Edit never = elim never [ ]
 
 -- what the coordinator asks of the event of a load or a traversal
 pub asks_so : (e : InEvent) (header : Header) (log : List LogRow) (req : ReqId) (ask : Ask) (c : Coordinator) (out : List RowKind) → e ≡ asking header log req ask → IsOpenTo e c → req.0 ≡ length (seen_of log).requests + 1 → out ≡ [] → IsAsk e req ask × (IsOpenTo e c × (out ≡ []))
@@ -134,8 +121,8 @@ module _ (header : Header) (log : List LogRow) (t : State) (is : IsOpen header l
 
   -- ---- a poke that reaches a document
 
-  pub poke_gone : (req : ReqId) (nav : NavId) (action : Action) (doc : DocId) (proc : ProcId) (new : State) (longer : List LogRow) → HasPassed (is_no_edit action) → Reaches s nav doc → proc_in t.coordinator.tables.whose.entries doc ≡ Some proc → req ≡ next_request s → new.coordinator ≡ t.coordinator → new.events ≡ t.events + 1 → new.views ≡ t.views → new.runners ≡ t.runners → Changes proc (desk_with (items.Poke (record { req = req; doc = doc; action = action }))) t.desks new.desks → new.endings.items ≡ t.endings.items ++ None ∷ [] → longer ≡ log ++ row_with t.events actors.Ui (rows.Accepted req (Some doc) (requests.Poke nav action)) ∷ [] → HasGone header (events.Poke nav action) (replies.Accepted req) log longer new
-  poke_gone req nav action doc proc new longer built reaches proc_is nr coordinator events_ views run desks ends_ more =
+  pub poke_gone : (req : ReqId) (nav : NavId) (action : Action) (doc : DocId) (proc : ProcId) (new : State) (longer : List LogRow) → Reaches s nav doc → proc_in t.coordinator.tables.whose.entries doc ≡ Some proc → req ≡ next_request s → new.coordinator ≡ t.coordinator → new.events ≡ t.events + 1 → new.views ≡ t.views → new.runners ≡ t.runners → Changes proc (desk_with (items.Poke (record { req = req; doc = doc; action = action }))) t.desks new.desks → new.endings.items ≡ t.endings.items ++ None ∷ [] → longer ≡ log ++ row_with t.events actors.Ui (rows.Accepted req (Some doc) (requests.Poke nav action)) ∷ [] → HasGone header (events.Poke nav action) (replies.Accepted req) log longer new
+  poke_gone req nav action doc proc new longer reaches proc_is nr coordinator events_ views run desks ends_ more =
       let whole : longer ≡ log ++ row_with s.events actors.Ui own ∷ [] = more ∙ ap (λ (k : ℕ). log ++ row_with k actors.Ui own ∷ []) (sym is.holds.events) in
       record {
         happened = record { own = own; out = []; begins = (ap (λ (r : ReqId). replies.Accepted r) nr, begun); log = whole };
@@ -159,7 +146,7 @@ module _ (header : Header) (log : List LogRow) (t : State) (is : IsOpen header l
 
       acted : HasActed (event_of header log actors.Ui own) [] new.coordinator
       acted =
-          subst (λ (c : Coordinator). HasActed (event_of header log actors.Ui own) [] c) (sym coordinator) (poke_acts (event_of header log actors.Ui own) t.coordinator (open_to header log t is actors.Ui own) req nav action (no_editing action built) refl (ap (λ (r : ReqId). r.0) nr) doc reaches refl)
+          subst (λ (c : Coordinator). HasActed (event_of header log actors.Ui own) [] c) (sym coordinator) (poke_acts (event_of header log actors.Ui own) t.coordinator (open_to header log t is actors.Ui own) req nav action refl (ap (λ (r : ReqId). r.0) nr) doc reaches refl)
 
       found : document_of s doc ≡ Some reaches.d
       found = reaches.found
@@ -186,8 +173,8 @@ module _ (header : Header) (log : List LogRow) (t : State) (is : IsOpen header l
 
   -- ---- a poke that reaches none
 
-  pub stray_gone : (req : ReqId) (nav : NavId) (action : Action) (reason : Denial) (new : State) (longer : List LogRow) → HasPassed (is_no_edit action) → denial_of_poke s nav ≡ Some reason → req ≡ next_request s → new.coordinator ≡ t.coordinator → new.events ≡ t.events + 1 → new.views ≡ t.views → new.runners ≡ t.runners → new.desks ≡ t.desks → new.endings.items ≡ t.endings.items ++ Some (ends.Refused reason) ∷ [] → longer ≡ (log ++ row_with t.events actors.Ui (rows.Accepted req None (requests.Poke nav action)) ∷ []) ++ row_with t.events actors.Ui (rows.Refused req reason) ∷ [] → HasGone header (events.Poke nav action) (replies.Accepted req) log longer new
-  stray_gone req nav action reason new longer built denied nr coordinator events_ views run desks ends_ more =
+  pub stray_gone : (req : ReqId) (nav : NavId) (action : Action) (reason : Denial) (new : State) (longer : List LogRow) → denial_of_poke s nav ≡ Some reason → req ≡ next_request s → new.coordinator ≡ t.coordinator → new.events ≡ t.events + 1 → new.views ≡ t.views → new.runners ≡ t.runners → new.desks ≡ t.desks → new.endings.items ≡ t.endings.items ++ Some (ends.Refused reason) ∷ [] → longer ≡ (log ++ row_with t.events actors.Ui (rows.Accepted req None (requests.Poke nav action)) ∷ []) ++ row_with t.events actors.Ui (rows.Refused req reason) ∷ [] → HasGone header (events.Poke nav action) (replies.Accepted req) log longer new
+  stray_gone req nav action reason new longer denied nr coordinator events_ views run desks ends_ more =
       let whole : longer ≡ log ++ row_with s.events actors.Ui own ∷ map (row_with s.events actors.Ui) out = more ∙ rows_same log t.events s.events own out (sym is.holds.events) in
       record {
         happened = record { own = own; out = out; begins = (ap (λ (r : ReqId). replies.Accepted r) nr, begun); log = whole };
@@ -210,7 +197,7 @@ module _ (header : Header) (log : List LogRow) (t : State) (is : IsOpen header l
 
       acted : HasActed (event_of header log actors.Ui own) out new.coordinator
       acted =
-          subst (λ (c : Coordinator). HasActed (event_of header log actors.Ui own) out c) (sym coordinator) (poke_refused_acts (event_of header log actors.Ui own) t.coordinator (open_to header log t is actors.Ui own) req nav action (no_editing action built) refl at reason denied refl refl)
+          subst (λ (c : Coordinator). HasActed (event_of header log actors.Ui own) out c) (sym coordinator) (poke_refused_acts (event_of header log actors.Ui own) t.coordinator (open_to header log t is actors.Ui own) req nav action refl at reason denied refl refl)
 
       ended : t.endings.items ++ Some (ends.Refused reason) ∷ [] ≡ ended_in (t.endings.items ++ None ∷ []) req (ends.Refused reason)
       ended =

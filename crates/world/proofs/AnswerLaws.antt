@@ -170,6 +170,7 @@ own_answered : (slots : List HandlerKind) (s : Seen) (event : Event) (reply : Re
 own_answered slots s (events.Load nav mode address) reply own out p at due begins = rw begins.1 refl
 own_answered slots s (events.Go delta) reply own out p at due begins = rw begins.1 refl
 own_answered slots s (events.Poke nav action) reply own out p at due begins = rw begins.1 refl
+own_answered slots s (events.Answer req stay) reply own out p at due begins = rw begins.1 refl
 own_answered slots s events.Evict reply own out p at due begins =
     some_and _ (longest_kept s) _ begins.1 (λ d there own_is. rw own_is refl)
 own_answered slots s (events.Act proc) reply own out p at due begins =

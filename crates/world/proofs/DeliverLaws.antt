@@ -19,7 +19,7 @@ use Rattle.coord.specs.Delivering.{InDelivery}
 use Rattle.coord.specs.Standing.{HasActed, IsOpenTo}
 use Rattle.coord.specs.declared.coordinator.Coordinator.{Coordinator}
 use Rattle.running_table.proofs.ForCallers.{quiet_told}
-use Rattle.tab_stands.specs.Delivering.{IsDelivery}
+use Rattle.coord.specs.PassedOn.{IsDelivery}
 use Rattle.world.specs.declared.event.Event.TheVariants as events
 use Rattle.world.specs.declared.event.Reply.TheVariants as replies
 use Rattle.world.specs.declared.state.State.{State}

@@ -22,7 +22,7 @@ use Rattle.log_model.specs.Seen.{Seen, Document, document_of}
 use Rattle.tab_ids.specs.declared.DocId.{DocId}
 use Rattle.tab_ids.specs.declared.ProcId.{ProcId}
 use Rattle.tab_ids.specs.declared.StateId.{StateId}
-use Rattle.user_evicts.specs.Evicting.{IsEvictAsk}
+use Rattle.coord.specs.PassedOn.{IsEvictAsk}
 use Rattle.world.specs.declared.event.Event.TheVariants as events
 use Rattle.world.specs.declared.event.Reply.TheVariants as replies
 use Rattle.world.specs.declared.state.State.{State}

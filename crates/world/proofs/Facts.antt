@@ -1,6 +1,6 @@
 -- What is known of an open world: the views of documents and where they live, whom a poke reaches, and that its numbers are small.
 use Rattle.std.proofs.Common.{◌≡◌, ℕ, ◌+◌, ◌<◌, ◌≤◌, Bool, true, false, ◌==◌, List, [], ◌∷◌, length, map, Option, Some, None, refl, sym, ap, ◌∙◌, subst, arith}
-use Rattle.std.specs.Prelude.{option_and_then, option_map, is_some, IfSome, IsSome, IsSomeAnd, if◌then◌else◌, slice_get}
+use Rattle.std.specs.Prelude.{option_and_then, option_map, is_some, IfSome, IsSome, IsSomeAnd, if◌then◌else◌}
 use Rattle.std.proofs.lemmas.Bool.Decides.{nat_tests}
 use Rattle.tab_ids.specs.declared.DocId.{DocId}
 use Rattle.tab_ids.specs.declared.NavId.{NavId}
@@ -17,7 +17,7 @@ use Rattle.log_model.specs.Causes.{denial_of_poke}
 use Rattle.log_model.specs.Equal.{holds}
 use Rattle.log_model.specs.Formed.{poked_document}
 use Rattle.log_model.specs.Logs.{seen_of}
-use Rattle.log_model.specs.Seen.{Seen, Document, Desk, Asked, desk_of, document_of, request_in}
+use Rattle.log_model.specs.Seen.{Seen, Document, Desk, Asked, document_of}
 use Rattle.log_model.specs.Views.{View}
 use Rattle.log_counts.specs.Counts.{AreFew, told_index}
 use Rattle.log_counts.proofs.Fews.{legal_few}
@@ -28,7 +28,7 @@ use Rattle.tab_doors.specs.declared.birth.Birth.{Birth}
 use Rattle.tab_doors.specs.Look.{Sight}
 use Rattle.tab_doors.specs.Ties.{birth_of, proc_in}
 use Rattle.tab_doors.proofs.Sights.{sight_of}
-use Rattle.tab_stands.specs.Standing.{HasRoomFor}
+use Rattle.coord.specs.PassedOn.{HasRoomFor}
 use Rattle.tab_facts.specs.TabWhole.Tab.{IsTab}
 use Rattle.world.specs.declared.state.State.{State}
 use Rattle.proc_tables.specs.Desks.{desk_at}
@@ -37,13 +37,6 @@ use Rattle.world.specs.Asking.{event_of}
 use Rattle.world.specs.Open.{IsOpen, IsSmall, row_limit, view_in}
 use Rattle.world.specs.Reaching.{AreOf, Reaches}
 use Rattle.world.specs.Steps.{next_request, reached_in}
-use Rattle.seen_facts.specs.Request.Cores.{Core, core, core_of}
-use Rattle.seen_facts.specs.Request.Knowns.{IsPoke}
-use Rattle.seen_facts.specs.Asked.Asking.{IsTabRequest}
-use Rattle.seen_facts.specs.Asked.Asking.{IsNoEditing}
-use Rattle.log_model.specs.declared.request.Poke.{Poke}
-use Rattle.seen_facts.proofs.Request.KnownMoved.{first_poke}
-use Rattle.log_model.specs.declared.request.Request.TheVariants as requests
 
 as_long : {A B : Type 0} (f : A → B) (xs : List A) → length (map f xs) ≡ length xs
 as_long f [] = refl
@@ -218,20 +211,3 @@ module _ (header : Header) (log : List LogRow) (t : State) (is : IsOpen header l
       let told : told_index order.job.task ≤ s.events = few.hand proc order (ap (λ (x : Desk). x.in_hand) (is.holds.desks proc) ∙ hand) in
       let same : s.events ≡ t.events = is.holds.events in
       omega (arith, told, same)
-
-  -- ---- pokes
-
-  -- a poke that waits is no edit
-  pub poke_fine : (proc : ProcId) (poke : Poke) → slice_get (desk_of s proc).input 0 ≡ Some poke → IsNoEditing poke.action
-  poke_fine proc poke first =
-      by_found (request_in s.requests poke.req) refl (first_poke s [] proc poke first tab.once tab.known)
-    where
-      some_same : {A : Type 0} {a b : A} → (let o : Option A = Some a in o) ≡ Some b → a ≡ b
-      some_same e = cc
-
-      by_found : (o : Option Asked) → request_in s.requests poke.req ≡ o → IsPoke (core_of o) poke → IsNoEditing poke.action
-      by_found None at k = (let never : None ≡ Some _ = k.is in absurd cc)
-      by_found (Some q) at k =
-          let same : core q ≡ record { what = requests.Poke k.nav poke.action; doc = Some poke.doc; made = None; ending = None } = some_same k.is in
-          let what : q.what ≡ requests.Poke k.nav poke.action = ap (λ (c : Core). c.what) same in
-          subst IsTabRequest what (tab.asked.each poke.req q at).what

@@ -47,7 +47,7 @@ use Rattle.seen_facts.proofs.Rest.Again.{its_number}
 use Rattle.tab_facts.specs.Running.Running.{Runs}
 use Rattle.running_table.specs.Runners.{RunnersState}
 use Rattle.running_table.specs.Telling.{GoesWith}
-use Rattle.tab_settles.specs.Settling.{IsSoundTask}
+use Rattle.coord.specs.PassedOn.{IsSoundTask}
 use Rattle.seen_facts.specs.Transit.Orders.{IsOutcomeOf}
 use Rattle.world.specs.declared.event.Event.TheVariants as events
 use Rattle.world.specs.declared.event.Reply.TheVariants as replies

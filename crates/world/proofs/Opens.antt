@@ -24,7 +24,7 @@ use Rattle.coord.specs.declared.coordinator.Coordinator.{Coordinator}
 use Rattle.coord.specs.Keeping.{Keeps}
 use Rattle.coord.proofs.EventLaws.{stands_settled}
 use Rattle.coord.proofs.InTime.{opened_in_time}
-use Rattle.tab_stands.specs.Standing.{opened_at}
+use Rattle.coord.specs.PassedOn.{opened_at}
 use Rattle.world.specs.declared.state.State.{State}
 use Rattle.world.specs.Kept.{IsKept, OpensAs, OpensUnhandled}
 use Rattle.proc_tables.specs.Desks.{desk_at}

@@ -2,16 +2,17 @@
 use Rattle.std.proofs.Common.{◌≡◌, ℕ, ◌<◌, ◌≤◌, Bool, true, false, ◌&&◌, ◌==◌, List, length, Option, Some, None, Ok, Err, refl, ap, ◌∙◌, subst, arith}
 use Rattle.std.specs.Prelude.{IsSome, IsSomeAnd, if◌then◌else◌}
 use Rattle.std.proofs.lemmas.Bool.Decides.{nat_tests}
+use Rattle.coord.proofs.Prompts.{not_prompted}
 use Rattle.coord.specs.Evicting.{longest_in}
-use Rattle.tab_ids.specs.declared.DocId.{DocId}
 use Rattle.tab_ids.specs.declared.ProcId.{ProcId}
+use Rattle.tab_ids.specs.declared.ReqId.{ReqId}
 use Rattle.log_model.specs.declared.handler.HandlerKind.{HandlerKind}
 use Rattle.log_model.specs.declared.header.Header.{Header}
 use Rattle.log_model.specs.declared.job.Order.{Order}
 use Rattle.log_model.specs.declared.row_kind.LogRow.{LogRow}
 use Rattle.log_model.specs.Equal.{holds}
-use Rattle.log_model.specs.Logs.{seen_of}
-use Rattle.log_model.specs.Seen.{Seen, Desk, desk_of}
+use Rattle.log_model.specs.Logs.{seen_of, is_prompt_up}
+use Rattle.log_model.specs.Seen.{Seen, Desk, desk_of, request_of}
 use Rattle.proc_work.proofs.SameLaws.{order_is}
 use Rattle.proc_work.specs.Work as worked
 use Rattle.world.specs.declared.event.Event.{Event}
@@ -29,17 +30,18 @@ use Rattle.world.specs.Steps.{Steps, begin_idles, idle_at, idle_reply, is_work_o
 use Rattle.world.specs.Turns.{HasGone, Shuts}
 use Rattle.world.proofs.EvictLaws.{evict_due}
 
-same_at : (kinds : List HandlerKind) (desk other : ProcId → Desk) (kept : List DocId) (event : Event) → ((proc : ProcId) → desk proc ≡ other proc) → idle_at kinds desk kept event ≡ idle_at kinds other kept event
-same_at kinds desk other kept (events.Load nav mode address) same = refl
-same_at kinds desk other kept (events.Go delta) same = refl
-same_at kinds desk other kept (events.Poke nav action) same = refl
-same_at kinds desk other kept events.Evict same = refl
-same_at kinds desk other kept (events.Act proc) same =
+same_at : (kinds : List HandlerKind) (desk other : ProcId → Desk) (s : Seen) (event : Event) → ((proc : ProcId) → desk proc ≡ other proc) → idle_at kinds desk s event ≡ idle_at kinds other s event
+same_at kinds desk other s (events.Load nav mode address) same = refl
+same_at kinds desk other s (events.Go delta) same = refl
+same_at kinds desk other s (events.Poke nav action) same = refl
+same_at kinds desk other s (events.Answer req stay) same = refl
+same_at kinds desk other s events.Evict same = refl
+same_at kinds desk other s (events.Act proc) same =
     ap (λ (d : Desk). let o : Option Reply = if length d.input == 0 then Some replies.Empty else None in o) (same proc)
-same_at kinds desk other kept (events.Begin proc) same = ap (λ (d : Desk). begin_idles d.in_hand (length d.mail)) (same proc)
-same_at kinds desk other kept (events.Finish proc done) same =
+same_at kinds desk other s (events.Begin proc) same = ap (λ (d : Desk). begin_idles d.in_hand (length d.mail)) (same proc)
+same_at kinds desk other s (events.Finish proc done) same =
     ap (λ (d : Desk). let o : Option Reply = if holds (is_work_on kinds done) d.in_hand then None else Some replies.Stale in o) (same proc)
-same_at kinds desk other kept (events.Deliver proc) same =
+same_at kinds desk other s (events.Deliver proc) same =
     ap (λ (d : Desk). let o : Option Reply = if length d.reports == 0 then Some replies.Empty else None in o) (same proc)
 
 and_left : (a b : Bool) → (a && b) ≡ true → a ≡ true
@@ -51,8 +53,8 @@ module _ (header : Header) (log : List LogRow) (t : State) (is : IsOpen header l
   s = seen_of log
 
   -- whether an event logs is read of the desks
-  pub idle_is : (kinds : List HandlerKind) (event : Event) → idle_reply kinds s event ≡ idle_at kinds (desk_at t.desks) s.kept event
-  idle_is kinds event = same_at kinds (desk_of s) (desk_at t.desks) s.kept event is.holds.desks
+  pub idle_is : (kinds : List HandlerKind) (event : Event) → idle_reply kinds s event ≡ idle_at kinds (desk_at t.desks) s event
+  idle_is kinds event = same_at kinds (desk_of s) (desk_at t.desks) s event is.holds.desks
 
   -- ---- what an event that logs finds in its process
 
@@ -63,6 +65,14 @@ module _ (header : Header) (log : List LogRow) (t : State) (is : IsOpen header l
       by_test : (b : Bool) → (n == 0) ≡ b → (let o : Option Reply = if b then Some reply else None in o) ≡ None → 0 < n
       by_test true e none_ = cc
       by_test false e none_ = grind (arith, nat_tests, e)
+
+  -- no prompt is up, so no answer to one logs
+  pub answer_never : (kinds : List HandlerKind) (req : ReqId) (stay : Bool) → idle_reply kinds s (events.Answer req stay) ≡ None → ⊥
+  answer_never kinds req stay due = by_test (holds is_prompt_up (request_of s req)) (not_prompted s t.coordinator is.keeps.stands req) due
+    where
+      by_test : (b : Bool) → false ≡ b → (let o : Option Reply = if b then None else Some replies.NoPrompt in o) ≡ None → ⊥
+      by_test true never none_ = cc
+      by_test false same none_ = cc
 
   pub evict_is_due : (kinds : List HandlerKind) → idle_reply kinds s events.Evict ≡ None → IsSome (longest_in (seen_of log))
   evict_is_due kinds due = evict_due header log t is (by_test (length s.kept == 0) due)
@@ -109,10 +119,10 @@ module _ (header : Header) (log : List LogRow) (t : State) (is : IsOpen header l
 -- ---- a step
 
 module _ (w : WorldState) (t : State) (is : IsOpen w.header w.log t) (event : Event) where
-  pub idle_steps : (reply : Reply) → idle_at w.kinds (desk_at t.desks) (seen_of w.log).kept event ≡ Some reply → Steps w event (Ok reply) w
+  pub idle_steps : (reply : Reply) → idle_at w.kinds (desk_at t.desks) (seen_of w.log) event ≡ Some reply → Steps w event (Ok reply) w
   idle_steps reply idles = rw (idle_is w.header w.log t is w.kinds event ∙ idles) (refl, refl)
 
-  module _ (due : idle_at w.kinds (desk_at t.desks) (seen_of w.log).kept event ≡ None) where
+  module _ (due : idle_at w.kinds (desk_at t.desks) (seen_of w.log) event ≡ None) where
     pub is_due : idle_reply w.kinds (seen_of w.log) event ≡ None
     is_due = idle_is w.header w.log t is w.kinds event ∙ due
 

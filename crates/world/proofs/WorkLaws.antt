@@ -2,9 +2,11 @@
 use Rattle.std.proofs.Common.{◌≡◌, ℕ, ◌+◌, ◌<◌, ◌≤◌, Bool, true, false, ◌==◌, List, [], ◌∷◌, ◌++◌, length, drop, Option, Some, None, refl, sym, ap, ◌∙◌, subst, arith}
 use Rattle.std.specs.Prelude.{option_and_then, option_map, slice_get, IfSome}
 use Rattle.std.proofs.lemmas.Bool.Decides.{nat_tests}
+use Rattle.std.proofs.lemmas.List.{map-id}
 use Rattle.tab_ids.specs.declared.DocId.{DocId}
 use Rattle.tab_ids.specs.declared.ProcId.{ProcId}
 use Rattle.log_model.specs.declared.header.Header.{Header}
+use Rattle.log_model.specs.declared.change.Change.TheVariants as changes
 use Rattle.log_model.specs.declared.job.Job.{Job}
 use Rattle.log_model.specs.declared.made.Made.{Made}
 use Rattle.log_model.specs.declared.made.Report.{Report}
@@ -26,16 +28,16 @@ use Rattle.log_model.specs.AfterRequests.{is_running}
 use Rattle.log_model.specs.Equal.{holds}
 use Rattle.log_model.specs.Logs.{seen_of}
 use Rattle.log_model.specs.Seen.{Seen, Document, Desk, desk_of, document_of}
-use Rattle.log_model.specs.Views.{View, made_by, after_made}
+use Rattle.log_model.specs.Views.{View, made_by, made_for, after_made}
 use Rattle.history_log.proofs.DeskLaws.{desk_of-after}
+use Rattle.seen_laws.specs.Acting.{IsNoEdit}
 use Rattle.seen_laws.specs.InEvent.{InEvent}
 use Rattle.seen_facts.proofs.Rest.Again.{its_number}
-use Rattle.seen_facts.specs.Asked.Asking.{IsNoEditing}
 use Rattle.tab_facts.specs.FrameTab.Desks.{IsMadeNew}
-use Rattle.tab_facts.proofs.FrameEvents.Processes.{made_of_action}
+use Rattle.tab_facts.proofs.FrameEvents.Processes.{made_of_action, no_editing}
 use Rattle.coord.specs.Standing.{HasActed, StandsFor}
 use Rattle.coord.specs.declared.coordinator.Coordinator.{Coordinator}
-use Rattle.coord.proofs.Acts.{made_acts, no_address_acts, no_document_acts}
+use Rattle.coord.proofs.Acts.{edit_acts, made_acts, no_address_acts, no_document_acts}
 use Rattle.coord.proofs.Orders.{taken_acts}
 use Rattle.running_table.specs.Runners.{RunnersState}
 use Rattle.running_table.specs.Making.{IsTold}
@@ -51,12 +53,13 @@ use Rattle.proc_tables.specs.Desks.{Changes, desk_at, desk_with, on_proc, withou
 use Rattle.proc_tables.specs.Views.{Acts, Stays, view_at}
 use Rattle.world.specs.Open.{IsOpen, IsSmall, row_limit}
 use Rattle.world.specs.Shows.{Shows}
-use Rattle.world.specs.Steps.{Begins, act_row, acted_row, actor_of, order_for}
+use Rattle.world.specs.Sited.{AreSited}
+use Rattle.world.specs.Steps.{Begins, act_row, acted_row, actor_of, behind, is_edit, order_for}
 use Rattle.world.specs.Turns.{HasGone}
-use Rattle.world.proofs.EndingLaws.{left_on, ended_on}
-use Rattle.world.proofs.EventLaws.{alone_on, shows_small, stays_small}
-use Rattle.world.proofs.FaceLaws.{document_in}
-use Rattle.world.proofs.Facts.{HasView, holds_then, viewed, open_to, poke_fine, tab}
+use Rattle.world.proofs.EndingLaws.{left_on, ended_on, work_endings}
+use Rattle.world.proofs.EventLaws.{alone_on, shows_small, stays_small, two_on}
+use Rattle.world.proofs.FaceLaws.{document_in, view_found}
+use Rattle.world.proofs.Facts.{HasView, holds_then, viewed, open_to, tab}
 use Rattle.world.proofs.NoteLaws.{Keeping}
 use Rattle.world.proofs.TableLaws.{desks_go, views_on}
 use Rattle.world.proofs.SitedLaws.{made_sited}
@@ -86,6 +89,23 @@ making view made (whats.RemoveFrame nav) is =
 making view made (whats.Go delta) is =
     record { reported = λ waiting. refl; index = omega arith; numbered = omega arith }
 making view made whats.Edit never = absurd never
+
+-- what is tested for an edit is one, or none
+it_is_edit : (what : What) → is_edit what ≡ true → what ≡ whats.Edit
+it_is_edit whats.Edit is = refl
+it_is_edit (whats.Push entry memo address) never = absurd cc
+it_is_edit (whats.Replace over_ entry memo address) never = absurd cc
+it_is_edit (whats.AddFrame nav) never = absurd cc
+it_is_edit (whats.RemoveFrame nav) never = absurd cc
+it_is_edit (whats.Go delta) never = absurd cc
+
+is_no_edit : (what : What) → is_edit what ≡ false → IsNoEdit what
+is_no_edit whats.Edit never = absurd cc
+is_no_edit (whats.Push entry memo address) is = tt
+is_no_edit (whats.Replace over_ entry memo address) is = tt
+is_no_edit (whats.AddFrame nav) is = tt
+is_no_edit (whats.RemoveFrame nav) is = tt
+is_no_edit (whats.Go delta) is = tt
 
 -- a document that doesn't run refuses its poke
 stopped_row : (proc : ProcId) (poke : Poke) (o : Option View) → holds (λ (v : View). v.running) o ≡ false → acted_row proc poke o ≡ rows.Refused poke.req denials.NoDocument
@@ -163,9 +183,9 @@ module _ (header : Header) (log : List LogRow) (t : State) (is : IsOpen header l
     waits : slice_get (desk_of s proc).input 0 ≡ Some poke
     waits = ap (λ (x : Desk). slice_get x.input 0) (is.holds.desks proc) ∙ first
 
-    begins_with : (own : RowKind) → own ≡ acted_row proc poke (view_at t.views poke.doc) → Begins s (events.Act proc) replies.Acted own []
-    begins_with own own_is =
-        (refl, refl, rw (is.holds.desks proc, first) (own_is ∙ ap (λ (o : Option View). acted_row proc poke o) (sym (is.holds.views poke.doc))))
+    begins_with : (own : RowKind) (out : List RowKind) → out ≡ behind own → own ≡ acted_row proc poke (view_at t.views poke.doc) → Begins s (events.Act proc) replies.Acted own out
+    begins_with own out out_is own_is =
+        (refl, out_is, rw (is.holds.desks proc, first) (own_is ∙ ap (λ (o : Option View). acted_row proc poke o) (sym (is.holds.views poke.doc))))
 
     -- the process refuses it
     refused_kept : (reason : Denial) (new : State) → Stays t.views new.views → new.runners ≡ t.runners → Changes proc without_poke t.desks new.desks → new.endings.items ≡ ended_in t.endings.items poke.req (ends.Refused reason) → Keeping header (after s (row_with s.events by (rows.Refused poke.req reason))) s.events (desk_at new.desks) (view_at new.views) new.runners new.endings.items
@@ -182,7 +202,7 @@ module _ (header : Header) (log : List LogRow) (t : State) (is : IsOpen header l
     -- its document is gone, or doesn't run
     pub stopped_gone : (new : State) (longer : List LogRow) → holds (λ (v : View). v.running) (view_at t.views poke.doc) ≡ false → new.coordinator ≡ t.coordinator → new.events ≡ t.events + 1 → new.views ≡ t.views → new.runners ≡ t.runners → Changes proc without_poke t.desks new.desks → new.endings.items ≡ ended_in t.endings.items poke.req (ends.Refused denials.NoDocument) → longer ≡ log ++ row_with t.events by (rows.Refused poke.req denials.NoDocument) ∷ [] → HasGone header (events.Act proc) replies.Acted log longer new
     stopped_gone new longer stopped coordinator events_ views run desks ends_ more =
-        gone_alone (events.Act proc) replies.Acted (rows.Refused poke.req denials.NoDocument) new longer (begins_with _ (sym (stopped_row proc poke (view_at t.views poke.doc) stopped))) refl acted (refused_kept denials.NoDocument new stays run desks ends_) coordinator events_ (stays_small t.views new.views t.events new.events events_ stays is.holds.small) more
+        gone_alone (events.Act proc) replies.Acted (rows.Refused poke.req denials.NoDocument) new longer (begins_with _ [] refl (sym (stopped_row proc poke (view_at t.views poke.doc) stopped))) refl acted (refused_kept denials.NoDocument new stays run desks ends_) coordinator events_ (stays_small t.views new.views t.events new.events events_ stays is.holds.small) more
       where
         stays : Stays t.views new.views
         stays doc = ap (λ (v : List (DocId × View)). view_at v doc) views
@@ -203,8 +223,9 @@ module _ (header : Header) (log : List LogRow) (t : State) (is : IsOpen header l
       its_row : acted_row proc poke (view_at t.views poke.doc) ≡ act_row proc view poke.req (made_by view poke.action)
       its_row = rw at (rw running refl)
 
-      pub made_gone : (made : Made) (new : State) (longer : List LogRow) → IfSome (view_at t.views poke.doc) (λ (v : View). Acts v poke made t.views new.views) → new.coordinator ≡ t.coordinator → new.events ≡ t.events + 1 → new.runners ≡ t.runners → Changes proc (λ (x : Desk). desk_with (items.Report (told.Made made)) (without_poke x)) t.desks new.desks → new.endings.items ≡ t.endings.items → longer ≡ log ++ row_with t.events by (rows.Made proc made) ∷ [] → HasGone header (events.Act proc) replies.Acted log longer new
-      made_gone made new longer acting coordinator events_ run desks ends_ more =
+      -- what it makes is no edit
+      pub made_gone : (made : Made) (new : State) (longer : List LogRow) → is_edit made.what ≡ false → IfSome (view_at t.views poke.doc) (λ (v : View). Acts v poke made t.views new.views) → new.coordinator ≡ t.coordinator → new.events ≡ t.events + 1 → new.runners ≡ t.runners → Changes proc (λ (x : Desk). desk_with (items.Report (told.Made made)) (without_poke x)) t.desks new.desks → new.endings.items ≡ t.endings.items → longer ≡ log ++ row_with t.events by (rows.Made proc made) ∷ [] → HasGone header (events.Act proc) replies.Acted log longer new
+      made_gone made new longer no_edit acting coordinator events_ run desks ends_ more =
           gone_alone (events.Act proc) replies.Acted own new longer begins refl acted_ kept coordinator events_ (shows_small poke.doc (Some (after_made view made.what)) t.views new.views t.events new.events events_ acts.becomes small is.holds.small) more
         where
           own : RowKind
@@ -218,17 +239,18 @@ module _ (header : Header) (log : List LogRow) (t : State) (is : IsOpen header l
 
           begins : Begins s (events.Act proc) replies.Acted own []
           begins =
-              begins_with own (ap (λ (m : Made). rows.Made proc m) acts.is ∙ (ap (λ (o : Option What). act_row proc view poke.req o) (sym acts.what) ∙ sym its_row))
+              begins_with own [] (sym (rw no_edit refl)) (ap (λ (m : Made). rows.Made proc m) acts.is ∙ (ap (λ (o : Option What). act_row proc view poke.req o) (sym acts.what) ∙ sym its_row))
+
+          fine : IsNoEdit made.what
+          fine = is_no_edit made.what no_edit
 
           acted_ : HasActed e [] t.coordinator
           acted_ =
-              made_acts e c (open_to header log t is by own) proc poke waits refl refl its_view.d view its_view.found its_view.has running made.what acts.what (ap (λ (m : Made). rows.Made proc m) acts.is)
-
-          fine : IsNoEditing poke.action
-          fine = poke_fine header log t is proc poke waits
+              made_acts e c (open_to header log t is by own) proc poke waits refl refl its_view.d view its_view.found its_view.has running made.what acts.what fine (ap (λ (m : Made). rows.Made proc m) acts.is)
 
           makes : IsMaking view made made.what
-          makes = making view made made.what (made_of_action view poke.action made.what fine acts.what).new
+          makes =
+              making view made made.what (made_of_action view poke.action made.what (no_editing view poke.action made.what acts.what fine) acts.what).new
 
           apart : follows_finished s (row_with s.events by own) ≡ false
           apart = let never : (s.events == (s.events + 1)) ≡ false = grind (arith, nat_tests) in rw never refl
@@ -269,10 +291,90 @@ module _ (header : Header) (log : List LogRow) (t : State) (is : IsOpen header l
                 index = omega (arith, before.index, makes.index, events_);
               }
 
+      -- it edits itself, which is applied at once
+      pub edit_gone : (made : Made) (new : State) (longer : List LogRow) → is_edit made.what ≡ true → IfSome (view_at t.views poke.doc) (λ (v : View). Acts v poke made t.views new.views) → new.coordinator ≡ t.coordinator → new.events ≡ t.events + 1 → new.runners ≡ t.runners → Changes proc without_poke t.desks new.desks → new.endings.items ≡ ended_in t.endings.items made.req ends.Applied → longer ≡ log ++ row_with t.events by (rows.Made proc made) ∷ row_with t.events by (rows.Applied made.req changes.Edit) ∷ [] → HasGone header (events.Act proc) replies.Acted log longer new
+      edit_gone made new longer edits acting coordinator events_ run desks ends_ more =
+          let whole : longer ≡ log ++ row_with s.events by own ∷ row_with s.events by applies ∷ [] = more ∙ ap (λ (k : ℕ). log ++ row_with k by (rows.Made proc made) ∷ row_with k by (rows.Applied made.req changes.Edit) ∷ []) (sym is.holds.events) ∙ ap (λ (m : Made). log ++ row_with s.events by (rows.Made proc m) ∷ row_with s.events by (rows.Applied m.req changes.Edit) ∷ []) made_is in
+          record {
+            happened = record { own = own; out = applies ∷ []; begins = begins; log = whole };
+            stands = subst (λ (l : List LogRow). IsOpen header l new) (sym whole) (two_on header log t is short by own applies new (subst (λ (x : Coordinator). HasActed (event_of header log by own) (applies ∷ []) x) (sym coordinator) acted_) kept events_ (shows_small poke.doc (Some (after_made view whats.Edit)) t.views new.views t.events new.events events_ shows_there small is.holds.small));
+          }
+        where
+          acts : Acts view poke made t.views new.views
+          acts = subst (λ (o : Option View). IfSome o (λ (v : View). Acts v poke made t.views new.views)) at acting
+
+          what_is : made.what ≡ whats.Edit
+          what_is = it_is_edit made.what edits
+
+          edit : Made
+          edit = made_for view poke.req whats.Edit
+
+          made_is : made ≡ made_for view poke.req whats.Edit
+          made_is = acts.is ∙ ap (λ (w : What). made_for view poke.req w) what_is
+
+          makes : made_by view poke.action ≡ Some whats.Edit
+          makes = acts.what ∙ ap (λ (w : What). let o : Option What = Some w in o) what_is
+
+          own : RowKind
+          own = rows.Made proc (made_for view poke.req whats.Edit)
+
+          applies : RowKind
+          applies = rows.Applied poke.req changes.Edit
+
+          begins : Begins s (events.Act proc) replies.Acted own (applies ∷ [])
+          begins =
+              begins_with own (applies ∷ []) refl (ap (λ (o : Option What). act_row proc view poke.req o) (sym makes) ∙ sym its_row)
+
+          acted_ : HasActed (event_of header log by own) (applies ∷ []) t.coordinator
+          acted_ =
+              edit_acts (event_of header log by own) c (open_to header log t is by own) proc poke waits refl refl its_view.d view its_view.found its_view.has running makes refl
+
+          shows_there : Shows poke.doc (Some (after_made view whats.Edit)) t.views new.views
+          shows_there =
+              subst (λ (w : What). Shows poke.doc (Some (after_made view w)) t.views new.views) what_is acts.becomes
+
+          of_it : view.doc ≡ poke.doc
+          of_it =
+              ((tab header log t is).docs.each poke.doc its_view.d its_view.found).live.viewed view its_view.has ∙ its_number s poke.doc its_view.d its_view.found
+
+          new_view : option_and_then (λ (d : Document). option_map (λ (v : View). after_made v whats.Edit) d.view) (document_in s.documents view.doc) ≡ Some (after_made view whats.Edit)
+          new_view =
+              ap (λ (n : DocId). option_and_then (λ (d : Document). option_map (λ (v : View). after_made v whats.Edit) d.view) (document_in s.documents n)) of_it
+              ∙ (ap (λ (o : Option Document). option_and_then (λ (d : Document). option_map (λ (v : View). after_made v whats.Edit) d.view) o) its_view.found
+              ∙ ap (λ (o : Option View). option_map (λ (v : View). after_made v whats.Edit) o) its_view.has)
+
+          shows : Shows view.doc (Some (after_made view whats.Edit)) t.views new.views
+          shows = subst (λ (n : DocId). Shows n (Some (after_made view whats.Edit)) t.views new.views) (sym of_it) shows_there
+
+          apart : follows_finished s (row_with s.events by own) ≡ false
+          apart = let never : (s.events == (s.events + 1)) ≡ false = grind (arith, nat_tests) in rw never refl
+
+          between : Seen
+          between = after s (row_with s.events by own)
+
+          kept : Keeping header (after (after s (row_with s.events by own)) (row_with s.events by applies)) s.events (desk_at new.desks) (view_at new.views) new.runners new.endings.items
+          kept =
+              record {
+                events = refl;
+                desks = λ p. desk_of-after s p s.events by own
+                    ∙ (ap (λ (b : Bool). on_proc proc (desks_made b (made_for view poke.req whats.Edit)) p (desk_of s p)) apart
+                    ∙ desks_go s t.desks new.desks proc (desk_made (made_for view poke.req whats.Edit)) without_poke is.holds.desks refl desks p);
+                views = λ doc. ap (λ (l : List Document). view_found l doc) (map-id between.documents)
+                    ∙ views_on s.documents view.doc (λ (d : Document). option_map (λ (v : View). after_made v whats.Edit) d.view) t.views new.views (Some (after_made view whats.Edit)) is.holds.views new_view shows doc;
+                runners = subst (λ (x : RunnersState). IsTold (after between (row_with s.events by applies)) x) (sym run) (quiet_told between s.events by applies t.runners tt tt (quiet_told s s.events by own t.runners tt tt is.holds.runners));
+                endings = work_endings between applies refl ∙ ap (λ (l : List (Option Ending)). ended_in l poke.req ends.Applied) (left_on s.requests poke.req _ (λ q. refl) ∙ is.holds.endings) ∙ sym (ends_ ∙ ap (λ (m : Made). ended_in t.endings.items m.req ends.Applied) made_is);
+                sited = subst (λ (l : List Document). AreSited header l) (sym (map-id between.documents)) (made_sited header s.documents (made_for view poke.req whats.Edit) is.sited);
+              }
+
+          small : IsSmall new.events (after_made view whats.Edit)
+          small =
+              let before : IsSmall t.events view = subst (λ (o : Option View). IfSome o (IsSmall t.events)) at (is.holds.small poke.doc) in
+              record { numbered = omega (arith, before.numbered, events_); index = omega (arith, before.index, events_) }
+
       -- its address is none for the document
       pub refused_gone : (new : State) (longer : List LogRow) → IfSome (view_at t.views poke.doc) (λ (v : View). made_by v poke.action ≡ None) → new.coordinator ≡ t.coordinator → new.events ≡ t.events + 1 → Stays t.views new.views → new.runners ≡ t.runners → Changes proc without_poke t.desks new.desks → new.endings.items ≡ ended_in t.endings.items poke.req (ends.Refused denials.BadAddress) → longer ≡ log ++ row_with t.events by (rows.Refused poke.req denials.BadAddress) ∷ [] → HasGone header (events.Act proc) replies.Acted log longer new
       refused_gone new longer unmade coordinator events_ stays run desks ends_ more =
-          gone_alone (events.Act proc) replies.Acted (rows.Refused poke.req denials.BadAddress) new longer (begins_with _ (ap (λ (o : Option What). act_row proc view poke.req o) (sym none) ∙ sym its_row)) refl acted_ (refused_kept denials.BadAddress new stays run desks ends_) coordinator events_ (stays_small t.views new.views t.events new.events events_ stays is.holds.small) more
+          gone_alone (events.Act proc) replies.Acted (rows.Refused poke.req denials.BadAddress) new longer (begins_with _ [] refl (ap (λ (o : Option What). act_row proc view poke.req o) (sym none) ∙ sym its_row)) refl acted_ (refused_kept denials.BadAddress new stays run desks ends_) coordinator events_ (stays_small t.views new.views t.events new.events events_ stays is.holds.small) more
         where
           none : made_by view poke.action ≡ None
           none = subst (λ (o : Option View). IfSome o (λ (v : View). made_by v poke.action ≡ None)) at unmade

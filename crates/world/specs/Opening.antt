@@ -3,7 +3,7 @@
 use Rattle.std.specs.Prelude.{◌≡◌, ℕ, List, [], None}
 use Rattle.coord.specs.Standing.{StandsFor}
 use Rattle.tab_ids.specs.declared.ProcId.{ProcId}
-use Rattle.tab_stands.specs.Standing.{opened_at}
+use Rattle.coord.specs.PassedOn.{opened_at}
 use Rattle.log_model.specs.declared.header.Header.{Header}
 use Rattle.log_model.specs.declared.row_kind.Actor.TheVariants as actors
 use Rattle.log_model.specs.declared.row_kind.LogRow.{LogRow}

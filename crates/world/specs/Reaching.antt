@@ -7,8 +7,7 @@ use Rattle.running_table.specs.Runners.{RunnersState}
 use Rattle.running_table.specs.Making.{IsTold}
 use Rattle.tab_ids.specs.declared.DocId.{DocId}
 use Rattle.tab_ids.specs.declared.NavId.{NavId}
-use Rattle.tab_stands.specs.Poking.{ReachesOne}
-use Rattle.tab_stands.specs.Standing.{HasRoomFor}
+use Rattle.coord.specs.PassedOn.{HasRoomFor, ReachesOne}
 
 -- the navigable has an entry, and the poke reaches the document of this number
 abbrev pub Reaches : Seen → NavId → DocId → Type 0

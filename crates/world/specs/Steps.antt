@@ -1,18 +1,17 @@
 -- What a step of a world answers, and what it logs.
 -- This project's own.
 use Rattle.std.specs.Prelude.{◌≡◌, ℕ, ◌+◌, ◌<◌, ◌≤◌, true, ◌==◌, ◌&&◌, List, [], ◌∷◌, ◌++◌, map, length, slice_get, Bool, false, Option, Some, None, is_some, option_and_then, option_map, option_to_list, Result, Ok, Err, IsSomeAnd, if◌then◌else◌}
-use Rattle.tab_ids.specs.declared.DocId.{DocId}
 use Rattle.tab_ids.specs.declared.ProcId.{ProcId}
 use Rattle.tab_ids.specs.declared.ReqId.{ReqId}
 use Rattle.tab_ids.specs.declared.NavId.{NavId}
-use Rattle.log_model.specs.declared.action.Action.{Action}
+use Rattle.log_model.specs.declared.change.Change.TheVariants as changes
 use Rattle.log_model.specs.declared.handler.HandlerKind.{HandlerKind}
-use Rattle.log_model.specs.declared.action.Action.TheVariants as actions
 use Rattle.log_model.specs.declared.request.Poke.{Poke}
 use Rattle.log_model.specs.declared.job.Job.{Job}
 use Rattle.log_model.specs.declared.job.Order.{Order}
 use Rattle.log_model.specs.declared.made.Made.{Made}
 use Rattle.log_model.specs.declared.made.What.{What}
+use Rattle.log_model.specs.declared.made.What.TheVariants as whats
 use Rattle.log_model.specs.declared.outcome.Denial.TheVariants as denials
 use Rattle.log_model.specs.declared.request.Request.TheVariants as requests
 use Rattle.log_model.specs.declared.row_kind.Actor.{Actor}
@@ -21,11 +20,10 @@ use Rattle.log_model.specs.declared.row_kind.LogRow.{LogRow}
 use Rattle.log_model.specs.declared.row_kind.RowKind.{RowKind}
 use Rattle.log_model.specs.declared.row_kind.RowKind.TheVariants as rows
 use Rattle.log_model.specs.Causes.{denial_of_poke}
-use Rattle.log_model.specs.Entries.{HasPassed}
 use Rattle.log_model.specs.Equal.{holds}
 use Rattle.log_model.specs.Formed.{last_of, poked_document}
-use Rattle.log_model.specs.Logs.{seen_of}
-use Rattle.log_model.specs.Seen.{Seen, Document, Desk, desk_of, document_of}
+use Rattle.log_model.specs.Logs.{seen_of, is_prompt_up}
+use Rattle.log_model.specs.Seen.{Seen, Document, Desk, desk_of, document_of, request_of}
 use Rattle.log_model.specs.Views.{View, made_by, made_for}
 use Rattle.proc_work.specs.Answers.{has_kind_of}
 use Rattle.proc_work.specs.Same.{same_order}
@@ -41,16 +39,12 @@ use Rattle.world.specs.Notes.{row_with}
 use Rattle.world.specs.Open.{row_limit, view_in}
 use Rattle.world.specs.Shows.{made_at_end}
 
--- any action but an edit of the page
-abbrev pub is_no_edit : Action → Bool
-is_no_edit actions.Edit = false
-is_no_edit _ = true
-
--- the events that a world takes: a poke is any action but an edit of the page
+-- the events that a world takes
 abbrev pub IsBuilt : Event → Type 0
 IsBuilt (events.Load nav mode address) = Unit {0}
 IsBuilt (events.Go delta) = Unit {0}
-IsBuilt (events.Poke nav action) = HasPassed (is_no_edit action)
+IsBuilt (events.Poke nav action) = Unit {0}
+IsBuilt (events.Answer req stay) = Unit {0}
 IsBuilt events.Evict = Unit {0}
 IsBuilt (events.Act proc) = Unit {0}
 IsBuilt (events.Begin proc) = Unit {0}
@@ -68,21 +62,22 @@ begin_idles None waiting = if waiting == 0 then Some replies.Empty else None
 abbrev pub is_work_on : List HandlerKind → Done → Order → Bool
 is_work_on kinds done order = same_order done.order order && has_kind_of kinds order.job.task done.kind
 
--- the answer to an event that logs nothing, by the kinds of the handlers, the desks of the processes and the documents that are kept: none is kept, nothing waits there, an order is in hand, or the finished order isn't the one in hand, or a handler of another kind was asked
-abbrev pub idle_at : List HandlerKind → (ProcId → Desk) → List DocId → Event → Option Reply
-idle_at kinds desk kept (events.Load nav mode address) = None
-idle_at kinds desk kept (events.Go delta) = None
-idle_at kinds desk kept (events.Poke nav action) = None
-idle_at kinds desk kept events.Evict = if length kept == 0 then Some replies.NothingKept else None
-idle_at kinds desk kept (events.Act proc) = if length (desk proc).input == 0 then Some replies.Empty else None
-idle_at kinds desk kept (events.Begin proc) = begin_idles (desk proc).in_hand (length (desk proc).mail)
-idle_at kinds desk kept (events.Finish proc done) =
+-- the answer to an event that logs nothing, by the kinds of the handlers, the desks of the processes, and what else the log has come to: no prompt of the request is up, no document is kept, nothing waits there, an order is in hand, or the finished order isn't the one in hand, or a handler of another kind was asked
+abbrev pub idle_at : List HandlerKind → (ProcId → Desk) → Seen → Event → Option Reply
+idle_at kinds desk s (events.Load nav mode address) = None
+idle_at kinds desk s (events.Go delta) = None
+idle_at kinds desk s (events.Poke nav action) = None
+idle_at kinds desk s (events.Answer req stay) = if holds is_prompt_up (request_of s req) then None else Some replies.NoPrompt
+idle_at kinds desk s events.Evict = if length s.kept == 0 then Some replies.NothingKept else None
+idle_at kinds desk s (events.Act proc) = if length (desk proc).input == 0 then Some replies.Empty else None
+idle_at kinds desk s (events.Begin proc) = begin_idles (desk proc).in_hand (length (desk proc).mail)
+idle_at kinds desk s (events.Finish proc done) =
     if holds (is_work_on kinds done) (desk proc).in_hand then None else Some replies.Stale
-idle_at kinds desk kept (events.Deliver proc) = if length (desk proc).reports == 0 then Some replies.Empty else None
+idle_at kinds desk s (events.Deliver proc) = if length (desk proc).reports == 0 then Some replies.Empty else None
 
 -- so by what the log has come to
 abbrev pub idle_reply : List HandlerKind → Seen → Event → Option Reply
-idle_reply kinds s event = idle_at kinds (desk_of s) s.kept event
+idle_reply kinds s event = idle_at kinds (desk_of s) s event
 
 -- ---- an event that logs
 
@@ -91,6 +86,7 @@ abbrev pub actor_of : Event → Actor
 actor_of (events.Load nav mode address) = actors.Ui
 actor_of (events.Go delta) = actors.Ui
 actor_of (events.Poke nav action) = actors.Ui
+actor_of (events.Answer req stay) = actors.Ui
 actor_of events.Evict = actors.Ui
 actor_of (events.Act proc) = actors.Proc proc
 actor_of (events.Begin proc) = actors.Proc proc
@@ -128,6 +124,20 @@ order_for s job = record { job = job; dirty = holds (λ (view : View). view.dirt
 abbrev pub rows_of_made : ProcId → Option Made → List RowKind
 rows_of_made proc made = map (λ (m : Made). rows.Made proc m) (option_to_list made)
 
+-- a document edited itself
+abbrev pub is_edit : What → Bool
+is_edit whats.Edit = true
+is_edit _ = false
+
+-- what is logged straight behind the row of what a document made of a poke: an edit is applied at once
+abbrev pub behind_made : Made → List RowKind
+behind_made made = if is_edit made.what then rows.Applied made.req changes.Edit ∷ [] else []
+
+-- so behind any own row of a process that acts
+abbrev pub behind : RowKind → List RowKind
+behind (rows.Made proc made) = behind_made made
+behind _ = []
+
 -- the document that is kept longest
 abbrev pub longest_kept : Seen → Option Document
 longest_kept s = option_and_then (document_of s) (last_of s.kept)
@@ -141,10 +151,11 @@ Begins s (events.Go delta) reply own out =
 Begins s (events.Poke nav action) reply own out =
     (reply ≡ replies.Accepted (next_request s))
     × (own ≡ rows.Accepted (next_request s) (option_map (λ (d : Document). d.nr) (reached_in s nav)) (requests.Poke nav action))
+Begins s (events.Answer req stay) reply own out = (reply ≡ replies.Answered) × (own ≡ rows.Answered req stay)
 Begins s events.Evict reply own out =
     (reply ≡ replies.Evicted) × IsSomeAnd (longest_kept s) (λ d. own ≡ rows.Evicted d.state)
 Begins s (events.Act proc) reply own out =
-    (reply ≡ replies.Acted) × (out ≡ [])
+    (reply ≡ replies.Acted) × (out ≡ behind own)
     × IsSomeAnd (slice_get (desk_of s proc).input 0) (λ poke. own ≡ acted_row proc poke (view_in s poke.doc))
 Begins s (events.Begin proc) reply own out =
     (out ≡ [])

@@ -2,14 +2,12 @@
 ghost use Rattle.std.specs.Prelude.{◌≡◌, ◌<◌, ◌+◌, [], Some, length, take, IfOk, IfErr, OnOk, OnErr};
 ghost use Rattle.coord.specs.Standing.{HasActed, IsOpenTo, asked_for};
 ghost use Rattle.log_model.specs.Causes.{denial_of_poke};
-ghost use Rattle.log_model.specs.Entries.{HasPassed};
 ghost use Rattle.log_model.specs.Logs.{seen_of};
 ghost use Rattle.seen_laws.specs.InEvent.{InEvent};
 ghost use Rattle.world.specs.declared.event.Event.TheVariants as events;
 ghost use Rattle.world.specs.Asking.{asking, event_asking};
 ghost use Rattle.world.specs.Open.{IsOpen, row_limit};
 ghost use Rattle.world.specs.Reaching.{Reaches};
-ghost use Rattle.world.specs.Steps.{is_no_edit};
 ghost use Rattle.world.specs.Turns.{HasGone, Shuts};
 
 use crate::endings::{add, next_request};
@@ -120,7 +118,6 @@ pub(crate) fn accept_poke(
 ) -> Result<Reply, StepError>
     requires open { IsOpen header.now log.old state.old }
     requires short { length log.old < row_limit }
-    requires built { HasPassed (is_no_edit action) }
     ensures gone { IfOk result (λ reply. HasGone header.now (events.Poke nav action) reply log.old log.new state.new) }
     ensures shuts { IfErr result Shuts }
     ensures front { OnErr result (take (length log.old) log.new ≡ log.old) }
@@ -142,7 +139,6 @@ fn accept_here(
 ) -> Result<Reply, StepError>
     requires open { IsOpen header.now log.old state.old }
     requires short { length log.old < row_limit }
-    requires built { HasPassed (is_no_edit action) }
     requires reached { Reaches (seen_of log.old) nav doc }
     ensures gone { IfOk result (λ reply. HasGone header.now (events.Poke nav action) reply log.old log.new state.new) }
     ensures shuts { IfErr result Shuts }
@@ -179,7 +175,6 @@ fn refuse_stray(
 ) -> Result<Reply, StepError>
     requires open { IsOpen header.now log.old state.old }
     requires short { length log.old < row_limit }
-    requires built { HasPassed (is_no_edit action) }
     requires denied { denial_of_poke (seen_of log.old) nav ≡ Some reason }
     ensures gone { IfOk result (λ reply. HasGone header.now (events.Poke nav action) reply log.old log.new state.new) }
     ensures shuts { IfErr result Shuts }

@@ -22,6 +22,11 @@ pub enum Event {
         nav: NavId,
         action: Action,
     },
+    /// The user answers the prompt of a request: to stay, or to leave.
+    Answer {
+        req: ReqId,
+        stay: bool,
+    },
     /// The user has the document discarded that is kept longest.
     Evict,
     /// A process lets its document act on the first poke of its input.
@@ -43,10 +48,13 @@ pub enum Event {
     },
 }
 
-/// What a step answers. `NothingKept`, `Busy`, `Stale` and `Empty` change nothing.
+/// What a step answers. `NoPrompt`, `NothingKept`, `Busy`, `Stale` and `Empty` change nothing.
 #[derive(Drop)]
 pub enum Reply {
     Accepted(ReqId),
+    Answered,
+    /// No prompt of the request is up.
+    NoPrompt,
     Evicted,
     /// No document is kept.
     NothingKept,

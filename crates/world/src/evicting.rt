@@ -3,7 +3,7 @@ ghost use Rattle.std.specs.Prelude.{◌≡◌, ◌<◌, [], Some, IsSome, length
 ghost use Rattle.coord.specs.Evicting.{InEviction, longest_in};
 ghost use Rattle.coord.specs.Standing.{HasActed, IsOpenTo};
 ghost use Rattle.log_model.specs.Logs.{seen_of};
-ghost use Rattle.user_evicts.specs.Evicting.{IsEvictAsk};
+ghost use Rattle.coord.specs.PassedOn.{IsEvictAsk};
 ghost use Rattle.world.specs.declared.event.Event.TheVariants as events;
 ghost use Rattle.world.specs.Asking.{evicting};
 ghost use Rattle.world.specs.Open.{IsOpen, row_limit};

@@ -22,10 +22,11 @@ pub(crate) fn idle(
     kinds: &[HandlerKind],
     event: &Event,
 ) -> Option<Reply>
-    ensures { (s : Seen) → StandsFor s coordinator.now → result ≡ idle_at kinds.now (desk_at desks.now) s.kept event.now }
+    ensures { (s : Seen) → StandsFor s coordinator.now → result ≡ idle_at kinds.now (desk_at desks.now) s event.now }
 {
     match event {
         Event::Load { .. } | Event::Go { .. } | Event::Poke { .. } => None,
+        Event::Answer { req, .. } => unless(coordinator.is_prompt_up(*req), Reply::NoPrompt),
         Event::Evict => unless(has_kept(coordinator), Reply::NothingKept),
         Event::Act { proc } => unless(has_poke(desks, *proc), Reply::Empty),
         Event::Begin { proc } => {

@@ -5,7 +5,7 @@ ghost use Rattle.log_model.specs.Views.{opening_view};
 ghost use Rattle.proc_tables.specs.Views.{Becomes};
 ghost use Rattle.running_table.specs.Making.{IsTold};
 ghost use Rattle.tab_ids.specs.declared.ProcId.{ProcId};
-ghost use Rattle.tab_stands.specs.Standing.{opened_at};
+ghost use Rattle.coord.specs.PassedOn.{opened_at};
 ghost use Rattle.world.specs.Open.{bare, first_document};
 ghost use Rattle.world.specs.Opening.{IsJustOpened};
 

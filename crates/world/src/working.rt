@@ -1,6 +1,7 @@
 //! The events in which a process lets a document act, and takes up an order.
 ghost use Rattle.std.specs.Prelude.{◌≡◌, Bool, ◌++◌, ◌<◌, ◌∷◌, [], length, take, IsSome, None, IfOk, IfSome, IfErr, OnErr, OnOk, option_map};
 ghost use Rattle.doc_view.specs.Jobs.{IsForView};
+ghost use Rattle.log_model.specs.declared.change.Change.TheVariants as changes;
 ghost use Rattle.log_model.specs.declared.outcome.Ending.TheVariants as ends;
 ghost use Rattle.log_model.specs.declared.row_kind.Actor.TheVariants as actors;
 ghost use Rattle.log_model.specs.declared.row_kind.RowKind.TheVariants as rows;
@@ -13,6 +14,7 @@ ghost use Rattle.world.specs.declared.event.Event.TheVariants as events;
 ghost use Rattle.world.specs.Notes.{ended_in, row_with};
 ghost use Rattle.world.specs.Open.{IsOpen, row_limit};
 ghost use Rattle.world.specs.Shows.{Shows, shown_after};
+ghost use Rattle.world.specs.Steps as spec;
 ghost use Rattle.world.specs.Turns.{HasGone, Shuts};
 
 use crate::endings::end;
@@ -25,7 +27,8 @@ use address::OutOfMemory;
 use doc_view::{ActError, View};
 use history_log::Log;
 use log_model::{
-    Actor, Denial, Ending, Header, Job, Order, Outcome, Report, RowKind, Task, Verdict,
+    Actor, Change, Denial, Ending, Header, Job, Made, Order, Outcome, Report, RowKind, Task,
+    Verdict, What,
 };
 use proc_tables::{Item, Views};
 use tab_ids::{ProcId, ReqId};
@@ -62,6 +65,12 @@ pub(crate) fn act(
     }
     match state.views.act(&poke) {
         Ok(made) => {
+            // An edit isn't reported.
+            if is_edit(&made.what) {
+                log_edit(log, &mut state.endings, event, proc, made)?;
+                state.events += 1;
+                return Ok(Reply::Acted);
+            }
             let told = made.copy()?;
             state.desks.add(proc, Item::Report(Report::Made(told)))?;
             log_row(log, event, Actor::Proc(proc), RowKind::Made { proc, made })?;
@@ -84,6 +93,44 @@ pub(crate) fn act(
         Err(ActError::UrlOverflow(overflowed)) => Err(StepError::UrlOverflow(overflowed)),
         Err(ActError::OutOfMemory) => Err(StepError::OutOfMemory),
     }
+}
+
+/// Whether a document edited itself.
+fn is_edit(what: &What) -> bool
+    ensures { result ≡ spec.is_edit what.now }
+{
+    match what {
+        What::Edit => true,
+        What::Push { .. }
+        | What::Replace { .. }
+        | What::AddFrame { .. }
+        | What::RemoveFrame { .. }
+        | What::Go { .. } => false,
+    }
+}
+
+/// An edit is logged, and applied at once.
+fn log_edit(
+    log: &mut Log,
+    endings: &mut Vec<Option<Ending>>,
+    event: u32,
+    proc: ProcId,
+    made: Made,
+) -> Result<(), OutOfMemory>
+    ensures log { OnOk result (log.new ≡ log.old ++ row_with event (actors.Proc proc) (rows.Made proc made) ∷ row_with event (actors.Proc proc) (rows.Applied made.req changes.Edit) ∷ []) }
+    ensures endings { endings.new.items ≡ ended_in endings.old.items made.req ends.Applied }
+    ensures front { OnErr result (take (length log.old) log.new ≡ log.old) }
+{
+    let actor = Actor::Proc(proc);
+    let req = made.req;
+    end(endings, req, Ending::Applied);
+    log_row(log, event, actor, RowKind::Made { proc, made })?;
+    let applied = RowKind::Applied {
+        req,
+        change: Change::Edit,
+    };
+    log_row(log, event, actor, applied)?;
+    Ok(())
 }
 
 /// The process refuses a poke.

@@ -307,6 +307,8 @@ fn go(log: &mut Log, header: &Header, state: &mut State, event: Event) -> Result
             accept_ask(log, header, state, &ask)
         }
         Event::Poke { nav, action } => accept_poke(log, header, state, nav, action),
+        // No prompt is up, so the answer to one isn't due.
+        Event::Answer { .. } => unreachable!(),
         Event::Evict => evict(log, header, state),
         Event::Act { proc } => act(log, header, state, proc),
         Event::Begin { proc } => begin(log, header, state, proc),

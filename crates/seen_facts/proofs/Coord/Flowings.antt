@@ -25,7 +25,7 @@ use Rattle.log_model.specs.Seen.{Seen, Document, Asked, Place, awake, document_o
 use Rattle.log_model.specs.After.{after, on_document}
 use Rattle.log_model.specs.AfterDocuments.{addressed, documents_sent}
 use Rattle.log_model.specs.AfterRequests.{requests_sent}
-use Rattle.seen_laws.specs.Acting.{IsToAct, IsNoEdit}
+use Rattle.seen_laws.specs.Acting.{IsToAct}
 use Rattle.seen_facts.specs.Coord.Leading.{Leads, is_made_under, held_back, pending_view, once_finished}
 use Rattle.seen_facts.specs.Coord.Epochs.{IsWithin}
 use Rattle.seen_facts.specs.Coord.Flowing.{Flows}
@@ -138,7 +138,7 @@ module _ (s : Seen) (event : ℕ) (actor : Actor) (job : Job) (d : Document) (pl
 -- ---- a document makes something
 
 -- where the request isn't one that is held back
-module _ (s : Seen) (proc : ProcId) (poke : Poke) (q : Asked) (of : NavId) (d : Document) (view : View) (what : What) (acts : IsToAct s proc poke q of d view) (is : IsNoEdit what) (flows : Flows s) where
+module _ (s : Seen) (proc : ProcId) (poke : Poke) (q : Asked) (of : NavId) (d : Document) (view : View) (what : What) (acts : IsToAct s proc poke q of d view) (flows : Flows s) where
   abbrev after_making : Seen
   after_making =
       after s (record { event = s.events; actor = actors.Proc proc; row = rows.Made proc (made_for view poke.req what) })
@@ -146,10 +146,10 @@ module _ (s : Seen) (proc : ProcId) (poke : Poke) (q : Asked) (of : NavId) (d : 
   pub made_flows : held_back after_making.requests s.parked ≡ held_back s.requests s.parked → Flows after_making
   made_flows held =
       record {
-        leads = makes.made_leads s proc poke q of d view what acts is flows.reaches held flows.leads;
+        leads = makes.made_leads s proc poke q of d view what acts flows.reaches held flows.leads;
         whose = whose_one s after_making view.doc (once_made what) refl (λ x. refl) (λ x. refl) (had_status s after_making (same_places s after_making refl)) flows.whose;
-        reaches = reachings.made_reach s proc poke q of d view what acts is flows.reaches;
-        within = within_rows.making_stays s proc poke q of d view what acts is flows.reaches held flows.within;
+        reaches = reachings.made_reach s proc poke q of d view what acts flows.reaches;
+        within = within_rows.making_stays s proc poke q of d view what acts flows.reaches held flows.within;
       }
 
 -- ---- a report is delivered

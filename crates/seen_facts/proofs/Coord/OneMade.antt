@@ -195,6 +195,53 @@ reported waiting made (whats.RemoveFrame nav) is = refl
 reported waiting made (whats.Go delta) is = refl
 reported waiting made whats.Edit is = elim is [ ]
 
+-- what a report tells of then: an edit isn't reported
+abbrev pub told_of : Made → What → List Made
+told_of made whats.Edit = []
+told_of made _ = made ∷ []
+
+pub told_so : (waiting : List Report) (made : Made) (what : What) → filter_map made_of_report (reports_made waiting made what) ≡ filter_map made_of_report waiting ++ told_of made what
+told_so waiting made (whats.Push entry memo address) = filter_map-append made_of_report waiting (reports.Made made ∷ [])
+told_so waiting made (whats.Replace over entry memo address) =
+    filter_map-append made_of_report waiting (reports.Made made ∷ [])
+told_so waiting made (whats.AddFrame nav) = filter_map-append made_of_report waiting (reports.Made made ∷ [])
+told_so waiting made (whats.RemoveFrame nav) = filter_map-append made_of_report waiting (reports.Made made ∷ [])
+told_so waiting made (whats.Go delta) = filter_map-append made_of_report waiting (reports.Made made ∷ [])
+told_so waiting made whats.Edit = sym (append-nil (filter_map made_of_report waiting))
+
+-- it is made under the epoch, or under another one
+all_told : (doc : DocId) (epoch : Epoch) (made : Made) (what : What) → is_made_under doc epoch made ≡ true → filter (is_made_under doc epoch) (told_of made what) ≡ told_of made what
+all_told doc epoch made (whats.Push entry memo address) mine = rw mine refl
+all_told doc epoch made (whats.Replace over entry memo address) mine = rw mine refl
+all_told doc epoch made (whats.AddFrame nav) mine = rw mine refl
+all_told doc epoch made (whats.RemoveFrame nav) mine = rw mine refl
+all_told doc epoch made (whats.Go delta) mine = rw mine refl
+all_told doc epoch made whats.Edit mine = refl
+
+pub none_told : (doc : DocId) (epoch : Epoch) (made : Made) (what : What) → is_made_under doc epoch made ≡ false → filter (is_made_under doc epoch) (told_of made what) ≡ []
+none_told doc epoch made (whats.Push entry memo address) none = rw none refl
+none_told doc epoch made (whats.Replace over entry memo address) none = rw none refl
+none_told doc epoch made (whats.AddFrame nav) none = rw none refl
+none_told doc epoch made (whats.RemoveFrame nav) none = rw none refl
+none_told doc epoch made (whats.Go delta) none = rw none refl
+none_told doc epoch made whats.Edit none = refl
+
+-- an edit shows what was shown
+told_face : (face : Face) (made : Made) (what : What) → made.what ≡ what → fold face_after face (told_of made what) ≡ face_after face made
+told_face face made (whats.Push entry memo address) is = refl
+told_face face made (whats.Replace over entry memo address) is = refl
+told_face face made (whats.AddFrame nav) is = refl
+told_face face made (whats.RemoveFrame nav) is = refl
+told_face face made (whats.Go delta) is = refl
+told_face face made whats.Edit is = rw is refl
+
+-- what a report tells of is coming, where it was made under the epoch
+pub coming_so : (held : List Made) (desk : Desk) (made : Made) (doc : DocId) (epoch : Epoch) → coming held (desk_made made desk) doc epoch ≡ coming held desk doc epoch ++ filter (is_made_under doc epoch) (told_of made made.what)
+coming_so held desk made doc epoch =
+    ap (λ (l : List Made). filter (is_made_under doc epoch) (held ++ l)) (told_so desk.reports made made.what)
+    ∙ ap (λ (l : List Made). filter (is_made_under doc epoch) l) (sym (append_assoc held (filter_map made_of_report desk.reports) (told_of made made.what)))
+    ∙ filter-append (is_made_under doc epoch) (held ++ filter_map made_of_report desk.reports) (told_of made made.what)
+
 -- one more is coming, where it was made under the epoch
 pub coming_made : (held : List Made) (desk : Desk) (made : Made) (doc : DocId) (epoch : Epoch) → IsNoEdit made.what → coming held (desk_made made desk) doc epoch ≡ coming held desk doc epoch ++ filter (is_made_under doc epoch) (made ∷ [])
 coming_made held desk made doc epoch is =
@@ -215,11 +262,21 @@ any_append made (first ∷ more) none = by_first (is_push first) none (any_appen
     by_first true e rest = cc
     by_first false e rest = rest e
 
+-- the same of what a report tells of
+any_told : (made : Made) (what : What) → made.what ≡ what → (more : List Made) → list_any is_push (more ++ told_of made what) ≡ false → (list_any is_push more ≡ false) × (is_push made ≡ false)
+any_told made (whats.Push entry memo address) is more none = any_append made more none
+any_told made (whats.Replace over entry memo address) is more none = any_append made more none
+any_told made (whats.AddFrame nav) is more none = any_append made more none
+any_told made (whats.RemoveFrame nav) is more none = any_append made more none
+any_told made (whats.Go delta) is more none = any_append made more none
+any_told made whats.Edit is more none =
+    (sym (ap (λ (l : List Made). list_any is_push l) (append-nil more)) ∙ none, rw is refl)
+
 -- the document of the view, once it made something
 abbrev pub once_made : What → Document → Document
 once_made what d = record d { view = option_map (λ (view : View). after_made view what) d.view }
 
-module _ (rows : List Row) (held : List Made) (desk : Desk) (d : Document) (view : View) (req : ReqId) (what : What) (given : Option EntryId) (epoch : Epoch) (has : d.view ≡ Some view) (its : view.doc ≡ d.nr) (is : IsNoEdit what) (reaches : Reaches desk d epoch) (leads : Leads rows held desk d given epoch) where
+module _ (rows : List Row) (held : List Made) (desk : Desk) (d : Document) (view : View) (req : ReqId) (what : What) (given : Option EntryId) (epoch : Epoch) (has : d.view ≡ Some view) (its : view.doc ≡ d.nr) (reaches : Reaches desk d epoch) (leads : Leads rows held desk d given epoch) where
   abbrev made : Made
   made = made_for view req what
 
@@ -235,7 +292,7 @@ module _ (rows : List Row) (held : List Made) (desk : Desk) (d : Document) (view
         is_row = leads.is_row;
         view = with_pair (after_made view what) (fold pair_after ((after_made view what).length, (after_made view what).index) (orders_for desk d.nr));
         pending = tells (once_made what d) (after_made view what) (orders_for desk d.nr) all has_made;
-        leads = ap (λ (l : List Made). fold face_after leads.face l) came ∙ fold-append face_after leads.face (coming held desk d.nr epoch) (made ∷ []) ∙ ap (λ (f : Face). face_after f made) (leads.leads ∙ shows_same) ∙ made_shows view req what;
+        leads = ap (λ (l : List Made). fold face_after leads.face l) came ∙ fold-append face_after leads.face (coming held desk d.nr epoch) (told_of made what) ∙ told_face (fold face_after leads.face (coming held desk d.nr epoch)) made what refl ∙ ap (λ (f : Face). face_after f made) (leads.leads ∙ shows_same) ∙ made_shows view req what;
         runs = (made_keeps view what).1 ∙ sym (ap (λ (v : View). v.running) is_view) ∙ leads.runs;
         in_epoch = (made_keeps view what).0 ∙ sym (ap (λ (v : View). v.epoch) is_view) ∙ leads.in_epoch;
         pair = told;
@@ -253,12 +310,14 @@ module _ (rows : List Row) (held : List Made) (desk : Desk) (d : Document) (view
       mine : is_made_under d.nr epoch made ≡ true
       mine = rw its (rw (nat_eq_refl d.nr.0) e)
 
-      came : coming held (desk_made made desk) d.nr epoch ≡ coming held desk d.nr epoch ++ made ∷ []
-      came = coming_made held desk made d.nr epoch is ∙ ap (λ (l : List Made). coming held desk d.nr epoch ++ l) (rw mine refl)
+      came : coming held (desk_made made desk) d.nr epoch ≡ coming held desk d.nr epoch ++ told_of made what
+      came =
+          coming_so held desk made d.nr epoch
+          ∙ ap (λ (l : List Made). coming held desk d.nr epoch ++ l) (all_told d.nr epoch made what mine)
 
       told : list_any is_push (coming held (desk_made made desk) d.nr epoch) ≡ false → d.told ≡ Some ((with_pair (after_made view what) (fold pair_after ((after_made view what).length, (after_made view what).index) (orders_for desk d.nr))).length, (with_pair (after_made view what) (fold pair_after ((after_made view what).length, (after_made view what).index) (orders_for desk d.nr))).index)
       told none =
-          let parts = any_append made (coming held desk d.nr epoch) (sym (ap (λ (l : List Made). list_any is_push l) came) ∙ none) in
+          let parts = any_told made what refl (coming held desk d.nr epoch) (sym (ap (λ (l : List Made). list_any is_push l) came) ∙ none) in
           leads.pair parts.0
           ∙ ap (λ (v : View). let o : Option (ℕ × ℕ) = Some (v.length, v.index) in o) is_view
           ∙ ap (λ (p : ℕ × ℕ). let o : Option (ℕ × ℕ) = Some ((fold pair_after p (orders_for desk d.nr)).0, (fold pair_after p (orders_for desk d.nr)).1) in o) (sym (made_pair view req what parts.1))
@@ -268,7 +327,7 @@ module _ (rows : List Row) (held : List Made) (desk : Desk) (d : Document) (view
   under_another e =
       let next = alike_at epoch d (once_made what d) (orders_for desk d.nr) leads.view refl (apart view (after_made view what) has has_made (sym (made_keeps view what).0) (sym (made_keeps view what).1) e) leads.pending leads.in_epoch in
       let none : is_made_under d.nr epoch made ≡ false = rw its (rw (nat_eq_refl d.nr.0) e) in
-      let same : coming held (desk_made made desk) d.nr epoch ≡ coming held desk d.nr epoch = coming_made held desk made d.nr epoch is ∙ ap (λ (l : List Made). coming held desk d.nr epoch ++ l) (rw none refl) ∙ append-nil (coming held desk d.nr epoch) in
+      let same : coming held (desk_made made desk) d.nr epoch ≡ coming held desk d.nr epoch = coming_so held desk made d.nr epoch ∙ ap (λ (l : List Made). coming held desk d.nr epoch ++ l) (none_told d.nr epoch made what none) ∙ append-nil (coming held desk d.nr epoch) in
       record {
         face = leads.face;
         is_given = leads.is_given;

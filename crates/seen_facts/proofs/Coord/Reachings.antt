@@ -19,7 +19,7 @@ use Rattle.log_model.specs.Views.{View, made_for}
 use Rattle.log_model.specs.Seen.{Seen, Document, Desk, Asked, desk_of}
 use Rattle.log_model.specs.After.{after, on_desk, on_document, desk_finished, desk_taken, desk_delivered, desk_made, desks_made}
 use Rattle.log_model.specs.AfterDocuments.{addressed, documents_sent}
-use Rattle.seen_laws.specs.Acting.{IsToAct, IsNoEdit}
+use Rattle.seen_laws.specs.Acting.{IsToAct}
 use Rattle.seen_laws.proofs.Keyed.{find_has}
 use Rattle.seen_facts.specs.Coord.Leading.{once_finished}
 use Rattle.seen_facts.specs.Coord.Reaching.{Reaches, EachReaches}
@@ -116,7 +116,7 @@ module _ (s : Seen) (event : ℕ) (proc : ProcId) (job : Job) (outcome : Outcome
       each
 
 -- a document makes something of its first poke
-module _ (s : Seen) (proc : ProcId) (poke : Poke) (q : Asked) (of : NavId) (d : Document) (view : View) (what : What) (acts : IsToAct s proc poke q of d view) (is : IsNoEdit what) (reaches : EachReaches s) where
+module _ (s : Seen) (proc : ProcId) (poke : Poke) (q : Asked) (of : NavId) (d : Document) (view : View) (what : What) (acts : IsToAct s proc poke q of d view) (reaches : EachReaches s) where
   abbrev after_making : Seen
   after_making =
       after s (record { event = s.events; actor = actors.Proc proc; row = rows.Made proc (made_for view poke.req what) })
@@ -124,7 +124,7 @@ module _ (s : Seen) (proc : ProcId) (poke : Poke) (q : Asked) (of : NavId) (d : 
   made_change : IsOneChange ReachesIn s after_making proc (desk_made (made_for view poke.req what)) view.doc (once_made what)
   made_change =
       record {
-        desks = ap (λ (b : Bool). on_desk proc (desks_made b (made_for view poke.req what)) s.desks) (makes.unfollowed s proc poke q of d view what acts is reaches);
+        desks = ap (λ (b : Bool). on_desk proc (desks_made b (made_for view poke.req what)) s.desks) (makes.unfollowed s proc poke q of d view what acts reaches);
         documents = refl;
         keeps_proc = λ desk. refl;
         keeps_number = λ x. refl;

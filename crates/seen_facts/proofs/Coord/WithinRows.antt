@@ -1,7 +1,6 @@
 -- A live order is taken up, a document makes something, a report is delivered, a traversal ends: no document is then under an epoch that its navigable hasn't come to.
-use Rattle.std.proofs.Common.{◌≡◌, ℕ, ◌≤◌, Bool, true, false, ◌==◌, List, [], ◌∷◌, ◌++◌, drop, Option, Some, None, refl, sym, ap, ◌∙◌, subst, arith}
+use Rattle.std.proofs.Common.{◌≡◌, ℕ, ◌≤◌, Bool, true, false, ◌==◌, List, [], ◌∷◌, ◌++◌, drop, Option, Some, None, refl, sym, ap, ◌∙◌, subst, arith, append-nil}
 use Rattle.std.specs.Prelude.{filter_map, find, slice_get, option_map}
-use Rattle.std.proofs.lemmas.List.Elements.{filter_map-append}
 use Rattle.tab_ids.specs.declared.DocId.{DocId}
 use Rattle.tab_ids.specs.declared.Epoch.{Epoch}
 use Rattle.tab_ids.specs.declared.NavId.{NavId}
@@ -10,8 +9,6 @@ use Rattle.tab_ids.specs.declared.ReqId.{ReqId}
 use Rattle.tab_ids.specs.declared.Step.{Step}
 use Rattle.log_model.specs.declared.job.Job.{Job}
 use Rattle.log_model.specs.declared.made.Made.{Made}
-use Rattle.log_model.specs.declared.made.Report.{Report}
-use Rattle.log_model.specs.declared.made.Report.TheVariants as reports
 use Rattle.log_model.specs.declared.made.What.{What}
 use Rattle.log_model.specs.declared.made.What.TheVariants as whats
 use Rattle.log_model.specs.declared.outcome.Outcome.{Outcome}
@@ -24,7 +21,7 @@ use Rattle.log_model.specs.Seen.{Seen, Document, Desk, Asked, Place, document_of
 use Rattle.log_model.specs.After.{after, on_desk, desks_made, desk_made, desk_taken, desk_delivered}
 use Rattle.log_model.specs.AfterRequests.{made_of_report}
 use Rattle.log_model.proofs.Refl.{nat_eq_refl}
-use Rattle.seen_laws.specs.Acting.{IsToAct, IsNoEdit}
+use Rattle.seen_laws.specs.Acting.{IsToAct}
 use Rattle.seen_facts.specs.Coord.Leading.{orders_for, held_back}
 use Rattle.seen_facts.specs.Coord.Reaching.{EachReaches}
 use Rattle.seen_facts.specs.Coord.Epochs.{AllWithin, MadeWithin, IsWithin, EachIsWithin}
@@ -35,7 +32,7 @@ use Rattle.seen_facts.proofs.Coord.DeliveredMade as delivered
 use Rattle.seen_facts.proofs.Coord.DeliveredMade.{not_its}
 use Rattle.seen_facts.proofs.Coord.Kept.{IsPlainOutcome, desk_stays_on}
 use Rattle.seen_facts.proofs.Coord.Makes as makes
-use Rattle.seen_facts.proofs.Coord.OneMade.{once_made, reported}
+use Rattle.seen_facts.proofs.Coord.OneMade.{once_made, told_of, told_so}
 use Rattle.seen_facts.proofs.Coord.Arrived as arrived
 use Rattle.seen_facts.proofs.Coord.Arrived.{IsFirstReport}
 use Rattle.seen_facts.proofs.Coord.Traversed as traversed
@@ -86,20 +83,26 @@ made_after : (bound : ℕ) (doc : DocId) (mades : List Made) (made : Made) → M
 made_after bound doc [] made all low = (low, tt)
 made_after bound doc (first ∷ mades) made all low = (all.0, made_after bound doc mades made all.1 low)
 
+-- so are those of which a report tells
+told_after : (bound : ℕ) (doc : DocId) (mades : List Made) (made : Made) (what : What) → MadeWithin bound doc mades → (made.doc.0 ≡ doc.0 → made.epoch.0 ≤ bound) → MadeWithin bound doc (mades ++ told_of made what)
+told_after bound doc mades made (whats.Push entry memo address) all low = made_after bound doc mades made all low
+told_after bound doc mades made (whats.Replace over entry memo address) all low =
+    made_after bound doc mades made all low
+told_after bound doc mades made (whats.AddFrame nav) all low = made_after bound doc mades made all low
+told_after bound doc mades made (whats.RemoveFrame nav) all low = made_after bound doc mades made all low
+told_after bound doc mades made (whats.Go delta) all low = made_after bound doc mades made all low
+told_after bound doc mades made whats.Edit all low =
+    subst (λ (l : List Made). MadeWithin bound doc l) (sym (append-nil mades)) all
+
 -- it was made under an epoch up to the bound, if by this document; and the document's view keeps its epoch
-making_within : (held : List Made) (desk : Desk) (made : Made) (d next : Document) (bound : ℕ) → IsNoEdit made.what → (made.doc.0 ≡ d.nr.0 → made.epoch.0 ≤ bound) → next.nr ≡ d.nr → ((seen : View) → next.view ≡ Some seen → seen.epoch.0 ≤ bound) → IsWithin held desk d bound → IsWithin held (desk_made made desk) next bound
-making_within held desk made d next bound is low nr view was =
+making_within : (held : List Made) (desk : Desk) (made : Made) (d next : Document) (bound : ℕ) → (made.doc.0 ≡ d.nr.0 → made.epoch.0 ≤ bound) → next.nr ≡ d.nr → ((seen : View) → next.view ≡ Some seen → seen.epoch.0 ≤ bound) → IsWithin held desk d bound → IsWithin held (desk_made made desk) next bound
+making_within held desk made d next bound low nr view was =
     record {
       view = view;
       orders = subst (λ (doc : DocId). AllWithin bound (orders_for desk doc)) (sym nr) was.orders;
       held_back = subst (λ (doc : DocId). MadeWithin bound doc held) (sym nr) was.held_back;
-      reports = subst (λ (doc : DocId). MadeWithin bound doc (filter_map made_of_report (desk_made made desk).reports)) (sym nr) (subst (λ (l : List Made). MadeWithin bound d.nr l) (sym told) (made_after bound d.nr (filter_map made_of_report desk.reports) made was.reports low));
+      reports = subst (λ (doc : DocId). MadeWithin bound doc (filter_map made_of_report (desk_made made desk).reports)) (sym nr) (subst (λ (l : List Made). MadeWithin bound d.nr l) (sym (told_so desk.reports made made.what)) (told_after bound d.nr (filter_map made_of_report desk.reports) made made.what was.reports low));
     }
-  where
-    told : filter_map made_of_report (desk_made made desk).reports ≡ filter_map made_of_report desk.reports ++ made ∷ []
-    told =
-        ap (λ (waiting : List Report). filter_map made_of_report waiting) (reported desk.reports made made.what is)
-        ∙ filter_map-append made_of_report desk.reports (reports.Made made ∷ [])
 
 made_keeps_epoch : (view : View) (what : What) → (after_made view what).epoch ≡ view.epoch
 made_keeps_epoch view (whats.Push entry memo address) = refl
@@ -109,7 +112,7 @@ made_keeps_epoch view (whats.RemoveFrame nav) = refl
 made_keeps_epoch view (whats.Go delta) = refl
 made_keeps_epoch view whats.Edit = refl
 
-module _ (s : Seen) (proc : ProcId) (poke : Poke) (q : Asked) (of : NavId) (d : Document) (view : View) (what : What) (acts : IsToAct s proc poke q of d view) (is : IsNoEdit what) (reaches : EachReaches s) where
+module _ (s : Seen) (proc : ProcId) (poke : Poke) (q : Asked) (of : NavId) (d : Document) (view : View) (what : What) (acts : IsToAct s proc poke q of d view) (reaches : EachReaches s) where
   abbrev after_making : Seen
   after_making =
       after s (record { event = s.events; actor = actors.Proc proc; row = rows.Made proc (made_for view poke.req what) })
@@ -130,7 +133,7 @@ module _ (s : Seen) (proc : ProcId) (poke : Poke) (q : Asked) (of : NavId) (d : 
   made_change : IsOneOfEach (WithinIn s) s after_making proc (desk_made (made_for view poke.req what)) view.doc (once_made what)
   made_change =
       record {
-        desks = ap (λ (b : Bool). on_desk proc (desks_made b (made_for view poke.req what)) s.desks) (makes.unfollowed s proc poke q of d view what acts is reaches);
+        desks = ap (λ (b : Bool). on_desk proc (desks_made b (made_for view poke.req what)) s.desks) (makes.unfollowed s proc poke q of d view what acts reaches);
         documents = refl;
         keeps_proc = λ desk. refl;
         keeps_number = λ x. refl;
@@ -139,8 +142,8 @@ module _ (s : Seen) (proc : ProcId) (poke : Poke) (q : Asked) (of : NavId) (d : 
         had = λ nav place placed. unmoved s nav place placed;
         grows = λ desk x m n more was. within_more (held_back s.requests s.parked) desk x m n more was;
         home = λ x there. ap (λ (y : Document). y.proc) (sym (its x there)) ∙ acts.home;
-        own = λ x place there placed was. making_within (held_back s.requests s.parked) (desk_of s proc) (made_for view poke.req what) x (once_made what x) place.epoch.0 is (λ mine. low x place.epoch.0 there was) refl (seen_low x place.epoch.0 there was) was;
-        other = λ x bound apart was. making_within (held_back s.requests s.parked) (desk_of s proc) (made_for view poke.req what) x x bound is (λ mine. (let yes : (view.doc.0 == x.nr.0) ≡ true = rw mine (nat_eq_refl x.nr.0) in let no_ : true ≡ false = sym yes ∙ apart in absurd cc)) refl was.view was;
+        own = λ x place there placed was. making_within (held_back s.requests s.parked) (desk_of s proc) (made_for view poke.req what) x (once_made what x) place.epoch.0 (λ mine. low x place.epoch.0 there was) refl (seen_low x place.epoch.0 there was) was;
+        other = λ x bound apart was. making_within (held_back s.requests s.parked) (desk_of s proc) (made_for view poke.req what) x x bound (λ mine. (let yes : (view.doc.0 == x.nr.0) ≡ true = rw mine (nat_eq_refl x.nr.0) in let no_ : true ≡ false = sym yes ∙ apart in absurd cc)) refl was.view was;
       }
 
   -- where the request isn't one that is held back

@@ -124,6 +124,15 @@ module _ (documents : List Document) (places : List Place) (proc : ProcId) where
       by_what (whats.Go delta) = more
       by_what whats.Edit = is.told
 
+  -- it edits itself, which isn't reported
+  pub edited_in : (made : Made) (desk : Desk) → made.what ≡ whats.Edit → IsDeskIn documents places proc desk → IsDeskIn documents places proc (desk_made made desk)
+  edited_in made desk edits is =
+      record {
+        orders = is.orders;
+        told = subst (λ (w : What). Each (IsReportIn documents places proc) (reports_made desk.reports made w)) (sym edits) is.told;
+        pokes = each_less (IsPokeIn documents proc) desk.input is.pokes;
+      }
+
   -- or of the fragment order that it finished just now, whose report is the last
   joined : (made : Made) (job : Job) (outcome : Outcome) (waiting : List Report) → IsFragmentTask job.task → made.doc.0 ≡ job.doc.0 → IsMadeIn documents proc made → Each (IsReportIn documents places proc) (waiting ++ reports.Done job outcome None ∷ []) → Each (IsReportIn documents places proc) (reports_joined made (waiting ++ reports.Done job outcome None ∷ []))
   joined made job outcome [] fragment same own all = ((all.0.0, all.0.1, (fragment, same, own)), tt)

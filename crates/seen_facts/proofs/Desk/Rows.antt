@@ -16,6 +16,7 @@ use Rattle.log_model.specs.declared.job.Order.{Order}
 use Rattle.log_model.specs.declared.made.Made.{Made}
 use Rattle.log_model.specs.declared.made.Report.{Report}
 use Rattle.log_model.specs.declared.made.Report.TheVariants as reports
+use Rattle.log_model.specs.declared.made.What.TheVariants as whats
 use Rattle.log_model.specs.declared.outcome.Cause.{Cause}
 use Rattle.log_model.specs.declared.outcome.Denial.{Denial}
 use Rattle.log_model.specs.declared.outcome.Outcome.{Outcome}
@@ -32,7 +33,7 @@ use Rattle.log_model.specs.Seen.{Seen, Document, Desk, desk_in, desk_of, documen
 use Rattle.seen_facts.specs.Transit.Orders.{IsOutcomeOf}
 use Rattle.seen_facts.specs.Desk.Own.{AreDesksIn, IsDeskIn, IsFragmentTask, IsMadeIn}
 use Rattle.seen_facts.proofs.Desk.Again.{same_documents, same_places, made_again}
-use Rattle.seen_facts.proofs.Desk.Lists.{delivered_in, desks_on, desks_same, dropped_in, finished_in, joined_in, made_in, poked_in, taken_in, unpoked_in}
+use Rattle.seen_facts.proofs.Desk.Lists.{delivered_in, desks_on, desks_same, dropped_in, edited_in, finished_in, joined_in, made_in, poked_in, taken_in, unpoked_in}
 use Rattle.seen_facts.proofs.Desk.Stays.{NoDeath, applied_at, changed_stay, delivered_at, delivered_stay, finished_stay, made_stay}
 
 -- all desks are changed
@@ -116,7 +117,18 @@ module _ (s : Seen) (event : ℕ) (actor : Actor) (are : AreDesksIn s) where
       desks : t.desks ≡ on_desk proc (desk_made made) s.desks
       desks = ap (λ (b : Bool). on_desk proc (desks_made b made) s.desks) alone
 
-  -- or of the fragment order that it finished just now
+  -- it edits itself
+  pub edited_desks : (proc : ProcId) (made : Made) → made.what ≡ whats.Edit → follows_finished s (record { event = event; actor = actor; row = rows.Made proc made }) ≡ false → AreDesksIn (then_ (rows.Made proc made))
+  edited_desks proc made edits alone =
+      desks_on s t proc (desk_made made) desks (λ desk. refl) (made_stay made s.documents) (same_places s.places) (λ is. edited_in t.documents s.places proc made (desk_of s proc) edits is) are
+    where
+      t : Seen
+      t = then_ (rows.Made proc made)
+
+      desks : t.desks ≡ on_desk proc (desk_made made) s.desks
+      desks = ap (λ (b : Bool). on_desk proc (desks_made b made) s.desks) alone
+
+  -- or makes something of the fragment order that it finished just now
   pub fragment_desks : (proc : ProcId) (made : Made) (job : Job) (outcome : Outcome) (waiting : List Report) → IsMadeIn s.documents proc made → follows_finished s (record { event = event; actor = actor; row = rows.Made proc made }) ≡ true → (desk_of s proc).reports ≡ waiting ++ reports.Done job outcome None ∷ [] → IsFragmentTask job.task → made.doc.0 ≡ job.doc.0 → AreDesksIn (then_ (rows.Made proc made))
   fragment_desks proc made job outcome waiting own follows last fragment same =
       desks_on s t proc (λ (desk : Desk). record desk { reports = reports_joined made desk.reports }) desks (λ desk. refl) (made_stay made s.documents) (same_places s.places) (λ is. joined_in t.documents s.places proc made job outcome waiting (desk_of s proc) last fragment same (made_again s.documents t.documents s.places s.places (made_stay made s.documents) (same_places s.places) proc made own) is) are

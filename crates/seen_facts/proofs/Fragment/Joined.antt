@@ -78,7 +78,7 @@ joining_leads rows held desk d view req what given epoch has its is ends reaches
       coming = coming_joined held desk (made_for view req what) d.nr epoch ends ∙ sym (coming_made held desk (made_for view req what) d.nr epoch is);
       told = refl;
     })
-    (making_leads rows held desk d view req what given epoch has its is reaches leads)
+    (making_leads rows held desk d view req what given epoch has its reaches leads)
 
 -- what another document made isn't coming from this one
 pub joined_elsewhere : (held : List Made) (desk : Desk) (made : Made) (d : Document) (epoch : Epoch) → EndsUntold desk.reports → (made.doc.0 == d.nr.0) ≡ false → LooksAlike held desk (desk_joined made desk) d d epoch

@@ -11,6 +11,7 @@ use Rattle.log_model.specs.declared.action.Action.{Action}
 use Rattle.log_model.specs.declared.made.Made.{Made}
 use Rattle.log_model.specs.declared.made.Report.{Report}
 use Rattle.log_model.specs.declared.made.Report.TheVariants as reports
+use Rattle.log_model.specs.declared.made.What.{What}
 use Rattle.log_model.specs.declared.made.What.TheVariants as whats
 use Rattle.log_model.specs.declared.request.Poke.{Poke}
 use Rattle.log_model.specs.declared.request.Request.{Request}
@@ -20,7 +21,7 @@ use Rattle.log_model.specs.declared.row_kind.RowKind.TheVariants as rows
 use Rattle.log_model.specs.Seen.{Seen, Document, Desk, Asked, document_of, desk_of, desk_in, request_in}
 use Rattle.log_model.specs.Places.{goes}
 use Rattle.log_model.specs.Once.{has_to_begin}
-use Rattle.log_model.specs.After.{on_desk, desk_made, desks_made, desk_delivered, follows_finished, new_request}
+use Rattle.log_model.specs.After.{on_desk, desk_made, desks_made, desk_delivered, follows_finished, new_request, reports_made}
 use Rattle.log_model.specs.AfterRequests.{on_request, made_of_report, changes_history, is_held_back}
 use Rattle.seen_laws.specs.Acting.{IsNoEdit}
 use Rattle.seen_laws.proofs.Sums.{over}
@@ -209,6 +210,39 @@ module _ (s : Seen) (hand : List ReqId) (event : ℕ) (actor : Actor) (proc : Pr
           record {
             pokes = rest.pokes;
             mades = subst (λ (l : List Made). AllOf IsMadeOf req_of_made asked_made l) (sym told) (all_more IsMadeOf req_of_made asked_made (filter_map made_of_report (desk_of s proc).reports) made rest.mades (its_core known));
+          }
+
+-- the document edits itself, which no report tells of
+module _ (s : Seen) (hand : List ReqId) (event : ℕ) (actor : Actor) (proc : ProcId) (made : Made) (poke : Poke) (first : slice_get (desk_of s proc).input 0 ≡ Some poke) (of_poke : poke.req ≡ made.req) (edits : made.what ≡ whats.Edit) (anew : follows_finished s (record { event = event; actor = actor; row = rows.Made proc made }) ≡ false) (once : AreOnce s hand) where
+  abbrev asked_edited : List Asked
+  asked_edited = on_request made.req (λ q. record q { made = Some made }) s.requests
+
+  others_edited : (r : ReqId) → (r.0 == poke.req.0) ≡ false → core_of (request_in asked_edited r) ≡ core_of (request_in s.requests r)
+  others_edited r apart =
+      ap core_of (on_else s.requests made.req (λ q. record q { made = Some made }) r (subst (λ (q : ReqId). (r.0 == q.0) ≡ false) of_poke apart))
+
+  pub edited_known : AreKnown s → AreKnown (next s event actor (rows.Made proc made))
+  edited_known known =
+      record {
+        desks = subst (λ (l : List Desk). (other : ProcId) → AreKnownAt asked_edited (desk_in l other)) (sym desks_are) (each_desk (AreKnownAt asked_edited) (desk_made made) s.desks proc (λ desk. refl) own (others_at s hand proc poke first once known asked_edited others_edited));
+        joined = all_else IsJoined req_itself s.requests asked_edited poke.req s.joined others_edited (mapped_none poke.req s.joined (alone s hand proc poke first once known).joined) known.joined;
+        parked = all_else IsParked req_itself s.requests asked_edited poke.req s.parked others_edited (mapped_none poke.req s.parked (alone s hand proc poke first once known).parked) known.parked;
+      }
+    where
+      desks_are : (next s event actor (rows.Made proc made)).desks ≡ on_desk proc (desk_made made) s.desks
+      desks_are = ap (λ (b : Bool). on_desk proc (desks_made b made) s.desks) anew
+
+      rest : AreKnownAt asked_edited (record (desk_of s proc) { input = drop 1 (desk_of s proc).input })
+      rest = rest_at s hand proc poke first once known asked_edited others_edited
+
+      untold : (desk_made made (desk_of s proc)).reports ≡ (desk_of s proc).reports
+      untold = ap (λ (w : What). reports_made (desk_of s proc).reports made w) edits
+
+      own : AreKnownAt asked_edited (desk_made made (desk_of s proc))
+      own =
+          record {
+            pokes = rest.pokes;
+            mades = subst (λ (l : List Report). AllOf IsMadeOf req_of_made asked_edited (filter_map made_of_report l)) (sym untold) rest.mades;
           }
 
 -- ---- a report is delivered

@@ -19,7 +19,7 @@ use Rattle.log_model.specs.declared.request.Request.TheVariants as requests
 use Rattle.log_model.specs.declared.row_kind.Actor.{Actor}
 use Rattle.log_model.specs.declared.row_kind.RowKind.TheVariants as rows
 use Rattle.log_model.specs.Seen.{Seen, Document, Desk, Asked, document_of, desk_of, desk_in, request_in}
-use Rattle.log_model.specs.After.{on_desk, desk_made, desks_made, desk_delivered, follows_finished, new_request}
+use Rattle.log_model.specs.After.{on_desk, desk_made, desks_made, desk_delivered, follows_finished, new_request, reports_made}
 use Rattle.log_model.specs.AfterRequests.{on_request, made_of_report, joined_delivered, is_held_back}
 use Rattle.seen_laws.specs.Acting.{IsNoEdit}
 use Rattle.seen_laws.proofs.Sums.{over, over_on}
@@ -130,6 +130,33 @@ module _ (s : Seen) (hand : List ReqId) (event : ℕ) (actor : Actor) (proc : Pr
           let all : times r (answered_by (filter_map made_of_report (desk_made made (desk_of s proc)).reports)) ≡ times r (answered_by (filter_map made_of_report (desk_of s proc).reports)) + one_if made.req r = ap (λ (l : List Made). times r (answered_by l)) told ∙ one_told r (filter_map made_of_report (desk_of s proc).reports) in
           let was : times r (poked (desk_of s proc).input) ≡ one_if made.req r + times r (poked (drop 1 (desk_of s proc).input)) = first_poked r (desk_of s proc).input poke first ∙ ap (λ (q : ReqId). one_if q r + times r (poked (drop 1 (desk_of s proc).input))) of_poke in
           omega (arith, all, was)
+
+-- it edits itself, which no report tells of: its request is at hand
+module _ (s : Seen) (hand : List ReqId) (event : ℕ) (actor : Actor) (proc : ProcId) (made : Made) (poke : Poke) (first : slice_get (desk_of s proc).input 0 ≡ Some poke) (of_poke : poke.req ≡ made.req) (is : made.what ≡ whats.Edit) (anew : follows_finished s (record { event = event; actor = actor; row = rows.Made proc made }) ≡ false) where
+  abbrev pub once_edited : Seen
+  once_edited = next s event actor (rows.Made proc made)
+
+  pub edited_once : AreOnce s hand → AreOnce once_edited (made.req ∷ hand)
+  edited_once each =
+      once_moved s once_edited hand (made.req ∷ hand) (made_dues s.requests made) counted each
+    where
+      desks : once_edited.desks ≡ on_desk proc (desk_made made) s.desks
+      desks = ap (λ (b : Bool). on_desk proc (desks_made b made) s.desks) anew
+
+      untold : (desk_made made (desk_of s proc)).reports ≡ (desk_of s proc).reports
+      untold = ap (λ (w : What). reports_made (desk_of s proc).reports made w) is
+
+      less : (r : ReqId) → times_at r (desk_of s proc) ≡ one_if made.req r + times_at r (desk_made made (desk_of s proc))
+      less r =
+          let was : times r (poked (desk_of s proc).input) ≡ one_if made.req r + times r (poked (drop 1 (desk_of s proc).input)) = first_poked r (desk_of s proc).input poke first ∙ ap (λ (q : ReqId). one_if q r + times r (poked (drop 1 (desk_of s proc).input))) of_poke in
+          let same : times r (answered_by (filter_map made_of_report (desk_made made (desk_of s proc)).reports)) ≡ times r (answered_by (filter_map made_of_report (desk_of s proc).reports)) = ap (λ (l : List Report). times r (answered_by (filter_map made_of_report l))) untold in
+          omega (arith, was, same)
+
+      counted : SameTimes s hand once_edited (made.req ∷ hand)
+      counted r =
+          let more : over (times_at r) (on_desk proc (desk_made made) s.desks) + times_at r (desk_of s proc) ≡ over (times_at r) s.desks + times_at r (desk_made made (desk_of s proc)) = over_on (times_at r) (desk_made made) s.desks proc refl in
+          let now_ : over (times_at r) once_edited.desks ≡ over (times_at r) (on_desk proc (desk_made made) s.desks) = ap (λ (l : List Desk). over (times_at r) l) desks in
+          omega (arith, more, now_, less r)
 
 -- ---- a report is delivered
 

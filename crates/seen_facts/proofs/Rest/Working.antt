@@ -609,7 +609,7 @@ module _ (s : Seen) (proc : ProcId) (is : IsComposed s) (poke : Poke) (q : Asked
       (left_kept s s.events (actors.Proc proc) is.kept (rows.Made proc (made_for view poke.req what)) tt)
       (made_ways s s.events (actors.Proc proc) is.ways proc (made_for view poke.req what) anew)
       (made_rests s s.events (actors.Proc proc) is.rests proc (made_for view poke.req what) anew)
-      (made_flows s proc poke q of d view what acts no_edit is.flows (held_apart s.requests s.parked poke.req (λ x. record x { made = Some (made_for view poke.req what) }) unparked))
+      (made_flows s proc poke q of d view what acts is.flows (held_apart s.requests s.parked poke.req (λ x. record x { made = Some (made_for view poke.req what) }) unparked))
       (made_once s [] s.events (actors.Proc proc) proc (made_for view poke.req what) poke acts.first refl no_edit anew is.once)
 
 -- a poke is accepted, for a document that is there

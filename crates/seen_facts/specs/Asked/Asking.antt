@@ -3,8 +3,6 @@
 use Rattle.std.specs.Prelude.{◌≡◌, true, false, Option, Some, None, is_some}
 use Rattle.tab_ids.specs.declared.NavId.{NavId}
 use Rattle.tab_ids.specs.declared.ReqId.{ReqId}
-use Rattle.log_model.specs.declared.action.Action.{Action}
-use Rattle.log_model.specs.declared.action.Action.TheVariants as actions
 use Rattle.log_model.specs.declared.request.Request.{Request}
 use Rattle.log_model.specs.declared.request.Request.TheVariants as requests
 use Rattle.log_model.specs.History.{has_nav}
@@ -13,16 +11,11 @@ use Rattle.log_model.specs.Seen.{Seen, Asked, request_in}
 use Rattle.seen_facts.specs.Each.Items.{NoneDied}
 use Rattle.seen_facts.specs.Each.Runs.{EachAsked, OnlyRuns}
 
--- the action is no edit
-abbrev pub IsNoEditing : Action → Type 0
-IsNoEditing actions.Edit = ⊥
-IsNoEditing _ = Unit {0}
-
--- a traversal or a load by the user, or a poke that is no edit
+-- a traversal or a load by the user, or a poke
 abbrev pub IsTabRequest : Request → Type 0
 IsTabRequest (requests.Go delta) = Unit {0}
 IsTabRequest (requests.Load nav mode address) = Unit {0}
-IsTabRequest (requests.Poke nav action) = IsNoEditing action
+IsTabRequest (requests.Poke nav action) = Unit {0}
 IsTabRequest _ = ⊥
 
 -- each request has passed its unload check: whom it asked has answered or is gone, and the user wasn't asked or lets the page go

@@ -121,6 +121,16 @@ made_of_action view (actions.RemoveFrame nav) what fine makes = subst (IsMadeByA
 made_of_action view (actions.Go delta) what fine makes = subst (IsMadeByAction view (actions.Go delta)) (some_same makes) (record { new = tt; no_edit = tt; goes_ = refl })
 made_of_action view actions.Edit what never makes = absurd never
 
+-- what is made is no edit where the action is none
+pub no_editing : (view : View) (action : Action) (what : What) → made_by view action ≡ Some what → IsNoEdit what → IsNoEditing action
+no_editing view (actions.Push memo reference) what makes is = tt
+no_editing view (actions.Replace memo reference) what makes is = tt
+no_editing view (actions.Fragment text) what makes is = tt
+no_editing view (actions.AddFrame nav) what makes is = tt
+no_editing view (actions.RemoveFrame nav) what makes is = tt
+no_editing view (actions.Go delta) what makes is = tt
+no_editing view actions.Edit what makes is = subst IsNoEdit (sym (some_same makes)) is
+
 module _ (home : ProcId) (run : Option ReqId) (s : Seen) (event : ℕ) (is : IsBetween home run s) where
   abbrev framed : IsFrameTab home run [] s
   framed = is.tab.framed

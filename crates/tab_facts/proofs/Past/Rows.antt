@@ -18,7 +18,7 @@ use Rattle.seen_facts.proofs.Entry.Applied.{applied_made}
 use Rattle.seen_facts.proofs.Entry.Skips.{Skips, hand_skips, held_skips, made_in, skips_append, without_made}
 use Rattle.tab_facts.proofs.FrameWhole.FlowsEnds.{within_skip}
 use Rattle.seen_facts.specs.Entry.Entries.{waiting}
-use Rattle.log_model.specs.After.{desk_delivered, desk_finished, desk_taken, desks_made, ended, follows_finished, on_desk, on_document}
+use Rattle.log_model.specs.After.{desk_delivered, desk_finished, desk_made, desk_taken, desks_made, ended, follows_finished, on_desk, on_document, reports_made}
 use Rattle.log_model.specs.AfterDocuments.{documents_delivered, documents_finished, opening_document, slot_finished, told_after_change, view_finished}
 use Rattle.log_model.specs.AfterPlaces.{opening_place}
 use Rattle.log_model.specs.AfterRequests.{made_of_report, without_req}
@@ -169,7 +169,8 @@ module _ (s : Seen) (event : ℕ) (proc : ProcId) (docs : AreDocs s) where
     pub waits : waiting t [] ≡ waiting s []
     pub keeps_proc : (desk : Desk) → (f desk).proc ≡ desk.proc
     pub orders : (doc : DocId) → orders_for (f (desk_of s proc)) doc ≡ orders_for (desk_of s proc) doc
-    pub told : filter_map made_of_report (f (desk_of s proc)).reports ≡ filter_map made_of_report (desk_of s proc).reports ++ made ∷ []
+    -- what its reports tell of is within a bound with what it made, unless that isn't reported
+    pub told : (bound : ℕ) (doc : DocId) → MadeWithin bound doc (filter_map made_of_report (desk_of s proc).reports) → (made.doc.0 ≡ doc.0 → made.epoch.0 ≤ bound) → MadeWithin bound doc (filter_map made_of_report (f (desk_of s proc)).reports)
     pub keeps_number : (d : Document) → (g d).nr ≡ d.nr
     pub stays : (d : Document) → (g d).proc ≡ d.proc
     pub stays_in : (d : Document) → (g d).nav ≡ d.nav
@@ -184,7 +185,7 @@ module _ (s : Seen) (event : ℕ) (proc : ProcId) (docs : AreDocs s) where
           view = was.view;
           orders = subst (λ (l : List Job). AllWithin bound l) (sym (is.orders d.nr)) was.orders;
           held_back = was.held_back;
-          reports = subst (λ (l : List Made). MadeWithin bound d.nr l) (sym is.told) (within_after bound d.nr (filter_map made_of_report (desk_of s proc).reports) made was.reports low);
+          reports = is.told bound d.nr was.reports low;
         }
 
     its : (d : Document) (bound : ℕ) → document_of s made.doc ≡ Some d → IsWithin (waiting s []) (desk_of s proc) d bound → made.epoch.0 ≤ bound
@@ -254,7 +255,7 @@ module _ (s : Seen) (event : ℕ) (proc : ProcId) (docs : AreDocs s) (made : Mad
         waits = waits;
         keeps_proc = keeps_proc b;
         orders = orders b;
-        told = told;
+        told = λ bound doc was low. subst (λ (l : List Made). MadeWithin bound doc l) (sym told) (within_after bound doc (filter_map made_of_report (desk_of s proc).reports) made was low);
         keeps_number = λ x. refl;
         stays = λ x. refl;
         stays_in = λ x. refl;
@@ -273,6 +274,29 @@ module _ (s : Seen) (event : ℕ) (proc : ProcId) (docs : AreDocs s) (made : Mad
       orders : (c : Bool) (doc : DocId) → orders_for (desks_made c made (desk_of s proc)) doc ≡ orders_for (desk_of s proc) doc
       orders true doc = refl
       orders false doc = refl
+
+  -- an edit isn't reported
+  pub edited_row_past : made.what ≡ whats.Edit → follows_finished s (record { event = event; actor = actors.Proc proc; row = rows.Made proc made }) ≡ false → waiting after_making [] ≡ waiting s [] → ArePast [] s → ArePast [] after_making
+  edited_row_past edits anew waits =
+      acted_past s event proc docs after_making made (desk_made made) (once_made made.what)
+      (record {
+        desks = ap (λ (c : Bool). on_desk proc (desks_made c made) s.desks) anew;
+        documents = refl;
+        places = refl;
+        waits = waits;
+        keeps_proc = λ desk. refl;
+        orders = λ doc. refl;
+        told = λ bound doc was low. subst (λ (w : What). MadeWithin bound doc (filter_map made_of_report (reports_made (desk_of s proc).reports made w))) (sym edits) was;
+        keeps_number = λ x. refl;
+        stays = λ x. refl;
+        stays_in = λ x. refl;
+        home = λ x there. ap (λ (y : Document). y.proc) (one x there) ∙ home;
+        under = λ x there. (view, ap (λ (y : Document). y.view) (one x there) ∙ has, under);
+        views = made_views made.what;
+      })
+    where
+      one : (x : Document) → document_of s made.doc ≡ Some x → x ≡ d
+      one x there = (let both : Some x ≡ Some d = sym there ∙ found in cc)
 
 -- ---- a request ends
 

@@ -29,7 +29,7 @@ use Rattle.std.specs.List.{list_all, list_any}
 use Rattle.std.specs.Option.{option_map_or}
 use Rattle.std.specs.Prelude.{find, is_none, is_some, map, option_and_then, option_map, slice_get}
 use Rattle.tab_facts.proofs.TabEvents.Requests.{AreLeft, IsSo, lean, left_then}
-use Rattle.tab_facts.specs.TabEvents.Between.{AreSwept, IsBetween, orders_go}
+use Rattle.tab_facts.specs.TabEvents.Between.{AreSwept, IsBetweenChecks, orders_go}
 use Rattle.tab_ids.specs.declared.DocId.{DocId}
 use Rattle.tab_ids.specs.declared.NavId.{NavId}
 use Rattle.tab_ids.specs.declared.ReqId.{ReqId}
@@ -239,7 +239,7 @@ pub but_of : (run : Option ReqId) (s t : Seen) → IsLeft run s t → IsLeftBut 
 but_of run s t left =
     record { g = left.g; keeps = left.keeps; documents = left.documents; asked = left.asked; history = left.history; places = left.places; kept = left.kept; joined = left.joined; parked = left.parked }
 
-module _ (keep : ℕ) (run : Option ReqId) (s t : Seen) (is : IsBetween keep run s) (tab : IsTab run [] [] t) (left : IsLeftBut run s t) where
+module _ (keep : ℕ) (run : Option ReqId) {loads other : List ReqId} {waits : Bool} (s t : Seen) (is : IsBetweenChecks keep run loads waits s) (tab : IsTab run other [] t) (left : IsLeftBut run s t) where
   -- ---- documents
 
   look : (doc : DocId) → document_of t doc ≡ option_map left.g (document_of s doc)
@@ -370,10 +370,10 @@ module _ (keep : ℕ) (run : Option ReqId) (s t : Seen) (is : IsBetween keep run
           ap (λ (b : Bool). not b) (ready_same q ∙ sym (ap (λ (x : Asked). is_ready_load s x) w.same))
           ∙ of_requests s.requests (λ (x : Asked). not (is_ready_load s x)) req w.other none w.there
 
-  stepped : ends_stepped t ≡ true
+  stepped : waits ≡ false → ends_stepped t ≡ true
   unfolding ends_stepped
-  stepped =
-      let parts = and_parts (has_reason_to_run s) (implies (is_queue_free s) (has_no_step_waiting s)) is.stepped in
+  stepped unheld =
+      let parts = and_parts (has_reason_to_run s) (implies (is_queue_free s) (has_no_step_waiting s)) (is.stepped unheld) in
       both (reason_same ∙ parts.0) (by_free (is_queue_free s) free_same (is_queue_free t) refl parts.1)
     where
       by_free : (b : Bool) → is_queue_free t ≡ b → (c : Bool) → is_queue_free t ≡ c → implies b (has_no_step_waiting s) ≡ true → implies c (has_no_step_waiting t) ≡ true
@@ -448,7 +448,7 @@ module _ (keep : ℕ) (run : Option ReqId) (s t : Seen) (is : IsBetween keep run
       by_case d state (inl can) = inl (usable d state ∙ can)
       by_case d state (inr made) = inr (being_made d ∙ made)
 
-  pub between_but : Flows t → AllRest t → AreSwept t ⊎ (orders_go t ≡ true) → IsBetween keep run t
+  pub between_but : Flows t → AllRest t → AreSwept t ⊎ (orders_go t ≡ true) → IsBetweenChecks keep run other waits t
   between_but flows rests swept =
       record {
         tab = tab;
@@ -466,7 +466,7 @@ module _ (keep : ℕ) (run : Option ReqId) (s t : Seen) (is : IsBetween keep run
       }
 
 -- so where orders go on as they went
-pub between_left : (keep : ℕ) (run : Option ReqId) (s t : Seen) (is : IsBetween keep run s) (tab : IsTab run [] [] t) (left : IsLeft run s t) → Flows t → AllRest t → IsBetween keep run t
+pub between_left : (keep : ℕ) (run : Option ReqId) {loads other : List ReqId} {waits : Bool} (s t : Seen) (is : IsBetweenChecks keep run loads waits s) (tab : IsTab run other [] t) (left : IsLeft run s t) → Flows t → AllRest t → IsBetweenChecks keep run other waits t
 between_left keep run s t is tab left flows rests = between_but keep run s t is tab (but_of run s t left) flows rests (by_either is.swept)
   where
     by_either : AreSwept s ⊎ (orders_go s ≡ true) → AreSwept t ⊎ (orders_go t ≡ true)

@@ -48,7 +48,7 @@ module _ (keep : ℕ) (event : ℕ) (actor : Actor) (entry : EntryId) (state : S
         flows = opened_flows event actor entry state doc proc address first;
         served = composed.served;
         told = composed.told;
-        stepped = composed.stepped;
+        stepped = λ none. composed.stepped;
         held = λ none. refl;
         rows_ = λ n p other found wakes. subst (λ (x : Place). has_row x.nav tab.history.rows ≡ true) (only_place n p found) refl;
         rests = opened_rests event actor entry state doc proc None address;

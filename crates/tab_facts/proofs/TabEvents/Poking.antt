@@ -1,5 +1,4 @@
 -- What holds between two events holds after a poke is accepted that reaches a document, and after one that reaches none is accepted and refused.
-use Rattle.seen_facts.specs.Asked.Asking.{IsNoEditing}
 use Rattle.seen_facts.proofs.Coord.Held.{on_else, without_same}
 use Rattle.seen_facts.specs.Each.Runs.{is_this}
 use Rattle.log_model.specs.After.{new_request}
@@ -16,27 +15,27 @@ use Rattle.row_facts.proofs.RestRows.Rows.{accepted_rests, refused_rests}
 use Rattle.row_facts.specs.RestRows.Moving.{AllRest}
 use Rattle.std.specs.List.{list_any}
 use Rattle.tab_facts.proofs.TabEvents.Ordered.{poked_orders, unrefused}
-use Rattle.std.proofs.Common.{None, Option, Some, [], ap, arith, false, length, refl, sym, ℕ, ◌+◌, ◌==◌, ◌∙◌, ◌∷◌, ◌≡◌}
+use Rattle.std.proofs.Common.{Bool, List, None, Option, Some, [], ap, arith, false, length, refl, sym, ℕ, ◌+◌, ◌==◌, ◌∙◌, ◌∷◌, ◌≡◌}
 use Rattle.std.proofs.lemmas.Bool.Decides.{nat_tests}
 use Rattle.std.proofs.lemmas.List.{map-id}
 use Rattle.std.specs.Prelude.{option_map}
 use Rattle.tab_facts.proofs.TabEvents.Left.{between_left, keeps_all}
 use Rattle.tab_facts.proofs.TabEvents.Requests.{AreLeft, others_left}
-use Rattle.tab_facts.specs.TabEvents.Between.{IsBetween, has_order}
+use Rattle.tab_facts.specs.TabEvents.Between.{IsBetweenChecks, has_order}
 use Rattle.tab_ids.specs.declared.DocId.{DocId}
 use Rattle.tab_ids.specs.declared.NavId.{NavId}
 use Rattle.tab_ids.specs.declared.ReqId.{ReqId}
 use Rattle.tab_facts.proofs.TabWhole.Accepting.{poked, poked_flows, poked_tab, strayed, strayed_tab}
 use Rattle.tab_facts.proofs.TabWhole.Ending.{IsNoProcess}
 use Rattle.tab_facts.proofs.TabWhole.Straying.{stray_flows, stray_tab, turned_away}
-use Rattle.tab_facts.specs.TabWhole.Tab.{IsTab}
+use Rattle.tab_facts.specs.TabWhole.Tab.{IsTab, at_hand}
 use Rattle.log_model.specs.declared.outcome.Ending.TheVariants as endings
 use Rattle.log_model.specs.declared.request.Request.TheVariants as requests
 
 some_same : {A : Type 0} {a b : A} → (let o : Option A = Some a in o) ≡ Some b → a ≡ b
 some_same e = cc
 
-module _ (keep : ℕ) (run : Option ReqId) (s : Seen) (event : ℕ) (actor : Actor) (is : IsBetween keep run s) (req : ReqId) (nr : req.0 ≡ length s.requests + 1) (nav : NavId) (action : Action) (fine : IsNoEditing action) where
+module _ (keep : ℕ) (run : Option ReqId) {loads : List ReqId} {holds : Bool} (s : Seen) (event : ℕ) (actor : Actor) (is : IsBetweenChecks keep run loads holds s) (req : ReqId) (nr : req.0 ≡ length s.requests + 1) (nav : NavId) (action : Action) where
   -- it had no request of the number
   none_yet : (q : Asked) → request_in s.requests req ≡ Some q → is_ongoing_load q ≡ false
   none_yet q at =
@@ -47,13 +46,13 @@ module _ (keep : ℕ) (run : Option ReqId) (s : Seen) (event : ℕ) (actor : Act
 
   module _ (doc : DocId) (d : Document) (found : document_of s doc ≡ Some d) where
     abbrev then : Seen
-    then = poked run s event actor is.tab is.flows req nr nav action fine doc d found
+    then = poked run s event actor is.tab is.flows req nr nav action doc d found
 
     abbrev new : Asked
     new = new_request req (Some doc) (requests.Poke nav action)
 
-    tab : IsTab run [] [] then
-    tab = poked_tab run s event actor is.tab is.flows req nr nav action fine doc d found
+    tab : IsTab run loads [] then
+    tab = poked_tab run s event actor is.tab is.flows req nr nav action doc d found
 
     asked : AreLeft run s.requests then.requests
     asked =
@@ -63,33 +62,33 @@ module _ (keep : ℕ) (run : Option ReqId) (s : Seen) (event : ℕ) (actor : Act
         (λ q at. sym (ap is_ongoing_load (some_same (sym (one_more s.requests new req nr) ∙ at))))
         none_yet
 
-    pub poked_between : IsBetween keep run then
+    pub poked_between : IsBetweenChecks keep run loads holds then
     poked_between =
         between_left keep run s then is tab
         (record { g = λ x. x; keeps = keeps_all; documents = sym (map-id s.documents); asked = asked; history = refl; places = refl; kept = refl; joined = refl; parked = refl; orders = λ go. poked_orders s req doc d found action go })
-        (poked_flows run s event actor is.tab is.flows req nr nav action fine doc d found)
+        (poked_flows run s event actor is.tab is.flows req nr nav action doc d found)
         (accepted_rests s event actor [] is.rests req (Some doc) (requests.Poke nav action))
 
   -- ---- of none
 
   module _ (reason : Denial) (by : IsNoProcess actor) where
     abbrev first : Seen
-    first = strayed run s event actor is.tab is.flows req nr nav action fine
+    first = strayed run s event actor is.tab is.flows req nr nav action
 
     abbrev away : Seen
-    away = turned_away run s event actor is.tab is.flows req nr nav action fine reason
+    away = turned_away run s event actor is.tab is.flows req nr nav action reason
 
     abbrev lost_ : Asked
     lost_ = new_request req None (requests.Poke nav action)
 
-    first_tab : IsTab run (req ∷ []) [] first
-    first_tab = strayed_tab run s event actor is.tab is.flows req nr nav action fine
+    first_tab : IsTab run (req ∷ loads) [] first
+    first_tab = strayed_tab run s event actor is.tab is.flows req nr nav action
 
     other : is_this run req ≡ false
     other = sym (first_tab.asked.only req lost_ (one_more s.requests lost_ req nr))
 
     -- it was nowhere before
-    nowhere : times_found req s.desks s.joined s.parked [] ≡ 0
+    nowhere : times_found req s.desks s.joined s.parked (at_hand loads []) ≡ 0
     nowhere =
         let none : request_in s.requests req ≡ None = none_before s.requests lost_ req nr in
         is.tab.once req (rw none refl) ∙ rw none refl
@@ -117,9 +116,9 @@ module _ (keep : ℕ) (run : Option ReqId) (s : Seen) (event : ℕ) (actor : Act
     rests_first : AllRest first
     rests_first = accepted_rests s event actor [] is.rests req None (requests.Poke nav action)
 
-    pub stray_between : IsBetween keep run away
+    pub stray_between : IsBetweenChecks keep run loads holds away
     stray_between =
-        between_left keep run s away is (stray_tab run s event actor is.tab is.flows req nr nav action fine reason by)
+        between_left keep run s away is (stray_tab run s event actor is.tab is.flows req nr nav action reason by)
         (record { g = λ x. x; keeps = keeps_all; documents = sym (map-id s.documents); asked = asked_away; history = refl; places = refl; kept = refl; joined = without_same s.joined req unjoined; parked = without_same s.parked req unparked; orders = λ go. ap (list_any has_order) (unrefused s.desks actor by) ∙ go })
-        (stray_flows run s event actor is.tab is.flows req nr nav action fine reason)
+        (stray_flows run s event actor is.tab is.flows req nr nav action reason)
         (refused_rests first event actor [] rests_first req reason)

@@ -25,9 +25,9 @@ use Rattle.row_facts.proofs.RestRows.Again.{rests_each}
 use Rattle.seen_facts.specs.Rest.Between.{IsComposedWithLoads, IsOrdered, IsPlainWithLoads}
 use Rattle.seen_laws.proofs.Sums.{over}
 use Rattle.std.specs.List.{list_all}
-use Rattle.std.proofs.Common.{Bool, List, None, Option, Some, [], ap, arith, inl, inr, false, not, refl, suc, sym, true, zero, ℕ, ◌&&◌, ◌<◌, ◌∙◌, ◌∷◌, ◌≡◌, ◌⊎◌, ◌||◌}
+use Rattle.std.proofs.Common.{Bool, List, None, Option, Some, [], ap, arith, inl, inr, false, not, refl, subst, suc, sym, true, zero, ℕ, ◌&&◌, ◌<◌, ◌∙◌, ◌∷◌, ◌≡◌, ◌⊎◌, ◌||◌}
 use Rattle.tab_facts.proofs.TabEvents.Ordered.{not_still}
-use Rattle.tab_facts.specs.TabEvents.Between.{AreSwept, IsBetween, orders_go}
+use Rattle.tab_facts.specs.TabEvents.Between.{AreSwept, IsBetween, IsBetweenChecks, orders_go}
 use Rattle.tab_ids.specs.declared.DocId.{DocId}
 use Rattle.tab_ids.specs.declared.ReqId.{ReqId}
 
@@ -134,7 +134,7 @@ module _ (keep : ℕ) (run : Option ReqId) (s : Seen) (is : IsBetween keep run s
         flows = is.flows;
         once = is.tab.once;
         told = is.told;
-        stepped = is.stepped;
+        stepped = is.stepped refl;
         plain = between_plain swept;
       }
 
@@ -155,3 +155,13 @@ module _ (keep : ℕ) (run : Option ReqId) (s : Seen) (is : IsBetween keep run s
       by_swept : AreSwept s ⊎ (orders_go s ≡ true) → is_settled_if_quiet s ≡ true
       by_swept (inl swept) = loads_settle s (between_composed swept)
       by_swept (inr go) = unquiet go
+
+-- so it is where checks go on, once none does where it is quiet
+pub checks_settled : (keep : ℕ) (run : Option ReqId) (loads : List ReqId) (holds : Bool) (s : Seen) → IsBetweenChecks keep run loads holds s → (is_quiet s ≡ true → (loads ≡ []) × (holds ≡ false)) → is_settled_if_quiet s ≡ true
+checks_settled keep run loads holds s is none = by_quiet (is_quiet s) refl
+  where
+    by_quiet : (b : Bool) → is_quiet s ≡ b → is_settled_if_quiet s ≡ true
+    by_quiet false never = rw never refl
+    by_quiet true quiet =
+        let over_ : (loads ≡ []) × (holds ≡ false) = none quiet in
+        between_settled keep run s (subst (λ (b : Bool). IsBetweenChecks keep run [] b s) over_.1 (subst (λ (l : List ReqId). IsBetweenChecks keep run l holds s) over_.0 is))

@@ -20,7 +20,7 @@ use Rattle.std.specs.Prelude.{slice_get}
 use Rattle.tab_facts.proofs.TabEvents.Left.{between_left, keeps_all, left_twice}
 use Rattle.tab_facts.proofs.TabEvents.Requests.{same_left}
 use Rattle.tab_facts.proofs.TabEvents.Rows.{finished_left, made_left}
-use Rattle.tab_facts.specs.TabEvents.Between.{IsBetween}
+use Rattle.tab_facts.specs.TabEvents.Between.{IsBetweenChecks}
 use Rattle.tab_ids.specs.declared.ProcId.{ProcId}
 use Rattle.tab_ids.specs.declared.ReqId.{ReqId}
 use Rattle.tab_facts.proofs.TabWhole.Fragments.{IsToFragment, fragment_made, fragment_made_flows, fragment_made_tab}
@@ -30,13 +30,13 @@ use Rattle.log_model.specs.declared.outcome.Outcome.TheVariants as outcomes
 use Rattle.log_model.specs.declared.row_kind.Actor.TheVariants as actors
 use Rattle.log_model.specs.declared.row_kind.RowKind.TheVariants as rows
 
-module _ (keep : ℕ) (run : Option ReqId) (s : Seen) (event : ℕ) (proc : ProcId) (is : IsBetween keep run s) where
+module _ (keep : ℕ) (run : Option ReqId) {loads : List ReqId} {holds : Bool} (s : Seen) (event : ℕ) (proc : ProcId) (is : IsBetweenChecks keep run loads holds s) where
   -- an order is taken up
   module _ (job : Job) (dirty : Bool) (free : (desk_of s proc).in_hand ≡ None) (first : slice_get (desk_of s proc).mail 0 ≡ Some job) where
     abbrev took : Seen
     took = taken run s event proc is.tab is.flows job dirty free first
 
-    pub taken_between : IsBetween keep run took
+    pub taken_between : IsBetweenChecks keep run loads holds took
     taken_between =
         between_left keep run s took is (taken_tab run s event proc is.tab is.flows job dirty free first)
         (record { g = λ x. x; keeps = keeps_all; documents = sym (map-id s.documents); asked = same_left run s.requests took.requests (λ r. refl); history = refl; places = refl; kept = refl; joined = refl; parked = refl; orders = λ go. taken_orders proc dirty s.desks job first })
@@ -48,7 +48,7 @@ module _ (keep : ℕ) (run : Option ReqId) (s : Seen) (event : ℕ) (proc : Proc
     abbrev did : Seen
     did = finished run s event proc is.tab is.flows order outcome in_hand its bare
 
-    pub finished_between : IsBetween keep run did
+    pub finished_between : IsBetweenChecks keep run loads holds did
     finished_between =
         between_left keep run s did is (finished_tab run s event proc is.tab is.flows order outcome in_hand its bare other)
         (finished_left run s event (actors.Proc proc) proc order outcome in_hand)
@@ -73,7 +73,7 @@ module _ (keep : ℕ) (run : Option ReqId) (s : Seen) (event : ℕ) (proc : Proc
     in_ =
         in_hand_lives run s event proc is.tab is.flows order outcomes.Fragmented to.in_hand its_end tt
 
-    pub fragment_made_between : IsBetween keep run went
+    pub fragment_made_between : IsBetweenChecks keep run loads holds went
     fragment_made_between =
         between_left keep run s went is (fragment_made_tab run s event proc is.tab is.flows order req mode address d view to)
         (left_twice run s half went (finished_left run s event (actors.Proc proc) proc order outcomes.Fragmented to.in_hand) (made_left run half event (actors.Proc proc) proc made))

@@ -1,10 +1,9 @@
--- All that holds of a tab between two rows holds after a request is accepted with the next number: a traversal joins the queue, a load is at hand, a poke joins the input of its document's process, and one that reaches no document is at hand, too.
+-- All that holds of a tab between two rows holds after a request is accepted with the next number, whichever loads are at hand: a traversal joins the queue, a load is at hand, a poke joins the input of its document's process, and one that reaches no document is at hand, too.
 use Rattle.log_model.specs.declared.made.Made.{Made}
 use Rattle.tab_facts.specs.Past.Past.{ArePast}
 use Rattle.tab_facts.proofs.Past.Places.{same_last}
 use Rattle.tab_facts.proofs.Past.Rows.{still_past}
 use Rattle.seen_facts.proofs.Asked.Rows.{accepted_plain}
-use Rattle.seen_facts.specs.Asked.Asking.{IsNoEditing}
 use Rattle.seen_facts.proofs.Coord.Flowings.{left_flows}
 use Rattle.seen_facts.proofs.Coord.Unread.{accepted_held, accepted_left, next}
 use Rattle.seen_facts.specs.Coord.Flowing.{Flows}
@@ -44,12 +43,12 @@ use Rattle.std.proofs.lemmas.Bool.Decides.{nat_tests}
 use Rattle.tab_ids.specs.declared.DocId.{DocId}
 use Rattle.tab_ids.specs.declared.NavId.{NavId}
 use Rattle.tab_ids.specs.declared.ReqId.{ReqId}
-use Rattle.tab_facts.specs.TabWhole.Tab.{IsTab}
+use Rattle.tab_facts.specs.TabWhole.Tab.{IsTab, at_hand}
 use Rattle.seen_facts.proofs.Transit.Rows.{left_ways}
 use Rattle.log_model.specs.declared.request.Request.TheVariants as requests
 use Rattle.log_model.specs.declared.row_kind.RowKind.TheVariants as rows
 
-module _ (run : Option ReqId) (s : Seen) (event : ℕ) (actor : Actor) (tab : IsTab run [] [] s) (flows : Flows s) (req : ReqId) (nr : req.0 ≡ length s.requests + 1) where
+module _ (run : Option ReqId) {loads : List ReqId} (s : Seen) (event : ℕ) (actor : Actor) (tab : IsTab run loads [] s) (flows : Flows s) (req : ReqId) (nr : req.0 ≡ length s.requests + 1) where
   abbrev accepts : Option DocId → Request → RowKind
   accepts doc what = rows.Accepted req doc what
 
@@ -70,7 +69,7 @@ module _ (run : Option ReqId) (s : Seen) (event : ℕ) (actor : Actor) (tab : Is
     pub went_flows : Flows went
     went_flows = accept_flows None (requests.Go delta)
 
-    pub went_tab : IsTab run [] [] went
+    pub went_tab : IsTab run loads [] went
     went_tab =
         record {
           sound = tab.sound;
@@ -86,9 +85,9 @@ module _ (run : Option ReqId) (s : Seen) (event : ℕ) (actor : Actor) (tab : Is
           queued = queued_after run s event actor tab.queued (accepts None (requests.Go delta)) tt;
           loading = accepted_loading s event actor tab.loading req None (requests.Go delta) nr;
           fragments = accepted_fragments s event actor tab.fragments req None (requests.Go delta) nr;
-          once = go_once s [] event actor req nr delta tab.once;
-          trips = accepted_other s [] event actor req nr tab.trips None (requests.Go delta) refl;
-          known = go_known s [] event actor req nr tab.once delta tab.known;
+          once = go_once s (at_hand loads []) event actor req nr delta tab.once;
+          trips = accepted_other s (at_hand loads []) event actor req nr tab.trips None (requests.Go delta) refl;
+          known = go_known s (at_hand loads []) event actor req nr tab.once delta tab.known;
           desks = unpoked s event actor tab.desks req (requests.Go delta);
           ways = left_ways s event actor tab.ways (accepts None (requests.Go delta)) (accepted_left s event actor req None (requests.Go delta)) refl refl;
           entries = accepted_entries [] s event actor tab.entries req None (requests.Go delta);
@@ -109,7 +108,7 @@ module _ (run : Option ReqId) (s : Seen) (event : ℕ) (actor : Actor) (tab : Is
     load_accepted_flows = accept_flows None load
 
     -- it was nowhere before
-    nowhere : times_found req s.desks s.joined s.parked [] ≡ 0
+    nowhere : times_found req s.desks s.joined s.parked (at_hand loads []) ≡ 0
     nowhere =
         let none : request_in s.requests req ≡ None = none_before s.requests (new_request req None load) req nr in
         tab.once req (rw none refl) ∙ rw none refl
@@ -124,9 +123,9 @@ module _ (run : Option ReqId) (s : Seen) (event : ℕ) (actor : Actor) (tab : Is
             ap core_of (others_before s.requests (new_request req None load) req nr r other)
 
         known : AreKnown (record s { requests = s.requests ++ new_request req None (requests.Load nav mode address) ∷ [] })
-        known = known_else s [] req nowhere load_accepted.requests others tab.known
+        known = known_else s (at_hand loads []) req nowhere load_accepted.requests others tab.known
 
-    pub load_accepted_tab : IsTab run (req ∷ []) [] load_accepted
+    pub load_accepted_tab : IsTab run (req ∷ loads) [] load_accepted
     load_accepted_tab =
         record {
           sound = tab.sound;
@@ -142,8 +141,8 @@ module _ (run : Option ReqId) (s : Seen) (event : ℕ) (actor : Actor) (tab : Is
           queued = queued_after run s event actor tab.queued (accepts None load) tt;
           loading = accepted_loading s event actor tab.loading req None load nr;
           fragments = accepted_fragments s event actor tab.fragments req None load nr;
-          once = accepted_load_once s [] event actor req nr nav mode address tab.once;
-          trips = accepted_load s [] event actor req nr tab.trips nav mode address tab.once;
+          once = accepted_load_once s (at_hand loads []) event actor req nr nav mode address tab.once;
+          trips = accepted_load s (at_hand loads []) event actor req nr tab.trips nav mode address tab.once;
           known = load_known;
           desks = unpoked s event actor tab.desks req load;
           ways = left_ways s event actor tab.ways (accepts None load) (accepted_left s event actor req None load) refl refl;
@@ -154,7 +153,7 @@ module _ (run : Option ReqId) (s : Seen) (event : ℕ) (actor : Actor) (tab : Is
 
   -- ---- a poke
 
-  module _ (nav : NavId) (action : Action) (fine : IsNoEditing action) where
+  module _ (nav : NavId) (action : Action) where
     abbrev poke : Request
     poke = requests.Poke nav action
 
@@ -166,7 +165,7 @@ module _ (run : Option ReqId) (s : Seen) (event : ℕ) (actor : Actor) (tab : Is
       pub poked_flows : Flows poked
       poked_flows = accept_flows (Some doc) poke
 
-      pub poked_tab : IsTab run [] [] poked
+      pub poked_tab : IsTab run loads [] poked
       poked_tab =
           record {
             sound = tab.sound;
@@ -178,13 +177,13 @@ module _ (run : Option ReqId) (s : Seen) (event : ℕ) (actor : Actor) (tab : Is
             kept = keeping.left_rows s event actor tab.kept (accepts (Some doc) poke) tt;
             standing = accepted_standing s event actor tab.standing req (Some doc) poke nr;
             movers = accepted_movers s event actor tab.movers req (Some doc) poke nr;
-            asked = accepted_plain run s event actor tab.asked req (Some doc) poke nr fine;
+            asked = accepted_plain run s event actor tab.asked req (Some doc) poke nr tt;
             queued = queued_after run s event actor tab.queued (accepts (Some doc) poke) tt;
             loading = accepted_loading s event actor tab.loading req (Some doc) poke nr;
             fragments = accepted_fragments s event actor tab.fragments req (Some doc) poke nr;
-            once = poke_once s [] event actor req nr doc d nav action found tab.once;
-            trips = accepted_other s [] event actor req nr tab.trips (Some doc) poke refl;
-            known = poke_known s [] event actor req nr tab.once doc d nav action found tab.known;
+            once = poke_once s (at_hand loads []) event actor req nr doc d nav action found tab.once;
+            trips = accepted_other s (at_hand loads []) event actor req nr tab.trips (Some doc) poke refl;
+            known = poke_known s (at_hand loads []) event actor req nr tab.once doc d nav action found tab.known;
             desks = poked_desks s event actor tab.desks req nav action doc d found;
             ways = left_ways s event actor tab.ways (accepts (Some doc) poke) (accepted_left s event actor req (Some doc) poke) refl refl;
             entries = accepted_entries [] s event actor tab.entries req (Some doc) poke;
@@ -199,7 +198,7 @@ module _ (run : Option ReqId) (s : Seen) (event : ℕ) (actor : Actor) (tab : Is
     pub strayed_flows : Flows strayed
     strayed_flows = accept_flows None poke
 
-    pub strayed_tab : IsTab run (req ∷ []) [] strayed
+    pub strayed_tab : IsTab run (req ∷ loads) [] strayed
     strayed_tab =
         record {
           sound = tab.sound;
@@ -211,13 +210,13 @@ module _ (run : Option ReqId) (s : Seen) (event : ℕ) (actor : Actor) (tab : Is
           kept = keeping.left_rows s event actor tab.kept (accepts None poke) tt;
           standing = accepted_standing s event actor tab.standing req None poke nr;
           movers = accepted_movers s event actor tab.movers req None poke nr;
-          asked = accepted_plain run s event actor tab.asked req None poke nr fine;
+          asked = accepted_plain run s event actor tab.asked req None poke nr tt;
           queued = queued_after run s event actor tab.queued (accepts None poke) tt;
           loading = accepted_loading s event actor tab.loading req None poke nr;
           fragments = accepted_fragments s event actor tab.fragments req None poke nr;
-          once = stray_once s [] event actor req nr nav action tab.once;
-          trips = at_hand_else strayed [] req (ap is_of_load (one_more s.requests (new_request req None poke) req nr)) (accepted_other s [] event actor req nr tab.trips None poke refl);
-          known = stray_known s [] event actor req nr tab.once nav action tab.known;
+          once = stray_once s (at_hand loads []) event actor req nr nav action tab.once;
+          trips = at_hand_else strayed (at_hand loads []) req (ap is_of_load (one_more s.requests (new_request req None poke) req nr)) (accepted_other s (at_hand loads []) event actor req nr tab.trips None poke refl);
+          known = stray_known s (at_hand loads []) event actor req nr tab.once nav action tab.known;
           desks = unpoked s event actor tab.desks req poke;
           ways = left_ways s event actor tab.ways (accepts None poke) (accepted_left s event actor req None poke) refl refl;
           entries = accepted_entries [] s event actor tab.entries req None poke;

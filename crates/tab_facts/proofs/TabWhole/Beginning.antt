@@ -161,14 +161,14 @@ module _ (run : Option ReqId) (req : ReqId) (at : List ReqId) (hand : List Made)
 
 -- ---- a document state is evicted
 
-module _ (run : Option ReqId) (s : Seen) (event : ℕ) (actor : Actor) (tab : IsTab run [] [] s) (flows : Flows s) (state : StateId) where
+module _ (run : Option ReqId) {at : List ReqId} (s : Seen) (event : ℕ) (actor : Actor) (tab : IsTab run at [] s) (flows : Flows s) (state : StateId) where
   abbrev pub evicted : Seen
   evicted = next s event actor (rows.Evicted state)
 
   pub evicted_flows : Flows evicted
   evicted_flows = left_flows s evicted (evicted_left s event actor state) refl refl refl refl flows
 
-  pub evicted_tab : IsTab run [] [] evicted
+  pub evicted_tab : IsTab run at [] evicted
   evicted_tab =
       record {
         sound = tab.sound;
@@ -184,8 +184,8 @@ module _ (run : Option ReqId) (s : Seen) (event : ℕ) (actor : Actor) (tab : Is
         queued = queued_after run s event actor tab.queued (rows.Evicted state) tt;
         loading = evicted_loading s event actor tab.loading state;
         fragments = evicted_fragments s event actor tab.fragments state;
-        once = evicted_once s [] event actor state tab.once;
-        trips = evicted_loads s [] event actor tab.trips state;
+        once = evicted_once s (at_hand at []) event actor state tab.once;
+        trips = evicted_loads s (at_hand at []) event actor tab.trips state;
         known = record { desks = tab.known.desks; joined = tab.known.joined; parked = tab.known.parked };
         desks = evicted_desks s event actor tab.desks state;
         ways = left_ways s event actor tab.ways (rows.Evicted state) (evicted_left s event actor state) refl refl;

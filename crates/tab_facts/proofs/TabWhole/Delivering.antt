@@ -66,7 +66,7 @@ first_of : {A : Type 0} (xs : List A) (x : A) → slice_get xs 0 ≡ Some x → 
 first_of [] x e = cc
 first_of (y ∷ xs) x e = (let same : y ≡ x = cc in ap (λ z. z ∷ xs) same)
 
-module _ (run : Option ReqId) (s : Seen) (event : ℕ) (proc : ProcId) (tab : IsTab run [] [] s) (flows : Flows s) where
+module _ (run : Option ReqId) {loads : List ReqId} (s : Seen) (event : ℕ) (proc : ProcId) (tab : IsTab run loads [] s) (flows : Flows s) where
   abbrev pub came : Seen
   came = next s event actors.Coord (rows.Delivered proc)
 
@@ -84,7 +84,7 @@ module _ (run : Option ReqId) (s : Seen) (event : ℕ) (proc : ProcId) (tab : Is
         by_report (reports.Made made) at its = rw at tt
         by_report (reports.Died death) at never = absurd never
 
-    pub came_tab : (hand : List Made) → FlowsIf hand came → AreOnce came (at_hand [] hand) → AreLoadsOnce came (at_hand [] hand) → AreKnown came → AreEntries hand came → ArePast hand came → IsTab run [] hand came
+    pub came_tab : (hand : List Made) → FlowsIf hand came → AreOnce came (at_hand loads hand) → AreLoadsOnce came (at_hand loads hand) → AreKnown came → AreEntries hand came → ArePast hand came → IsTab run loads hand came
     came_tab hand flows_ once trips known entries past =
         record {
           sound = tab.sound;
@@ -163,11 +163,11 @@ module _ (run : Option ReqId) (s : Seen) (event : ℕ) (proc : ProcId) (tab : Is
     pub done_flows : Flows came
     done_flows = by_task job.task outcome refl refl (its_report (reports.Done job outcome None) first).1
 
-    pub done_tab : IsTab run [] [] came
+    pub done_tab : IsTab run loads [] came
     done_tab =
         came_tab (reports.Done job outcome None) first [] (flows_if came done_flows)
-        (untold_once s [] event actors.Coord proc (reports.Done job outcome None) first refl tab.once)
-        (untold_loads s [] event actors.Coord proc (reports.Done job outcome None) first refl tab.trips)
+        (untold_once s (at_hand loads []) event actors.Coord proc (reports.Done job outcome None) first refl tab.once)
+        (untold_loads s (at_hand loads []) event actors.Coord proc (reports.Done job outcome None) first refl tab.trips)
         (untold_known s event actors.Coord proc (reports.Done job outcome None) first refl tab.known)
         (told_entries [] s event actors.Coord tab.entries proc (fine (reports.Done job outcome None) first) (rw first refl))
         (unmade_past [] [] s event proc tab.docs (fine (reports.Done job outcome None) first) (ap (λ (l : List Made). l ++ []) done_held) tab.past)

@@ -22,7 +22,7 @@ use Rattle.seen_facts.proofs.Request.Times.{itself, times_none}
 use Rattle.seen_facts.specs.Request.Cores.{Core, core, core_of}
 use Rattle.seen_facts.specs.Request.Knowns.{AllOf, IsParked, is_go, req_itself}
 use Rattle.seen_facts.specs.Request.Whereabouts.{times}
-use Rattle.std.proofs.Common.{Bool, List, None, Option, Some, [], ap, arith, cond, false, inl, inr, not, refl, subst, sym, true, ℕ, ◌&&◌, ◌<◌, ◌==◌, ◌||◌, ◌∙◌, ◌∷◌, ◌≡◌}
+use Rattle.std.proofs.Common.{Bool, List, None, Option, Some, [], ap, arith, cond, false, inl, inr, not, refl, subst, sym, true, ℕ, ◌&&◌, ◌++◌, ◌<◌, ◌==◌, ◌||◌, ◌∙◌, ◌∷◌, ◌≡◌}
 use Rattle.std.proofs.lemmas.Bool.{eqb-true}
 use Rattle.tab_ids.specs.declared.ReqId.{ReqId}
 use Rattle.tab_facts.proofs.TabWhole.Ending.{IsNoProcess, MayEnd, dropped_tab, refused_tab}
@@ -100,16 +100,25 @@ pub still_other : (run : Option ReqId) (loads : List ReqId) (hand : List Made) (
 still_other run loads hand s req q tab there still =
     sym (tab.asked.only req q there) ∙ neither (is_under_way q) (is_traversal q.what) still
 
--- what is alone at hand
-module _ (run : Option ReqId) (s : Seen) (made : Made) (q : Asked) where
-  pub alone_at_hand : is_this run made.req ≡ false → request_of s made.req ≡ Some q → q.made ≡ Some made → IsMadeAtHand run [] (made ∷ []) s made.req made
+-- what is last is there
+last_has : (req : ReqId) (reqs : List ReqId) → has_req (reqs ++ req ∷ []) req ≡ true
+last_has req [] = rw (itself req) refl
+last_has req (r ∷ reqs) = behind (r.0 == req.0) (last_has req reqs)
+  where
+    behind : (b : Bool) → has_req (reqs ++ req ∷ []) req ≡ true → (b || has_req (reqs ++ req ∷ []) req) ≡ true
+    behind true e = refl
+    behind false e = e
+
+-- what alone was made and is at hand
+module _ (run : Option ReqId) (loads : List ReqId) (s : Seen) (made : Made) (q : Asked) where
+  pub alone_at_hand : is_this run made.req ≡ false → request_of s made.req ≡ Some q → q.made ≡ Some made → IsMadeAtHand run loads (made ∷ []) s made.req made
   alone_at_hand other there makes =
       record {
         other = other;
         q = q;
         there = there;
         makes = makes;
-        carried = inr (inr (inl (rw (itself made.req) refl)));
+        carried = inr (inr (inl (last_has made.req loads)));
         its = λ m has same. by_has m has;
       }
     where
@@ -118,9 +127,9 @@ module _ (run : Option ReqId) (s : Seen) (made : Made) (q : Asked) where
       by_has m (inr never) = absurd never
 
 -- and then nothing is
-pub hand_emptied : (run : Option ReqId) (made : Made) (t : Seen) → IsTab run [] (without_made made.req (made ∷ [])) t → IsTab run [] [] t
-hand_emptied run made t =
-    subst (λ (l : List Made). IsTab run [] l t) (ap (λ (b : Bool). let l : List Made = cond (not b) (made ∷ []) [] in l) (itself made.req))
+pub hand_emptied : (run : Option ReqId) (loads : List ReqId) (made : Made) (t : Seen) → IsTab run loads (without_made made.req (made ∷ [])) t → IsTab run loads [] t
+hand_emptied run loads made t =
+    subst (λ (l : List Made). IsTab run loads l t) (ap (λ (b : Bool). let l : List Made = cond (not b) (made ∷ []) [] in l) (itself made.req))
 
 -- what is known of one that is held back
 parked_is : (asked : List Asked) (parked : List ReqId) (req : ReqId) → has_req parked req ≡ true → AllOf IsParked req_itself asked parked → IsParked (core_of (request_in asked req)) req

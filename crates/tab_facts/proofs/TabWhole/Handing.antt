@@ -20,17 +20,20 @@ use Rattle.log_model.specs.declared.made.Report.{Report}
 use Rattle.log_model.specs.declared.made.What.{What}
 use Rattle.log_model.specs.declared.outcome.Outcome.{Outcome}
 use Rattle.seen_facts.proofs.Request.KnownMoved.{at_hand_known, delivered_made, first_made, go_delivered_known, held_known}
+use Rattle.seen_facts.proofs.LoadWhereabouts.Counts.{loads_again}
+use Rattle.seen_facts.proofs.Request.Onces.{SameTimes, once_again}
+use Rattle.seen_facts.proofs.Request.Times.{times_append}
 use Rattle.seen_facts.proofs.Request.Placings.{IsNoGo, at_hand_once, go_delivered_once, held_once}
 use Rattle.seen_facts.specs.Request.Cores.{Core, core, core_of}
 use Rattle.seen_facts.specs.Request.Knowns.{IsMadeOf, is_go}
-use Rattle.std.proofs.Common.{Bool, None, Option, Some, [], ap, false, refl, subst, sym, true, ℕ, ℤ, ◌||◌, ◌∙◌, ◌∷◌, ◌≡◌, List, append-nil, ◌++◌}
+use Rattle.std.proofs.Common.{Bool, None, Option, Some, [], ap, arith, false, refl, subst, sym, true, ℕ, ℤ, ◌||◌, ◌∙◌, ◌∷◌, ◌≡◌, List, append-nil, ◌++◌}
 use Rattle.std.specs.Prelude.{option_and_then, slice_get}
 use Rattle.tab_ids.specs.declared.ProcId.{ProcId}
 use Rattle.tab_ids.specs.declared.ReqId.{ReqId}
 use Rattle.tab_facts.proofs.TabWhole.Delivering.{came, came_tab, fine, its_report}
 use Rattle.tab_facts.proofs.TabWhole.Denying.{IsMadeAtHand, alone_at_hand, still_other}
 use Rattle.tab_facts.proofs.TabWhole.Passing.{flows_if_with, flows_without_it}
-use Rattle.tab_facts.specs.TabWhole.Tab.{IsTab}
+use Rattle.tab_facts.specs.TabWhole.Tab.{IsTab, at_hand}
 use Rattle.seen_facts.specs.Transit.Orders.{IsOutcomeOf}
 use Rattle.log_model.specs.declared.job.Task.TheVariants as tasks
 use Rattle.log_model.specs.declared.made.Report.TheVariants as reports
@@ -73,7 +76,7 @@ either : (a b : Bool) → (a || b) ≡ false → a ≡ false
 either true b e = absurd cc
 either false b e = refl
 
-module _ (run : Option ReqId) (s : Seen) (event : ℕ) (proc : ProcId) (tab : IsTab run [] [] s) (flows : Flows s) (report : Report) (made : Made) (first : slice_get (desk_of s proc).reports 0 ≡ Some report) (tells : made_of_report report ≡ Some made) where
+module _ (run : Option ReqId) {loads : List ReqId} (s : Seen) (event : ℕ) (proc : ProcId) (tab : IsTab run loads [] s) (flows : Flows s) (report : Report) (made : Made) (first : slice_get (desk_of s proc).reports 0 ≡ Some report) (tells : made_of_report report ≡ Some made) where
   abbrev told : Seen
   told = came run s event proc tab flows
 
@@ -135,30 +138,34 @@ module _ (run : Option ReqId) (s : Seen) (event : ℕ) (proc : ProcId) (tab : Is
   hand_flows free =
       at_hand_flows s event proc made told_first its_home (unheld_then s event proc made told_first free) flows
 
-  pub hand_tab : IsNoGo made.what → is_held_back s made ≡ false → IsTab run [] (made ∷ []) told
+  -- behind the loads that are
+  behind : SameTimes told (made.req ∷ at_hand loads []) told (at_hand loads (made ∷ []))
+  behind r = omega (arith, times_append r loads [], times_append r loads (made.req ∷ []))
+
+  pub hand_tab : IsNoGo made.what → is_held_back s made ≡ false → IsTab run loads (made ∷ []) told
   hand_tab no_go free =
       came_tab run s event proc tab flows report first (made ∷ [])
       (flows_if_with (made ∷ []) told (hand_flows free))
-      (at_hand_once s [] event actors.Coord proc report made first tells no_go free tab.once)
-      (at_hand_loads s [] event actors.Coord proc report made first tells tab.trips no_go free)
+      (once_again told told (made.req ∷ at_hand loads []) (at_hand loads (made ∷ [])) (λ r. refl) behind (at_hand_once s (at_hand loads []) event actors.Coord proc report made first tells no_go free tab.once))
+      (loads_again told told (made.req ∷ at_hand loads []) (at_hand loads (made ∷ [])) (λ r. refl) behind (at_hand_loads s (at_hand loads []) event actors.Coord proc report made first tells tab.trips no_go free))
       (at_hand_known s event actors.Coord proc report made first tells tab.known no_go free)
       (at_hand_entries [] s event actors.Coord tab.entries proc (fine run s event proc tab flows report first) made at_first free)
       (made_past [] (made ∷ []) s event proc tab.docs (fine run s event proc tab flows report first) made (first_told (desk_of s proc) made told_first) its_home (ap (λ (l : List Made). l ++ made ∷ []) (unheld_then s event proc made told_first free ∙ sym (append-nil (held_back s.requests s.parked)))) tab.past)
 
   -- and all that is at hand of its request, which isn't the running traversal
-  pub hand_made : IsNoGo made.what → is_held_back s made ≡ false → IsMadeAtHand run [] (made ∷ []) told made.req made
+  pub hand_made : IsNoGo made.what → is_held_back s made ≡ false → IsMadeAtHand run loads (made ∷ []) told made.req made
   hand_made no_go free = by_found (request_in told.requests made.req) refl (delivered_made s event actors.Coord proc report made first tells tab.known)
     where
-      now : IsTab run [] (made ∷ []) told
+      now : IsTab run loads (made ∷ []) told
       now = hand_tab no_go free
 
-      by_found : (o : Option Asked) → request_in told.requests made.req ≡ o → IsMadeOf (core_of o) made → IsMadeAtHand run [] (made ∷ []) told made.req made
+      by_found : (o : Option Asked) → request_in told.requests made.req ≡ o → IsMadeOf (core_of o) made → IsMadeAtHand run loads (made ∷ []) told made.req made
       by_found None e k = (let never : None ≡ Some _ = k.is in absurd cc)
       by_found (Some q) e k =
           let both : Some (core q) ≡ Some (record { what = k.what; doc = k.doc; made = Some made; ending = None }) = k.is in
           let one : core q ≡ record { what = k.what; doc = k.doc; made = Some made; ending = None } = cc in
           let still : is_traversal q.what ≡ false = ap (λ (c : Core). is_traversal c.what) one ∙ either (is_traversal k.what) (is_reload k.what) (k.begins ∙ no_traversal made.what no_go) in
-          alone_at_hand run told made q (still_other run [] (made ∷ []) told made.req q now e still) e (ap (λ (c : Core). c.made) one)
+          alone_at_hand run loads told made q (still_other run loads (made ∷ []) told made.req q now e still) e (ap (λ (c : Core). c.made) one)
 
   -- ---- it is held back
 
@@ -166,12 +173,12 @@ module _ (run : Option ReqId) (s : Seen) (event : ℕ) (proc : ProcId) (tab : Is
   held_flows held =
       parked_flows s event proc made told_first its_home flows (held_then s event proc made told_first its_asked.q its_asked.there its_asked.makes held)
 
-  pub held_tab : IsNoGo made.what → is_held_back s made ≡ true → IsTab run [] [] told
+  pub held_tab : IsNoGo made.what → is_held_back s made ≡ true → IsTab run loads [] told
   held_tab no_go held =
       came_tab run s event proc tab flows report first []
       (flows_if told (held_flows held))
-      (held_once s [] event actors.Coord proc report made first tells no_go held tab.once)
-      (held_loads s [] event actors.Coord proc report made first tells tab.trips no_go held)
+      (held_once s (at_hand loads []) event actors.Coord proc report made first tells no_go held tab.once)
+      (held_loads s (at_hand loads []) event actors.Coord proc report made first tells tab.trips no_go held)
       (held_known s event actors.Coord proc report made first tells tab.known no_go held)
       (held_entries s event actors.Coord tab.entries proc (fine run s event proc tab flows report first) made at_first held its_made)
       (made_past [] [] s event proc tab.docs (fine run s event proc tab flows report first) made (first_told (desk_of s proc) made told_first) its_home (ap (λ (l : List Made). l ++ []) (held_then s event proc made told_first its_asked.q its_asked.there its_asked.makes held) ∙ append-nil (held_back s.requests s.parked ++ made ∷ []) ∙ ap (λ (l : List Made). l ++ made ∷ []) (sym (append-nil (held_back s.requests s.parked)))) tab.past)
@@ -184,12 +191,12 @@ module _ (run : Option ReqId) (s : Seen) (event : ℕ) (proc : ProcId) (tab : Is
         flows_without_it told made (go_none made delta what)
         (at_hand_flows s event proc made told_first its_home (unheld_then s event proc made told_first (go_free s made delta what)) flows)
 
-    pub joined_tab : IsTab run [] [] told
+    pub joined_tab : IsTab run loads [] told
     joined_tab =
         came_tab run s event proc tab flows report first []
         (flows_if told joined_flows)
-        (go_delivered_once s [] event actors.Coord proc report made first tells delta what tab.once)
-        (go_delivered_loads s [] event actors.Coord proc report made first tells tab.trips delta what)
+        (go_delivered_once s (at_hand loads []) event actors.Coord proc report made first tells delta what tab.once)
+        (go_delivered_loads s (at_hand loads []) event actors.Coord proc report made first tells tab.trips delta what)
         (go_delivered_known s event actors.Coord proc report made first tells tab.known delta what)
         (passed_entries [] s event actors.Coord tab.entries proc (fine run s event proc tab flows report first) made at_first (go_free s made delta what) (go_none made delta what))
         (unmade_past [] [] s event proc tab.docs (fine run s event proc tab flows report first) (ap (λ (l : List Made). l ++ []) (unheld_then s event proc made told_first (go_free s made delta what))) tab.past)

@@ -54,7 +54,7 @@ use Rattle.tab_ids.specs.declared.NavId.{NavId}
 use Rattle.tab_ids.specs.declared.ProcId.{ProcId}
 use Rattle.tab_ids.specs.declared.ReqId.{ReqId}
 use Rattle.tab_ids.specs.declared.StateId.{StateId}
-use Rattle.tab_facts.specs.TabWhole.Tab.{IsTab}
+use Rattle.tab_facts.specs.TabWhole.Tab.{IsTab, at_hand}
 use Rattle.seen_facts.proofs.Transit.Rows.{finished_ways, taken_ways}
 use Rattle.seen_facts.specs.Transit.Orders.{IsOutcomeOf}
 use Rattle.log_model.specs.declared.job.Task.TheVariants as tasks
@@ -71,7 +71,7 @@ held_by_cores asked then parked same =
     by_core None = refl
     by_core (Some q) = refl
 
-module _ (run : Option ReqId) (s : Seen) (event : ℕ) (proc : ProcId) (tab : IsTab run [] [] s) (flows : Flows s) where
+module _ (run : Option ReqId) {loads : List ReqId} (s : Seen) (event : ℕ) (proc : ProcId) (tab : IsTab run loads [] s) (flows : Flows s) where
   -- ---- an order is taken up
 
   module _ (job : Job) (dirty : Bool) (free : (desk_of s proc).in_hand ≡ None) (first : slice_get (desk_of s proc).mail 0 ≡ Some job) where
@@ -88,7 +88,7 @@ module _ (run : Option ReqId) (s : Seen) (event : ℕ) (proc : ProcId) (tab : Is
     pub took_flows : Flows taken
     took_flows = taken_flows s event proc job dirty free first flows
 
-    pub taken_tab : IsTab run [] [] taken
+    pub taken_tab : IsTab run loads [] taken
     taken_tab =
         record {
           sound = tab.sound;
@@ -104,8 +104,8 @@ module _ (run : Option ReqId) (s : Seen) (event : ℕ) (proc : ProcId) (tab : Is
           queued = queued_after run s event (actors.Proc proc) tab.queued (rows.Taken proc job.nr true dirty) tt;
           loading = taken_loading s event (actors.Proc proc) tab.loading proc job.nr true dirty;
           fragments = taken_fragments s event (actors.Proc proc) tab.fragments proc job dirty free first;
-          once = taken_once s [] event (actors.Proc proc) proc job.nr true dirty tab.once;
-          trips = taken_loads s [] event (actors.Proc proc) tab.trips proc job.nr true dirty;
+          once = taken_once s (at_hand loads []) event (actors.Proc proc) proc job.nr true dirty tab.once;
+          trips = taken_loads s (at_hand loads []) event (actors.Proc proc) tab.trips proc job.nr true dirty;
           known = taken_known s event (actors.Proc proc) proc job.nr true dirty tab.known;
           desks = taken_desks s event (actors.Proc proc) tab.desks proc job dirty free;
           ways = taken_ways s event (actors.Proc proc) tab.ways proc job dirty free first;
@@ -205,7 +205,7 @@ module _ (run : Option ReqId) (s : Seen) (event : ℕ) (proc : ProcId) (tab : Is
     finish_flows = by_task order.job.task outcome refl refl its
 
     -- where it sends no document to a fragment; what is made of one that does is made in the same event
-    pub finished_tab : IsNoFragment order.job.task → IsTab run [] [] finished
+    pub finished_tab : IsNoFragment order.job.task → IsTab run loads [] finished
     finished_tab other =
         record {
           sound = tab.sound;
@@ -221,8 +221,8 @@ module _ (run : Option ReqId) (s : Seen) (event : ℕ) (proc : ProcId) (tab : Is
           queued = queued_after run s event (actors.Proc proc) tab.queued (rows.Finished proc order.job.nr outcome) tt;
           loading = finished_loading s event (actors.Proc proc) tab.loading proc order.job.nr outcome;
           fragments = finished_other_fragments s event (actors.Proc proc) tab.fragments proc order.job.nr outcome order in_hand other;
-          once = finished_once s [] event (actors.Proc proc) proc order.job.nr outcome tab.once;
-          trips = finished_loads s [] event (actors.Proc proc) tab.trips proc order.job.nr outcome;
+          once = finished_once s (at_hand loads []) event (actors.Proc proc) proc order.job.nr outcome tab.once;
+          trips = finished_loads s (at_hand loads []) event (actors.Proc proc) tab.trips proc order.job.nr outcome;
           known = finished_known s event (actors.Proc proc) proc order.job.nr outcome tab.known;
           desks = finished_desks s event (actors.Proc proc) tab.desks proc order outcome in_hand its;
           ways = finished_ways s event (actors.Proc proc) tab.ways proc order outcome in_hand its;

@@ -26,7 +26,7 @@ use Rattle.seen_facts.specs.Rest.Between.{AreKept}
 use Rattle.tab_facts.specs.Shown.Shown.{AreShown}
 use Rattle.seen_facts.specs.Transit.Waiting.{AreOnTheirWay}
 
--- the requests at hand in the event: those that were accepted in it and have gone nowhere yet, which are loads and pokes that reach no document, and those of which a document made something that is to be taken up or dropped
+-- the requests at hand: those that were accepted and have gone nowhere yet, which are loads and pokes that reach no document, in the event, and loads in their unload check; and those of which a document made something that is to be taken up or dropped in the event
 abbrev pub at_hand : List ReqId → List Made → List ReqId
 at_hand loads hand = loads ++ map (λ (made : Made). made.req) hand
 

@@ -14,4 +14,4 @@ overflow_add-state c = grind (arith, events_small _ _ _ c.requires.«open»)
 
 pub returns-clause-gone : goal.returns-clause-gone
 returns-clause-gone c =
-    poke_gone _ _ _ c.requires.«open» c.requires.short _ _ _ _ _ _ _ c.requires.built c.requires.reached c.home_of-proc.ensures (next_is _ _ _ c.requires.«open» _ c.next_request-req.ensures) refl refl refl refl (rw c.in_ok-kept.ensures at c.in_ok-add-2.ensures.ok) c.in_ok-add.ensures c.in_ok-log_row.ensures.ok
+    poke_gone _ _ _ c.requires.«open» c.requires.short _ _ _ _ _ _ _ c.requires.reached c.home_of-proc.ensures (next_is _ _ _ c.requires.«open» _ c.next_request-req.ensures) refl refl refl refl (rw c.in_ok-kept.ensures at c.in_ok-add-2.ensures.ok) c.in_ok-add.ensures c.in_ok-log_row.ensures.ok

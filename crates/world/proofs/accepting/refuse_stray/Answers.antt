@@ -15,4 +15,4 @@ overflow_add-state c = grind (arith, events_small _ _ _ c.requires.«open»)
 
 pub returns-clause-gone : goal.returns-clause-gone
 returns-clause-gone c =
-    stray_gone _ _ _ c.requires.«open» c.requires.short _ _ _ _ _ _ c.requires.built c.requires.denied (next_is _ _ _ c.requires.«open» _ c.next_request-req.ensures) refl refl refl refl refl c.in_ok-add.ensures (c.in_ok-log_row-2.ensures.ok ∙ ap (λ (l : List LogRow). l ++ row_with c.args.state.now.events actors.Ui (rows.Refused c.next_request-req.result c.args.reason) ∷ []) c.in_ok-log_row.ensures.ok)
+    stray_gone _ _ _ c.requires.«open» c.requires.short _ _ _ _ _ _ c.requires.denied (next_is _ _ _ c.requires.«open» _ c.next_request-req.ensures) refl refl refl refl refl c.in_ok-add.ensures (c.in_ok-log_row-2.ensures.ok ∙ ap (λ (l : List LogRow). l ++ row_with c.args.state.now.events actors.Ui (rows.Refused c.next_request-req.result c.args.reason) ∷ []) c.in_ok-log_row.ensures.ok)

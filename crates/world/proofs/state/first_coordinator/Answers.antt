@@ -1,7 +1,7 @@
 use Rattle.coord.specs.Standing.{StandsFor}
 use Rattle.log_model.specs.declared.header.Header.{Header}
 use Rattle.std.proofs.Common.{IfOk, subst, ◌≡◌}
-use Rattle.tab_stands.specs.Standing.{opened_at}
+use Rattle.coord.specs.PassedOn.{opened_at}
 use Rattle.world.proofs.state.first_coordinator.Goals as goal
 
 pub returns-clause-stands : goal.returns-clause-stands

@@ -1,8 +1,11 @@
 use Rattle.std.proofs.Common.{IfOk, sym, subst}
 use Rattle.world.specs.declared.event.Event.{Event}
 use Rattle.world.specs.Turns.{HasGone}
-use Rattle.world.proofs.StepLaws.{act_due, begin_due, deliver_due, evict_is_due, finish_due, worked_due}
+use Rattle.world.proofs.StepLaws.{act_due, answer_never, begin_due, deliver_due, evict_is_due, finish_due, worked_due}
 use Rattle.world.proofs.world.go.Goals as goal
+
+pub unreachable-requires : goal.unreachable-requires
+unreachable-requires c = absurd (answer_never _ _ _ c.requires.«open» c.requires.due.0 _ c.in-Answer.stay (rw c.in-Answer.is at c.requires.due.1))
 
 pub evict-requires-clause-due : goal.evict-requires-clause-due
 evict-requires-clause-due c = evict_is_due _ _ _ c.requires.«open» c.requires.due.0 (rw c.in-Evict.is at c.requires.due.1)

@@ -5,7 +5,7 @@ use Rattle.tab_doors.proofs.Works.{next_work}
 use Rattle.tab_doors.proofs.tables.Tables.push.Goals as goal
 
 pub change-requires : goal.change-requires
-change-requires g c = (c.requires.0.holds.history, c.requires.1.1.1.0)
+change-requires g c = (c.requires.0.holds.history, c.requires.1.1.1.1.0)
 
 pub given-requires : goal.given-requires
 given-requires g c = there_as c.args.self.now _ _ c.in_ok-lost.ensures.rest (awake_still _ _ _ c.requires.1.0)
@@ -18,4 +18,4 @@ destroy_each-requires g c = there_with _ _ _ _ _ c.set_told.ensures (there_with 
 
 pub returns-clause-work : goal.returns-clause-work
 returns-clause-work g c =
-    rw (c.destroy_each.ensures, c.set_told.ensures, c.given.ensures) (next_work _ _ _ _ c.in_ok-lost.ensures.out (push_done _ _ c.args.self.now _ _ _ _ _ _ c.requires.0 c.requires.1.0 c.requires.1.1.0 c.requires.1.1.1.1.0 c.requires.1.1.1.1.1.0 c.requires.1.1.1.1.1.1 _ _ c.in_ok-lost.ensures.rest c.in_ok-lost.ensures.history c.in_ok-lost.ensures.lost))
+    rw (c.destroy_each.ensures, c.set_told.ensures, c.given.ensures) (next_work _ _ _ _ c.in_ok-lost.ensures.out (push_done _ _ c.args.self.now _ _ _ _ _ _ c.requires.0 c.requires.1.0 c.requires.1.1.0 c.requires.1.1.1.0 c.requires.1.1.1.1.1.0 c.requires.1.1.1.1.1.1.0 c.requires.1.1.1.1.1.1.1 _ _ c.in_ok-lost.ensures.rest c.in_ok-lost.ensures.history c.in_ok-lost.ensures.lost))

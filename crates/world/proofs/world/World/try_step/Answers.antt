@@ -16,9 +16,9 @@ use Rattle.world.proofs.StepLaws.{idle_steps, full_steps, gone_steps, failed_ste
 use Rattle.world.proofs.world.World.try_step.Goals as goal
 
 -- the kinds that were lent are the world's
-idle_is_ : (desks : List (ProcId × Desk)) (s : Seen) (event : Event) {idle : Option Reply} {lent kinds : List HandlerKind} → idle ≡ idle_at lent (desk_at desks) s.kept event → lent ≡ kinds → idle ≡ idle_at kinds (desk_at desks) s.kept event
+idle_is_ : (desks : List (ProcId × Desk)) (s : Seen) (event : Event) {idle : Option Reply} {lent kinds : List HandlerKind} → idle ≡ idle_at lent (desk_at desks) s event → lent ≡ kinds → idle ≡ idle_at kinds (desk_at desks) s event
 idle_is_ desks s event is same =
-    is ∙ ap (λ (k : List HandlerKind). idle_at k (desk_at desks) s.kept event) same
+    is ∙ ap (λ (k : List HandlerKind). idle_at k (desk_at desks) s event) same
 
 pub returns-in-Some-clause-steps : goal.returns-in-Some-clause-steps
 returns-in-Some-clause-steps c =

@@ -1,0 +1,2 @@
+-- What is passed on of the crates below, for those above.
+pub use Rattle.world.specs.Open.{row_limit}
