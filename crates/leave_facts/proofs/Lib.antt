@@ -16,3 +16,5 @@ pub mod Awakes
 pub mod Readies
 pub mod Unbegun
 pub mod Carried
+pub mod Moved
+pub mod Lefts
