@@ -6,7 +6,7 @@ printed scenario.
 
 MODEL is a folder with the plain model of the engine. The seeds are 1 to 20,000, or COUNT from FIRST on; where `rt try`'s
 minute is too short for all, ask for 3,000 at a time. Each seed gives a scenario with lines of every kind and up to
-three edits of it; a third is read for each caller: one that plays all lines, one that plays the lines of one document,
+three edits of it; a third is read for each caller: one that plays all lines, one that plays the lines of a tab with loads,
 and one that runs threads. In a folder of its own, beside copies of the crates, a program reads the scenarios, one a
 line, and prints what came of each. It is run by `rt try`, so no proof is needed.
 """
@@ -55,7 +55,7 @@ fn told(alloc: Global, case: &[u8], out: &mut Vec<u8>) -> Result<(), OutOfMemory
     };
     let (in_run, built) = match *caller {
         b'a' => (false, Built::All),
-        b'd' => (false, Built::Document),
+        b'l' => (false, Built::Loads),
         _ => (true, Built::All),
     };
     let bytes = decoded(alloc, digits)?;
@@ -177,7 +177,7 @@ def cases(first, count):
         text = scenario(rng)
         for _ in range(rng.randrange(4)):
             text = edited(rng, text)
-        yield "adr"[seed % 3], text.encode("latin-1")
+        yield "alr"[seed % 3], text.encode("latin-1")
 
 
 def said(model, caller, data):
@@ -192,7 +192,7 @@ def said(model, caller, data):
             if reader.version != 1:
                 # the model reads a later version, too
                 raise model.Refusal(number, "header")
-            if caller == "d" and text.split(" ")[0] not in PLAYED:
+            if caller == "l" and text.split(" ")[0] not in PLAYED:
                 raise model.Refusal(number, "unbuilt")
         if reader.stage < 5:
             raise model.Refusal(model.count_lines(data) + 1, "header")
