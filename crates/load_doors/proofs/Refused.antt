@@ -86,7 +86,6 @@ module _ (e : InEvent) (t : Tables) (req : ReqId) (reason : Denial) (denied : Is
       record {
         own = ap (λ (k : RowKind). leads k) denied.own;
         worker = subst (λ (a : Actor). IsWorker a) (sym denied.by_user) tt;
-        unchecked = denied.unchecked;
         begins = denied.begins;
         rows = refl;
         plain = log_more e [] (rows.Refused req reason) ∙ ap (λ (x : Seen). after x (row_of e (rows.Refused req reason))) denied.plain ∙ sym now_is;

@@ -19,7 +19,7 @@ use Rattle.log_model.specs.Orders as orders
 use Rattle.log_model.specs.Orders.{is_usable}
 use Rattle.log_model.specs.Points.{nav_of_request}
 use Rattle.log_model.specs.ActsAtOnce.{is_ready_load}
-use Rattle.log_model.specs.Places.{all_stand, has_passed, is_moved, is_ongoing_load, is_traversal}
+use Rattle.log_model.specs.Places.{all_stand, has_passed, is_moved, is_ongoing_load}
 use Rattle.log_model.specs.Seen.{Asked, Document, Place, Seen, document_of, place_in, request_in, request_of}
 use Rattle.log_model.specs.History.{History}
 use Rattle.log_model.specs.declared.change.Change.{Change}
@@ -55,7 +55,7 @@ use Rattle.tab_ids.specs.declared.ReqId.{ReqId}
 use Rattle.tab_ids.specs.declared.StateId.{StateId}
 use Rattle.tab_stands.proofs.Coming.{IsComing, bare}
 use Rattle.tab_stands.proofs.Dones.{itself}
-use Rattle.tab_stands.proofs.PassedOn.{KeepsWhat, queue_over, sound_on}
+use Rattle.tab_stands.proofs.PassedOn.{KeepsWhat, course_of, out_alike, queue_over, sound_on}
 use Rattle.tab_stands.proofs.Placed.{states_alike}
 use Rattle.tab_stands.proofs.Stays.{stands_still}
 use Rattle.tab_stands.specs.Offs.{AreShownUnder}
@@ -155,7 +155,7 @@ module _ (e : InEvent) (t : Tables) (queue : Queue) (blame : List (StateId × Re
           let passes : has_passed n now.0 ≡ true = between.tab.asked.passed req now.0 now.1 in
           record {
             goes = ap (λ (o : Option Asked). holds (λ (x : Asked). implies (is_checked x) (has_passed n x)) o) now.1 ∙ implied (is_checked now.0) (has_passed n now.0) passes;
-            begun = λ x found goes. (let same : now.0 ≡ x = some_same (sym now.1 ∙ found) in let ways : bare x ≡ bare q = ap bare (sym same) ∙ now.2 in ap (λ (w : Asked). w.is_started) ways ∙ may.begun q at (ap (λ (w : Asked). is_traversal w.what) (sym ways) ∙ goes));
+            begun = λ x found. (let same : now.0 ≡ x = some_same (sym now.1 ∙ found) in let ways : bare x ≡ bare q = ap bare (sym same) ∙ now.2 in out_alike q x (ap (λ (w : Asked). course_of w) ways) (may.begun q at));
           }
 
   -- ---- orders on their way

@@ -3,7 +3,6 @@ use Rattle.seen_facts.proofs.Coord.Held.{without_same}
 use Rattle.seen_facts.proofs.Coord.Unread.{next}
 use Rattle.seen_facts.proofs.Entry.Skips.{without_made}
 use Rattle.tab_facts.proofs.Frame.Applied.{applied_wishes}
-use Rattle.tab_facts.proofs.FrameTab.Goings.{begun_of}
 use Rattle.tab_facts.proofs.FrameTab.Plainly.{applied_reads}
 use Rattle.tab_facts.proofs.FrameWhole.Refusing.{none_without}
 use Rattle.tab_turns.proofs.PassedOn.{load_pushed_tab, load_replaced_tab, pushed_going, pushed_lasting, replaced_going, replaced_lasting}
@@ -38,7 +37,7 @@ use Rattle.tab_ids.specs.declared.NavId.{NavId}
 use Rattle.tab_ids.specs.declared.ReqId.{ReqId}
 use Rattle.tab_turns.specs.Turning.{MayCause}
 use Rattle.tab_turns.specs.PassedOn.{InPass, IsPassing}
-pub use Rattle.tab_turns.proofs.Turned.{begun_as_it_was, causes_on}
+pub use Rattle.tab_turns.proofs.Turned.{begun_as_it_was, causes_on, course_of}
 use Rattle.row_facts.proofs.WalkRows.Sinces.{applied_since, since_itself}
 use Rattle.row_facts.specs.WalkRows.Since.{AwakeSince}
 use Rattle.log_model.specs.declared.change.Change.TheVariants as changes
@@ -141,5 +140,5 @@ module _ (p : InPass) (out : List RowKind) (t : Tables) (passing : IsPassing p o
           wakes = subst (λ (x : Seen). AwakeSince s [] x) (sym now) (applied_since s s [] (since_itself s) e.event e.actor load.req change);
           kept = ap (λ (x : Seen). x.kept) now;
           parked = ap (λ (x : Seen). x.parked) now ∙ without_same s.parked load.req (unheld_at p out t passing nav load at idle may over over_is).parked;
-          causes = λ why serves. subst (λ (x : Seen). MayCause x why) (sym now) (causes_on s n None going_then.tab.asked (applied_wishes s e.event e.actor load.req change) (begun_as_it_was s.requests n.requests (applied_reads begun_of s.requests load.req change (entries_taken s.history change) (λ q. refl) (λ q. refl) (λ q. refl))) why serves);
+          causes = λ why serves. subst (λ (x : Seen). MayCause x why) (sym now) (causes_on s n None going_then.tab.asked (applied_wishes s e.event e.actor load.req change) (begun_as_it_was s.requests n.requests (applied_reads course_of s.requests load.req change (entries_taken s.history change) (λ q. refl) (λ q. refl) (λ q. refl))) why serves);
         }

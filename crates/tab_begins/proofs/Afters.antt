@@ -54,7 +54,7 @@ use Rattle.log_model.proofs.Refl.{nat_eq_refl}
 use Rattle.log_model.specs.AfterPlaces.{places_applied, with_taker}
 use Rattle.log_model.specs.Equal.{holds}
 use Rattle.log_model.specs.History.{History, applied, cleared, has_nav, has_row, has_state, owner_of, same_entry, target_entry}
-use Rattle.log_model.specs.Places.{aim_of, all_stand, has_arrived, is_asleep, is_given_target, is_lost_in, is_placed, is_shown, is_standing, stands, is_load, way_of, way_to, is_traversal}
+use Rattle.log_model.specs.Places.{aim_of, all_stand, has_arrived, is_asleep, is_given_target, is_lost_in, is_placed, is_shown, is_standing, stands, is_load, way_of, way_to}
 use Rattle.log_model.specs.Seen.{Asked, Document, Place, Seen, place_in, place_of, request_of}
 use Rattle.log_model.specs.declared.change.Change.{Change}
 use Rattle.log_model.specs.declared.row.Row.{Row}
@@ -77,6 +77,7 @@ use Rattle.tab_facts.specs.FrameWhole.Tab.{AreAwakeWithRows}
 use Rattle.tab_applies.proofs.Dues.{IsGivenAt, aim_now, apply_due, given, loading, next_is, own_nav, tab, tie, open_, what_is}
 use Rattle.tab_applies.specs.Applying.{HasApplied, MayApply}
 use Rattle.tab_doors.specs.declared.tables.Tables.{Tables}
+use Rattle.tab_turns.proofs.Turned.{HasSetOut, started_out}
 use Rattle.tab_ids.specs.declared.EntryId.{EntryId}
 use Rattle.tab_ids.specs.declared.NavId.{NavId}
 use Rattle.tab_ids.specs.declared.ReqId.{ReqId}
@@ -805,12 +806,11 @@ module _ (p : InPass) (out : List RowKind) (t : Tables) (passing : IsPassing p o
   pub serves : MayServe n load.req
   serves = it.causes (whys.Req load.req) before load.req refl
     where
-      began_ : (x : Asked) → request_of s load.req ≡ Some x → is_traversal x.what ≡ true → x.is_started ≡ true
-      began_ x found traverses =
-          let two : Some x ≡ Some q = sym found ∙ asked_at in
-          let one : x ≡ q = cc in
-          let never : true ≡ false = sym traverses ∙ ap (λ (y : Asked). is_traversal y.what) one ∙ ap is_traversal its_what in
-          absurd cc
+      began_ : (x : Asked) → request_of s load.req ≡ Some x → HasSetOut x
+      began_ x found =
+          let two : Some q ≡ Some x = sym asked_at ∙ found in
+          let one : q ≡ x = cc in
+          subst (λ (y : Asked). HasSetOut y) one (started_out q began)
 
       before : MayCause s (whys.Req load.req)
       before r same =

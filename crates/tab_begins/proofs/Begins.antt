@@ -227,4 +227,4 @@ module _ (p : InPass) (s n : Seen) (alone : LeavesAlone s n) (loads : (req : Req
         moves_then : MovesVisited n (whys.Req run)
         moves_then nav place at need epoch =
             let it = tab_n.asked.runs run refl in
-            run_moves n run it.q nav it.found it.traverses (its.begun it.q it.found it.traverses) (tab_n.asked.passed run it.q it.found)
+            run_moves n run it.q nav it.found it.traverses ((its.begun it.q it.found).traverses it.traverses) (tab_n.asked.passed run it.q it.found)

@@ -16,6 +16,7 @@ use Rattle.std.proofs.lemmas.Bool.{and_parts}
 use Rattle.std.specs.Prelude.{is_none, option_map}
 use Rattle.tab_begins.proofs.Begins.{loads_move, open_then, passed_on, rows_on, strays_on}
 use Rattle.tab_begins.specs.Taking.{AreOldLoads, GoesOn, HasBegun, KeepsStrays}
+use Rattle.tab_doors.proofs.LogDues.{turn_off}
 use Rattle.tab_doors.specs.declared.tables.Tables.{Tables}
 use Rattle.tab_ids.specs.declared.ReqId.{ReqId}
 use Rattle.tab_ids.specs.declared.Step.{Step}
@@ -130,7 +131,7 @@ module _ (p : InPass) (out : List RowKind) (t : Tables) (passing : IsPassing p o
   begun_other : (goal : Step) → more ≡ out ++ rows.Started req (Some goal) ∷ [] → (r : ReqId) → (r.0 == req.0) ≡ false → look_of n r ≡ look_of s r
   unfolding begin
   begun_other goal is r apart =
-      ap (λ (x : Seen). look_of x r) (ap (λ (l : List RowKind). now_of e l) is ∙ now_more e out (rows.Started req (Some goal)) (ap not (passing.work.unchecked req)))
+      ap (λ (x : Seen). look_of x r) (ap (λ (l : List RowKind). now_of e l) is ∙ now_more e out (rows.Started req (Some goal)) (ap not (turn_off e out passing.work.same passing.work.checks.begun passing.work.unheld req its.q its.at its.open_ its.goes)))
       ∙ ap (option_map look) (on_else (on_request req (begin goal) s.requests) req (request_begun s) r apart ∙ on_else s.requests req (begin goal) r apart)
 
   refused_other : more ≡ out ++ rows.Refused req denials.NoStep ∷ [] → (r : ReqId) → (r.0 == req.0) ≡ false → look_of n r ≡ look_of s r

@@ -19,7 +19,7 @@ use Rattle.row_facts.specs.FrameRows.Taking.{IsDueNow, IsPoked}
 use Rattle.seen_laws.specs.InEvent.{InEvent, log_of, now_of}
 use Rattle.tab_doors.specs.Dues.{IsDenyDue, IsDenyDueIn, IsDestroyDue, IsDestroyDueIn, IsDropDue, IsDropDueIn, IsEndDue, IsEndDueIn, IsMadeFor, IsNowhere, IsNowhereIn, IsTakeDue, IsTakeDueIn}
 use Rattle.seen_laws.specs.Unasked.{unasked, without_asks}
-use Rattle.unasked.proofs.Readings.{checked_off, found_from}
+pub use Rattle.unasked.proofs.Readings.{checked_off, checked_on, found_from}
 use Rattle.unasked_dues.proofs.Base.{aim_stand_same, runs_in, turn_same}
 use Rattle.log_model.specs.declared.request.Request.{Request}
 use Rattle.unasked_dues.proofs.Dues.{at_once_same, denial_same, destroyed_same, due_now, fragment_made, moved_away, part_of, poked, poked_off}

@@ -134,7 +134,6 @@ module _ {from : Option Move} (e : InEvent) (out : List RowKind) (kind : RowKind
       record {
         own = work.own;
         worker = work.worker;
-        unchecked = work.unchecked;
         begins = work.begins;
         rows = rows_more e out kind seen work.rows;
         plain = plain_more e out kind seen work.plain;

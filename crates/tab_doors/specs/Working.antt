@@ -19,7 +19,7 @@ use Rattle.log_model.specs.declared.row_kind.RowKind.{RowKind}
 use Rattle.seen_laws.specs.Blocks.{MayLog}
 use Rattle.seen_laws.specs.InEvent.{InEvent, first_of, here_of, log_of, now_of, row_of, seen_first, seen_rows, start_of}
 use Rattle.seen_laws.specs.Sending.{leads}
-use Rattle.std.specs.Prelude.{List, None, Option, Some, [], false, length, map, true, ◌+◌, ◌∷◌, ◌≡◌, ◌≤◌}
+use Rattle.std.specs.Prelude.{List, None, Option, Some, [], length, map, true, ◌+◌, ◌∷◌, ◌≡◌, ◌≤◌}
 use Rattle.tab_ids.specs.declared.DocId.{DocId}
 use Rattle.tab_ids.specs.declared.ReqId.{ReqId}
 use Rattle.tab_ids.specs.declared.Step.{Step}
@@ -79,8 +79,7 @@ MaySend move e out job = MayLog (here_of e out) (row_of e (rows.Sent job) ∷ []
 pub record IsAtWorkFor (move : Option Move) (e : InEvent) (out : List RowKind) (t : Tables) : Type 0 where
   pub own : leads e.own ≡ true
   pub worker : IsWorker e.actor
-  -- nobody is in a check, nobody was asked as the event began, and nobody is asked by its rows
-  pub unchecked : (req : ReqId) → e.checking req ≡ false
+  -- nobody was asked as the event began, and nobody is asked by its rows
   pub begins : seen_first e ≡ first_of e
   pub rows : seen_rows e out ≡ map (row_of e) out
   pub plain : log_of e out ≡ now_of e out

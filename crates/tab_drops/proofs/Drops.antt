@@ -1,4 +1,5 @@
 -- An ongoing load is dropped: what that asks, that all goes on then, and that all else is as it was.
+use Rattle.tab_passes.proofs.SetOuts.{KeepBegun, begun_as_it_was, course_of, kept_begun}
 use Rattle.seen_facts.proofs.Coord.Held.{on_else, without_same}
 use Rattle.seen_facts.proofs.Coord.Unread.{next}
 use Rattle.seen_facts.specs.Each.Runs.{is_this}
@@ -10,7 +11,7 @@ use Rattle.seen_facts.specs.Load.Loading.{Look, is_ongoing, look, look_of}
 use Rattle.seen_facts.specs.LoadWhereabouts.Whereabouts.{times_on_way}
 use Rattle.log_model.specs.Checks.{may_go_on}
 use Rattle.log_model.specs.Equal.{has_req, holds}
-use Rattle.log_model.specs.Places.{aim_of, all_stand, is_gone, is_load, is_ongoing_load, is_traversal}
+use Rattle.log_model.specs.Places.{aim_of, all_stand, is_gone, is_load, is_ongoing_load}
 use Rattle.log_model.specs.Seen.{Asked, Seen, request_in, request_of}
 use Rattle.log_model.specs.declared.made.Made.{Made}
 use Rattle.log_model.specs.declared.outcome.Cause.{Cause}
@@ -172,7 +173,7 @@ module _ (p : InPass) (out : List RowKind) (t : Tables) (pass : IsPassing p out 
       absurd cc
 
   serves : (cause : Cause) (r : ReqId) → MayServe s r → MayServe (then_ cause) r
-  serves cause r may = record { goes = by_found (request_of s r) refl may.goes; begun = begun_ }
+  serves cause r may = record { goes = by_found (request_of s r) refl may.goes; begun = kept_begun s (then_ cause) r kept may.begun }
     where
       by_found : (o : Option Asked) → request_of s r ≡ o → may_go_on s r ≡ true → may_go_on (then_ cause) r ≡ true
       by_found None at goes = let never : false ≡ true = sym (let none : may_go_on s r ≡ false = rw at refl in none) ∙ goes in absurd cc
@@ -180,16 +181,9 @@ module _ (p : InPass) (out : List RowKind) (t : Tables) (pass : IsPassing p out 
           let there = (dropped_lasts s p.event.event p.event.actor req cause).asked r q at in
           goes_on (then_ cause) t.running (tab_then cause).asked r there.r there.at
 
-      by_number : (b : Bool) → (r.0 == req.0) ≡ b → (q : Asked) → request_of (then_ cause) r ≡ Some q → is_traversal q.what ≡ true → q.is_started ≡ true
-      by_number true same q at traverses =
-          let both : Some (end_it cause its.q) ≡ Some q = sym (own_request cause) ∙ ap (λ (x : ReqId). request_of (then_ cause) x) (sym (req_same r req same)) ∙ at in
-          let one : end_it cause its.q ≡ q = cc in
-          let never : false ≡ true = sym (ap is_traversal its.what) ∙ ap (λ (x : Asked). is_traversal x.what) one ∙ traverses in
-          absurd cc
-      by_number false other q at traverses = may.begun q (sym (other_request cause r other) ∙ at) traverses
-
-      begun_ : (q : Asked) → request_of (then_ cause) r ≡ Some q → is_traversal q.what ≡ true → q.is_started ≡ true
-      begun_ = by_number (r.0 == req.0) refl
+      kept : KeepBegun s.requests (then_ cause).requests
+      kept =
+          begun_as_it_was s.requests (then_ cause).requests (on_read course_of s.requests req (λ (q : Asked). record q { ending = Some (endings.Dropped cause) }) (λ q. refl))
 
   pub leaves_then_dropped : (cause : Cause) → LeavesAll s (then_ cause)
   leaves_then_dropped cause =

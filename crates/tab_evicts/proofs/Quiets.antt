@@ -148,6 +148,7 @@ module _ (p : InPass) (move : Option Move) {docs : List DocId} (out : List RowKi
         ready = its.ready;
         moves = λ other has. absurd (none_has other has);
         begun = inl its.nobody;
+        may = may;
       }
     where
       none_has : (other : NavId) → has_nav (sleepers_with s doc) other ≡ true → ⊥

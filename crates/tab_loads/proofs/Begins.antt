@@ -26,7 +26,8 @@ use Rattle.tab_ids.specs.declared.ReqId.{ReqId}
 use Rattle.tab_ids.specs.declared.StateId.{StateId}
 use Rattle.tab_loads.proofs.Begun.{home_there, passing_now}
 use Rattle.tab_loads.proofs.Follows.{has_come}
-use Rattle.tab_loads.proofs.Makes.{unknown, unmade_load, unmaking}
+use Rattle.tab_loads.proofs.Makes.{causes, unknown, unmade_load, unmaking}
+use Rattle.tab_passes.proofs.Others.{cause_off}
 use Rattle.tab_loads.proofs.Orders.{due_make, known}
 use Rattle.tab_loads.proofs.Starts.{given, states_room, to_begin}
 use Rattle.tab_loads.specs.Asking.{HasCome, InLoad, IsAsked}
@@ -72,7 +73,7 @@ module _ (l : InLoad) (t : Tables) (asked : IsAsked l t) (req : ReqId) (req_is :
 
     pub begin_now : (a : List ℕ) → a ≡ address → (replace : Bool) → replace ≡ load_replaces (now_of l.event out) (requests.Load nav mode a) → IsAtWork l.event out v × ((l.event.checking req ≡ false) × (IsToBegin l.event out v.loads req nav replace address × (v.states + 1 < 4294967296)))
     begin_now a a_is replace is =
-        (way.work, (way.work.unchecked req, (to_begin its t asked_its placed_its anew_its noted v out way replace (is ∙ ap (λ (x : List ℕ). load_replaces (now_of l.event out) (requests.Load nav mode x)) a_is), states_room its t asked_its placed_its anew_its noted v out way)))
+        (way.work, (asked_its.asks.aside.unchecked req, (to_begin its t asked_its placed_its anew_its noted v out way replace (is ∙ ap (λ (x : List ℕ). load_replaces (now_of l.event out) (requests.Load nav mode x)) a_is), states_room its t asked_its placed_its anew_its noted v out way)))
 
     module _ (w : Tables) (now : List RowKind) (work : IsAtWork l.event now w) (now_is : now ≡ out ++ rows.Started req None ∷ []) (keeps : KeepsStore v w) where
       pub home_now : (header : Header) (a : List ℕ) → is_some (home_in header w nav a) ≡ true
@@ -90,7 +91,7 @@ module _ (l : InLoad) (t : Tables) (asked : IsAsked l t) (req : ReqId) (req_is :
         make_now replace own began = (
           work,
           (
-            λ r is. work.unchecked r,
+            cause_off l.event now w work (passing_now its t asked_its placed_its anew_its noted v out way w now work now_is keeps).going.tab.asked.each (whys.Req req) (causes its t asked_its placed_its anew_its noted v out way w now work now_is keeps),
             (
               due_make its t asked_its placed_its anew_its noted v out way w now work now_is keeps proc home_its,
               (

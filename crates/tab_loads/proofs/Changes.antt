@@ -2,7 +2,7 @@
 use Rattle.seen_facts.proofs.Coord.Held.{on_else, without_same}
 use Rattle.seen_facts.proofs.Coord.Unread.{next}
 use Rattle.tab_facts.specs.Frame.Lasting.{wish}
-use Rattle.tab_facts.proofs.FrameTab.Goings.{begun_of}
+use Rattle.tab_passes.proofs.SetOuts.{KeepBegun, begun_as_it_was, course_of, sent_begun}
 use Rattle.log_model.specs.After.{ended}
 use Rattle.log_model.specs.AfterDocuments.{addressed, on_document}
 use Rattle.log_model.specs.Equal.{has_req}
@@ -30,7 +30,7 @@ use Rattle.log_model.specs.declared.job.Task.TheVariants as tasks
 use Rattle.log_model.specs.declared.outcome.Ending.TheVariants as endings
 use Rattle.log_model.specs.declared.row_kind.RowKind.TheVariants as rows
 
--- the history, the navigables and the documents are as they were; so is each other request, and of the one what it asks, what was made of it, whether it has begun and whom it has moved; and whom a request has moved it has moved still
+-- the history, the navigables and the documents are as they were; so is each other request, and of the one what it asks, what was made of it, whether it has begun and whom it has moved, and whoever has set out has so still; and whom a request has moved it has moved still
 pub record ChangesOne (s n : Seen) (req : ReqId) : Type 0 where
   pub places : n.places ≡ s.places
   pub documents : n.documents ≡ s.documents
@@ -42,7 +42,7 @@ pub record ChangesOne (s n : Seen) (req : ReqId) : Type 0 where
   pub other : (r : ReqId) → (r.0 == req.0) ≡ false → request_of n r ≡ request_of s r
   pub wishes : SameReads wish s.requests n.requests
   pub whats : SameReads (λ (x : Asked). x.what) s.requests n.requests
-  pub begun : SameReads begun_of s.requests n.requests
+  pub begun : KeepBegun s.requests n.requests
   pub starts : SameReads (λ (x : Asked). x.is_started) s.requests n.requests
   pub moves : SameReads (λ (x : Asked). x.moved) s.requests n.requests
   pub moved : (why : Why) (nav : NavId) → IsMovedBy s why nav → IsMovedBy n why nav
@@ -67,7 +67,7 @@ module _ (s : Seen) (event : ℕ) (actor : Actor) (req : ReqId) (idle : IsIdle s
         other = λ r apart. on_else s.requests req (λ (q : Asked). record q { ending = Some (endings.Refused reason) }) r apart;
         wishes = ended_reads (endings.Refused reason) wish (λ q. refl);
         whats = ended_reads (endings.Refused reason) (λ (q : Asked). q.what) (λ q. refl);
-        begun = ended_reads (endings.Refused reason) begun_of (λ q. refl);
+        begun = begun_as_it_was s.requests (ended s.requests req (endings.Refused reason)) (ended_reads (endings.Refused reason) course_of (λ q. refl));
         starts = ended_reads (endings.Refused reason) (λ (q : Asked). q.is_started) (λ q. refl);
         moves = ended_reads (endings.Refused reason) (λ (q : Asked). q.moved) (λ q. refl);
         moved = λ why nav by. refused_moved s event actor why nav by req reason;
@@ -86,7 +86,7 @@ module _ (s : Seen) (event : ℕ) (actor : Actor) (req : ReqId) (idle : IsIdle s
         other = λ r apart. on_else s.requests req (λ (q : Asked). record q { ending = Some (endings.Dropped cause) }) r apart;
         wishes = ended_reads (endings.Dropped cause) wish (λ q. refl);
         whats = ended_reads (endings.Dropped cause) (λ (q : Asked). q.what) (λ q. refl);
-        begun = ended_reads (endings.Dropped cause) begun_of (λ q. refl);
+        begun = begun_as_it_was s.requests (ended s.requests req (endings.Dropped cause)) (ended_reads (endings.Dropped cause) course_of (λ q. refl));
         starts = ended_reads (endings.Dropped cause) (λ (q : Asked). q.is_started) (λ q. refl);
         moves = ended_reads (endings.Dropped cause) (λ (q : Asked). q.moved) (λ q. refl);
         moved = λ why nav by. dropped_moved s event actor why nav by req cause;
@@ -129,7 +129,7 @@ module _ (s : Seen) (event : ℕ) (actor : Actor) (passed : HavePassed s) (recko
         other = λ r apart. on_else s.requests req send_it r apart;
         wishes = on_read wish s.requests req send_it (λ q. refl);
         whats = on_read (λ (q : Asked). q.what) s.requests req send_it (λ q. refl);
-        begun = on_read begun_of s.requests req send_it (λ q. refl);
+        begun = sent_begun s job job.task s.requests;
         starts = on_read (λ (q : Asked). q.is_started) s.requests req send_it (λ q. refl);
         moves = on_read (λ (q : Asked). q.moved) s.requests req send_it (λ q. refl);
         moved = λ why nav by. sent_moved s event actor why nav by job tt;

@@ -161,7 +161,7 @@ module _ (l : InLoad) (t : Tables) (asked : IsAsked l t) where
 
       pub send_may : IsAtWork l.event [] t × ((l.event.checking l.req ≡ false) × (MaySend None l.event [] (order_to s doc (whys.Req l.req) (tasks.DoFragment l.req l.mode l.address)) × IsThere s doc))
       send_may =
-          (pass.work, (pass.work.unchecked l.req, (may_be_sent l.event l.req l.nav l.mode l.address asked.asks t pass asked.begun.loose place placed standing doc sent.wakes sent.leads, there l.event l.req l.nav l.mode l.address asked.asks t pass asked.begun.loose place placed standing doc sent.wakes sent.leads)))
+          (pass.work, (asked.asks.aside.unchecked l.req, (may_be_sent l.event l.req l.nav l.mode l.address asked.asks t pass asked.begun.loose place placed standing doc sent.wakes sent.leads, there l.event l.req l.nav l.mode l.address asked.asks t pass asked.begun.loose place placed standing doc sent.wakes sent.leads)))
 
       pub sent_come : (u : Tables) (out : List RowKind) → IsAtWork l.event out u → out ≡ rows.Sent (order_to s doc (whys.Req l.req) (tasks.DoFragment l.req l.mode l.address)) ∷ [] → KeepsStore t u → HasCome l t u out l.noted ToFragment
       sent_come u out work out_is keeps =

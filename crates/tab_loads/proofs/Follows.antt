@@ -162,7 +162,7 @@ module _ (l : InLoad) (t : Tables) (asked : IsAsked l t) (placed_ : away_in t l.
 
   pub taken_fin : IsTaking l.event t.running noted fin
   taken_fin =
-      taking_by l.event t.running noted n fin made.taken made.going.tab.asked plain_fin made.going.tab.homes most fresh_or_old noted blamed_fin live_fin
+      taking_by l.event t.running n fin made.taken made.going.tab.asked plain_fin made.going.tab.homes most fresh_or_old noted blamed_fin live_fin
 
   pub taken_last : IsTaking l.event y.running noted (now_of l.event last)
   taken_last =

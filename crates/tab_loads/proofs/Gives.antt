@@ -11,7 +11,7 @@ use Rattle.load_table.specs.Loads.{ongoing_load}
 use Rattle.load_table.specs.declared.load.Load.{Load}
 use Rattle.seen_facts.specs.LoadTies.Tying.{HasLoad}
 use Rattle.log_model.specs.After.{after}
-use Rattle.log_model.specs.Places.{aim_of, is_load, is_ongoing_load, is_traversal}
+use Rattle.log_model.specs.Places.{aim_of, is_load, is_ongoing_load}
 use Rattle.log_model.specs.Points.{nav_of_request}
 use Rattle.log_model.specs.Seen.{Asked, Document, Seen, document_of, request_in, request_of}
 use Rattle.log_model.specs.declared.outcome.Cause.{Cause}
@@ -43,11 +43,11 @@ use Rattle.tab_ids.specs.declared.ReqId.{ReqId}
 use Rattle.tab_ids.specs.declared.StateId.{StateId}
 use Rattle.tab_loads.proofs.Cuts.{first_pass}
 use Rattle.tab_loads.proofs.Firsts.{accepted_seen, first_is, found, q}
-use Rattle.tab_loads.proofs.Leaving.{LeavesMost, taking_by}
+use Rattle.tab_loads.proofs.Leaving.{IsTakenBut, LeavesMost, but_by, taken_but}
 use Rattle.tab_loads.specs.Giving.{HasDropped, HasMadeWay, HasNone}
 use Rattle.tab_loads.specs.Loading.{IsLoadAsk}
-use Rattle.tab_one_pass.proofs.Dropped.{moved_blamed}
-use Rattle.tab_passes.proofs.Goings.{goes_on}
+use Rattle.tab_one_pass.proofs.Dropped.{noted_blamed}
+use Rattle.tab_one_pass.specs.PassedOn.{AreBlamedBy}
 use Rattle.tab_passes.specs.Causes.{MayServe}
 use Rattle.tab_passes.specs.Passing.{InPass, IsPassing}
 use Rattle.tab_stands.proofs.PassedOn.{live_then, queue_leaves}
@@ -79,6 +79,10 @@ low_number asked req x at = by_zero (req.0 == 0) refl at
         by_length : (b : Bool) → (req.0 == (length asked + 1)) ≡ b → req.0 ≤ length asked
         by_length b e = grind (arith, nat_tests, past, is)
 
+-- orders may be sent for the request, or it is the load that is to begin
+abbrev pub ServesOrBegins : ReqId → Seen → ReqId → Type 0
+ServesOrBegins req s r = MayServe s r ⊎ (r ≡ req)
+
 module _ (e : InEvent) (req : ReqId) (nav : NavId) (mode : Mode) (address : List ℕ) (asks : IsLoadAsk e req nav mode address) (t : Tables) (pass : IsPassing (first_pass e req) [] t) (held : AreUnheld e (now_of e [])) where
   abbrev s : Seen
   s = now_of e []
@@ -98,7 +102,8 @@ module _ (e : InEvent) (req : ReqId) (nav : NavId) (mode : Mode) (address : List
     -- before the load begins: the history, the navigables and the documents are as they were; it is there, its navigable has no ongoing load, and what the rows so far owe is paid once it has begun
     pub record IsMadeWay (n : Seen) (out : List RowKind) (noted : List (StateId × ReqId)) : Type 0 where
       pub going : IsGoing t.running (req ∷ []) [] n
-      pub taken : IsTaking e t.running noted n
+      pub taken : IsTakenBut e t.running n
+      pub blamed : AreBlamedBy (ServesOrBegins req n) n noted
       pub own : LoadsMadeOwn n
       pub rests : AllRest n
       pub places : n.places ≡ s.places
@@ -122,7 +127,8 @@ module _ (e : InEvent) (req : ReqId) (nav : NavId) (mode : Mode) (address : List
     none_way u noted it =
         record {
           going = pass.going;
-          taken = subst (λ (l : List (StateId × ReqId)). IsTaking e t.running l s) (sym it.noted_is) taking;
+          taken = taken_but e t.running blame s taking;
+          blamed = subst (λ (l : List (StateId × ReqId)). AreBlamedBy (ServesOrBegins req s) s l) (sym it.noted_is) (λ doc state stray. let was = taking.blamed doc state stray in record { req = was.req; noted = was.noted; may = inl was.may; moves = was.moves });
           own = theirs;
           rests = pass.rests;
           places = refl;
@@ -187,20 +193,6 @@ module _ (e : InEvent) (req : ReqId) (nav : NavId) (mode : Mode) (address : List
           let apart_ = other in
           grind (arith, nat_tests, low, many, number, apart_)
 
-      may_serve : MayServe n req
-      may_serve =
-          record {
-            goes = goes_on n t.running (going_then p [] t pass old.req nav load cause).tab.asked req (q e req nav mode address asks) found_then;
-            begun = λ x there traverses.
-                let two : Some (q e req nav mode address asks) ≡ Some x = sym found_then ∙ there in
-                let one : q e req nav mode address asks ≡ x = cc in
-                let never : false ≡ true = ap (λ (y : Asked). is_traversal y.what) one ∙ traverses in
-                absurd cc;
-          }
-        where
-          found_then : request_of n req ≡ Some (q e req nav mode address asks)
-          found_then = other_request p [] t pass old.req nav load cause req other ∙ found e req nav mode address asks
-
       most : LeavesMost s n
       most =
           record {
@@ -242,11 +234,12 @@ module _ (e : InEvent) (req : ReqId) (nav : NavId) (mode : Mode) (address : List
                 begins_here = new_unstarted (point_at (seen_here e []) []) req (accepted_seen e req nav mode address asks);
               }
 
-      dropped_way : (noted : List (StateId × ReqId)) → AreBlamed n noted → IsMadeWay n (rows.Dropped old.req (drops.By req) ∷ []) noted
+      dropped_way : (noted : List (StateId × ReqId)) → AreBlamedBy (ServesOrBegins req n) n noted → IsMadeWay n (rows.Dropped old.req (drops.By req) ∷ []) noted
       dropped_way noted blamed =
           record {
             going = going_then p [] t pass old.req nav load cause;
-            taken = taking_by e t.running blame s n taking pass.going.tab.asked (going_then p [] t pass old.req nav load cause).tab.asked pass.going.tab.homes most (λ r x its_. inl (load_back s n r x left_all its_)) noted blamed live;
+            taken = but_by e t.running s n (taken_but e t.running blame s taking) pass.going.tab.asked (going_then p [] t pass old.req nav load cause).tab.asked pass.going.tab.homes most (λ r x its_. inl (load_back s n r x left_all its_)) live;
+            blamed = blamed;
             own = theirs_more s n left_all.wishes (λ doc d there. there) theirs;
             rests = dropped_rests s e.event e.actor [] pass.rests old.req cause;
             places = left_all.places;
@@ -280,8 +273,8 @@ module _ (e : InEvent) (req : ReqId) (nav : NavId) (mode : Mode) (address : List
         by_case (inr it) =
             subst (λ (l : List RowKind). IsMadeWay (now_of e l) l noted) (sym it.out_is)
             (subst (λ (x : Seen). IsMadeWay x (rows.Dropped it.old.req (drops.By req) ∷ []) noted) (sym now_is)
-            (dropped_way it.old it.at noted (subst (λ (x : Seen). AreBlamed x noted) now_is
-            (moved_blamed p [] t pass (rows.Dropped it.old.req (drops.By req) ∷ []) blame noted (subst (λ (x : Seen). LeavesAll s x) (sym now_is) (left_all it.old it.at)) req (subst (λ (x : Seen). MayServe x req) (sym now_is) (may_serve it.old it.at)) it.noted_is blamed))))
+            (dropped_way it.old it.at noted (subst (λ (x : Seen). AreBlamedBy (ServesOrBegins req x) x noted) now_is
+            (noted_blamed p [] t pass (rows.Dropped it.old.req (drops.By req) ∷ []) blame noted (subst (λ (x : Seen). LeavesAll s x) (sym now_is) (left_all it.old it.at)) (ServesOrBegins req (now_of e (rows.Dropped it.old.req (drops.By req) ∷ []))) (λ r so. inl so) req (inr refl) it.noted_is blamed))))
           where
             now_is : now_of e (rows.Dropped it.old.req (drops.By req) ∷ []) ≡ next s e.event e.actor (rows.Dropped it.old.req (drops.By req))
             now_is = now_more e [] (rows.Dropped it.old.req (drops.By req)) refl

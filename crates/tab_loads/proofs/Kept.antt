@@ -40,7 +40,7 @@ use Rattle.tab_loads.specs.Asking.{InLoad, IsAsked}
 use Rattle.tab_loads.specs.Giving.{HasMadeWay}
 use Rattle.tab_loads.specs.Telling.{away_in, fragment_in}
 use Rattle.tab_moves.specs.Making.{home_in}
-use Rattle.tab_passes.specs.Causes.{MayCause}
+use Rattle.tab_passes.specs.Causes.{MayCause, MayServe}
 use Rattle.tab_stands.proofs.PassedOn.{reached_same}
 use Rattle.tab_stands.specs.PassedOn.{IsLoadOf as LoadOf}
 use Rattle.tab_turns.proofs.Turned.{KeepBegun, begun_with, causes_on}
@@ -179,6 +179,9 @@ module _ (l : InLoad) (t : Tables) (asked : IsAsked l t) (placed_ : away_in t l.
 
   pub place_on : (nav : NavId) → place_of fin nav ≡ place_of n nav
   place_on nav = ap (λ (x : List Place). place_in x nav) places_same
+
+  pub own_serves : MayServe fin l.req
+  own_serves = causes_on m fin w.running going_fin.tab.asked (λ r. refl) (λ this each. each) (whys.Req l.req) causes l.req refl
 
   pub causes_fin : (why : Why) → MayCause n why → MayCause fin why
   causes_fin =

@@ -57,7 +57,20 @@ pub record IsFresh (e : InEvent) (n : Seen) (req : ReqId) (nav : NavId) : Type 0
   pub reached : is_reached n nav ≡ true
   pub unheld : has_req (held_at_first e) req ≡ false
 
-module _ (e : InEvent) (run : Option ReqId) (blame : List (StateId × ReqId)) (s n : Seen) (at : IsTaking e run blame s) (plain_s : ArePlain run s) (plain : ArePlain run n) (homes : AreHomed s) (it : LeavesMost s n) (loads : (r : ReqId) (nav : NavId) → IsLoadOf n r nav → IsLoadOf s r nav ⊎ IsFresh e n r nav) where
+-- what documents made may be taken, but for what is noted for stray documents
+pub record IsTakenBut (e : InEvent) (run : Option ReqId) (s : Seen) : Type 0 where
+  pub open_ : (cause : Why) → MayCause s cause → IsOpen e run cause s
+  pub loads : MayStand run s
+  pub calm : CalmUnless IsCalmYet run s
+  pub unmoved : UnmovedAreHere s
+  pub rooted : AreRooted s
+  pub live : LoadsLive s
+
+pub taken_but : (e : InEvent) (run : Option ReqId) (blame : List (StateId × ReqId)) (s : Seen) → IsTaking e run blame s → IsTakenBut e run s
+taken_but e run blame s at =
+    record { open_ = at.open_; loads = at.loads; calm = at.calm; unmoved = at.unmoved; rooted = at.rooted; live = at.live }
+
+module _ (e : InEvent) (run : Option ReqId) (s n : Seen) (at : IsTakenBut e run s) (plain_s : ArePlain run s) (plain : ArePlain run n) (homes : AreHomed s) (it : LeavesMost s n) (loads : (r : ReqId) (nav : NavId) → IsLoadOf n r nav → IsLoadOf s r nav ⊎ IsFresh e n r nav) where
   place_same : (nav : NavId) → place_of n nav ≡ place_of s nav
   place_same nav = ap (λ (l : List Place). place_in l nav) it.places
 
@@ -87,7 +100,7 @@ module _ (e : InEvent) (run : Option ReqId) (blame : List (StateId × ReqId)) (s
   moves_then (Some req) is cause nav place there need epoch =
       let own = plain.runs req is in
       let may : MayServe n req = subst (λ (r : Option ReqId). MayCause n (show_why r whys.Start)) is (show_causes n run plain whys.Start (λ r never. absurd cc)) req refl in
-      run_moves n req own.q nav own.found own.traverses (may.begun own.q own.found own.traverses) (plain.passed req own.q own.found)
+      run_moves n req own.q nav own.found own.traverses ((may.begun own.q own.found).traverses own.traverses) (plain.passed req own.q own.found)
 
   opens : (cause : Why) → MayCause n cause → IsOpen e run cause n
   opens cause may =
@@ -206,6 +219,17 @@ module _ (e : InEvent) (run : Option ReqId) (blame : List (StateId × ReqId)) (s
         open_ = opens;
         loads = stand run at.loads;
         blamed = blamed;
+        calm = calm_unless run at.calm;
+        unmoved = unmoved;
+        rooted = rooted;
+        live = live;
+      }
+
+  pub but_by : LoadsLive n → IsTakenBut e run n
+  but_by live =
+      record {
+        open_ = opens;
+        loads = stand run at.loads;
         calm = calm_unless run at.calm;
         unmoved = unmoved;
         rooted = rooted;

@@ -28,7 +28,7 @@ use Rattle.tab_ids.specs.declared.ReqId.{ReqId}
 use Rattle.tab_ids.specs.declared.StateId.{StateId}
 use Rattle.tab_loads.proofs.Comes.{pass, place}
 use Rattle.tab_loads.proofs.Firsts.{q}
-use Rattle.tab_loads.proofs.Gives.{IsMadeWay}
+use Rattle.tab_loads.proofs.Gives.{IsMadeWay, ServesOrBegins}
 use Rattle.tab_loads.proofs.Orders.{order_of}
 use Rattle.tab_loads.specs.Asking.{InLoad, IsAsked}
 use Rattle.tab_loads.specs.Giving.{HasMadeWay}
@@ -36,7 +36,8 @@ use Rattle.tab_loads.specs.Loading.{pass_of}
 use Rattle.tab_loads.specs.Telling.{away_in, fragment_in}
 use Rattle.tab_moves.specs.Making.{home_in}
 use Rattle.tab_one_pass.proofs.Lives.{placed_awake}
-use Rattle.tab_passes.specs.Causes.{MayCause}
+use Rattle.tab_one_pass.specs.PassedOn.{IsBlamedBy}
+use Rattle.tab_passes.specs.Causes.{MayCause, MayServe}
 use Rattle.tab_passes.specs.Passing.{IsPassing}
 use Rattle.tab_stands.proofs.PassedOn.{IsReachedAt, loaded_never, of_load, serve_on}
 use Rattle.tab_stands.specs.PassedOn.{AreBlamed, IsBlamed, IsLoadOf as LoadOf, LoadsLive}
@@ -146,6 +147,9 @@ module _ (l : InLoad) (t : Tables) (asked : IsAsked l t) (placed_ : away_in t l.
   abbrev causes_fin : (why : Why) → MayCause n why → MayCause fin why
   causes_fin = kept.causes_fin l t asked placed_ anew_ noted v out way w now work now_is keeps proc home y last work_y last_is keeps_y
 
+  abbrev own_serves : MayServe fin l.req
+  own_serves = kept.own_serves l t asked placed_ anew_ noted v out way w now work now_is keeps proc home y last work_y last_is keeps_y
+
   abbrev moved_fin : (why : Why) (nav : NavId) → IsMovedBy n why nav → IsMovedBy fin why nav
   moved_fin = kept.moved_fin l t asked placed_ anew_ noted v out way w now work now_is keeps proc home y last work_y last_is keeps_y
 
@@ -182,18 +186,22 @@ module _ (l : InLoad) (t : Tables) (asked : IsAsked l t) (placed_ : away_in t l.
   pub blamed_fin : AreBlamed fin noted
   blamed_fin doc state_ stray = by_case (found_back doc stray.document stray.found)
     where
-      by_old : IsBlamed n noted doc state_ → IsBlamed fin noted doc state_
+      serves_fin : (r : ReqId) → ServesOrBegins l.req n r → MayServe fin r
+      serves_fin r (inl may) = serve_on n fin r causes_fin may
+      serves_fin r (inr same) = subst (λ (x : ReqId). MayServe fin x) (sym same) own_serves
+
+      by_old : IsBlamedBy (ServesOrBegins l.req n) n noted doc state_ → IsBlamed fin noted doc state_
       by_old was =
           record {
             req = was.req;
             noted = was.noted;
-            may = serve_on n fin was.req causes_fin was.may;
+            may = serves_fin was.req was.may;
             moves = λ nav place_ other under placed__ wakes there_ is. moved_fin (whys.Req was.req) other (was.moves nav place_ other under (sym (place_on nav) ∙ placed__) wakes (sym (place_on other) ∙ there_) is);
           }
 
       by_case : (document_of n doc ≡ Some stray.document) ⊎ (new ≡ stray.document) → IsBlamed fin noted doc state_
       by_case (inl old) =
-          by_old (made.taken.blamed doc state_ (record {
+          by_old (made.blamed doc state_ (record {
             document = stray.document;
             found = old;
             its_state = stray.its_state;

@@ -18,7 +18,7 @@ use Rattle.log_model.proofs.Refl.{nat_eq_refl}
 use Rattle.log_model.specs.AfterRequests.{request_begun}
 use Rattle.log_model.specs.Equal.{holds}
 use Rattle.log_model.specs.Orders.{needs_document, ongoing_load as load_of_state}
-use Rattle.log_model.specs.Places.{is_ongoing_load, is_traversal, has_passed}
+use Rattle.log_model.specs.Places.{is_ongoing_load, has_passed}
 use Rattle.log_model.specs.Seen.{Asked, Document, Place, Seen, document_of, place_of, request_of}
 use Rattle.log_model.specs.declared.row_kind.RowKind.{RowKind}
 use Rattle.nav_tree.specs.Tree.{is_nav, is_state}
@@ -51,7 +51,8 @@ use Rattle.tab_loads.specs.Giving.{HasMadeWay}
 use Rattle.tab_loads.specs.Loading.{pass_of}
 use Rattle.tab_loads.specs.Telling.{away_in, fragment_in}
 use Rattle.tab_passes.proofs.Goings.{goes_on}
-use Rattle.tab_passes.specs.Causes.{MayCause, MayServe}
+use Rattle.tab_passes.proofs.SetOuts.{started_out}
+use Rattle.tab_passes.specs.Causes.{HasSetOut, MayCause, MayServe}
 use Rattle.tab_passes.specs.Passing.{IsPassing}
 use Rattle.log_model.specs.declared.job.Why.TheVariants as whys
 use Rattle.log_model.specs.declared.request.Request.TheVariants as requests
@@ -257,11 +258,10 @@ module _ (l : InLoad) (t : Tables) (asked : IsAsked l t) (placed_ : away_in t l.
   may_serve =
       record {
         goes = goes_on m w.running passing_now.going.tab.asked l.req own_then found_then;
-        begun = λ x at traverses.
+        begun = λ x at.
             let two : Some own_then ≡ Some x = sym found_then ∙ at in
             let one : own_then ≡ x = cc in
-            let never : false ≡ true = ap (λ (y : Asked). is_traversal y.what) one ∙ traverses in
-            absurd cc;
+            subst (λ (y : Asked). HasSetOut y) one (started_out own_then refl);
       }
 
   pub causes : MayCause m (whys.Req l.req)

@@ -12,14 +12,14 @@ use Rattle.tab_ids.specs.declared.NavId.{NavId}
 use Rattle.tab_ids.specs.declared.ReqId.{ReqId}
 use Rattle.tab_ids.specs.declared.StateId.{StateId}
 use Rattle.tab_loads.proofs.Changes.{ChangesOne}
-use Rattle.tab_loads.proofs.Leaving.{LeavesMost, taking_by}
-use Rattle.tab_stands.proofs.PassedOn.{begun_as_it_was, causes_on, live_then, load_back, look_back, ready_back, serve_on, unloaded_back}
+use Rattle.tab_loads.proofs.Leaving.{LeavesMost, taken_but, taking_by}
+use Rattle.tab_stands.proofs.PassedOn.{causes_on, live_then, load_back, look_back, ready_back, serve_on, unloaded_back}
 use Rattle.tab_stands.specs.PassedOn.{AreBlamed, IsBlamed, IsTaking, LeavesQueue, LoadsLive, MayCause}
 use Rattle.log_model.specs.declared.job.Why.TheVariants as whys
 
 module _ (e : InEvent) (run : Option ReqId) (blame : List (StateId × ReqId)) (s n : Seen) (at : IsTaking e run blame s) (plain_s : ArePlain run s) (plain : ArePlain run n) (homes : AreHomed s) (req : ReqId) (q : Asked) (found : request_of s req ≡ Some q) (unstarted : q.is_started ≡ false) (it : ChangesOne s n req) where
   causes_then : (why : Why) → MayCause s why → MayCause n why
-  causes_then = causes_on s n run plain it.wishes (begun_as_it_was s.requests n.requests it.begun)
+  causes_then = causes_on s n run plain it.wishes it.begun
 
   most : LeavesMost s n
   most =
@@ -67,7 +67,7 @@ module _ (e : InEvent) (run : Option ReqId) (blame : List (StateId × ReqId)) (s
 
   pub one_taking : IsTaking e run blame n
   one_taking =
-      taking_by e run blame s n at plain_s plain homes most (λ r nav its. inl (load_back s n req q found unstarted it.other it.starts r nav its)) blame blamed live
+      taking_by e run s n (taken_but e run blame s at) plain_s plain homes most (λ r nav its. inl (load_back s n req q found unstarted it.other it.starts r nav its)) blame blamed live
 
   pub one_leaves : LeavesQueue s n
   one_leaves =

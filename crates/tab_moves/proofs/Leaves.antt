@@ -27,6 +27,7 @@ use Rattle.tab_ids.specs.declared.NavId.{NavId}
 use Rattle.tab_moves.specs.Moving.{InMoving, IsToLeave}
 use Rattle.tab_passes.proofs.Freezable.{freeze_ahead}
 use Rattle.tab_passes.proofs.Goings.{for_passed, is_passed_for, none_to_begin}
+use Rattle.tab_passes.proofs.Others.{cause_off}
 use Rattle.tab_passes.specs.Leaving.{IsLeaving, IsToFreeze}
 pub use Rattle.tab_passes.specs.Leaving.{MayLeave}
 use Rattle.seen_facts.proofs.Walk.Placed.{found_nav}
@@ -135,7 +136,7 @@ module _ (m : InMoving) (nav : NavId) (doc : DocId) (why : Why) (out : List RowK
 
   pub may_leave : MayLeave s doc why
   may_leave =
-      record { document = its_home.document; found = its_home.found; ready = its_home.ready; moves = moves; begun = inr (none_to_begin s why to.may) }
+      record { document = its_home.document; found = its_home.found; ready = its_home.ready; moves = moves; begun = inr (none_to_begin s why to.may); may = to.may }
 
   pub is_there : IsThere s doc
   is_there =
@@ -151,7 +152,7 @@ module _ (m : InMoving) (nav : NavId) (doc : DocId) (why : Why) (out : List RowK
       freeze_ahead m.pass.event out m.move t nav doc why leaving.work (to_freeze nav to.place doc (inl (nat_eq_refl nav.0)) to.placed to.wakes) (leaving.going.tab.asked.died (proc_at s doc)).0
       (is_passed_for s t.running leaving.going.tab.asked tasks.Freeze why to.may)
       (for_passed s t.running leaving.going.tab.asked (order_to s doc why tasks.Freeze) m.cause to.for_run)
-      to.new
+      (cause_off m.pass.event out t leaving.work leaving.going.tab.asked.each why to.may) to.new
 
   -- ---- one below it
 

@@ -60,6 +60,8 @@ use Rattle.tab_moves.specs.Making.{HasMade, home_in, is_new_by, make_why}
 use Rattle.tab_moves.specs.Showing.{IsTurn, need_in}
 use Rattle.tab_passes.proofs.Goings.{goes_on, is_passed_for}
 pub use Rattle.tab_passes.proofs.Goings.{show_causes}
+use Rattle.tab_doors.specs.Orders.{IsForOther}
+use Rattle.tab_passes.proofs.Others.{cause_off}
 use Rattle.tab_passes.proofs.Serveds.{served_causes}
 use Rattle.tab_passes.specs.Causes.{MayCause}
 use Rattle.tab_passes.specs.Passing.{InPass, IsPassing}
@@ -360,6 +362,7 @@ module _ (p : InPass) (out : List RowKind) (t : Tables) (pass : IsPassing p out 
     pub known : (desk_of s proc).known ≡ 0
     pub unknown : sight_in (map sight s.documents) (record { 0 = t.documents + 1 }) ≡ None
     pub unloaded : ongoing_load s state ≡ None
+    pub other : IsForOther p.event.checking x
     pub done : (u : Tables) (new : List RowKind) → KeepsStore t u → new ≡ out ++ rows.Sent (next_order s.jobs proc (record { 0 = t.documents + 1 }) x (tasks.Populate nav state address initial)) ∷ [] → IsAtWork p.event new u → IsPassing p new u × IsTurn s (now_of p.event new) nav
 
   pub ready_to_make : (due : IsMakingDue) (cause : Why) → MayCause s cause → (row : Row) → row_of entry (history_held t.store).rows ≡ Some row → lookup (is_state row.state) t.making.entries ≡ None → (address : List ℕ) → address ≡ row.address → (new : Bool) (x : Why) → x ≡ make_why new t.running cause → (initial : Bool) → initial ≡ is_some (lookup (is_state row.state) t.initial.entries) → (proc : ProcId) → home_in p.event.header t nav address ≡ Some proc → IsReadyToMake row.state address initial proc x
@@ -371,6 +374,7 @@ module _ (p : InPass) (out : List RowKind) (t : Tables) (pass : IsPassing p out 
         known = (pass.going.tab.asked.died proc).0;
         unknown = unknown due unmade_;
         unloaded = unloaded due unmade_;
+        other = cause_off p.event out t pass.work pass.going.tab.asked.each (make_why new t.running cause) (causes due unmade_ cause may new initial initial_ proc home_ new);
         done = λ u new_out keeps is work. subst (λ (l : List RowKind). IsPassing p l u × IsTurn s (now_of p.event l) nav) (sym is)
             (let work_ : IsAtWork p.event (then_out due unmade_ cause may new initial initial_ proc home_) u = subst (λ (l : List RowKind). IsAtWork p.event l u) is work in
             (passing_then due unmade_ cause may new initial initial_ proc home_ u keeps work_, turn_then due unmade_ cause may new initial initial_ proc home_ u keeps work_));

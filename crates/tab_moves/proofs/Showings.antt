@@ -51,6 +51,8 @@ use Rattle.tab_moves.proofs.Ups.{held_row, up_at}
 use Rattle.tab_moves.specs.Showing.{IsShownBy, IsToShow, IsTurn}
 use Rattle.tab_passes.proofs.Aims.{aim_is, held_aim, held_pair}
 use Rattle.tab_passes.proofs.Leavings.{IsShowOf, IsToMade, passing_again, sent_home, shown_leaving}
+use Rattle.tab_doors.specs.Orders.{IsForOther}
+use Rattle.tab_passes.proofs.Others.{cause_off}
 use Rattle.tab_passes.proofs.Serveds.{served_causes}
 use Rattle.tab_passes.specs.Causes.{MayCause, show_why}
 use Rattle.tab_passes.specs.Leaving.{IsLeaving}
@@ -351,6 +353,7 @@ module _ (p : InPass) (move : Option Move) (out : List RowKind) (t : Tables) (le
   pub record IsReady (epoch : Epoch) (long at : ℕ) (state : StateId) (memo : Option (List ℕ)) (address : List ℕ) (x : Why) : Type 0 where
     pub may : MayShow s t.tree nav (order_to s doc x (tasks.Activate entry epoch long at memo address)) entry epoch (long, at) memo address
     pub for_run : (r : ReqId) → t.running ≡ Some r → x ≡ whys.Req r
+    pub other : IsForOther p.event.checking x
     pub fits : epoch.0 < 18446744073709551616
     pub own_state : AreOfOwnStates s.documents s.kept doc state
     pub leaves : LeavesFor move s doc state t.kept.keep
@@ -379,6 +382,7 @@ module _ (p : InPass) (move : Option Move) (out : List RowKind) (t : Tables) (le
           record {
             may = subst (λ (z : EntryId). MayShow s t.tree nav (order_to s doc why (tasks.Activate z epoch long at target.memo target.address)) z epoch (long, at) target.memo target.address) to.wanted.entry_is (may_show epoch next_here (long, at) pair_here);
             for_run = λ r is. ap (λ (o : Option ReqId). show_why o cause) is;
+            other = cause_off p.event out t leaving.work leaving.going.tab.asked.each why (show_causes s t.running leaving.going.tab.asked cause to.may);
             fits = fits epoch next_here (long, at) pair_here;
             own_state = own_state;
             leaves = to.leaves;

@@ -43,7 +43,7 @@ use Rattle.tab_serves.specs.Serving.{InPass, IsPassing}
 use Rattle.tab_sweeps.proofs.Loads.{awake_unloaded, loaded_never, table_unloaded}
 pub use Rattle.tab_sweeps.proofs.Loads.{of_load}
 use Rattle.tab_sweeps.specs.Sweeping.{AreBlamed, IsStray, NoneStray}
-pub use Rattle.tab_sweeps.specs.Sweeping.{IsBlamed}
+pub use Rattle.tab_sweeps.specs.Sweeping.{AreBlamedBy, IsBlamed, IsBlamedBy}
 use Rattle.seen_facts.proofs.Walk.Placed.{found_nav}
 use Rattle.log_model.specs.declared.job.Why.TheVariants as whys
 
@@ -172,25 +172,25 @@ module _ (p : InPass) (was : List RowKind) (t : Tables) (pass : IsPassing p was 
     place_was : (nav : NavId) → place_of x nav ≡ place_of s nav
     place_was nav = ap (λ (l : List Place). place_in l nav) left.places
 
-    -- ---- for the traversal that runs
+    -- ---- for one request, as the traversal that runs
 
-    module _ (by : ReqId) (may : MayServe x by) (are : AreNoted t (Some by) (made_in t.tree) blame noted) (blamed : AreBlamed s blame) where
-      still_blamed : (doc : DocId) (state : StateId) → IsStray s doc state → ongoing_load s state ≡ None → IsBlamed x noted doc state
+    module _ (serves : ReqId → Type 0) (on : (r : ReqId) → MayServe x r → serves r) (by : ReqId) (may : serves by) (are : AreNoted t (Some by) (made_in t.tree) blame noted) (blamed : AreBlamed s blame) where
+      still_blamed : (doc : DocId) (state : StateId) → IsStray s doc state → ongoing_load s state ≡ None → IsBlamedBy serves x noted doc state
       still_blamed doc state stray none =
           let it : IsBlamed s blame doc state = blamed doc state stray in
           record {
             req = it.req;
             noted = are.others state (unnoted (Some by) state none) ∙ it.noted;
-            may = left.orders (whys.Req it.req) (λ r same. let one : it.req ≡ r = cc in subst (λ (y : ReqId). MayServe s y) one it.may) it.req refl;
+            may = on it.req (left.orders (whys.Req it.req) (λ r same. let one : it.req ≡ r = cc in subst (λ (y : ReqId). MayServe s y) one it.may) it.req refl);
             moves = λ nav place other under placed wakes at is. left.movers (whys.Req it.req) other (it.moves nav place other under (sym (place_was nav) ∙ placed) wakes (sym (place_was other) ∙ at) is);
           }
 
-      now_blamed : (doc : DocId) (state : StateId) (stray : IsStray x doc state) (q : Asked) → ongoing_load s state ≡ Some q → IsBlamed x noted doc state
+      now_blamed : (doc : DocId) (state : StateId) (stray : IsStray x doc state) (q : Asked) → ongoing_load s state ≡ Some q → IsBlamedBy serves x noted doc state
       now_blamed doc state stray q is =
           record {
             req = one.req;
             noted = one.found;
-            may = subst (λ (r : ReqId). MayServe x r) by_is may;
+            may = subst (λ (r : ReqId). serves r) by_is may;
             moves = λ nav place other under placed wakes at below. absurd (unwoken doc stray.document q found here nav place (sym (place_was nav) ∙ placed) wakes);
           }
         where
@@ -216,12 +216,16 @@ module _ (p : InPass) (was : List RowKind) (t : Tables) (pass : IsPassing p was 
               let it : IsNoting t (Some by) one.its.it state one.req = noting_is t (Some by) one.its.it state one.req one.its.is in
               let same : Some by ≡ Some one.req = it.noted in cc
 
-      pub moved_blamed : AreBlamed x noted
-      moved_blamed doc state stray = by_load (ongoing_load s state) refl
+      pub noted_blamed : AreBlamedBy serves x noted
+      noted_blamed doc state stray = by_load (ongoing_load s state) refl
         where
-          by_load : (o : Option Asked) → ongoing_load s state ≡ o → IsBlamed x noted doc state
+          by_load : (o : Option Asked) → ongoing_load s state ≡ o → IsBlamedBy serves x noted doc state
           by_load None is = still_blamed doc state (was_stray doc state stray is) is
           by_load (Some q) is = now_blamed doc state stray q is
+
+    -- for which orders may be sent
+    pub moved_blamed : (by : ReqId) → MayServe x by → AreNoted t (Some by) (made_in t.tree) blame noted → AreBlamed s blame → AreBlamed x noted
+    moved_blamed by may are blamed = noted_blamed (MayServe x) (λ r so. so) by may are blamed
 
     -- ---- for those that took the entries
 

@@ -218,7 +218,7 @@ module _ (e : InEvent) (run : Option ReqId) (why : Why) (was out : List RowKind)
   told_causes cause may req is =
       record {
         goes = by_found (request_of s req) refl (may req is).goes;
-        begun = λ q at traverses. (may req is).begun q (sym (request_same req) ∙ at) traverses;
+        begun = λ q at. (may req is).begun q (sym (request_same req) ∙ at);
       }
     where
       by_found : (o : Option Asked) → request_of s req ≡ o → may_go_on s req ≡ true → may_go_on t req ≡ true

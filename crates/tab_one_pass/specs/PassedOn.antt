@@ -3,4 +3,4 @@ pub use Rattle.tab_drops.specs.Dropping.{Drop, HasOnlyDropped, IsBelowNav, IsLoa
 pub use Rattle.tab_serves.specs.PassedOn.{AreCounted, AreHeldUp, AreSteps, IsGoing, IsLeaving, IsTab, IsUpdateFor, MayCause, aim_in, at_hand, count_of, has_ended, has_spent, length_index, show_why}
 pub use Rattle.tab_drops.specs.Turns.{IsByLoad}
 pub use Rattle.tab_serves.specs.Serving.{HasOnly, InPass, IsOfWalk, IsPassing, IsServeFor, IsUp, KeepsUp}
-pub use Rattle.tab_sweeps.specs.Sweeping.{AreBlamed, IsBlamed, IsSweepOf}
+pub use Rattle.tab_sweeps.specs.Sweeping.{AreBlamed, AreBlamedBy, IsBlamed, IsBlamedBy, IsSweepOf}

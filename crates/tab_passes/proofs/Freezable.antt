@@ -19,7 +19,7 @@ use Rattle.tab_doors.proofs.Leavable.{IsFrozenAs, IsInLog, freezes_log, in_log, 
 use Rattle.tab_doors.proofs.Whose.{proc_found}
 use Rattle.tab_doors.proofs.Works.{numbered, start_here}
 use Rattle.tab_doors.specs.Keeping.{Move}
-use Rattle.tab_doors.specs.Orders.{order_to, proc_at}
+use Rattle.tab_doors.specs.Orders.{IsForOther, order_to, proc_at}
 use Rattle.tab_doors.specs.Working.{IsAtWorkFor, MaySend}
 use Rattle.tab_doors.specs.declared.tables.Tables.{Tables}
 use Rattle.tab_ids.specs.declared.DocId.{DocId}
@@ -41,8 +41,8 @@ passed_there s whys.Evict passed = refl
 passed_there s whys.Start passed = refl
 
 -- the order that freezes it may be sent
-pub freeze_ahead : (e : InEvent) (out : List RowKind) (move : Move) (t : Tables) (nav : NavId) (doc : DocId) (why : Why) → IsAtWorkFor (Some move) e out t → IsToFreeze e (now_of e out) nav doc → (desk_of (now_of e out) (proc_at (now_of e out) doc)).known ≡ 0 → is_passed (now_of e out) tasks.Freeze why ≡ true → is_for_passed (now_of e out) (order_to (now_of e out) doc why tasks.Freeze) ≡ true → IsNewFor e (now_of e out) move nav → MaySend (Some move) e out (order_to (now_of e out) doc why tasks.Freeze)
-freeze_ahead e out move t nav doc why work its known passed for_passed new =
+pub freeze_ahead : (e : InEvent) (out : List RowKind) (move : Move) (t : Tables) (nav : NavId) (doc : DocId) (why : Why) → IsAtWorkFor (Some move) e out t → IsToFreeze e (now_of e out) nav doc → (desk_of (now_of e out) (proc_at (now_of e out) doc)).known ≡ 0 → is_passed (now_of e out) tasks.Freeze why ≡ true → is_for_passed (now_of e out) (order_to (now_of e out) doc why tasks.Freeze) ≡ true → IsForOther e.checking why → IsNewFor e (now_of e out) move nav → MaySend (Some move) e out (order_to (now_of e out) doc why tasks.Freeze)
+freeze_ahead e out move t nav doc why work its known passed for_passed for_other new =
     freeze_sends (here_of e out) e.event e.actor order move (led_here e out work.own) (numbered_log e out work.same order (numbered s (proc_at s doc) doc why tasks.Freeze known)) shown.d shown.found frozen.d frozen.freezes
     (subst (λ (place : Place). has_nav (way_of place) shown.d.nav ≡ true) (sym frozen.place_is) (subst (λ (n : NavId). has_nav (way_of its.place) n ≡ true) nav_is its.below))
     (subst (λ (n : NavId). holds (is_awake_on move.doc) (place_of (here_of e out).start n) ≡ false) nav_is (subst (λ (x : Seen). holds (is_awake_on move.doc) (place_of x nav) ≡ false) (sym (start_here e out)) new.other))
@@ -75,4 +75,4 @@ freeze_ahead e out move t nav doc why work its known passed for_passed new =
 
     frozen : IsFrozenAs e out order its.place
     frozen =
-        freezes_log e out t work order its.document (left_log e out t work order its.document its.found its.unhandled (passed_there s why passed)) (λ req is. work.unchecked req) due
+        freezes_log e out t work order its.document (left_log e out t work order its.document its.found its.unhandled (passed_there s why passed)) for_other due

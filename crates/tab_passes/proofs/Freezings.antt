@@ -28,6 +28,7 @@ use Rattle.tab_ids.specs.declared.NavId.{NavId}
 use Rattle.tab_ids.specs.declared.ReqId.{ReqId}
 use Rattle.tab_passes.proofs.Freezable.{freeze_ahead}
 use Rattle.tab_passes.proofs.Goings.{for_passed, goes_on, is_passed_for}
+use Rattle.tab_passes.proofs.Others.{cause_off}
 use Rattle.tab_passes.proofs.Serveds.{served_causes}
 use Rattle.tab_passes.proofs.Stills.{still_frozen}
 use Rattle.tab_passes.specs.Causes.{MayCause, show_why}
@@ -118,6 +119,7 @@ module _ (l : InFreezing) (why : Why) (left docs : List DocId) (doc : DocId) (ou
         ready = its.ready;
         moves = λ other has. absurd (none_has other has);
         begun = inl so.each.0.nobody;
+        may = so.may;
       }
     where
       none_has : (other : NavId) → has_nav (sleepers_with s doc) other ≡ true → ⊥
@@ -131,7 +133,7 @@ module _ (l : InFreezing) (why : Why) (left docs : List DocId) (doc : DocId) (ou
       freeze_ahead l.pass.event out l.move t l.nav doc why so.leaving.work its (so.leaving.going.tab.asked.died (proc_at s doc)).0
       (is_passed_for s t.running so.leaving.going.tab.asked tasks.Freeze why so.may)
       (for_passed s t.running so.leaving.going.tab.asked (order_to s doc why tasks.Freeze) l.cause so.for_run)
-      so.new
+      (cause_off l.pass.event out t so.leaving.work so.leaving.going.tab.asked.each why so.may) so.new
 
   pub freezing_more : (u : Tables) (new : List RowKind) → new ≡ out ++ rows.Sent (order_to s doc why tasks.Freeze) ∷ [] → KeepsStore t u → IsLeaving l.pass (Some l.move) (left_then s doc left) new u → IsFreezing l why (without_doc doc left) docs new u
   freezing_more u new is keeps leaving =

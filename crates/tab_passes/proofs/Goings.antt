@@ -1,6 +1,7 @@
 -- What a request is for may go on in a tab with loads, since nobody is asked.
 use Rattle.log_model.specs.Places.{has_passed_with, is_gone}  -- keep
 use Rattle.tab_passes.proofs.Aims.{passed_is, running_is}  -- keep
+use Rattle.tab_passes.proofs.SetOuts.{started_out}  -- keep
 use Rattle.tab_passes.specs.Causes.{MayCause, MayServe, show_why}  -- keep
 use Rattle.log_model.specs.Places.{is_traversal, is_under_way}  -- keep
 use Rattle.seen_facts.specs.Each.Runs.{is_run, is_this}  -- keep
@@ -60,7 +61,7 @@ module _ (s : Seen) (run : Option ReqId) (asked : ArePlain run s) where
       by_run (Some req) is = λ r same.
           let there = runs_there req is in
           let one : req ≡ r = cc in
-          subst (λ (x : ReqId). MayServe s x) one (record { goes = goes_on req there.0 there.1; begun = λ q at goes. run_begun req is q at })
+          subst (λ (x : ReqId). MayServe s x) one (record { goes = goes_on req there.0 there.1; begun = λ q at. started_out q (run_begun req is q at) })
 
   -- an order for it may be sent
   pub is_passed_for : (task : Task) (why : Why) → MayCause s why → is_passed s task why ≡ true
@@ -87,4 +88,4 @@ module _ (s : Seen) (run : Option ReqId) (asked : ArePlain run s) where
 
 -- what may be caused is for no traversal that is still to begin
 pub none_to_begin : (s : Seen) (why : Why) → MayCause s why → ServesNoneToBegin s why
-none_to_begin s why may req q is there traverses = (may req is).begun q there traverses
+none_to_begin s why may req q is there traverses = ((may req is).begun q there).traverses traverses

@@ -52,7 +52,6 @@ begun_work e out t doc left states work is =
     record {
       own = work.own;
       worker = work.worker;
-      unchecked = work.unchecked;
       begins = work.begins;
       rows = work.rows;
       plain = work.plain;

@@ -12,6 +12,8 @@ pub mod Sleepers
 pub mod Lefts
 pub mod Aheads
 pub mod Freezable
+pub mod SetOuts
+pub mod Others
 pub mod Goings
 pub mod Freezings
 pub mod Belows

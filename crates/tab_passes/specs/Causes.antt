@@ -1,17 +1,22 @@
 -- What orders may be for.
 -- This project's own.
 use Rattle.log_model.specs.Checks.{may_go_on}
-use Rattle.log_model.specs.Places.{is_traversal}
+use Rattle.log_model.specs.Places.{is_load, is_traversal}
 use Rattle.log_model.specs.Seen.{Asked, Seen, request_of}
 use Rattle.log_model.specs.declared.job.Why.{Why}
-use Rattle.std.specs.Prelude.{None, Option, Some, true, ◌≡◌}
+use Rattle.std.specs.Prelude.{None, Option, Some, is_some, true, ◌||◌, ◌≡◌}
 use Rattle.tab_ids.specs.declared.ReqId.{ReqId}
 use Rattle.log_model.specs.declared.job.Why.TheVariants as whys
 
--- the request may go on, and has begun if it is a traversal
+-- a traversal has begun; a load has begun, or sent a document to a fragment
+pub record HasSetOut (q : Asked) : Type 0 where
+  pub traverses : is_traversal q.what ≡ true → q.is_started ≡ true
+  pub loads : is_load q.what ≡ true → (q.is_started || is_some q.fragment) ≡ true
+
+-- the request may go on, and has set out
 pub record MayServe (s : Seen) (req : ReqId) : Type 0 where
   pub goes : may_go_on s req ≡ true
-  pub begun : (q : Asked) → request_of s req ≡ Some q → is_traversal q.what ≡ true → q.is_started ≡ true
+  pub begun : (q : Asked) → request_of s req ≡ Some q → HasSetOut q
 
 -- an order for this may be sent
 abbrev pub MayCause : Seen → Why → Type 0

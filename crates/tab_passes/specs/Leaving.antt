@@ -42,13 +42,14 @@ pub record IsLeaving (p : InPass) (move : Option Move) (docs : List DocId) (out 
   pub owed : IsOwed p.event out
   pub rests : RestBut docs (now_of p.event out)
 
--- the document may be left for a reason: it is made, and who falls asleep with it is moved by the reason, which is no traversal that is still to begin
+-- the document may be left for a reason, for which orders may be sent: it is made, and who falls asleep with it is moved by the reason, which is no traversal that is still to begin
 pub record MayLeave (s : Seen) (doc : DocId) (why : Why) : Type 0 where
   pub document : Document
   pub found : document_of s doc ≡ Some document
   pub ready : document.is_ready ≡ true
   pub moves : MovesEach s why (sleepers_with s doc)
   pub begun : MayMove s why (sleepers_with s doc)
+  pub may : MayCause s why
 
 -- the document is made, it is the one that is there for its state, which is no ongoing load's
 pub record IsGoneAt (s : Seen) (tree : Tree) (loads : List Load) (doc : DocId) (state : StateId) : Type 0 where

@@ -3,18 +3,26 @@ use Rattle.tab_facts.proofs.Order.Rows.{coord_within, orders_on, orders_over}
 use Rattle.seen_facts.specs.Asked.Asking.{ArePlain}
 use Rattle.seen_facts.specs.Hang.Members.{Has}
 use Rattle.log_model.specs.Equal.{holds, implies}
-use Rattle.log_model.specs.Places.{has_passed, is_traversal}
+use Rattle.log_model.specs.Places.{has_passed}
 use Rattle.log_model.specs.Checks.{is_checked}
 use Rattle.log_model.specs.Seen.{Asked, Seen, request_of}
 use Rattle.log_model.specs.declared.job.Job.{Job}
 use Rattle.log_model.specs.declared.job.Task.{Task}
 use Rattle.log_model.specs.declared.job.Why.{Why}
 use Rattle.log_model.specs.declared.row_kind.RowKind.{RowKind}
+use Rattle.tab_facts.proofs.FrameTab.Plainly.{applied_reads}
 use Rattle.tab_facts.proofs.Order.Stills.{still_over}
+use Rattle.seen_facts.proofs.Coord.Unread.{next}
+use Rattle.seen_facts.proofs.Request.Readers.{on_read}
+use Rattle.log_model.specs.AfterRequests.{entries_taken}
+use Rattle.log_model.specs.declared.row_kind.Actor.{Actor}
+use Rattle.log_model.specs.declared.outcome.Ending.TheVariants as endings
+use Rattle.seen_laws.proofs.InEvents.{now_step}
+use Rattle.tab_turns.proofs.Turned.{KeepBegun, begun_as_it_was, begun_with, course_of, kept_begun, sent_begun}
 use Rattle.tab_facts.specs.Order.Orders.{IsOfCoord, AreOrders}
 use Rattle.row_facts.specs.Owed.Owed.{IsStill}
 use Rattle.seen_laws.specs.InEvent.{InEvent, now_of}
-use Rattle.std.proofs.Common.{Bool, List, None, Option, Some, [], ap, append_assoc, false, inl, inr, refl, subst, sym, true, ◌++◌, ◌∙◌, ◌∷◌, ◌≡◌, ◌⊎◌}
+use Rattle.std.proofs.Common.{Bool, List, None, Option, Some, [], ap, append-nil, append_assoc, false, inl, inr, refl, subst, sym, true, ◌++◌, ◌∙◌, ◌∷◌, ◌≡◌, ◌⊎◌, ℕ}
 use Rattle.tab_releases.specs.PassedOn.{HasGrown, IsOfTurn, MayServe, length_index, HasOnly, HasPutOut, IsServeFor, IsUpdateFor, show_why}
 use Rattle.tab_ids.specs.declared.ReqId.{ReqId}
 use Rattle.tab_releases.proofs.PassedOn.{show_causes}
@@ -23,6 +31,30 @@ use Rattle.tab_settles.proofs.PutOuts.{put_each}
 use Rattle.tab_settles.specs.Settling.{HasPut, IsMake, IsPlainTask, MakesServe}
 use Rattle.log_model.specs.declared.job.Task.TheVariants as tasks
 use Rattle.log_model.specs.declared.row_kind.RowKind.TheVariants as rows
+
+-- ---- whoever has set out has so still, over rows of a coordinator
+
+begun_after : (s : Seen) (event : ℕ) (actor : Actor) (kind : RowKind) → IsOfCoord kind → KeepBegun s.requests (next s event actor kind).requests
+begun_after s event actor (rows.Sent job) fine = sent_begun s job job.task s.requests
+begun_after s event actor (rows.Dropped r cause) fine =
+    begun_as_it_was s.requests (next s event actor (rows.Dropped r cause)).requests (on_read course_of s.requests r (λ (q : Asked). record q { ending = Some (endings.Dropped cause) }) (λ q. refl))
+begun_after s event actor (rows.Refused r reason) fine =
+    begun_as_it_was s.requests (next s event actor (rows.Refused r reason)).requests (on_read course_of s.requests r (λ (q : Asked). record q { ending = Some (endings.Refused reason) }) (λ q. refl))
+begun_after s event actor (rows.Applied r change) fine =
+    begun_as_it_was s.requests (next s event actor (rows.Applied r change)).requests (applied_reads course_of s.requests r change (entries_taken s.history change) (λ q. refl) (λ q. refl) (λ q. refl))
+begun_after s event actor (rows.Started r goal) fine = begun_with s r goal
+begun_after s event actor _ fine = absurd fine
+
+begun_over : (e : InEvent) (more was : List RowKind) → ((kind : RowKind) → Has more kind → IsOfCoord kind) → KeepBegun (now_of e was).requests (now_of e (was ++ more)).requests
+begun_over e [] was fine =
+    subst (λ (l : List RowKind). KeepBegun (now_of e was).requests (now_of e l).requests) (sym (append-nil was)) (λ this each. each)
+begun_over e (kind ∷ more) was fine =
+    subst (λ (l : List RowKind). KeepBegun (now_of e was).requests (now_of e l).requests) (append_assoc was (kind ∷ []) more)
+    (λ this each. begun_over e more (was ++ kind ∷ []) (λ k has. fine k (inr has)) this (one this each))
+  where
+    one : KeepBegun (now_of e was).requests (now_of e (was ++ kind ∷ [])).requests
+    one =
+        now_step (λ (x : Seen). KeepBegun (now_of e was).requests x.requests) e was kind (λ was_ this each. begun_after (now_of e was) e.event e.actor kind (fine kind (inl refl)) this each) (λ this each. each)
 
 -- ---- what orders may be for, over rows of a coordinator
 
@@ -38,10 +70,7 @@ module _ (e : InEvent) (run : Option ReqId) (was more : List RowKind) (fine : (r
   serve_by req q may at =
       record {
         goes = ap (λ (o : Option Asked). holds (λ (x : Asked). implies (is_checked x) (has_passed n x)) o) still.at ∙ implied (is_checked still.r) (has_passed n still.r) passes;
-        begun = λ x there traverses.
-            let two : Some still.r ≡ Some x = sym still.at ∙ there in
-            let one : still.r ≡ x = cc in
-            ap (λ (y : Asked). y.is_started) (sym one) ∙ still.began (may.begun q at (ap is_traversal (sym still.what) ∙ ap (λ (y : Asked). is_traversal y.what) one ∙ traverses));
+        begun = kept_begun s n req (begun_over e more was fine) may.begun;
       }
     where
       still : IsStill n req q

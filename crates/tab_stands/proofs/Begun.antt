@@ -55,7 +55,6 @@ work_first e t aside checks own worker legal tied =
     record {
       own = own;
       worker = worker;
-      unchecked = aside.unchecked;
       begins = aside.begins;
       plain = aside.plain;
       rows = refl;

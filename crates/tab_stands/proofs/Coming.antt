@@ -53,10 +53,10 @@ pub record OnlyArrives (g : Place → Place) : Type 0 where
   pub ever : (p : Place) → (g p).ever_given ≡ p.ever_given
   pub arrived : (p : Place) → has_arrived p ≡ true → has_arrived (g p) ≡ true
 
--- a request but for how it ended, and by which change, and what documents answered and made
+-- a request but for how it ended, and by which change, what documents answered and made, and whether one was found running
 abbrev pub bare : Asked → Asked
 bare q =
-    record q { ending = None; made = None; fragment = None; is_not_found = false; asks = []; change = None; took = [] }
+    record q { ending = None; made = None; is_not_found = false; asks = []; change = None; took = [] }
 
 -- the request is there still, and read as the same but for that; the change by which it ended is
 pub record IsAlike (n : Seen) (req : ReqId) (q : Asked) : Type 0 where
@@ -250,7 +250,7 @@ module _ (e : InEvent) (run : Option ReqId) (keep : ℕ) (goal : Step) (blame : 
   moves_then (Some req) is calm cause nav place there need epoch =
       let it = tab.asked.runs req is in
       let may : MayServe n req = subst (λ (r : Option ReqId). MayCause n (show_why r whys.Start)) is (show_causes n run tab.asked whys.Start (λ r never. absurd cc)) req refl in
-      run_moves n req it.q nav it.found it.traverses (may.begun it.q it.found it.traverses) (tab.asked.passed req it.q it.found)
+      run_moves n req it.q nav it.found it.traverses ((may.begun it.q it.found).traverses it.traverses) (tab.asked.passed req it.q it.found)
 
   -- ---- all of it, where no ongoing load was held back
 

@@ -104,7 +104,7 @@ module _ (s rest : Seen) (new : Asked) (req : ReqId) (nr : req.0 ≡ length s.re
         by_found (Some q) at =
             record {
               goes = ap (λ (o : Option Asked). holds (λ (x : Asked). implies (is_checked x) (has_passed more x)) o) (old_stays r q at) ∙ (ap (λ (o : Option Asked). holds (λ (x : Asked). implies (is_checked x) (has_passed s x)) o) (sym at) ∙ may.goes);
-              begun = λ x found goes. (let both : Some q ≡ Some x = sym (old_stays r q at) ∙ found in let same : q ≡ x = cc in may.begun x (at ∙ ap (λ (y : Asked). let o : Option Asked = Some y in o) same) goes);
+              begun = λ x found. (let both : Some q ≡ Some x = sym (old_stays r q at) ∙ found in let same : q ≡ x = cc in may.begun x (at ∙ ap (λ (y : Asked). let o : Option Asked = Some y in o) same));
             }
 
     moved_same : (nav : NavId) → is_moved more nav ≡ is_moved s nav

@@ -111,6 +111,7 @@ module _ (p : InPass) (blame : List (StateId × ReqId)) {docs : List DocId} (out
           ready = stray.ready;
           moves = moves_sleepers s doc (whys.Req req) distinct (subst (λ (r : ReqId). MovesUnder s doc (whys.Req r)) named its_blame.moves);
           begun = inr (none_to_begin s (whys.Req req) may_cause);
+          may = may_cause;
         }
 
     pub sweep_sends : MaySend None p.event out (order_to s doc (whys.Req req) tasks.Discard)

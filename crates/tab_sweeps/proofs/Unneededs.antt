@@ -163,7 +163,7 @@ module _ (p : InPass) (out : List RowKind) (t : Tables) (passing : IsPassing p o
 
   pub unneeded_leaves : MayLeave s doc why
   unneeded_leaves =
-      record { document = stray.document; found = stray.found; ready = stray.ready; moves = moves; begun = inr (none_to_begin s why may) }
+      record { document = stray.document; found = stray.found; ready = stray.ready; moves = moves; begun = inr (none_to_begin s why may); may = may }
 
   alive : (stray.document.is_discarded || stray.document.is_known_dead) ≡ false
   alive = ap (λ (b : Bool). b || stray.document.is_known_dead) stray.undiscarded ∙ stray_unknown p out t leaving doc state stray

@@ -76,16 +76,23 @@ abbrev pub MovesUnder : Seen → DocId → Why → Type 0
 MovesUnder s doc why =
     (nav : NavId) (place : Place) (other : NavId) (under : Place) → place_of s nav ≡ Some place → place.status ≡ awake doc → place_of s other ≡ Some under → ((other.0 == nav.0) ≡ true) ⊎ (is_below nav under ≡ true) → IsMovedBy s why other
 
--- a request is noted for the state of a stray document, for which an order to that document may be sent
-pub record IsBlamed (s : Seen) (blame : List (StateId × ReqId)) (doc : DocId) (state : StateId) : Type 0 where
+-- a request of which this is so is noted for the state of a stray document, and whoever falls asleep with that one is moved by it
+pub record IsBlamedBy (serves : ReqId → Type 0) (s : Seen) (blame : List (StateId × ReqId)) (doc : DocId) (state : StateId) : Type 0 where
   pub req : ReqId
   pub noted : lookup (is_state state) blame ≡ Some req
-  pub may : MayServe s req
+  pub may : serves req
   pub moves : MovesUnder s doc (whys.Req req)
 
 -- one is noted for that of each
+abbrev pub AreBlamedBy : (ReqId → Type 0) → Seen → List (StateId × ReqId) → Type 0
+AreBlamedBy serves s blame = (doc : DocId) (state : StateId) → IsStray s doc state → IsBlamedBy serves s blame doc state
+
+-- one for which orders may be sent
+abbrev pub IsBlamed : Seen → List (StateId × ReqId) → DocId → StateId → Type 0
+IsBlamed s blame doc state = IsBlamedBy (MayServe s) s blame doc state
+
 abbrev pub AreBlamed : Seen → List (StateId × ReqId) → Type 0
-AreBlamed s blame = (doc : DocId) (state : StateId) → IsStray s doc state → IsBlamed s blame doc state
+AreBlamed s blame = AreBlamedBy (MayServe s) s blame
 
 -- ---- what is put out
 

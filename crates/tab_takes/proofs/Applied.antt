@@ -8,7 +8,7 @@ use Rattle.seen_facts.proofs.Doc.Lives.{IsAsBefore, change_as, change_keeps, tak
 use Rattle.seen_facts.proofs.Entry.Parts.{document_then}
 use Rattle.seen_facts.proofs.Entry.Skips.{without_made}
 use Rattle.tab_facts.specs.Frame.Lasting.{wish}
-use Rattle.tab_facts.proofs.FrameTab.Goings.{begun_of}
+use Rattle.tab_rests.proofs.PassedOn.{course_of}
 use Rattle.seen_facts.proofs.Each.Courses.{was_asked}
 use Rattle.tab_facts.proofs.FrameTab.Running.{moved_same as moved_in}
 use Rattle.row_facts.proofs.Left.Rows.{were_shown}
@@ -99,8 +99,8 @@ module _ (p : InPass) (out : List RowKind) (t : Tables) (blame : List (StateId �
   wishes : SameReads wish now_.requests n.requests
   wishes = applied_reads wish now_ e.event e.actor made.req change (λ x. refl) (λ x. refl) (λ x. refl)
 
-  begun : SameReads begun_of now_.requests n.requests
-  begun = applied_reads begun_of now_ e.event e.actor made.req change (λ x. refl) (λ x. refl) (λ x. refl)
+  begun : SameReads course_of now_.requests n.requests
+  begun = applied_reads course_of now_ e.event e.actor made.req change (λ x. refl) (λ x. refl) (λ x. refl)
 
   abbrev over : List Asked
   over = on_request made.req (λ (x : Asked). record x { ending = Some endings.Applied }) now_.requests

@@ -2,7 +2,7 @@
 use Rattle.seen_facts.proofs.Coord.Unread.{next}
 use Rattle.seen_facts.proofs.Entry.Skips.{without_made}
 use Rattle.tab_facts.specs.Frame.Lasting.{wish}
-use Rattle.tab_facts.proofs.FrameTab.Goings.{begun_of}
+use Rattle.tab_rests.proofs.PassedOn.{course_of}
 use Rattle.tab_facts.proofs.Last.Rows.{refused_lasting}
 use Rattle.log_model.proofs.Refl.{nat_eq_refl}
 use Rattle.log_model.specs.Causes.{denial_at_delivery}
@@ -108,7 +108,7 @@ module _ (p : InPass) (out : List RowKind) (t : Tables) (blame : List (StateId �
           passing = passing_n;
           open_ = subst (λ (x : Seen). IsTaking e u.running blame x) (sym now_is) (subst (λ (x : Tables). IsTaking e x.running blame n) (sym same) (taking_then p out t blame made at n (endings.Refused reason) refl refl refl refl refl refl refl (λ why nav by. refused_moved now_ e.event e.actor why nav by made.req reason) tab_n));
           loose = loose_n;
-          cause = subst (λ (x : Seen). MayCause x (whys.Req made.req)) (sym now_is) (cause_then p out t blame made at n tab_n (on_read wish now_.requests made.req (λ (x : Asked). record x { ending = Some (endings.Refused reason) }) (λ x. refl)) (on_read begun_of now_.requests made.req (λ (x : Asked). record x { ending = Some (endings.Refused reason) }) (λ x. refl)));
+          cause = subst (λ (x : Seen). MayCause x (whys.Req made.req)) (sym now_is) (cause_then p out t blame made at n tab_n (on_read wish now_.requests made.req (λ (x : Asked). record x { ending = Some (endings.Refused reason) }) (λ x. refl)) (on_read course_of now_.requests made.req (λ (x : Asked). record x { ending = Some (endings.Refused reason) }) (λ x. refl)));
           ended = record { kind = rows.Refused made.req reason; out = out_is; ends = refl; no_turn = refl; no_reload = refl; up = λ up. nat_eq_refl made.req.0 };
           queue = subst (λ (x : Seen). LeavesQueue now_ x) (sym now_is) (queue_then p out t blame made at n (endings.Refused reason) refl refl refl refl refl refl refl (λ why nav by. refused_moved now_ e.event e.actor why nav by made.req reason) tab_n);
           kept = subst (λ (x : Tables). KeepsRun t x) (sym same) (record { running = refl; goal = refl; keep = refl });

@@ -21,7 +21,7 @@ use Rattle.log_model.specs.declared.job.Why.{Why}
 use Rattle.log_model.specs.declared.made.Made.{Made}
 use Rattle.log_model.specs.declared.outcome.Cause.{Cause}
 use Rattle.log_model.specs.declared.row_kind.RowKind.{RowKind}
-use Rattle.tab_facts.proofs.FrameTab.Goings.{begun_of}
+use Rattle.tab_rests.proofs.PassedOn.{course_of}
 use Rattle.seen_facts.specs.Mover.Movers.{IsMovedBy, moves_away, was_moved}
 use Rattle.seen_facts.proofs.Request.Readers.{on_read}
 use Rattle.tab_rests.specs.PassedOn.{InPass, IsGoing, IsPassing, IsTab, LeavesQueue, MayCause}
@@ -143,7 +143,7 @@ module _ (p : InPass) (out : List RowKind) (t : Tables) (blame : List (StateId �
           passing = passing_n;
           open_ = subst (λ (x : Seen). IsTaking e u.running blame x) (sym now_is) (subst (λ (x : Tables). IsTaking e x.running blame n) (sym same) (taking_then p out t blame made at n (endings.Dropped cause) refl refl refl refl refl refl refl (λ why nav by. dropped_moved now_ e.event e.actor why nav by made.req cause) tab_n));
           loose = loose_n;
-          cause = subst (λ (x : Seen). MayCause x (whys.Req made.req)) (sym now_is) (cause_then p out t blame made at n tab_n (on_read wish now_.requests made.req (λ (x : Asked). record x { ending = Some (endings.Dropped cause) }) (λ x. refl)) (on_read begun_of now_.requests made.req (λ (x : Asked). record x { ending = Some (endings.Dropped cause) }) (λ x. refl)));
+          cause = subst (λ (x : Seen). MayCause x (whys.Req made.req)) (sym now_is) (cause_then p out t blame made at n tab_n (on_read wish now_.requests made.req (λ (x : Asked). record x { ending = Some (endings.Dropped cause) }) (λ x. refl)) (on_read course_of now_.requests made.req (λ (x : Asked). record x { ending = Some (endings.Dropped cause) }) (λ x. refl)));
           ended = record { kind = rows.Dropped made.req cause; out = out_is; ends = refl; no_turn = refl; no_reload = refl; up = λ due. absurd (off due) };
           queue = subst (λ (x : Seen). LeavesQueue now_ x) (sym now_is) (queue_then p out t blame made at n (endings.Dropped cause) refl refl refl refl refl refl refl (λ why nav by. dropped_moved now_ e.event e.actor why nav by made.req cause) tab_n);
           kept = subst (λ (x : Tables). KeepsRun t x) (sym same) (record { running = refl; goal = refl; keep = refl });

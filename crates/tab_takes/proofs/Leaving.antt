@@ -3,7 +3,7 @@ use Rattle.tab_facts.specs.Calm.Calm.{AreRooted, CalmUnless, IsCalmYet, IsHere, 
 use Rattle.seen_facts.proofs.Coord.Held.{on_else}
 use Rattle.seen_facts.proofs.Entry.Skips.{without_made}
 use Rattle.tab_facts.specs.Frame.Lasting.{wish}
-use Rattle.tab_facts.proofs.FrameTab.Goings.{begun_of}
+use Rattle.tab_rests.proofs.PassedOn.{course_of}
 use Rattle.seen_facts.specs.Hang.Members.{Has}
 use Rattle.seen_facts.specs.Home.Homes.{document_in}
 use Rattle.row_facts.specs.Left.Left.{LastWereShown, OwnersFollow, WasEverShown, WereShown}
@@ -13,7 +13,7 @@ use Rattle.log_model.specs.AfterRequests.{without_req}
 use Rattle.log_model.specs.History.{History, has_row, has_state}
 use Rattle.log_model.specs.Orders.{is_usable}
 use Rattle.tab_facts.proofs.FrameTab.Running.{moved_same as moved_in}
-use Rattle.log_model.specs.Places.{aim_of, aim_with, is_awake, is_given_target, is_gone, is_moved, is_shown, is_traversal, is_under_way}
+use Rattle.log_model.specs.Places.{aim_of, aim_with, is_awake, is_given_target, is_gone, is_moved, is_shown, is_under_way}
 use Rattle.log_model.specs.declared.row.Row.{Row}
 use Rattle.log_model.specs.Seen.{Asked, Document, Place, Seen, place_in, place_of, request_of}
 use Rattle.log_model.specs.declared.job.Why.{Why}
@@ -39,6 +39,8 @@ use Rattle.tab_ids.specs.declared.ReqId.{ReqId}
 use Rattle.tab_ids.specs.declared.StateId.{StateId}
 use Rattle.tab_takes.proofs.Ended.{load_back, look_back, ready_back, unloaded_back}
 use Rattle.tab_takes.proofs.Opens.{new_of, open_then}
+use Rattle.tab_rests.proofs.PassedOn.{HasSetOut}
+use Rattle.tab_takes.proofs.Sorts.{set_out}
 use Rattle.tab_takes.proofs.Verdicts.{s, tab}
 use Rattle.tab_takes.proofs.Where.{joined_same}
 use Rattle.tab_takes.specs.Taking.{IsTaking, IsToTake}
@@ -88,14 +90,13 @@ module _ (p : InPass) (out : List RowKind) (t : Tables) (blame : List (StateId �
   serves =
       record {
         goes = goes_on now_ t.running whole.asked made.req q own_at;
-        begun = λ x there traverses.
+        begun = λ x there.
             let two : Some q ≡ Some x = sym own_at ∙ there in
             let one : q ≡ x = cc in
-            let never : true ≡ false = sym traverses ∙ ap (λ (y : Asked). is_traversal y.what) (sym one) ∙ at.taking.rests in
-            absurd cc;
+            subst (λ (y : Asked). HasSetOut y) one (set_out p out t blame made at);
       }
 
-  module _ (n : Seen) (tab_n : IsTab t.running p.loads rest n) (wishes : SameReads wish now_.requests n.requests) (begun : SameReads begun_of now_.requests n.requests) where
+  module _ (n : Seen) (tab_n : IsTab t.running p.loads rest n) (wishes : SameReads wish now_.requests n.requests) (begun : SameReads course_of now_.requests n.requests) where
     pub causes_then : (why : Why) → MayCause now_ why → MayCause n why
     causes_then = causes_on now_ n t.running tab_n.asked wishes (begun_as_it_was now_.requests n.requests begun)
 
@@ -115,8 +116,8 @@ module _ (p : InPass) (out : List RowKind) (t : Tables) (blame : List (StateId �
     wishes : SameReads wish now_.requests n.requests
     wishes = reads wish (λ x. refl)
 
-    begun : SameReads begun_of now_.requests n.requests
-    begun = reads begun_of (λ x. refl)
+    begun : SameReads course_of now_.requests n.requests
+    begun = reads course_of (λ x. refl)
 
     whats : SameReads (λ (x : Asked). x.what) now_.requests n.requests
     whats = reads (λ (x : Asked). x.what) (λ x. refl)

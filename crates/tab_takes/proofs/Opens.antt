@@ -40,7 +40,7 @@ module _ (e : InEvent) (run : Option ReqId) (s n : Seen) (so : IsOpen e run whys
   moves (Some req) is cause nav place at need epoch =
       let it = plain.runs req is in
       let may : MayServe n req = subst (λ (o : Option ReqId). MayCause n (show_why o whys.Start)) is (show_causes n run plain whys.Start (λ r never. absurd cc)) req refl in
-      run_moves n req it.q nav it.found it.traverses (may.begun it.q it.found it.traverses) (plain.passed req it.q it.found)
+      run_moves n req it.q nav it.found it.traverses ((may.begun it.q it.found).traverses it.traverses) (plain.passed req it.q it.found)
 
   pub open_then : (cause : Why) → MayCause n cause → IsOpen e run cause n
   open_then cause may =

@@ -9,11 +9,15 @@ use Rattle.log_model.specs.declared.made.What.{What}
 use Rattle.log_model.specs.declared.made.What.TheVariants as whats
 use Rattle.log_model.specs.declared.outcome.Denial.{Denial}
 use Rattle.log_model.specs.declared.row_kind.RowKind.{RowKind}
-use Rattle.std.proofs.Common.{List, None, Some, false, inl, inr, refl, sym, true, ◌∙◌, ◌≡◌, ◌⊎◌}
+use Rattle.std.proofs.Common.{List, None, Option, Some, false, inl, inr, refl, sym, true, ◌∙◌, ◌≡◌, ◌⊎◌}
 use Rattle.tab_doors.specs.Dues.{IsMadeFor}
 use Rattle.tab_doors.specs.declared.tables.Tables.{Tables}
+use Rattle.std.specs.Prelude.{is_some}
+use Rattle.log_model.specs.Places.{is_load}
+use Rattle.tab_ids.specs.declared.DocId.{DocId}
 use Rattle.tab_ids.specs.declared.ReqId.{ReqId}
 use Rattle.tab_ids.specs.declared.StateId.{StateId}
+use Rattle.tab_rests.proofs.PassedOn.{HasSetOut, out_off, sent_out}
 use Rattle.tab_rests.specs.PassedOn.{InPass}
 use Rattle.tab_takes.proofs.Verdicts.{s}
 use Rattle.tab_takes.specs.Taking.{IsOfFragment, IsOfPoke, IsToTake, is_new_entry}
@@ -44,6 +48,21 @@ module _ (p : InPass) (out : List RowKind) (t : Tables) (blame : List (StateId �
       by_kind : IsOfPoke q ⊎ IsOfFragment now_ q → has_to_begin q.what ≡ false
       by_kind (inl of) = rw of.what (rw of.no_step refl)
       by_kind (inr of) = rw of.what refl
+
+  -- a document was sent to a fragment for it, if it is a load
+  pub set_out : HasSetOut q
+  set_out = sent_out q at.taking.rests (λ load. by_fragment load q.fragment refl)
+    where
+      by_fragment : is_load q.what ≡ true → (o : Option DocId) → q.fragment ≡ o → is_some o ≡ true
+      by_fragment load (Some doc) is = refl
+      by_fragment load None is =
+          let none : q.made ≡ None = at.passing.going.tab.fragments.unsent made.req q at.taking.there load is in
+          let never : None ≡ Some made = sym none ∙ at.taking.makes in
+          absurd cc
+
+  -- so it isn't in its check
+  pub off : p.event.checking made.req ≡ false
+  off = out_off p.event out t at.passing.work at.passing.going.tab.asked.each made.req q at.taking.there set_out
 
   poked : IsOfPoke q → IsPoked now_ made.req q made
   poked of =

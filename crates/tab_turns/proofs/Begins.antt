@@ -5,7 +5,7 @@ use Rattle.seen_facts.specs.Each.Runs.{is_this}
 use Rattle.tab_passes.specs.PassedOn.{wish}
 use Rattle.row_facts.proofs.FrameRows.LawfulLaws.{ends_other}
 use Rattle.row_facts.specs.FrameRows.Lawful.{held_at_first}
-use Rattle.tab_facts.proofs.FrameTab.Goings.{begun_of}
+use Rattle.tab_passes.proofs.SetOuts.{course_of}
 use Rattle.history_laws.proofs.InOrder.{used_steps-ordered}
 use Rattle.tab_passes.proofs.PassedOn.{IsNoProcess, begun_going, begun_tab, joined_unheld, no_load, nowhere_tab, refused_going, refused_lasting, started_lasting}
 use Rattle.log_model.specs.AfterRequests.{on_request, request_begun}
@@ -34,6 +34,7 @@ use Rattle.std.specs.Prelude.{nat_lt, option_map}
 use Rattle.step_index.specs.contracts.step_index.StepIndexStore.TheImpl.Laws.{sound-law}
 use Rattle.step_index.specs.Held.{history_held}
 use Rattle.tab_doors.proofs.Histories.{log_steps}
+use Rattle.tab_doors.proofs.LogDues.{turn_off}
 use Rattle.tab_doors.specs.Dues.{IsBeginDue, IsNowhere}
 use Rattle.tab_doors.specs.Working.{IsAtWork, IsWorker}
 use Rattle.tab_doors.specs.declared.tables.Tables.{Tables}
@@ -132,6 +133,10 @@ module _ (p : InPass) (out : List RowKind) (t : Tables) (passing : IsPassing p o
   unstarted : its.q.is_started ≡ false
   unstarted = not_begun its.q its.goes its.open_ (tab.asked.only req its.q its.at)
 
+  -- it isn't in its check
+  off : e.checking req ≡ false
+  off = turn_off e out passing.work.same passing.work.checks.begun passing.work.unheld req its.q its.at its.open_ its.goes
+
   turn : begins_in_turn s req ≡ true
   turn = first_turn s req delta tab.asked stand first
 
@@ -166,7 +171,7 @@ module _ (p : InPass) (out : List RowKind) (t : Tables) (passing : IsPassing p o
       n = next s e.event e.actor (rows.Started req (Some goal))
 
       now : now_of e more ≡ n
-      now = ap (λ (l : List RowKind). now_of e l) out_is ∙ now_more e out (rows.Started req (Some goal)) (ap not (passing.work.unchecked req))
+      now = ap (λ (l : List RowKind). now_of e l) out_is ∙ now_more e out (rows.Started req (Some goal)) (ap not (off))
 
       abbrev begin : Asked → Asked
       begin q = record q { is_started = true; goal = Some goal }
@@ -195,7 +200,7 @@ module _ (p : InPass) (out : List RowKind) (t : Tables) (passing : IsPassing p o
       loose_then : IsLoose e more
       loose_then =
           subst (λ (l : List RowKind). IsLoose e l) (sym out_is)
-          (loose_more e out (rows.Started req (Some goal)) (ap not (passing.work.unchecked req)) loose (begun_lasts s e.event e.actor req (Some goal) its.q its.at (no_load its.q.what its.goes)) (λ end on. owes_none e out req goal its.q its.at its.goes end))
+          (loose_more e out (rows.Started req (Some goal)) (ap not (off)) loose (begun_lasts s e.event e.actor req (Some goal) its.q its.at (no_load its.q.what its.goes)) (λ end on. owes_none e out req goal its.q its.at its.goes end))
 
       pub begin_passing : s.parked ≡ [] → IsPassing p more u
       begin_passing none =
@@ -282,7 +287,7 @@ module _ (p : InPass) (out : List RowKind) (t : Tables) (passing : IsPassing p o
             kept = refl;
             parked = without_same s.parked req unheld.parked;
             wishes = on_read wish s.requests req (λ (q : Asked). record q { ending = Some (endings.Refused denials.NoStep) }) (λ q. refl);
-            begun = begun_as_it_was s.requests gone.requests (on_read begun_of s.requests req (λ (q : Asked). record q { ending = Some (endings.Refused denials.NoStep) }) (λ q. refl));
+            begun = begun_as_it_was s.requests gone.requests (on_read course_of s.requests req (λ (q : Asked). record q { ending = Some (endings.Refused denials.NoStep) }) (λ q. refl));
           }
 
       loose_gone : IsLoose e more

@@ -6,7 +6,7 @@ use Rattle.seen_facts.specs.Each.Runs.{is_run}
 use Rattle.tab_passes.proofs.PassedOn.{applied_wishes, ended_tab, goes_of, joined_unheld, traversed_going, traversed_lasting}
 use Rattle.tab_passes.specs.PassedOn.{has_ended as has_ended_, wish}
 use Rattle.row_facts.specs.FrameRows.Lawful.{held_at_first}
-use Rattle.tab_facts.proofs.FrameTab.Goings.{begun_of}
+use Rattle.tab_passes.proofs.SetOuts.{course_of}
 use Rattle.tab_facts.proofs.FrameTab.Plainly.{applied_reads}
 use Rattle.tab_facts.proofs.FrameWhole.Aiming.{used_used}
 use Rattle.log_model.proofs.Refl.{nat_eq_refl}
@@ -250,7 +250,7 @@ module _ (p : InPass) (out : List RowKind) (t : Tables) (passing : IsPassing p o
             kept = refl;
             parked = without_same s.parked req only;
             wishes = applied_wishes s e.event e.actor req (changes.Traverse goal);
-            begun = begun_as_it_was s.requests n.requests (applied_reads begun_of s.requests req (changes.Traverse goal) (entries_taken s.history (changes.Traverse goal)) (λ q. refl) (λ q. refl) (λ q. refl));
+            begun = begun_as_it_was s.requests n.requests (applied_reads course_of s.requests req (changes.Traverse goal) (entries_taken s.history (changes.Traverse goal)) (λ q. refl) (λ q. refl) (λ q. refl));
           }
 
       loose_then : IsLoose e more

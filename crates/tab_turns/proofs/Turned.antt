@@ -1,10 +1,9 @@
 -- What the rows of a traversal's turn leave, and what is known of the event in which they are put out.
 use Rattle.tab_passes.specs.PassedOn.{Wish, wish}
-use Rattle.tab_facts.proofs.FrameTab.Goings.{Begun, begun_of}
 use Rattle.seen_facts.specs.Asked.Asking.{ArePlain}
 use Rattle.log_model.specs.Checks.{is_checked, may_go_on}
 use Rattle.row_facts.specs.FrameRows.Lawful.{held_at_first}
-use Rattle.log_model.specs.AfterRequests.{changes_history, on_request, request_begun, without_req}
+use Rattle.log_model.specs.AfterRequests.{changes_history, without_req}
 use Rattle.log_model.specs.Causes.{denial_at_acceptance}
 use Rattle.log_model.specs.Equal.{has_req, holds, implies}
 use Rattle.log_model.specs.Places.{has_passed, is_reload, is_traversal}
@@ -12,10 +11,11 @@ use Rattle.log_model.specs.Seen.{Asked, Seen, request_in, request_of}
 use Rattle.log_model.specs.declared.job.Why.{Why}
 use Rattle.log_model.specs.declared.row_kind.RowKind.{RowKind}
 pub use Rattle.tab_passes.proofs.Goings.{goes_on}
+pub use Rattle.tab_passes.proofs.Others.{out_off}
+pub use Rattle.tab_passes.proofs.SetOuts.{IsBegun, KeepBegun, begun_as_it_was, begun_with, course_of, kept_begun, out_alike, sent_begun, sent_out, started_out}
+pub use Rattle.tab_passes.specs.Causes.{HasSetOut}
 use Rattle.tab_passes.specs.Causes.{MayCause}
-use Rattle.seen_facts.proofs.Each.Runs.{each_asked_on}
 use Rattle.seen_facts.proofs.Each.Courses.{was_asked, is_asked}
-use Rattle.seen_facts.specs.Each.Runs.{EachAsked}
 use Rattle.seen_facts.proofs.Request.Readers.{SameReads}
 use Rattle.seen_facts.specs.Request.Cores.{Core, core, core_of}
 use Rattle.seen_facts.specs.Request.Knowns.{AllOf, AreKnown, IsParked, is_go, req_itself}
@@ -26,33 +26,7 @@ use Rattle.seen_laws.specs.InEvent.{InEvent, now_of}
 use Rattle.std.proofs.Common.{Bool, List, None, Option, Some, [], ap, cond, false, inl, inr, length, not, refl, subst, sym, true, ℕ, ◌==◌, ◌||◌, ◌∙◌, ◌∷◌, ◌≡◌, ◌⊎◌}
 use Rattle.std.specs.Prelude.{nat_lt}
 use Rattle.tab_ids.specs.declared.ReqId.{ReqId}
-use Rattle.tab_ids.specs.declared.Step.{Step}
 use Rattle.tab_turns.specs.Turning.{IsTurning, LeavesAlone}
-
--- ---- traversals that have begun
-
--- where the request is this one, and a traversal, it has begun
-abbrev pub IsBegun : ReqId → ReqId → Asked → Type 0
-IsBegun this req q = req ≡ this → is_traversal q.what ≡ true → q.is_started ≡ true
-
--- a traversal that has begun has so still
-abbrev pub KeepBegun : List Asked → List Asked → Type 0
-KeepBegun old new = (this : ReqId) → EachAsked (IsBegun this) old → EachAsked (IsBegun this) new
-
--- where what each asks, and whether it has begun, is as it was
-pub begun_as_it_was : (old new : List Asked) → SameReads begun_of old new → KeepBegun old new
-begun_as_it_was old new same this each req q at is goes =
-    let was = was_asked begun_of old new same req q at in
-    sym (ap (λ (b : Begun). b.is_started) was.2) ∙ each req was.0 was.1 is (ap (λ (b : Begun). is_traversal b.what) was.2 ∙ goes)
-
--- where one begins
-pub begun_with : (s : Seen) (req : ReqId) (goal : Option Step) → KeepBegun s.requests (on_request req (request_begun s) (on_request req (λ (q : Asked). record q { is_started = true; goal = goal }) s.requests))
-begun_with s req goal this each =
-    each_asked_on (IsBegun this) (IsBegun this) (on_request req begin s.requests) req (request_begun s) (λ r q apart begun. begun) (λ q at begun. begun)
-    (each_asked_on (IsBegun this) (IsBegun this) s.requests req begin (λ r q apart begun. begun) (λ q at begun is goes. refl) each)
-  where
-    begin : Asked → Asked
-    begin q = record q { is_started = true; goal = goal }
 
 -- ---- the causes of orders
 
@@ -60,7 +34,7 @@ pub causes_on : (s t : Seen) (run : Option ReqId) → ArePlain run t → SameRea
 causes_on s t run plain same keep why may req is =
     record {
       goes = by_found (request_of s req) refl (may req is).goes;
-      begun = λ q at. keep req (λ r p there one. (may req is).begun p (ap (λ (x : ReqId). request_in s.requests x) (sym one) ∙ there)) req q at refl;
+      begun = kept_begun s t req keep (may req is).begun;
     }
   where
     by_found : (o : Option Asked) → request_of s req ≡ o → holds (λ (q : Asked). implies (is_checked q) (has_passed s q)) o ≡ true → may_go_on t req ≡ true

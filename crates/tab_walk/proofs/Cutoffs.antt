@@ -141,6 +141,7 @@ module _ (m : InMove) (out : List RowKind) (t : Tables) (leaving : IsLeaving m.p
             ready = ready;
             moves = λ other has. absurd (let never : false ≡ true = sym (ap (λ (navs : List NavId). has_nav navs other) nobody) ∙ has in cc);
             begun = inl nobody;
+            may = cut_cause;
           }
 
   old_nr : bound.old.nr ≡ m.left

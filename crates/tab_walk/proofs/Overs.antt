@@ -1,4 +1,5 @@
 -- What holds over orders that freeze or discard documents, one after the other.
+use Rattle.tab_passes.proofs.SetOuts.{KeepBegun, kept_begun, sent_begun}
 use Rattle.tab_facts.proofs.Calm.Loads.{loads_sent}
 use Rattle.tab_facts.proofs.Calm.Sents.{DiscardsNone}
 use Rattle.tab_facts.specs.Calm.Loads.{LoadsHaveDocuments}
@@ -12,7 +13,6 @@ use Rattle.log_model.specs.AfterDocuments.{addressed, documents_sent}
 use Rattle.log_model.specs.AfterPlaces.{sleepers_with}
 use Rattle.log_model.specs.Checks.{may_go_on}
 use Rattle.log_model.specs.History.{has_nav}
-use Rattle.log_model.specs.Places.{is_traversal}
 use Rattle.log_model.specs.Seen.{Asked, Document, Place, Seen, asleep, request_of}
 use Rattle.log_model.specs.declared.job.Job.{Job}
 use Rattle.log_model.specs.declared.job.Task.{Task}
@@ -126,35 +126,28 @@ module _ (e : InEvent) (was out : List RowKind) (only : HasOnly IsQuietRow was o
   causes_over each cause may req is =
       record {
         goes = by_there (request_of (now_of e out) req) refl (request_of (now_of e was) req) refl same (may req is).goes;
-        begun = λ q there traverses. by_was q there traverses (request_of (now_of e was) req) refl (sym (ap (λ (o : Option Asked). option_map began_and o) there) ∙ same);
+        begun = kept_begun (now_of e was) (now_of e out) req kept (may req is).begun;
       }
     where
-      -- whether it has begun, and whether it is a traversal
-      began_and : Asked → Bool × Bool
-      began_and q = (q.is_started, is_traversal q.what)
+      kept : KeepBegun (now_of e was).requests (now_of e out).requests
+      kept =
+          over_only (λ (s : Seen). KeepBegun (now_of e was).requests s.requests) (λ s event job puts so this each_. sent_begun s job job.task s.requests this (so this each_)) e was out only (λ this each_. each_)
 
-      same : option_map began_and (request_of (now_of e out) req) ≡ option_map began_and (request_of (now_of e was) req)
+      -- whether it has begun
+      began : Asked → Bool
+      began q = q.is_started
+
+      same : option_map began (request_of (now_of e out) req) ≡ option_map began (request_of (now_of e was) req)
       same =
-          over_only (λ (s : Seen). option_map began_and (request_of s req) ≡ option_map began_and (request_of (now_of e was) req))
-          (λ s event job puts so. sent_reads began_and (record { moves = λ q activated moved. refl; asks = λ q asks. refl; fragments = λ q doc. refl; misses = λ q is. refl }) s job job.task s.requests req ∙ so) e was out only refl
+          over_only (λ (s : Seen). option_map began (request_of s req) ≡ option_map began (request_of (now_of e was) req))
+          (λ s event job puts so. sent_reads began (record { moves = λ q activated moved. refl; asks = λ q asks. refl; fragments = λ q doc. refl; misses = λ q is. refl }) s job job.task s.requests req ∙ so) e was out only refl
 
-      by_there : (o : Option Asked) → request_of (now_of e out) req ≡ o → (old : Option Asked) → request_of (now_of e was) req ≡ old → option_map began_and (request_of (now_of e out) req) ≡ option_map began_and (request_of (now_of e was) req) → may_go_on (now_of e was) req ≡ true → may_go_on (now_of e out) req ≡ true
+      by_there : (o : Option Asked) → request_of (now_of e out) req ≡ o → (old : Option Asked) → request_of (now_of e was) req ≡ old → option_map began (request_of (now_of e out) req) ≡ option_map began (request_of (now_of e was) req) → may_go_on (now_of e was) req ≡ true → may_go_on (now_of e out) req ≡ true
       by_there (Some q) there old is_was same_ goes = each req q there
       by_there None there None is_was same_ goes = let never : may_go_on (now_of e was) req ≡ false = rw is_was refl in absurd cc
       by_there None there (Some q) is_was same_ goes =
-          let one : option_map began_and None ≡ Some (began_and q) = sym (ap (λ (o : Option Asked). option_map began_and o) there) ∙ same_ ∙ ap (λ (o : Option Asked). option_map began_and o) is_was in
+          let one : option_map began None ≡ Some (began q) = sym (ap (λ (o : Option Asked). option_map began o) there) ∙ same_ ∙ ap (λ (o : Option Asked). option_map began o) is_was in
           absurd cc
-
-      by_was : (q : Asked) → request_of (now_of e out) req ≡ Some q → is_traversal q.what ≡ true → (o : Option Asked) → request_of (now_of e was) req ≡ o → Some (began_and q) ≡ option_map began_and (request_of (now_of e was) req) → q.is_started ≡ true
-      by_was q there traverses None at same_ =
-          let one : Some (began_and q) ≡ None = same_ ∙ ap (λ (o : Option Asked). option_map began_and o) at in
-          absurd cc
-      by_was q there traverses (Some x) at same_ =
-          let one : Some (began_and q) ≡ Some (began_and x) = same_ ∙ ap (λ (o : Option Asked). option_map began_and o) at in
-          let pair : began_and q ≡ began_and x = cc in
-          let started : q.is_started ≡ x.is_started = ap (λ (y : Bool × Bool). y.0) pair in
-          let kind : is_traversal q.what ≡ is_traversal x.what = ap (λ (y : Bool × Bool). y.1) pair in
-          started ∙ (may req is).begun x at (sym kind ∙ traverses)
 
 -- what is seen of documents stays over those that freeze
 pub sights_over : (why : Why) (docs : List DocId) (e : InEvent) (was out : List RowKind) → HasOnlyFrozen why docs was out → map sight (now_of e out).documents ≡ map sight (now_of e was).documents

@@ -79,7 +79,7 @@ module _ (e : InEvent) (run : Option ReqId) (blame : List (StateId × ReqId)) (s
   moves_then (Some req) is cause nav place there need epoch =
       let own = plain.runs req is in
       let may : MayServe n req = subst (λ (r : Option ReqId). MayCause n (show_why r whys.Start)) is (show_causes n run plain whys.Start (λ r never. absurd cc)) req refl in
-      run_moves n req own.q nav own.found own.traverses (may.begun own.q own.found own.traverses) (plain.passed req own.q own.found)
+      run_moves n req own.q nav own.found own.traverses ((may.begun own.q own.found).traverses own.traverses) (plain.passed req own.q own.found)
 
   opens : (cause : Why) → MayCause n cause → IsOpen e run cause n
   opens cause may =

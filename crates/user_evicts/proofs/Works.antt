@@ -71,7 +71,6 @@ module _ (e : InEvent) (t u : Tables) (doc : DocId) (state : StateId) (tied : Ar
       record {
         own = ap (λ (k : RowKind). leads k) its.own;
         worker = subst (λ (a : Actor). IsWorker a) (sym its.by_user) tt;
-        unchecked = its.aside.unchecked;
         begins = its.aside.begins;
         rows = refl;
         plain =

@@ -12,7 +12,7 @@ home_there-proc-requires g c =
 pub make-requires : goal.make-requires
 make-requires g c =
     let its = ready_to_make _ _ _ c.requires.0 _ _ (making_due _ _ _ c.requires.0 _ _ c.requires.1.1.1) _ c.requires.1.1.0 _ c.row_there-row.ensures (sym c.made_for.ensures ∙ c.in-None.is) _ c.in_ok-address-in-None.ensures _ _ c.make_why-why.ensures _ c.is_initial-initial.ensures _ (home_at _ _ c.args.tables.now c.args.nav _ _ c.requires.1.0 c.home_there-proc.ensures) in
-    (c.requires.0.work, (λ req is. c.requires.0.work.unchecked req, (its.due, (its.known, (its.unknown, (sym c.made_for.ensures ∙ c.in-None.is, (its.unloaded, c.requires.0.going.tab.kept)))))))
+    (c.requires.0.work, (its.other, (its.due, (its.known, (its.unknown, (sym c.made_for.ensures ∙ c.in-None.is, (its.unloaded, c.requires.0.going.tab.kept)))))))
 
 pub returns-in-Some-clause-turn : goal.returns-in-Some-clause-turn
 returns-in-Some-clause-turn g c =

@@ -13,7 +13,7 @@ row_there-row-requires g c = row_there _ _ _ _ c.requires.0 _ _ _ _ c.requires.1
 pub show-requires : goal.show-requires
 show-requires g c =
     let its = ready _ _ _ _ c.requires.0 _ _ _ _ c.requires.1 _ c.row_there-row.ensures _ c.next_epoch-epoch.ensures _ _ (c.pair_at-length.ensures ∙ ap (λ (n : ℕ). pair_in (history_held c.args.tables.now.store).rows n) c.aim.ensures) _ c.in_ok-memo.ensures _ c.in_ok-address.ensures _ c.show_why-why.ensures in
-    (c.requires.0.work, (λ req is. c.requires.0.work.unchecked req, (its.may, (its.for_run, (its.fits, (its.own_state, its.leaves))))))
+    (c.requires.0.work, (its.other, (its.may, (its.for_run, (its.fits, (its.own_state, its.leaves))))))
 
 pub returns-clause-passing : goal.returns-clause-passing
 returns-clause-passing g c =
