@@ -1,8 +1,9 @@
 -- A document makes something of the first poke of its process, or the process refuses that: the coordinator has acted, which does nothing itself.
-use Rattle.coord.proofs.Asides.{IsPlain, made_plain, off, plain_more, refused_plain}
+use Rattle.coord.proofs.Asides.{IsPlain, made_plain, off, plain_more, refused_plain, one_goes}
 use Rattle.coord.specs.Standing.{HasActed, IsOpenTo}
 use Rattle.coord.specs.declared.coordinator.Coordinator.{Coordinator}
-use Rattle.coord.proofs.Idle.{alone_acts, found_now, telling_now}
+use Rattle.coord.proofs.Idle.{alone_acts, found_now, stands_then, telling_now}
+use Rattle.coord.proofs.Slots.{own_slots, rows_slots}
 use Rattle.log_model.specs.AfterRequests.{is_running}
 use Rattle.log_model.specs.Seen.{Document, desk_of, document_of}
 use Rattle.log_model.specs.Views.{View, made_by, made_for}
@@ -16,16 +17,14 @@ use Rattle.log_model.specs.declared.row_kind.RowKind.{RowKind}
 use Rattle.seen_facts.specs.Hang.Members.{Has}
 use Rattle.seen_facts.specs.LoadEnds.Standing.{is_change_unsettled}
 use Rattle.seen_laws.specs.Acting.{IsNoEdit}
-use Rattle.seen_laws.specs.InEvent.{InEvent, log_of}
-use Rattle.std.proofs.Common.{List, None, Some, [], false, inl, inr, refl, subst, sym, true, ◌∷◌, ◌≡◌}
+use Rattle.seen_laws.specs.InEvent.{InEvent, log_of, EachGoes, IsReadOff}
+use Rattle.std.proofs.Common.{List, None, Some, [], false, inl, inr, refl, subst, true, ◌∷◌, ◌≡◌, ap, not}
 use Rattle.std.specs.Prelude.{slice_get}
 use Rattle.tab_acts.proofs.Acts as acts
 use Rattle.tab_acts.proofs.Edits as edits
 use Rattle.tab_facts.proofs.Running.Over.{running_over}
 use Rattle.tab_facts.proofs.Running.Tells.{telling_over}
 use Rattle.tab_facts.specs.Order.Orders.{IsOfCoord}
-use Rattle.tab_facts.specs.Running.Running.{AreFoundRunning}
-use Rattle.tab_facts.specs.Running.Telling.{AreTelling}
 use Rattle.tab_ids.specs.declared.ProcId.{ProcId}
 use Rattle.tab_ids.specs.declared.ReqId.{ReqId}
 use Rattle.tab_stands.specs.Standing as tab
@@ -40,21 +39,20 @@ module _ (e : InEvent) (c : Coordinator) (open_ : IsOpenTo e c) (proc : ProcId) 
     -- it makes something, but no edit
     pub made_acts : (what : What) → made_by view poke.action ≡ Some what → IsNoEdit what → e.own ≡ rows.Made proc (made_for view poke.req what) → HasActed e [] c
     made_acts what makes no_edit own =
-        alone_acts e c open_ (rows.Made proc (made_for view poke.req what)) own (made_plain e c open_ proc (made_for view poke.req what) event own) tt tt
-        (acts.made_acts e c.tables c.queue c.blame.entries open_.stands.stands open_.room proc poke first d view found has runs what makes no_edit by event own)
+        alone_acts e c open_ (rows.Made proc (made_for view poke.req what)) own (made_plain e c open_.in_ proc (made_for view poke.req what) event own) tt tt
+        (own_slots e c.slots.entries (rows.Made proc (made_for view poke.req what)) own tt open_.slots)
+        (acts.made_acts e c.tables c.queue c.blame.entries open_.in_.stands.stands open_.in_.room proc poke first d view found has runs what makes no_edit by event own)
 
     -- it edits itself, which is applied at once
     pub edit_acts : made_by view poke.action ≡ Some whats.Edit → e.own ≡ rows.Made proc (made_for view poke.req whats.Edit) → HasActed e (rows.Applied poke.req changes.Edit ∷ []) c
     edit_acts makes own =
         record {
-          stands = record {
-            stands = its.stands;
-            keep = open_.stands.keep;
-            plain = at.plain;
-            found = subst AreFoundRunning (sym at.same) (running_over e out [] (tt, tt) (found_now e c open_ (rows.Made proc made) own accepted tt));
-            telling = subst AreTelling (sym at.same) (telling_over e out [] of_coord (telling_now e c open_ (rows.Made proc made) own accepted tt));
-          };
-          header = open_.header;
+          stands =
+              stands_then e c open_.in_ out its.stands at
+              (running_over e out [] (tt, tt) goes (found_now e c open_ (rows.Made proc made) own accepted tt))
+              (telling_over e out [] goes of_coord (telling_now e c open_ (rows.Made proc made) own accepted tt))
+              (rows_slots e c.slots.entries out [] of_coord (own_slots e c.slots.entries (rows.Made proc made) own tt open_.slots));
+          header = open_.in_.header;
           passes = its.passes;
           off = λ req change has. is_off req change has;
         }
@@ -67,14 +65,22 @@ module _ (e : InEvent) (c : Coordinator) (open_ : IsOpenTo e c) (proc : ProcId) 
 
         its : tab.HasActed e (rows.Applied poke.req changes.Edit ∷ []) c.tables c.queue c.blame.entries
         its =
-            edits.edit_acts e c.tables c.queue c.blame.entries open_.stands.stands open_.room proc poke first d view found has runs makes by event own
+            edits.edit_acts e c.tables c.queue c.blame.entries open_.in_.stands.stands open_.in_.room proc poke first d view found has runs makes by event own
 
         accepted : IsPlain e []
-        accepted = made_plain e c open_ proc (made_for view poke.req whats.Edit) event own
+        accepted = made_plain e c open_.in_ proc (made_for view poke.req whats.Edit) event own
+
+        applied_read : IsReadOff e [] (rows.Applied poke.req changes.Edit)
+        applied_read =
+            applied_seen e.checking (log_of e []) e.event e.actor poke.req changes.Edit (λ q there. off e c open_.in_ q.nr)
+
+        goes : EachGoes e [] (rows.Applied poke.req changes.Edit ∷ [])
+        goes =
+            one_goes e (rows.Applied poke.req changes.Edit) (record { seen = ap not (off e c open_.in_ poke.req); read = applied_read })
 
         at : IsPlain e (rows.Applied poke.req changes.Edit ∷ [])
         at =
-            plain_more e c open_ [] (rows.Applied poke.req changes.Edit) refl (applied_seen e.checking (log_of e []) e.event e.actor poke.req changes.Edit (λ q there. off e c open_ q.nr)) accepted
+            plain_more e c open_.in_ [] (rows.Applied poke.req changes.Edit) applied_read accepted
 
         of_coord : (row : RowKind) → Has (rows.Applied poke.req changes.Edit ∷ []) row → IsOfCoord row
         of_coord row (inl is) = subst (λ (r : RowKind). IsOfCoord r) is tt
@@ -90,11 +96,13 @@ module _ (e : InEvent) (c : Coordinator) (open_ : IsOpenTo e c) (proc : ProcId) 
     -- the address is none for it
     pub no_address_acts : made_by view poke.action ≡ None → e.own ≡ rows.Refused poke.req denials.BadAddress → HasActed e [] c
     no_address_acts none own =
-        alone_acts e c open_ (rows.Refused poke.req denials.BadAddress) own (refused_plain e c open_ poke.req denials.BadAddress own) tt tt
-        (acts.refused_acts e c.tables c.queue c.blame.entries open_.stands.stands open_.room proc poke first denials.BadAddress by event own (acts.no_address_passes e c.tables c.queue c.blame.entries open_.stands.stands open_.room proc poke first d view found has runs none))
+        alone_acts e c open_ (rows.Refused poke.req denials.BadAddress) own (refused_plain e c open_.in_ poke.req denials.BadAddress own) tt tt
+        (own_slots e c.slots.entries (rows.Refused poke.req denials.BadAddress) own tt open_.slots)
+        (acts.refused_acts e c.tables c.queue c.blame.entries open_.in_.stands.stands open_.in_.room proc poke first denials.BadAddress by event own (acts.no_address_passes e c.tables c.queue c.blame.entries open_.in_.stands.stands open_.in_.room proc poke first d view found has runs none))
 
   -- the poked document is gone, or doesn't run
   pub no_document_acts : is_running e.start poke.doc ≡ false → e.own ≡ rows.Refused poke.req denials.NoDocument → HasActed e [] c
   no_document_acts stopped own =
-      alone_acts e c open_ (rows.Refused poke.req denials.NoDocument) own (refused_plain e c open_ poke.req denials.NoDocument own) tt tt
-      (acts.refused_acts e c.tables c.queue c.blame.entries open_.stands.stands open_.room proc poke first denials.NoDocument by event own (acts.no_document_passes e c.tables c.queue c.blame.entries open_.stands.stands open_.room proc poke first stopped))
+      alone_acts e c open_ (rows.Refused poke.req denials.NoDocument) own (refused_plain e c open_.in_ poke.req denials.NoDocument own) tt tt
+      (own_slots e c.slots.entries (rows.Refused poke.req denials.NoDocument) own tt open_.slots)
+      (acts.refused_acts e c.tables c.queue c.blame.entries open_.in_.stands.stands open_.in_.room proc poke first denials.NoDocument by event own (acts.no_document_passes e c.tables c.queue c.blame.entries open_.in_.stands.stands open_.in_.room proc poke first stopped))

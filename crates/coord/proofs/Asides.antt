@@ -11,21 +11,20 @@ use Rattle.log_model.specs.declared.outcome.Outcome.{Outcome}
 use Rattle.log_model.specs.declared.outcome.Denial.{Denial}
 use Rattle.unasked.proofs.Works.{finished_seen, joined_seen, made_seen}
 use Rattle.unasked.proofs.Ends.{refused_seen}
-use Rattle.coord.specs.Standing.{IsOpenTo, nobody}
+use Rattle.coord.specs.Standing.{IsOpenIn, nobody}
 use Rattle.coord.specs.declared.coordinator.Coordinator.{Coordinator}
 use Rattle.log_model.specs.After.{after, desk_finished}
-use Rattle.log_model.specs.Seen.{Asked, Desk, Seen, desk_of}
+use Rattle.log_model.specs.Seen.{Desk, Seen, desk_of}
 use Rattle.log_model.specs.declared.job.Job.{Job}
 use Rattle.log_model.specs.declared.made.Report.{Report}
 use Rattle.log_model.specs.declared.request.Request.{Request}
 use Rattle.log_model.specs.declared.row_kind.RowKind.{RowKind}
 use Rattle.log_model.specs.declared.row_kind.RowKind.TheVariants as rows
-use Rattle.seen_laws.proofs.InEvents.{log_more, now_more, now_own}
-use Rattle.seen_laws.specs.InEvent.{InEvent, first_of, is_seen, log_of, now_of, row_of, seen_first}
+use Rattle.seen_laws.proofs.InEvents.{log_more, now_more, now_is, goes_more, none_goes}
+use Rattle.seen_laws.specs.InEvent.{InEvent, log_of, now_of, row_of, GoesThere, EachGoes, IsReadOff, here_of, seen_here}
 use Rattle.seen_laws.specs.Unasked.{is_question, no_answer, no_question_in_hand, quiet_desk, unasked, without_slot}
 use Rattle.std.proofs.Common.{Bool, List, None, Option, Some, [], ap, arith, cond, false, filter, length, not, refl, subst, sym, true, ℕ, ◌&&◌, ◌++◌, ◌+◌, ◌==◌, ◌∙◌, ◌∷◌, ◌≡◌, ◌≤◌}
 use Rattle.std.specs.Prelude.{filter_map, is_some, option_and_then, option_map, slice_get}
-use Rattle.tab_doors.proofs.Works.{IsReadOff}
 use Rattle.tab_ids.specs.declared.DocId.{DocId}
 use Rattle.tab_ids.specs.declared.ProcId.{ProcId}
 use Rattle.tab_ids.specs.declared.ReqId.{ReqId}
@@ -98,11 +97,16 @@ pub record IsPlain (e : InEvent) (out : List RowKind) : Type 0 where
   pub same : log_of e out ≡ now_of e out
   pub plain : unasked nobody (log_of e out) ≡ log_of e out
 
-module _ (e : InEvent) (c : Coordinator) (open_ : IsOpenTo e c) where
+-- one row alone goes in the log without questions
+pub one_goes : (e : InEvent) (kind : RowKind) → GoesThere e [] kind → EachGoes e [] (kind ∷ [])
+one_goes e kind it = goes_more e [] [] kind (none_goes e []) it
+
+module _ (e : InEvent) (c : Coordinator) (open_ : IsOpenIn e c) where
   abbrev s : Seen
   s = e.start
 
-  start_plain : unasked e.checking s ≡ s
+  -- as the event begins
+  pub start_plain : unasked e.checking e.start ≡ e.start
   start_plain = ap (λ (checking : ReqId → Bool). unasked checking s) open_.unchecked ∙ open_.stands.plain
 
   -- the request isn't in a check
@@ -119,21 +123,21 @@ module _ (e : InEvent) (c : Coordinator) (open_ : IsOpenTo e c) where
     pub plain_own : IsPlain e []
     plain_own =
         record {
-          same = sym (now_own e ∙ read_own);
+          same = sym (now_is e [] ∙ read_own);
           plain = ap (λ (checking : ReqId → Bool). unasked checking (log_of e [])) (sym open_.unchecked) ∙ read_own;
         }
 
-    begins : seen_first e ≡ first_of e
-    begins = λ i. record (first_of e) { start = start_plain i; now = read_own i }
+    begins : seen_here e [] ≡ here_of e []
+    begins = λ i. record (here_of e []) { start = start_plain i; now = (now_is e [] ∙ read_own) i }
 
     pub aside_own : StartsUnasked e
     aside_own = record { unchecked = off; begins = begins; plain = plain_own.same }
 
   -- one more
-  pub plain_more : (out : List RowKind) (kind : RowKind) → is_seen e.checking kind ≡ true → IsReadOff e out kind → IsPlain e out → IsPlain e (out ++ kind ∷ [])
-  plain_more out kind seen read was =
+  pub plain_more : (out : List RowKind) (kind : RowKind) → IsReadOff e out kind → IsPlain e out → IsPlain e (out ++ kind ∷ [])
+  plain_more out kind read was =
       record {
-        same = log_more e out kind ∙ ap (λ (x : Seen). after x (row_of e kind)) was.same ∙ sym (now_more e out kind seen);
+        same = log_more e out kind ∙ ap (λ (x : Seen). after x (row_of e kind)) was.same ∙ sym (now_more e out kind read);
         plain =
             ap (λ (checking : ReqId → Bool). unasked checking (log_of e (out ++ kind ∷ []))) (sym open_.unchecked)
             ∙ ap (λ (x : Seen). unasked e.checking x) (log_more e out kind)
@@ -234,16 +238,20 @@ module _ (e : InEvent) (c : Coordinator) (open_ : IsOpenTo e c) where
         ∙ ap (λ (x : Outcome). after (unasked e.checking s) (row_of e (rows.Finished proc order.job.nr x))) (unslotted outcome bare))
 
     -- and its document makes something of it at once
-    pub joined_plain : (made : Made) → IsPlain e (rows.Made proc made ∷ [])
-    joined_plain made =
-        plain_more [] (rows.Made proc made) refl
-        (joined_seen e.checking (log_of e []) e.event e.actor proc made (desk_of s proc).reports order.job outcome None refl
-        (ap (λ (k : RowKind). (after s (row_of e k)).just_finished) own ∙ ap (λ (o : Option Order). option_map (λ (x : Order). x.job) o) hand)
-        (ap (λ (k : RowKind). (desk_of (after s (row_of e k)) proc).reports) own ∙ reports_then)
-        (hand_asks proc order hand))
-        finished_plain
+    pub joined_goes : (made : Made) → GoesThere e [] (rows.Made proc made)
+    joined_goes made =
+        record {
+          seen = refl;
+          read = joined_seen e.checking (log_of e []) e.event e.actor proc made (desk_of s proc).reports order.job outcome None refl
+              (ap (λ (k : RowKind). (after s (row_of e k)).just_finished) own ∙ ap (λ (o : Option Order). option_map (λ (x : Order). x.job) o) hand)
+              (ap (λ (k : RowKind). (desk_of (after s (row_of e k)) proc).reports) own ∙ reports_then)
+              (hand_asks proc order hand);
+        }
       where
         reports_then : (desk_of (after s (row_of e (rows.Finished proc order.job.nr outcome))) proc).reports ≡ (desk_of s proc).reports ++ reports.Done order.job outcome None ∷ []
         reports_then =
             ap (λ (desk : Desk). desk.reports) (desk_on_same (desk_finished outcome) s.desks proc (λ desk. refl))
             ∙ ap (λ (o : Option Order). (desk_finished outcome (record (desk_of s proc) { in_hand = o })).reports) hand
+
+    pub joined_plain : (made : Made) → IsPlain e (rows.Made proc made ∷ [])
+    joined_plain made = plain_more [] (rows.Made proc made) (joined_goes made).read finished_plain

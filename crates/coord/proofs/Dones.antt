@@ -2,7 +2,7 @@
 use Rattle.coord.proofs.Asides.{delivered_aside}
 use Rattle.coord.proofs.Causes.{for_none}
 use Rattle.coord.specs.Delivering.{InDone, IsDone}
-use Rattle.coord.specs.Standing.{IsOpenTo, IsToSettle, nobody}
+use Rattle.coord.specs.Standing.{IsOpenIn, IsToSettle, nobody}
 use Rattle.coord.specs.declared.coordinator.Coordinator.{Coordinator}
 use Rattle.seen_facts.proofs.Each.Eaches.{each_first}
 use Rattle.log_model.specs.Seen.{desk_of}
@@ -13,7 +13,8 @@ use Rattle.log_model.specs.declared.job.Task.{Task}
 use Rattle.log_model.specs.declared.job.Why.{Why}
 use Rattle.nav_tree.specs.Tree.{node_of}
 use Rattle.tab_facts.specs.Order.Orders.{TellsOf}
-use Rattle.seen_laws.specs.InEvent.{InEvent, now_of}
+use Rattle.seen_laws.specs.InEvent.{InEvent, log_of, now_of}
+use Rattle.slot_facts.specs.Slots.{AreSlots}
 use Rattle.std.proofs.Common.{None, Some, [], ap, refl, subst, ℕ, ◌∙◌, ◌≡◌}
 use Rattle.std.specs.Option.{IsSome}
 use Rattle.tab_doors.specs.Noting.{shown_tree}
@@ -35,12 +36,12 @@ use Rattle.tab_facts.specs.Running.Running.{AreFoundRunning}
 use Rattle.tab_facts.specs.Running.Telling.{AreTelling}
 
 -- the tables keep as many documents as the event's settings say
-pub keep_now : (e : InEvent) (c : Coordinator) → IsOpenTo e c → c.tables.kept.keep ≡ e.header.keep
+pub keep_now : (e : InEvent) (c : Coordinator) → IsOpenIn e c → c.tables.kept.keep ≡ e.header.keep
 keep_now e c open_ = open_.stands.keep ∙ ap (λ (h : Header). h.keep) open_.header
 
 -- where an event has begun, and what it delivers is taken up, the tab may be brought to rest
-pub to_settle : (e : InEvent) (c : Coordinator) → c.header ≡ e.header → e.checking ≡ nobody → HasBegun (pass_of e) c.tables c.queue c.blame.entries → (cause : Why) → MayCause (now_of e []) cause → IsTakenUp e [] → AreFoundRunning (now_of e []) → AreTelling (now_of e []) → IsToSettle e [] c cause
-to_settle e c header unchecked begun cause may taken found telling =
+pub to_settle : (e : InEvent) (c : Coordinator) → c.header ≡ e.header → e.checking ≡ nobody → HasBegun (pass_of e) c.tables c.queue c.blame.entries → (cause : Why) → MayCause (now_of e []) cause → IsTakenUp e [] → AreFoundRunning (now_of e []) → AreTelling (now_of e []) → AreSlots (log_of e []) c.slots.entries → IsToSettle e [] c cause
+to_settle e c header unchecked begun cause may taken found telling slots =
     record {
       header = header;
       unchecked = unchecked;
@@ -53,6 +54,7 @@ to_settle e c header unchecked begun cause may taken found telling =
       taken = taken;
       found = found;
       telling = telling;
+      slots = slots;
     }
 
 module _ (d : InDone) (c : Coordinator) (job : Job) (done : IsDone d c job) where
@@ -75,7 +77,7 @@ module _ (d : InDone) (c : Coordinator) (job : Job) (done : IsDone d c job) wher
 
   pub quiet_settles : IsQuietTask job.task → IsToSettle d.event [] c whys.Start
   quiet_settles quiet =
-      to_settle e c done.open_.header done.open_.unchecked (quiet_begun e d.proc job d.outcome done.delivery c.tables c.queue c.blame.entries done.open_.stands.stands done_aside quiet done.open_.room (keep_now e c done.open_)) whys.Start (for_none (now_of e [])) done_taken done_found done_telling
+      to_settle e c done.open_.header done.open_.unchecked (quiet_begun e d.proc job d.outcome done.delivery c.tables c.queue c.blame.entries done.open_.stands.stands done_aside quiet done.open_.room (keep_now e c done.open_)) whys.Start (for_none (now_of e [])) done_taken done_found done_telling done.slots
 
   -- its document's navigable is there
   pub shown_there : (nav : NavId) → nav_in c.tables.whose.entries job.doc ≡ Some nav → IsSome (node_of nav c.tables.tree)
@@ -84,7 +86,7 @@ module _ (d : InDone) (c : Coordinator) (job : Job) (done : IsDone d c job) wher
 
   pub shown_settles : IsShowTask job.task → (u : Tables) → u ≡ record c.tables { tree = shown_tree c.tables job.doc job.nr } → IsToSettle d.event [] (record c { tables = u }) whys.Start
   shown_settles shows u is =
-      to_settle e (record c { tables = u }) done.open_.header done.open_.unchecked (shown_begun e d.proc job d.outcome done.delivery c.tables c.queue c.blame.entries done.open_.stands.stands done_aside shows done.open_.room (keep_now e c done.open_) u is) whys.Start (for_none (now_of e [])) done_taken done_found done_telling
+      to_settle e (record c { tables = u }) done.open_.header done.open_.unchecked (shown_begun e d.proc job d.outcome done.delivery c.tables c.queue c.blame.entries done.open_.stands.stands done_aside shows done.open_.room (keep_now e c done.open_) u is) whys.Start (for_none (now_of e [])) done_taken done_found done_telling done.slots
 
   -- no order asks anybody
   pub no_ask : (slot : ℕ) (cause : LeaveCause) → job.task ≡ tasks.Ask slot cause → ⊥

@@ -1,4 +1,5 @@
 -- The tab has come to rest, and the event ends.
+use Rattle.seen_laws.proofs.InEvents.{now_is}
 use Rattle.tab_ids.specs.declared.ReqId.{ReqId}
 use Rattle.tab_facts.specs.Running.Telling.{AreTelling}
 use Rattle.tab_facts.specs.Running.Running.{AreFoundRunning}
@@ -13,7 +14,7 @@ use Rattle.log_model.specs.declared.row_kind.LogRow.{LogRow}
 use Rattle.log_model.specs.declared.row_kind.RowKind.{RowKind}
 use Rattle.tab_facts.specs.Order.Orders.{IsOfCoord}
 use Rattle.seen_laws.specs.InEvent.{InEvent, IsTakenIn, log_of, now_of, row_of}
-use Rattle.std.proofs.Common.{Bool, List, ap, inl, inr, map, refl, subst, sym, ◌∙◌, ◌≡◌, ◌⊎◌}
+use Rattle.std.proofs.Common.{Bool, List, ap, inl, inr, map, refl, subst, sym, ℕ, ◌∙◌, ◌≡◌, ◌⊎◌}
 use Rattle.std.proofs.lemmas.List.{map-append}
 use Rattle.tab_loads.specs.Loading.{pass_of}
 use Rattle.tab_stands.proofs.Ended.{acted}
@@ -22,6 +23,9 @@ use Rattle.tab_stands.proofs.Placing.{either_of}
 use Rattle.tab_stands.specs.PassedOn.{HasPut, HasSettled, LeavesOff}
 use Rattle.tab_stands.specs.Standing as tab
 use Rattle.coord.proofs.Fragments.{put_found, put_telling}
+use Rattle.coord.proofs.Slots.{put_slots}
+use Rattle.slot_facts.specs.Slots.{AreSlots}
+use Rattle.tab_ids.specs.declared.DocId.{DocId}
 
 -- what is taken up among the rows so far is so among more
 taken_in : (e : InEvent) (was out : List RowKind) → HasPut e was out → tab.IsTakenUp e was → IsTakenIn e (map (row_of e) out)
@@ -37,20 +41,24 @@ of_coord e was out put first row has =
     by_part (inl there) = first row there
     by_part (inr there) = put.each row there
 
-pub settled_acts : (e : InEvent) (was out : List RowKind) (c after : Coordinator) (cause last : Why) → IsToSettle e was c cause → after.header ≡ c.header → HasSettled (pass_of e) out after.tables after.queue after.blame.entries last → IsNoneDue (now_of e out) after.tables.running after.queue.waiting → HasPut e was out → LeavesOff e was out → HasActed e out after
-settled_acts e was out c after cause last to header at due put left =
+pub settled_acts : (e : InEvent) (was out : List RowKind) (c after : Coordinator) (cause last : Why) → IsToSettle e was c cause → after.header ≡ c.header → after.slots.entries ≡ c.slots.entries → HasSettled (pass_of e) out after.tables after.queue after.blame.entries last → IsNoneDue (now_of e out) after.tables.running after.queue.waiting → HasPut e was out → LeavesOff e was out → HasActed e out after
+settled_acts e was out c after cause last to header slots at due put left =
     record {
       stands = record {
-        stands = all.stands;
-        keep = at.header ∙ ap (λ (h : Header). h.keep) (sym (header ∙ to.header));
-        plain =
-            ap (λ (checking : ReqId → Bool). unasked checking (log_of e out)) (sym to.unchecked)
-            ∙ sym at.passing.work.same
-            ∙ sym at.passing.work.plain;
-        found =
-            subst AreFoundRunning (sym at.passing.work.plain)
-            (put_found e was out put at.passing.going.tab.whose.numbered to.ready.passing.going.tab.desks to.found);
-        telling = subst AreTelling (sym at.passing.work.plain) (put_telling e was out put to.telling);
+        but = record {
+          stands = all.stands;
+          keep = at.header ∙ ap (λ (h : Header). h.keep) (sym (header ∙ to.header));
+          plain =
+              ap (λ (checking : ReqId → Bool). unasked checking (log_of e out)) (sym to.unchecked)
+              ∙ sym (now_is e out)
+              ∙ sym at.passing.work.plain;
+          found =
+              subst AreFoundRunning (sym at.passing.work.plain)
+              (put_found e was out at.passing.work.goes put at.passing.going.tab.whose.numbered to.ready.passing.going.tab.desks to.found);
+          telling = subst AreTelling (sym at.passing.work.plain) (put_telling e was out at.passing.work.goes put to.telling);
+        };
+        slots =
+            subst (λ (l : List (DocId × ℕ)). AreSlots (log_of e out) l) (sym slots) (put_slots e c.slots.entries was out put to.slots);
       };
       header = header ∙ to.header;
       passes = all.passes;
@@ -59,4 +67,4 @@ settled_acts e was out c after cause last to header at due put left =
   where
     all : tab.HasActed e out after.tables after.queue after.blame.entries
     all =
-        acted (pass_of e) out after.tables after.queue after.blame.entries last refl at (put_makes e after.tables.running was out at.passing.going.tab.asked put to.makes) (put_sound e was out put to.sound) (of_coord e was out put to.coord) to.shows due (taken_in e was out put to.taken)
+        acted (pass_of e) out after.tables after.queue after.blame.entries last refl at (put_makes e after.tables.running was out at.passing.work.goes at.passing.going.tab.asked put to.makes) (put_sound e was out at.passing.work.goes put to.sound) (of_coord e was out put to.coord) to.shows due (taken_in e was out put to.taken)

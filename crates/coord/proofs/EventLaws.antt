@@ -48,13 +48,13 @@ passes_one test header one h same (row ∷ rows) (first, rest) =
 
 pub stands_settled : (s : Seen) (c : Coordinator) → StandsFor s c → is_settled_if_quiet s ≡ true
 stands_settled s c its =
-    between_settled c.tables.kept.keep c.tables.running s its.stands.between
+    between_settled c.tables.kept.keep c.tables.running s its.but.stands.between
 
 pub stands_told : (s : Seen) (c : Coordinator) → StandsFor s c → ends_told s ≡ true
-stands_told s c its = its.stands.between.told
+stands_told s c its = its.but.stands.between.told
 
 pub stands_stepped : (s : Seen) (c : Coordinator) → StandsFor s c → ends_stepped s ≡ true
-stands_stepped s c its = its.stands.between.stepped refl
+stands_stepped s c its = its.but.stands.between.stepped refl
 
 -- ---- the event's rows
 
@@ -105,12 +105,12 @@ module _ (e : InEvent) (log : List LogRow) (old : Coordinator) (keeps : Keeps e.
 
   few : keeps_few e.header (log_of e out) ≡ true
   few =
-      let low : length (log_of e out).kept ≤ e.header.keep = subst (λ (k : ℕ). length (log_of e out).kept ≤ k) (acted.stands.keep ∙ ap (λ (h : Header). h.keep) acted.header) acted.stands.stands.between.few in grind (arith, nat_tests, low)
+      let low : length (log_of e out).kept ≤ e.header.keep = subst (λ (k : ℕ). length (log_of e out).kept ≤ k) (acted.stands.but.keep ∙ ap (λ (h : Header). h.keep) acted.header) acted.stands.but.stands.between.few in grind (arith, nat_tests, low)
 
   -- loads end in time still, as each navigable that its rows reload, or give a load's new document, doesn't stand as it ends
   pub event_in_time : LoadsEndInTime (log ++ row_of e e.own ∷ rows_)
   event_in_time =
-      loads_end_more log (row_of e e.own) rows_ keeps.some number keeps.loads_end (subst LoadsStand (sym comes) acted.stands.stands.between.stands)
+      loads_end_more log (row_of e e.own) rows_ keeps.some number keeps.loads_end (subst LoadsStand (sym comes) acted.stands.but.stands.between.stands)
       (subst (λ (s : Seen). AreUnsettled s (row_of e e.own ∷ rows_)) (sym comes) (event_unsettled e out acted.passes acted.off))
 
   pub event_keeps : Keeps e.header (log ++ row_of e e.own ∷ rows_) new

@@ -2,6 +2,7 @@
 use Rattle.tab_stands.specs.Standing.{StartsUnasked}
 use Rattle.coord.proofs.Asides.{evicted_aside}
 use Rattle.coord.proofs.Fines.{IsFine, fine_discard, fine_moves, makes_over, sound_over}
+use Rattle.coord.proofs.Slots.{own_slots, rows_slots}
 use Rattle.coord.specs.Evicting.{longest_in}
 use Rattle.coord.specs.Standing.{IsOpenTo, IsToSettle, StandsFor}
 use Rattle.coord.specs.declared.coordinator.Coordinator.{Coordinator}
@@ -13,10 +14,12 @@ use Rattle.move_queue.specs.Queue.{Queue}
 use Rattle.page_cache.specs.Kept.{oldest_of}
 use Rattle.seen_laws.specs.InEvent.{InEvent, log_of, now_of, row_of}
 use Rattle.seen_laws.specs.Sending.{leads}
-use Rattle.std.proofs.Common.{List, [], ap, map, subst, sym, true, ◌++◌, ◌∙◌, ◌≡◌}
+use Rattle.slot_facts.specs.Slots.{AreSlots}
+use Rattle.std.proofs.Common.{List, [], ap, map, subst, sym, true, ℕ, ◌++◌, ◌∙◌, ◌≡◌}
 use Rattle.std.specs.Prelude.{slice_get}
 use Rattle.tab_doors.specs.declared.tables.Tables.{Tables}
 use Rattle.tab_evicts.specs.Evicting.{IsDiscardFor}
+use Rattle.tab_ids.specs.declared.DocId.{DocId}
 use Rattle.tab_ids.specs.declared.ProcId.{ProcId}
 use Rattle.tab_ids.specs.declared.ReqId.{ReqId}
 use Rattle.tab_ids.specs.declared.StateId.{StateId}
@@ -43,14 +46,14 @@ use Rattle.tab_facts.specs.Running.Telling.{AreTelling}
 
 -- what is kept longest by the tables is so in the log
 pub longest_is : (s : Seen) (c : Coordinator) → StandsFor s c → oldest_of c.tables.kept.states ≡ longest_in s
-longest_is s c its = ap oldest_of its.stands.tied.kept
+longest_is s c its = ap oldest_of its.but.stands.tied.kept
 
 module _ (e : InEvent) (state : StateId) (c : Coordinator) (open_ : IsOpenTo e c) (asks : IsEvictAsk e state) where
   abbrev stands : tab.StandsFor e.start c.tables c.queue c.blame.entries
-  stands = open_.stands.stands
+  stands = open_.in_.stands.stands
 
   pub aside : StartsUnasked e
-  aside = evicted_aside e c open_ state asks.own
+  aside = evicted_aside e c open_.in_ state asks.own
 
   leads_own : leads e.own ≡ true
   leads_own = ap (λ (k : RowKind). leads k) asks.own
@@ -72,11 +75,11 @@ module _ (e : InEvent) (state : StateId) (c : Coordinator) (open_ : IsOpenTo e c
 
     makes : MakesServe (now_of e out)
     makes =
-        makes_over e u.running out whys.Evict ready.passing.going.tab.asked ready.open_.may fine (makes_first e aside leads_own comes.serves stands.lasts.makes)
+        makes_over e u.running out ready.passing.work.goes whys.Evict ready.passing.going.tab.asked ready.open_.may fine (makes_first e aside leads_own comes.serves stands.lasts.makes)
 
     sound : OrdersAreSound (now_of e out)
     sound =
-        sound_over e u.running out whys.Evict ready.passing.going.tab.asked ready.open_.may fine (sound_first e aside leads_own (keeps_coming c.blame.entries e.start (now_of e []) comes) stands.lasts.sound)
+        sound_over e u.running out ready.passing.work.goes whys.Evict ready.passing.going.tab.asked ready.open_.may fine (sound_first e aside leads_own (keeps_coming c.blame.entries e.start (now_of e []) comes) stands.lasts.sound)
 
     shows : AreShownUnder (log_of e [])
     shows = own_under e leads_own alive stands.lasts.shows
@@ -97,16 +100,16 @@ module _ (e : InEvent) (state : StateId) (c : Coordinator) (open_ : IsOpenTo e c
 
     found : AreFoundRunning (now_of e out)
     found =
-        plain_found e out [] (λ row has. (fine row has).coord) sends_none ready.passing.going.tab.whose.numbered desks (own_found e leads_own aside alive open_.stands.found)
+        plain_found e out [] ready.passing.work.goes (λ row has. (fine row has).coord) sends_none ready.passing.going.tab.whose.numbered desks (own_found e leads_own aside alive open_.in_.stands.found)
 
     telling : AreTelling (now_of e out)
-    telling = telling_over e out [] (λ row has. (fine row has).coord) (own_telling e leads_own aside open_.stands.telling)
+    telling = telling_over e out [] ready.passing.work.goes (λ row has. (fine row has).coord) (own_telling e leads_own aside open_.in_.stands.telling)
 
-    pub evicted_settles : (after : Coordinator) → after.header ≡ c.header → after.tables ≡ u → after.queue ≡ c.queue → after.blame.entries ≡ c.blame.entries → IsToSettle e out after whys.Evict
-    evicted_settles after header tables queue noted =
+    pub evicted_settles : (after : Coordinator) → after.header ≡ c.header → after.tables ≡ u → after.queue ≡ c.queue → after.blame.entries ≡ c.blame.entries → after.slots.entries ≡ c.slots.entries → IsToSettle e out after whys.Evict
+    evicted_settles after header tables queue noted slots =
         record {
-          header = header ∙ open_.header;
-          unchecked = open_.unchecked;
+          header = header ∙ open_.in_.header;
+          unchecked = open_.in_.unchecked;
           ready =
               subst (λ (l : List (StateId × ReqId)). IsReady (pass_of e) out after.tables after.queue l whys.Evict) (sym noted)
               (subst (λ (q : Queue). IsReady (pass_of e) out after.tables q c.blame.entries whys.Evict) (sym queue)
@@ -119,4 +122,7 @@ module _ (e : InEvent) (state : StateId) (c : Coordinator) (open_ : IsOpenTo e c
           taken = λ later. evicted_takes e state asks (map (row_of e) out ++ later);
           found = found;
           telling = telling;
+          slots =
+              subst (λ (l : List (DocId × ℕ)). AreSlots (log_of e out) l) (sym slots)
+              (rows_slots e c.slots.entries out [] (λ row has. (fine row has).coord) (own_slots e c.slots.entries (rows.Evicted state) asks.own tt open_.slots));
         }

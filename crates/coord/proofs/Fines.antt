@@ -10,7 +10,7 @@ use Rattle.log_model.specs.declared.request.Mode.{Mode}
 use Rattle.log_model.specs.declared.row_kind.RowKind.{RowKind}
 use Rattle.tab_facts.proofs.Order.Rows.{coord_within, orders_on, orders_over}
 use Rattle.tab_facts.specs.Order.Orders.{IsOfCoord}
-use Rattle.seen_laws.specs.InEvent.{InEvent, now_of}
+use Rattle.seen_laws.specs.InEvent.{InEvent, now_of, EachGoes}
 use Rattle.std.proofs.Common.{List, Option, [], ap, false, inl, inr, refl, subst, sym, ℕ, ◌∙◌, ◌∷◌, ◌≡◌}
 use Rattle.tab_ids.specs.declared.NavId.{NavId}
 use Rattle.tab_ids.specs.declared.ReqId.{ReqId}
@@ -81,14 +81,14 @@ pub fine_moves : (n s : Seen) (why : Why) (out : List RowKind) → ((row : RowKi
 fine_moves n s why out fine req change has = absurd (fine (rows.Applied req change) has).plain
 
 -- what goes on over such rows
-module _ (e : InEvent) (run : Option ReqId) (out : List RowKind) (why : Why) (plain : ArePlain run (now_of e out)) (may : MayCause (now_of e out) why) (fine : (row : RowKind) → Has out row → IsFine (now_of e out) why row) where
+module _ (e : InEvent) (run : Option ReqId) (out : List RowKind) (goes : EachGoes e [] out) (why : Why) (plain : ArePlain run (now_of e out)) (may : MayCause (now_of e out) why) (fine : (row : RowKind) → Has out row → IsFine (now_of e out) why row) where
   abbrev serves : Job → Type 0
   serves job = IsMake job.task → MayCause (now_of e out) job.why
 
   pub makes_over : MakesServe (now_of e []) → MakesServe (now_of e out)
   makes_over makes =
-      orders_over serves e out [] (λ row has. coord_within row (fine row has).coord) (λ job has make. subst (λ (w : Why). MayCause (now_of e out) w) (sym ((fine (rows.Sent job) has).makes job refl make)) may)
-      (orders_on (λ (job : Job). IsMake job.task → MayCause (now_of e []) job.why) serves (now_of e []) (λ job its made. cause_more e run [] out (λ row has. (fine row has).coord) plain job.why (its made)) makes)
+      orders_over serves e out [] goes (λ row has. coord_within row (fine row has).coord) (λ job has make. subst (λ (w : Why). MayCause (now_of e out) w) (sym ((fine (rows.Sent job) has).makes job refl make)) may)
+      (orders_on (λ (job : Job). IsMake job.task → MayCause (now_of e []) job.why) serves (now_of e []) (λ job its made. cause_more e run [] out goes (λ row has. (fine row has).coord) plain job.why (its made)) makes)
 
   pub sound_over : OrdersAreSound (now_of e []) → OrdersAreSound (now_of e out)
-  sound_over sound = sound_more e out [] (λ row has. (fine row has).coord) (λ job has. (fine (rows.Sent job) has).sound job refl) sound
+  sound_over sound = sound_more e out [] goes (λ row has. (fine row has).coord) (λ job has. (fine (rows.Sent job) has).sound job refl) sound

@@ -1,8 +1,9 @@
 -- Fragment orders find their documents running, and reports of them tell of what was made: as an event's own row is logged, and over rows that a coordinator puts out.
+use Rattle.seen_laws.proofs.InEvents.{since_goes}
 use Rattle.tab_stands.specs.Standing.{StartsUnasked}
 use Rattle.coord.proofs.Asides.{accepted_aside, delivered_aside}
 use Rattle.coord.proofs.News.{is_quiet}
-use Rattle.coord.specs.Standing.{IsOpenTo}
+use Rattle.coord.specs.Standing.{IsOpenIn}
 use Rattle.coord.specs.declared.coordinator.Coordinator.{Coordinator}
 use Rattle.seen_facts.proofs.Coord.Singles.{AreApart}
 use Rattle.seen_facts.proofs.Desk.Stays.{NoDeath}
@@ -21,7 +22,7 @@ use Rattle.tab_facts.proofs.Running.Tells.{telling_after, telling_over}
 use Rattle.tab_facts.specs.Running.Fitting.{IsFittingRow}
 use Rattle.tab_facts.specs.Running.Running.{AreFoundRunning}
 use Rattle.tab_facts.specs.Running.Telling.{AreTelling, EndsNoFragment}
-use Rattle.seen_laws.specs.InEvent.{InEvent, now_of}
+use Rattle.seen_laws.specs.InEvent.{InEvent, now_of, EachGoes}
 use Rattle.seen_laws.specs.Sending.{leads}
 use Rattle.std.proofs.Common.{List, Option, [], ap, false, refl, subst, sym, true, ◌++◌, ◌∙◌, ◌≡◌}
 use Rattle.std.specs.Prelude.{slice_get}
@@ -61,7 +62,7 @@ module _ (e : InEvent) (led : leads e.own ≡ true) (aside : StartsUnasked e) wh
       subst AreTelling aside.plain (telling_after e.start e.event e.actor telling e.own (own_ends e.start e.own led))
 
 -- a request was accepted
-module _ (e : InEvent) (c : Coordinator) (open_ : IsOpenTo e c) (req : ReqId) (doc : Option DocId) (what : Request) (own : e.own ≡ rows.Accepted req doc what) where
+module _ (e : InEvent) (c : Coordinator) (open_ : IsOpenIn e c) (req : ReqId) (doc : Option DocId) (what : Request) (own : e.own ≡ rows.Accepted req doc what) where
   led_here : leads e.own ≡ true
   led_here = ap (λ (k : RowKind). leads k) own
 
@@ -73,7 +74,7 @@ module _ (e : InEvent) (c : Coordinator) (open_ : IsOpenTo e c) (req : ReqId) (d
   accepted_telling = own_telling e led_here (accepted_aside e c open_ req doc what own) open_.stands.telling
 
 -- a report was taken
-module _ (e : InEvent) (proc : ProcId) (report : Report) (delivery : IsDelivery e proc report) (c : Coordinator) (open_ : IsOpenTo e c) where
+module _ (e : InEvent) (proc : ProcId) (report : Report) (delivery : IsDelivery e proc report) (c : Coordinator) (open_ : IsOpenIn e c) where
   led_so : leads e.own ≡ true
   led_so = ap (λ (k : RowKind). leads k) delivery.own
 
@@ -95,11 +96,11 @@ module _ (e : InEvent) (proc : ProcId) (report : Report) (delivery : IsDelivery 
 
 -- ---- rows that are put out, of which none sends a document to a fragment
 
-pub plain_found : (e : InEvent) (more was : List RowKind) → ((row : RowKind) → Has more row → IsOfCoord row) → ((job : Job) → Has more (rows.Sent job) → IsFragmentTask job.task → ⊥) → AreApart (λ (d : Document). d.nr.0) (now_of e (was ++ more)).documents → AreDesksIn (now_of e was) → AreFoundRunning (now_of e was) → AreFoundRunning (now_of e (was ++ more))
-plain_found e more was coord none apart desks found =
-    quiet_over e more was desks coord (λ job has. is_quiet e more was coord apart job has (none job has)) found
+pub plain_found : (e : InEvent) (more was : List RowKind) → EachGoes e was more → ((row : RowKind) → Has more row → IsOfCoord row) → ((job : Job) → Has more (rows.Sent job) → IsFragmentTask job.task → ⊥) → AreApart (λ (d : Document). d.nr.0) (now_of e (was ++ more)).documents → AreDesksIn (now_of e was) → AreFoundRunning (now_of e was) → AreFoundRunning (now_of e (was ++ more))
+plain_found e more was goes coord none apart desks found =
+    quiet_over e more was goes desks coord (λ job has. is_quiet e more was goes coord apart job has (none job has)) found
 
-module _ (e : InEvent) (was out : List RowKind) (put : HasPut e was out) where
+module _ (e : InEvent) (was out : List RowKind) (goes : EachGoes e [] out) (put : HasPut e was out) where
   sends_none : (job : Job) → Has put.more (rows.Sent job) → IsFragmentTask job.task → ⊥
   sends_none job has = by_task job.task refl
     where
@@ -116,8 +117,8 @@ module _ (e : InEvent) (was out : List RowKind) (put : HasPut e was out) where
   pub put_found : AreApart (λ (d : Document). d.nr.0) (now_of e out).documents → AreDesksIn (now_of e was) → AreFoundRunning (now_of e was) → AreFoundRunning (now_of e out)
   put_found apart desks found =
       subst (λ (l : List RowKind). AreFoundRunning (now_of e l)) (sym put.is)
-      (plain_found e put.more was put.each sends_none (subst (λ (l : List RowKind). AreApart (λ (d : Document). d.nr.0) (now_of e l).documents) put.is apart) desks found)
+      (plain_found e put.more was (since_goes e was put.more out put.is goes) put.each sends_none (subst (λ (l : List RowKind). AreApart (λ (d : Document). d.nr.0) (now_of e l).documents) put.is apart) desks found)
 
   pub put_telling : AreTelling (now_of e was) → AreTelling (now_of e out)
   put_telling telling =
-      subst (λ (l : List RowKind). AreTelling (now_of e l)) (sym put.is) (telling_over e put.more was put.each telling)
+      subst (λ (l : List RowKind). AreTelling (now_of e l)) (sym put.is) (telling_over e put.more was (since_goes e was put.more out put.is goes) put.each telling)

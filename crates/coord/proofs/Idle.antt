@@ -1,7 +1,7 @@
 -- An event in which the coordinator itself does nothing, and which changes nothing: where its tables, its queue and its notes stand for the log after the event's rows, and fragment orders find their documents running, it has acted.
 use Rattle.coord.proofs.Asides.{IsPlain}
 use Rattle.coord.proofs.Fines.{AppliesNone}
-use Rattle.coord.specs.Standing.{HasActed, IsOpenTo}
+use Rattle.coord.specs.Standing.{HasActed, IsOpenIn, IsOpenTo, StandsFor}
 use Rattle.coord.specs.declared.coordinator.Coordinator.{Coordinator}
 use Rattle.seen_facts.specs.Hang.Members.{Has}
 use Rattle.log_model.specs.declared.change.Change.{Change}
@@ -11,7 +11,8 @@ use Rattle.tab_facts.proofs.Running.Tells.{telling_after}
 use Rattle.tab_facts.specs.Running.Fitting.{IsFittingRow}
 use Rattle.tab_facts.specs.Running.Running.{AreFoundRunning}
 use Rattle.tab_facts.specs.Running.Telling.{AreTelling, EndsNoFragment}
-use Rattle.seen_laws.specs.InEvent.{InEvent, now_of}
+use Rattle.seen_laws.specs.InEvent.{InEvent, log_of, now_of}
+use Rattle.slot_facts.specs.Slots.{AreSlots}
 use Rattle.std.proofs.Common.{List, [], inl, inr, subst, sym, ◌∷◌, ◌≡◌}
 use Rattle.tab_ids.specs.declared.ReqId.{ReqId}
 use Rattle.tab_stands.specs.Standing as tab
@@ -27,17 +28,25 @@ applies_none [] none req change has = has
 applies_none (row ∷ more) none req change (inl is) = subst AppliesNone is none.0
 applies_none (row ∷ more) none req change (inr has) = applies_none more none.1 req change has
 
-pub idle_acts : (e : InEvent) (c : Coordinator) → IsOpenTo e c → (out : List RowKind) → ApplyNone out → tab.HasActed e out c.tables c.queue c.blame.entries → IsPlain e out → AreFoundRunning (now_of e out) → AreTelling (now_of e out) → HasActed e out c
-idle_acts e c open_ out none acted at found telling =
+-- after these rows the coordinator stands for the log, where all that it keeps does
+pub stands_then : (e : InEvent) (c : Coordinator) → IsOpenIn e c → (out : List RowKind) → tab.StandsFor (log_of e out) c.tables c.queue c.blame.entries → IsPlain e out → AreFoundRunning (now_of e out) → AreTelling (now_of e out) → AreSlots (log_of e out) c.slots.entries → StandsFor (log_of e out) c
+stands_then e c open_ out stands at found telling slots =
     record {
-      stands = record {
-        stands = acted.stands;
+      but = record {
+        stands = stands;
         keep = open_.stands.keep;
         plain = at.plain;
         found = subst AreFoundRunning (sym at.same) found;
         telling = subst AreTelling (sym at.same) telling;
       };
-      header = open_.header;
+      slots = slots;
+    }
+
+pub idle_acts : (e : InEvent) (c : Coordinator) → IsOpenTo e c → (out : List RowKind) → ApplyNone out → tab.HasActed e out c.tables c.queue c.blame.entries → IsPlain e out → AreFoundRunning (now_of e out) → AreTelling (now_of e out) → AreSlots (log_of e out) c.slots.entries → HasActed e out c
+idle_acts e c open_ out none acted at found telling slots =
+    record {
+      stands = stands_then e c open_.in_ out acted.stands at found telling slots;
+      header = open_.in_.header;
       passes = acted.passes;
       off = λ req change has. absurd (applies_none out none req change has);
     }
@@ -47,12 +56,12 @@ idle_acts e c open_ out none acted at found telling =
 module _ (e : InEvent) (c : Coordinator) (open_ : IsOpenTo e c) (kind : RowKind) (own : e.own ≡ kind) (at : IsPlain e []) where
   pub found_now : IsFittingRow e.start kind → AreFoundRunning (now_of e [])
   found_now fits =
-      subst AreFoundRunning at.same (running_after e.start e.event e.actor open_.stands.found e.own (subst (IsFittingRow e.start) (sym own) fits))
+      subst AreFoundRunning at.same (running_after e.start e.event e.actor open_.in_.stands.found e.own (subst (IsFittingRow e.start) (sym own) fits))
 
   pub telling_now : EndsNoFragment e.start kind → AreTelling (now_of e [])
   telling_now ends =
-      subst AreTelling at.same (telling_after e.start e.event e.actor open_.stands.telling e.own (subst (EndsNoFragment e.start) (sym own) ends))
+      subst AreTelling at.same (telling_after e.start e.event e.actor open_.in_.stands.telling e.own (subst (EndsNoFragment e.start) (sym own) ends))
 
   -- the event has no other row
-  pub alone_acts : IsFittingRow e.start kind → EndsNoFragment e.start kind → tab.HasActed e [] c.tables c.queue c.blame.entries → HasActed e [] c
-  alone_acts fits ends acted = idle_acts e c open_ [] tt acted at (found_now fits) (telling_now ends)
+  pub alone_acts : IsFittingRow e.start kind → EndsNoFragment e.start kind → AreSlots (log_of e []) c.slots.entries → tab.HasActed e [] c.tables c.queue c.blame.entries → HasActed e [] c
+  alone_acts fits ends slots acted = idle_acts e c open_ [] tt acted at (found_now fits) (telling_now ends) slots

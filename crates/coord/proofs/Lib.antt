@@ -1,4 +1,5 @@
 pub mod Asides
+pub mod Slots
 pub mod Causes
 pub mod News
 pub mod Fragments
@@ -9,6 +10,7 @@ pub mod Goes
 pub mod Fines
 pub mod Loads
 pub mod Mades
+pub mod Heard
 pub mod Placed
 pub mod Unneeded
 pub mod Readings

@@ -1,8 +1,10 @@
 -- A load was refused, dropped, sent to a fragment or has begun: the tab may be brought to rest.
+use Rattle.unasked.proofs.Nows.{sent_now, sent_goes, dropped_goes, refused_goes}
 use Rattle.seen_laws.specs.Unasked.{is_question}
-use Rattle.coord.proofs.Asides.{accepted_aside}
+use Rattle.coord.proofs.Asides.{accepted_aside, one_goes}
 use Rattle.coord.proofs.Fines.{IsFine, fine_fragment, fine_moves, fine_populate, makes_over, more_fine, no_job, one_fine, sound_over}
 use Rattle.coord.specs.Standing.{IsAsk, IsOpenTo, IsToSettle, MoveNobody}
+use Rattle.coord.proofs.Slots.{own_slots, rows_slots}
 use Rattle.coord.specs.declared.ask.Ask.TheVariants as asks
 use Rattle.coord.specs.declared.coordinator.Coordinator.{Coordinator}
 use Rattle.seen_facts.specs.Hang.Members.{Has}
@@ -18,11 +20,12 @@ use Rattle.log_model.specs.declared.row_kind.RowKind.{RowKind}
 use Rattle.move_queue.specs.Queue.{Queue}
 use Rattle.tab_facts.proofs.Order.Stills.{still_over}
 use Rattle.tab_facts.specs.Order.Orders.{IsOfCoord}
-use Rattle.seen_laws.proofs.InEvents.{now_more}
-use Rattle.seen_laws.specs.InEvent.{InEvent, log_of, now_of, row_of}
+use Rattle.seen_laws.specs.InEvent.{InEvent, log_of, now_of, row_of, EachGoes}
 use Rattle.seen_laws.specs.Sending.{leads}
-use Rattle.std.proofs.Common.{List, None, Option, Some, [], ap, inl, inr, map, not, refl, subst, sym, ℕ, ◌++◌, ◌∙◌, ◌∷◌, ◌≡◌}
+use Rattle.std.proofs.Common.{List, None, Option, Some, [], ap, inl, inr, map, refl, subst, sym, ℕ, ◌++◌, ◌∙◌, ◌∷◌, ◌≡◌, false}
+use Rattle.slot_facts.specs.Slots.{AreSlots}
 use Rattle.tab_doors.specs.declared.tables.Tables.{Tables}
+use Rattle.tab_ids.specs.declared.DocId.{DocId}
 use Rattle.tab_ids.specs.declared.NavId.{NavId}
 use Rattle.tab_ids.specs.declared.ReqId.{ReqId}
 use Rattle.tab_ids.specs.declared.StateId.{StateId}
@@ -110,6 +113,10 @@ module _ (e : InEvent) (t : Tables) (queue : Queue) (blame : List (StateId × Re
             subst (λ (l : List RowKind). Fine Begun (l ++ rows.Started req None ∷ rows.Sent its.job ∷ [])) (sym old.2)
             (more_fine n (cause_of req Begun) (rows.Dropped old.0 (drops.By req)) (rows.Started req None ∷ rows.Sent its.job ∷ []) (no_job n (cause_of req Begun) (rows.Dropped old.0 (drops.By req)) tt tt (λ job is. cc)) own)
 
+    -- one order goes in the log without questions
+    sent_one : (job : Job) → is_question job.task ≡ false → EachGoes e [] (rows.Sent job ∷ [])
+    sent_one job none = one_goes e (rows.Sent job) (sent_goes e [] job none)
+
     -- the document that is sent to a fragment is its navigable's
     fragment_own : (sent : WasSent (now_of e []) req nav mode address out) → IsOfItsLoad (now_of e out) sent.job.doc req
     fragment_own sent =
@@ -134,8 +141,8 @@ module _ (e : InEvent) (t : Tables) (queue : Queue) (blame : List (StateId × Re
         over : KeepsWhat (now_of e []) (now_of e out)
         over =
             subst (λ (l : List RowKind). KeepsWhat (now_of e []) (now_of e l)) (sym sent.is) (record {
-              asked = λ r q at. (let still = still_over e (rows.Sent sent.job ∷ []) [] one r q at in (still.r, still.at, still.what));
-              homes = λ doc d found. (let h = sent_homes (now_of e []) sent.job sent.job.task doc d found in (h.0, ap (λ (x : Seen). document_of x doc) (now_more e [] (rows.Sent sent.job) (ap (λ (t_ : Task). not (is_question t_)) sent.task)) ∙ h.1, h.2));
+              asked = λ r q at. (let still = still_over e (rows.Sent sent.job ∷ []) [] (sent_one sent.job (ap is_question sent.task)) one r q at in (still.r, still.at, still.what));
+              homes = λ doc d found. (let h = sent_homes (now_of e []) sent.job sent.job.task doc d found in (h.0, ap (λ (x : Seen). document_of x doc) (sent_now e [] sent.job (ap is_question sent.task)) ∙ h.1, h.2));
             })
 
     -- it will run
@@ -182,7 +189,7 @@ module _ (e : InEvent) (t : Tables) (queue : Queue) (blame : List (StateId × Re
 
       pub load_makes : MakesServe (now_of e out)
       load_makes =
-          makes_over e u.running out (cause_of req loaded) tab.asked ready.open_.may (fine_came loaded came) (makes_first e its.aside (ap (λ (k : RowKind). leads k) its.own) comes.serves stands.lasts.makes)
+          makes_over e u.running out ready.passing.work.goes (cause_of req loaded) tab.asked ready.open_.may (fine_came loaded came) (makes_first e its.aside (ap (λ (k : RowKind). leads k) its.own) comes.serves stands.lasts.makes)
 
       pub load_coord : (row : RowKind) → Has out row → IsOfCoord row
       load_coord row has = (fine_came loaded came row has).coord
@@ -192,7 +199,7 @@ module _ (e : InEvent) (t : Tables) (queue : Queue) (blame : List (StateId × Re
 
       pub load_sound : OrdersAreSound (now_of e out)
       load_sound =
-          sound_over e u.running out (cause_of req loaded) tab.asked ready.open_.may (fine_came loaded came) (sound_first e its.aside (ap (λ (k : RowKind). leads k) its.own) (keeps_coming blame e.start (now_of e []) comes) stands.lasts.sound)
+          sound_over e u.running out ready.passing.work.goes (cause_of req loaded) tab.asked ready.open_.may (fine_came loaded came) (sound_first e its.aside (ap (λ (k : RowKind). leads k) its.own) (keeps_coming blame e.start (now_of e []) comes) stands.lasts.sound)
 
       -- ---- fragment orders, and reports of them
 
@@ -201,37 +208,40 @@ module _ (e : InEvent) (t : Tables) (queue : Queue) (blame : List (StateId × Re
         where
           by_loaded : (l : Loaded) → CameTo e req nav mode address out l → AreFoundRunning (now_of e out)
           by_loaded Refused its_ =
-              subst (λ (l : List RowKind). AreFoundRunning (now_of e l)) (sym its_.is) (running_over e (rows.Refused req its_.reason ∷ []) [] (tt, tt) found)
+              subst (λ (l : List RowKind). AreFoundRunning (now_of e l)) (sym its_.is) (running_over e (rows.Refused req its_.reason ∷ []) [] (tt, tt) (one_goes e (rows.Refused req its_.reason) (refused_goes e [] req its_.reason)) found)
           by_loaded CutOff its_ =
-              subst (λ (l : List RowKind). AreFoundRunning (now_of e l)) (sym its_.1.is) (running_over e (rows.Dropped req (drops.By its_.1.by) ∷ []) [] (tt, tt) found)
+              subst (λ (l : List RowKind). AreFoundRunning (now_of e l)) (sym its_.1.is) (running_over e (rows.Dropped req (drops.By its_.1.by) ∷ []) [] (tt, tt) (one_goes e (rows.Dropped req (drops.By its_.1.by)) (dropped_goes e [] req (drops.By its_.1.by))) found)
           by_loaded ToFragment its_ =
-              subst (λ (l : List RowKind). AreFoundRunning (now_of e l)) (sym its_.1.is) (running_over e (rows.Sent its_.1.job ∷ []) [] (fragment_fits its_.1, tt) found)
+              subst (λ (l : List RowKind). AreFoundRunning (now_of e l)) (sym its_.1.is) (running_over e (rows.Sent its_.1.job ∷ []) [] (fragment_fits its_.1, tt) (sent_one its_.1.job (ap is_question its_.1.task)) found)
           by_loaded Begun its_ =
-              plain_found e out [] load_coord (begun_sends its_.1) tab.whose.numbered desks_now found
+              plain_found e out [] ready.passing.work.goes load_coord (begun_sends its_.1) tab.whose.numbered desks_now found
 
       pub load_telling : AreTelling (now_of e []) → AreTelling (now_of e out)
-      load_telling telling = telling_over e out [] load_coord telling
+      load_telling telling = telling_over e out [] ready.passing.work.goes load_coord telling
 
 -- the tab may be brought to rest then
 module _ (e : InEvent) (c : Coordinator) (open_ : IsOpenTo e c) (req : ReqId) (nav : NavId) (mode : Mode) (address : List ℕ) (asked : IsAsk e req (asks.Load nav mode address)) where
   pub load_asks : IsLoadAsk e req nav mode address
   load_asks =
-      record { by_user = asked.by_user; own = asked.own; next = asked.next; aside = accepted_aside e c open_ req None (requests.Load nav mode address) asked.own }
+      record { by_user = asked.by_user; own = asked.own; next = asked.next; aside = accepted_aside e c open_.in_ req None (requests.Load nav mode address) asked.own }
 
-  pub load_settles : (loaded : Loaded) (out : List RowKind) (after : Coordinator) → after.header ≡ c.header → CameTo e req nav mode address out loaded → IsReady (pass_of e) out after.tables after.queue after.blame.entries (cause_of req loaded) → (cause : Why) → cause ≡ cause_of req loaded → IsToSettle e out after cause
-  load_settles loaded out after header came ready cause is =
+  pub load_settles : (loaded : Loaded) (out : List RowKind) (after : Coordinator) → after.header ≡ c.header → after.slots.entries ≡ c.slots.entries → CameTo e req nav mode address out loaded → IsReady (pass_of e) out after.tables after.queue after.blame.entries (cause_of req loaded) → (cause : Why) → cause ≡ cause_of req loaded → IsToSettle e out after cause
+  load_settles loaded out after header slots came ready cause is =
       record {
-        header = header ∙ open_.header;
-        unchecked = open_.unchecked;
+        header = header ∙ open_.in_.header;
+        unchecked = open_.in_.unchecked;
         ready = subst (λ (w : Why). IsReady (pass_of e) out after.tables after.queue after.blame.entries w) (sym is) ready;
-        makes = load_makes e c.tables c.queue c.blame.entries open_.stands.stands req nav mode address load_asks out after.tables after.blame.entries loaded came after.queue ready;
-        sound = load_sound e c.tables c.queue c.blame.entries open_.stands.stands req nav mode address load_asks out after.tables after.blame.entries loaded came after.queue ready;
-        coord = load_coord e c.tables c.queue c.blame.entries open_.stands.stands req nav mode address load_asks out after.tables after.blame.entries loaded came after.queue ready;
-        unmoved = load_moves e c.tables c.queue c.blame.entries open_.stands.stands req nav mode address load_asks out after.tables after.blame.entries loaded came after.queue ready;
-        shows = load_shows e c.tables c.queue c.blame.entries open_.stands.stands req nav mode address load_asks;
-        taken = load_taken e c.tables c.queue c.blame.entries open_.stands.stands req nav mode address load_asks out;
-        found = load_found e c.tables c.queue c.blame.entries open_.stands.stands req nav mode address load_asks out after.tables after.blame.entries loaded came after.queue ready (accepted_found e c open_ req None (requests.Load nav mode address) asked.own);
-        telling = load_telling e c.tables c.queue c.blame.entries open_.stands.stands req nav mode address load_asks out after.tables after.blame.entries loaded came after.queue ready (accepted_telling e c open_ req None (requests.Load nav mode address) asked.own);
+        makes = load_makes e c.tables c.queue c.blame.entries open_.in_.stands.stands req nav mode address load_asks out after.tables after.blame.entries loaded came after.queue ready;
+        sound = load_sound e c.tables c.queue c.blame.entries open_.in_.stands.stands req nav mode address load_asks out after.tables after.blame.entries loaded came after.queue ready;
+        coord = load_coord e c.tables c.queue c.blame.entries open_.in_.stands.stands req nav mode address load_asks out after.tables after.blame.entries loaded came after.queue ready;
+        unmoved = load_moves e c.tables c.queue c.blame.entries open_.in_.stands.stands req nav mode address load_asks out after.tables after.blame.entries loaded came after.queue ready;
+        shows = load_shows e c.tables c.queue c.blame.entries open_.in_.stands.stands req nav mode address load_asks;
+        taken = load_taken e c.tables c.queue c.blame.entries open_.in_.stands.stands req nav mode address load_asks out;
+        found = load_found e c.tables c.queue c.blame.entries open_.in_.stands.stands req nav mode address load_asks out after.tables after.blame.entries loaded came after.queue ready (accepted_found e c open_.in_ req None (requests.Load nav mode address) asked.own);
+        telling = load_telling e c.tables c.queue c.blame.entries open_.in_.stands.stands req nav mode address load_asks out after.tables after.blame.entries loaded came after.queue ready (accepted_telling e c open_.in_ req None (requests.Load nav mode address) asked.own);
+        slots =
+            subst (λ (l : List (DocId × ℕ)). AreSlots (log_of e out) l) (sym slots)
+            (rows_slots e c.slots.entries out [] (load_coord e c.tables c.queue c.blame.entries open_.in_.stands.stands req nav mode address load_asks out after.tables after.blame.entries loaded came after.queue ready) (own_slots e c.slots.entries (rows.Accepted req None (requests.Load nav mode address)) asked.own tt open_.slots));
       }
 
 -- ---- what was put out for what a document made: one row, which ends its request

@@ -3,8 +3,9 @@ use Rattle.coord.proofs.Asides.{delivered_aside}
 use Rattle.coord.proofs.Causes.{for_none}
 use Rattle.coord.proofs.Dones.{keep_now, to_settle}
 use Rattle.coord.proofs.Loads.{ended_put}
+use Rattle.coord.proofs.Slots.{put_slots}
 use Rattle.coord.specs.Delivering.{InDelivery, IsMade}
-use Rattle.coord.specs.Standing.{IsOpenTo, IsToSettle, MoveNobody}
+use Rattle.coord.specs.Standing.{IsOpenIn, IsToSettle, MoveNobody}
 use Rattle.coord.specs.declared.coordinator.Coordinator.{Coordinator}
 use Rattle.seen_facts.proofs.Desk.Stays.{NoDeath}
 use Rattle.seen_facts.specs.Desk.Own.{IsItsOwn}
@@ -16,12 +17,14 @@ use Rattle.log_model.specs.declared.made.What.{What}
 use Rattle.log_model.specs.declared.row_kind.RowKind.{RowKind}
 use Rattle.move_queue.specs.Queue.{Queue}
 use Rattle.move_queue.specs.declared.queue_step.QueueStep.TheVariants.{Traverse}
-use Rattle.seen_laws.specs.InEvent.{InEvent, now_of}
-use Rattle.std.proofs.Common.{List, Option, Some, [], false, subst, sym, true, ℤ, ◌++◌, ◌∙◌, ◌∷◌, ◌≡◌}
+use Rattle.seen_laws.specs.InEvent.{InEvent, log_of, now_of}
+use Rattle.slot_facts.specs.Slots.{AreSlots}
+use Rattle.std.proofs.Common.{List, Option, Some, [], false, subst, sym, true, ℕ, ℤ, ◌++◌, ◌∙◌, ◌∷◌, ◌≡◌}
 use Rattle.sync_core.specs.declared.judging.Judged.{Judged}
 use Rattle.sync_core.specs.declared.judging.Judged.TheVariants as verdicts
 use Rattle.tab_doors.specs.declared.tables.Tables.{Tables}
 use Rattle.tab_ids.specs.declared.Death.{Death}
+use Rattle.tab_ids.specs.declared.DocId.{DocId}
 use Rattle.tab_ids.specs.declared.ReqId.{ReqId}
 use Rattle.tab_ids.specs.declared.StateId.{StateId}
 use Rattle.tab_loads.specs.Loading.{pass_of}
@@ -64,7 +67,7 @@ module _ (d : InDelivery) (c : Coordinator) (made : Made) (its : IsMade d c made
   pub joined_settles : (delta : ℤ) → made.what ≡ whats.Go delta → (left : Queue) → left ≡ record c.queue { waiting = c.queue.waiting ++ Traverse made.req delta ∷ [] } → IsToSettle d.event [] (record c { queue = left }) whys.Start
   joined_settles delta goes left pushed =
       to_settle e (record c { queue = left }) its.open_.header its.open_.unchecked (joined_begun e d.proc d.report made its.delivery its.tells c.tables c.queue c.blame.entries stands aside delta goes its.open_.room (keep_now e c its.open_) left pushed) whys.Start (for_none (now_of e []))
-      (went_takes e d.proc d.report made its.delivery its.tells c.tables c.queue c.blame.entries stands aside delta goes) found_now telling_now
+      (went_takes e d.proc d.report made its.delivery its.tells c.tables c.queue c.blame.entries stands aside delta goes) found_now telling_now its.slots
 
   -- ---- a change
 
@@ -82,7 +85,7 @@ module _ (d : InDelivery) (c : Coordinator) (made : Made) (its : IsMade d c made
       pub parked_settles : (left : Queue) → left ≡ record c.queue { parked = c.queue.parked ++ made ∷ [] } → IsToSettle d.event [] (record c { queue = left }) whys.Start
       parked_settles left parked =
           to_settle e (record c { queue = left }) its.open_.header its.open_.unchecked (parked_begun e d.proc d.report made its.delivery its.tells c.tables c.queue c.blame.entries stands aside (changes_no_go made.what changes) held its.open_.room (keep_now e c its.open_) left parked) whys.Start (for_none (now_of e []))
-          (held_takes e d.proc d.report made its.delivery its.tells c.tables c.queue c.blame.entries stands aside held) found_now telling_now
+          (held_takes e d.proc d.report made its.delivery its.tells c.tables c.queue c.blame.entries stands aside held) found_now telling_now its.slots
 
     -- it doesn't
     module _ (verdict : Judged) (judged : judged_in c.tables made ≡ Some verdict) (apart : verdict ≡ verdicts.Park → ⊥) where
@@ -104,23 +107,23 @@ module _ (d : InDelivery) (c : Coordinator) (made : Made) (its : IsMade d c made
 
         taken_makes : MakesServe (now_of d.event out)
         taken_makes =
-            put_makes e u.running [] out taken.passing.going.tab.asked put begun.makes
+            put_makes e u.running [] out taken.passing.work.goes taken.passing.going.tab.asked put begun.makes
 
         taken_sound : OrdersAreSound (now_of d.event out)
-        taken_sound = put_sound e [] out put begun.sound
+        taken_sound = put_sound e [] out taken.passing.work.goes put begun.sound
 
         taken_found : AreFoundRunning (now_of d.event out)
         taken_found =
-            put_found e [] out put taken.passing.going.tab.whose.numbered begun.passing.going.tab.desks found_now
+            put_found e [] out taken.passing.work.goes put taken.passing.going.tab.whose.numbered begun.passing.going.tab.desks found_now
 
         taken_telling : AreTelling (now_of d.event out)
-        taken_telling = put_telling e [] out put telling_now
+        taken_telling = put_telling e [] out taken.passing.work.goes put telling_now
 
         taken_unmoved : MoveNobody (now_of d.event out) out
-        taken_unmoved = taken_moves e out (made ∷ []) made to_take.taking taken.ended
+        taken_unmoved = taken_moves e out taken.passing.work.goes (made ∷ []) made to_take.taking taken.ended
 
-        pub taken_settles : (after : Coordinator) → after.header ≡ c.header → after.tables ≡ u → after.queue ≡ c.queue → after.blame.entries ≡ noted → IsToSettle d.event out after (whys.Req made.req)
-        taken_settles after header tables queue blame =
+        pub taken_settles : (after : Coordinator) → after.header ≡ c.header → after.tables ≡ u → after.queue ≡ c.queue → after.blame.entries ≡ noted → after.slots.entries ≡ c.slots.entries → IsToSettle d.event out after (whys.Req made.req)
+        taken_settles after header tables queue blame slots =
             record {
               header = header ∙ its.open_.header;
               unchecked = its.open_.unchecked;
@@ -137,6 +140,7 @@ module _ (d : InDelivery) (c : Coordinator) (made : Made) (its : IsMade d c made
               taken = taken_up e d.proc d.report made its.delivery its.tells c.tables c.queue c.blame.entries stands aside changes free its.open_.room (keep_now e c its.open_) out u noted taken;
               found = taken_found;
               telling = taken_telling;
+              slots = subst (λ (l : List (DocId × ℕ)). AreSlots (log_of e out) l) (sym slots) (put_slots e c.slots.entries [] out put its.slots);
             }
 
 -- no document reports an edit
@@ -144,6 +148,6 @@ pub no_edit : (d : InDelivery) (c : Coordinator) (made : Made) → IsMade d c ma
 no_edit d c made its is = subst (λ (w : What). IsItsOwn made.doc w) is (of_own d.event d.proc d.report made its.delivery its.tells c.tables c.queue c.blame.entries its.open_.stands.stands (delivered_aside d.event c its.open_ d.proc d.report its.delivery)).own.own
 
 -- no report tells of a death
-pub no_death : (d : InDelivery) (c : Coordinator) (death : Death) → IsDelivery d.event d.proc (reports.Died death) → IsOpenTo d.event c → ⊥
+pub no_death : (d : InDelivery) (c : Coordinator) (death : Death) → IsDelivery d.event d.proc (reports.Died death) → IsOpenIn d.event c → ⊥
 no_death d c death delivery open_ =
     subst (λ (o : Option Report). NoDeath o) delivery.first (told_fine d.event d.proc delivery.by_coord delivery.own c.tables c.queue c.blame.entries open_.stands.stands (delivered_aside d.event c open_ d.proc (reports.Died death) delivery) (reports.Died death) delivery.first)

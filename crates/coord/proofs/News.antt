@@ -1,6 +1,4 @@
 -- An order that makes a document is to one that wasn't there, where the documents have numbers of their own.
-use Rattle.tab_ids.specs.declared.ReqId.{ReqId}
-use Rattle.seen_laws.specs.Unasked.{is_question}
 use Rattle.seen_facts.proofs.Coord.Singles.{AreApart}
 use Rattle.seen_facts.proofs.Coord.Unread.{next}
 use Rattle.seen_facts.specs.Desk.Own.{IsFragmentTask}
@@ -16,9 +14,9 @@ use Rattle.log_model.specs.declared.row_kind.Actor.{Actor}
 use Rattle.log_model.specs.declared.row_kind.RowKind.{RowKind}
 use Rattle.tab_facts.specs.Order.Orders.{IsOfCoord}
 use Rattle.tab_facts.specs.Running.Fitting.{IsQuietOrder}
-use Rattle.seen_laws.proofs.InEvents.{now_more, now_unseen}
-use Rattle.seen_laws.specs.InEvent.{InEvent, is_seen, now_of}
-use Rattle.std.proofs.Common.{Bool, List, None, Some, [], ap, append-nil, append_assoc, cond, eqb-true, false, inl, inr, map, not, refl, subst, sym, true, ℕ, ◌++◌, ◌==◌, ◌∙◌, ◌∷◌, ◌≡◌}
+use Rattle.seen_laws.proofs.InEvents.{now_more, first_goes, rest_goes}
+use Rattle.seen_laws.specs.InEvent.{InEvent, now_of, GoesThere, EachGoes}
+use Rattle.std.proofs.Common.{Bool, List, None, Some, [], ap, append-nil, append_assoc, cond, eqb-true, false, inl, inr, map, refl, subst, sym, true, ℕ, ◌++◌, ◌==◌, ◌∙◌, ◌∷◌, ◌≡◌}
 use Rattle.std.proofs.lemmas.List.{map-append}
 use Rattle.tab_ids.specs.declared.DocId.{DocId}
 use Rattle.tab_ids.specs.declared.NavId.{NavId}
@@ -82,52 +80,18 @@ numbers_after s event actor (rows.Refused req reason) fine = sym (append-nil (nu
 numbers_after s event actor (rows.Dropped req cause) fine = sym (append-nil (numbers s.documents))
 numbers_after s event actor _ fine = absurd fine
 
--- a row that isn't seen makes none
-unseen_none : (checking : ReqId → Bool) (kind : RowKind) → is_seen checking kind ≡ false → number_made kind ≡ []
-unseen_none checking (rows.Sent job) unseen = by_task job.task refl unseen
-  where
-    by_task : (task : Task) → job.task ≡ task → not (is_question task) ≡ false → number_made (rows.Sent job) ≡ []
-    by_task (tasks.Ask slot cause) is u = rw is refl
-    by_task (tasks.Populate nav state address initial) is u = absurd (let never : true ≡ false = u in cc)
-    by_task (tasks.Activate entry epoch length index memo address) is u = absurd (let never : true ≡ false = u in cc)
-    by_task (tasks.Update length index) is u = absurd (let never : true ≡ false = u in cc)
-    by_task tasks.Freeze is u = absurd (let never : true ≡ false = u in cc)
-    by_task tasks.Discard is u = absurd (let never : true ≡ false = u in cc)
-    by_task (tasks.DoFragment req mode address) is u = absurd (let never : true ≡ false = u in cc)
-unseen_none checking (rows.Opened entry state doc proc slot address) unseen = refl
-unseen_none checking (rows.Accepted req doc what) unseen = refl
-unseen_none checking (rows.Refused req reason) unseen = refl
-unseen_none checking (rows.Started req goal) unseen = refl
-unseen_none checking (rows.Applied req change) unseen = refl
-unseen_none checking (rows.Dropped req cause) unseen = refl
-unseen_none checking (rows.Prompted req doc) unseen = refl
-unseen_none checking (rows.Answered req stay) unseen = refl
-unseen_none checking (rows.Taken proc job live dirty) unseen = refl
-unseen_none checking (rows.Finished proc job outcome) unseen = refl
-unseen_none checking (rows.Made proc made) unseen = refl
-unseen_none checking (rows.Delivered proc) unseen = refl
-unseen_none checking (rows.Evicted state) unseen = refl
-unseen_none checking (rows.Killed proc death) unseen = refl
+-- one row more
+numbers_one : (e : InEvent) (was : List RowKind) (kind : RowKind) → GoesThere e was kind → IsOfCoord kind → numbers (now_of e (was ++ kind ∷ [])).documents ≡ numbers (now_of e was).documents ++ number_made kind
+numbers_one e was kind goes fine =
+    ap (λ (x : Seen). numbers x.documents) (now_more e was kind goes.read) ∙ numbers_after (now_of e was) e.event e.actor kind fine
 
--- one row more, seen or not
-numbers_one : (e : InEvent) (was : List RowKind) (kind : RowKind) → IsOfCoord kind → numbers (now_of e (was ++ kind ∷ [])).documents ≡ numbers (now_of e was).documents ++ number_made kind
-numbers_one e was kind fine = by_seen (is_seen e.checking kind) refl
-  where
-    by_seen : (b : Bool) → is_seen e.checking kind ≡ b → numbers (now_of e (was ++ kind ∷ [])).documents ≡ numbers (now_of e was).documents ++ number_made kind
-    by_seen true is =
-        ap (λ (x : Seen). numbers x.documents) (now_more e was kind is) ∙ numbers_after (now_of e was) e.event e.actor kind fine
-    by_seen false is =
-        ap (λ (x : Seen). numbers x.documents) (now_unseen e was kind is)
-        ∙ sym (append-nil (numbers (now_of e was).documents))
-        ∙ ap (λ (l : List ℕ). numbers (now_of e was).documents ++ l) (sym (unseen_none e.checking kind is))
-
-numbers_over : (e : InEvent) (more was : List RowKind) → ((row : RowKind) → Has more row → IsOfCoord row) → numbers (now_of e (was ++ more)).documents ≡ numbers (now_of e was).documents ++ numbers_made more
-numbers_over e [] was fine =
+numbers_over : (e : InEvent) (more was : List RowKind) → EachGoes e was more → ((row : RowKind) → Has more row → IsOfCoord row) → numbers (now_of e (was ++ more)).documents ≡ numbers (now_of e was).documents ++ numbers_made more
+numbers_over e [] was goes fine =
     ap (λ (l : List RowKind). numbers (now_of e l).documents) (append-nil was) ∙ sym (append-nil (numbers (now_of e was).documents))
-numbers_over e (kind ∷ more) was fine =
+numbers_over e (kind ∷ more) was goes fine =
     sym (ap (λ (l : List RowKind). numbers (now_of e l).documents) (append_assoc was (kind ∷ []) more))
-    ∙ numbers_over e more (was ++ kind ∷ []) (λ row has. fine row (inr has))
-    ∙ ap (λ (m : List ℕ). m ++ numbers_made more) (numbers_one e was kind (fine kind (inl refl)))
+    ∙ numbers_over e more (was ++ kind ∷ []) (rest_goes e was more kind goes) (λ row has. fine row (inr has))
+    ∙ ap (λ (m : List ℕ). m ++ numbers_made more) (numbers_one e was kind (first_goes e was more kind goes) (fine kind (inl refl)))
     ∙ append_assoc (numbers (now_of e was).documents) (number_made kind) (numbers_made more)
 
 -- ---- no number comes twice
@@ -167,7 +131,7 @@ number_has (kind ∷ more) job nav state address initial task (inr has) =
 
 -- ---- so an order among rows of a coordinator that is no fragment order makes only a document that wasn't there before them
 
-module _ (e : InEvent) (more was : List RowKind) (fine : (row : RowKind) → Has more row → IsOfCoord row) (apart : AreApart (λ (d : Document). d.nr.0) (now_of e (was ++ more)).documents) where
+module _ (e : InEvent) (more was : List RowKind) (goes : EachGoes e was more) (fine : (row : RowKind) → Has more row → IsOfCoord row) (apart : AreApart (λ (d : Document). d.nr.0) (now_of e (was ++ more)).documents) where
   abbrev base : Seen
   base = now_of e was
 
@@ -178,7 +142,7 @@ module _ (e : InEvent) (more was : List RowKind) (fine : (row : RowKind) → Has
 
   is_new : (job : Job) (nav : NavId) (state : StateId) (address : List ℕ) (initial : Bool) → job.task ≡ tasks.Populate nav state address initial → Has more (rows.Sent job) → (d : Document) → document_of (now_of e was) job.doc ≡ Some d → ⊥
   is_new job nav state address initial task has d found =
-      not_twice (numbers base.documents) (numbers_made more) job.doc.0 (subst ComeOnce (numbers_over e more was fine) (come_once (now_of e (was ++ more)).documents apart)) (there job.doc d found)
+      not_twice (numbers base.documents) (numbers_made more) job.doc.0 (subst ComeOnce (numbers_over e more was goes fine) (come_once (now_of e (was ++ more)).documents apart)) (there job.doc d found)
       (number_has more job nav state address initial task has)
 
   pub is_quiet : (job : Job) → Has more (rows.Sent job) → (IsFragmentTask job.task → ⊥) → IsQuietOrder (now_of e was) job job.task

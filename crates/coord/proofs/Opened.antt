@@ -5,8 +5,11 @@ use Rattle.coord.specs.Standing.{StandsFor, nobody}
 use Rattle.coord.specs.declared.coordinator.Coordinator.{Coordinator}
 use Rattle.log_model.specs.declared.header.Header.{Header}
 use Rattle.page_cache.specs.Kept.{Kept}
-use Rattle.std.proofs.Common.{List, None, [], ap, subst, sym, ◌∙◌, ◌≡◌}
+use Rattle.slot_facts.proofs.Opened.{opened_slots}
+use Rattle.slot_facts.specs.Slots.{AreSlots}
+use Rattle.std.proofs.Common.{List, None, [], ap, subst, sym, ℕ, ◌∙◌, ◌≡◌}
 use Rattle.tab_doors.specs.Noting.{IsFresh}
+use Rattle.tab_ids.specs.declared.DocId.{DocId}
 use Rattle.tab_ids.specs.declared.ProcId.{ProcId}
 use Rattle.tab_ids.specs.declared.ReqId.{ReqId}
 use Rattle.tab_ids.specs.declared.StateId.{StateId}
@@ -17,14 +20,19 @@ use Rattle.tab_facts.proofs.Running.Rows.{opened_running}
 use Rattle.tab_facts.proofs.Running.Tells.{opened_telling}
 use Rattle.log_model.specs.declared.row_kind.Actor.TheVariants as actors
 
-pub fresh_stands : (header : Header) (proc : ProcId) (c : Coordinator) → c.header ≡ header → IsFresh header.first proc header.keep c.tables → c.queue ≡ record { waiting = []; parked = [] } → c.blame.entries ≡ [] → StandsFor (opened_at header.first proc) c
-fresh_stands header proc c same fresh empty none =
+pub fresh_stands : (header : Header) (proc : ProcId) (c : Coordinator) → c.header ≡ header → IsFresh header.first proc header.keep c.tables → c.queue ≡ record { waiting = []; parked = [] } → c.blame.entries ≡ [] → c.slots.entries ≡ [] → StandsFor (opened_at header.first proc) c
+fresh_stands header proc c same fresh empty none unslotted =
     record {
-      stands =
-          subst (λ (l : List (StateId × ReqId)). tab.StandsFor (opened_at header.first proc) c.tables c.queue l) (sym none)
-          (opening.fresh_stands header.first proc header.keep c.tables c.queue fresh empty);
-      keep = ap (λ (k : Kept). k.keep) fresh.kept ∙ ap (λ (h : Header). h.keep) (sym same);
-      plain = opened_seen nobody nothing 0 actors.Start (record { maker = 0; nr = 1 }) (record { 0 = 1 }) (record { 0 = 1 }) proc None header.first;
-      found = opened_running 0 actors.Start (record { maker = 0; nr = 1 }) (record { 0 = 1 }) (record { 0 = 1 }) proc None header.first;
-      telling = opened_telling 0 actors.Start (record { maker = 0; nr = 1 }) (record { 0 = 1 }) (record { 0 = 1 }) proc None header.first;
+      but = record {
+        stands =
+            subst (λ (l : List (StateId × ReqId)). tab.StandsFor (opened_at header.first proc) c.tables c.queue l) (sym none)
+            (opening.fresh_stands header.first proc header.keep c.tables c.queue fresh empty);
+        keep = ap (λ (k : Kept). k.keep) fresh.kept ∙ ap (λ (h : Header). h.keep) (sym same);
+        plain = opened_seen nobody nothing 0 actors.Start (record { maker = 0; nr = 1 }) (record { 0 = 1 }) (record { 0 = 1 }) proc None header.first;
+        found = opened_running 0 actors.Start (record { maker = 0; nr = 1 }) (record { 0 = 1 }) (record { 0 = 1 }) proc None header.first;
+        telling = opened_telling 0 actors.Start (record { maker = 0; nr = 1 }) (record { 0 = 1 }) (record { 0 = 1 }) proc None header.first;
+      };
+      slots =
+          subst (λ (l : List (DocId × ℕ)). AreSlots (opened_at header.first proc) l) (sym unslotted)
+          (opened_slots nothing 0 actors.Start (record { maker = 0; nr = 1 }) (record { 0 = 1 }) (record { 0 = 1 }) proc None header.first);
     }

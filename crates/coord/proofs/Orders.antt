@@ -1,8 +1,9 @@
 -- A process takes up an order, or finishes one: the coordinator has acted, which does nothing itself.
-use Rattle.coord.proofs.Asides.{finished_plain, joined_plain, taken_plain}
+use Rattle.coord.proofs.Asides.{finished_plain, joined_plain, taken_plain, one_goes, joined_goes}
 use Rattle.coord.specs.Standing.{HasActed, IsOpenTo}
 use Rattle.coord.specs.declared.coordinator.Coordinator.{Coordinator}
 use Rattle.coord.proofs.Idle.{alone_acts, found_now, idle_acts}
+use Rattle.coord.proofs.Slots.{finished_own, own_slots, row_slots}
 use Rattle.seen_facts.proofs.Coord.Unread.{next}
 use Rattle.seen_facts.specs.Desk.Own.{IsFragmentTask}
 use Rattle.seen_facts.proofs.Doc.Works.{HasNoSlot}
@@ -69,8 +70,9 @@ module _ (e : InEvent) (c : Coordinator) (open_ : IsOpenTo e c) (proc : ProcId) 
 
   pub taken_acts : (job : Job) (dirty : Bool) → (desk_of e.start proc).in_hand ≡ None → slice_get (desk_of e.start proc).mail 0 ≡ Some job → e.event ≡ e.start.events → dirty ≡ holds (λ (d : Document). holds (λ (view : View). view.dirty) d.view) (document_of e.start job.doc) → e.own ≡ rows.Taken proc job.nr true dirty → HasActed e [] c
   taken_acts job dirty free first event is_dirty own =
-      alone_acts e c open_ (rows.Taken proc job.nr true dirty) own (taken_plain e c open_ proc job.nr true dirty job first own) (record { live_is = refl; free = free; job = job; first = first }) tt
-      (orders.taken_acts e c.tables c.queue c.blame.entries open_.stands.stands open_.room proc job dirty free first by event is_dirty own)
+      alone_acts e c open_ (rows.Taken proc job.nr true dirty) own (taken_plain e c open_.in_ proc job.nr true dirty job first own) (record { live_is = refl; free = free; job = job; first = first }) tt
+      (own_slots e c.slots.entries (rows.Taken proc job.nr true dirty) own tt open_.slots)
+      (orders.taken_acts e c.tables c.queue c.blame.entries open_.in_.stands.stands open_.in_.room proc job dirty free first by event is_dirty own)
 
   -- ---- one is finished, which is in hand; the outcome is one of its task
 
@@ -79,16 +81,17 @@ module _ (e : InEvent) (c : Coordinator) (open_ : IsOpenTo e c) (proc : ProcId) 
     is_up =
         record {
           order = order;
-          in_hand = in_hand_lives c.tables.running e.start e.event proc open_.stands.stands.between.tab open_.stands.stands.between.flows order outcome hand its bare;
+          in_hand = in_hand_lives c.tables.running e.start e.event proc open_.in_.stands.stands.between.tab open_.in_.stands.stands.between.flows order outcome hand its bare;
           nr_is = refl;
         }
 
     -- one that is no fragment order
     pub finished_acts : IsNoFragment order.job.task → HasNoPages e.header → e.event ≡ e.start.events → e.own ≡ rows.Finished proc order.job.nr outcome → HasActed e [] c
     finished_acts other pages event own =
-        alone_acts e c open_ (rows.Finished proc order.job.nr outcome) own (finished_plain e c open_ proc order outcome hand bare own) is_up
+        alone_acts e c open_ (rows.Finished proc order.job.nr outcome) own (finished_plain e c open_.in_ proc order outcome hand bare own) is_up
         (λ x there fragment. no_fragment order.job.task other (subst (λ (y : Order). IsFragmentTask y.job.task) (some_same (sym there ∙ hand)) fragment))
-        (orders.finished_acts e c.tables c.queue c.blame.entries open_.stands.stands open_.room proc order outcome hand its bare other pages by event own)
+        (finished_own e c open_ proc order outcome hand its own)
+        (orders.finished_acts e c.tables c.queue c.blame.entries open_.in_.stands.stands open_.in_.room proc order outcome hand its bare other pages by event own)
 
 -- ---- a fragment order
 
@@ -96,7 +99,7 @@ module _ (e : InEvent) (c : Coordinator) (open_ : IsOpenTo e c) (proc : ProcId) 
   -- its document has a view, and runs
   pub order_runs : IsFragmentTask order.job.task → Runs e.start order.job.doc
   order_runs =
-      fragment_runs e.start proc order open_.stands.found open_.stands.stands.between.tab.desks open_.stands.stands.between.tab.asked.died hand
+      fragment_runs e.start proc order open_.in_.stands.found open_.in_.stands.stands.between.tab.desks open_.in_.stands.stands.between.tab.asked.died hand
 
   module _ (req : ReqId) (mode : Mode) (address : List ℕ) (task : order.job.task ≡ tasks.DoFragment req mode address) (d : Document) (view : View) (found : document_of e.start order.job.doc ≡ Some d) (has : d.view ≡ Some view) where
     runs : view.running ≡ true
@@ -122,20 +125,21 @@ module _ (e : InEvent) (c : Coordinator) (open_ : IsOpenTo e c) (proc : ProcId) 
 
       found_then : AreFoundRunning (now_of e (rows.Made proc (made_for view req (fragment_of view mode address)) ∷ []))
       found_then =
-          running_over e (rows.Made proc made ∷ []) [] (tt, tt) (found_now e c open_ (rows.Finished proc order.job.nr outcome) own (finished_plain e c open_ proc order outcome hand bare own) (is_up e c open_ proc by order outcome hand its bare))
+          running_over e (rows.Made proc made ∷ []) [] (tt, tt) (one_goes e (rows.Made proc made) (joined_goes e c open_.in_ proc order outcome hand bare own made)) (found_now e c open_ (rows.Finished proc order.job.nr outcome) own (finished_plain e c open_.in_ proc order outcome hand bare own) (is_up e c open_ proc by order outcome hand its bare))
 
       telling_then : AreTelling (now_of e (rows.Made proc (made_for view req (fragment_of view mode address)) ∷ []))
       telling_then =
-          subst AreTelling (sym then_) (answered_telling e.start e.event e.actor open_.stands.telling proc order.job.nr outcome order hand e.actor made)
+          subst AreTelling (sym then_) (answered_telling e.start e.event e.actor open_.in_.stands.telling proc order.job.nr outcome order hand e.actor made)
         where
           then_ : now_of e (rows.Made proc made ∷ []) ≡ next (next e.start e.event e.actor (rows.Finished proc order.job.nr outcome)) e.event e.actor (rows.Made proc made)
           then_ =
-              now_more e [] (rows.Made proc made) refl
-              ∙ ap (λ (x : Seen). next x e.event e.actor (rows.Made proc made)) (sym (finished_plain e c open_ proc order outcome hand bare own).same ∙ ap (λ (k : RowKind). next e.start e.event e.actor k) own)
+              now_more e [] (rows.Made proc made) (joined_goes e c open_.in_ proc order outcome hand bare own made).read
+              ∙ ap (λ (x : Seen). next x e.event e.actor (rows.Made proc made)) (sym (finished_plain e c open_.in_ proc order outcome hand bare own).same ∙ ap (λ (k : RowKind). next e.start e.event e.actor k) own)
 
       pub fragment_acts : HasActed e (rows.Made proc (made_for view req (fragment_of view mode address)) ∷ []) c
       fragment_acts =
           idle_acts e c open_ (rows.Made proc made ∷ []) (tt, tt)
-          (fragments.fragment_acts e c.tables c.queue c.blame.entries open_.stands.stands open_.room proc order req mode address d view to by (own ∙ ap (λ (o : Outcome). rows.Finished proc order.job.nr o) so))
-          (joined_plain e c open_ proc order outcome hand bare own made)
+          (fragments.fragment_acts e c.tables c.queue c.blame.entries open_.in_.stands.stands open_.in_.room proc order req mode address d view to by (own ∙ ap (λ (o : Outcome). rows.Finished proc order.job.nr o) so))
+          (joined_plain e c open_.in_ proc order outcome hand bare own made)
           found_then telling_then
+          (row_slots e c.slots.entries [] (rows.Made proc made) tt (finished_own e c open_ proc order outcome hand its own))

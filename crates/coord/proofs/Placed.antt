@@ -16,7 +16,8 @@ use Rattle.move_queue.specs.declared.queue_step.QueueStep.{QueueStep}
 use Rattle.move_queue.specs.declared.queue_step.QueueStep.TheVariants.{Ready}
 use Rattle.nav_tree.specs.Tree.{is_state}
 use Rattle.seen_facts.proofs.Hang.Members.{find_has}
-use Rattle.seen_laws.specs.InEvent.{InEvent, now_of}
+use Rattle.seen_laws.specs.InEvent.{InEvent, log_of, now_of}
+use Rattle.slot_facts.specs.Slots.{AreSlots}
 use Rattle.std.proofs.Common.{Bool, List, None, Option, Some, [], ap, cond, false, refl, subst, sym, true, ℕ, ◌++◌, ◌∙◌, ◌∷◌, ◌≡◌}
 use Rattle.std.specs.Map.{lookup}
 use Rattle.std.specs.Option.{IsSome}
@@ -29,6 +30,7 @@ use Rattle.tab_doors.specs.Ties.{birth_of, is_doc, nav_in, proc_in}
 use Rattle.tab_doors.specs.Working.{KeepsRun}
 use Rattle.tab_doors.specs.declared.birth.Birth.{Birth}
 use Rattle.tab_doors.specs.declared.tables.Tables.{Tables}
+use Rattle.tab_ids.specs.declared.DocId.{DocId}
 use Rattle.tab_ids.specs.declared.NavId.{NavId}
 use Rattle.tab_ids.specs.declared.ReqId.{ReqId}
 use Rattle.tab_ids.specs.declared.StateId.{StateId}
@@ -167,6 +169,7 @@ module _ (d : InDone) (c : Coordinator) (job : Job) (done : IsDone d c job) (sta
           queue = joined ∙ ap (λ (l : List QueueStep). let q : Queue = record c.queue { waiting = c.queue.waiting ++ l } in q) (ap (λ (o : Option ReqId). steps_of o nav) is ∙ sym steps_are);
           noted = refl;
           one_each = one_each;
+          slots = refl;
         }
 
   -- ---- the request that is noted
@@ -211,10 +214,11 @@ module _ (d : InDone) (c : Coordinator) (job : Job) (done : IsDone d c job) (sta
 
   -- ---- so the tab may be brought to rest
 
-  pub placed_settles : (then_ after : Coordinator) → HasPlaced c then_ job.doc state → after.header ≡ then_.header → after.tables ≡ then_.tables → after.queue ≡ then_.queue → IsMadeNoted (now_of d.event []) c.blame.entries after.blame.entries job.doc state → IsToSettle d.event [] after job.why
-  placed_settles then_ after placed header tables queue noted =
+  pub placed_settles : (then_ after : Coordinator) → HasPlaced c then_ job.doc state → after.header ≡ then_.header → after.tables ≡ then_.tables → after.queue ≡ then_.queue → after.slots.entries ≡ then_.slots.entries → IsMadeNoted (now_of d.event []) c.blame.entries after.blame.entries job.doc state → IsToSettle d.event [] after job.why
+  placed_settles then_ after placed header tables queue slots noted =
       to_settle e after (header ∙ placed.header ∙ done.open_.header) done.open_.unchecked
       (subst (λ (q : Queue). HasBegun (pass_of e) after.tables q after.blame.entries) (sym queue)
       (subst (λ (x : Tables). HasBegun (pass_of e) x then_.queue after.blame.entries) (sym tables)
       (placed_begun e d.proc job d.outcome done.delivery t c.queue c.blame.entries stands aside its.nav state its.address its.initial its.task placed.one_each then_.tables placed.one placed.run done.open_.room (keep_now e c done.open_) then_.queue placed.queue after.blame.entries noted)))
       job.why made_may (done_taken d c job done) (done_found d c job done) (done_telling d c job done)
+      (subst (λ (l : List (DocId × ℕ)). AreSlots (log_of e []) l) (sym (slots ∙ placed.slots)) done.slots)

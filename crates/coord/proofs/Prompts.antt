@@ -24,4 +24,4 @@ none_in asked req = by_number (req.0 == 0)
 
 pub not_prompted : (s : Seen) (c : Coordinator) → StandsFor s c → (req : ReqId) → false ≡ holds is_prompt_up (request_of s req)
 not_prompted s c stands req =
-    subst (λ (asked : List Asked). false ≡ holds is_prompt_up (request_in asked req)) (ap (λ (x : Seen). x.requests) stands.plain) (none_in s.requests req)
+    subst (λ (asked : List Asked). false ≡ holds is_prompt_up (request_in asked req)) (ap (λ (x : Seen). x.requests) stands.but.plain) (none_in s.requests req)

@@ -1,14 +1,13 @@
 -- An order was done that neither made nor showed a document: where no request is noted for a document that is left to be discarded, the event is over.
 use Rattle.log_model.specs.declared.made.Report.TheVariants as reports
-use Rattle.tab_facts.specs.Running.Telling.{AreTelling}
-use Rattle.tab_facts.specs.Running.Running.{AreFoundRunning}
 use Rattle.coord.proofs.Asides.{IsPlain, delivered_plain}
+use Rattle.coord.proofs.Idle.{stands_then}
 use Rattle.coord.proofs.Dones.{done_aside, done_found, done_telling, keep_now}
 use Rattle.coord.specs.Delivering.{InDone, IsDone}
 use Rattle.coord.specs.Standing.{HasActed}
 use Rattle.coord.specs.declared.coordinator.Coordinator.{Coordinator}
 use Rattle.log_model.specs.declared.job.Job.{Job}
-use Rattle.std.proofs.Common.{List, None, [], arith, eqb-true, length, refl, subst, sym, true, ◌==◌, ◌∷◌, ◌≡◌}
+use Rattle.std.proofs.Common.{List, None, [], arith, eqb-true, length, refl, true, ◌==◌, ◌∷◌, ◌≡◌}
 use Rattle.tab_acts.proofs.Told.{told_acts}
 use Rattle.tab_stands.specs.Delivering.{IsQuietTask}
 use Rattle.tab_stands.specs.Standing as tab
@@ -24,13 +23,7 @@ module _ (d : InDone) (c : Coordinator) (job : Job) (done : IsDone d c job) (qui
   pub quiet_acts : HasActed d.event [] c
   quiet_acts =
       record {
-        stands = record {
-          stands = its.stands;
-          keep = done.open_.stands.keep;
-          plain = at.plain;
-          found = subst AreFoundRunning (sym at.same) (done_found d c job done);
-          telling = subst AreTelling (sym at.same) (done_telling d c job done);
-        };
+        stands = stands_then d.event c done.open_ [] its.stands at (done_found d c job done) (done_telling d c job done) done.slots;
         header = done.open_.header;
         passes = its.passes;
         off = λ req change never. absurd never;

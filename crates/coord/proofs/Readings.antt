@@ -22,11 +22,11 @@ not_not false = refl
 module _ (s : Seen) (c : Coordinator) (its : StandsFor s c) (nav : NavId) where
   pub row_is : HasRoomFor s → not (has_none (history_held c.tables.store).rows nav) ≡ has_row nav s.history.rows
   row_is room =
-      ap not (none_is s c.tables.running c.tables its.stands.tied.holds its.stands.between.tab.sound its.stands.between.tab.hangs its.stands.between.tab.standing its.stands.lasts.steps (let few : length s.requests + 3 < 4294967296 = room in omega (arith, few)) nav modes.Auto [])
+      ap not (none_is s c.tables.running c.tables its.but.stands.tied.holds its.but.stands.between.tab.sound its.but.stands.between.tab.hangs its.but.stands.between.tab.standing its.but.stands.lasts.steps (let few : length s.requests + 3 < 4294967296 = room in omega (arith, few)) nav modes.Auto [])
       ∙ not_not (has_row nav s.history.rows)
 
   pub shown_here : has_row nav s.history.rows ≡ true → (step : ℕ) → step ≡ (history_held c.tables.store).current → is_reached Shown (history_held c.tables.store).rows step c.tables.tree nav ≡ is_shown s.history.rows s.history.current nav
   shown_here has step is =
-      let at = row_place s its.stands.between.tab.hangs nav has in
-      shown_is s c.tables.running c.tables its.stands.tied.holds its.stands.between.tab.sound its.stands.between.tab.hangs nav at.0 at.1 step
-      ∙ ap (λ (k : ℕ). is_shown s.history.rows k nav) (is ∙ its.stands.tied.holds.history.current)
+      let at = row_place s its.but.stands.between.tab.hangs nav has in
+      shown_is s c.tables.running c.tables its.but.stands.tied.holds its.but.stands.between.tab.sound its.but.stands.between.tab.hangs nav at.0 at.1 step
+      ∙ ap (λ (k : ℕ). is_shown s.history.rows k nav) (is ∙ its.but.stands.tied.holds.history.current)

@@ -1,7 +1,10 @@
 -- A document that nothing needs was made for no request: it is discarded, and the tab may be brought to rest.
+use Rattle.coord.proofs.Asides.{one_goes}
+use Rattle.unasked.proofs.Nows.{sent_goes}
 use Rattle.coord.proofs.Dones.{done_aside, done_found, done_taken, done_telling}
 use Rattle.coord.proofs.Fines.{IsFine, fine_discard, fine_moves, makes_over, one_fine, sound_over}
 use Rattle.coord.proofs.Placed.{Makes, makes_of}
+use Rattle.coord.proofs.Slots.{rows_slots}
 use Rattle.coord.specs.Delivering.{InDone, IsDone, made_in}
 use Rattle.coord.specs.Standing.{IsToSettle}
 use Rattle.coord.specs.declared.coordinator.Coordinator.{Coordinator}
@@ -15,10 +18,12 @@ use Rattle.log_model.specs.declared.row_kind.RowKind.{RowKind}
 use Rattle.move_queue.specs.Queue.{Queue}
 use Rattle.seen_laws.specs.InEvent.{InEvent, log_of, now_of, row_of}
 use Rattle.seen_laws.specs.Sending.{leads}
-use Rattle.std.proofs.Common.{Bool, List, None, Option, [], ap, cond, false, map, refl, subst, sym, true, ◌++◌, ◌==◌, ◌∙◌, ◌∷◌, ◌≡◌}
+use Rattle.slot_facts.specs.Slots.{AreSlots}
+use Rattle.std.proofs.Common.{Bool, List, None, Option, [], ap, cond, false, map, refl, subst, sym, true, ℕ, ◌++◌, ◌==◌, ◌∙◌, ◌∷◌, ◌≡◌}
 use Rattle.std.specs.Prelude.{option_map, slice_get}
 use Rattle.tab_doors.specs.Orders.{order_to}
 use Rattle.tab_doors.specs.declared.tables.Tables.{Tables}
+use Rattle.tab_ids.specs.declared.DocId.{DocId}
 use Rattle.tab_ids.specs.declared.ProcId.{ProcId}
 use Rattle.tab_ids.specs.declared.ReqId.{ReqId}
 use Rattle.tab_ids.specs.declared.StateId.{StateId}
@@ -128,11 +133,11 @@ module _ (d : InDone) (c : Coordinator) (job : Job) (done : IsDone d c job) (sta
 
     makes : MakesServe (now_of e out)
     makes =
-        makes_over e u.running out whys.Start ready.passing.going.tab.asked ready.open_.may fine (makes_first e aside leads_own serves stands.lasts.makes)
+        makes_over e u.running out ready.passing.work.goes whys.Start ready.passing.going.tab.asked ready.open_.may fine (makes_first e aside leads_own serves stands.lasts.makes)
 
     sound : OrdersAreSound (now_of e out)
     sound =
-        sound_over e u.running out whys.Start ready.passing.going.tab.asked ready.open_.may fine (sound_first e aside leads_own keeps stands.lasts.sound)
+        sound_over e u.running out ready.passing.work.goes whys.Start ready.passing.going.tab.asked ready.open_.may fine (sound_first e aside leads_own keeps stands.lasts.sound)
 
     shows : AreShownUnder (log_of e [])
     shows = own_under e leads_own alive stands.lasts.shows
@@ -140,13 +145,13 @@ module _ (d : InDone) (c : Coordinator) (job : Job) (done : IsDone d c job) (sta
     found : AreFoundRunning (now_of e out)
     found =
         subst (λ (l : List RowKind). AreFoundRunning (now_of e l)) (sym is)
-        (running_over e (rows.Sent (order_to (now_of e []) job.doc job.why tasks.Discard) ∷ []) [] (tt, tt) (done_found d c job done))
+        (running_over e (rows.Sent (order_to (now_of e []) job.doc job.why tasks.Discard) ∷ []) [] (tt, tt) (one_goes e (rows.Sent (order_to (now_of e []) job.doc job.why tasks.Discard)) (sent_goes e [] (order_to (now_of e []) job.doc job.why tasks.Discard) refl)) (done_found d c job done))
 
     telling : AreTelling (now_of e out)
-    telling = telling_over e out [] (λ row has. (fine row has).coord) (done_telling d c job done)
+    telling = telling_over e out [] ready.passing.work.goes (λ row has. (fine row has).coord) (done_telling d c job done)
 
-    pub dropped_settles : (after : Coordinator) → after.header ≡ c.header → after.tables ≡ u → after.queue ≡ c.queue → after.blame.entries ≡ c.blame.entries → IsToSettle d.event out after whys.Start
-    dropped_settles after header tables queue noted =
+    pub dropped_settles : (after : Coordinator) → after.header ≡ c.header → after.tables ≡ u → after.queue ≡ c.queue → after.blame.entries ≡ c.blame.entries → after.slots.entries ≡ c.slots.entries → IsToSettle d.event out after whys.Start
+    dropped_settles after header tables queue noted slots =
         record {
           header = header ∙ done.open_.header;
           unchecked = done.open_.unchecked;
@@ -162,4 +167,7 @@ module _ (d : InDone) (c : Coordinator) (job : Job) (done : IsDone d c job) (sta
           taken = λ later. done_taken d c job done (map (row_of e) out ++ later);
           found = found;
           telling = telling;
+          slots =
+              subst (λ (l : List (DocId × ℕ)). AreSlots (log_of e out) l) (sym slots)
+              (rows_slots e c.slots.entries out [] (λ row has. (fine row has).coord) done.slots);
         }

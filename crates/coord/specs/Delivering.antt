@@ -1,7 +1,8 @@
 -- What a coordinator is told by a report as it is delivered.
 -- HTML Standard, "apply the history step" and "URL and history update steps"; orders and reports are this project's own.
-use Rattle.coord.specs.Standing.{IsOpenTo}
+use Rattle.coord.specs.Standing.{IsOpenIn}
 use Rattle.coord.specs.declared.coordinator.Coordinator.{Coordinator}
+use Rattle.indexmap.specs.IndexMap.{insert_entry}
 use Rattle.load_table.specs.Loads.{HasOneEach}
 use Rattle.log_model.specs.declared.job.Job.{Job}
 use Rattle.log_model.specs.declared.made.Made.{Made}
@@ -9,9 +10,11 @@ use Rattle.log_model.specs.declared.made.Report.{Report}
 use Rattle.log_model.specs.declared.outcome.Outcome.{Outcome}
 use Rattle.move_queue.specs.declared.queue_step.QueueStep.{QueueStep}
 use Rattle.move_queue.specs.declared.queue_step.QueueStep.TheVariants.{Ready}
-use Rattle.seen_laws.specs.InEvent.{InEvent}
-use Rattle.std.specs.Prelude.{List, None, Option, Some, [], ◌++◌, ◌∷◌, ◌≡◌}
+use Rattle.seen_laws.specs.InEvent.{InEvent, log_of}
+use Rattle.slot_facts.specs.Slots.{AreSlots}
+use Rattle.std.specs.Prelude.{List, None, Option, Some, [], ℕ, ◌++◌, ◌∷◌, ◌≡◌}
 use Rattle.tab_doors.specs.Noting.{PlacesOne}
+use Rattle.tab_doors.specs.Ties.{is_doc}
 use Rattle.tab_doors.specs.Working.{KeepsRun}
 use Rattle.tab_ids.specs.declared.DocId.{DocId}
 use Rattle.tab_ids.specs.declared.NavId.{NavId}
@@ -40,16 +43,34 @@ abbrev pub outcome_of : Report → Outcome
 outcome_of (reports.Done job outcome made) = outcome
 outcome_of _ = outcomes.Discarded
 
+-- ---- handler slots
+
+-- the slot of which a report tells, with its document: that of a document that was made and has a handler
+abbrev pub slot_told : Report → Option (DocId × ℕ)
+slot_told (reports.Done job (outcomes.Populated (Some slot)) made) = Some (job.doc, slot)
+slot_told _ = None
+
+-- the table with that, if a report tells of one
+abbrev pub slots_with : List (DocId × ℕ) → Option (DocId × ℕ) → List (DocId × ℕ)
+slots_with slots (Some told) = insert_entry is_doc slots told.0 told.1
+slots_with slots None = slots
+
+-- ---- a report that was heard: the coordinator's slots are those of the log with it
+
 -- an order was done, and nothing was made of it
 pub record IsDone (d : InDone) (c : Coordinator) (job : Job) : Type 0 where
   pub delivery : IsDelivery d.event d.proc (reports.Done job d.outcome None)
-  pub open_ : IsOpenTo d.event c
+  pub open_ : IsOpenIn d.event c
+  pub slots : AreSlots (log_of d.event []) c.slots.entries
 
 -- a document made something, of a poke or of an order
 pub record IsMade (d : InDelivery) (c : Coordinator) (made : Made) : Type 0 where
   pub delivery : IsDelivery d.event d.proc d.report
   pub tells : IsToldOf d.report made
-  pub open_ : IsOpenTo d.event c
+  pub open_ : IsOpenIn d.event c
+  pub slots : AreSlots (log_of d.event []) c.slots.entries
+
+-- ---- a document was made
 
 -- what the event makes of a document that nothing needs
 abbrev pub made_in : InDone → Coordinator → Job → InMade
@@ -71,4 +92,5 @@ pub record HasPlaced (c then_ : Coordinator) (doc : DocId) (state : StateId) : T
   pub run : KeepsRun c.tables then_.tables
   pub queue : then_.queue ≡ record c.queue { waiting = c.queue.waiting ++ step_ready c.tables.loads doc }
   pub noted : then_.blame.entries ≡ c.blame.entries
+  pub slots : then_.slots.entries ≡ c.slots.entries
   pub one_each : HasOneEach c.tables.loads

@@ -17,6 +17,7 @@ use Rattle.tab_facts.specs.Running.Running.{AreFoundRunning}
 use Rattle.tab_facts.specs.Running.Telling.{AreTelling}
 use Rattle.seen_laws.specs.Blocks.{EachPass}
 use Rattle.seen_laws.specs.InEvent.{InEvent, log_of, now_of, row_of, start_of}
+use Rattle.slot_facts.specs.Slots.{AreSlots}
 use Rattle.std.specs.Prelude.{Bool, List, None, [], false, length, map, true, ℕ, ◌++◌, ◌+◌, ◌∷◌, ◌≡◌}
 use Rattle.tab_ids.specs.declared.NavId.{NavId}
 use Rattle.tab_ids.specs.declared.ReqId.{ReqId}
@@ -34,8 +35,8 @@ use Rattle.log_model.specs.declared.row_kind.RowKind.TheVariants as rows
 abbrev pub nobody : ReqId → Bool
 nobody req = false
 
--- its tables, its queue and the requests that are noted for stray documents stand for what the log has come to, and it keeps as many documents as its settings say
-pub record StandsFor (s : Seen) (c : Coordinator) : Type 0 where
+-- but for its slots: its tables, its queue and the requests that are noted for stray documents stand for what the log has come to, and it keeps as many documents as its settings say
+pub record StandsBut (s : Seen) (c : Coordinator) : Type 0 where
   pub stands : tab.StandsFor s c.tables c.queue c.blame.entries
   pub keep : c.tables.kept.keep ≡ c.header.keep
   -- nobody was asked so far
@@ -45,14 +46,24 @@ pub record StandsFor (s : Seen) (c : Coordinator) : Type 0 where
   -- each report of a fragment order that waits tells of what was made of it
   pub telling : AreTelling s
 
+-- so it does, and it has the slots of the handlers of the documents whose making was reported
+pub record StandsFor (s : Seen) (c : Coordinator) : Type 0 where
+  pub but : StandsBut s c
+  pub slots : AreSlots s c.slots.entries
+
 -- ---- an event begins
 
--- the coordinator stands for what the log had come to as the event began, with the event's settings; there is room for requests, and none is in a check
-pub record IsOpenTo (e : InEvent) (c : Coordinator) : Type 0 where
+-- but for its slots, the coordinator stands for what the log had come to as the event began, with the event's settings; there is room for requests, and none is in a check
+pub record IsOpenIn (e : InEvent) (c : Coordinator) : Type 0 where
   pub header : c.header ≡ e.header
-  pub stands : StandsFor e.start c
+  pub stands : StandsBut e.start c
   pub room : HasRoomFor e.start
   pub unchecked : e.checking ≡ nobody
+
+-- so it does, and its slots are those of then
+pub record IsOpenTo (e : InEvent) (c : Coordinator) : Type 0 where
+  pub in_ : IsOpenIn e c
+  pub slots : AreSlots e.start c.slots.entries
 
 -- ---- an event ends
 
@@ -71,7 +82,7 @@ pub record HasActed (e : InEvent) (out : List RowKind) (c : Coordinator) : Type 
   pub passes : EachPass (start_of e) (row_of e e.own ∷ map (row_of e) out) []
   pub off : ChangesLeaveOff (log_of e out) out
 
--- a pass may follow, for this cause; no request is in a check; what was delivered was taken up, if it was to be; the rows so far are a coordinator's, and move nobody; orders that make documents are for what orders may be for, and all are sound; as the event began each document shown was shown under its navigable's epoch; and fragment orders find their documents running, and reports of them tell of what was made
+-- a pass may follow, for this cause; no request is in a check; what was delivered was taken up, if it was to be; the rows so far are a coordinator's, and move nobody; orders that make documents are for what orders may be for, and all are sound; as the event began each document shown was shown under its navigable's epoch; fragment orders find their documents running, and reports of them tell of what was made; and the coordinator's slots are those of the log
 pub record IsToSettle (e : InEvent) (out : List RowKind) (c : Coordinator) (cause : Why) : Type 0 where
   pub header : c.header ≡ e.header
   pub unchecked : e.checking ≡ nobody
@@ -84,6 +95,7 @@ pub record IsToSettle (e : InEvent) (out : List RowKind) (c : Coordinator) (caus
   pub taken : IsTakenUp e out
   pub found : AreFoundRunning (now_of e out)
   pub telling : AreTelling (now_of e out)
+  pub slots : AreSlots (log_of e out) c.slots.entries
 
 -- ---- what the user asks for
 

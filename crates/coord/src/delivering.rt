@@ -1,21 +1,31 @@
 //! The first report of a process is taken: an order was done, or a document made something.
 ghost use Rattle.std.specs.Prelude.{◌≡◌, [], OnOk, true};
-ghost use Rattle.coord.specs.Delivering.{InDelivery, InDone, IsDone};
+ghost use Rattle.coord.specs.Delivering.{InDelivery, InDone, IsDone, slot_told, slots_with};
 ghost use Rattle.coord.specs.Standing.{HasActed, IsOpenTo};
 ghost use Rattle.tab_stands.specs.Delivering.{IsDelivery, IsQuietTask, IsShowTask};
 
 use crate::coordinator::Coordinator;
 use address::OutOfMemory;
 use indexmap::IndexMap;
-use log_model::{Job, Out, Report, Task, Why};
+use log_model::{Job, Out, Outcome, Report, Task, Why};
 use std::alloc::Global;
-use tab_ids::{ProcId, ReqId, StateId};
+use tab_ids::{DocId, ProcId, ReqId, StateId};
 
 /// Whether no request is noted for a document that is left to be discarded.
 fn is_none_noted(blame: &IndexMap<StateId, ReqId>) -> bool
     ensures { result ≡ true → blame.now.entries ≡ [] }
 {
     blame.len() == 0
+}
+
+/// The slot of which a report tells, with its document: that of a document that was made and has a handler.
+fn slot_told(report: &Report) -> Option<(DocId, u8)>
+    ensures { result ≡ slot_told report.now }
+{
+    match report {
+        Report::Done(job, Outcome::Populated(Some(slot)), _) => Some((job.doc, *slot)),
+        Report::Done(_, _, _) | Report::Made(_) | Report::Died(_) => None,
+    }
 }
 
 impl Coordinator {
@@ -35,6 +45,7 @@ impl Coordinator {
         requires first { out.old ≡ [] }
         ensures acted { OnOk result (HasActed d.event out.new self.new) }
     {
+        self.hear(report)?;
         match report {
             Report::Done(job, _, made) => match made {
                 Some(made) => self.take_made(alloc, out, made),
@@ -43,6 +54,17 @@ impl Coordinator {
             Report::Made(made) => self.take_made(alloc, out, made),
             Report::Died(_) => unreachable!(),
         }
+    }
+
+    /// The slot of which the report tells is noted, if it tells of one.
+    fn hear(&mut self, report: &Report) -> Result<(), OutOfMemory>
+        ensures heard { OnOk result (self.new.slots.entries ≡ slots_with self.old.slots.entries (slot_told report.now)) }
+        ensures same { OnOk result (self.new ≡ record self.old { slots = self.new.slots }) }
+    {
+        if let Some((doc, slot)) = slot_told(report) {
+            self.slots.insert(doc, slot)?;
+        }
+        Ok(())
     }
 
     /// An order was done, of which nothing was made.

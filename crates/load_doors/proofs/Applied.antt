@@ -1,7 +1,7 @@
 -- A load is applied, and the coordinator goes on working.
+use Rattle.unasked.proofs.Nows.{applied_goes}
 use Rattle.seen_laws.specs.Unasked.{without_asks}
 use Rattle.unasked_dues.proofs.Loads.{load_to_apply}
-use Rattle.unasked.proofs.Ends.{applied_seen}
 use Rattle.unasked.proofs.Readings.{under_way_read}
 use Rattle.checking_facts.proofs.Brings.{brings_load}
 use Rattle.log_model.specs.Places.{is_ongoing_load}
@@ -24,7 +24,7 @@ use Rattle.log_model.specs.Seen.{Asked, Document, Place, Seen, request_of}
 use Rattle.log_model.specs.declared.change.Change.{Change}
 use Rattle.log_model.specs.declared.row_kind.RowKind.{RowKind}
 use Rattle.navigate_core.specs.Navigations.{change_for}
-use Rattle.seen_laws.proofs.InEvents.{led_here}
+use Rattle.seen_laws.proofs.InEvents.{led_here, now_is}
 use Rattle.seen_laws.specs.Blocks.{MayLog}
 use Rattle.seen_laws.specs.InEvent.{Anything, InEvent, here_of, log_of, now_of, row_of}
 use Rattle.std.proofs.Common.{Bool, List, None, Option, Some, [], ap, arith, cond, false, length, map, refl, subst, sym, true, ℕ, ◌++◌, ◌+◌, ◌==◌, ◌∙◌, ◌∷◌, ◌≡◌, ◌≤◌}
@@ -165,11 +165,11 @@ module _ (e : InEvent) (out : List RowKind) (t : Tables) (nav : NavId) (load : L
 
     off : e.checking load.req ≡ false
     off =
-        under_way_read e.checking (log_of e out) load.req due.asked (work.checks.numbered load.req) (subst (λ (s : Seen). request_of s load.req ≡ Some due.asked) work.same due.due.at) (rw (due.due.started, due.due.open_) refl)
+        under_way_read e.checking (log_of e out) load.req due.asked (work.checks.numbered load.req) (subst (λ (s : Seen). request_of s load.req ≡ Some due.asked) (now_is e out) due.due.at) (rw (due.due.started, due.due.open_) refl)
 
     pub applied_work : ongoing_load nav t.loads ≡ Some load → (next : List Load) → next ≡ cancelled nav t.loads → KeepsOthers nav t.loads next → IsAtWork e (out ++ rows.Applied load.req (change_by b) ∷ []) (record with_lost { loads = next })
     applied_work at next loads others =
-        work_more e out (rows.Applied load.req (change_by b)) None t (record with_lost { loads = next }) work refl (applied_seen e.checking (log_of e out) e.event e.actor load.req (change_by b) (λ q found. ap e.checking (work.checks.numbered load.req q found) ∙ off)) off (brings_load e.checking (log_of e out) work.checks.states load.req from.0 nav due.address (change_by b) from.2.at off going from.2.due)
+        work_more e out (rows.Applied load.req (change_by b)) None t (record with_lost { loads = next }) work (applied_goes e out load.req (change_by b) (work.checks.numbered load.req) off) tt off (brings_load e.checking (log_of e out) work.checks.states load.req from.0 nav due.address (change_by b) from.2.at off going from.2.due)
         (record {
           navs = lost_holds.navs;
           documents = lost_holds.documents;

@@ -1,8 +1,15 @@
 -- A load begins, and the coordinator goes on working; and whether it is to replace the given entry.
-use Rattle.unasked.proofs.Ends.{started_seen}
+use Rattle.log_model.specs.declared.request.Mode.{Mode}
+use Rattle.std.proofs.lemmas.Bool.{or_parts}
+use Rattle.std.specs.List.{list_any}
+use Rattle.seen_laws.specs.Owing.{owes_row}
+use Rattle.row_facts.specs.LoadRows.Beginning.{begins_no_earlier, IsLoadToBegin}
+use Rattle.row_facts.proofs.LoadRows.Earlier.{no_earlier_stays}
+use Rattle.unasked_dues.proofs.Sole.{sole_more}
+use Rattle.unasked.proofs.Nows.{started_goes}
 use Rattle.row_facts.proofs.FrameRows.LawfulLaws.{lawful_more_owing}
 use Rattle.row_facts.specs.FrameRows.Lawful.{AreLawful}
-use Rattle.load_doors.specs.Loading.{IsToBegin, begun_load}
+use Rattle.load_doors.specs.Loading.{IsToBegin, begun_load, is_beginning}
 use Rattle.row_facts.proofs.LoadRows.Begins.{begin_load_owing}
 use Rattle.load_table.specs.Loads.{KeepsOthers, begun, ongoing_load}
 use Rattle.load_table.specs.declared.load.Load.{Load}
@@ -11,7 +18,7 @@ use Rattle.seen_facts.specs.LoadTies.Tying.{HasLoad, TiesLoads, made_for}
 use Rattle.log_model.proofs.Refl.{nat_eq_refl}
 use Rattle.log_model.specs.After.{after}
 use Rattle.log_model.specs.AfterRequests.{load_replaces, on_request, request_begun}
-use Rattle.log_model.specs.Once.{loads}
+use Rattle.log_model.specs.Once.{loads, has_no_earlier_load}
 use Rattle.log_model.specs.Places.{is_load, is_ongoing_load}
 use Rattle.log_model.specs.Seen.{Asked, Seen, request_in, request_of}
 use Rattle.log_model.specs.declared.request.Request.{Request}
@@ -19,15 +26,15 @@ use Rattle.log_model.specs.declared.row_kind.RowKind.{RowKind}
 use Rattle.seen_facts.proofs.Request.LookUps.{on_itself}
 use Rattle.seen_facts.proofs.Request.Readers.{SameReads}
 use Rattle.seen_facts.proofs.Coord.Held.{on_else}
-use Rattle.seen_laws.proofs.InEvents.{led_here}
+use Rattle.seen_laws.proofs.InEvents.{led_here, log_more}
 use Rattle.seen_laws.specs.InEvent.{InEvent, here_of, log_of, now_of, row_of}
-use Rattle.std.proofs.Common.{Bool, List, None, Option, Some, [], ap, arith, false, inl, refl, subst, sym, true, ℕ, ◌++◌, ◌+◌, ◌==◌, ◌∙◌, ◌∷◌, ◌≡◌, not}
+use Rattle.std.proofs.Common.{Bool, List, None, Option, Some, [], ap, arith, false, inl, refl, subst, sym, true, ℕ, ◌++◌, ◌+◌, ◌==◌, ◌∙◌, ◌∷◌, ◌≡◌}
 use Rattle.std.proofs.lemmas.Bool.Decides.{nat_tests}
-use Rattle.std.specs.Prelude.{option_map}
+use Rattle.std.specs.Prelude.{option_map, nat_lt}
 use Rattle.tab_doors.proofs.Ahead.{lawful_none, none_lawful}
 use Rattle.tab_doors.proofs.EndLaws.{left_holds}
 use Rattle.tab_doors.proofs.Requests.{moved_read, moved_same, runs_same}
-use Rattle.tab_doors.proofs.Works.{off_runs, started_held, work_more}
+use Rattle.tab_doors.proofs.Works.{off_runs, started_held, work_more, BeginsSole}
 use Rattle.tab_doors.specs.Look.{look_of, moved_by}
 use Rattle.tab_doors.specs.Ties.{Holds}
 use Rattle.tab_doors.specs.Working.{HasGoal, IsAtWork}
@@ -60,6 +67,40 @@ begun_reads {B} read s req goal q there same r = by_test (r.0 == req.0) refl
         (ap (λ (o : Option Asked). option_map read o) own ∙ (ap (λ (b : B). Some b) same ∙ sym (ap (λ (o : Option Asked). option_map read o) there)))
     by_test false is =
         ap (λ (o : Option Asked). option_map read o) (on_else (on_request req begin s.requests) req (request_begun s) r is ∙ on_else s.requests req begin r is)
+
+-- ---- that it is the only one of its navigable
+
+-- where no request has begun among the rows so far, none that began has an earlier load beside it
+load_sole : (e : InEvent) (out : List RowKind) (req : ReqId) (nav : NavId) (mode : Mode) (address : List ℕ) (q : Asked) → IsLoadToBegin (here_of e out) req nav mode address q → has_no_earlier_load (log_of e out) req nav ≡ true → list_any is_beginning out ≡ false → BeginsSole e out (rows.Started req None)
+load_sole e out req nav mode address q due alone first sole =
+    sole_more e out (rows.Started req None) (λ x was n stays. absurd (none_began out was.before was.later was.req was.goal was.among first)) sole
+    (λ r g same. own r g same)
+  where
+    none_began : (out before later : List RowKind) (r : ReqId) (g : Option Step) → before ++ rows.Started r g ∷ later ≡ out → list_any is_beginning out ≡ false → ⊥
+    none_began [] [] later r g is none = cc
+    none_began [] (b ∷ before) later r g is none = cc
+    none_began (o ∷ out) [] later r g is none =
+        let one : rows.Started r g ≡ o = cc in
+        let never : list_any is_beginning (rows.Started r g ∷ out) ≡ false = subst (λ (k : RowKind). list_any is_beginning (k ∷ out) ≡ false) (sym one) none in
+        cc
+    none_began (o ∷ out) (b ∷ before) later r g is none =
+        let rest : before ++ rows.Started r g ∷ later ≡ out = cc in
+        none_began out before later r g rest (or_parts (is_beginning o) (list_any is_beginning out) none).1
+
+    begins_none_earlier : begins_no_earlier (log_of e out) req nav (rows.Started req None) ≡ true
+    begins_none_earlier =
+        let less : nat_lt q.nr.0 req.0 ≡ false = grind (arith, nat_tests, due.number) in
+        rw (due.at) (rw less refl)
+
+    end_sole : has_no_earlier_load (log_of e (out ++ rows.Started req None ∷ [])) req nav ≡ true
+    end_sole =
+        subst (λ (s : Seen). has_no_earlier_load s req nav ≡ true) (sym (log_more e out (rows.Started req None)))
+        (no_earlier_stays (log_of e out) (row_of e (rows.Started req None)) req nav begins_none_earlier alone)
+
+    own : (r : ReqId) (g : Option Step) → rows.Started req None ≡ rows.Started r g → owes_row (here_of e out) (row_of e (rows.Started r g)) (log_of e (out ++ rows.Started req None ∷ [])) ≡ true
+    own r g same =
+        let req_is : r ≡ req = cc in
+        rw (ap (λ (x : ReqId). request_of (log_of e out) x) req_is ∙ due.at) (rw (due.what) (rw (due.number) end_sole))
 
 -- ---- the row
 
@@ -110,7 +151,7 @@ module _ (e : InEvent) (out : List RowKind) (t : Tables) (req : ReqId) (nav : Na
 
   pub begin_load_work : IsAtWork e (out ++ rows.Started req None ∷ []) with_begun
   begin_load_work =
-      work_more e out (rows.Started req None) None t with_begun work (ap not off) (started_seen e.checking (log_of e out) e.event e.actor req None (λ q found. ap e.checking (work.checks.numbered req q found) ∙ off)) (λ by q r at there_ other traverses on runs. rw off (off_runs e.checking (log_of e out) work.unheld by r there_ on runs)) (inl off)
+      work_more e out (rows.Started req None) None t with_begun work (started_goes e out req None (work.checks.numbered req) off) soles (λ by q r at there_ other traverses on runs. rw off (off_runs e.checking (log_of e out) work.unheld by r there_ on runs)) (inl off)
       (record {
         navs = record { navs = as_before.navs.navs; order = as_before.navs.order };
         documents = as_before.documents;
@@ -131,6 +172,9 @@ module _ (e : InEvent) (out : List RowKind) (t : Tables) (req : ReqId) (nav : Na
       work.kept
       (lawful_none e (out ++ rows.Started req None ∷ []) begin_lawful)
     where
+      soles : BeginsSole e out (rows.Started req None)
+      soles sole = load_sole e out req nav its.mode address its.q its.due its.sole its.first sole
+
       next_state : then_begun.states ≡ s.states + 1
       next_state = rw there (rw is_a_load refl)
 

@@ -1,8 +1,8 @@
 -- A load is dropped, and the coordinator goes on working.
+use Rattle.unasked.proofs.Nows.{dropped_goes}
 use Rattle.seen_laws.specs.Unasked.{unasked_request}
 use Rattle.unasked_dues.proofs.Dues.{part_of}
 use Rattle.unasked.proofs.Readings.{found_from}
-use Rattle.unasked.proofs.Ends.{dropped_seen}
 use Rattle.log_model.specs.Equal.{has_req}
 use Rattle.seen_facts.specs.Each.Runs.{is_this}
 use Rattle.row_facts.proofs.FrameRows.LawfulLaws.{ends_other, lawful_more_owing}
@@ -17,7 +17,7 @@ use Rattle.log_model.specs.Seen.{Asked, Seen, request_of}
 use Rattle.log_model.specs.declared.outcome.Cause.{Cause}
 use Rattle.log_model.specs.declared.row_kind.RowKind.{RowKind}
 use Rattle.seen_facts.proofs.Request.Readers.{on_read}
-use Rattle.seen_laws.proofs.InEvents.{led_here}
+use Rattle.seen_laws.proofs.InEvents.{led_here, now_is}
 use Rattle.seen_laws.proofs.Owings.{drop_may}
 use Rattle.seen_laws.specs.InEvent.{InEvent, here_of, log_of, now_of, row_of}
 use Rattle.std.proofs.Common.{List, None, Some, [], ap, false, refl, subst, sym, ◌++◌, ◌∙◌, ◌∷◌, ◌≡◌}
@@ -52,7 +52,7 @@ module _ (e : InEvent) (out : List RowKind) (t : Tables) (req : ReqId) (work : I
     where
       by_log : (from : (q : Asked) × (request_of (log_of e out) req ≡ Some q) × (here.asked ≡ unasked_request e.checking q)) → AreLawful e (out ++ rows.Dropped req (drops.By by) ∷ [])
       by_log from =
-          lawful_more_owing e out (rows.Dropped req (drops.By by)) (λ r. refl) (ends_other e out (rows.Dropped req (drops.By by)) req (refl, λ s. refl) here.unheld here.unparked) (none_lawful e out work.lawful) (λ later both. drop_may (here_of e out) e.event e.actor req by from.0 (led_here e out work.own) from.1 (rw is_open refl) (subst (λ (s : Seen). has_req s.parked req ≡ false) work.same here.unparked) later both.1)
+          lawful_more_owing e out (rows.Dropped req (drops.By by)) (λ r. refl) (ends_other e out (rows.Dropped req (drops.By by)) req (refl, λ s. refl) here.unheld here.unparked) (none_lawful e out work.lawful) (λ later both. drop_may (here_of e out) e.event e.actor req by from.0 (led_here e out work.own) from.1 (rw is_open refl) (subst (λ (s : Seen). has_req s.parked req ≡ false) (now_is e out) here.unparked) later both.1)
         where
           is_open : from.0.ending ≡ None
           is_open =
@@ -60,7 +60,7 @@ module _ (e : InEvent) (out : List RowKind) (t : Tables) (req : ReqId) (work : I
 
   dropped_work : (cause : Cause) (next : List Load) → AreLawful e (out ++ rows.Dropped req cause ∷ []) → TiesLoads (then_dropped cause) next → IsAtWork e (out ++ rows.Dropped req cause ∷ []) (with_loads next)
   dropped_work cause next lawful loads =
-      work_more e out (rows.Dropped req cause) None t (with_loads next) work refl (dropped_seen e.checking (log_of e out) e.event e.actor req cause) tt tt
+      work_more e out (rows.Dropped req cause) None t (with_loads next) work (dropped_goes e out req cause) tt tt tt
       (on_tables (left_holds (look_now e out t.running) (look_of (then_dropped cause) t.running) t refl refl refl moved refl refl refl work.holds))
       (runs_ended_apart (now_of e out).requests t.running req (endings.Dropped cause) apart work.runs)
       (goal_same (now_of e out).requests (ended (now_of e out).requests req (endings.Dropped cause)) t.running t.goal (on_read goal_read (now_of e out).requests req (λ q. record q { ending = Some (endings.Dropped cause) }) (λ q. refl)) work.goal)

@@ -1,5 +1,5 @@
 -- A document is sent to a fragment, and the coordinator goes on working.
-use Rattle.unasked.proofs.Sents.{sent_seen}
+use Rattle.unasked.proofs.Nows.{sent_goes}
 use Rattle.seen_facts.proofs.LoadTies.Rows.{sent_tied}
 use Rattle.row_facts.proofs.LeaveRows.FragmentSends.{fragment_quiet}
 use Rattle.log_model.specs.After.{after}
@@ -10,7 +10,7 @@ use Rattle.log_model.specs.declared.job.Task.{Task}
 use Rattle.log_model.specs.declared.request.Mode.{Mode}
 use Rattle.log_model.specs.declared.row_kind.RowKind.{RowKind}
 use Rattle.seen_facts.proofs.Request.Readers.{on_read}
-use Rattle.seen_laws.specs.InEvent.{InEvent, log_of, now_of, row_of}
+use Rattle.seen_laws.specs.InEvent.{InEvent, now_of, row_of}
 use Rattle.std.proofs.Common.{List, None, Some, [], arith, cond, false, length, map, refl, subst, sym, true, ℕ, ◌++◌, ◌+◌, ◌==◌, ◌∷◌, ◌≡◌}
 use Rattle.std.proofs.lemmas.List.{length-map}
 use Rattle.tab_doors.proofs.Ahead.{sent_for}
@@ -56,7 +56,7 @@ module _ (e : InEvent) (out : List RowKind) (t : Tables) (doc : DocId) (req : Re
 
   pub fragment_work : MaySend None e out order → e.checking req ≡ false → (u : Tables) → u ≡ record t { sent = u.sent } → length u.sent.items ≡ length t.sent.items + 1 → IsAtWork e (out ++ rows.Sent order ∷ []) u
   fragment_work may off u same more =
-      subst (λ (x : Tables). IsAtWork e (out ++ rows.Sent order ∷ []) x) (sym same) (work_more e out (rows.Sent order) None t (record t { sent = u.sent }) work refl (sent_seen e.checking (log_of e out) order e.event e.actor refl) off tt
+      subst (λ (x : Tables). IsAtWork e (out ++ rows.Sent order ∷ []) x) (sym same) (work_more e out (rows.Sent order) None t (record t { sent = u.sent }) work (sent_goes e out order refl) tt off tt
       (record {
         navs = record { navs = as_before.navs.navs; order = as_before.navs.order };
         documents = as_before.documents;

@@ -1,10 +1,10 @@
 -- The document of a load is sent for, and the coordinator goes on working.
+use Rattle.unasked.proofs.Nows.{sent_goes}
 use Rattle.unasked_dues.specs.Checking.{IsForOther, NoneChecksFor}
 use Rattle.checking_facts.proofs.States.{of_ongoing}
 use Rattle.log_model.specs.Orders.{ongoing_load as load_in_log}
 use Rattle.unasked_dues.proofs.Shows.{numbered_in}
 use Rattle.unasked_dues.proofs.Making.{make_of_load_due}
-use Rattle.unasked.proofs.Sents.{sent_seen}
 use Rattle.seen_laws.specs.Sending.{IsNumbered}
 use Rattle.row_facts.proofs.FrameRows.LawfulLaws.{lawful_plain}
 use Rattle.row_facts.specs.FrameRows.Lawful.{AreLawful}
@@ -21,7 +21,7 @@ use Rattle.log_model.specs.declared.job.Job.{Job}
 use Rattle.log_model.specs.declared.job.Why.{Why}
 use Rattle.log_model.specs.declared.row_kind.RowKind.{RowKind}
 use Rattle.nav_tree.specs.Tree.{is_state}
-use Rattle.seen_laws.proofs.InEvents.{led_here}
+use Rattle.seen_laws.proofs.InEvents.{led_here, now_is}
 use Rattle.seen_laws.specs.InEvent.{InEvent, here_of, log_of, now_of, row_of}
 use Rattle.std.proofs.Common.{List, None, Option, Some, [], ap, false, map, refl, subst, sym, ℕ, ◌++◌, ◌∙◌, ◌∷◌, ◌≡◌}
 use Rattle.std.specs.Map.{lookup}
@@ -56,7 +56,7 @@ module _ (e : InEvent) (out : List RowKind) (t u : Tables) (proc : ProcId) (doc 
   -- the document state is that of a load that has passed
   none_checks : IsMakeOfLoadDue e.header (now_of e out) load_make nav state address → NoneChecksFor e.checking (log_of e out) state
   none_checks due =
-      of_ongoing e.checking (log_of e out) work.checks.states work.checks.numbered state due.q (subst (λ (s : Seen). load_in_log s state ≡ Some due.q) work.same due.loads)
+      of_ongoing e.checking (log_of e out) work.checks.states work.checks.numbered state due.q (subst (λ (s : Seen). load_in_log s state ≡ Some due.q) (now_is e out) due.loads)
 
   load_make_lawful : IsMakeOfLoadDue e.header (now_of e out) load_make nav state address → (desk_of (now_of e out) proc).known ≡ 0 → AreLawful e (out ++ rows.Sent load_make ∷ [])
   load_make_lawful due known =
@@ -72,7 +72,7 @@ module _ (e : InEvent) (out : List RowKind) (t u : Tables) (proc : ProcId) (doc 
 
   pub load_make_work : IsMakeOfLoadDue e.header (now_of e out) load_make nav state address → (desk_of (now_of e out) proc).known ≡ 0 → sight_in (map sight (now_of e out).documents) doc ≡ None → lookup (is_state state) t.making.entries ≡ None → IsUnmadeLoad (now_of e out) t.loads nav state → AreKeptDocs (now_of e out) → MakesOne nav state proc doc t u → u.running ≡ t.running → u.goal ≡ t.goal → u.initial.entries ≡ t.initial.entries → u.loads ≡ moved_on (is_of nav) (phases.Populating doc) t.loads → KeepsOthers nav t.loads u.loads → IsAtWork e (out ++ rows.Sent load_make ∷ []) u
   load_make_work due known unknown unmade its kept_docs one running goal initial loads others =
-      work_more e out (rows.Sent load_make) None t u work refl (sent_seen e.checking (log_of e out) load_make e.event e.actor refl) tt (none_checks due)
+      work_more e out (rows.Sent load_make) None t u work (sent_goes e out load_make refl) tt tt (none_checks due)
       (subst (λ (r : Option ReqId). Holds (look_of then_made r) u) (sym running) (make_holds (now_of e out) t.running e.event e.actor proc doc why nav state address false t work.holds unknown unmade u one))
       (subst (λ (r : Option ReqId). IsRunning (now_of e out).requests r) (sym running) work.runs)
       (subst (λ (r : Option ReqId). HasGoal (now_of e out).requests r u.goal) (sym running) (subst (λ (g : Step). HasGoal (now_of e out).requests t.running g) (sym goal) work.goal))

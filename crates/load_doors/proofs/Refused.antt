@@ -1,8 +1,9 @@
 -- A load is refused as it is accepted: the two rows may be logged together, and the coordinator is at work then.
+use Rattle.unasked_dues.proofs.Read.{read_more, read_own}
+use Rattle.unasked_dues.proofs.Sole.{sole_own}
+use Rattle.unasked.proofs.Nows.{refused_goes, refused_now}
 use Rattle.checking_facts.proofs.Rows.{row_checks}
 use Rattle.checking_facts.specs.Checks.{AreInCheck}
-use Rattle.seen_laws.specs.Unasked.{unasked}
-use Rattle.unasked.proofs.Ends.{refused_seen}
 use Rattle.seen_facts.specs.Each.Runs.{is_this}
 use Rattle.row_facts.specs.FrameRows.Lawful.{AreLawful}
 use Rattle.load_doors.specs.Refusing.{IsDeniedLoad}
@@ -19,7 +20,7 @@ use Rattle.log_model.specs.declared.row_kind.Actor.{Actor}
 use Rattle.log_model.specs.declared.row_kind.LogRow.{LogRow}
 use Rattle.log_model.specs.declared.row_kind.RowKind.{RowKind}
 use Rattle.seen_facts.proofs.Request.Readers.{on_read}
-use Rattle.seen_laws.proofs.InEvents.{log_more, now_more, now_own}
+use Rattle.seen_laws.proofs.InEvents.{log_more, goes_more, none_goes}
 use Rattle.seen_laws.specs.Blocks.{MayLog}
 use Rattle.seen_laws.specs.InEvent.{InEvent, log_of, now_of, row_of, start_of}
 use Rattle.seen_laws.specs.Sending.{leads}
@@ -28,7 +29,7 @@ use Rattle.tab_doors.proofs.Ahead.{lawful_none}
 use Rattle.tab_doors.proofs.EndLaws.{left_holds}
 use Rattle.tab_doors.proofs.Keeping.{unstarted_no_load}
 use Rattle.tab_doors.proofs.Requests.{ended_moved, moved_same, runs_ended_apart}
-use Rattle.tab_doors.proofs.Works.{goal_read, goal_same, none_steps}
+use Rattle.tab_doors.proofs.Works.{goal_read, goal_same, none_steps, soles_more}
 use Rattle.tab_doors.specs.Look.{look_of, moved_by}
 use Rattle.tab_doors.specs.Ties.{AreInitial, Holds, IsRunning}
 use Rattle.tab_doors.specs.Working.{HasGoal, IsAtWork, IsWorker}
@@ -86,13 +87,12 @@ module _ (e : InEvent) (t : Tables) (req : ReqId) (reason : Denial) (denied : Is
       record {
         own = ap (λ (k : RowKind). leads k) denied.own;
         worker = subst (λ (a : Actor). IsWorker a) (sym denied.by_user) tt;
-        begins = denied.begins;
-        rows = refl;
         plain = log_more e [] (rows.Refused req reason) ∙ ap (λ (x : Seen). after x (row_of e (rows.Refused req reason))) denied.plain ∙ sym now_is;
-        same = now_is ∙ ap (λ (x : Seen). after x (row_of e (rows.Refused req reason))) (now_own e) ∙ sym (refused_seen e.checking (log_of e []) e.event e.actor req reason) ∙ ap (λ (x : Seen). unasked e.checking x) (sym (log_more e [] (rows.Refused req reason)));
-        checks =
-            subst (λ (x : Seen). AreInCheck e.checking x) (sym (log_more e [] (rows.Refused req reason)))
-            (row_checks e.checking (log_of e []) (row_of e (rows.Refused req reason)) tt tt denied.checks);
+        goes = goes_more e [] [] (rows.Refused req reason) (none_goes e []) (refused_goes e [] req reason);
+        numbered = denied.numbered;
+        read = read_more e [] (rows.Refused req reason) (read_own e (record { numbered = denied.checks.numbered; others = denied.checks.others })) (record { numbered = checks_.numbered; others = checks_.others });
+        sole = soles_more e [] (rows.Refused req reason) tt (sole_own e (log_of e []));
+        checks = checks_;
         unheld = none_steps e.checking denied.unchecked (log_of e (rows.Refused req reason ∷ []));
         holds = subst (λ (x : Seen). Holds (look_of x t.running) t) (sym now_is) (left_holds (look_of s t.running) (look_of n t.running) t refl refl refl moved refl refl refl tied.holds);
         runs = subst (λ (x : Seen). IsRunning x.requests t.running) (sym now_is) (runs_ended_apart s.requests t.running req (endings.Refused reason) apart tied.runs);
@@ -105,4 +105,9 @@ module _ (e : InEvent) (t : Tables) (req : ReqId) (reason : Denial) (denied : Is
       }
     where
       now_is : now_of e (rows.Refused req reason ∷ []) ≡ n
-      now_is = now_more e [] (rows.Refused req reason) refl
+      now_is = refused_now e [] req reason
+
+      checks_ : AreInCheck e.checking (log_of e (rows.Refused req reason ∷ []))
+      checks_ =
+          subst (λ (x : Seen). AreInCheck e.checking x) (sym (log_more e [] (rows.Refused req reason)))
+          (row_checks e.checking (log_of e []) (row_of e (rows.Refused req reason)) tt tt denied.checks)

@@ -1,11 +1,12 @@
 -- When a load is refused as it is accepted.
 -- HTML Standard, "navigate"; the reasons are this project's own.
+use Rattle.unasked_dues.specs.Checking.{AreNumbered}
 use Rattle.checking_facts.specs.Checks.{AreInCheck}
 use Rattle.log_model.specs.Causes.{denial_at_acceptance}
 use Rattle.log_model.specs.Equal.{has_req}
 use Rattle.log_model.specs.declared.outcome.Denial.{Denial}
 use Rattle.log_model.specs.declared.request.Mode.{Mode}
-use Rattle.seen_laws.specs.InEvent.{InEvent, first_of, log_of, now_of, seen_first}
+use Rattle.seen_laws.specs.InEvent.{InEvent, log_of, now_of}
 use Rattle.std.specs.Prelude.{List, None, Some, false, length, ℕ, ◌+◌, ◌≡◌, []}
 use Rattle.tab_ids.specs.declared.NavId.{NavId}
 use Rattle.tab_ids.specs.declared.ReqId.{ReqId}
@@ -17,7 +18,7 @@ use Rattle.log_model.specs.declared.row_kind.RowKind.TheVariants as rows
 pub record IsDeniedLoad (e : InEvent) (req : ReqId) (reason : Denial) : Type 0 where
   -- nobody is in a check, and nobody is asked so far
   pub unchecked : (r : ReqId) → e.checking r ≡ false
-  pub begins : seen_first e ≡ first_of e
+  pub numbered : AreNumbered e.start
   pub checks : AreInCheck e.checking (log_of e [])
   pub plain : log_of e [] ≡ now_of e []
   pub nav : NavId

@@ -1,8 +1,6 @@
 -- One row more in an event.
 use Rattle.std.proofs.Common.{◌≡◌, Bool, true, false, cond, ◌||◌, Option, None, List, [], ◌∷◌, ◌++◌, map, fold, refl, sym, ap, ◌∙◌, subst, append_assoc, append-nil}
 use Rattle.std.proofs.lemmas.List.{map-append}
-use Rattle.std.proofs.lemmas.List.Elements.{filter-append}
-use Rattle.std.specs.Prelude.{filter}
 use Rattle.seen_laws.specs.Unasked.{unasked}
 use Rattle.log_model.specs.declared.row_kind.LogRow.{LogRow}
 use Rattle.log_model.specs.declared.row_kind.RowKind.{RowKind}
@@ -18,7 +16,7 @@ use Rattle.log_model.specs.declared.job.Task.TheVariants as tasks
 use Rattle.log_model.specs.declared.row_kind.RowKind.TheVariants as rows
 use Rattle.log_model.specs.Orders.{Question, is_for, question_in}
 use Rattle.seen_laws.specs.Sending.{IsToldTask}
-use Rattle.seen_laws.specs.InEvent.{InEvent, row_of, start_of, first_of, here_of, is_seen, seen_first, seen_here, seen_rows, log_of, now_of, begins, IsTakenIn, IsRest, IsPaid, IsClear, Anything, AreLegal}
+use Rattle.seen_laws.specs.InEvent.{InEvent, row_of, start_of, first_of, here_of, EachGoes, GoesThere, IsReadOff, log_of, now_of, begins, IsTakenIn, IsRest, IsPaid, IsClear, Anything, AreLegal}
 use Rattle.seen_laws.specs.Owing.{Pays, MayLogOwing}
 use Rattle.seen_laws.proofs.BlockLaws.{each_pass_append}
 use Rattle.seen_laws.proofs.Owings.{pays_append}
@@ -33,52 +31,95 @@ here_more e out kind = ap (λ (rows : List LogRow). on_rows (first_of e) rows) (
 pub log_more : (e : InEvent) (out : List RowKind) (kind : RowKind) → log_of e (out ++ kind ∷ []) ≡ after (log_of e out) (row_of e kind)
 log_more e out kind = ap (λ (h : Here). h.now) (here_more e out kind)
 
--- the rows that are seen, with one more
-filter_more : (test : RowKind → Bool) (out : List RowKind) (kind : RowKind) → test kind ≡ true → filter test (out ++ kind ∷ []) ≡ filter test out ++ kind ∷ []
-filter_more test out kind is =
-    filter-append test out (kind ∷ []) ∙ ap (λ (kinds : List RowKind). filter test out ++ kinds) (ap (λ b. cond b (kind ∷ []) []) is)
+-- ---- in the log as it would be had nobody been asked
 
-filter_less : (test : RowKind → Bool) (out : List RowKind) (kind : RowKind) → test kind ≡ false → filter test (out ++ kind ∷ []) ≡ filter test out
-filter_less test out kind isnt =
-    filter-append test out (kind ∷ []) ∙ ap (λ (kinds : List RowKind). filter test out ++ kinds) (ap (λ b. cond b (kind ∷ []) []) isnt) ∙ append-nil (filter test out)
-
--- one that is seen
-pub seen_more : (e : InEvent) (out : List RowKind) (kind : RowKind) → is_seen e.checking kind ≡ true → seen_rows e (out ++ kind ∷ []) ≡ seen_rows e out ++ row_of e kind ∷ []
-seen_more e out kind seen =
-    ap (λ (kinds : List RowKind). map (row_of e) kinds) (filter_more (is_seen e.checking) out kind seen)
-    ∙ map-append (row_of e) (filter (is_seen e.checking) out) (kind ∷ [])
-
-pub seen_here_more : (e : InEvent) (out : List RowKind) (kind : RowKind) → is_seen e.checking kind ≡ true → seen_here e (out ++ kind ∷ []) ≡ on_row (seen_here e out) (row_of e kind)
-seen_here_more e out kind seen =
-    ap (λ (rows_ : List LogRow). on_rows (seen_first e) rows_) (seen_more e out kind seen)
-    ∙ on_rows_append (seen_first e) (seen_rows e out) (row_of e kind ∷ [])
-
-pub now_more : (e : InEvent) (out : List RowKind) (kind : RowKind) → is_seen e.checking kind ≡ true → now_of e (out ++ kind ∷ []) ≡ after (now_of e out) (row_of e kind)
+-- what the log without questions is
+pub now_is : (e : InEvent) (out : List RowKind) → now_of e out ≡ unasked e.checking (log_of e out)
 unfolding now_of
-now_more e out kind seen = ap (λ (h : Here). h.now) (seen_here_more e out kind seen)
+now_is e out = refl
 
--- one that isn't
-pub now_unseen : (e : InEvent) (out : List RowKind) (kind : RowKind) → is_seen e.checking kind ≡ false → now_of e (out ++ kind ∷ []) ≡ now_of e out
+-- after one more, where that is read off
+pub now_more : (e : InEvent) (out : List RowKind) (kind : RowKind) → IsReadOff e out kind → now_of e (out ++ kind ∷ []) ≡ after (now_of e out) (row_of e kind)
 unfolding now_of
-now_unseen e out kind unseen =
-    ap (λ (kinds : List RowKind). (on_rows (seen_first e) (map (row_of e) kinds)).now) (filter_less (is_seen e.checking) out kind unseen)
+now_more e out kind read = ap (unasked e.checking) (log_more e out kind) ∙ read
 
--- what each row keeps holds after one more, whether it is seen or not
-pub now_step : (P : Seen → Type 0) (e : InEvent) (out : List RowKind) (kind : RowKind) → (P (now_of e out) → P (after (now_of e out) (row_of e kind))) → P (now_of e out) → P (now_of e (out ++ kind ∷ []))
-now_step P e out kind keeps holds_ = by_seen (is_seen e.checking kind) refl
+-- what the row keeps holds after it
+pub now_step : (P : Seen → Type 0) (e : InEvent) (out : List RowKind) (kind : RowKind) → GoesThere e out kind → (P (now_of e out) → P (after (now_of e out) (row_of e kind))) → P (now_of e out) → P (now_of e (out ++ kind ∷ []))
+now_step P e out kind goes keeps holds_ = subst P (sym (now_more e out kind goes.read)) (keeps holds_)
+
+-- ---- rows that go there, one behind the other
+
+-- a row of a list with one more is the last, or one of those before
+data Standing (more before : List RowKind) (kind k : RowKind) : Type 0 where
+  last : before ≡ more → k ≡ kind → Standing more before kind k
+  within : (later : List RowKind) → before ++ k ∷ later ≡ more → Standing more before kind k
+
+stands_behind : (m b : RowKind) (more before : List RowKind) (kind k : RowKind) → b ≡ m → Standing more before kind k → Standing (m ∷ more) (b ∷ before) kind k
+stands_behind m b more before kind k first (last is same) =
+    last (ap (λ (x : RowKind). x ∷ before) first ∙ ap (λ (l : List RowKind). m ∷ l) is) same
+stands_behind m b more before kind k first (within later is) =
+    within later (ap (λ (x : RowKind). x ∷ before ++ k ∷ later) first ∙ ap (λ (l : List RowKind). m ∷ l) is)
+
+standing : (more before later : List RowKind) (kind k : RowKind) → before ++ k ∷ later ≡ more ++ kind ∷ [] → Standing more before kind k
+standing [] [] [] kind k is = last refl cc
+standing [] [] (r ∷ later) kind k is = absurd cc
+standing [] (b ∷ []) later kind k is = absurd cc
+standing [] (b ∷ c ∷ before) later kind k is = absurd cc
+standing (m ∷ more) [] later kind k is =
+    let same : k ≡ m = cc in
+    within more (ap (λ (x : RowKind). x ∷ more) same)
+standing (m ∷ more) (b ∷ before) later kind k is =
+    let first : b ≡ m = cc in
+    let rest : before ++ k ∷ later ≡ more ++ kind ∷ [] = cc in
+    stands_behind m b more before kind k first (standing more before later kind k rest)
+
+pub none_goes : (e : InEvent) (was : List RowKind) → EachGoes e was []
+none_goes e was = record { each = never }
   where
-    by_seen : (b : Bool) → is_seen e.checking kind ≡ b → P (now_of e (out ++ kind ∷ []))
-    by_seen true is = subst P (sym (now_more e out kind is)) (keeps holds_)
-    by_seen false isnt = subst P (sym (now_unseen e out kind isnt)) holds_
+    never : (before later : List RowKind) (kind : RowKind) → before ++ kind ∷ later ≡ [] → GoesThere e (was ++ before) kind
+    never [] later kind is = absurd cc
+    never (k ∷ before) later kind is = absurd cc
 
--- the event's own row alone
-pub now_own : (e : InEvent) → now_of e [] ≡ unasked e.checking (after e.start (row_of e e.own))
-unfolding now_of
-now_own e = refl
+-- the first of them
+pub first_goes : (e : InEvent) (was more : List RowKind) (kind : RowKind) → EachGoes e was (kind ∷ more) → GoesThere e was kind
+first_goes e was more kind goes = subst (λ (l : List RowKind). GoesThere e l kind) (append-nil was) (goes.each [] more kind refl)
 
--- the event one row on
-pub next_now : (e : InEvent) (out more : List RowKind) (kind : RowKind) → is_seen e.checking kind ≡ true → more ≡ out ++ kind ∷ [] → now_of e more ≡ after (now_of e out) (row_of e kind)
-next_now e out more kind seen is = ap (λ (l : List RowKind). now_of e l) is ∙ now_more e out kind seen
+-- and the others
+pub rest_goes : (e : InEvent) (was more : List RowKind) (kind : RowKind) → EachGoes e was (kind ∷ more) → EachGoes e (was ++ kind ∷ []) more
+rest_goes e was more kind goes =
+    record {
+      each = λ before later k is. subst (λ (l : List RowKind). GoesThere e l k) (sym (append_assoc was (kind ∷ []) before)) (goes.each (kind ∷ before) later k (ap (λ (l : List RowKind). kind ∷ l) is));
+    }
+
+-- those behind some of them
+pub behind_goes : (e : InEvent) (was more then_ : List RowKind) → EachGoes e was (more ++ then_) → EachGoes e (was ++ more) then_
+behind_goes e was more then_ goes =
+    record {
+      each = λ before later k is. subst (λ (l : List RowKind). GoesThere e l k) (sym (append_assoc was more before)) (goes.each (more ++ before) later k (append_assoc more before (k ∷ later) ∙ ap (λ (l : List RowKind). more ++ l) is));
+    }
+
+-- those of an event that came behind these
+pub since_goes : (e : InEvent) (was more out : List RowKind) → out ≡ was ++ more → EachGoes e [] out → EachGoes e was more
+since_goes e was more out is goes = behind_goes e [] was more (subst (λ (l : List RowKind). EachGoes e [] l) is goes)
+
+-- the last of them
+pub last_goes : (e : InEvent) (was : List RowKind) (kind : RowKind) (out : List RowKind) → out ≡ was ++ kind ∷ [] → EachGoes e [] out → GoesThere e was kind
+last_goes e was kind out is goes = first_goes e was [] kind (since_goes e was (kind ∷ []) out is goes)
+
+-- so what the log without questions has come to behind it
+pub now_at : (e : InEvent) (was : List RowKind) (kind : RowKind) (out : List RowKind) → out ≡ was ++ kind ∷ [] → EachGoes e [] out → now_of e out ≡ after (now_of e was) (row_of e kind)
+now_at e was kind out is goes =
+    ap (λ (l : List RowKind). now_of e l) is ∙ now_more e was kind (last_goes e was kind out is goes).read
+
+-- and one more
+pub goes_more : (e : InEvent) (was more : List RowKind) (kind : RowKind) → EachGoes e was more → GoesThere e (was ++ more) kind → EachGoes e was (more ++ kind ∷ [])
+goes_more e was more kind goes it =
+    record { each = λ before later k is. by_part before k (standing more before later kind k is) }
+  where
+    by_part : (before : List RowKind) (k : RowKind) → Standing more before kind k → GoesThere e (was ++ before) k
+    by_part before k (last is same) =
+        subst (λ (x : RowKind). GoesThere e (was ++ before) x) (sym same) (subst (λ (l : List RowKind). GoesThere e (was ++ l) kind) (sym is) it)
+    by_part before k (within later is) = goes.each before later k is
 
 -- all rows of the event
 fold_rows : (h : Here) (rows : List LogRow) → (on_rows h rows).now ≡ fold after h.now rows

@@ -1,6 +1,6 @@
 -- An event in which the coordinator works: its own row, and the rows put out so far.
 -- This project's own.
-use Rattle.std.specs.Prelude.{◌≡◌, ℕ, Bool, true, false, not, ◌==◌, List, [], ◌∷◌, ◌++◌, map, filter}
+use Rattle.std.specs.Prelude.{◌≡◌, ℕ, Bool, true, false, not, ◌==◌, List, [], ◌∷◌, ◌++◌, map}
 use Rattle.std.specs.List.{list_any, filter_map}
 use Rattle.tab_ids.specs.declared.ReqId.{ReqId}
 use Rattle.log_model.specs.declared.header.Header.{Header}
@@ -8,6 +8,7 @@ use Rattle.log_model.specs.declared.row_kind.Actor.{Actor}
 use Rattle.log_model.specs.declared.row_kind.LogRow.{LogRow}
 use Rattle.log_model.specs.declared.row_kind.RowKind.{RowKind}
 use Rattle.log_model.specs.declared.row_kind.RowKind.TheVariants as rows
+use Rattle.log_model.specs.After.{after}
 use Rattle.log_model.specs.Seen.{Seen}
 use Rattle.seen_laws.specs.Unasked.{is_question, unasked}
 use Rattle.log_model.specs.Orders.{question_in}
@@ -46,25 +47,33 @@ log_of e out = (here_of e out).now
 -- the row is seen in the log as it would be had nobody been asked
 abbrev pub is_seen : (ReqId → Bool) → RowKind → Bool
 is_seen checking (rows.Started req goal) = not (checking req)
+is_seen checking (rows.Applied req change) = not (checking req)
 is_seen checking (rows.Prompted req doc) = false
 is_seen checking (rows.Answered req stay) = false
 is_seen checking (rows.Sent job) = not (is_question job.task)
 is_seen checking _ = true
 
--- where the event stands in the log as it would be had nobody been asked: after its own row, and after those of these rows that are seen
-abbrev pub seen_first : InEvent → Here
-seen_first e =
-    record { header = e.header; start = unasked e.checking e.start; now = unasked e.checking (first_of e).now; done = row_of e e.own ∷ [] }
-
-abbrev pub seen_rows : InEvent → List RowKind → List LogRow
-seen_rows e out = map (row_of e) (filter (is_seen e.checking) out)
-
-abbrev pub seen_here : InEvent → List RowKind → Here
-seen_here e out = on_rows (seen_first e) (seen_rows e out)
-
--- what that log has come to by then
+-- what the log would have come to by then had nobody been asked
 unfoldable pub now_of : InEvent → List RowKind → Seen
-now_of e out = (seen_here e out).now
+now_of e out = unasked e.checking (log_of e out)
+
+-- where the event stands there
+abbrev pub seen_here : InEvent → List RowKind → Here
+seen_here e out = record (here_of e out) { start = unasked e.checking e.start; now = now_of e out }
+
+-- what the row makes of the log without questions is read off what it makes of the log
+abbrev pub IsReadOff : InEvent → List RowKind → RowKind → Type 0
+IsReadOff e out kind =
+    unasked e.checking (after (log_of e out) (row_of e kind)) ≡ after (unasked e.checking (log_of e out)) (row_of e kind)
+
+-- it is seen there, and read off
+pub record GoesThere (e : InEvent) (out : List RowKind) (kind : RowKind) : Type 0 where
+  pub seen : is_seen e.checking kind ≡ true
+  pub read : IsReadOff e out kind
+
+-- each of these rows is, where they come behind those
+pub record EachGoes (e : InEvent) (was more : List RowKind) : Type 0 where
+  pub each : (before later : List RowKind) (kind : RowKind) → before ++ kind ∷ later ≡ more → GoesThere e (was ++ before) kind
 
 -- nothing is asked of what comes later
 abbrev pub Anything : List LogRow → Type 0

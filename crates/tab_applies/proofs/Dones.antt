@@ -1,4 +1,5 @@
 -- As a ready load was applied, all goes on, and the rest is as it was.
+use Rattle.seen_laws.proofs.InEvents.{last_goes, now_at}
 use Rattle.seen_facts.proofs.Coord.Held.{without_same}
 use Rattle.seen_facts.proofs.Coord.Unread.{next}
 use Rattle.seen_facts.proofs.Entry.Skips.{without_made}
@@ -23,7 +24,6 @@ use Rattle.row_facts.proofs.Owed.Rows.{applied_lasts}
 use Rattle.row_facts.specs.Owed.Owed.{IsLoose}
 use Rattle.row_facts.proofs.RestRows.Rows.{applied_rests}
 use Rattle.row_facts.specs.RestRows.Moving.{AllRest}
-use Rattle.seen_laws.proofs.InEvents.{now_more}
 use Rattle.seen_laws.specs.InEvent.{InEvent, now_of}
 use Rattle.std.proofs.Common.{Bool, List, None, Option, Some, [], ap, false, if◌then◌else◌, length, refl, subst, sym, true, ℕ, ◌++◌, ◌∙◌, ◌∷◌, ◌≡◌, ◌≤◌}
 use Rattle.tab_applies.proofs.Dues.{aim_now, fit, given, going, next_is, open_, tab, tie, unheld_at}
@@ -103,7 +103,7 @@ module _ (p : InPass) (out : List RowKind) (t : Tables) (passing : IsPassing p o
     n = next s e.event e.actor (rows.Applied load.req change)
 
     now : now_of e more ≡ n
-    now = ap (λ (l : List RowKind). now_of e l) out_is ∙ now_more e out (rows.Applied load.req change) refl
+    now = now_at e out (rows.Applied load.req change) more out_is work.goes
 
     going_then : IsGoing None p.loads p.hand n
     going_then =
@@ -115,7 +115,7 @@ module _ (p : InPass) (out : List RowKind) (t : Tables) (passing : IsPassing p o
     loose_then : IsLoose e more
     loose_then =
         subst (λ (l : List RowKind). IsLoose e l) (sym out_is)
-        (loose_more e out (rows.Applied load.req change) refl (passing.loose stand) (applied_lasts s e.event e.actor load.req change) (λ end on. refl))
+        (loose_more e out (rows.Applied load.req change) (last_goes e out (rows.Applied load.req change) _ out_is work.goes).read (passing.loose stand) (applied_lasts s e.event e.actor load.req change) (λ end on. refl))
 
     pub apply_passing : IsPassing p more u
     apply_passing =

@@ -1,4 +1,5 @@
 -- Right after a load was applied where all stood: its navigable is in need, nobody is but it and those below, and who isn't below it stands where it stood.
+use Rattle.seen_laws.proofs.InEvents.{now_at}
 use Rattle.tab_facts.specs.Frame.Lasting.{wish}
 use Rattle.seen_facts.proofs.Request.Readers.{SameReads, on_read, reads_then}
 use Rattle.log_model.specs.Equal.{has_req}
@@ -60,7 +61,6 @@ use Rattle.log_model.specs.declared.change.Change.{Change}
 use Rattle.log_model.specs.declared.row.Row.{Row}
 use Rattle.log_model.specs.declared.row_kind.RowKind.{RowKind}
 use Rattle.navigate_core.specs.Navigations.{change_for}
-use Rattle.seen_laws.proofs.InEvents.{now_more}
 use Rattle.seen_laws.proofs.Keyed.{find_map}
 use Rattle.seen_laws.specs.InEvent.{InEvent, now_of}
 use Rattle.tab_facts.proofs.ShownWays.Changes.{push_keeps, push_left, push_own, replace_left, replace_new, replace_own, replace_targets}
@@ -143,7 +143,7 @@ module _ (p : InPass) (out : List RowKind) (t : Tables) (passing : IsPassing p o
   change = change_for load it.over (new_entry t)
 
   now_is : n ≡ next s e.event e.actor (rows.Applied load.req change)
-  now_is = ap (λ (l : List RowKind). now_of e l) it.out ∙ now_more e out (rows.Applied load.req change) refl
+  now_is = now_at e out (rows.Applied load.req change) more it.out then_.work.goes
 
   history_is : n.history ≡ applied s.history change
   history_is = ap (λ (x : Seen). x.history) now_is

@@ -1,4 +1,6 @@
 -- The turn of a traversal: what it leaves, read off the row that was put out.
+use Rattle.seen_laws.proofs.InEvents.{now_at}
+use Rattle.tab_doors.proofs.PassedOn.{refused_now}
 use Rattle.seen_facts.proofs.Coord.Held.{on_else}
 use Rattle.tab_facts.specs.Frame.Lasting.{Wish, wish}
 use Rattle.seen_facts.specs.Load.Loading.{Look, is_ongoing, look, look_of}
@@ -9,14 +11,12 @@ use Rattle.log_model.specs.Places.{aim_of, all_stand, is_load, is_traversal}
 use Rattle.log_model.specs.Seen.{Asked, Seen, request_in}
 use Rattle.log_model.specs.declared.row_kind.RowKind.{RowKind}
 use Rattle.row_facts.proofs.Owed.Requests.{req_same}
-use Rattle.seen_laws.proofs.InEvents.{now_more}
 use Rattle.seen_laws.specs.InEvent.{InEvent, now_of}
-use Rattle.std.proofs.Common.{Bool, List, None, Option, Some, [], ap, false, not, refl, subst, sym, true, ℕ, ℤ, ◌&&◌, ◌++◌, ◌==◌, ◌∙◌, ◌∷◌, ◌≡◌}
+use Rattle.std.proofs.Common.{Bool, List, None, Option, Some, [], ap, false, refl, subst, sym, true, ℕ, ℤ, ◌&&◌, ◌++◌, ◌==◌, ◌∙◌, ◌∷◌, ◌≡◌}
 use Rattle.std.proofs.lemmas.Bool.{and_parts}
 use Rattle.std.specs.Prelude.{is_none, option_map}
 use Rattle.tab_begins.proofs.Begins.{loads_move, open_then, passed_on, rows_on, strays_on}
 use Rattle.tab_begins.specs.Taking.{AreOldLoads, GoesOn, HasBegun, KeepsStrays}
-use Rattle.tab_doors.proofs.LogDues.{turn_off}
 use Rattle.tab_doors.specs.declared.tables.Tables.{Tables}
 use Rattle.tab_ids.specs.declared.ReqId.{ReqId}
 use Rattle.tab_ids.specs.declared.Step.{Step}
@@ -131,12 +131,12 @@ module _ (p : InPass) (out : List RowKind) (t : Tables) (passing : IsPassing p o
   begun_other : (goal : Step) → more ≡ out ++ rows.Started req (Some goal) ∷ [] → (r : ReqId) → (r.0 == req.0) ≡ false → look_of n r ≡ look_of s r
   unfolding begin
   begun_other goal is r apart =
-      ap (λ (x : Seen). look_of x r) (ap (λ (l : List RowKind). now_of e l) is ∙ now_more e out (rows.Started req (Some goal)) (ap not (turn_off e out passing.work.same passing.work.checks.begun passing.work.unheld req its.q its.at its.open_ its.goes)))
+      ap (λ (x : Seen). look_of x r) (now_at e out (rows.Started req (Some goal)) more is then_.work.goes)
       ∙ ap (option_map look) (on_else (on_request req (begin goal) s.requests) req (request_begun s) r apart ∙ on_else s.requests req (begin goal) r apart)
 
   refused_other : more ≡ out ++ rows.Refused req denials.NoStep ∷ [] → (r : ReqId) → (r.0 == req.0) ≡ false → look_of n r ≡ look_of s r
   refused_other is r apart =
-      ap (λ (x : Seen). look_of x r) (ap (λ (l : List RowKind). now_of e l) is ∙ now_more e out (rows.Refused req denials.NoStep) refl)
+      ap (λ (x : Seen). look_of x r) (ap (λ (l : List RowKind). now_of e l) is ∙ refused_now e out req denials.NoStep)
       ∙ ap (option_map look) (on_else s.requests req (λ (q : Asked). record q { ending = Some (endings.Refused denials.NoStep) }) r apart)
 
   -- either

@@ -1,7 +1,7 @@
 -- A change is put out, and the coordinator goes on working.
+use Rattle.unasked.proofs.Nows.{applied_goes}
 use Rattle.checking_facts.proofs.Brings.{brings_made}
 use Rattle.tab_doors.proofs.LogDues.{end_due, end_off, take_due}
-use Rattle.unasked.proofs.Ends.{applied_seen}
 use Rattle.apply_plan.specs.Order.{made_in}
 use Rattle.seen_facts.proofs.Coord.Held.{without_same}
 use Rattle.tab_doors.proofs.Ahead.{lawful_none, none_lawful}
@@ -23,7 +23,7 @@ use Rattle.tab_doors.specs.Look.{Sight, look_of, moved_by, sight}
 use Rattle.tab_doors.specs.Ties.{AreInitial, Holds, IsAwakeAtHome, IsHome, IsRunning, IsTied, status_of}
 use Rattle.tab_doors.specs.Working.{HasGoal, IsAtWork, look_now}
 use Rattle.tab_doors.specs.declared.tables.Tables.{Tables}
-use Rattle.row_facts.proofs.FrameRows.LawfulLaws.{AsksOf, ends_other, lawful_more, lawful_plain}
+use Rattle.row_facts.proofs.FrameRows.LawfulLaws.{AsksOf, ends_other, lawful_more, lawful_plain, left_parked}
 use Rattle.row_facts.proofs.FrameRows.Takes.{taken_may}
 use Rattle.row_facts.proofs.LeaveRows.FragmentTakes.{fragment_applied_may}
 use Rattle.row_facts.proofs.FrameRows.Turns.{end_may}
@@ -55,7 +55,7 @@ use Rattle.nav_tree.specs.declared.node.Node.{Node}
 use Rattle.seen_facts.specs.Each.Runs.{is_this}
 use Rattle.page_cache.specs.Kept.{Kept}
 use Rattle.seen_facts.proofs.Request.Readers.{SameReads, on_read, reads_then}
-use Rattle.seen_laws.proofs.InEvents.{led_here, now_more}
+use Rattle.seen_laws.proofs.InEvents.{led_here, now_is}
 use Rattle.seen_laws.specs.Blocks.{Here, MayLog, point_at}
 use Rattle.seen_laws.specs.InEvent.{Anything, InEvent, here_of, log_of, now_of, row_of}
 use Rattle.std.proofs.Common.{Bool, List, None, Option, Some, [], ap, arith, cond, false, inl, inr, length, map, refl, subst, sym, true, ℕ, ◌&&◌, ◌++◌, ◌+◌, ◌==◌, ◌∙◌, ◌∷◌, ◌≡◌, ◌≤◌, ◌⊎◌}
@@ -107,7 +107,7 @@ module _ (e : InEvent) (out : List RowKind) (t u : Tables) (req : ReqId) (change
 
   -- of the log itself
   in_log : IsTakeDueIn (log_of e out) e out req change
-  in_log = take_due e out work.same (moving_log e out t work) work.checks.others req change off due
+  in_log = take_due e out (now_is e out) (moving_log e out t work) work.checks.others req change off due
 
   -- no traversal is it
   abbrev IsNoTraverse : Type 0
@@ -125,7 +125,7 @@ module _ (e : InEvent) (out : List RowKind) (t u : Tables) (req : ReqId) (change
 
   pub taken_work : IsNoTraverse → Holds (look_of then_ t.running) u → AreInitial then_.initial_states u.initial.entries → u.loads ≡ t.loads → u.kept ≡ t.kept → IsAtWork e (out ++ rows.Applied req change ∷ []) u
   taken_work plain holds initial loads kept =
-      work_more e out (rows.Applied req change) None t u work refl (applied_seen e.checking (log_of e out) e.event e.actor req change (λ q found. ap e.checking (work.checks.numbered req q found) ∙ off)) off (brings_made e.checking (log_of e out) work.checks.states in_log.asked change in_log.unstarted in_log.due.due)
+      work_more e out (rows.Applied req change) None t u work (applied_goes e out req change (work.checks.numbered req) off) tt off (brings_made e.checking (log_of e out) work.checks.states in_log.asked change in_log.unstarted in_log.due.due)
       (subst (λ (r : Option ReqId). Holds (look_of then_ r) u) (sym running) holds)
       (subst (λ (r : Option ReqId). IsRunning then_.requests r) (sym running) (runs_applied_apart (now_of e out) e.event e.actor t.running req change apart work.runs))
       (goal_on (now_of e out).requests then_.requests t u (applied_reads goal_read (now_of e out) e.event e.actor req change (λ q x. refl) (λ q x. refl) (λ q x. refl)) running goal work.goal)
@@ -274,17 +274,17 @@ module _ (e : InEvent) (out : List RowKind) (t u : Tables) (req : ReqId) (goal_ 
   held_then later asks = by_first due.first
     where
       left : (now_of e (out ++ rows.Applied req (changes.Traverse goal_) ∷ [])).parked ≡ (now_of e out).parked
-      left = ap (λ (s : Seen). s.parked) (now_more e out (rows.Applied req (changes.Traverse goal_)) refl) ∙ without_same (now_of e out).parked req due.unparked
+      left = left_parked e out (rows.Applied req (changes.Traverse goal_)) req (refl, λ s. refl) ∙ without_same (now_of e out).parked req due.unparked
 
       by_first : ((now_of e out).parked ≡ held_at_first e) ⊎ (((now_of e out).parked ≡ []) × (has_req (held_at_first e) req ≡ false)) → ends_among (now_of e out).parked later ≡ (now_of e out).parked
       by_first (inl same) = ap (λ (l : List ReqId). ends_among l later) same ∙ asks.1 refl ∙ left
       by_first (inr none) = ap (λ (l : List ReqId). ends_among l later) none.0 ∙ none_ends (filter_map ends_in later) ∙ sym none.0
 
   end_lawful : AreLawful e (out ++ rows.Applied req (changes.Traverse goal_) ∷ [])
-  end_lawful = by_log (end_due e out work.same (aimed_log e out t work) req goal_ due)
+  end_lawful = by_log (end_due e out (now_is e out) (aimed_log e out t work) req goal_ due)
     where
       parked : (now_of e out).parked ≡ (log_of e out).parked
-      parked = ap (λ (s : Seen). s.parked) work.same
+      parked = ap (λ (s : Seen). s.parked) (now_is e out)
 
       by_log : IsEndDueIn (log_of e out) e out req goal_ → AreLawful e (out ++ rows.Applied req (changes.Traverse goal_) ∷ [])
       by_log d =
@@ -292,11 +292,11 @@ module _ (e : InEvent) (out : List RowKind) (t u : Tables) (req : ReqId) (goal_ 
 
   -- it isn't in its check
   off : e.checking req ≡ false
-  off = end_off e out work.same (aimed_log e out t work) req goal_ due
+  off = end_off e out (now_is e out) (aimed_log e out t work) req goal_ due
 
   pub end_work : u.tree ≡ unmove_all (made_in t.tree) t.tree → SameHistory (history_held u.store) (applied (now_of e out).history (changes.Traverse goal_)) → Changes t u → u.states ≡ t.states → u.entries ≡ t.entries → u.initial.entries ≡ t.initial.entries → u.running ≡ None → IsAtWork e (out ++ rows.Applied req (changes.Traverse goal_) ∷ []) u
   end_work tree history one states entries initial running =
-      work_more e out (rows.Applied req (changes.Traverse goal_)) None t u work refl (applied_seen e.checking (log_of e out) e.event e.actor req (changes.Traverse goal_) (λ q found. ap e.checking (work.checks.numbered req q found) ∙ off)) off tt
+      work_more e out (rows.Applied req (changes.Traverse goal_)) None t u work (applied_goes e out req (changes.Traverse goal_) (work.checks.numbered req) off) tt off tt
       (subst (λ (r : Option ReqId). Holds (look_of ended_ r) u) (sym running) (ended_holds (now_of e out) e.event e.actor req goal_ t u (subst (λ (r : Option ReqId). Holds (look_of (now_of e out) r) t) its work.holds) one (λ other is. is) tree history states entries))
       (subst (λ (r : Option ReqId). IsRunning ended_.requests r) (sym running) (runs_applied_own (now_of e out) e.event e.actor req (changes.Traverse goal_) (subst (λ (r : Option ReqId). IsRunning (now_of e out).requests r) its work.runs)))
       (subst (λ (r : Option ReqId). HasGoal ended_.requests r u.goal) (sym running) (goal_of_none ended_.requests u.goal))

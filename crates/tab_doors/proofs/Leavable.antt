@@ -1,4 +1,5 @@
 -- Documents that orders freeze or discard, where the facts speak of the log as it would be had nobody been asked: so in the log they may be left, for the same reasons.
+use Rattle.seen_laws.proofs.InEvents.{now_is}
 use Rattle.std.proofs.Common.{◌≡◌, Bool, false, true, List, Option, Some, None, [], refl, sym, ap, ◌∙◌, subst}
 use Rattle.tab_ids.specs.declared.DocId.{DocId}
 use Rattle.tab_ids.specs.declared.NavId.{NavId}
@@ -134,19 +135,19 @@ module _ {move : Option Move} (e : InEvent) (out : List RowKind) (t : Tables) (w
   pub gone_log : (job : Job) (bare : Document) (its : IsLeftAs e out job bare) → has_state bare.state (now_of e out).history.rows ≡ false → ongoing_load (now_of e out) bare.state ≡ None → IsGoneLeft (here_of e out) job its.d
   gone_log job bare its gone unloaded =
       let state_is : bare.state ≡ its.d.state = ap (λ (x : Document). x.state) its.is in
-      gone_left e.checking (here_of e out) (seen_at e out work.same) work.same work.checks.numbered job its.d its.discards (of_document e.checking (log_of e out) work.checks.states job.doc its.d its.discards.to.found)
+      gone_left e.checking (here_of e out) (seen_at e out (now_is e out)) (now_is e out) work.checks.numbered job its.d its.discards (of_document e.checking (log_of e out) work.checks.states job.doc its.d its.discards.to.found)
       (subst (λ (x : StateId). has_state x (now_of e out).history.rows ≡ false) state_is gone)
       (subst (λ (x : StateId). ongoing_load (now_of e out) x ≡ None) state_is unloaded)
 
   -- nothing needs it as it is made
-  pub unneeded_log : (job : Job) (bare : Document) (its : IsLeftAs e out job bare) → IsUnneededDue (seen_at e out work.same) job bare → IsUnneededLeft (here_of e out) job its.d
+  pub unneeded_log : (job : Job) (bare : Document) (its : IsLeftAs e out job bare) → IsUnneededDue (seen_at e out (now_is e out)) job bare → IsUnneededLeft (here_of e out) job its.d
   unneeded_log job bare its due =
-      unneeded_left e.checking (here_of e out) (seen_at e out work.same) work.same (aimed_log e out t work) job its.d bare its.discards its.is (of_document e.checking (log_of e out) work.checks.states job.doc its.d its.discards.to.found) due due.begins due.slot due.tells
+      unneeded_left e.checking (here_of e out) (seen_at e out (now_is e out)) (now_is e out) (aimed_log e out t work) job its.d bare its.discards its.is (of_document e.checking (log_of e out) work.checks.states job.doc its.d its.discards.to.found) due due.begins due.slot due.tells
 
   -- one is frozen that may be left
-  pub freezes_log : (job : Job) (bare : Document) → MayBeLeft (here_of e out) job → IsForOther e.checking job.why → (due : IsFreezeDue (seen_at e out work.same) job bare) → IsFrozenAs e out job due.place
+  pub freezes_log : (job : Job) (bare : Document) → MayBeLeft (here_of e out) job → IsForOther e.checking job.why → (due : IsFreezeDue (seen_at e out (now_is e out)) job bare) → IsFrozenAs e out job due.place
   freezes_log job bare left for_other due =
-      let its = in_log e out work.same job.doc bare due.to.found in
-      let freezes : IsFreezeLeft (here_of e out) job its.d = freeze_left e.checking (here_of e out) (seen_at e out work.same) work.same (aimed_log e out t work) work.checks.others refl job its.d bare its.found its.is left for_other due in
+      let its = in_log e out (now_is e out) job.doc bare due.to.found in
+      let freezes : IsFreezeLeft (here_of e out) job its.d = freeze_left e.checking (here_of e out) (seen_at e out (now_is e out)) (now_is e out) (aimed_log e out t work) work.checks.others refl job its.d bare its.found its.is left for_other due in
       let both : Some freezes.place ≡ Some due.place = sym freezes.was_awake ∙ due.was_awake in
       record { d = its.d; freezes = freezes; place_is = cc }

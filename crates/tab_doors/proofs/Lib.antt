@@ -35,3 +35,4 @@ pub mod TurnWorks
 pub mod Noted
 pub mod Filtered
 pub mod Readied
+pub mod PassedOn

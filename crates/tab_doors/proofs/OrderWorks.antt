@@ -1,4 +1,5 @@
 -- A document is told something, or is to be made, and the coordinator goes on working.
+use Rattle.unasked.proofs.Nows.{sent_goes}
 use Rattle.unasked_dues.proofs.Shows.{numbered_in, update_due}
 use Rattle.unasked_dues.proofs.Making.{make_due}
 use Rattle.unasked_dues.specs.Checking.{IsForOther, NoneChecksFor}
@@ -7,7 +8,6 @@ use Rattle.seen_facts.proofs.Hang.Targets.{target_has}
 use Rattle.seen_facts.specs.Hang.Members.{Has}
 use Rattle.log_model.specs.Places.{aim_of}
 use Rattle.tab_doors.proofs.ReadOff.{proc_same, there as there_log}
-use Rattle.unasked.proofs.Sents.{sent_seen}
 use Rattle.tab_doors.proofs.Ahead.{lawful_none, none_lawful}
 use Rattle.tab_doors.proofs.Initial.{initial_same}
 use Rattle.tab_doors.proofs.Keeping.{unloaded_apart}
@@ -38,7 +38,7 @@ use Rattle.log_model.specs.declared.job.Why.{Why}
 use Rattle.log_model.specs.declared.row_kind.RowKind.{RowKind}
 use Rattle.nav_tree.specs.Tree.{is_state, with_nav}
 use Rattle.nav_tree.specs.declared.nav.Nav.{Nav}
-use Rattle.seen_laws.proofs.InEvents.{led_here, order_quiet}
+use Rattle.seen_laws.proofs.InEvents.{led_here, order_quiet, now_is}
 use Rattle.seen_laws.proofs.Sendings.{update_may}
 use Rattle.seen_laws.specs.InEvent.{InEvent, here_of, log_of, now_of, row_of}
 use Rattle.seen_laws.specs.Sending.{IsUpdateDue, IsNumbered}
@@ -71,7 +71,7 @@ module _ (e : InEvent) (out : List RowKind) (t u : Tables) (nav : NavId) (doc : 
 
   its_proc : proc_at (now_of e out) doc ≡ in_log.document.proc
   its_proc =
-      ap (λ (s : Seen). proc_at s doc) work.same
+      ap (λ (s : Seen). proc_at s doc) (now_is e out)
       ∙ proc_same e.checking (log_of e out) doc
       ∙ proc_found (log_of e out) doc in_log.document in_log.found
 
@@ -85,7 +85,7 @@ module _ (e : InEvent) (out : List RowKind) (t u : Tables) (nav : NavId) (doc : 
 
   pub tell_work : IsUpdateDue (now_of e out) update (long, at) → u.tree ≡ with_nav (λ (n : Nav). record n { told = Some (long, at) }) nav t.tree → SendsOne t u t.shown.entries t.last.entries → u.running ≡ t.running → u.goal ≡ t.goal → u.kept ≡ t.kept → IsAtWork e (out ++ rows.Sent update ∷ []) u
   tell_work due tree one running goal kept =
-      work_more e out (rows.Sent update) None t u work refl (sent_seen e.checking (log_of e out) update e.event e.actor refl) tt tt
+      work_more e out (rows.Sent update) None t u work (sent_goes e out update refl) tt tt tt
       (subst (λ (r : Option ReqId). Holds (look_of then_told r) u) (sym running) (tell_holds (now_of e out) t.running e.event e.actor (proc_at (now_of e out) doc) doc why (long, at) nav awake_.node t awake_.there awake_.wakes work.holds u tree one))
       (runs_on (now_of e out).requests then_told.requests t u (λ r. refl) running work.runs)
       (goal_on (now_of e out).requests then_told.requests t u (λ r. refl) running goal work.goal)
@@ -119,11 +119,11 @@ module _ (e : InEvent) (out : List RowKind) (t u : Tables) (proc : ProcId) (doc 
   -- of no load in its check
   none_makes : IsMakeDue e.header (now_of e out) make nav state address initial → NoneChecksFor e.checking (log_of e out) state
   none_makes due =
-      subst (λ (x : StateId). NoneChecksFor e.checking (log_of e out) x) due.state_is (of_entry e.checking (log_of e out) work.checks.states due.target (subst (λ (x : Seen). Has x.history.rows due.target) work.same (target_has (now_of e out).history.rows nav (aim_of (now_of e out)) due.target due.at).there))
+      subst (λ (x : StateId). NoneChecksFor e.checking (log_of e out) x) due.state_is (of_entry e.checking (log_of e out) work.checks.states due.target (subst (λ (x : Seen). Has x.history.rows due.target) (now_is e out) (target_has (now_of e out).history.rows nav (aim_of (now_of e out)) due.target due.at).there))
 
   pub make_work : IsMakeDue e.header (now_of e out) make nav state address initial → (desk_of (now_of e out) proc).known ≡ 0 → sight_in (map sight (now_of e out).documents) doc ≡ None → lookup (is_state state) t.making.entries ≡ None → load_in_log (now_of e out) state ≡ None → AreKeptDocs (now_of e out) → MakesOne nav state proc doc t u → u.running ≡ t.running → u.goal ≡ t.goal → u.loads ≡ t.loads → IsAtWork e (out ++ rows.Sent make ∷ []) u
   make_work due known unknown unmade unloaded kept_docs one running goal loads =
-      work_more e out (rows.Sent make) None t u work refl (sent_seen e.checking (log_of e out) make e.event e.actor refl) tt (none_makes due)
+      work_more e out (rows.Sent make) None t u work (sent_goes e out make refl) tt tt (none_makes due)
       (subst (λ (r : Option ReqId). Holds (look_of then_made r) u) (sym running) (make_holds (now_of e out) t.running e.event e.actor proc doc why nav state address initial t work.holds unknown unmade u one))
       (runs_on (now_of e out).requests then_made.requests t u (λ r. refl) running work.runs)
       (goal_on (now_of e out).requests then_made.requests t u (λ r. refl) running goal work.goal)

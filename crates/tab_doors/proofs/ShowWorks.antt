@@ -1,8 +1,8 @@
 -- A navigable is shown its document, and the coordinator goes on working; a move to the document ends.
+use Rattle.unasked.proofs.Nows.{sent_goes}
 use Rattle.unasked_dues.proofs.Shows.{numbered_in}
 use Rattle.unasked_dues.specs.Checking.{IsForOther}
 use Rattle.tab_doors.proofs.ReadOff.{may_show}
-use Rattle.unasked.proofs.Sents.{sent_seen}
 use Rattle.seen_laws.specs.Sending.{IsNumbered}
 use Rattle.nav_tree.specs.Tree.{activated}  -- keep
 use Rattle.tab_doors.proofs.Ahead.{IsMeant, lawful_none, show_for}
@@ -128,7 +128,7 @@ module _ {move : Option Move} (e : InEvent) (out : List RowKind) (t u : Tables) 
 
     pub show_work : u.tree ≡ with_nav (λ (n : Nav). record n { moved = is_some t.running }) nav (with_nav (λ (n : Nav). record n { told = Some (long, at) }) nav (with_nav (activated entry doc why) nav t.tree)) → SendsOne t u (insert_entry is_nav t.shown.entries nav show.nr) (insert_entry is_nav t.last.entries nav doc) → u.running ≡ t.running → u.goal ≡ t.goal → (state : StateId) → AreOfOwnStates (now_of e out).documents (now_of e out).kept doc state → LeavesFor move (now_of e out) doc state t.kept.keep → u.kept ≡ record t.kept { states = without state t.kept.states } → IsAtWork e (out ++ rows.Sent show ∷ []) u
     show_work tree one running goal state its_state leaves kept =
-        work_more e out (rows.Sent show) None t u work refl (sent_seen e.checking (log_of e out) show e.event e.actor refl) for_other tt
+        work_more e out (rows.Sent show) None t u work (sent_goes e out show refl) tt for_other tt
         (subst (λ (r : Option ReqId). Holds (look_of then_shown r) u) (sym running) (show_holds (now_of e out) t.running e.event e.actor (proc_at (now_of e out) doc) doc why entry epoch (long, at) memo address d may.goes.found may.nobody may.node t (λ b. is_some t.running) (moved_then t.running) (subst (λ (n : NavId). node_of n t.tree ≡ Some may.node) (sym may.nav_is) may.there) may.next work.holds place_unmet (moved_is t.running for_run work.runs) (own t.running) (others t.running) u (tree ∙ fused) (subst (λ (n : NavId). SendsOne t u (insert_entry is_nav t.shown.entries n show.nr) (insert_entry is_nav t.last.entries n doc)) (sym may.nav_is) one) (rw may.due.placed refl)))
         (runs_on (now_of e out).requests then_shown.requests t u (same_reads is_run (λ q navs n. refl)) running work.runs)
         (goal_on (now_of e out).requests then_shown.requests t u (same_reads goal_read (λ q navs n. refl)) running goal work.goal)

@@ -1,5 +1,5 @@
 -- A document is frozen or discarded, navigables fall asleep for it, and the coordinator goes on working; a move that has begun goes on.
-use Rattle.unasked.proofs.Sents.{sent_seen}
+use Rattle.unasked.proofs.Nows.{sent_goes}
 use Rattle.unasked_dues.specs.Checking.{IsForOther}
 use Rattle.checking_facts.proofs.Cases.{other_wakes}
 use Rattle.nav_tree.specs.Tree.{discarded}  -- keep
@@ -67,7 +67,7 @@ module _ {move : Option Move} (e : InEvent) (out : List RowKind) (t u : Tables) 
 
   pub freeze_work : MaySend move e out freeze → ((other : NavId) → has_nav (sleepers_with (now_of e out) doc) other ≡ has_nav navs other) → u.tree ≡ sleep_all navs why (is_for t.running why) t.tree → SendsOne t u t.shown.entries t.last.entries → u.running ≡ t.running → u.goal ≡ t.goal → u.kept ≡ t.kept → IsAtWorkFor move e (out ++ rows.Sent freeze ∷ []) u
   freeze_work may are tree one running goal kept =
-      work_more e out (rows.Sent freeze) move t u work refl (sent_seen e.checking (log_of e out) freeze e.event e.actor refl) (other_wakes e.checking (log_of e out) freeze for_other) tt
+      work_more e out (rows.Sent freeze) move t u work (sent_goes e out freeze refl) tt (other_wakes e.checking (log_of e out) freeze for_other) tt
       (subst (λ (r : Option ReqId). Holds (look_of then_frozen r) u) (sym running) (freeze_holds (now_of e out) t.running e.event e.actor (proc_at (now_of e out) doc) doc why navs t work.holds work.runs are u tree one))
       (runs_on (now_of e out).requests then_frozen.requests t u (served_same is_run (now_of e out) freeze tasks.Freeze why (λ q. refl)) running work.runs)
       (goal_on (now_of e out).requests then_frozen.requests t u (served_same goal_read (now_of e out) freeze tasks.Freeze why (λ q. refl)) running goal work.goal)
@@ -92,7 +92,7 @@ module _ {move : Option Move} (e : InEvent) (out : List RowKind) (t u : Tables) 
 
   pub discard_work : MaySend move e out discard → u.tree ≡ sleep_all navs why (is_for t.running why) (discarded state t.tree) → SendsOne t u t.shown.entries t.last.entries → u.running ≡ t.running → u.goal ≡ t.goal → AreOfOwnStates (now_of e out).documents (now_of e out).kept doc state → LetsGo move t.kept.keep (kept_states (now_of e out)) state → u.kept ≡ record t.kept { states = without state t.kept.states } → IsAtWorkFor move e (out ++ rows.Sent discard ∷ []) u
   discard_work may tree one running goal own lets kept =
-      work_more e out (rows.Sent discard) move t u work refl (sent_seen e.checking (log_of e out) discard e.event e.actor refl) (other_wakes e.checking (log_of e out) discard for_other) tt
+      work_more e out (rows.Sent discard) move t u work (sent_goes e out discard refl) tt (other_wakes e.checking (log_of e out) discard for_other) tt
       (subst (λ (x : Option ReqId). Holds (look_of then_gone x) u) (sym running) (discard_holds (now_of e out) t.running e.event e.actor (proc_at (now_of e out) doc) doc why state navs t work.holds work.runs its.are its.its_state its.its u tree one))
       (runs_on (now_of e out).requests then_gone.requests t u (served_same is_run (now_of e out) discard tasks.Discard why (λ q. refl)) running work.runs)
       (goal_on (now_of e out).requests then_gone.requests t u (served_same goal_read (now_of e out) discard tasks.Discard why (λ q. refl)) running goal work.goal)

@@ -1,9 +1,9 @@
 -- A traversal begins, or a request is refused or dropped, and the coordinator goes on working.
+use Rattle.unasked.proofs.Nows.{dropped_goes, refused_goes, started_goes}
 use Rattle.tab_doors.proofs.ReadOff.{begin_due}
 use Rattle.tab_doors.proofs.LogDues.{deny_due, destroy_due, drop_due, nowhere, turn_off}
 use Rattle.checking_facts.specs.States.{LeavesStates}
 use Rattle.checking_facts.specs.Checks.{GoesDuly}
-use Rattle.unasked.proofs.Ends.{dropped_seen, refused_seen, started_seen}
 use Rattle.log_model.specs.Orders.{due_questions}
 use Rattle.tab_doors.specs.Working as working  -- keep
 use Rattle.seen_laws.proofs.Startings.{IsWorker}  -- keep
@@ -11,7 +11,7 @@ use Rattle.tab_doors.proofs.Ahead.{lawful_none, none_lawful}
 use Rattle.tab_doors.proofs.EndLaws.{left_holds}
 use Rattle.tab_doors.proofs.Keeping.{no_load_at}
 use Rattle.tab_doors.proofs.Requests.{ended_moved, moved_same, runs_ended_apart}
-use Rattle.tab_doors.proofs.Works.{IsReadOff, at_log, at_seen, done_here, goal_read, goal_same, off_runs, start_here, started_held, work_more}
+use Rattle.tab_doors.proofs.Works.{at_log, at_seen, done_here, goal_read, goal_same, off_runs, start_here, started_held, work_more, BeginsSole, traversal_sole}
 use Rattle.tab_doors.specs.Dues.{IsBeginDue, IsDenyDue, IsDenyDueIn, IsDestroyDue, IsDestroyDueIn, IsDropDue, IsDropDueIn, IsNowhere, IsNowhereIn}
 use Rattle.tab_doors.specs.Keeping.{IsNoLoad}
 use Rattle.tab_doors.specs.Look.{look_of, moved_by, sight}
@@ -42,10 +42,10 @@ use Rattle.seen_facts.proofs.Each.Courses.{runs_begun}
 use Rattle.seen_facts.specs.Each.Runs.{EachAsked, is_run, is_this}
 use Rattle.seen_facts.proofs.Request.LookUps.{on_itself}
 use Rattle.seen_facts.proofs.Request.Readers.{on_read}
-use Rattle.seen_laws.proofs.InEvents.{led_here}
+use Rattle.seen_laws.proofs.InEvents.{led_here, now_is}
 use Rattle.seen_laws.specs.Blocks.{point_at}
-use Rattle.seen_laws.specs.InEvent.{InEvent, here_of, is_seen, log_of, now_of, row_of}
-use Rattle.std.proofs.Common.{List, None, Option, Some, [], ap, false, inl, inr, length, map, refl, subst, sym, true, ℕ, ℤ, ◌++◌, ◌+◌, ◌∙◌, ◌∷◌, ◌≡◌, ◌≤◌, ◌⊎◌, not}
+use Rattle.seen_laws.specs.InEvent.{InEvent, here_of, log_of, now_of, row_of, GoesThere}
+use Rattle.std.proofs.Common.{List, None, Option, Some, [], ap, false, inl, inr, length, map, refl, subst, sym, true, ℕ, ℤ, ◌++◌, ◌+◌, ◌∙◌, ◌∷◌, ◌≡◌, ◌≤◌, ◌⊎◌}
 use Rattle.std.specs.Prelude.{nat_lt, option_map}
 use Rattle.tab_ids.specs.declared.ReqId.{ReqId}
 use Rattle.tab_ids.specs.declared.StateId.{StateId}
@@ -64,9 +64,9 @@ module _ (e : InEvent) (out : List RowKind) (t : Tables) (req : ReqId) (kind : R
   abbrev then_ : Seen
   then_ = after (now_of e out) (row_of e kind)
 
-  pub ended_work : is_seen e.checking kind ≡ true → IsReadOff e out kind → GoesDuly e.checking (log_of e out) kind → LeavesStates e.checking (log_of e out) kind → then_.requests ≡ ended (now_of e out).requests req ending → then_.documents ≡ (now_of e out).documents → then_.places ≡ (now_of e out).places → then_.history ≡ (now_of e out).history → then_.jobs ≡ (now_of e out).jobs → then_.states ≡ (now_of e out).states → then_.entries ≡ (now_of e out).entries → then_.initial_states ≡ (now_of e out).initial_states → kept_states then_ ≡ kept_states (now_of e out) → HasEnded (now_of e out) then_ req → IsNoLoad (now_of e out) req → AreLawful e (out ++ kind ∷ []) → IsAtWork e (out ++ kind ∷ []) t
-  ended_work seen read duly leaves requests_ documents places history jobs states entries initial kept ended_ no_load lawful =
-      work_more e out kind None t t work seen read duly leaves
+  pub ended_work : GoesThere e out kind → BeginsSole e out kind → GoesDuly e.checking (log_of e out) kind → LeavesStates e.checking (log_of e out) kind → then_.requests ≡ ended (now_of e out).requests req ending → then_.documents ≡ (now_of e out).documents → then_.places ≡ (now_of e out).places → then_.history ≡ (now_of e out).history → then_.jobs ≡ (now_of e out).jobs → then_.states ≡ (now_of e out).states → then_.entries ≡ (now_of e out).entries → then_.initial_states ≡ (now_of e out).initial_states → kept_states then_ ≡ kept_states (now_of e out) → HasEnded (now_of e out) then_ req → IsNoLoad (now_of e out) req → AreLawful e (out ++ kind ∷ []) → IsAtWork e (out ++ kind ∷ []) t
+  ended_work it begins duly leaves requests_ documents places history jobs states entries initial kept ended_ no_load lawful =
+      work_more e out kind None t t work it begins duly leaves
       (left_holds (look_now e out t.running) (look_of then_ t.running) t (ap (λ (l : List Document). map sight l) documents) places history moved jobs states entries work.holds)
       (subst (λ (l : List Asked). IsRunning l t.running) (sym requests_) (runs_ended_apart (now_of e out).requests t.running req ending apart work.runs))
       (subst (λ (l : List Asked). HasGoal l t.running t.goal) (sym requests_) (goal_same (now_of e out).requests (ended (now_of e out).requests req ending) t.running t.goal (on_read goal_read (now_of e out).requests req (λ q. record q { ending = Some ending }) (λ q. refl)) work.goal))
@@ -88,7 +88,7 @@ module _ (e : InEvent) (out : List RowKind) (t : Tables) (req : ReqId) (work : I
   worker_as _ is = elim is [ ]
 
   nowhere_lawful : IsNowhere e out req → AreLawful e (out ++ rows.Refused req denials.NoStep ∷ [])
-  nowhere_lawful due = by_log (nowhere e out work.same work.checks.numbered work.unheld req due)
+  nowhere_lawful due = by_log (nowhere e out (now_is e out) work.checks.numbered work.unheld req due)
     where
       by_log : IsNowhereIn (log_of e out) e out req → AreLawful e (out ++ rows.Refused req denials.NoStep ∷ [])
       by_log d =
@@ -103,12 +103,12 @@ module _ (e : InEvent) (out : List RowKind) (t : Tables) (req : ReqId) (work : I
 
   pub nowhere_work : IsNowhere e out req → IsAtWork e (out ++ rows.Refused req denials.NoStep ∷ []) t
   nowhere_work due =
-      ended_work e out t req (rows.Refused req denials.NoStep) (endings.Refused denials.NoStep) work apart refl (refused_seen e.checking (log_of e out) e.event e.actor req denials.NoStep) tt tt refl refl refl refl refl refl refl refl refl (refused_ended (now_of e out) e.event e.actor req denials.NoStep) (no_load_at (now_of e out) req due.asked due.at (goes_no_load due.asked.what (traversal_by due.asked.what due.delta due.asks))) (nowhere_lawful due)
+      ended_work e out t req (rows.Refused req denials.NoStep) (endings.Refused denials.NoStep) work apart (refused_goes e out req denials.NoStep) tt tt tt refl refl refl refl refl refl refl refl refl (refused_ended (now_of e out) e.event e.actor req denials.NoStep) (no_load_at (now_of e out) req due.asked due.at (goes_no_load due.asked.what (traversal_by due.asked.what due.delta due.asks))) (nowhere_lawful due)
 
   -- ---- what is refused as its report is taken
 
   deny_lawful : (reason : Denial) → IsDenyDue e out req reason → AreLawful e (out ++ rows.Refused req reason ∷ [])
-  deny_lawful reason due = by_log (deny_due e out work.same work.checks.numbered work.checks.checks req reason due)
+  deny_lawful reason due = by_log (deny_due e out (now_is e out) work.checks.numbered work.checks.checks req reason due)
     where
       own_takes : (later : List LogRow) → takes_report (own_row (point_at (here_of e out) later) (record { event = e.event; actor = e.actor; row = rows.Refused req reason })) ≡ true
       own_takes later = subst (λ (l : List LogRow). takes_report (own_row (record { start = (here_of e out).start; now = (here_of e out).now; done = l; later = later }) (record { event = e.event; actor = e.actor; row = rows.Refused req reason })) ≡ true) (sym (done_here e out)) due.takes
@@ -119,12 +119,12 @@ module _ (e : InEvent) (out : List RowKind) (t : Tables) (req : ReqId) (work : I
 
   pub deny_work : (reason : Denial) → IsDenyDue e out req reason → IsAtWork e (out ++ rows.Refused req reason ∷ []) t
   deny_work reason due =
-      ended_work e out t req (rows.Refused req reason) (endings.Refused reason) work apart refl (refused_seen e.checking (log_of e out) e.event e.actor req reason) tt tt refl refl refl refl refl refl refl refl refl (refused_ended (now_of e out) e.event e.actor req reason) (no_load_at (now_of e out) req due.asked due.poked.at (ap is_load due.poked.what)) (deny_lawful reason due)
+      ended_work e out t req (rows.Refused req reason) (endings.Refused reason) work apart (refused_goes e out req reason) tt tt tt refl refl refl refl refl refl refl refl refl (refused_ended (now_of e out) e.event e.actor req reason) (no_load_at (now_of e out) req due.asked due.poked.at (ap is_load due.poked.what)) (deny_lawful reason due)
 
   -- ---- what is dropped
 
   pub destroy_lawful : (by : ReqId) → IsDestroyDue e out req by → AreLawful e (out ++ rows.Dropped req (drops.Destroyed by) ∷ [])
-  destroy_lawful by due = by_log (destroy_due e out work.same req by due)
+  destroy_lawful by due = by_log (destroy_due e out (now_is e out) req by due)
     where
       by_log : IsDestroyDueIn (log_of e out) e out req by → AreLawful e (out ++ rows.Dropped req (drops.Destroyed by) ∷ [])
       by_log d =
@@ -132,10 +132,10 @@ module _ (e : InEvent) (out : List RowKind) (t : Tables) (req : ReqId) (work : I
 
   pub destroy_work : (by : ReqId) → IsDestroyDue e out req by → IsNoLoad (now_of e out) req → IsAtWork e (out ++ rows.Dropped req (drops.Destroyed by) ∷ []) t
   destroy_work by due no_load =
-      ended_work e out t req (rows.Dropped req (drops.Destroyed by)) (endings.Dropped (drops.Destroyed by)) work apart refl (dropped_seen e.checking (log_of e out) e.event e.actor req (drops.Destroyed by)) tt tt refl refl refl refl refl refl refl refl refl (dropped_ended (now_of e out) e.event e.actor req (drops.Destroyed by)) no_load (destroy_lawful by due)
+      ended_work e out t req (rows.Dropped req (drops.Destroyed by)) (endings.Dropped (drops.Destroyed by)) work apart (dropped_goes e out req (drops.Destroyed by)) tt tt tt refl refl refl refl refl refl refl refl refl (dropped_ended (now_of e out) e.event e.actor req (drops.Destroyed by)) no_load (destroy_lawful by due)
 
   pub drop_lawful : (by : ReqId) → IsDropDue e out req by → AreLawful e (out ++ rows.Dropped req (drops.By by) ∷ [])
-  drop_lawful by due = by_log (drop_due e out work.same work.checks.numbered work.checks.others req by due)
+  drop_lawful by due = by_log (drop_due e out (now_is e out) work.checks.numbered work.checks.others req by due)
     where
       by_log : IsDropDueIn (log_of e out) e out req by → AreLawful e (out ++ rows.Dropped req (drops.By by) ∷ [])
       by_log d =
@@ -143,7 +143,7 @@ module _ (e : InEvent) (out : List RowKind) (t : Tables) (req : ReqId) (work : I
 
   pub drop_work : (by : ReqId) → IsDropDue e out req by → IsNoLoad (now_of e out) req → IsAtWork e (out ++ rows.Dropped req (drops.By by) ∷ []) t
   drop_work by due no_load =
-      ended_work e out t req (rows.Dropped req (drops.By by)) (endings.Dropped (drops.By by)) work apart refl (dropped_seen e.checking (log_of e out) e.event e.actor req (drops.By by)) tt tt refl refl refl refl refl refl refl refl refl (dropped_ended (now_of e out) e.event e.actor req (drops.By by)) no_load (drop_lawful by due)
+      ended_work e out t req (rows.Dropped req (drops.By by)) (endings.Dropped (drops.By by)) work apart (dropped_goes e out req (drops.By by)) tt tt tt refl refl refl refl refl refl refl refl refl (dropped_ended (now_of e out) e.event e.actor req (drops.By by)) no_load (drop_lawful by due)
 
 -- ---- a traversal begins
 
@@ -198,7 +198,7 @@ module _ (e : InEvent) (out : List RowKind) (t : Tables) (req : ReqId) (goal : S
 
   -- it isn't in its check
   off : e.checking req ≡ false
-  off = turn_off e out work.same work.checks.begun work.unheld req due.asked due.at due.open_ (is_step due.asked.what its)
+  off = turn_off e out (now_is e out) work.checks.begun work.unheld req due.asked due.at due.open_ (is_step due.asked.what its)
 
   -- nobody is to be asked
   none_asked : (q : Asked) → request_of (log_of e out) req ≡ Some q → due_questions (log_of e out) q.what (Some goal) ≡ []
@@ -213,9 +213,12 @@ module _ (e : InEvent) (out : List RowKind) (t : Tables) (req : ReqId) (goal : S
       by_log d =
           lawful_more e out (rows.Started req (Some goal)) (λ r. refl) (started_held e out req (Some goal)) (none_lawful e out work.lawful) (λ later asks. begin_may (here_of e out) e.event e.actor req goal.0 d.delta d.asked (led_here e out work.own) d.at d.asks d.unstarted d.open_ d.there d.turn d.unasked later (asks.0 req (nat_eq_refl req.0)))
 
+  there : request_of (log_of e out) req ≡ Some due.asked
+  there = at_log e out t work (λ (s : Seen). request_of s req ≡ Some due.asked) due.at
+
   pub begin_work : IsAtWork e (out ++ rows.Started req (Some goal) ∷ []) u
   begin_work =
-      work_more e out (rows.Started req (Some goal)) None t u work (ap not off) (started_seen e.checking (log_of e out) e.event e.actor req (Some goal) (λ q found. ap e.checking (work.checks.numbered req q found) ∙ off)) (λ by q r at there other traverses on runs. rw off (off_runs e.checking (log_of e out) work.unheld by r there on runs)) (inl off)
+      work_more e out (rows.Started req (Some goal)) None t u work (started_goes e out req (Some goal) (work.checks.numbered req) off) (traversal_sole e out req (Some goal) due.asked there (no_load due.asked.what its)) (λ by q r at there other traverses on runs. rw off (off_runs e.checking (log_of e out) work.unheld by r there on runs)) (inl off)
       (on_tables (left_holds (look_now e out t.running) (look_of begun_ (Some req)) t refl refl refl moved refl states_same refl work.holds))
       runs
       goal_then

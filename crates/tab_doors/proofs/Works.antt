@@ -1,15 +1,22 @@
 -- One row more that the coordinator puts out: what makes it go on working, and what orders leave of loads and of kept documents.
-use Rattle.std.proofs.lemmas.List.{map-append}
+use Rattle.std.proofs.lemmas.Bool.{and_right}
+use Rattle.log_model.specs.declared.request.Request.{Request}
+use Rattle.seen_laws.specs.Owing.{is_sole_load}
+use Rattle.log_model.specs.Once.{loads}
+use Rattle.row_facts.specs.LoadRows.Beginning.{begins_no_earlier, begins_none}
+use Rattle.row_facts.proofs.LoadRows.Earlier.{no_earlier_stays}
+use Rattle.unasked_dues.specs.Reading.{BeginSole}
+use Rattle.unasked_dues.proofs.Read.{read_more}
+use Rattle.unasked_dues.proofs.Sole.{sole_more}
 use Rattle.unasked_dues.proofs.Shows.{passed_off}
 use Rattle.unasked_dues.specs.Checking.{IsAimed, IsForOther, IsMoving, NoStepChecks, NonePasses}
 use Rattle.checking_facts.proofs.Moving.{are_aimed, are_moving}
 use Rattle.checking_facts.proofs.Rows.{row_checks, row_steps}
 use Rattle.checking_facts.specs.Checks.{AreInCheck, BeginsOff, GoesDuly}
 use Rattle.checking_facts.specs.States.{LeavesStates}
-use Rattle.log_model.specs.Places.{is_traversal, is_under_way}
+use Rattle.log_model.specs.Places.{is_traversal, is_under_way, is_load}
 use Rattle.log_model.specs.Queue.{is_step_under_way}
 use Rattle.seen_laws.specs.Unasked.{unasked}
-use Rattle.seen_laws.specs.InEvent.{first_of, seen_rows}  -- keep
 use Rattle.seen_facts.proofs.Each.Courses.{was_asked}  -- keep
 use Rattle.tab_doors.proofs.Keeping.{states_on, states_shown}
 use Rattle.tab_doors.proofs.Requests.{runs_same}
@@ -40,13 +47,13 @@ use Rattle.log_model.specs.declared.row_kind.RowKind.{RowKind}
 use Rattle.seen_facts.specs.Each.Runs.{is_run}
 use Rattle.page_cache.specs.Kept.{Kept, without}
 use Rattle.seen_facts.proofs.Request.Readers.{SameReads}
-use Rattle.seen_laws.proofs.InEvents.{log_more, now_more, seen_more}
+use Rattle.seen_laws.proofs.InEvents.{goes_more, log_more, now_is, now_more}
 use Rattle.seen_laws.specs.Blocks.{Here, on_row, on_rows}
-use Rattle.seen_laws.specs.InEvent.{InEvent, here_of, is_seen, log_of, now_of, row_of}
+use Rattle.seen_laws.specs.InEvent.{GoesThere, InEvent, IsReadOff, first_of, here_of, is_seen, log_of, now_of, row_of}
 use Rattle.seen_laws.specs.Sending.{IsNumbered, is_passed}
-use Rattle.std.proofs.Common.{Bool, List, None, Option, Some, [], ap, append-nil, append_assoc, arith, false, length, length-append, map, refl, subst, sym, true, ℕ, ◌++◌, ◌+◌, ◌∙◌, ◌∷◌, ◌≡◌, ◌≤◌, not}
+use Rattle.std.proofs.Common.{Bool, List, None, Option, Some, [], ap, append-nil, append_assoc, arith, false, length, length-append, map, refl, subst, sym, true, ℕ, ◌++◌, ◌+◌, ◌∙◌, ◌∷◌, ◌≡◌, ◌≤◌, not, ◌&&◌}
 use Rattle.std.specs.Option.{IsSome}
-use Rattle.std.specs.Prelude.{filter_map}
+use Rattle.std.specs.Prelude.{filter_map, nat_lt}
 use Rattle.tab_ids.specs.declared.DocId.{DocId}
 use Rattle.tab_ids.specs.declared.NavId.{NavId}
 use Rattle.tab_ids.specs.declared.ProcId.{ProcId}
@@ -54,31 +61,74 @@ use Rattle.tab_ids.specs.declared.ReqId.{ReqId}
 use Rattle.tab_ids.specs.declared.StateId.{StateId}
 use Rattle.tab_ids.specs.declared.Step.{Step}
 use Rattle.log_model.specs.declared.row_kind.RowKind.TheVariants as rows
+use Rattle.log_model.specs.declared.request.Request.TheVariants as requests
 
 -- ---- the whole
 
--- nobody is asked by a row that is seen
-plain_more : (e : InEvent) (out : List RowKind) (kind : RowKind) → is_seen e.checking kind ≡ true → log_of e out ≡ now_of e out → log_of e (out ++ kind ∷ []) ≡ now_of e (out ++ kind ∷ [])
-plain_more e out kind seen is =
-    log_more e out kind ∙ ap (λ (s : Seen). after s (row_of e kind)) is ∙ sym (now_more e out kind seen)
+-- nobody is asked by a row that is read off
+plain_more : (e : InEvent) (out : List RowKind) (kind : RowKind) → IsReadOff e out kind → log_of e out ≡ now_of e out → log_of e (out ++ kind ∷ []) ≡ now_of e (out ++ kind ∷ [])
+plain_more e out kind read is =
+    log_more e out kind ∙ ap (λ (s : Seen). after s (row_of e kind)) is ∙ sym (now_more e out kind read)
 
-rows_more : (e : InEvent) (out : List RowKind) (kind : RowKind) → is_seen e.checking kind ≡ true → seen_rows e out ≡ map (row_of e) out → seen_rows e (out ++ kind ∷ []) ≡ map (row_of e) (out ++ kind ∷ [])
-rows_more e out kind seen are =
-    seen_more e out kind seen
-    ∙ ap (λ (l : List LogRow). l ++ row_of e kind ∷ []) are
-    ∙ sym (map-append (row_of e) out (kind ∷ []))
+-- a load that begins is the only one of its navigable, and so are those that began before; a row with which none begins leaves them so
+abbrev pub BeginsSole : InEvent → List RowKind → RowKind → Type 0
+BeginsSole e out kind = by_kind kind
+  where
+    by_kind : RowKind → Type 0
+    by_kind (rows.Started req goal) =
+        BeginSole e out (log_of e out) → BeginSole e (out ++ rows.Started req goal ∷ []) (log_of e (out ++ rows.Started req goal ∷ []))
+    by_kind other = Unit {0}
 
--- what the row makes of the log without questions is read off what it makes of the log
-abbrev pub IsReadOff : InEvent → List RowKind → RowKind → Type 0
-IsReadOff e out kind =
-    unasked e.checking (after (log_of e out) (row_of e kind)) ≡ after (unasked e.checking (log_of e out)) (row_of e kind)
+pub soles_more : (e : InEvent) (out : List RowKind) (kind : RowKind) → BeginsSole e out kind → BeginSole e out (log_of e out) → BeginSole e (out ++ kind ∷ []) (log_of e (out ++ kind ∷ []))
+soles_more e out kind begins sole = by_kind kind begins
+  where
+    none : (k : RowKind) → begins_none (row_of e k) ≡ true → ((req : ReqId) (nav : NavId) → begins_no_earlier (log_of e out) req nav k ≡ true) → ((req : ReqId) (goal : Option Step) → k ≡ rows.Started req goal → ⊥) → BeginSole e (out ++ k ∷ []) (log_of e (out ++ k ∷ []))
+    none k is out_ never =
+        sole_more e out k (λ q was nav stays. no_earlier_stays (log_of e out) (row_of e k) q.nr nav (out_ q.nr nav) stays) sole
+        (λ req goal same. absurd (never req goal same))
 
-same_more : (e : InEvent) (out : List RowKind) (kind : RowKind) → is_seen e.checking kind ≡ true → IsReadOff e out kind → now_of e out ≡ unasked e.checking (log_of e out) → now_of e (out ++ kind ∷ []) ≡ unasked e.checking (log_of e (out ++ kind ∷ []))
-same_more e out kind seen read is =
-    now_more e out kind seen
-    ∙ ap (λ (s : Seen). after s (row_of e kind)) is
-    ∙ sym read
-    ∙ ap (λ (s : Seen). unasked e.checking s) (sym (log_more e out kind))
+    by_kind : (k : RowKind) → BeginsSole e out k → BeginSole e (out ++ k ∷ []) (log_of e (out ++ k ∷ []))
+    by_kind (rows.Started req goal) has = has sole
+    by_kind (rows.Opened entry state doc proc slot address) has = none (rows.Opened entry state doc proc slot address) refl (λ req nav. refl) (λ req goal same. cc)
+    by_kind (rows.Accepted req doc what) has = none (rows.Accepted req doc what) refl (λ r nav. refl) (λ r goal same. cc)
+    by_kind (rows.Applied req change) has = none (rows.Applied req change) refl (λ r nav. refl) (λ r goal same. cc)
+    by_kind (rows.Refused req reason) has = none (rows.Refused req reason) refl (λ r nav. refl) (λ r goal same. cc)
+    by_kind (rows.Dropped req cause) has = none (rows.Dropped req cause) refl (λ r nav. refl) (λ r goal same. cc)
+    by_kind (rows.Prompted req doc) has = none (rows.Prompted req doc) refl (λ r nav. refl) (λ r goal same. cc)
+    by_kind (rows.Answered req stay) has = none (rows.Answered req stay) refl (λ r nav. refl) (λ r goal same. cc)
+    by_kind (rows.Sent job) has = none (rows.Sent job) refl (λ r nav. refl) (λ r goal same. cc)
+    by_kind (rows.Taken proc job live dirty) has = none (rows.Taken proc job live dirty) refl (λ r nav. refl) (λ r goal same. cc)
+    by_kind (rows.Finished proc job outcome) has = none (rows.Finished proc job outcome) refl (λ r nav. refl) (λ r goal same. cc)
+    by_kind (rows.Made proc made) has = none (rows.Made proc made) refl (λ r nav. refl) (λ r goal same. cc)
+    by_kind (rows.Delivered proc) has = none (rows.Delivered proc) refl (λ r nav. refl) (λ r goal same. cc)
+    by_kind (rows.Killed proc death) has = none (rows.Killed proc death) refl (λ r nav. refl) (λ r goal same. cc)
+    by_kind (rows.Evicted state) has = none (rows.Evicted state) refl (λ r nav. refl) (λ r goal same. cc)
+
+-- a traversal that begins is no load, and those that began before are the only ones of their navigables still
+pub traversal_sole : (e : InEvent) (out : List RowKind) (req : ReqId) (goal : Option Step) (q : Asked) → request_of (log_of e out) req ≡ Some q → is_load q.what ≡ false → BeginsSole e out (rows.Started req goal)
+traversal_sole e out req goal q at no_load sole =
+    sole_more e out (rows.Started req goal) (λ x was nav stays. no_earlier_stays (log_of e out) (row_of e (rows.Started req goal)) x.nr nav (out_of x.nr nav) stays) sole
+    (λ r g same. rw (ap (λ (x : ReqId). request_of (log_of e out) x) (req_is r g same) ∙ at) (no_sole q.what q.nr no_load (log_of e (out ++ rows.Started req goal ∷ []))))
+  where
+    req_is : (r : ReqId) (g : Option Step) → rows.Started req goal ≡ rows.Started r g → r ≡ req
+    req_is r g same = cc
+
+    loads_none : (nav : NavId) (what : Request) → is_load what ≡ false → loads nav what ≡ false
+    loads_none nav (requests.Load n mode address) is = cc
+    loads_none nav (requests.Go delta) is = refl
+    loads_none nav (requests.Reload n) is = refl
+    loads_none nav (requests.Poke n action) is = refl
+
+    out_of : (nr : ReqId) (nav : NavId) → begins_no_earlier (log_of e out) nr nav (rows.Started req goal) ≡ true
+    out_of nr nav =
+        let none : (nat_lt q.nr.0 nr.0 && loads nav q.what) ≡ false = and_right (nat_lt q.nr.0 nr.0) (loads nav q.what) (loads_none nav q.what no_load) in
+        rw at (rw none refl)
+
+    no_sole : (what : Request) (nr : ReqId) → is_load what ≡ false → (end : Seen) → is_sole_load what nr end ≡ true
+    no_sole (requests.Load n mode address) nr is end = cc
+    no_sole (requests.Go delta) nr is end = refl
+    no_sole (requests.Reload n) nr is end = refl
+    no_sole (requests.Poke n action) nr is end = refl
 
 -- where nobody is in a check, no step is
 pub none_steps : (checking : ReqId → Bool) → ((req : ReqId) → checking req ≡ false) → (s : Seen) → NoStepChecks checking s
@@ -129,30 +179,34 @@ module _ {from : Option Move} (e : InEvent) (out : List RowKind) (kind : RowKind
   abbrev pub then_ : Seen
   then_ = after (now_of e out) (row_of e kind)
 
-  pub work_more : is_seen e.checking kind ≡ true → IsReadOff e out kind → GoesDuly e.checking (log_of e out) kind → LeavesStates e.checking (log_of e out) kind → Holds (look_of then_ u.running) u → IsRunning then_.requests u.running → HasGoal then_.requests u.running u.goal → length then_.documents ≤ then_.jobs + 1 → AreInitial then_.initial_states u.initial.entries → TiesLoads then_ u.loads → u.kept.states ≡ kept_in move u.kept.keep (kept_states then_) → AreLawfulFor move e (out ++ kind ∷ []) → IsAtWorkFor move e (out ++ kind ∷ []) u
-  work_more seen read duly leaves holds runs goal few initial loads kept lawful =
+  pub work_more : GoesThere e out kind → BeginsSole e out kind → GoesDuly e.checking (log_of e out) kind → LeavesStates e.checking (log_of e out) kind → Holds (look_of then_ u.running) u → IsRunning then_.requests u.running → HasGoal then_.requests u.running u.goal → length then_.documents ≤ then_.jobs + 1 → AreInitial then_.initial_states u.initial.entries → TiesLoads then_ u.loads → u.kept.states ≡ kept_in move u.kept.keep (kept_states then_) → AreLawfulFor move e (out ++ kind ∷ []) → IsAtWorkFor move e (out ++ kind ∷ []) u
+  work_more it begins duly leaves holds runs goal few initial loads kept lawful =
       record {
         own = work.own;
         worker = work.worker;
-        begins = work.begins;
-        rows = rows_more e out kind seen work.rows;
-        plain = plain_more e out kind seen work.plain;
-        same = same_more e out kind seen read work.same;
-        checks =
-            subst (λ (s : Seen). AreInCheck e.checking s) (sym (log_more e out kind))
-            (row_checks e.checking (log_of e out) (row_of e kind) duly leaves work.checks);
+        plain = plain_more e out kind it.read work.plain;
+        goes = goes_more e [] out kind work.goes it;
+        numbered = work.numbered;
+        read = read_more e out kind work.read (record { numbered = checks_.numbered; others = checks_.others });
+        sole = soles_more e out kind begins work.sole;
+        checks = checks_;
         unheld =
             subst (λ (s : Seen). NoStepChecks e.checking s) (sym (log_more e out kind))
-            (row_steps e.checking (log_of e out) (row_of e kind) (off_begins e.checking kind seen) duly work.unheld);
-        holds = subst (λ (s : Seen). Holds (look_of s u.running) u) (sym (now_more e out kind seen)) holds;
-        runs = subst (λ (s : Seen). IsRunning s.requests u.running) (sym (now_more e out kind seen)) runs;
-        goal = subst (λ (s : Seen). HasGoal s.requests u.running u.goal) (sym (now_more e out kind seen)) goal;
-        few = subst (λ (s : Seen). length s.documents ≤ s.jobs + 1) (sym (now_more e out kind seen)) few;
-        initial = subst (λ (s : Seen). AreInitial s.initial_states u.initial.entries) (sym (now_more e out kind seen)) initial;
-        loads = subst (λ (s : Seen). TiesLoads s u.loads) (sym (now_more e out kind seen)) loads;
-        kept = subst (λ (s : Seen). u.kept.states ≡ kept_in move u.kept.keep (kept_states s)) (sym (now_more e out kind seen)) kept;
+            (row_steps e.checking (log_of e out) (row_of e kind) (off_begins e.checking kind it.seen) duly work.unheld);
+        holds = subst (λ (s : Seen). Holds (look_of s u.running) u) (sym (now_more e out kind it.read)) holds;
+        runs = subst (λ (s : Seen). IsRunning s.requests u.running) (sym (now_more e out kind it.read)) runs;
+        goal = subst (λ (s : Seen). HasGoal s.requests u.running u.goal) (sym (now_more e out kind it.read)) goal;
+        few = subst (λ (s : Seen). length s.documents ≤ s.jobs + 1) (sym (now_more e out kind it.read)) few;
+        initial = subst (λ (s : Seen). AreInitial s.initial_states u.initial.entries) (sym (now_more e out kind it.read)) initial;
+        loads = subst (λ (s : Seen). TiesLoads s u.loads) (sym (now_more e out kind it.read)) loads;
+        kept = subst (λ (s : Seen). u.kept.states ≡ kept_in move u.kept.keep (kept_states s)) (sym (now_more e out kind it.read)) kept;
         lawful = lawful;
       }
+    where
+      checks_ : AreInCheck e.checking (log_of e (out ++ kind ∷ []))
+      checks_ =
+          subst (λ (s : Seen). AreInCheck e.checking s) (sym (log_more e out kind))
+          (row_checks e.checking (log_of e out) (row_of e kind) duly leaves work.checks)
 
 -- the rows are these
 pub next_for : (move : Option Move) (e : InEvent) (new then_out : List RowKind) (u : Tables) → new ≡ then_out → IsAtWorkFor move e then_out u → IsAtWorkFor move e new u
@@ -165,7 +219,7 @@ next_work e new then_out u is work = next_for None e new then_out u is work
 
 -- what is so of the log without questions is so of what is read off the log
 pub at_seen : {move : Option Move} (e : InEvent) (out : List RowKind) (t : Tables) → IsAtWorkFor move e out t → (P : Seen → Type 0) → P (now_of e out) → P (unasked e.checking (log_of e out))
-at_seen e out t work P is = subst P work.same is
+at_seen e out t work P is = subst P (now_is e out) is
 
 -- and the aim is read off, who is moved, and which length and index are due
 pub aimed_log : {move : Option Move} (e : InEvent) (out : List RowKind) (t : Tables) → IsAtWorkFor move e out t → IsAimed e.checking (log_of e out)

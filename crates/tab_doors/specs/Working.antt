@@ -1,8 +1,8 @@
 -- A coordinator that works in an event: its tables stand for what the log has come to, and the rows so far pass.
 -- This project's own.
-use Rattle.unasked_dues.specs.Checking.{NoStepChecks}
+use Rattle.unasked_dues.specs.Checking.{AreNumbered, NoStepChecks}
+use Rattle.unasked_dues.specs.Reading.{BeginSole, WereRead}
 use Rattle.checking_facts.specs.Checks.{AreInCheck}
-use Rattle.seen_laws.specs.Unasked.{unasked}
 use Rattle.tab_doors.specs.Look.{Look, look_of}
 use Rattle.tab_doors.specs.Keeping.{Move, kept_in}
 use Rattle.tab_doors.specs.Ties.{AreInitial, Holds, IsRunning}
@@ -17,7 +17,7 @@ use Rattle.log_model.specs.declared.row_kind.Actor.{Actor}
 use Rattle.log_model.specs.declared.row_kind.LogRow.{LogRow}
 use Rattle.log_model.specs.declared.row_kind.RowKind.{RowKind}
 use Rattle.seen_laws.specs.Blocks.{MayLog}
-use Rattle.seen_laws.specs.InEvent.{InEvent, first_of, here_of, log_of, now_of, row_of, seen_first, seen_rows, start_of}
+use Rattle.seen_laws.specs.InEvent.{EachGoes, InEvent, here_of, log_of, now_of, row_of, start_of}
 use Rattle.seen_laws.specs.Sending.{leads}
 use Rattle.std.specs.Prelude.{List, None, Option, Some, [], length, map, true, ◌+◌, ◌∷◌, ◌≡◌, ◌≤◌}
 use Rattle.tab_ids.specs.declared.DocId.{DocId}
@@ -79,12 +79,15 @@ MaySend move e out job = MayLog (here_of e out) (row_of e (rows.Sent job) ∷ []
 pub record IsAtWorkFor (move : Option Move) (e : InEvent) (out : List RowKind) (t : Tables) : Type 0 where
   pub own : leads e.own ≡ true
   pub worker : IsWorker e.actor
-  -- nobody was asked as the event began, and nobody is asked by its rows
-  pub begins : seen_first e ≡ first_of e
-  pub rows : seen_rows e out ≡ map (row_of e) out
+  -- nobody is asked
   pub plain : log_of e out ≡ now_of e out
-  -- the log without questions is read off the log, and it is known who is in a check: no step that is under way
-  pub same : now_of e out ≡ unasked e.checking (log_of e out)
+  -- each row is seen in the log without questions, and read off; as the event began, and after each row, requests had their numbers, and whoever isn't in its check had passed
+  pub goes : EachGoes e [] out
+  pub numbered : AreNumbered e.start
+  pub read : WereRead e out
+  -- each load that began among the rows is the only one of its navigable
+  pub sole : BeginSole e out (log_of e out)
+  -- it is known who is in a check: no step that is under way
   pub checks : AreInCheck e.checking (log_of e out)
   pub unheld : NoStepChecks e.checking (log_of e out)
   pub holds : Holds (look_now e out t.running) t

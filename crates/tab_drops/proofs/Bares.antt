@@ -1,4 +1,6 @@
 -- Who has no entry by the tables has none in the log; and a load of such a navigable may be dropped by the request that took the last ones.
+use Rattle.seen_laws.proofs.InEvents.{now_is}
+use Rattle.tab_doors.proofs.PassedOn.{dropped_goes}
 use Rattle.row_facts.proofs.FrameRows.LawfulLaws.{ends_other}
 use Rattle.row_facts.specs.FrameRows.Taking.{IsFree}
 use Rattle.seen_facts.proofs.Hang.Forms.{nav_is}
@@ -145,7 +147,7 @@ module _ (p : InPass) (out : List RowKind) (t : Tables) (pass : IsPassing p out 
     free : IsFree (here_of p.event out) req
     unfolding now_of
     free =
-        ap (λ (x : Seen). implies (has_req x.parked req) (list_any is_traverse (here_of p.event out).done)) (sym pass.work.same) ∙
+        ap (λ (x : Seen). implies (has_req x.parked req) (list_any is_traverse (here_of p.event out).done)) (sym (now_is p.event out)) ∙
         ap (λ (b : Bool). implies b (list_any is_traverse (here_of p.event out).done)) (unheld p out t pass req nav it.load).parked
 
     pub destroy_due : AreUnheld p.event s → IsDestroyDue p.event out req by
@@ -161,8 +163,8 @@ module _ (p : InPass) (out : List RowKind) (t : Tables) (pass : IsPassing p out 
 
     pub destroy_owed : IsOwed p.event (out ++ rows.Dropped req (causes.Destroyed by) ∷ [])
     destroy_owed =
-        owed_more p.event out (rows.Dropped req (causes.Destroyed by)) refl pass.owed (dropped_stays s p.event.event p.event.actor req (reckoned_now p.event out) (idle p out t pass req nav it.load) (causes.Destroyed by)) (λ end stays. refl)
+        owed_more p.event out (rows.Dropped req (causes.Destroyed by)) (dropped_goes p.event out req (causes.Destroyed by)).read pass.owed (dropped_stays s p.event.event p.event.actor req (reckoned_now p.event out) (idle p out t pass req nav it.load) (causes.Destroyed by)) (λ end stays. refl)
 
     pub destroy_loose : all_stand (next s p.event.event p.event.actor (rows.Dropped req (causes.Destroyed by))) (aim_of (next s p.event.event p.event.actor (rows.Dropped req (causes.Destroyed by)))) ≡ true → IsLoose p.event (out ++ rows.Dropped req (causes.Destroyed by) ∷ [])
     destroy_loose all =
-        loose_more p.event out (rows.Dropped req (causes.Destroyed by)) refl (pass.loose (dropped_stood s p.event.event p.event.actor req (causes.Destroyed by) (idle p out t pass req nav it.load) all)) (dropped_lasts s p.event.event p.event.actor req (causes.Destroyed by)) (λ end lasts. refl)
+        loose_more p.event out (rows.Dropped req (causes.Destroyed by)) (dropped_goes p.event out req (causes.Destroyed by)).read (pass.loose (dropped_stood s p.event.event p.event.actor req (causes.Destroyed by) (idle p out t pass req nav it.load) all)) (dropped_lasts s p.event.event p.event.actor req (causes.Destroyed by)) (λ end lasts. refl)

@@ -1,4 +1,5 @@
 -- A load is dropped for the traversal that runs, or for a load that was applied: each end pays it that undoes nothing which orders leave; and not all stand.
+use Rattle.tab_doors.proofs.PassedOn.{dropped_goes}
 use Rattle.seen_facts.proofs.Coord.Unread.{next}
 use Rattle.seen_facts.specs.Each.Runs.{is_run, is_this}
 use Rattle.row_facts.proofs.LoadRows.Drops.{displaced_at, off_at}
@@ -109,7 +110,7 @@ module _ (p : InPass) (out : List RowKind) (t : Tables) (pass : IsPassing p out 
   run_owed : t.running ≡ Some by → IsOwed p.event (out ++ rows.Dropped req (causes.By by) ∷ [])
   run_owed runs =
       let it = running_there runs in
-      owed_more p.event out (rows.Dropped req (causes.By by)) refl pass.owed (dropped_stays s p.event.event p.event.actor req (reckoned_now p.event out) (idle p out t pass req nav load) (causes.By by)) (moved_owes p.event out req by nav its.q it.q (dropped_by it.q it.found) (moved_by_run runs it))
+      owed_more p.event out (rows.Dropped req (causes.By by)) (dropped_goes p.event out req (causes.By by)).read pass.owed (dropped_stays s p.event.event p.event.actor req (reckoned_now p.event out) (idle p out t pass req nav load) (causes.By by)) (moved_owes p.event out req by nav its.q it.q (dropped_by it.q it.found) (moved_by_run runs it))
 
   -- ---- a load that was applied
 
@@ -133,7 +134,7 @@ module _ (p : InPass) (out : List RowKind) (t : Tables) (pass : IsPassing p out 
 
   load_owed : t.running ≡ None → IsByLoad s by nav → IsOwed p.event (out ++ rows.Dropped req (causes.By by) ∷ [])
   load_owed none it =
-      owed_more p.event out (rows.Dropped req (causes.By by)) refl pass.owed (dropped_stays s p.event.event p.event.actor req (reckoned_now p.event out) (idle p out t pass req nav load) (causes.By by)) (still_moved_owes p.event out req by nav its.q it.mover (dropped_by it.mover it.found) (still_moved none it))
+      owed_more p.event out (rows.Dropped req (causes.By by)) (dropped_goes p.event out req (causes.By by)).read pass.owed (dropped_stays s p.event.event p.event.actor req (reckoned_now p.event out) (idle p out t pass req nav load) (causes.By by)) (still_moved_owes p.event out req by nav its.q it.mover (dropped_by it.mover it.found) (still_moved none it))
 
 -- either
 pub gives_owed : (p : InPass) (out : List RowKind) (t : Tables) (pass : IsPassing p out t) (req : ReqId) (nav : NavId) (load : IsLoadOf (now_of p.event out) req nav) (by : ReqId) → GivesWay (now_of p.event out) t.running by nav → IsOwed p.event (out ++ rows.Dropped req (causes.By by) ∷ [])

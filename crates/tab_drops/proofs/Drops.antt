@@ -1,4 +1,5 @@
 -- An ongoing load is dropped: what that asks, that all goes on then, and that all else is as it was.
+use Rattle.tab_doors.proofs.PassedOn.{dropped_now}
 use Rattle.tab_passes.proofs.SetOuts.{KeepBegun, begun_as_it_was, course_of, kept_begun}
 use Rattle.seen_facts.proofs.Coord.Held.{on_else, without_same}
 use Rattle.seen_facts.proofs.Coord.Unread.{next}
@@ -25,7 +26,6 @@ use Rattle.seen_facts.proofs.Request.Readers.{on_read, reads_then}
 use Rattle.seen_facts.proofs.Request.Times.{times_none}
 use Rattle.row_facts.proofs.RestRows.Rows.{dropped_rests}
 use Rattle.row_facts.specs.RestRows.Moving.{AllRest}
-use Rattle.seen_laws.proofs.InEvents.{now_more}
 use Rattle.seen_laws.specs.InEvent.{now_of}
 use Rattle.std.proofs.Common.{Bool, List, None, Option, Some, [], ap, arith, false, inr, length, refl, subst, sym, true, ℕ, ◌&&◌, ◌++◌, ◌<◌, ◌==◌, ◌∙◌, ◌∷◌, ◌≡◌, ◌≤◌}
 use Rattle.std.specs.Prelude.{option_map}
@@ -143,7 +143,7 @@ module _ (p : InPass) (out : List RowKind) (t : Tables) (pass : IsPassing p out 
       })
     where
       now_is : then_ cause ≡ now_of p.event (out ++ rows.Dropped req cause ∷ [])
-      now_is = sym (now_more p.event out (rows.Dropped req cause) refl)
+      now_is = sym (dropped_now p.event out req cause)
 
   -- ---- all else is as it was
 

@@ -12,7 +12,7 @@ use Rattle.row_facts.proofs.Owed.Requests.{req_same}
 use Rattle.seen_facts.proofs.Request.LookUps.{on_itself}
 use Rattle.seen_facts.proofs.Request.Readers.{IsBlind, SameReads, delivered_reads, finished_reads, on_read, reads_then, sent_reads}
 use Rattle.seen_laws.specs.Blocks.{Here, on_row, on_rows, point_at}
-use Rattle.seen_laws.specs.InEvent.{InEvent, first_of, now_of, row_of, seen_first, seen_here, seen_rows}
+use Rattle.seen_laws.specs.InEvent.{InEvent, first_of, now_of, row_of, seen_here, log_of}
 use Rattle.seen_laws.specs.Unasked.{unasked_request, unbegun, without_asks}
 use Rattle.std.proofs.Common.{Bool, List, None, Option, Some, [], ap, cond, false, map, refl, subst, sym, true, zero, suc, ℕ, ◌++◌, ◌-◌, ◌==◌, ◌∙◌, ◌∷◌, ◌≡◌}
 use Rattle.std.specs.Prelude.{if◌then◌else◌, is_some, option_map, slice_get}
@@ -129,22 +129,15 @@ as_seen checking asked req = by_number (req.0 == 0) (at asked (req.0 - 1))
 outcome_now : (e : InEvent) (out : List RowKind) (req : ReqId) → HasOutcome e.start.requests req → HasOutcome (now_of e out).requests req
 unfolding now_of
 outcome_now e out req has =
-    outcome_on (seen_first e) (seen_rows e out) req (as_seen e.checking (first_of e).now.requests req ∙ outcome_stays e.start (row_of e e.own) req has)
-
--- the event began where it did
-began : (h : Here) (more : List LogRow) → (on_rows h more).start ≡ h.start
-began h [] = refl
-began h (row ∷ more) = began (on_row h row) more
+    as_seen e.checking (log_of e out).requests req
+    ∙ outcome_on (first_of e) (map (row_of e) out) req (outcome_stays e.start (row_of e e.own) req has)
 
 -- a request that is open had no outcome before the event
 pub open_before : (e : InEvent) (out : List RowKind) (req : ReqId) (q : Asked) → request_of (now_of e out) req ≡ Some q → q.ending ≡ None → had_ended (point_at (seen_here e out) []) req ≡ false
 open_before e out req q at open_ = by_test (holds has_outcome (request_of e.start req)) refl
   where
-    start_is : (point_at (seen_here e out) []).start ≡ (seen_first e).start
-    start_is = began (seen_first e) (seen_rows e out)
-
     by_test : (b : Bool) → holds has_outcome (request_of e.start req) ≡ b → had_ended (point_at (seen_here e out) []) req ≡ false
-    by_test false is = ap (λ (s : Seen). holds has_outcome (request_of s req)) start_is ∙ as_seen e.checking e.start.requests req ∙ is
+    by_test false is = as_seen e.checking e.start.requests req ∙ is
     by_test true is =
         let now_ : holds has_outcome (request_of (now_of e out) req) ≡ true = outcome_now e out req is in
         let own : holds has_outcome (request_of (now_of e out) req) ≡ false = ap (holds has_outcome) at ∙ ap (λ (o : Option Ending). is_some o) open_ in

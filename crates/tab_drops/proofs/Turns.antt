@@ -1,4 +1,5 @@
 -- One navigable's turn: its load is dropped, it has none, or it isn't one to give way; and what is said of it as of an earlier row.
+use Rattle.tab_doors.proofs.PassedOn.{dropped_now}
 use Rattle.seen_facts.proofs.Hang.Forms.{nav_is}
 use Rattle.seen_facts.proofs.Hang.Members.{find_has}
 use Rattle.seen_facts.specs.LoadEnds.Standing.{LoadsStand, is_reached}
@@ -18,7 +19,6 @@ use Rattle.log_model.specs.declared.row_kind.RowKind.{RowKind}
 use Rattle.seen_facts.specs.Mover.Movers.{AllChangeAsTheyEnd}
 use Rattle.row_facts.proofs.Owed.Requests.{req_same}
 use Rattle.seen_facts.proofs.Rest.Stands.{all_requests}
-use Rattle.seen_laws.proofs.InEvents.{now_more}
 use Rattle.seen_laws.specs.InEvent.{now_of}
 use Rattle.std.proofs.Common.{Bool, List, None, Option, Some, [], ap, false, inl, inr, not, refl, subst, sym, true, ℕ, ◌&&◌, ◌++◌, ◌==◌, ◌||◌, ◌∙◌, ◌∷◌, ◌≡◌, ◌⊎◌}
 use Rattle.std.proofs.lemmas.Bool.{and_parts, or_right}
@@ -141,7 +141,7 @@ module _ (p : InPass) (out : List RowKind) (t : Tables) (pass : IsPassing p out 
         }
       where
         now_is : then_ p out t pass req nav load cause ≡ now_of p.event new
-        now_is = sym (ap (λ (l : List RowKind). now_of p.event l) is ∙ now_more p.event out (rows.Dropped req cause) refl)
+        now_is = sym (ap (λ (l : List RowKind). now_of p.event l) is ∙ dropped_now p.event out req cause)
 
         apart_of : (other : NavId) → ((other.0 == nav.0) ≡ false) ⊎ (IsAnyNav other → ⊥) → (other.0 == nav.0) ≡ false
         apart_of other (inl apart) = apart

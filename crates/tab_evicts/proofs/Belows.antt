@@ -1,4 +1,5 @@
 -- A document that hangs below a discarded one may be discarded, since nobody is awake on it.
+use Rattle.seen_laws.proofs.InEvents as events
 use Rattle.seen_facts.specs.Doc.Docs.{HasPlace}
 use Rattle.seen_facts.proofs.Hang.Hung.{places_distinct}
 use Rattle.seen_facts.proofs.Hang.Parts.{state_is}
@@ -53,14 +54,14 @@ use Rattle.log_model.specs.declared.row_kind.RowKind.TheVariants as rows
 -- such an order may be sent
 pub below_ahead : (e : InEvent) (out : List RowKind) (move : Option Move) (t : Tables) (doc : DocId) (why : Why) (d : Document) → IsAtWorkFor move e out t → IsBelowDue (now_of e out) (order_to (now_of e out) doc why tasks.Discard) d → (desk_of (now_of e out) (proc_at (now_of e out) doc)).known ≡ 0 → SettlesNone (now_of e out) (row_of e (rows.Sent (order_to (now_of e out) doc why tasks.Discard))) → MaySend move e out (order_to (now_of e out) doc why tasks.Discard)
 below_ahead e out move t doc why d work due known settles later ahead =
-    below_left_may (here_of e out) e.event e.actor order its.d (led_here e out work.own) (numbered_log e out work.same order (numbered (now_of e out) (proc_at (now_of e out) doc) doc why tasks.Discard known)) (below_log e out work.same order d its due) later (prompts_log e out t work order settles later, tt)
+    below_left_may (here_of e out) e.event e.actor order its.d (led_here e out work.own) (numbered_log e out (events.now_is e out) order (numbered (now_of e out) (proc_at (now_of e out) doc) doc why tasks.Discard known)) (below_log e out (events.now_is e out) order d its due) later (prompts_log e out t work order settles later, tt)
   where
     order : Job
     order = order_to (now_of e out) doc why tasks.Discard
 
     its : IsLeftAs e out order d
     its =
-        discards_log e out work.same order d (left_log e out t work order d due.discards.to.found due.discards.unhandled due.discards.for_one) due.discards
+        discards_log e out (events.now_is e out) order d (left_log e out t work order d due.discards.to.found due.discards.unhandled due.discards.for_one) due.discards
 
 -- ---- a document below
 

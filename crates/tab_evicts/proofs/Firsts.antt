@@ -1,4 +1,5 @@
 -- The document that is kept longest may be discarded, where too many would be kept with the one that is left.
+use Rattle.seen_laws.proofs.InEvents as events
 use Rattle.seen_facts.proofs.Hang.Hung.{place_chain, places_distinct}
 use Rattle.seen_facts.proofs.Hang.Members.{has_filter}
 use Rattle.seen_facts.proofs.Hang.Parts.{state_is}
@@ -84,9 +85,9 @@ last_has (x ∷ y ∷ docs) doc is = inr (last_has (y ∷ docs) doc is)
 -- such an order may be sent
 over_ahead : (e : InEvent) (out : List RowKind) (move : Move) (t : Tables) (doc : DocId) (why : Why) (d new : Document) (place : Place) (left : DocId) → IsAtWorkFor (Some move) e out t → document_of (now_of e out) move.doc ≡ Some new → IsKeptLast (now_of e out) (order_to (now_of e out) doc why tasks.Discard) d (Some left) → (desk_of (now_of e out) (proc_at (now_of e out) doc)).known ≡ 0 → SettlesNone (now_of e out) (row_of e (rows.Sent (order_to (now_of e out) doc why tasks.Discard))) → nat_lt e.header.keep (length (kept_with (now_of e out) (Some left))) ≡ true → place_of (now_of e out) new.nav ≡ Some place → place.last ≡ Some left → (left.0 == move.doc.0) ≡ false → MaySend (Some move) e out (order_to (now_of e out) doc why tasks.Discard)
 over_ahead e out move t doc why d new place left work found due known settles many placed last apart =
-    overflow_sends (here_of e out) e.event e.actor order move (led_here e out work.own) (numbered_log e out work.same order (numbered (now_of e out) (proc_at (now_of e out) doc) doc why tasks.Discard known)) shown.d shown.found its.d place left (kept_last_log e out work.same order d its (Some left) due) (prompts_log e out t work order settles)
-    (subst (λ (h : Header). nat_lt h.keep (length (kept_with (log_of e out) (Some left))) ≡ true) (sym (header_here e out)) (subst (λ (docs : List DocId). nat_lt e.header.keep (length docs) ≡ true) (kept_log e out work.same (Some left)) many))
-    (placed_log e out work.same shown.d.nav place (ap (λ (x : Document). place_of (now_of e out) x.nav) (sym shown.is) ∙ placed))
+    overflow_sends (here_of e out) e.event e.actor order move (led_here e out work.own) (numbered_log e out (events.now_is e out) order (numbered (now_of e out) (proc_at (now_of e out) doc) doc why tasks.Discard known)) shown.d shown.found its.d place left (kept_last_log e out (events.now_is e out) order d its (Some left) due) (prompts_log e out t work order settles)
+    (subst (λ (h : Header). nat_lt h.keep (length (kept_with (log_of e out) (Some left))) ≡ true) (sym (header_here e out)) (subst (λ (docs : List DocId). nat_lt e.header.keep (length docs) ≡ true) (kept_log e out (events.now_is e out) (Some left)) many))
+    (placed_log e out (events.now_is e out) shown.d.nav place (ap (λ (x : Document). place_of (now_of e out) x.nav) (sym shown.is) ∙ placed))
     last
     apart
   where
@@ -95,11 +96,11 @@ over_ahead e out move t doc why d new place left work found due known settles ma
 
     its : IsLeftAs e out order d
     its =
-        discards_log e out work.same order d (left_log e out t work order d due.discards.to.found due.discards.unhandled due.discards.for_one) due.discards
+        discards_log e out (events.now_is e out) order d (left_log e out t work order d due.discards.to.found due.discards.unhandled due.discards.for_one) due.discards
 
     -- the document that is shown, as the log has it
     shown : IsInLog e out move.doc new
-    shown = in_log e out work.same move.doc new found
+    shown = in_log e out (events.now_is e out) move.doc new found
 
 -- ---- the document that is kept longest
 

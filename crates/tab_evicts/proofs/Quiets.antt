@@ -1,4 +1,5 @@
 -- A document on which nobody is awake is discarded within a move.
+use Rattle.tab_doors.proofs.PassedOn.{sent_now}
 use Rattle.seen_facts.proofs.Asked.Passed.{asked_all}
 use Rattle.tab_facts.proofs.Calm.Loads.{IsLoads, loads_sent}
 use Rattle.seen_facts.specs.Doc.Docs.{AreDocs}
@@ -37,7 +38,6 @@ use Rattle.page_cache.specs.Kept.{without}
 use Rattle.seen_facts.proofs.Request.Readers.{sent_reads}
 use Rattle.seen_facts.proofs.Rest.Stands.{all_requests}
 use Rattle.seen_facts.proofs.Rest.Still.{found_itself}
-use Rattle.seen_laws.proofs.InEvents.{now_more}
 use Rattle.seen_laws.proofs.Keyed.{find_has as seen_number, find_on_other}
 use Rattle.seen_laws.specs.InEvent.{now_of, row_of}
 use Rattle.std.proofs.Common.{List, None, Option, Some, [], ap, arith, false, inl, inr, map, refl, subst, sym, true, ℕ, ◌++◌, ◌==◌, ◌∙◌, ◌∷◌, ◌≡◌}
@@ -225,7 +225,7 @@ module _ (p : InPass) (move : Option Move) {docs : List DocId} (out : List RowKi
 
   module _ (new : List RowKind) (u : Tables) (is : new ≡ out ++ rows.Sent discard ∷ []) where
     pub gone_now : gone_seen ≡ now_of p.event new
-    gone_now = sym (ap (λ (x : List RowKind). now_of p.event x) is ∙ now_more p.event out (rows.Sent discard) refl)
+    gone_now = sym (ap (λ (x : List RowKind). now_of p.event x) is ∙ sent_now p.event out discard refl)
 
     pub gone_leaving : IsLeaving p move (left_then s doc docs) new u → IsLeaving p move (without_doc doc docs) new u
     gone_leaving so = subst (λ (x : List DocId). IsLeaving p move (x ++ without_doc doc docs) new u) (below_none s doc its.nobody) so

@@ -1,19 +1,19 @@
 -- A load has begun: all goes on, and its navigable stands still.
+use Rattle.seen_laws.proofs.InEvents.{last_goes, now_at}
 use Rattle.seen_facts.specs.Asked.Asking.{ArePlain}
 use Rattle.tab_facts.proofs.Calm.Awakes.{lost_none}
 use Rattle.seen_facts.proofs.Coord.Unread.{next}
-use Rattle.seen_facts.proofs.Each.Runs.{at_place}
 use Rattle.tab_facts.proofs.Last.Rows.{started_lasting}
 use Rattle.seen_facts.specs.LoadEnds.Standing.{is_reached}
 use Rattle.seen_facts.specs.Load.Loading.{look}
-use Rattle.row_facts.proofs.LoadRows.Earlier.{all_from, no_earlier_stays}
-use Rattle.row_facts.specs.LoadRows.Beginning.{begins_no_earlier, is_out_of_way}
+use Rattle.row_facts.proofs.LoadRows.Earlier.{no_earlier_stays}
+use Rattle.row_facts.specs.LoadRows.Beginning.{begins_no_earlier}
 use Rattle.log_model.proofs.Refl.{nat_eq_refl}
 use Rattle.log_model.specs.Equal.{holds}
 use Rattle.log_model.specs.History.{History, has_nav}
-use Rattle.log_model.specs.Once.{has_no_earlier_load, loads}
-use Rattle.log_model.specs.Places.{aim_of, has_arrived, is_below_known_lost, is_given_target, is_ongoing_load, is_placed, is_shown, is_standing, way_to}
-use Rattle.log_model.specs.Seen.{Asked, Place, Seen, place_of, request_of}
+use Rattle.log_model.specs.Once.{has_no_earlier_load}
+use Rattle.log_model.specs.Places.{aim_of, has_arrived, is_below_known_lost, is_given_target, is_placed, is_shown, is_standing, way_to}
+use Rattle.log_model.specs.Seen.{Asked, Place, Seen, place_of}
 use Rattle.log_model.specs.declared.header.Header.{Header}
 use Rattle.log_model.specs.declared.row_kind.RowKind.{RowKind}
 use Rattle.row_facts.proofs.Owed.Drops.{sole_owes}
@@ -21,13 +21,12 @@ use Rattle.row_facts.proofs.Owed.Ends.{loose_owed, loose_since}
 use Rattle.row_facts.specs.Owed.Owed.{IsLoose}
 use Rattle.row_facts.proofs.RestRows.Rows.{started_rests}
 use Rattle.row_facts.specs.RestRows.Moving.{AllRest}
-use Rattle.seen_laws.proofs.InEvents.{now_more}
 use Rattle.seen_laws.specs.InEvent.{now_of, row_of}
 use Rattle.std.proofs.Common.{Bool, List, None, Option, Some, [], ap, arith, false, length, not, refl, subst, sym, true, ℕ, ◌&&◌, ◌++◌, ◌+◌, ◌==◌, ◌||◌, ◌∙◌, ◌∷◌, ◌≡◌, ◌≤◌}
 use Rattle.std.proofs.lemmas.Bool.Decides.{nat_tests}
 use Rattle.std.proofs.lemmas.Bool.{and_parts}
 use Rattle.std.specs.List.{list_all, list_any}
-use Rattle.std.specs.Prelude.{is_some, nat_lt, option_map, slice_get}
+use Rattle.std.specs.Prelude.{is_some, nat_lt}
 use Rattle.tab_doors.specs.Working.{IsAtWork, KeepsRun, KeepsStore}
 use Rattle.tab_doors.specs.declared.tables.Tables.{Tables}
 use Rattle.tab_drops.specs.Dropping.{AreUnheld}
@@ -103,7 +102,7 @@ module _ (l : InLoad) (t : Tables) (asked : IsAsked l t) (placed_ : away_in t l.
   then_ = next n l.event.event l.event.actor (rows.Started l.req None)
 
   pub is_then : now_of l.event now ≡ then_
-  is_then = ap (λ (o : List RowKind). now_of l.event o) now_is ∙ now_more l.event out (rows.Started l.req None) (ap not (asked.asks.aside.unchecked l.req))
+  is_then = now_at l.event out (rows.Started l.req None) now now_is work.goes
 
   pub run_same : w.running ≡ t.running
   run_same = keeps.running ∙ runs_on.running
@@ -127,30 +126,14 @@ module _ (l : InLoad) (t : Tables) (asked : IsAsked l t) (placed_ : away_in t l.
 
   -- no earlier load is ongoing
   pub alone_now : has_no_earlier_load n l.req l.nav ≡ true
-  alone_now = all_from (is_out_of_way l.req l.nav) n.requests each
-    where
-      each : (m : ℕ) (x : Asked) → slice_get n.requests m ≡ Some x → is_out_of_way l.req l.nav x ≡ true
-      each m x at = by_tests (is_ongoing_load x) (nat_lt x.nr.0 l.req.0) (loads l.nav x.what) refl refl
-        where
-          number : request_of n (record { 0 = m + 1 }) ≡ Some x
-          number = at_place n.requests m ∙ at
-
-          by_tests : (a b c : Bool) → is_ongoing_load x ≡ a → loads l.nav x.what ≡ c → not (a && b && c) ≡ true
-          by_tests true true true on its = absurd (made.alone (record { 0 = m + 1 }) (record { look = look x; at = ap (λ (o : Option Asked). option_map look o) number; ongoing = on; loads_it = its }))
-          by_tests true true false on its = refl
-          by_tests true false true on its = refl
-          by_tests true false false on its = refl
-          by_tests false true true on its = refl
-          by_tests false true false on its = refl
-          by_tests false false true on its = refl
-          by_tests false false false on its = refl
+  alone_now = starts.alone_now l t asked placed_ anew_ noted v out way
 
   pub itself : begins_no_earlier n l.req l.nav (rows.Started l.req None) ≡ true
   itself = let same : nat_lt l.req.0 l.req.0 ≡ false = grind (arith, nat_tests) in rw made.found (rw same refl)
 
   pub loose_then : IsLoose l.event (out ++ rows.Started l.req None ∷ [])
   loose_then =
-      loose_since l.event out (rows.Started l.req None) (ap not (asked.asks.aside.unchecked l.req)) made.paid (sole_owes l.event out l.req l.nav l.mode l.address own made.found refl refl (no_earlier_stays n (row_of l.event (rows.Started l.req None)) l.req l.nav itself alone_now))
+      loose_since l.event out (rows.Started l.req None) (last_goes l.event out (rows.Started l.req None) now now_is work.goes).read made.paid (sole_owes l.event out l.req l.nav l.mode l.address own made.found refl refl (no_earlier_stays n (row_of l.event (rows.Started l.req None)) l.req l.nav itself alone_now))
 
   pub loose_now : IsLoose l.event now
   loose_now = subst (λ (o : List RowKind). IsLoose l.event o) (sym now_is) loose_then

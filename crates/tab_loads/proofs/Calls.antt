@@ -1,4 +1,5 @@
 -- A load is asked for while the coordinator stands for the log: what is so once its row was logged, and that it is refused where a reason stands against it.
+use Rattle.tab_doors.proofs.PassedOn.{refused_goes}
 use Rattle.tab_stands.proofs.Begun.{checks_first}
 use Rattle.load_doors.specs.Refusing.{IsDeniedLoad}
 use Rattle.load_doors.specs.Tied.{AreTied}
@@ -83,7 +84,7 @@ module _ (e : InEvent) (t : Tables) (queue : Queue) (blame : List (StateId × Re
   module _ (reason : Denial) (denied : denial_at_acceptance e.start (requests.Load nav mode address) ≡ Some reason) where
     pub refuse_now : IsDeniedLoad e req reason × AreTied (now_of e []) t
     refuse_now = (
-      record { unchecked = asks.aside.unchecked; begins = asks.aside.begins; checks = checks_first e asks.aside t.running (load_denied e t queue blame stands room header req nav mode address asks).going.tab.asked; plain = asks.aside.plain; nav = nav; mode = mode; address = address; by_user = asks.by_user; own = asks.own; next = asks.next; reason_is = denied; unparked = unparked_before },
+      record { unchecked = asks.aside.unchecked; numbered = λ r q at. (stands.between.tab.asked.each r q at).nr; checks = checks_first e asks.aside t.running (load_denied e t queue blame stands room header req nav mode address asks).going.tab.asked; plain = asks.aside.plain; nav = nav; mode = mode; address = address; by_user = asks.by_user; own = asks.own; next = asks.next; reason_is = denied; unparked = unparked_before },
       load_tied e t queue blame stands asks.aside room header req nav mode address asks.by_user asks.own asks.next,
     )
 
@@ -98,7 +99,7 @@ module _ (e : InEvent) (t : Tables) (queue : Queue) (blame : List (StateId × Re
 
     pub refused_ready : (out : List RowKind) → out ≡ rows.Refused req reason ∷ [] → IsAtWork e out t → IsReady (pass_of e) out t queue blame whys.Start
     refused_ready out out_is work =
-        row_ready e req nav mode address asks t queue blame its.going its.taking its.moved its.late its.theirs header its.queueing (rows.Refused req reason) refl tt tt
+        row_ready e req nav mode address asks t queue blame its.going its.taking its.moved its.late its.theirs header its.queueing (rows.Refused req reason) (refused_goes e [] req reason) tt tt
         (refused_changes (now_of e []) e.event e.actor req (idle e req nav mode address asks) (unjoined e req nav mode address asks t.running its.going.tab) (unparked e req nav mode address asks t.running its.going.tab) reason)
         (refused_tab e req nav mode address asks t its.going its.rests its.few reason) refl out t out_is refl refl
         (refused_passing e req nav mode address asks t its.going its.rests its.few reason (loose_owed e (rows.Refused req reason ∷ []) loose) (λ all. loose) out t out_is refl work)

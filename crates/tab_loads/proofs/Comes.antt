@@ -1,4 +1,5 @@
 -- What becomes of a load against which there is no reason, where it is dropped, or its document is sent to a fragment: what the doors ask, and that a pass may follow.
+use Rattle.tab_doors.proofs.PassedOn.{sent_goes, dropped_goes}
 use Rattle.tab_facts.proofs.Calm.Sames.{way_at}
 use Rattle.seen_facts.specs.Each.Runs.{is_this}
 use Rattle.seen_facts.proofs.Hang.Forms.{nav_is}
@@ -129,7 +130,7 @@ module _ (l : InLoad) (t : Tables) (asked : IsAsked l t) where
           record {
             came = (asked.undenied, record { by = by; away = away; is = out_is });
             ready = row_ready l.event l.req l.nav l.mode l.address asked.asks t l.queue l.noted pass.going asked.begun.taking asked.begun.moved asked.begun.late asked.begun.theirs asked.begun.header asked.begun.queueing
-                (rows.Dropped l.req (drops.By by)) refl tt tt (dropped_changes s l.event.event l.event.actor l.req (idle l.event l.req l.nav l.mode l.address asked.asks) (unjoined l.event l.req l.nav l.mode l.address asked.asks t.running pass.going.tab) (unparked l.event l.req l.nav l.mode l.address asked.asks t.running pass.going.tab) (drops.By by))
+                (rows.Dropped l.req (drops.By by)) (dropped_goes l.event [] l.req (drops.By by)) tt tt (dropped_changes s l.event.event l.event.actor l.req (idle l.event l.req l.nav l.mode l.address asked.asks) (unjoined l.event l.req l.nav l.mode l.address asked.asks t.running pass.going.tab) (unparked l.event l.req l.nav l.mode l.address asked.asks t.running pass.going.tab) (drops.By by))
                 (dropped_tab l.event l.req l.nav l.mode l.address asked.asks t pass.going pass.rests pass.few (drops.By by)) refl out u out_is (ap (λ (y : Tables). y.running) same) (ap (λ (y : Tables). y.kept.keep) same) passing;
             kept = runs_on u same;
           }
@@ -168,7 +169,7 @@ module _ (l : InLoad) (t : Tables) (asked : IsAsked l t) where
           record {
             came = (asked.undenied, record { fragment = record { place = place; there = placed; placed = all; is_it = sent.is }; job = order; task = refl; why = refl; doc = sent.wakes; is = out_is });
             ready = row_ready l.event l.req l.nav l.mode l.address asked.asks t l.queue l.noted pass.going asked.begun.taking asked.begun.moved asked.begun.late asked.begun.theirs asked.begun.header asked.begun.queueing
-                (rows.Sent order) refl tt tt (sent_changes s l.event.event l.event.actor pass.going.tab.asked.passed (reckoned_now l.event []) order l.req l.mode l.address)
+                (rows.Sent order) (sent_goes l.event [] order refl) tt tt (sent_changes s l.event.event l.event.actor pass.going.tab.asked.passed (reckoned_now l.event []) order l.req l.mode l.address)
                 (tab_then l.event l.req l.nav l.mode l.address asked.asks t pass asked.begun.loose place placed standing doc sent.wakes sent.leads) refl out u out_is keeps.running keeps.keep
                 (sent_passing l.event l.req l.nav l.mode l.address asked.asks t pass asked.begun.loose place placed standing doc sent.wakes sent.leads out u out_is keeps work);
             kept = record { running = keeps.running; goal = keeps.goal; keep = keeps.keep };

@@ -1,4 +1,5 @@
 -- A load is dropped, since its navigable, or one above it, isn't shown at the aim or doesn't stand there: for which request, and that the event's end pays it.
+use Rattle.tab_doors.proofs.PassedOn.{dropped_goes}
 use Rattle.seen_facts.specs.Asked.Asking.{IsAskedPlainly}
 use Rattle.apply_plan.specs.Reaches as tables
 use Rattle.tab_facts.proofs.Calm.Awakes.{stand_each}
@@ -232,7 +233,7 @@ module _ (e : InEvent) (req : ReqId) (nav : NavId) (mode : Mode) (address : List
           unshown = it.unshown;
           added = it.added ∙ ap (λ (r : ReqId). let o : Option ReqId = Some r in o) (sym (plain it.r it.at).nr);
         } in
-        let more : IsLoose e (row ∷ []) = loose_more e [] row refl loose (dropped_lasts s e.event e.actor req (drops.By by)) (adder_owes e [] req by nav (q e req nav mode address asks) it.r (load_by it.r it.at) under) in
+        let more : IsLoose e (row ∷ []) = loose_more e [] row (dropped_goes e [] req (drops.By by)).read loose (dropped_lasts s e.event e.actor req (drops.By by)) (adder_owes e [] req by nav (q e req nav mode address asks) it.r (load_by it.r it.at) under) in
         record { owed = loose_owed e (row ∷ []) more; loose = λ all. more }
 
     record IsRunningThere : Type 0 where
@@ -265,7 +266,7 @@ module _ (e : InEvent) (req : ReqId) (nav : NavId) (mode : Mode) (address : List
     run_paid runs =
         let it = running_there runs in
         record {
-          owed = owed_more e [] row refl pass.owed (dropped_stays s e.event e.actor req (reckoned_now e []) (idle e req nav mode address asks) (drops.By by)) (moved_owes e [] req by nav (q e req nav mode address asks) it.r (load_by it.r it.at) (moved_by runs it));
+          owed = owed_more e [] row (dropped_goes e [] req (drops.By by)).read pass.owed (dropped_stays s e.event e.actor req (reckoned_now e []) (idle e req nav mode address asks) (drops.By by)) (moved_owes e [] req by nav (q e req nav mode address asks) it.r (load_by it.r it.at) (moved_by runs it));
           loose = late;
         }
 
@@ -293,7 +294,7 @@ module _ (e : InEvent) (req : ReqId) (nav : NavId) (mode : Mode) (address : List
           off = off_at s s.history.current (way_to s nav) x on_way (off_here it.none);
         } in
         record {
-          owed = owed_more e [] row refl pass.owed (dropped_stays s e.event e.actor req (reckoned_now e []) (idle e req nav mode address asks) (drops.By by)) (still_moved_owes e [] req by nav (q e req nav mode address asks) it.last.mover (load_by it.last.mover it.last.found) still);
+          owed = owed_more e [] row (dropped_goes e [] req (drops.By by)).read pass.owed (dropped_stays s e.event e.actor req (reckoned_now e []) (idle e req nav mode address asks) (drops.By by)) (still_moved_owes e [] req by nav (q e req nav mode address asks) it.last.mover (load_by it.last.mover it.last.found) still);
           loose = late;
         }
 

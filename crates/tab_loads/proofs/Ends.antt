@@ -1,4 +1,5 @@
 -- All goes on after the load was refused or dropped as the first row that was put out.
+use Rattle.tab_doors.proofs.PassedOn.{dropped_goes, refused_goes}
 use Rattle.seen_facts.proofs.Coord.Unread.{next}
 use Rattle.tab_facts.proofs.Last.Rows.{dropped_lasting, refused_lasting}
 use Rattle.log_model.specs.Places.{aim_of, all_stand}
@@ -12,7 +13,7 @@ use Rattle.row_facts.specs.Owed.Owed.{IsLoose, IsOwed}
 use Rattle.row_facts.proofs.RestRows.Rows.{dropped_rests, refused_rests}
 use Rattle.row_facts.specs.RestRows.Moving.{AllRest}
 use Rattle.seen_laws.proofs.InEvents.{now_more}
-use Rattle.seen_laws.specs.InEvent.{InEvent, is_seen, now_of}
+use Rattle.seen_laws.specs.InEvent.{InEvent, now_of, GoesThere}
 use Rattle.std.proofs.Common.{List, [], ap, length, refl, subst, sym, true, ℕ, ◌∙◌, ◌∷◌, ◌≡◌, ◌≤◌}
 use Rattle.tab_doors.specs.Working.{IsAtWork}
 use Rattle.tab_doors.specs.declared.tables.Tables.{Tables}
@@ -34,9 +35,9 @@ module _ (e : InEvent) (req : ReqId) (nav : NavId) (mode : Mode) (address : List
   s = now_of e []
 
   -- one row more, that leaves the kept documents
-  module _ (row : RowKind) (seen : is_seen e.checking row ≡ true) (then_ : IsGoing t.running [] [] (next s e.event e.actor row)) (rest : AllRest (next s e.event e.actor row)) (kept : (next s e.event e.actor row).kept ≡ s.kept) (owed : IsOwed e (row ∷ [])) (loose : all_stand (next s e.event e.actor row) (aim_of (next s e.event e.actor row)) ≡ true → IsLoose e (row ∷ [])) (new : List RowKind) (u : Tables) (out_is : new ≡ row ∷ []) (same : u ≡ t) (work : IsAtWork e new u) where
+  module _ (row : RowKind) (goes : GoesThere e [] row) (then_ : IsGoing t.running [] [] (next s e.event e.actor row)) (rest : AllRest (next s e.event e.actor row)) (kept : (next s e.event e.actor row).kept ≡ s.kept) (owed : IsOwed e (row ∷ [])) (loose : all_stand (next s e.event e.actor row) (aim_of (next s e.event e.actor row)) ≡ true → IsLoose e (row ∷ [])) (new : List RowKind) (u : Tables) (out_is : new ≡ row ∷ []) (same : u ≡ t) (work : IsAtWork e new u) where
     now_is : now_of e (row ∷ []) ≡ next s e.event e.actor row
-    now_is = now_more e [] row seen
+    now_is = now_more e [] row goes.read
 
     one_passing : IsPassing (pass_of e) (row ∷ []) t
     one_passing =
@@ -61,7 +62,7 @@ module _ (e : InEvent) (req : ReqId) (nav : NavId) (mode : Mode) (address : List
 
   pub dropped_passing : (cause : Cause) → IsOwed e (rows.Dropped req cause ∷ []) → (all_stand (next s e.event e.actor (rows.Dropped req cause)) (aim_of (next s e.event e.actor (rows.Dropped req cause))) ≡ true → IsLoose e (rows.Dropped req cause ∷ [])) → (new : List RowKind) (u : Tables) → new ≡ rows.Dropped req cause ∷ [] → u ≡ t → IsAtWork e new u → IsPassing (pass_of e) new u
   dropped_passing cause =
-      row_passing (rows.Dropped req cause) refl (dropped_then cause) (dropped_rests s e.event e.actor [] rests req cause) refl
+      row_passing (rows.Dropped req cause) (dropped_goes e [] req cause) (dropped_then cause) (dropped_rests s e.event e.actor [] rests req cause) refl
 
   pub dropped_tab : (cause : Cause) → IsTab t.running [] [] (next s e.event e.actor (rows.Dropped req cause))
   dropped_tab cause = (dropped_then cause).tab
@@ -77,7 +78,7 @@ module _ (e : InEvent) (req : ReqId) (nav : NavId) (mode : Mode) (address : List
 
   pub refused_passing : (reason : Denial) → IsOwed e (rows.Refused req reason ∷ []) → (all_stand (next s e.event e.actor (rows.Refused req reason)) (aim_of (next s e.event e.actor (rows.Refused req reason))) ≡ true → IsLoose e (rows.Refused req reason ∷ [])) → (new : List RowKind) (u : Tables) → new ≡ rows.Refused req reason ∷ [] → u ≡ t → IsAtWork e new u → IsPassing (pass_of e) new u
   refused_passing reason =
-      row_passing (rows.Refused req reason) refl (refused_then reason) (refused_rests s e.event e.actor [] rests req reason) refl
+      row_passing (rows.Refused req reason) (refused_goes e [] req reason) (refused_then reason) (refused_rests s e.event e.actor [] rests req reason) refl
 
   pub refused_tab : (reason : Denial) → IsTab t.running [] [] (next s e.event e.actor (rows.Refused req reason))
   refused_tab reason = (refused_then reason).tab

@@ -226,11 +226,11 @@ module _ (l : InLoad) (t : Tables) (asked : IsAsked l t) (placed_ : away_in t l.
 
   moved_last : MovedAreShown y.running (now_of l.event last)
   moved_last =
-      subst (λ (r : Option ReqId). MovedAreShown r (now_of l.event last)) (sym run_y) (shown_put l.event t.running [] last (record { more = last; is = refl; each = λ kind has. (quiet kind has).0 }) places_last asked.begun.moved)
+      subst (λ (r : Option ReqId). MovedAreShown r (now_of l.event last)) (sym run_y) (shown_put l.event t.running [] last passing_fin.work.goes (record { more = last; is = refl; each = λ kind has. (quiet kind has).0 }) places_last asked.begun.moved)
 
   late_last : LateKnown y.running (now_of l.event last)
   late_last =
-      subst (λ (r : Option ReqId). LateKnown r (now_of l.event last)) (sym run_y) (late_put l.event t.running [] last (record { more = last; is = refl; each = λ kind has. (quiet kind has).1 }) places_last history_last asked.begun.late)
+      subst (λ (r : Option ReqId). LateKnown r (now_of l.event last)) (sym run_y) (late_put l.event t.running [] last passing_fin.work.goes (record { more = last; is = refl; each = λ kind has. (quiet kind has).1 }) places_last history_last asked.begun.late)
 
   pub ready_last : IsReady (pass_of l.event) last y l.queue noted (whys.Req l.req)
   ready_last =

@@ -1,4 +1,5 @@
 -- The navigable's ongoing load gives way to the one that is to begin: what its drop asks, and that all goes on before the other one begins.
+use Rattle.tab_doors.proofs.PassedOn.{dropped_now}
 use Rattle.seen_facts.proofs.Coord.Unread.{next}
 use Rattle.seen_facts.proofs.Each.Courses.{was_asked}
 use Rattle.seen_facts.specs.Each.Runs.{is_this}
@@ -23,7 +24,6 @@ use Rattle.row_facts.specs.Owed.Owed.{Lasts, owes_seen}
 use Rattle.seen_facts.proofs.Request.Readers.{SameReads, on_read}
 use Rattle.row_facts.proofs.RestRows.Rows.{dropped_rests}
 use Rattle.row_facts.specs.RestRows.Moving.{AllRest}
-use Rattle.seen_laws.proofs.InEvents.{now_more}
 use Rattle.seen_laws.specs.Blocks.{point_at}
 use Rattle.seen_laws.specs.InEvent.{InEvent, now_of, row_of, seen_here}
 use Rattle.std.proofs.Common.{Bool, List, None, Option, Some, [], ap, arith, cond, false, inl, inr, length, refl, subst, sym, true, ℕ, ◌++◌, ◌+◌, ◌-◌, ◌<◌, ◌==◌, ◌∙◌, ◌∷◌, ◌≡◌, ◌≤◌, ◌⊎◌}
@@ -218,7 +218,7 @@ module _ (e : InEvent) (req : ReqId) (nav : NavId) (mode : Mode) (address : List
 
       paid : (end : Seen) → Lasts (after n (row_of e (rows.Started req None))) end → owes_seen e (rows.Dropped old.req (drops.By req) ∷ []) end ≡ true
       paid end lasts =
-          owes_more e [] (rows.Dropped old.req (drops.By req)) refl end (own_paid end) (replaced_owes e [] old.req req nav its.q (q e req nav mode address asks) load_by replaced end lasts)
+          owes_more e [] (rows.Dropped old.req (drops.By req)) end (own_paid end) (replaced_owes e [] old.req req nav its.q (q e req nav mode address asks) load_by replaced end lasts)
         where
           number_is : its.q.nr ≡ old.req
           number_is = (pass.going.tab.asked.each old.req its.q its.at).nr
@@ -277,4 +277,4 @@ module _ (e : InEvent) (req : ReqId) (nav : NavId) (mode : Mode) (address : List
             (noted_blamed p [] t pass (rows.Dropped it.old.req (drops.By req) ∷ []) blame noted (subst (λ (x : Seen). LeavesAll s x) (sym now_is) (left_all it.old it.at)) (ServesOrBegins req (now_of e (rows.Dropped it.old.req (drops.By req) ∷ []))) (λ r so. inl so) req (inr refl) it.noted_is blamed))))
           where
             now_is : now_of e (rows.Dropped it.old.req (drops.By req) ∷ []) ≡ next s e.event e.actor (rows.Dropped it.old.req (drops.By req))
-            now_is = now_more e [] (rows.Dropped it.old.req (drops.By req)) refl
+            now_is = dropped_now e [] it.old.req (drops.By req)

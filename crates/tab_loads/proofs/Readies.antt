@@ -14,7 +14,7 @@ use Rattle.log_model.specs.declared.row_kind.RowKind.{RowKind}
 use Rattle.move_queue.specs.Queue.{Queue}
 use Rattle.seen_facts.proofs.Request.Readers.{SameReads}
 use Rattle.seen_laws.proofs.InEvents.{now_more}
-use Rattle.seen_laws.specs.InEvent.{InEvent, is_seen, now_of, row_of}
+use Rattle.seen_laws.specs.InEvent.{InEvent, now_of, row_of, GoesThere}
 use Rattle.std.proofs.Common.{Bool, List, Option, [], ap, false, inl, inr, refl, subst, sym, true, ℕ, ◌||◌, ◌∙◌, ◌∷◌, ◌≡◌, ◌⊎◌}
 use Rattle.tab_doors.specs.declared.tables.Tables.{Tables}
 use Rattle.tab_facts.specs.TabGoing.Going.{IsGoing}
@@ -78,12 +78,12 @@ module _ (e : InEvent) (req : ReqId) (nav : NavId) (mode : Mode) (address : List
   abbrev s : Seen
   s = now_of e []
 
-  module _ (row : RowKind) (seen : is_seen e.checking row ≡ true) (unmoving : IsUnmoving row) (steady : IsUnapplied row) (change : ChangesOne s (next s e.event e.actor row) req) (tab : IsTab t.running [] [] (next s e.event e.actor row)) (unapplied : is_traverse (row_of e row) ≡ false) (new : List RowKind) (u : Tables) (out_is : new ≡ row ∷ []) (run : u.running ≡ t.running) (keep : u.kept.keep ≡ t.kept.keep) (passing : IsPassing (pass_of e) new u) where
+  module _ (row : RowKind) (goes : GoesThere e [] row) (unmoving : IsUnmoving row) (steady : IsUnapplied row) (change : ChangesOne s (next s e.event e.actor row) req) (tab : IsTab t.running [] [] (next s e.event e.actor row)) (unapplied : is_traverse (row_of e row) ≡ false) (new : List RowKind) (u : Tables) (out_is : new ≡ row ∷ []) (run : u.running ≡ t.running) (keep : u.kept.keep ≡ t.kept.keep) (passing : IsPassing (pass_of e) new u) where
     abbrev n : Seen
     n = next s e.event e.actor row
 
     now_is : now_of e new ≡ n
-    now_is = ap (λ (l : List RowKind). now_of e l) out_is ∙ now_more e [] row seen
+    now_is = ap (λ (l : List RowKind). now_of e l) out_is ∙ now_more e [] row goes.read
 
     taken : IsTaking e t.running blame n
     taken =
@@ -110,7 +110,7 @@ module _ (e : InEvent) (req : ReqId) (nav : NavId) (mode : Mode) (address : List
 
     moved_now : MovedAreShown u.running (now_of e new)
     moved_now =
-        subst (λ (r : Option ReqId). MovedAreShown r (now_of e new)) (sym run) (shown_put e t.running [] new (record { more = row ∷ []; is = out_is; each = each }) places_same moved)
+        subst (λ (r : Option ReqId). MovedAreShown r (now_of e new)) (sym run) (shown_put e t.running [] new passing.work.goes (record { more = row ∷ []; is = out_is; each = each }) places_same moved)
       where
         each : (kind : RowKind) → (row ≡ kind) ⊎ ⊥ → IsUnmoving kind
         each kind (inl same) = subst IsUnmoving same unmoving
@@ -118,7 +118,7 @@ module _ (e : InEvent) (req : ReqId) (nav : NavId) (mode : Mode) (address : List
 
     late_now : LateKnown u.running (now_of e new)
     late_now =
-        subst (λ (r : Option ReqId). LateKnown r (now_of e new)) (sym run) (late_put e t.running [] new (record { more = row ∷ []; is = out_is; each = each }) places_same (ap (λ (x : Seen). x.history) now_is ∙ change.history) late)
+        subst (λ (r : Option ReqId). LateKnown r (now_of e new)) (sym run) (late_put e t.running [] new passing.work.goes (record { more = row ∷ []; is = out_is; each = each }) places_same (ap (λ (x : Seen). x.history) now_is ∙ change.history) late)
       where
         each : (kind : RowKind) → (row ≡ kind) ⊎ ⊥ → IsUnapplied kind
         each kind (inl same) = subst IsUnapplied same steady

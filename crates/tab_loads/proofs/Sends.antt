@@ -1,4 +1,5 @@
 -- The document of the load's navigable is sent to a fragment: the order may be sent, and all goes on then.
+use Rattle.tab_doors.proofs.PassedOn.{sent_goes, sent_now}
 use Rattle.seen_laws.specs.Sending.{IsNumbered}
 use Rattle.seen_laws.specs.Blocks.{Here}
 use Rattle.seen_facts.proofs.Coord.Unread.{next}
@@ -19,7 +20,6 @@ use Rattle.row_facts.proofs.Owed.Rows.{sent_lasts}
 use Rattle.row_facts.specs.Owed.Owed.{IsLoose}
 use Rattle.row_facts.proofs.RestRows.Orders.{told_rests}
 use Rattle.row_facts.specs.RestRows.Moving.{AllRest}
-use Rattle.seen_laws.proofs.InEvents.{now_more}
 use Rattle.seen_laws.specs.InEvent.{InEvent, here_of, log_of, now_of, seen_here}
 use Rattle.std.proofs.Common.{Bool, List, None, Option, Some, [], ap, false, length, refl, subst, sym, true, ℕ, ◌||◌, ◌∙◌, ◌∷◌, ◌≡◌, ◌≤◌}
 use Rattle.tab_doors.proofs.Whose.{proc_found}
@@ -118,10 +118,10 @@ module _ (e : InEvent) (req : ReqId) (nav : NavId) (mode : Mode) (address : List
       sent_going t.running (req ∷ []) [] s e.event e.actor pass.going order [] [] tab_then (fragment_lasting s e.event e.actor pass.going.lasting order req mode address refl) tt
 
   loose_then : IsLoose e (rows.Sent order ∷ [])
-  loose_then = loose_more e [] (rows.Sent order) refl loose (sent_lasts s e.event e.actor order) (λ end lasts. refl)
+  loose_then = loose_more e [] (rows.Sent order) (sent_goes e [] order refl).read loose (sent_lasts s e.event e.actor order) (λ end lasts. refl)
 
   now_is : now_of e (rows.Sent order ∷ []) ≡ then_
-  now_is = now_more e [] (rows.Sent order) refl
+  now_is = sent_now e [] order refl
 
   pub sent_passing : (new : List RowKind) (u : Tables) → new ≡ rows.Sent order ∷ [] → KeepsStore t u → IsAtWork e new u → IsPassing (pass_of e) new u
   sent_passing new u is keeps work =

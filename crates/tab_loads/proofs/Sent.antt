@@ -1,4 +1,5 @@
 -- The order that makes the document of a load that has begun is sent: all goes on.
+use Rattle.tab_doors.proofs.PassedOn.{sent_goes, sent_now}
 use Rattle.seen_facts.proofs.Coord.Kept.{IsSentHome}
 use Rattle.seen_facts.proofs.Coord.Unread.{next}
 use Rattle.tab_facts.proofs.Last.Orders.{making_lasting}
@@ -12,7 +13,6 @@ use Rattle.row_facts.proofs.Owed.Rows.{sent_lasts}
 use Rattle.row_facts.specs.Owed.Owed.{IsLoose}
 use Rattle.row_facts.proofs.RestRows.Orders.{making_rests}
 use Rattle.row_facts.specs.RestRows.Moving.{AllRest}
-use Rattle.seen_laws.proofs.InEvents.{now_more}
 use Rattle.seen_laws.specs.InEvent.{now_of}
 use Rattle.std.proofs.Common.{List, None, Option, Some, [], ap, false, length, refl, subst, sym, true, ℕ, ◌++◌, ◌+◌, ◌==◌, ◌∙◌, ◌∷◌, ◌≡◌, ◌≤◌}
 use Rattle.tab_doors.specs.Orders.{next_order}
@@ -100,7 +100,7 @@ module _ (l : InLoad) (t : Tables) (asked : IsAsked l t) (placed_ : away_in t l.
   fin = next m l.event.event l.event.actor (rows.Sent order)
 
   pub is_fin : now_of l.event last ≡ fin
-  is_fin = ap (λ (o : List RowKind). now_of l.event o) last_is ∙ now_more l.event now (rows.Sent order) refl
+  is_fin = ap (λ (o : List RowKind). now_of l.event o) last_is ∙ sent_now l.event now order refl
 
   pub run_y : y.running ≡ t.running
   run_y = keeps_y.running ∙ run_same
@@ -128,7 +128,7 @@ module _ (l : InLoad) (t : Tables) (asked : IsAsked l t) (placed_ : away_in t l.
 
   pub loose_fin : IsLoose l.event last
   loose_fin =
-      subst (λ (o : List RowKind). IsLoose l.event o) (sym last_is) (loose_more l.event now (rows.Sent order) refl loose_now (sent_lasts m l.event.event l.event.actor order) (λ end lasts. refl))
+      subst (λ (o : List RowKind). IsLoose l.event o) (sym last_is) (loose_more l.event now (rows.Sent order) (sent_goes l.event now order refl).read loose_now (sent_lasts m l.event.event l.event.actor order) (λ end lasts. refl))
 
   pub sent_home : IsSentHome m order
   sent_home = record { home = λ d found. absurd (none_there_ d found); lives = lives_first w.running [] [] m passing_now.going.tab order refl }

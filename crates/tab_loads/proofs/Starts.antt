@@ -1,25 +1,29 @@
 -- A load begins, in the place of its navigable's ongoing one: what its door asks.
+use Rattle.seen_facts.specs.Load.Loading.{look}
+use Rattle.log_model.specs.Once.{has_no_earlier_load, loads}
+use Rattle.seen_facts.proofs.Each.Runs.{at_place}
+use Rattle.row_facts.proofs.LoadRows.Earlier.{all_from}
 use Rattle.seen_facts.proofs.Hang.Members.{find_has}
-use Rattle.load_doors.specs.Loading.{IsGiven, IsToBegin}
-use Rattle.row_facts.specs.LoadRows.Beginning.{IsLoadToBegin, is_to_fragment}
+use Rattle.load_doors.specs.Loading.{IsGiven, IsToBegin, is_beginning}
+use Rattle.row_facts.specs.LoadRows.Beginning.{IsLoadToBegin, is_out_of_way, is_to_fragment}
 use Rattle.load_table.specs.Loads.{ongoing_load}
 use Rattle.load_table.specs.declared.load.Load.{Load}
 use Rattle.seen_facts.proofs.LoadTies.Begins.{none_made}
 use Rattle.seen_facts.specs.LoadTies.Tying.{is_for_state, made_for}
 use Rattle.log_model.specs.AfterRequests.{load_replaces}
 use Rattle.log_model.specs.History.{History}
-use Rattle.log_model.specs.Places.{aim_of, is_given_target, is_placed, way_to}
+use Rattle.log_model.specs.Places.{aim_of, is_given_target, is_ongoing_load, is_placed, way_to}
 use Rattle.log_model.specs.Points.{is_accepted_here}
-use Rattle.log_model.specs.Seen.{Asked, Document, Place, Seen, document_of, place_in, place_of}
+use Rattle.log_model.specs.Seen.{Asked, Document, Place, Seen, document_of, place_in, place_of, request_of}
 use Rattle.log_model.specs.declared.row_kind.RowKind.{RowKind}
 use Rattle.seen_facts.proofs.Rest.Still.{found_itself}
 use Rattle.seen_laws.specs.Blocks.{Here, point_at}
-use Rattle.seen_laws.specs.InEvent.{InEvent, here_of, now_of}
-use Rattle.std.proofs.Common.{Bool, List, None, Option, Some, [], ap, arith, false, inl, inr, length, not, refl, subst, sym, true, ℕ, ◌+◌, ◌<◌, ◌==◌, ◌||◌, ◌∙◌, ◌≡◌, ◌≤◌, ◌⊎◌}
+use Rattle.seen_laws.specs.InEvent.{InEvent, here_of, now_of, log_of}
+use Rattle.std.proofs.Common.{Bool, List, None, Option, Some, [], ap, arith, false, inl, inr, length, not, refl, subst, sym, true, ℕ, ◌+◌, ◌<◌, ◌==◌, ◌||◌, ◌∙◌, ◌≡◌, ◌≤◌, ◌⊎◌, ◌&&◌}
 use Rattle.std.proofs.lemmas.Bool.Decides.{nat_tests}
 use Rattle.std.proofs.lemmas.Bool.{and_parts}
-use Rattle.std.specs.List.{list_all}
-use Rattle.std.specs.Prelude.{nat_lt}
+use Rattle.std.specs.List.{list_all, list_any}
+use Rattle.std.specs.Prelude.{nat_lt, option_map, slice_get}
 use Rattle.tab_doors.proofs.Works.{start_here}
 use Rattle.tab_doors.specs.Working.{IsAtWork, KeepsRun}
 use Rattle.tab_doors.specs.declared.tables.Tables.{Tables}
@@ -167,8 +171,40 @@ module _ (l : InLoad) (t : Tables) (asked : IsAsked l t) (placed_ : away_in t l.
   due =
       subst (λ (h : Here). IsLoadToBegin h l.req l.nav l.mode l.address own) (ap (λ (x : Seen). let h : Here = record (here_of l.event out) { now = x } in h) (sym way.work.plain)) due_seen
 
+  -- no earlier load is ongoing
+  pub alone_now : has_no_earlier_load n l.req l.nav ≡ true
+  alone_now = all_from (is_out_of_way l.req l.nav) n.requests each
+    where
+      each : (m : ℕ) (x : Asked) → slice_get n.requests m ≡ Some x → is_out_of_way l.req l.nav x ≡ true
+      each m x at = by_tests (is_ongoing_load x) (nat_lt x.nr.0 l.req.0) (loads l.nav x.what) refl refl
+        where
+          number : request_of n (record { 0 = m + 1 }) ≡ Some x
+          number = at_place n.requests m ∙ at
+
+          by_tests : (a b c : Bool) → is_ongoing_load x ≡ a → loads l.nav x.what ≡ c → not (a && b && c) ≡ true
+          by_tests true true true on its = absurd (made.alone (record { 0 = m + 1 }) (record { look = look x; at = ap (λ (o : Option Asked). option_map look o) number; ongoing = on; loads_it = its }))
+          by_tests true true false on its = refl
+          by_tests true false true on its = refl
+          by_tests true false false on its = refl
+          by_tests false true true on its = refl
+          by_tests false true false on its = refl
+          by_tests false false true on its = refl
+          by_tests false false false on its = refl
+
+  -- nor in the log
+  sole : has_no_earlier_load (log_of l.event out) l.req l.nav ≡ true
+  sole = subst (λ (x : Seen). has_no_earlier_load x l.req l.nav ≡ true) (sym way.work.plain) alone_now
+
+  -- no request has begun in this event
+  none_began : list_any is_beginning out ≡ false
+  none_began = by_way way.which
+    where
+      by_way : HasNone l.nav t v out l.noted noted ⊎ HasDropped l.req l.nav t v out l.noted noted → list_any is_beginning out ≡ false
+      by_way (inl it) = ap (λ (x : List RowKind). list_any is_beginning x) it.out_is
+      by_way (inr it) = ap (λ (x : List RowKind). list_any is_beginning x) it.out_is
+
   pub to_begin : (replace : Bool) → replace ≡ load_replaces n (requests.Load l.nav l.mode l.address) → IsToBegin l.event out v.loads l.req l.nav replace l.address
-  to_begin replace is = record { q = own; mode = l.mode; due = due; none_ = none_there; handling = is; unmade = unmade }
+  to_begin replace is = record { q = own; mode = l.mode; due = due; none_ = none_there; sole = sole; first = none_began; handling = is; unmade = unmade }
 
   pub states_room : v.states + 1 < 4294967296
   states_room =

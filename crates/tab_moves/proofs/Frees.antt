@@ -1,4 +1,5 @@
 -- A document that was left is frozen: all at or below its navigable are asleep, and each document below is to be frozen.
+use Rattle.tab_doors.proofs.PassedOn.{sent_now}
 use Rattle.seen_facts.proofs.Hang.Hung.{places_distinct}
 use Rattle.seen_facts.specs.Hang.AsPlaces.{AreDistinct}
 use Rattle.seen_facts.specs.Home.Homes.{AreHomed, IsAtHome}
@@ -15,7 +16,6 @@ use Rattle.log_model.specs.declared.job.Job.{Job}
 use Rattle.log_model.specs.declared.job.Why.{Why}
 use Rattle.log_model.specs.declared.row_kind.RowKind.{RowKind}
 use Rattle.row_facts.proofs.RestRows.Again.{rest_more}
-use Rattle.seen_laws.proofs.InEvents.{now_more}
 use Rattle.seen_laws.proofs.Keyed.{find_on_other}
 use Rattle.seen_laws.specs.InEvent.{InEvent, now_of, row_of}
 use Rattle.std.proofs.Common.{Bool, List, Option, Some, [], ap, cond, false, inl, inr, refl, subst, sym, true, ◌++◌, ◌==◌, ◌||◌, ◌∙◌, ◌∷◌, ◌≡◌}
@@ -65,7 +65,7 @@ module _ (m : InMoving) (nav : NavId) (doc : DocId) (why : Why) (out : List RowK
   frozen = after s (row_of e (rows.Sent freeze))
 
   now_is : frozen ≡ now_of e then_out
-  now_is = sym (ap (λ (l : List RowKind). now_of e l) is ∙ now_more e out (rows.Sent freeze) refl)
+  now_is = sym (ap (λ (l : List RowKind). now_of e l) is ∙ sent_now e out freeze refl)
 
   -- ---- all are asleep
 

@@ -1,4 +1,5 @@
 -- A document may be made for a navigable's target that has none and for which none is being made, and all goes on then.
+use Rattle.tab_doors.proofs.PassedOn.{sent_goes, sent_now}
 use Rattle.apply_plan.specs.declared.need.Need.TheVariants as needs
 use Rattle.seen_facts.proofs.Coord.Kept.{IsSentHome}
 use Rattle.seen_facts.proofs.Coord.Unread.{next}
@@ -30,7 +31,6 @@ use Rattle.row_facts.specs.Owed.Owed.{IsOwed}
 use Rattle.seen_facts.proofs.Rest.Stands.{get_of}
 use Rattle.row_facts.proofs.RestRows.Orders.{making_rests}
 use Rattle.row_facts.specs.RestRows.Moving.{AllRest}
-use Rattle.seen_laws.proofs.InEvents.{now_more}
 use Rattle.seen_laws.proofs.Keyed.{find_has as seen_number}
 use Rattle.seen_laws.specs.InEvent.{now_of}
 use Rattle.std.proofs.Common.{Bool, List, None, Option, Some, [], ap, arith, cond, false, inl, inr, length, map, not, refl, subst, sym, true, ℕ, ◌&&◌, ◌++◌, ◌+◌, ◌==◌, ◌||◌, ◌∙◌, ◌∷◌, ◌≡◌, ◌≤◌}
@@ -316,10 +316,10 @@ module _ (p : InPass) (out : List RowKind) (t : Tables) (pass : IsPassing p out 
 
         owed_then : IsOwed p.event then_out
         owed_then =
-            owed_more p.event out (rows.Sent job) refl pass.owed (sent_stays s p.event.event p.event.actor job pass.going.tab.asked.passed (reckoned_now p.event out) refl) (λ end stays. refl)
+            owed_more p.event out (rows.Sent job) (sent_goes p.event out job refl).read pass.owed (sent_stays s p.event.event p.event.actor job pass.going.tab.asked.passed (reckoned_now p.event out) refl) (λ end stays. refl)
 
         now_is : then_ ≡ now_of p.event then_out
-        now_is = sym (now_more p.event out (rows.Sent job) refl)
+        now_is = sym (sent_now p.event out job refl)
 
         -- not all stood, and nobody has moved
         late : all_stand then_ (aim_of then_) ≡ false

@@ -1,4 +1,5 @@
 -- A navigable that is to be shown its target may be, and all goes on then.
+use Rattle.tab_doors.proofs.PassedOn.{sent_now}
 use Rattle.seen_facts.proofs.Coord.Unread.{next}
 use Rattle.tab_passes.proofs.Goings.{ServesNoneToBegin, for_passed, goes_on, is_passed_for, none_to_begin, show_causes}
 use Rattle.seen_facts.proofs.Hang.Hung.{not_above_itself, place_chain, places_distinct}
@@ -24,7 +25,6 @@ use Rattle.nav_tree.specs.declared.nav.Nav.{Nav}
 use Rattle.nav_tree.specs.declared.node.Node.{Node}
 use Rattle.row_facts.proofs.RestRows.Orders.{shown_alone}
 use Rattle.row_facts.specs.RestRows.Moving.{RestBut}
-use Rattle.seen_laws.proofs.InEvents.{now_more}
 use Rattle.seen_laws.specs.InEvent.{now_of}
 use Rattle.std.proofs.Common.{Bool, List, None, Option, Some, [], ap, arith, cond, false, length, map, not, refl, subst, sym, true, ℕ, ◌&&◌, ◌++◌, ◌+◌, ◌<◌, ◌==◌, ◌||◌, ◌∙◌, ◌∷◌, ◌≡◌, ◌≤◌}
 use Rattle.std.proofs.lemmas.Bool.Decides.{nat_tests}
@@ -315,7 +315,7 @@ module _ (p : InPass) (move : Option Move) (out : List RowKind) (t : Tables) (le
             others_then.others up (subst (λ (n : NavId). IsApart s n up) (sym to.wanted.nav_is) (above_apart s nav place.above (place_chain s leaving.going.tab.sound leaving.going.tab.hangs nav place to.wanted.placed) (ap (λ (n : NavId). has_nav place.above n) (sym own) ∙ not_above_itself s leaving.going.tab.sound leaving.going.tab.hangs nav place to.wanted.placed) up has))
 
     now_is : then_ ≡ now_of p.event then_out
-    now_is = sym (now_more p.event out (rows.Sent job) refl)
+    now_is = sym (sent_now p.event out job refl)
 
     -- a request is there as before, but for whom it has moved
     causes_then : (u : Tables) → IsLeaving p None [] then_out u → (x : Why) → MayCause s x → MayCause then_ x

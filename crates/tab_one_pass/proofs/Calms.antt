@@ -42,7 +42,7 @@ use Rattle.tab_one_pass.specs.Passing.{HasPassed, HasPutOut, LeavesCalm, LeavesP
 pub use Rattle.tab_serves.proofs.PassedOn.{aim_is}
 pub use Rattle.tab_serves.proofs.Calms.{only_as}
 use Rattle.tab_serves.specs.Serving.{HasOnly, InPass, IsPassing, IsUp, KeepsUp}
-use Rattle.tab_serves.proofs.Orders.{IsOrderOf, over_orders}
+use Rattle.tab_serves.proofs.Orders.{IsOrderOf, over_orders, tells_quiet}
 pub use Rattle.tab_sweeps.proofs.Loads.{loaded_never}
 use Rattle.tab_sweeps.specs.Sweeping.{IsNoStray, IsOnStray, IsStray, IsSweptTurn, but_status}
 use Rattle.seen_facts.proofs.Walk.Placed.{found_nav}
@@ -85,15 +85,15 @@ told_calm e why was out only more =
 
     states : KeepStates (now_of e was).documents (now_of e out).documents
     states =
-        over_orders Tells (λ (x : Seen). KeepStates (now_of e was).documents x.documents) (λ x event job tells so doc. states_stay x (rows.Sent job) (tells_none job.task tells).1 doc ∙ so doc) e was out orders (λ doc. refl)
+        over_orders Tells tells_quiet (λ (x : Seen). KeepStates (now_of e was).documents x.documents) (λ x event job tells so doc. states_stay x (rows.Sent job) (tells_none job.task tells).1 doc ∙ so doc) e was out orders (λ doc. refl)
 
     usable : (doc : DocId) (d : Document) (state : StateId) → document_of (now_of e was) doc ≡ Some d → is_usable d state ≡ true → IsUsableAt (now_of e out) doc state
     usable doc d state found is =
-        over_orders Tells (λ (x : Seen). IsUsableAt x doc state) (λ x event job tells so. usable_sent x event.event event.actor job (tells_none job.task tells).0 doc so.d state so.found so.usable) e was out orders (record { d = d; found = found; usable = is })
+        over_orders Tells tells_quiet (λ (x : Seen). IsUsableAt x doc state) (λ x event job tells so. usable_sent x event.event event.actor job (tells_none job.task tells).0 doc so.d state so.found so.usable) e was out orders (record { d = d; found = found; usable = is })
 
 pub told_loads : (e : InEvent) (why : Why) (was out : List RowKind) → HasOnlyTold why was out → LoadsHaveDocuments (now_of e was) → LoadsHaveDocuments (now_of e out)
 told_loads e why was out only =
-    over_orders Tells LoadsHaveDocuments (λ x event job tells. loads_sent x event.event event.actor job (inl (tells_none job.task tells).0)) e was out (only_as (IsUpdateFor why) (IsOrderOf Tells) was out one only)
+    over_orders Tells tells_quiet LoadsHaveDocuments (λ x event job tells. loads_sent x event.event event.actor job (inl (tells_none job.task tells).0)) e was out (only_as (IsUpdateFor why) (IsOrderOf Tells) was out one only)
   where
     one : (row : RowKind) → IsUpdateFor why row → IsOrderOf Tells row
     one (rows.Sent job) is = record { job = job; is = refl; task = is.1 }

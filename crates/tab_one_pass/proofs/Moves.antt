@@ -1,4 +1,7 @@
 -- Where a traversal runs, whom it hasn't moved stays where it is to be over a pass: no row but an order of the walk shows a document, which is for the traversal then, and no request but a load is dropped.
+use Rattle.seen_laws.specs.Unasked.{is_question}
+use Rattle.tab_serves.proofs.Orders.{walk_quiet, tells_quiet}
+use Rattle.tab_doors.proofs.PassedOn.{dropped_goes, sent_goes}
 use Rattle.tab_facts.proofs.Calm.Moves.{AreUnmoved, unmoved_dropped, unmoved_sent}
 use Rattle.tab_facts.specs.Calm.Calm.{ShowsOne}
 use Rattle.seen_facts.proofs.Hang.Members.{has_map}
@@ -14,7 +17,7 @@ use Rattle.log_model.specs.declared.job.Why.{Why}
 use Rattle.log_model.specs.declared.outcome.Cause.{Cause}
 use Rattle.log_model.specs.declared.request.Request.{Request}
 use Rattle.log_model.specs.declared.row_kind.RowKind.{RowKind}
-use Rattle.seen_laws.specs.InEvent.{InEvent, now_of, row_of}
+use Rattle.seen_laws.specs.InEvent.{InEvent, now_of, row_of, GoesThere}
 use Rattle.std.proofs.Common.{Bool, List, Some, ap, false, map, refl, subst, sym, true, ◌&&◌, ◌==◌, ◌∙◌, ◌≡◌}
 use Rattle.std.proofs.lemmas.Bool.{and_parts}
 use Rattle.std.specs.Prelude.{is_none, option_map}
@@ -27,7 +30,7 @@ use Rattle.tab_serves.proofs.Calms.{only_as}
 use Rattle.tab_serves.specs.Serving.{HasOnly, IsServeFor}
 use Rattle.tab_serves.specs.PassedOn.{IsUpdateFor, length_index}
 use Rattle.tab_sweeps.specs.Sweeping.{HasOnlySwept, IsSweepOf}
-pub use Rattle.tab_serves.proofs.PassedOn.{over_each}
+pub use Rattle.tab_serves.proofs.PassedOn.{over_each, over_with}
 use Rattle.log_model.specs.declared.job.Task.TheVariants as tasks
 use Rattle.log_model.specs.declared.job.Why.TheVariants as whys
 use Rattle.log_model.specs.declared.request.Request.TheVariants as requests
@@ -39,6 +42,7 @@ use Rattle.log_model.specs.declared.row_kind.RowKind.TheVariants as rows
 record IsOrderFor (run : ReqId) (row : RowKind) : Type 0 where
   job : Job
   is : row ≡ rows.Sent job
+  quiet : is_question job.task ≡ false
   shows : ShowsOne job.task → job.why ≡ whys.Req run
 
 -- another request is dropped
@@ -50,14 +54,14 @@ record IsOtherDrop (run : ReqId) (row : RowKind) : Type 0 where
 
 module _ (e : InEvent) (run : ReqId) where
   orders_unmoved : (was out : List RowKind) → HasOnly (IsOrderFor run) was out → AreUnmoved run (now_of e was) → AreUnmoved run (now_of e out)
-  orders_unmoved = over_each (IsOrderFor run) (AreUnmoved run) e one
+  orders_unmoved = over_each (IsOrderFor run) (AreUnmoved run) e (λ mid row it. subst (GoesThere e mid) (sym it.is) (sent_goes e mid it.job it.quiet)) one
     where
       one : (x : Seen) (row : RowKind) → IsOrderFor run row → AreUnmoved run x → AreUnmoved run (after x (row_of e row))
       one x row it are =
           subst (λ (k : RowKind). AreUnmoved run (after x (row_of e k))) (sym it.is) (unmoved_sent x e.event e.actor it.job run are it.shows)
 
   drops_unmoved : (was out : List RowKind) → HasOnly (IsOtherDrop run) was out → AreUnmoved run (now_of e was) → AreUnmoved run (now_of e out)
-  drops_unmoved = over_each (IsOtherDrop run) (AreUnmoved run) e one
+  drops_unmoved = over_each (IsOtherDrop run) (AreUnmoved run) e (λ mid row it. subst (GoesThere e mid) (sym it.is) (dropped_goes e mid it.req it.cause)) one
     where
       one : (x : Seen) (row : RowKind) → IsOtherDrop run row → AreUnmoved run x → AreUnmoved run (after x (row_of e row))
       one x row it are =
@@ -94,7 +98,7 @@ module _ (e : InEvent) (run : ReqId) where
     where
       one : (row : RowKind) → IsSweepOf s blame row → IsOrderFor run row
       one row it =
-          record { job = it.job; is = it.is; shows = λ shows. absurd (subst (λ (k : Task). ShowsOne k) it.discards shows) }
+          record { job = it.job; is = it.is; quiet = ap is_question it.discards; shows = λ shows. absurd (subst (λ (k : Task). ShowsOne k) it.discards shows) }
 
   told_unmoved : (why : Why) (was out : List RowKind) → HasOnly (IsUpdateFor why) was out → AreUnmoved run (now_of e was) → AreUnmoved run (now_of e out)
   told_unmoved why was out only = orders_unmoved was out (only_as (IsUpdateFor why) (IsOrderFor run) was out one only)
@@ -104,13 +108,13 @@ module _ (e : InEvent) (run : ReqId) where
       tells _ is shows = absurd shows
 
       one : (row : RowKind) → IsUpdateFor why row → IsOrderFor run row
-      one (rows.Sent job) it = record { job = job; is = refl; shows = λ shows. absurd (tells job.task it.1 shows) }
+      one (rows.Sent job) it = record { job = job; is = refl; quiet = tells_quiet job.task it.1; shows = λ shows. absurd (tells job.task it.1 shows) }
       one _ it = absurd it
 
   pub put_unmoved : (cause tells : Why) (was out : List RowKind) → HasPutOut e (Some run) cause tells was out → AreUnmoved run (now_of e was) → AreUnmoved run (now_of e out)
   put_unmoved cause tells was out puts are =
       told_unmoved tells puts.served out puts.told
-      (orders_unmoved puts.cleared puts.served (only_as (IsServeFor (Some run) cause) (IsOrderFor run) puts.cleared puts.served (λ row it. record { job = it.job; is = it.is; shows = it.shows }) puts.serves) cleared)
+      (orders_unmoved puts.cleared puts.served (only_as (IsServeFor (Some run) cause) (IsOrderFor run) puts.cleared puts.served (λ row it. record { job = it.job; is = it.is; quiet = walk_quiet it.job.task it.serves; shows = it.shows }) puts.serves) cleared)
     where
       given : AreUnmoved run (now_of e puts.given)
       given =

@@ -1,4 +1,5 @@
 -- A stray document that a pass leaves has an order on its way: its load's navigable was awake on a stray document, which the sweep discarded.
+use Rattle.tab_doors.proofs.PassedOn.{dropped_goes}
 use Rattle.seen_facts.proofs.Hang.Members.{Passing, any_has, has_any, has_map}
 use Rattle.seen_facts.proofs.Hang.Parts.{state_is}
 use Rattle.seen_facts.specs.Hang.Members.{Has}
@@ -14,7 +15,7 @@ use Rattle.log_model.specs.declared.job.Why.{Why}
 use Rattle.log_model.specs.declared.made.Made.{Made}
 use Rattle.log_model.specs.declared.row.Row.{Row}
 use Rattle.log_model.specs.declared.row_kind.RowKind.{RowKind}
-use Rattle.seen_laws.specs.InEvent.{InEvent, now_of, row_of}
+use Rattle.seen_laws.specs.InEvent.{InEvent, now_of, row_of, GoesThere}
 use Rattle.std.proofs.Common.{Bool, List, None, Option, Some, [], ap, append-nil, append_assoc, false, inl, map, refl, subst, sym, true, ◌++◌, ◌==◌, ◌∙◌, ◌∷◌, ◌≡◌}
 use Rattle.std.proofs.lemmas.Bool.{and_parts}
 use Rattle.std.specs.Prelude.{option_map}
@@ -126,7 +127,7 @@ module _ (run : Option ReqId) (ids : List ReqId) (hand : List Made) (e : InEvent
 pub given_places : (e : InEvent) (run : Option ReqId) (was given : List RowKind) → HasGivenWay (now_of e was) run was given → (now_of e given).places ≡ (now_of e was).places
 given_places e None was given same = ap (λ (l : List RowKind). (now_of e l).places) same
 given_places e (Some by) was given gives =
-    over_each IsDrop (λ (x : Seen). x.places ≡ (now_of e was).places) e one was given (record { more = map row_of_drop gives.drops; is = gives.is; each = each }) refl
+    over_each IsDrop (λ (x : Seen). x.places ≡ (now_of e was).places) e (λ mid row drop. subst (GoesThere e mid) (sym drop.is) (dropped_goes e mid drop.it.req drop.it.cause)) one was given (record { more = map row_of_drop gives.drops; is = gives.is; each = each }) refl
   where
     each : (row : RowKind) → Has (map row_of_drop gives.drops) row → IsDrop row
     each row has =

@@ -37,7 +37,7 @@ use Rattle.tab_serves.proofs.Calms.{only_as}
 use Rattle.tab_serves.proofs.Ups.{up_places, up_then}
 use Rattle.tab_serves.specs.Serving.{HasOnly, HasOnlyServed, HasWalked, IsOfWalk, KeepsUp, LeavesLog, MayCause, MayWalk}
 use Rattle.tab_serves.specs.PassedOn.{HasOnlyTold, IsToldMore, IsUpdateFor}
-use Rattle.tab_serves.proofs.Orders.{IsOrderOf, taken_over, walk_orders}
+use Rattle.tab_serves.proofs.Orders.{IsOrderOf, taken_over, walk_orders, walk_quiet, tells_quiet}
 pub use Rattle.tab_drops.proofs.Turns.{reached_same}
 use Rattle.tab_serves.proofs.Reached.{loads_stand_still}
 use Rattle.tab_sweeps.specs.Sweeping.{AreBlamed, IsSweptTurn}
@@ -145,13 +145,13 @@ left_orders e was out only history aim parked causes calms up loading =
 
 pub any_orders : (was out : List RowKind) → HasOnly (IsOrderOf IsOfWalk) was out → HasOnly (IsOrderOf IsAnyTask) was out
 any_orders was out only =
-    only_as (IsOrderOf IsOfWalk) (IsOrderOf IsAnyTask) was out (λ row it. record { job = it.job; is = it.is; task = tt }) only
+    only_as (IsOrderOf IsOfWalk) (IsOrderOf IsAnyTask) was out (λ row it. record { job = it.job; is = it.is; task = walk_quiet it.job.task it.task }) only
 
 pub told_orders : (why : Why) (was out : List RowKind) → HasOnlyTold why was out → HasOnly (IsOrderOf IsAnyTask) was out
 told_orders why was out only = only_as (IsUpdateFor why) (IsOrderOf IsAnyTask) was out one only
   where
     one : (row : RowKind) → IsUpdateFor why row → IsOrderOf IsAnyTask row
-    one (rows.Sent job) is = record { job = job; is = refl; task = tt }
+    one (rows.Sent job) is = record { job = job; is = refl; task = tells_quiet job.task is.1 }
     one _ is = absurd is
 
 -- stray documents that are left stay so

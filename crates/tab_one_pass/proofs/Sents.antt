@@ -1,4 +1,5 @@
 -- No order makes a document stray, and what is read of the requests is as before.
+use Rattle.seen_laws.specs.Unasked.{is_question}
 use Rattle.tab_facts.proofs.Calm.Sents.{usable_was}
 use Rattle.tab_facts.specs.Calm.Calm.{HasUsable}
 use Rattle.seen_facts.proofs.Load.Rows.{look_blind}
@@ -31,7 +32,7 @@ use Rattle.log_model.specs.declared.row_kind.RowKind.TheVariants as rows
 
 -- any order
 abbrev pub IsAnyTask : Task → Type 0
-IsAnyTask task = Unit {0}
+IsAnyTask task = is_question task ≡ false
 
 -- ---- the documents
 
@@ -152,7 +153,7 @@ sent_was s e job doc state its =
 module _ (e : InEvent) (was out : List RowKind) (only : HasOnly (IsOrderOf IsAnyTask) was out) where
   pub strays_over : (doc : DocId) (state : StateId) (its : IsStray (now_of e out) doc state) → WasStray (now_of e was) doc state its.document.nav
   strays_over =
-      over_orders IsAnyTask (λ (x : Seen). (doc : DocId) (state : StateId) (its : IsStray x doc state) → WasStray (now_of e was) doc state its.document.nav) (λ x event job is fewer doc state its. one x event job fewer doc state its) e was out only (λ doc state its. record { stray = its; nav_is = refl })
+      over_orders IsAnyTask (λ task is. is) (λ (x : Seen). (doc : DocId) (state : StateId) (its : IsStray x doc state) → WasStray (now_of e was) doc state its.document.nav) (λ x event job is fewer doc state its. one x event job fewer doc state its) e was out only (λ doc state its. record { stray = its; nav_is = refl })
     where
       one : (x : Seen) (event : InEvent) (job : Job) → ((doc : DocId) (state : StateId) (its : IsStray x doc state) → WasStray (now_of e was) doc state its.document.nav) → (doc : DocId) (state : StateId) (its : IsStray (after x (row_of event (rows.Sent job))) doc state) → WasStray (now_of e was) doc state its.document.nav
       one x event job fewer doc state its =
@@ -162,15 +163,15 @@ module _ (e : InEvent) (was out : List RowKind) (only : HasOnly (IsOrderOf IsAny
 
   pub looks_same : (req : ReqId) → look_of (now_of e out) req ≡ look_of (now_of e was) req
   looks_same req =
-      over_orders IsAnyTask (λ (x : Seen). look_of x req ≡ look_of (now_of e was) req) (λ x event job is same. sent_looks x event job req ∙ same) e was out only refl
+      over_orders IsAnyTask (λ task is. is) (λ (x : Seen). look_of x req ≡ look_of (now_of e was) req) (λ x event job is same. sent_looks x event job req ∙ same) e was out only refl
 
   pub joined_same : (now_of e out).joined ≡ (now_of e was).joined
-  joined_same = over_orders IsAnyTask (λ (x : Seen). x.joined ≡ (now_of e was).joined) (λ x event job is same. same) e was out only refl
+  joined_same = over_orders IsAnyTask (λ task is. is) (λ (x : Seen). x.joined ≡ (now_of e was).joined) (λ x event job is same. same) e was out only refl
 
   pub were_same : WereShown (now_of e was) → WereShown (now_of e out)
-  were_same = over_orders IsAnyTask WereShown (λ x event job is were. were_shown x event.event event.actor were (rows.Sent job) tt) e was out only
+  were_same = over_orders IsAnyTask (λ task is. is) WereShown (λ x event job is were. were_shown x event.event event.actor were (rows.Sent job) tt) e was out only
 
 -- a document that is usable then was so
 pub usable_before : (e : InEvent) (was out : List RowKind) → HasOnly (IsOrderOf IsAnyTask) was out → (state : StateId) → HasUsable (now_of e out) state → HasUsable (now_of e was) state
 usable_before e was out only state =
-    over_orders IsAnyTask (λ (x : Seen). HasUsable x state → HasUsable (now_of e was) state) (λ x event job any before some. before (usable_was x event.event event.actor job state some)) e was out only (λ some. some)
+    over_orders IsAnyTask (λ task is. is) (λ (x : Seen). HasUsable x state → HasUsable (now_of e was) state) (λ x event job any before some. before (usable_was x event.event event.actor job state some)) e was out only (λ some. some)

@@ -10,7 +10,7 @@ use Rattle.log_model.specs.Seen.{Asked, Document, Place, Seen, desk_of, place_of
 use Rattle.log_model.specs.declared.job.Job.{Job}
 use Rattle.log_model.specs.declared.job.Why.{Why}
 use Rattle.log_model.specs.declared.row_kind.RowKind.{RowKind}
-use Rattle.seen_laws.proofs.InEvents.{led_here}
+use Rattle.seen_laws.proofs.InEvents.{led_here, now_is}
 use Rattle.seen_laws.specs.InEvent.{InEvent, here_of, now_of}
 use Rattle.seen_laws.specs.Sending.{is_passed}
 use Rattle.std.proofs.Common.{List, None, Option, Some, ap, false, refl, subst, sym, true, ◌∙◌, ◌≡◌}
@@ -43,7 +43,7 @@ passed_there s whys.Start passed = refl
 -- the order that freezes it may be sent
 pub freeze_ahead : (e : InEvent) (out : List RowKind) (move : Move) (t : Tables) (nav : NavId) (doc : DocId) (why : Why) → IsAtWorkFor (Some move) e out t → IsToFreeze e (now_of e out) nav doc → (desk_of (now_of e out) (proc_at (now_of e out) doc)).known ≡ 0 → is_passed (now_of e out) tasks.Freeze why ≡ true → is_for_passed (now_of e out) (order_to (now_of e out) doc why tasks.Freeze) ≡ true → IsForOther e.checking why → IsNewFor e (now_of e out) move nav → MaySend (Some move) e out (order_to (now_of e out) doc why tasks.Freeze)
 freeze_ahead e out move t nav doc why work its known passed for_passed for_other new =
-    freeze_sends (here_of e out) e.event e.actor order move (led_here e out work.own) (numbered_log e out work.same order (numbered s (proc_at s doc) doc why tasks.Freeze known)) shown.d shown.found frozen.d frozen.freezes
+    freeze_sends (here_of e out) e.event e.actor order move (led_here e out work.own) (numbered_log e out (now_is e out) order (numbered s (proc_at s doc) doc why tasks.Freeze known)) shown.d shown.found frozen.d frozen.freezes
     (subst (λ (place : Place). has_nav (way_of place) shown.d.nav ≡ true) (sym frozen.place_is) (subst (λ (n : NavId). has_nav (way_of its.place) n ≡ true) nav_is its.below))
     (subst (λ (n : NavId). holds (is_awake_on move.doc) (place_of (here_of e out).start n) ≡ false) nav_is (subst (λ (x : Seen). holds (is_awake_on move.doc) (place_of x nav) ≡ false) (sym (start_here e out)) new.other))
   where
@@ -55,12 +55,12 @@ freeze_ahead e out move t nav doc why work its known passed for_passed for_other
 
     -- the document that is shown, as the log has it
     shown : IsInLog e out move.doc new.document
-    shown = in_log e out work.same move.doc new.document new.found
+    shown = in_log e out (now_is e out) move.doc new.document new.found
 
     nav_is : nav ≡ shown.d.nav
     nav_is = sym new.nav_is ∙ ap (λ (x : Document). x.nav) shown.is
 
-    due : IsFreezeDue (seen_at e out work.same) order its.document
+    due : IsFreezeDue (seen_at e out (now_is e out)) order its.document
     due =
         record {
           task = refl;

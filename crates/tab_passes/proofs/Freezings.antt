@@ -1,4 +1,5 @@
 -- Documents below one that was left are frozen, one after the other.
+use Rattle.tab_doors.proofs.PassedOn.{sent_now}
 use Rattle.log_model.specs.After.{after}
 use Rattle.log_model.specs.AfterDocuments.{addressed}
 use Rattle.log_model.specs.AfterPlaces.{put_to_sleep, sleepers_with, without_doc}
@@ -11,7 +12,6 @@ use Rattle.log_model.specs.declared.job.Why.{Why}
 use Rattle.log_model.specs.declared.row_kind.RowKind.{RowKind}
 use Rattle.nav_tree.proofs.Lists.{drop-slice_get, take-slice_get}
 use Rattle.row_facts.specs.RestRows.Left.{left_below, shown_by}
-use Rattle.seen_laws.proofs.InEvents.{now_more}
 use Rattle.seen_laws.proofs.Keyed.{find_on_other}
 use Rattle.seen_laws.specs.InEvent.{InEvent, now_of, row_of}
 use Rattle.std.proofs.Common.{Bool, List, Option, Some, [], ap, inl, arith, drop, false, map, refl, subst, sym, take, true, ℕ, ◌++◌, ◌+◌, ◌==◌, ◌||◌, ◌∙◌, ◌∷◌, ◌≡◌}
@@ -146,14 +146,14 @@ module _ (l : InFreezing) (why : Why) (left docs : List DocId) (doc : DocId) (ou
       }
     where
       now_is : after s (row_of l.pass.event (rows.Sent (order_to s doc why tasks.Freeze))) ≡ now_of l.pass.event new
-      now_is = sym (ap (λ (x : List RowKind). now_of l.pass.event x) is ∙ now_more l.pass.event out (rows.Sent (order_to s doc why tasks.Freeze)) refl)
+      now_is = sym (ap (λ (x : List RowKind). now_of l.pass.event x) is ∙ sent_now l.pass.event out (order_to s doc why tasks.Freeze) refl)
 
       leaving_now : IsLeaving l.pass (Some l.move) (without_doc doc left) new u
       leaving_now = subst (λ (x : List DocId). IsLeaving l.pass (Some l.move) (x ++ without_doc doc left) new u) (below_none s doc so.each.0.nobody) leaving
 
   pub freezing_still : (new : List RowKind) → new ≡ out ++ rows.Sent (order_to s doc why tasks.Freeze) ∷ [] → IsStill (doc ∷ []) s (now_of l.pass.event new)
   freezing_still new is =
-      subst (λ (x : Seen). IsStill (doc ∷ []) s x) (sym (ap (λ (x : List RowKind). now_of l.pass.event x) is ∙ now_more l.pass.event out (rows.Sent (order_to s doc why tasks.Freeze)) refl)) (still_frozen l.pass.event s doc why so.each.0.nobody)
+      subst (λ (x : Seen). IsStill (doc ∷ []) s x) (sym (ap (λ (x : List RowKind). now_of l.pass.event x) is ∙ sent_now l.pass.event out (order_to s doc why tasks.Freeze) refl)) (still_frozen l.pass.event s doc why so.each.0.nobody)
 
 -- ---- so many of them
 

@@ -1,4 +1,5 @@
 -- All goes on as documents are left: frozen or discarded, within a move or not.
+use Rattle.tab_doors.proofs.PassedOn.{sent_goes, sent_now}
 use Rattle.tab_facts.proofs.TabGoing.PassedOn.{ServesNoneToBegin, discard_tab, discarded_lasting, freeze_tab, frozen_lasting, show_tab, shown_lasting}
 use Rattle.seen_facts.specs.Doc.Docs.{HasPlace}
 use Rattle.log_model.specs.After.{after}
@@ -14,7 +15,6 @@ use Rattle.row_facts.specs.Owed.Owed.{IsLoose, IsOwed}
 use Rattle.seen_facts.specs.Asked.Asking.{HavePassed}
 use Rattle.row_facts.proofs.RestRows.Orders.{discarded_less, frozen_less}
 use Rattle.row_facts.specs.RestRows.Moving.{RestBut}
-use Rattle.seen_laws.proofs.InEvents.{now_more}
 use Rattle.seen_laws.specs.InEvent.{InEvent, now_of, row_of}
 use Rattle.std.proofs.Common.{List, None, Option, Some, [], length, refl, subst, sym, true, ℕ, ◌++◌, ◌+◌, ◌∙◌, ◌∷◌, ◌≡◌, ◌≤◌, ap}
 use Rattle.tab_doors.proofs.Whose.{proc_found}
@@ -52,10 +52,11 @@ begun_work e out t doc left states work is =
     record {
       own = work.own;
       worker = work.worker;
-      begins = work.begins;
-      rows = work.rows;
       plain = work.plain;
-      same = work.same;
+      goes = work.goes;
+      numbered = work.numbered;
+      read = work.read;
+      sole = work.sole;
       checks = work.checks;
       unheld = work.unheld;
       holds = record {
@@ -112,7 +113,7 @@ module _ (p : InPass) (move : Option Move) (docs : List DocId) (out : List RowKi
 
   frozen_owed : IsOwed p.event (out ++ rows.Sent freeze ∷ [])
   frozen_owed =
-      owed_more p.event out (rows.Sent freeze) refl leaving.owed (sent_stays s p.event.event p.event.actor freeze all_passed (reckoned_now p.event out) refl) (λ end stays. refl)
+      owed_more p.event out (rows.Sent freeze) (sent_goes p.event out freeze refl).read leaving.owed (sent_stays s p.event.event p.event.actor freeze all_passed (reckoned_now p.event out) refl) (λ end stays. refl)
 
   frozen_rests : RestBut (left_then s doc docs) frozen
   frozen_rests =
@@ -128,7 +129,7 @@ module _ (p : InPass) (move : Option Move) (docs : List DocId) (out : List RowKi
       })
     where
       now_is : frozen ≡ now_of p.event (out ++ rows.Sent freeze ∷ [])
-      now_is = sym (now_more p.event out (rows.Sent freeze) refl)
+      now_is = sym (sent_now p.event out freeze refl)
 
   -- it is discarded
 
@@ -147,7 +148,7 @@ module _ (p : InPass) (move : Option Move) (docs : List DocId) (out : List RowKi
 
   gone_owed : IsOwed p.event (out ++ rows.Sent discard ∷ [])
   gone_owed =
-      owed_more p.event out (rows.Sent discard) refl leaving.owed (sent_stays s p.event.event p.event.actor discard all_passed (reckoned_now p.event out) refl) (λ end stays. refl)
+      owed_more p.event out (rows.Sent discard) (sent_goes p.event out discard refl).read leaving.owed (sent_stays s p.event.event p.event.actor discard all_passed (reckoned_now p.event out) refl) (λ end stays. refl)
 
   gone_rests : RestBut (left_then s doc docs) gone
   gone_rests =
@@ -163,7 +164,7 @@ module _ (p : InPass) (move : Option Move) (docs : List DocId) (out : List RowKi
       })
     where
       now_is : gone ≡ now_of p.event (out ++ rows.Sent discard ∷ [])
-      now_is = sym (now_more p.event out (rows.Sent discard) refl)
+      now_is = sym (sent_now p.event out discard refl)
 
 -- ---- a navigable is shown a document, which ends a move
 
@@ -186,7 +187,7 @@ module _ (p : InPass) (move : Option Move) (docs : List DocId) (out : List RowKi
 
   shown_owed : IsOwed p.event (out ++ rows.Sent showing ∷ [])
   shown_owed =
-      owed_more p.event out (rows.Sent showing) refl leaving.owed (sent_stays (now_of p.event out) p.event.event p.event.actor showing leaving.going.tab.asked.passed (reckoned_now p.event out) refl) (λ end stays. refl)
+      owed_more p.event out (rows.Sent showing) (sent_goes p.event out showing refl).read leaving.owed (sent_stays (now_of p.event out) p.event.event p.event.actor showing leaving.going.tab.asked.passed (reckoned_now p.event out) refl) (λ end stays. refl)
 
   pub shown_leaving : (docs_ : List DocId) → RestBut docs_ shown → (u : Tables) (new : List RowKind) → new ≡ out ++ rows.Sent showing ∷ [] → KeepsStore t u → IsAtWork p.event new u → IsLeaving p None docs_ new u
   shown_leaving docs_ rests u new is keeps work =
@@ -198,4 +199,4 @@ module _ (p : InPass) (move : Option Move) (docs : List DocId) (out : List RowKi
       })
     where
       now_is : shown ≡ now_of p.event (out ++ rows.Sent showing ∷ [])
-      now_is = sym (now_more p.event out (rows.Sent showing) refl)
+      now_is = sym (sent_now p.event out showing refl)

@@ -1,4 +1,5 @@
 -- What orders may be for isn't in its unload check: a request in its check reads there as one that hasn't set out.
+use Rattle.seen_laws.proofs.InEvents.{now_is}
 use Rattle.log_model.specs.Checks.{is_checked, may_go_on}
 use Rattle.log_model.specs.Places.{is_load, is_reload, is_traversal}
 use Rattle.log_model.specs.Seen.{Asked, Seen, request_of}
@@ -54,7 +55,7 @@ module _ {move : Option Move} (e : InEvent) (out : List RowKind) (t : Tables) (w
       by_check : (b : Bool) → e.checking req ≡ b → b ≡ false
       by_check false off = refl
       by_check true on =
-          let from = found_from e.checking log req bare (subst (λ (x : Seen). request_of x req ≡ Some bare) work.same found) in
+          let from = found_from e.checking log req bare (subst (λ (x : Seen). request_of x req ≡ Some bare) (now_is e out) found) in
           let its = work.checks.checks req from.0 from.1 on in
           let is : bare ≡ unbegun from.0 = from.2 ∙ checked_on e.checking from.0 (ap e.checking its.nr ∙ on) in
           let none : is_checked bare ≡ false = none_out bare (ap (λ (x : Asked). x.is_started) is) (ap (λ (x : Asked). x.fragment) is ∙ its.unsent) out_ (each req bare found).what in

@@ -1,4 +1,5 @@
 -- All goes on after a document was told length and index.
+use Rattle.tab_doors.proofs.PassedOn.{sent_goes, sent_now}
 use Rattle.tab_passes.proofs.Untold.{IsTellDue}  -- keep
 use Rattle.seen_facts.specs.Home.Homes.{IsAtHome}
 use Rattle.tab_facts.proofs.TabGoing.PassedOn.{IsToMade, sent_home, tell_tab, told_lasting}
@@ -14,7 +15,6 @@ use Rattle.row_facts.specs.Owed.Owed.{IsLoose, IsOwed}
 use Rattle.seen_facts.specs.Asked.Asking.{HavePassed}
 use Rattle.row_facts.proofs.RestRows.Orders.{told_rests}
 use Rattle.row_facts.specs.RestRows.Moving.{AllRest}
-use Rattle.seen_laws.proofs.InEvents.{now_more}
 use Rattle.seen_laws.specs.InEvent.{now_of, row_of}
 use Rattle.std.proofs.Common.{List, Option, Some, [], ap, length, refl, subst, sym, true, ℕ, ◌++◌, ◌∙◌, ◌∷◌, ◌≡◌, ◌≤◌}
 use Rattle.tab_doors.proofs.Whose.{proc_found}
@@ -73,11 +73,11 @@ module _ (p : InPass) (out : List RowKind) (t : Tables) (pass : IsPassing p out 
 
   loose_then : all_stand told_ (aim_of told_) ≡ true → IsLoose p.event (out ++ rows.Sent update ∷ [])
   loose_then stand =
-      loose_more p.event out (rows.Sent update) refl (pass.loose (ap (λ (step : ℕ). all_stand s step) (sym aim_then) ∙ stand)) (sent_lasts s p.event.event p.event.actor update) (λ end lasts. refl)
+      loose_more p.event out (rows.Sent update) (sent_goes p.event out update refl).read (pass.loose (ap (λ (step : ℕ). all_stand s step) (sym aim_then) ∙ stand)) (sent_lasts s p.event.event p.event.actor update) (λ end lasts. refl)
 
   owed_then : IsOwed p.event (out ++ rows.Sent update ∷ [])
   owed_then =
-      owed_more p.event out (rows.Sent update) refl pass.owed (sent_stays s p.event.event p.event.actor update (all_passed p out t pass) (reckoned_now p.event out) refl) (λ end stays. refl)
+      owed_more p.event out (rows.Sent update) (sent_goes p.event out update refl).read pass.owed (sent_stays s p.event.event p.event.actor update (all_passed p out t pass) (reckoned_now p.event out) refl) (λ end stays. refl)
 
   rests_then : AllRest told_
   rests_then = told_rests s p.event.event p.event.actor [] pass.rests update (sent_home t.running p.loads p.hand s pass.going.tab update due.there.document to_made) tt
@@ -94,10 +94,10 @@ module _ (p : InPass) (out : List RowKind) (t : Tables) (pass : IsPassing p out 
       })
     where
       now_is : told_ ≡ now_of p.event (out ++ rows.Sent update ∷ [])
-      now_is = sym (now_more p.event out (rows.Sent update) refl)
+      now_is = sym (sent_now p.event out update refl)
 
   pub told_turn_here : (new : List RowKind) → new ≡ out ++ rows.Sent update ∷ [] → IsToldTurn s (now_of p.event new) nav
   told_turn_here new is =
       subst (λ (l : List RowKind). IsToldTurn s (now_of p.event l) nav) (sym is)
-      (subst (λ (x : Seen). IsToldTurn s x nav) (sym (now_more p.event out (rows.Sent update) refl))
+      (subst (λ (x : Seen). IsToldTurn s x nav) (sym (sent_now p.event out update refl))
       (told_turn s p.event.event p.event.actor update.proc doc why pair nav due.place due.there.document due.placed due.on due.there.found pass.going.tab.flows.whose due.due_pair_is))

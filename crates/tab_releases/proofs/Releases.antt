@@ -1,5 +1,5 @@
 -- What was held back is taken up one after the other, until nothing is.
-use Rattle.row_facts.proofs.FrameRows.LawfulLaws.{ends_seen}
+use Rattle.seen_laws.proofs.InEvents.{now_at}
 use Rattle.seen_facts.proofs.Coord.Held.{held_alike, made_of, without_same}
 use Rattle.seen_facts.proofs.Coord.Unread.{next}
 use Rattle.seen_facts.specs.Coord.Leading.{held_back}
@@ -29,7 +29,6 @@ use Rattle.tab_releases.proofs.Waits.{IsHeldFirst, IsLoadOfIt, IsPokeOfIt, for_t
 use Rattle.tab_releases.specs.Releasing.{EndsEach, HasReleased, HoldsParked, IsReleasing}
 use Rattle.seen_facts.proofs.Request.Readers.{SameReads, reads_then}
 use Rattle.seen_facts.proofs.Request.Times.{itself}
-use Rattle.seen_laws.proofs.InEvents.{now_more}
 use Rattle.seen_laws.specs.InEvent.{InEvent, now_of, row_of}
 use Rattle.std.proofs.Common.{Bool, List, None, Option, Some, [], ap, append-nil, append_assoc, false, inl, inr, map, refl, subst, sym, true, ℕ, ◌++◌, ◌+◌, ◌==◌, ◌∙◌, ◌∷◌, ◌≡◌, ◌⊎◌}
 use Rattle.std.proofs.lemmas.Bool.{or_right}
@@ -155,7 +154,7 @@ module _ (p : InPass) (t : Tables) (was : List RowKind) (u : Tables) (out : List
     n = next s p.event.event p.event.actor taken.ended.kind
 
     now : now_of p.event more ≡ n
-    now = ap (λ (l : List RowKind). now_of p.event l) taken.ended.out ∙ now_more p.event out taken.ended.kind (ends_seen p.event taken.ended.kind made.req taken.ended.ends)
+    now = now_at p.event out taken.ended.kind more taken.ended.out taken.passing.work.goes
 
     its : IsEnding s (now_of p.event more) made.req
     its = subst (λ (x : Seen). IsEnding s x made.req) (sym now) (is_ending s p.event taken.ended.kind made.req taken.ended.ends)

@@ -1,4 +1,5 @@
 -- A traversal has ended after a pass: all is as after a pass still, at the step that it led to, and the queue waits on.
+use Rattle.seen_laws.proofs.InEvents.{now_at}
 use Rattle.tab_facts.specs.Calm.Calm.{HasUsable}
 use Rattle.seen_facts.proofs.Coord.Held.{on_else}
 use Rattle.tab_facts.specs.Frame.Lasting.{Wish, wish}
@@ -13,7 +14,6 @@ use Rattle.log_model.specs.declared.change.Change.{Change}
 use Rattle.log_model.specs.declared.row.Row.{Row}
 use Rattle.log_model.specs.declared.row_kind.RowKind.{RowKind}
 use Rattle.row_facts.proofs.Owed.Requests.{req_same}
-use Rattle.seen_laws.proofs.InEvents.{now_more}
 use Rattle.seen_laws.specs.InEvent.{InEvent, now_of}
 use Rattle.std.proofs.Common.{Bool, List, None, Option, Some, ap, false, refl, subst, sym, true, ℕ, filter, ◌&&◌, ◌==◌, ◌∙◌, ◌≡◌}
 use Rattle.std.proofs.lemmas.Bool.{and_parts}
@@ -80,7 +80,7 @@ module _ (p : InPass) (out : List RowKind) (t : Tables) (passing : IsPassing p o
 
   other : (r : ReqId) → (r.0 == req.0) ≡ false → look_of n r ≡ look_of s r
   other r apart =
-      ap (λ (x : Seen). look_of x r) (ap (λ (l : List RowKind). now_of e l) ended.out ∙ now_more e out (rows.Applied req change) refl)
+      ap (λ (x : Seen). look_of x r) (now_at e out (rows.Applied req change) more ended.out ended.goes)
       ∙ ap (λ (o : Option Asked). option_map look o)
       (on_else (on_request req (λ (x : Asked). record x { change = Some change }) (on_request req (λ (x : Asked). record x { ending = Some endings.Applied }) s.requests)) req (λ (x : Asked). record x { took = entries_taken s.history change }) r apart
       ∙ on_else (on_request req (λ (x : Asked). record x { ending = Some endings.Applied }) s.requests) req (λ (x : Asked). record x { change = Some change }) r apart

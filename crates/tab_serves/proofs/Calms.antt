@@ -1,4 +1,6 @@
 -- What a turn of the walk puts out leaves the tab as calm as it was, and each ongoing load its document.
+use Rattle.tab_walk.proofs.Overs.{asks_nobody}
+use Rattle.tab_doors.proofs.PassedOn.{sent_goes, sent_now}
 use Rattle.tab_facts.proofs.Calm.Loads.{loads_sent}
 use Rattle.tab_facts.proofs.Calm.Sames.{IsUsableAt}
 use Rattle.tab_facts.proofs.Calm.Sents.{DiscardsNone, KeepsSeats, ShowsEntry, seats_none, seats_sent, seats_then, usable_sent}
@@ -20,10 +22,10 @@ use Rattle.log_model.specs.declared.job.Why.{Why}
 use Rattle.log_model.specs.declared.row.Row.{Row}
 use Rattle.log_model.specs.declared.row_kind.RowKind.{RowKind}
 use Rattle.seen_facts.proofs.Mover.Orders.{PutsToSleep}
-use Rattle.seen_laws.proofs.InEvents.{now_more, now_step}
+use Rattle.seen_laws.proofs.InEvents.{now_step}
 use Rattle.seen_laws.specs.InEvent.{InEvent, now_of, row_of}
 use Rattle.seen_laws.specs.Unasked.{is_question}
-use Rattle.std.proofs.Common.{Bool, List, None, Option, Some, [], ap, cond, inl, inr, not, refl, subst, sym, true, ℕ, ◌++◌, ◌==◌, ◌∙◌, ◌∷◌, ◌≡◌}
+use Rattle.std.proofs.Common.{Bool, List, None, Option, Some, [], ap, cond, inl, inr, refl, subst, sym, true, ℕ, ◌++◌, ◌==◌, ◌∙◌, ◌∷◌, ◌≡◌, false}
 use Rattle.std.specs.Prelude.{option_map}
 use Rattle.tab_doors.specs.declared.tables.Tables.{Tables}
 use Rattle.tab_ids.specs.declared.DocId.{DocId}
@@ -78,14 +80,14 @@ module _ (header : Header) (t : Tables) (nav : NavId) (entry : EntryId) (cause :
       subst (λ (l : List RowKind). IsCalmTurn s (now_of e l) nav place) (sym making.1) (none_calm place placed)
   made_calm (inr made) place placed =
       subst (λ (l : List RowKind). IsCalmTurn s (now_of e l) nav place) (sym made.is)
-      (subst (λ (x : Seen). IsCalmTurn s x nav place) (sym (now_more e was (rows.Sent made.job) (ap (λ (k : Task). not (is_question k)) made.task))) (populate_calm made.job _ _ _ made.task place placed))
+      (subst (λ (x : Seen). IsCalmTurn s x nav place) (sym (sent_now e was made.job (ap (λ (k : Task). is_question k) made.task))) (populate_calm made.job _ _ _ made.task place placed))
 
 -- its place stays
 pub made_place : (header : Header) (t : Tables) (nav : NavId) (entry : EntryId) (cause : Why) (e : InEvent) (was out : List RowKind) → HasMade header t nav entry cause was out → place_of (now_of e out) nav ≡ place_of (now_of e was) nav
 made_place header t nav entry cause e was out (inl making) = ap (λ (l : List RowKind). place_of (now_of e l) nav) making.1
 made_place header t nav entry cause e was out (inr made) =
     ap (λ (l : List RowKind). place_of (now_of e l) nav) made.is
-    ∙ ap (λ (x : Seen). place_of x nav) (now_more e was (rows.Sent made.job) (ap (λ (k : Task). not (is_question k)) made.task))
+    ∙ ap (λ (x : Seen). place_of x nav) (sent_now e was made.job (ap (λ (k : Task). is_question k) made.task))
     ∙ (let task = made.task in rw task refl)
 
 -- ---- it is moved
@@ -102,7 +104,7 @@ module _ (e : InEvent) (nav : NavId) (was out : List RowKind) (moved : HasBeenMo
 
   then_ : now_of e out ≡ x
   then_ =
-      ap (λ (l : List RowKind). now_of e l) moved.is ∙ now_more e moved.mid (rows.Sent moved.job) (ap (λ (k : Task). not (is_question k)) moved.task)
+      ap (λ (l : List RowKind). now_of e l) moved.is ∙ sent_now e moved.mid moved.job (ap (λ (k : Task). is_question k) moved.task)
 
   -- ---- the order that shows it
 
@@ -191,7 +193,7 @@ module _ (e : InEvent) (nav : NavId) (was out : List RowKind) (moved : HasBeenMo
 
   left_seats : KeepsSeats b m
   left_seats =
-      over_orders PutsToSleep (λ (y : Seen). KeepsSeats b y) (λ y event job puts so. seats_then b y (after y (row_of event (rows.Sent job))) so (seats_sent y event.event event.actor job (puts_entry y job.doc job.task puts))) e was moved.mid left_orders (seats_none b)
+      over_orders PutsToSleep asks_nobody (λ (y : Seen). KeepsSeats b y) (λ y event job puts so. seats_then b y (after y (row_of event (rows.Sent job))) so (seats_sent y event.event event.actor job (puts_entry y job.doc job.task puts))) e was moved.mid left_orders (seats_none b)
 
   -- ---- all of it
 
@@ -213,17 +215,17 @@ module _ (e : InEvent) (nav : NavId) (was out : List RowKind) (moved : HasBeenMo
 -- ---- documents of loads
 
 -- an order that discards none leaves each ongoing load its document
-sent_loads : (e : InEvent) (was out : List RowKind) (job : Job) → out ≡ was ++ rows.Sent job ∷ [] → DiscardsNone job.task → LoadsHaveDocuments (now_of e was) → LoadsHaveDocuments (now_of e out)
-sent_loads e was out job is none are =
+sent_loads : (e : InEvent) (was out : List RowKind) (job : Job) → out ≡ was ++ rows.Sent job ∷ [] → is_question job.task ≡ false → DiscardsNone job.task → LoadsHaveDocuments (now_of e was) → LoadsHaveDocuments (now_of e out)
+sent_loads e was out job is quiet none are =
     subst (λ (l : List RowKind). LoadsHaveDocuments (now_of e l)) (sym is)
-    (now_step LoadsHaveDocuments e was (rows.Sent job) (λ were. loads_sent (now_of e was) e.event e.actor job (inl none) were) are)
+    (now_step LoadsHaveDocuments e was (rows.Sent job) (sent_goes e was job quiet) (λ were. loads_sent (now_of e was) e.event e.actor job (inl none) were) are)
 
 pub made_loads : (header : Header) (t : Tables) (nav : NavId) (entry : EntryId) (cause : Why) (e : InEvent) (was out : List RowKind) → HasMade header t nav entry cause was out → LoadsHaveDocuments (now_of e was) → LoadsHaveDocuments (now_of e out)
 made_loads header t nav entry cause e was out (inl making) are =
     subst (λ (l : List RowKind). LoadsHaveDocuments (now_of e l)) (sym making.1) are
 made_loads header t nav entry cause e was out (inr made) are =
-    sent_loads e was out made.job made.is (subst (λ (k : Task). DiscardsNone k) (sym made.task) tt) are
+    sent_loads e was out made.job made.is (ap is_question made.task) (subst (λ (k : Task). DiscardsNone k) (sym made.task) tt) are
 
 pub moved_loads : (e : InEvent) (nav : NavId) (was out : List RowKind) → HasBeenMoved e nav was out → LoadsHaveDocuments (now_of e was) → LoadsHaveDocuments (now_of e out)
 moved_loads e nav was out moved are =
-    sent_loads e moved.mid out moved.job moved.is (subst (λ (k : Task). DiscardsNone k) (sym moved.task) tt) (moved.loading are)
+    sent_loads e moved.mid out moved.job moved.is (ap is_question moved.task) (subst (λ (k : Task). DiscardsNone k) (sym moved.task) tt) (moved.loading are)

@@ -1,4 +1,6 @@
 -- What the orders of a walk keep, one after the other.
+use Rattle.tab_walk.specs.PassedOn.{length_index}
+use Rattle.seen_laws.specs.Unasked.{is_question}
 use Rattle.seen_facts.specs.Hang.Members.{Has}
 use Rattle.row_facts.proofs.Left.Rows.{were_shown}
 use Rattle.row_facts.specs.Left.Left.{WereShown}
@@ -26,7 +28,7 @@ use Rattle.std.specs.Option.{option_map_or}
 use Rattle.std.specs.Prelude.{is_some, option_map}
 use Rattle.tab_ids.specs.declared.NavId.{NavId}
 use Rattle.tab_ids.specs.declared.ReqId.{ReqId}
-use Rattle.tab_walk.proofs.Overs.{only_as}
+use Rattle.tab_walk.proofs.Overs.{only_as, order_goes}
 use Rattle.tab_walk.specs.Moving.{HasOnly}
 use Rattle.tab_serves.specs.Serving.{HasOnlyServed, IsOfWalk, IsServeFor, ParentsShown}
 use Rattle.seen_facts.proofs.Walk.Aims.{blur, on_served_blur}
@@ -45,15 +47,39 @@ pub record IsOrderOf (Is : Task → Type 0) (row : RowKind) : Type 0 where
   pub is : row ≡ rows.Sent job
   pub task : Is job.task
 
+-- none of these asks anybody
+abbrev pub AskNobody : (Task → Type 0) → Type 0
+AskNobody Is = (task : Task) → Is task → is_question task ≡ false
+
+-- none of a walk does
+pub walk_quiet : AskNobody IsOfWalk
+walk_quiet (tasks.Ask slot cause) never = absurd never
+walk_quiet (tasks.Activate entry epoch length index memo address) is = refl
+walk_quiet (tasks.Populate nav state address initial) is = refl
+walk_quiet tasks.Freeze is = refl
+walk_quiet tasks.Discard is = refl
+walk_quiet (tasks.Update long at) is = refl
+walk_quiet (tasks.DoFragment req mode address) is = refl
+
+-- nor one that tells length and index
+pub tells_quiet : AskNobody (λ task. length_index task ≡ true)
+tells_quiet (tasks.Ask slot cause) never = absurd cc
+tells_quiet (tasks.Activate entry epoch length index memo address) is = refl
+tells_quiet (tasks.Populate nav state address initial) is = refl
+tells_quiet tasks.Freeze is = refl
+tells_quiet tasks.Discard is = refl
+tells_quiet (tasks.Update long at) is = refl
+tells_quiet (tasks.DoFragment req mode address) is = refl
+
 -- what each such order keeps
 abbrev pub KeptByEach : (Task → Type 0) → (Seen → Type 0) → Type 0
 KeptByEach Is P = (s : Seen) (e : InEvent) (job : Job) → Is job.task → P s → P (after s (row_of e (rows.Sent job)))
 
-over_rows : (Is : Task → Type 0) (P : Seen → Type 0) → KeptByEach Is P → (e : InEvent) (out more : List RowKind) → ((row : RowKind) → Has more row → IsOrderOf Is row) → P (now_of e out) → P (now_of e (out ++ more))
-over_rows Is P step e out [] each so = subst (λ (l : List RowKind). P (now_of e l)) (sym (append-nil out)) so
-over_rows Is P step e out (row ∷ more) each so =
+over_rows : (Is : Task → Type 0) → AskNobody Is → (P : Seen → Type 0) → KeptByEach Is P → (e : InEvent) (out more : List RowKind) → ((row : RowKind) → Has more row → IsOrderOf Is row) → P (now_of e out) → P (now_of e (out ++ more))
+over_rows Is quiet P step e out [] each so = subst (λ (l : List RowKind). P (now_of e l)) (sym (append-nil out)) so
+over_rows Is quiet P step e out (row ∷ more) each so =
     subst (λ (l : List RowKind). P (now_of e l)) (append_assoc out (row ∷ []) more)
-    (over_rows Is P step e (out ++ row ∷ []) more (λ other there. each other (inr there)) (now_step P e out row (λ was. one was) so))
+    (over_rows Is quiet P step e (out ++ row ∷ []) more (λ other there. each other (inr there)) (now_step P e out row (order_goes e out row (record { job = its.job; is = its.is; quiet = quiet its.job.task its.task })) (λ was. one was) so))
   where
     its : IsOrderOf Is row
     its = each row (inl refl)
@@ -62,9 +88,9 @@ over_rows Is P step e out (row ∷ more) each so =
     one was = subst (λ (k : RowKind). P (after (now_of e out) (row_of e k))) (sym its.is) (step (now_of e out) e its.job its.task was)
 
 -- all of them keep it
-pub over_orders : (Is : Task → Type 0) (P : Seen → Type 0) → KeptByEach Is P → (e : InEvent) (was out : List RowKind) → HasOnly (IsOrderOf Is) was out → P (now_of e was) → P (now_of e out)
-over_orders Is P step e was out only so =
-    subst (λ (l : List RowKind). P (now_of e l)) (sym only.is) (over_rows Is P step e was only.more only.each so)
+pub over_orders : (Is : Task → Type 0) → AskNobody Is → (P : Seen → Type 0) → KeptByEach Is P → (e : InEvent) (was out : List RowKind) → HasOnly (IsOrderOf Is) was out → P (now_of e was) → P (now_of e out)
+over_orders Is quiet P step e was out only so =
+    subst (λ (l : List RowKind). P (now_of e l)) (sym only.is) (over_rows Is quiet P step e was only.more only.each so)
 
 -- those of a walk
 pub walk_orders : (run : Option ReqId) (cause : Why) (was out : List RowKind) → HasOnlyServed run cause was out → HasOnly (IsOrderOf IsOfWalk) was out
@@ -234,33 +260,33 @@ module _ (e : InEvent) (was out : List RowKind) (only : HasOnly (IsOrderOf IsOfW
 
   pub moved_over : (why : Why) (nav : NavId) → IsMovedBy s why nav → IsMovedBy t why nav
   moved_over why nav =
-      over_orders IsOfWalk (λ (x : Seen). IsMovedBy x why nav) (λ x event job is by. sent_moved x event.event event.actor why nav by job (asks_none job.task is)) e was out only
+      over_orders IsOfWalk walk_quiet (λ (x : Seen). IsMovedBy x why nav) (λ x event job is by. sent_moved x event.event event.actor why nav by job (asks_none job.task is)) e was out only
 
   pub were_over : WereShown s → WereShown t
   were_over =
-      over_orders IsOfWalk WereShown (λ x event job is were. were_shown x event.event event.actor were (rows.Sent job) tt) e was out only
+      over_orders IsOfWalk walk_quiet WereShown (λ x event job is were. were_shown x event.event event.actor were (rows.Sent job) tt) e was out only
 
   pub looks_over : map look t.requests ≡ map look s.requests
   looks_over =
-      over_orders IsOfWalk (λ (x : Seen). map look x.requests ≡ map look s.requests) (λ x event job is same. sent_looks x event job is ∙ same) e was out only refl
+      over_orders IsOfWalk walk_quiet (λ (x : Seen). map look x.requests ≡ map look s.requests) (λ x event job is same. sent_looks x event job is ∙ same) e was out only refl
 
   pub ways_over : (places : List Place) → KeepWays places s.places → KeepWays places t.places
   ways_over places =
-      over_orders IsOfWalk (λ (x : Seen). KeepWays places x.places) (λ x event job is ways. ways_both places x.places _ ways (sent_ways x job job.task is)) e was out only
+      over_orders IsOfWalk walk_quiet (λ (x : Seen). KeepWays places x.places) (λ x event job is ways. ways_both places x.places _ ways (sent_ways x job job.task is)) e was out only
 
   pub parents_over : ParentsShown s → ParentsShown t
   parents_over =
-      over_orders IsOfWalk ParentsShown (λ x event job is are. parents_changed x (after x (row_of event (rows.Sent job))) (sent_changed x event job job.task refl is) are) e was out only
+      over_orders IsOfWalk walk_quiet ParentsShown (λ x event job is are. parents_changed x (after x (row_of event (rows.Sent job))) (sent_changed x event job job.task refl is) are) e was out only
 
   -- who took the entries of each
   pub taken_over : (nav : NavId) → option_map (λ (p : Place). p.taken_by) (place_of t nav) ≡ option_map (λ (p : Place). p.taken_by) (place_of s nav)
   taken_over nav =
-      over_orders IsOfWalk (λ (x : Seen). option_map (λ (p : Place). p.taken_by) (place_of x nav) ≡ option_map (λ (p : Place). p.taken_by) (place_of s nav)) (λ x event job is same. taken_changed x (after x (row_of event (rows.Sent job))) (sent_changed x event job job.task refl is) nav ∙ same) e was out only refl
+      over_orders IsOfWalk walk_quiet (λ (x : Seen). option_map (λ (p : Place). p.taken_by) (place_of x nav) ≡ option_map (λ (p : Place). p.taken_by) (place_of s nav)) (λ x event job is same. taken_changed x (after x (row_of event (rows.Sent job))) (sent_changed x event job job.task refl is) nav ∙ same) e was out only refl
 
   -- where all stand then, all stood before
   pub stood_over : HavePassed s → all_stand t (aim_of t) ≡ true → all_stand s (aim_of s) ≡ true
   stood_over passed =
-      (over_orders IsOfWalk (λ (x : Seen). HavePassed x × (all_stand x (aim_of x) ≡ true → all_stand s (aim_of s) ≡ true)) (λ x event job is so. (
+      (over_orders IsOfWalk walk_quiet (λ (x : Seen). HavePassed x × (all_stand x (aim_of x) ≡ true → all_stand s (aim_of s) ≡ true)) (λ x event job is so. (
         have_passed x (row_of event (rows.Sent job)) (asks_none job.task is) tt so.0,
         λ all. so.1 (sent_stood x event.event event.actor job so.0 (asks_none job.task is) all),
       )) e was out only (passed, λ all. all)).1

@@ -1,7 +1,7 @@
 -- What is passed on of the crates below, for those above.
 pub use Rattle.tab_walk.proofs.Cutoffs.{show_causes}
 pub use Rattle.tab_walk.proofs.Ends.{goes_on}
-pub use Rattle.tab_walk.proofs.Overs.{over_each}
+pub use Rattle.tab_walk.proofs.Overs.{over_each, over_with}
 pub use Rattle.tab_walk.proofs.PassedOn.{aim_is, leaving_none, moved_is, nav_of_load, passed_is, running_is}
 pub use Rattle.tab_facts.proofs.TabGoing.Changes.{added_going, pushed_going, removed_going, replaced_going}
 pub use Rattle.tab_facts.proofs.TabGoing.Counts.{as_many, count_few}

@@ -1,4 +1,5 @@
 -- One turn after the other, all of the walk are served.
+use Rattle.tab_doors.proofs.PassedOn.{sent_now}
 use Rattle.apply_plan.specs.Order.{walk_of}
 use Rattle.tab_facts.proofs.Calm.Sames.{keeps_none, keeps_then}
 use Rattle.tab_facts.specs.Calm.Calm.{ShowsOne}
@@ -8,10 +9,9 @@ use Rattle.log_model.specs.declared.header.Header.{Header}
 use Rattle.log_model.specs.declared.job.Why.{Why}
 use Rattle.log_model.specs.declared.row_kind.RowKind.{RowKind}
 use Rattle.plan_laws.proofs.WalkLaws.{walk_is}
-use Rattle.seen_laws.proofs.InEvents.{now_more}
 use Rattle.seen_laws.specs.InEvent.{InEvent, now_of}
 use Rattle.seen_laws.specs.Unasked.{is_question}
-use Rattle.std.proofs.Common.{Bool, List, Option, [], ap, arith, false, inl, inr, length, map, not, refl, subst, sym, true, ℕ, ◌+◌, ◌∙◌, ◌∷◌, ◌≡◌, ◌≤◌, ◌⊎◌}
+use Rattle.std.proofs.Common.{Bool, List, Option, [], ap, arith, false, inl, inr, length, map, refl, subst, sym, true, ℕ, ◌+◌, ◌∙◌, ◌∷◌, ◌≡◌, ◌≤◌, ◌⊎◌}
 use Rattle.tab_doors.specs.Working.{KeepsStore}
 use Rattle.tab_doors.specs.declared.tables.Tables.{Tables}
 use Rattle.tab_ids.specs.declared.EntryId.{EntryId}
@@ -72,7 +72,7 @@ made_since header t nav entry cause e was out made =
     by_case (inl making) = subst (λ (l : List RowKind). AwakeSince (now_of e was) [] (now_of e l)) (sym making.1) (since_itself (now_of e was))
     by_case (inr it) =
         subst (λ (l : List RowKind). AwakeSince (now_of e was) [] (now_of e l)) (sym it.is)
-        (subst (λ x. AwakeSince (now_of e was) [] x) (sym (now_more e was (rows.Sent it.job) (ap (λ (k : Task). not (is_question k)) it.task)))
+        (subst (λ x. AwakeSince (now_of e was) [] x) (sym (sent_now e was it.job (ap (λ (k : Task). is_question k) it.task)))
         (sent_since (now_of e was) (now_of e was) [] (since_itself (now_of e was)) e.event e.actor it.job (subst (λ (k : Task). ShowsNone k) (sym it.task) tt)))
 
 -- ---- what it leaves, one turn after the other

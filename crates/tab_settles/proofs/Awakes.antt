@@ -1,4 +1,5 @@
 -- Who is awake after a row was so before it: after an order its place is as it was, or the order shows it its document; after a row of a turn its place is the same but in what it was given and in who took its last entries.
+use Rattle.tab_releases.proofs.PassedOn.{over_with}
 use Rattle.tab_facts.proofs.Calm.Awakes.{stand_each}
 use Rattle.tab_facts.specs.Calm.Calm.{IsCalm, IsHere, ShowsOne}
 use Rattle.seen_facts.proofs.Coord.Unread.{next}
@@ -16,7 +17,7 @@ use Rattle.log_model.specs.declared.row_kind.RowKind.{RowKind}
 use Rattle.seen_facts.proofs.Mover.Orders.{PutsToSleep}
 use Rattle.seen_facts.proofs.Mover.Places.{WasThere, was_there}
 use Rattle.seen_facts.specs.Place.Standing.{AreStanding}
-use Rattle.seen_laws.specs.InEvent.{InEvent, now_of, row_of}
+use Rattle.seen_laws.specs.InEvent.{InEvent, now_of, row_of, EachGoes}
 use Rattle.std.proofs.Common.{Bool, List, None, Option, Some, [], ap, cond, false, inl, inr, map, not, refl, subst, sym, true, ℕ, ◌&&◌, ◌++◌, ◌==◌, ◌∙◌, ◌∷◌, ◌≡◌, ◌⊎◌}
 use Rattle.std.proofs.lemmas.Bool.{and_parts}
 use Rattle.std.specs.Option.{option_map_or}
@@ -26,7 +27,6 @@ use Rattle.tab_ids.specs.declared.EntryId.{EntryId}
 use Rattle.tab_ids.specs.declared.Epoch.{Epoch}
 use Rattle.tab_ids.specs.declared.NavId.{NavId}
 use Rattle.tab_ids.specs.declared.ReqId.{ReqId}
-use Rattle.tab_releases.proofs.PassedOn.{over_each}
 use Rattle.tab_releases.specs.PassedOn.{HasOnly, IsOfTurn}
 use Rattle.seen_facts.proofs.Walk.Placed.{found_nav}
 use Rattle.seen_facts.proofs.Walk.Sleepers.{becomes, place_becomes, sleepers_of, slept}
@@ -237,8 +237,8 @@ abbrev pub AllTold : Seen → Type 0
 AllTold s = (nav : NavId) (place : Place) (doc : DocId) → place_of s nav ≡ Some place → place.status ≡ awake doc → place.is_delivered ≡ true
 
 -- so it is still over rows of a turn
-pub turns_told : (e : InEvent) (was out : List RowKind) → HasOnly IsOfTurn was out → AllTold (now_of e was) → AllTold (now_of e out)
-turns_told = λ e. over_each IsOfTurn AllTold e (one e)
+pub turns_told : (e : InEvent) (was out : List RowKind) → EachGoes e [] out → HasOnly IsOfTurn was out → AllTold (now_of e was) → AllTold (now_of e out)
+turns_told = λ e. over_with IsOfTurn AllTold e (one e)
   where
     one : (e : InEvent) (x : Seen) (kind : RowKind) → IsOfTurn kind → AllTold x → AllTold (after x (row_of e kind))
     one e x kind is told nav place doc now wakes =

@@ -14,7 +14,7 @@ use Rattle.log_model.specs.declared.job.Why.{Why}
 use Rattle.log_model.specs.declared.row_kind.RowKind.{RowKind}
 use Rattle.move_queue.specs.Queue.{Queue}
 use Rattle.move_queue.specs.declared.queue_step.QueueStep.{QueueStep}
-use Rattle.seen_laws.specs.InEvent.{now_of}
+use Rattle.seen_laws.specs.InEvent.{now_of, EachGoes}
 use Rattle.std.proofs.Common.{List, None, Option, Some, [], ap, false, inl, inr, refl, subst, sym, true, ℕ, ◌∙◌, ◌≡◌}
 use Rattle.tab_ids.specs.declared.ReqId.{ReqId}
 use Rattle.tab_ids.specs.declared.StateId.{StateId}
@@ -42,19 +42,19 @@ module _ (p : InPass) (out : List RowKind) (t : Tables) (queue : Queue) (blame :
 
   -- ---- whom the turn of a step moves
 
-  turned_by : (new : List RowKind) → LeavesInNeed p.event out new → all_stand s s.history.current ≡ true → HasTurned p.event out new
-  turned_by new need stand =
-      record { moved = need_off p.event out new need; stood = ap (λ (k : ℕ). all_stand s k) aim_now ∙ stand }
+  turned_by : (new : List RowKind) → EachGoes p.event [] new → LeavesInNeed p.event out new → all_stand s s.history.current ≡ true → HasTurned p.event out new
+  turned_by new goes need stand =
+      record { moved = need_off p.event out new goes need; stood = ap (λ (k : ℕ). all_stand s k) aim_now ∙ stand }
     where
       aim_now : aim_of s ≡ s.history.current
       aim_now =
           aim_is s t.running at.passing.going.tab.asked t.goal at.passing.work.goal ∙ ap (λ (r : Option ReqId). aim_in s.history r t.goal) idle
 
-  pub went_turned : (new : List RowKind) → LeavesInNeed p.event out new → (turn : Turn) → HasStood s turn → (req : ReqId) → turn ≡ Went req → HasTurned p.event out new
-  went_turned new need turn stood req is = turned_by new need (subst (λ (x : Turn). HasStood s x) is stood)
+  pub went_turned : (new : List RowKind) → EachGoes p.event [] new → LeavesInNeed p.event out new → (turn : Turn) → HasStood s turn → (req : ReqId) → turn ≡ Went req → HasTurned p.event out new
+  went_turned new goes need turn stood req is = turned_by new goes need (subst (λ (x : Turn). HasStood s x) is stood)
 
-  pub refused_turned : (new : List RowKind) → LeavesInNeed p.event out new → (turn : Turn) → HasStood s turn → turn ≡ Refused → HasTurned p.event out new
-  refused_turned new need turn stood is = turned_by new need (subst (λ (x : Turn). HasStood s x) is stood)
+  pub refused_turned : (new : List RowKind) → EachGoes p.event [] new → LeavesInNeed p.event out new → (turn : Turn) → HasStood s turn → turn ≡ Refused → HasTurned p.event out new
+  refused_turned new goes need turn stood is = turned_by new goes need (subst (λ (x : Turn). HasStood s x) is stood)
 
   pub rested_still : (new : List RowKind) (u : Tables) (noted : List (StateId × ReqId)) (waiting : List QueueStep) (turn : Turn) → turn ≡ Rests → CameTo p.event t u blame noted out new waiting turn → new ≡ out
   rested_still new u noted waiting turn is came =
@@ -89,7 +89,7 @@ module _ (p : InPass) (out : List RowKind) (t : Tables) (queue : Queue) (blame :
     -- of each that is awake it is told that it is shown, since all stood
     late_n : HasGrown out new → all_stand s s.history.current ≡ true → LateKnown u.running n
     late_n grown stand =
-        told_known u.running n (turns_told p.event out new (record { more = grown.more; is = grown.is; each = grown.each }) (stood_told s at.passing.going.tab.standing (subst (λ (r : Option ReqId). IsCalmAfter r s) idle at.calm) stand))
+        told_known u.running n (turns_told p.event out new passing.work.goes (record { more = grown.more; is = grown.is; each = grown.each }) (stood_told s at.passing.going.tab.standing (subst (λ (r : Option ReqId). IsCalmAfter r s) idle at.calm) stand))
 
     rested_yet : IsAtRest p.event u.running noted n → IsPassedOver s n → IsCalmYet n
     rested_yet rest over =
@@ -107,7 +107,7 @@ module _ (p : InPass) (out : List RowKind) (t : Tables) (queue : Queue) (blame :
           blamed = may.blamed;
           calm = calm_for u.running req may.calm;
           late = late_n grown (subst (λ (x : Turn). HasStood s x) is stood);
-          moved = shown_began p.event out new grown u.running (subst (λ (r : Option ReqId). ArePlain r s) idle at.passing.going.tab.asked) at.passing.going.lasting.moves passing.going.tab.asked;
+          moved = shown_began p.event out new passing.work.goes grown u.running (subst (λ (r : Option ReqId). ArePlain r s) idle at.passing.going.tab.asked) at.passing.going.lasting.moves passing.going.tab.asked;
           live = may.live;
           theirs = theirs_n;
           queueing = queueing_n;

@@ -1,4 +1,5 @@
 -- The traversal that ran has ended: what was held back for it may be taken up, and then a pass may follow.
+use Rattle.seen_laws.proofs.InEvents.{now_at}
 use Rattle.tab_facts.proofs.Calm.Awakes.{calm_stood}
 use Rattle.tab_facts.proofs.Calm.Loads.{loads_same}
 use Rattle.tab_facts.specs.Calm.Calm.{CalmUnless, IsCalmYet}
@@ -17,8 +18,7 @@ use Rattle.log_model.specs.declared.row_kind.LogRow.{LogRow}
 use Rattle.log_model.specs.declared.row_kind.RowKind.{RowKind}
 use Rattle.move_queue.specs.Queue.{Queue}
 use Rattle.row_facts.specs.Owed.Owed.{IsLoose}
-use Rattle.seen_laws.proofs.InEvents.{now_more}
-use Rattle.seen_laws.specs.InEvent.{InEvent, now_of, row_of}
+use Rattle.seen_laws.specs.InEvent.{InEvent, now_of, row_of, EachGoes}
 use Rattle.std.proofs.Common.{Bool, List, None, Option, Some, [], ap, append-nil, arith, false, inl, inr, length, map, refl, subst, sym, true, ◌++◌, ◌∙◌, ◌∷◌, ◌≡◌, ◌≤◌, ◌⊎◌}
 use Rattle.std.proofs.lemmas.Bool.{and_parts, or_right}
 use Rattle.std.proofs.lemmas.List.Folds.{list_any-append}
@@ -149,7 +149,7 @@ module _ (p : InPass) (out : List RowKind) (t : Tables) (queue : Queue) (blame :
 
   many_m : length y.requests ≡ length s.requests
   many_m =
-      ap (λ (x : Seen). length x.requests) (ap (λ (l : List RowKind). now_of e l) ended.out ∙ now_more e out kind refl)
+      ap (λ (x : Seen). length x.requests) (now_at e out kind mid ended.out then_.work.goes)
       ∙ (let its : IsEnding s (next s e.event e.actor kind) ended.req = is_ending s e kind ended.req refl in its.long)
 
   traversed_m : has_traversed e mid ≡ true
@@ -207,7 +207,7 @@ module _ (p : InPass) (out : List RowKind) (t : Tables) (queue : Queue) (blame :
     -- of each that is awake it is told that it is shown, since all stood
     told_n : AllTold (now_of e new)
     told_n =
-        turns_told e mid new (record { more = each.more; is = each.out; each = each_ends e each.more (ap (λ (l : List ReqId). length l) each.ends ∙ sym each.long) })
+        turns_told e mid new passing.work.goes (record { more = each.more; is = each.out; each = each_ends e each.more (ap (λ (l : List ReqId). length l) each.ends ∙ sym each.long) })
         (stood_told y then_.going.tab.standing (calm_stood y then_.going.tab.sound then_.going.tab.hangs then_.going.tab.homes then_.going.tab.standing passed_m.rows_ stand_m) stand_m)
 
     pub ready_n : (why : Why) → why ≡ show_why last cause → IsReady p new u left noted why
@@ -230,9 +230,9 @@ module _ (p : InPass) (out : List RowKind) (t : Tables) (queue : Queue) (blame :
 -- ---- what was put out
 
 -- the traversal's row, and one for each request that was held back
-pub finish_put : (e : InEvent) (run : Option ReqId) (out mid new : List RowKind) (t m : Tables) (reqs : List ReqId) → ArePlain run (now_of e new) → HasEnded e out mid t m → EndsEach e mid new reqs → HasPut e out new
-finish_put e run out mid new t m reqs plain ended each =
-    put_then e run out mid new plain
+pub finish_put : (e : InEvent) (run : Option ReqId) (out mid new : List RowKind) (t m : Tables) (reqs : List ReqId) → EachGoes e [] new → ArePlain run (now_of e new) → HasEnded e out mid t m → EndsEach e mid new reqs → HasPut e out new
+finish_put e run out mid new t m reqs goes plain ended each =
+    put_then e run out mid new goes plain
     (turn_put e out mid (record { more = kind ∷ []; is = ended.out; each = one_row }))
     (turn_put e mid new (record { more = each.more; is = each.out; each = each_ends e each.more (ap (λ (l : List ReqId). length l) each.ends ∙ sym each.long) }))
   where

@@ -11,7 +11,7 @@ use Rattle.log_model.specs.declared.made.Made.{Made}
 use Rattle.log_model.specs.declared.row_kind.RowKind.{RowKind}
 use Rattle.seen_facts.specs.Request.Cores.{Core, core_of}
 use Rattle.seen_facts.specs.Request.Knowns.{AllOf, IsParked, req_itself}
-use Rattle.seen_laws.specs.InEvent.{InEvent, now_of, row_of}
+use Rattle.seen_laws.specs.InEvent.{InEvent, now_of, row_of, EachGoes}
 use Rattle.std.proofs.Common.{Bool, List, None, Option, Some, [], ap, append_assoc, false, inl, inr, length, map, refl, subst, sym, true, ◌&&◌, ◌++◌, ◌∙◌, ◌∷◌, ◌≡◌}
 use Rattle.std.proofs.lemmas.Bool.{and_parts}
 use Rattle.std.specs.List.{cons_option, filter_map}
@@ -83,7 +83,7 @@ moved_none s req changes.Edit unbegun none = refl
 
 -- ---- the turn
 
-module _ (e : InEvent) (out mid new : List RowKind) (t m : Tables) (loads : List ReqId) (hand : List Made) (tab : IsTab m.running loads hand (now_of e mid)) (ended : HasEnded e out mid t m) (through : is_through (now_of e out) t.running ≡ true) (each : EndsEach e mid new (now_of e mid).parked) where
+module _ (e : InEvent) (out mid new : List RowKind) (t m : Tables) (loads : List ReqId) (hand : List Made) (tab : IsTab m.running loads hand (now_of e mid)) (ended : HasEnded e out mid t m) (through : is_through (now_of e out) t.running ≡ true) (each : EndsEach e mid new (now_of e mid).parked) (goes : EachGoes e [] new) where
   abbrev s : Seen
   s = now_of e out
 
@@ -97,7 +97,7 @@ module _ (e : InEvent) (out mid new : List RowKind) (t m : Tables) (loads : List
   kind = rows.Applied ended.req (changes.Traverse (record { 0 = aim_of s }))
 
   first : KeepsBegun s y
-  first = rows_begun e out mid (record { more = kind ∷ []; is = ended.out; each = one_row })
+  first = rows_begun e out mid ended.goes (record { more = kind ∷ []; is = ended.out; each = one_row })
     where
       one_row : (row : RowKind) → Has (kind ∷ []) row → BeginsNoLoad s row
       one_row row (inl is) = subst (λ (k : RowKind). BeginsNoLoad s k) is tt
@@ -105,7 +105,7 @@ module _ (e : InEvent) (out mid new : List RowKind) (t m : Tables) (loads : List
 
   later : KeepsBegun y n
   later =
-      rows_begun e mid new (record { more = each.more; is = each.out; each = λ row has. (let it = ends_some e each.more (ap (λ (l : List ReqId). length l) each.ends ∙ sym each.long) row has in ends_begin y e row it.0 it.1) })
+      rows_begun e mid new goes (record { more = each.more; is = each.out; each = λ row has. (let it = ends_some e each.more (ap (λ (l : List ReqId). length l) each.ends ∙ sym each.long) row has in ends_begin y e row it.0 it.1) })
 
   off : (req : ReqId) (change : Change) (nav : NavId) → Has (kind ∷ each.more) (rows.Applied req change) → moved_by n req change ≡ Some nav → IsAway n nav
   off req change nav (inl is) its =

@@ -1,4 +1,5 @@
 -- Each navigable that is shown and late, that is of whose document, not its first, isn't told yet that it is shown, is so for the load that was applied last: so a pass leaves it where no traversal runs, and so it is where all stood before a turn.
+use Rattle.tab_releases.proofs.PassedOn.{over_with}
 use Rattle.tab_facts.proofs.Calm.Sames.{way_at}
 use Rattle.tab_facts.specs.Calm.Calm.{IsCalmAround, IsCalmYet, ShowsOne}
 use Rattle.seen_facts.proofs.Coord.Unread.{next}
@@ -19,12 +20,11 @@ use Rattle.row_facts.proofs.Owed.Rows.{reckoned_after, reckoned_now}
 use Rattle.row_facts.proofs.Owed.Standing.{sent_eased}
 use Rattle.row_facts.specs.Owed.Owed.{IsReckoned}
 use Rattle.seen_facts.proofs.Request.Readers.{IsBlind, SameReads, on_read, reads_then, sent_reads}
-use Rattle.seen_laws.specs.InEvent.{InEvent, now_of, row_of}
-use Rattle.std.proofs.Common.{Bool, List, None, Option, Some, ap, arith, false, inl, inr, not, refl, subst, sym, true, zero, suc, ℕ, ◌&&◌, ◌∙◌, ◌∷◌, ◌≡◌, ◌≤◌, ◌⊎◌}
+use Rattle.seen_laws.specs.InEvent.{InEvent, now_of, row_of, EachGoes}
+use Rattle.std.proofs.Common.{Bool, List, None, Option, Some, ap, arith, false, inl, inr, not, refl, subst, sym, true, zero, suc, ℕ, ◌&&◌, ◌∙◌, ◌∷◌, ◌≡◌, ◌≤◌, ◌⊎◌, []}
 use Rattle.tab_ids.specs.declared.DocId.{DocId}
 use Rattle.tab_ids.specs.declared.NavId.{NavId}
 use Rattle.tab_ids.specs.declared.ReqId.{ReqId}
-use Rattle.tab_releases.proofs.PassedOn.{over_each}
 use Rattle.tab_releases.specs.PassedOn.{HasOnly, HasPutOut, IsServeFor, IsUp, IsUpdateFor, KeepsUp, length_index}
 use Rattle.tab_settles.proofs.Awakes.{AllTold, sent_place}
 use Rattle.tab_settles.proofs.PutOuts.{put_each}
@@ -103,9 +103,9 @@ step_then s t u one two =
     }
 
 -- over such rows
-pub only_step : (e : InEvent) (was out : List RowKind) → HasOnly IsUnapplied was out → KeepsStep (now_of e was) (now_of e out)
-only_step e was out only =
-    (over_each IsUnapplied (λ (x : Seen). KeepsStep (now_of e was) x × IsReckoned x) e one was out only (step_none (now_of e was), reckoned_now e was)).0
+pub only_step : (e : InEvent) (was out : List RowKind) → EachGoes e [] out → HasOnly IsUnapplied was out → KeepsStep (now_of e was) (now_of e out)
+only_step e was out goes only =
+    (over_with IsUnapplied (λ (x : Seen). KeepsStep (now_of e was) x × IsReckoned x) e one was out goes only (step_none (now_of e was), reckoned_now e was)).0
   where
     one : (x : Seen) (kind : RowKind) → IsUnapplied kind → KeepsStep (now_of e was) x × IsReckoned x → KeepsStep (now_of e was) (after x (row_of e kind)) × IsReckoned (after x (row_of e kind))
     one x kind is so =
@@ -158,10 +158,10 @@ told_known None s told =
 told_known (Some run) s told = tt
 
 -- so it is known still over such rows, where no place has changed
-pub late_put : (e : InEvent) (run : Option ReqId) (was out : List RowKind) → HasOnly IsUnapplied was out → (now_of e out).places ≡ (now_of e was).places → (now_of e out).history ≡ (now_of e was).history → LateKnown run (now_of e was) → LateKnown run (now_of e out)
-late_put e (Some run) was out only places history known = tt
-late_put e None was out only places history known =
-    λ nav place doc late shown. off_still (now_of e was) (now_of e out) nav place place (only_step e was out only) (same nav place late.placed) late.placed refl refl (known nav place doc (record { placed = same nav place late.placed; wakes = late.wakes; untold = late.untold; old = late.old }) (ap (λ (h : History). is_shown h.rows h.current nav) (sym history) ∙ shown))
+pub late_put : (e : InEvent) (run : Option ReqId) (was out : List RowKind) → EachGoes e [] out → HasOnly IsUnapplied was out → (now_of e out).places ≡ (now_of e was).places → (now_of e out).history ≡ (now_of e was).history → LateKnown run (now_of e was) → LateKnown run (now_of e out)
+late_put e (Some run) was out goes only places history known = tt
+late_put e None was out goes only places history known =
+    λ nav place doc late shown. off_still (now_of e was) (now_of e out) nav place place (only_step e was out goes only) (same nav place late.placed) late.placed refl refl (known nav place doc (record { placed = same nav place late.placed; wakes = late.wakes; untold = late.untold; old = late.old }) (ap (λ (h : History). is_shown h.rows h.current nav) (sym history) ∙ shown))
   where
     same : (nav : NavId) (place : Place) → place_of (now_of e out) nav ≡ Some place → place_of (now_of e was) nav ≡ Some place
     same nav place at = ap (λ (l : List Place). place_in l nav) (sym places) ∙ at
@@ -179,7 +179,7 @@ for_unapplied cause (rows.Sent job) its = tt
 for_unapplied cause (rows.Dropped req because) its = tt
 for_unapplied cause _ never = absurd never
 
-module _ (e : InEvent) (cause tells : Why) (was out : List RowKind) (put : HasPutOut e None cause tells was out) where
+module _ (e : InEvent) (cause tells : Why) (was out : List RowKind) (goes : EachGoes e [] out) (put : HasPutOut e None cause tells was out) where
   abbrev s : Seen
   s = now_of e was
 
@@ -208,7 +208,7 @@ module _ (e : InEvent) (cause tells : Why) (was out : List RowKind) (put : HasPu
       told row is = elim is [ ]
 
   step : KeepsStep s n
-  step = only_step e was out (record { more = only.more; is = only.is; each = λ row has. for_unapplied cause row (only.each row has) })
+  step = only_step e was out goes (record { more = only.more; is = only.is; each = λ row has. for_unapplied cause row (only.each row has) })
 
   -- each that is awake is as it was, or for the cause
   abbrev IsSameOrFor : Seen → Type 0
@@ -216,7 +216,7 @@ module _ (e : InEvent) (cause tells : Why) (was out : List RowKind) (put : HasPu
       (nav : NavId) (place : Place) (doc : DocId) → place_of x nav ≡ Some place → place.status ≡ awake doc → (place_of s nav ≡ Some place) ⊎ (place.why ≡ cause)
 
   same_or_for : IsSameOrFor n
-  same_or_for = over_each (ShowsFor cause) IsSameOrFor e one was out only (λ nav place doc now wakes. inl now)
+  same_or_for = over_with (ShowsFor cause) IsSameOrFor e one was out goes only (λ nav place doc now wakes. inl now)
     where
       one : (x : Seen) (kind : RowKind) → ShowsFor cause kind → IsSameOrFor x → IsSameOrFor (after x (row_of e kind))
       one x (rows.Sent job) shows so nav place doc now wakes =

@@ -16,15 +16,15 @@ use Rattle.log_model.specs.declared.row_kind.RowKind.{RowKind}
 use Rattle.row_facts.proofs.Owed.Requests.{found_read}
 use Rattle.row_facts.proofs.Owed.Standing.{sent_eased}
 use Rattle.seen_facts.proofs.Request.Readers.{IsBlind, SameReads, on_read, reads_then, sent_reads}
-use Rattle.seen_laws.specs.InEvent.{InEvent, now_of, row_of}
+use Rattle.seen_laws.specs.InEvent.{InEvent, now_of, row_of, EachGoes}
 use Rattle.std.proofs.Common.{Bool, List, None, Option, Some, [], ap, append-nil, append_assoc, false, inl, inr, not, refl, subst, sym, true, ℕ, ◌&&◌, ◌++◌, ◌∙◌, ◌≡◌, ◌⊎◌}
 use Rattle.std.proofs.lemmas.Bool.{not-true}
 use Rattle.std.specs.Prelude.{option_map, if◌then◌else◌}
 use Rattle.tab_ids.specs.declared.NavId.{NavId}
 use Rattle.tab_ids.specs.declared.ReqId.{ReqId}
-use Rattle.tab_releases.proofs.PassedOn.{over_each}
+use Rattle.tab_releases.proofs.PassedOn.{over_each, over_with}
 use Rattle.tab_releases.specs.PassedOn.{HasOnly, IsLoadApplied, IsOfTurn, LeavesInNeed}
-use Rattle.tab_settles.proofs.PutOuts.{only_off}
+use Rattle.tab_settles.proofs.PutOuts.{only_off, order_or_drop_goes}
 use Rattle.tab_settles.proofs.Puts.{among}
 use Rattle.tab_settles.specs.Settling.{HasTurned, IsAway, IsOrderOrDrop, LeavesOff, moved_by}
 use Rattle.row_facts.proofs.WalkRows.Needs.{need_not_all_stand, need_stands_not}
@@ -118,22 +118,23 @@ row_begun s event actor (rows.Started req goal) its =
         let none : is_load q.what ≡ false = sym (ap (λ (o : Option Asked). holds loads_it o) at) ∙ its in rw none refl
 row_begun s event actor _ never = absurd never
 
--- over rows that begin no load
-pub rows_begun : (e : InEvent) (was out : List RowKind) → HasOnly (BeginsNoLoad (now_of e was)) was out → KeepsBegun (now_of e was) (now_of e out)
-rows_begun e was out only =
-    over_each (BeginsNoLoad (now_of e was)) (λ (x : Seen). KeepsBegun (now_of e was) x) e one was out only (begun_none (now_of e was))
+-- one more of them
+begun_one : (e : InEvent) (s x : Seen) (kind : RowKind) → BeginsNoLoad s kind → KeepsBegun s x → KeepsBegun s (after x (row_of e kind))
+begun_one e s x kind its so =
+    begun_then s x (after x (row_of e kind)) so (row_begun x e.event e.actor kind (by_then kind its))
   where
-    by_then : (x : Seen) → KeepsBegun (now_of e was) x → (kind : RowKind) → BeginsNoLoad (now_of e was) kind → BeginsNoLoad x kind
-    by_then x so (rows.Started req goal) its = so.loads req ∙ its
-    by_then x so (rows.Sent job) its = tt
-    by_then x so (rows.Applied req change) its = tt
-    by_then x so (rows.Refused req reason) its = tt
-    by_then x so (rows.Dropped req cause) its = tt
-    by_then x so _ never = absurd never
+    by_then : (k : RowKind) → BeginsNoLoad s k → BeginsNoLoad x k
+    by_then (rows.Started req goal) its = so.loads req ∙ its
+    by_then (rows.Sent job) its = tt
+    by_then (rows.Applied req change) its = tt
+    by_then (rows.Refused req reason) its = tt
+    by_then (rows.Dropped req cause) its = tt
+    by_then _ never = absurd never
 
-    one : (x : Seen) (kind : RowKind) → BeginsNoLoad (now_of e was) kind → KeepsBegun (now_of e was) x → KeepsBegun (now_of e was) (after x (row_of e kind))
-    one x kind its so =
-        begun_then (now_of e was) x (after x (row_of e kind)) so (row_begun x e.event e.actor kind (by_then x so kind its))
+-- over rows that begin no load
+pub rows_begun : (e : InEvent) (was out : List RowKind) → EachGoes e [] out → HasOnly (BeginsNoLoad (now_of e was)) was out → KeepsBegun (now_of e was) (now_of e out)
+rows_begun e was out goes only =
+    over_with (BeginsNoLoad (now_of e was)) (λ (x : Seen). KeepsBegun (now_of e was) x) e (begun_one e (now_of e was)) was out goes only (begun_none (now_of e was))
 
 -- ---- who doesn't stand
 
@@ -149,7 +150,7 @@ order_off s event actor _ never table step nav off = absurd never
 
 orders_off : (e : InEvent) (was out : List RowKind) → HasOnly IsOrderOrDrop was out → StaysOff (now_of e was) (now_of e out)
 orders_off e was out only =
-    over_each IsOrderOrDrop (λ (x : Seen). StaysOff (now_of e was) x) e (λ x kind its so table step nav off. order_off x e.event e.actor kind its table step nav (so table step nav off)) was out only
+    over_each IsOrderOrDrop (λ (x : Seen). StaysOff (now_of e was) x) e (order_or_drop_goes e) (λ x kind its so table step nav off. order_off x e.event e.actor kind its table step nav (so table step nav off)) was out only
     (λ table step nav off. off)
 
 -- ---- who is moved
@@ -203,7 +204,8 @@ module _ (e : InEvent) (was out new : List RowKind) (left : LeavesOff e was out)
   n = now_of e new
 
   begun : KeepsBegun s n
-  begun = rows_begun e out new (record { more = only.more; is = only.is; each = λ row has. order_begins s row (only.each row has) })
+  begun =
+      over_each IsOrderOrDrop (λ (x : Seen). KeepsBegun s x) e (order_or_drop_goes e) (λ x row its so. begun_one e s x row (order_begins s row its) so) out new only (begun_none s)
 
   still_away : (nav : NavId) → IsAway s nav → IsAway n nav
   still_away nav it =
@@ -260,9 +262,9 @@ in_need s nav req last =
       unsettled = need_not_all_stand s nav last.place last.placed last.need;
     }
 
-pub need_off : (e : InEvent) (out new : List RowKind) → LeavesInNeed e out new → LeavesOff e out new
-need_off e out new need =
-    record { more = need.grown.more; is = need.grown.is; begins = (rows_begun e out new only).begun; off = off }
+pub need_off : (e : InEvent) (out new : List RowKind) → EachGoes e [] new → LeavesInNeed e out new → LeavesOff e out new
+need_off e out new goes need =
+    record { more = need.grown.more; is = need.grown.is; begins = (rows_begun e out new goes only).begun; off = off }
   where
     by_row : (row : RowKind) → Has need.grown.more row → IsOfTurn row → BeginsNoLoad (now_of e out) row
     by_row (rows.Started req goal) has its = need.begins req goal has

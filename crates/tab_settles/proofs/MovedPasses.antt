@@ -1,4 +1,8 @@
 -- Where a traversal runs, who is awake and was moved by it was shown a document by it, over a pass: no row but an order of the walk shows a document, which is for the traversal then, and no request but a load is dropped.
+use Rattle.tab_settles.proofs.PutOuts.{update_asks_none, walk_asks_none}
+use Rattle.std.proofs.lemmas.Bool.{not-true}
+use Rattle.seen_laws.specs.Unasked.{is_question}
+use Rattle.tab_doors.proofs.PassedOn.{dropped_goes, sent_goes}
 use Rattle.tab_facts.proofs.Calm.Moves.{AreUnmoved, unmoved_dropped, unmoved_sent}
 use Rattle.tab_facts.specs.Calm.Calm.{ShowsOne}
 use Rattle.seen_facts.proofs.Hang.Members.{has_map}
@@ -14,7 +18,7 @@ use Rattle.log_model.specs.declared.job.Why.{Why}
 use Rattle.log_model.specs.declared.outcome.Cause.{Cause}
 use Rattle.log_model.specs.declared.request.Request.{Request}
 use Rattle.log_model.specs.declared.row_kind.RowKind.{RowKind}
-use Rattle.seen_laws.specs.InEvent.{InEvent, now_of, row_of}
+use Rattle.seen_laws.specs.InEvent.{InEvent, now_of, row_of, GoesThere}
 use Rattle.std.proofs.Common.{Bool, List, Some, ap, false, map, refl, subst, sym, true, ◌&&◌, ◌==◌, ◌∙◌, ◌≡◌}
 use Rattle.std.proofs.lemmas.Bool.{and_parts}
 use Rattle.std.specs.Prelude.{is_none, option_map}
@@ -36,6 +40,7 @@ use Rattle.log_model.specs.declared.row_kind.RowKind.TheVariants as rows
 record IsOrderFor (run : ReqId) (row : RowKind) : Type 0 where
   job : Job
   is : row ≡ rows.Sent job
+  quiet : is_question job.task ≡ false
   shows : ShowsOne job.task → job.why ≡ whys.Req run
 
 -- another request is dropped
@@ -51,14 +56,14 @@ BothSo run s = AreUnmoved run s × MovedAreShown (Some run) s
 
 module _ (e : InEvent) (run : ReqId) where
   orders_shown : (was out : List RowKind) → HasOnly (IsOrderFor run) was out → BothSo run (now_of e was) → BothSo run (now_of e out)
-  orders_shown = over_each (IsOrderFor run) (BothSo run) e one
+  orders_shown = over_each (IsOrderFor run) (BothSo run) e (λ mid row it. subst (GoesThere e mid) (sym it.is) (sent_goes e mid it.job it.quiet)) one
     where
       one : (x : Seen) (row : RowKind) → IsOrderFor run row → BothSo run x → BothSo run (after x (row_of e row))
       one x row it are =
           subst (λ (k : RowKind). BothSo run (after x (row_of e k))) (sym it.is) (unmoved_sent x e.event e.actor it.job run are.0 it.shows, shown_sent x e.event e.actor it.job run are.0.q are.0.found are.1 it.shows)
 
   drops_shown : (was out : List RowKind) → HasOnly (IsOtherDrop run) was out → BothSo run (now_of e was) → BothSo run (now_of e out)
-  drops_shown = over_each (IsOtherDrop run) (BothSo run) e one
+  drops_shown = over_each (IsOtherDrop run) (BothSo run) e (λ mid row it. subst (GoesThere e mid) (sym it.is) (dropped_goes e mid it.req it.cause)) one
     where
       one : (x : Seen) (row : RowKind) → IsOtherDrop run row → BothSo run x → BothSo run (after x (row_of e row))
       one x row it are =
@@ -95,7 +100,7 @@ module _ (e : InEvent) (run : ReqId) where
     where
       one : (row : RowKind) → IsSweepOf s blame row → IsOrderFor run row
       one row it =
-          record { job = it.job; is = it.is; shows = λ shows. absurd (subst (λ (k : Task). ShowsOne k) it.discards shows) }
+          record { job = it.job; is = it.is; quiet = ap is_question it.discards; shows = λ shows. absurd (subst (λ (k : Task). ShowsOne k) it.discards shows) }
 
   told_shown : (why : Why) (was out : List RowKind) → HasOnly (IsUpdateFor why) was out → BothSo run (now_of e was) → BothSo run (now_of e out)
   told_shown why was out only = orders_shown was out (only_as (IsUpdateFor why) (IsOrderFor run) was out one only)
@@ -105,13 +110,13 @@ module _ (e : InEvent) (run : ReqId) where
       tells _ is shows = absurd shows
 
       one : (row : RowKind) → IsUpdateFor why row → IsOrderFor run row
-      one (rows.Sent job) it = record { job = job; is = refl; shows = λ shows. absurd (tells job.task it.1 shows) }
+      one (rows.Sent job) it = record { job = job; is = refl; quiet = not-true (is_question job.task) (update_asks_none job.task it.1); shows = λ shows. absurd (tells job.task it.1 shows) }
       one _ it = absurd it
 
   pub put_shown : (cause tells : Why) (was out : List RowKind) → HasPutOut e (Some run) cause tells was out → BothSo run (now_of e was) → BothSo run (now_of e out)
   put_shown cause tells was out puts are =
       told_shown tells puts.served out puts.told
-      (orders_shown puts.cleared puts.served (only_as (IsServeFor (Some run) cause) (IsOrderFor run) puts.cleared puts.served (λ row it. record { job = it.job; is = it.is; shows = it.shows }) puts.serves) cleared)
+      (orders_shown puts.cleared puts.served (only_as (IsServeFor (Some run) cause) (IsOrderFor run) puts.cleared puts.served (λ row it. record { job = it.job; is = it.is; quiet = not-true (is_question it.job.task) (walk_asks_none it.job.task it.serves); shows = it.shows }) puts.serves) cleared)
     where
       given : BothSo run (now_of e puts.given)
       given =

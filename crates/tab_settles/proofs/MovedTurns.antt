@@ -1,4 +1,5 @@
 -- Where a traversal runs, who is awake and was moved by it was shown a document by it: rows keep that which move nobody and by which nobody wakes, and it is so as a traversal begins.
+use Rattle.tab_releases.proofs.PassedOn.{over_with}
 use Rattle.seen_facts.specs.Asked.Asking.{ArePlain, IsThere}
 use Rattle.seen_facts.proofs.Coord.Held.{on_else}
 use Rattle.seen_facts.proofs.Coord.Unread.{next}
@@ -19,14 +20,13 @@ use Rattle.log_model.specs.declared.row_kind.Actor.{Actor}
 use Rattle.log_model.specs.declared.row_kind.RowKind.{RowKind}
 use Rattle.seen_facts.proofs.Request.LookUps.{on_itself}
 use Rattle.seen_facts.proofs.Request.Readers.{SameReads, on_read, reads_then}
-use Rattle.seen_laws.specs.InEvent.{InEvent, now_of, row_of}
-use Rattle.std.proofs.Common.{Bool, List, None, Option, Some, ap, false, refl, sym, true, ℕ, ◌&&◌, ◌==◌, ◌∙◌, ◌≡◌}
+use Rattle.seen_laws.specs.InEvent.{InEvent, now_of, row_of, EachGoes}
+use Rattle.std.proofs.Common.{Bool, List, None, Option, Some, ap, false, refl, sym, true, ℕ, ◌&&◌, ◌==◌, ◌∙◌, ◌≡◌, []}
 use Rattle.std.proofs.lemmas.Bool.{and_parts}
 use Rattle.std.specs.Prelude.{is_none, is_some, option_map}
 use Rattle.tab_ids.specs.declared.DocId.{DocId}
 use Rattle.tab_ids.specs.declared.NavId.{NavId}
 use Rattle.tab_ids.specs.declared.ReqId.{ReqId}
-use Rattle.tab_releases.proofs.PassedOn.{over_each}
 use Rattle.tab_releases.specs.PassedOn.{HasGrown, HasOnly, IsOfTurn}
 use Rattle.tab_settles.proofs.MovedRows.{shown_back, shown_idle, shown_unmoved}
 use Rattle.tab_settles.specs.Settling.{MovedAreShown}
@@ -93,9 +93,9 @@ row_reach s event actor (rows.Dropped req cause) is =
     on_read reach s.requests req (λ (q : Asked). record q { ending = Some (endings.Dropped cause) }) (λ q. refl)
 row_reach s event actor _ never = absurd never
 
-pub only_reach : (e : InEvent) (was out : List RowKind) → HasOnly IsUnmoving was out → SameReads reach (now_of e was).requests (now_of e out).requests
-only_reach e was out only =
-    over_each IsUnmoving (λ (x : Seen). SameReads reach (now_of e was).requests x.requests) e one was out only (λ r. refl)
+pub only_reach : (e : InEvent) (was out : List RowKind) → EachGoes e [] out → HasOnly IsUnmoving was out → SameReads reach (now_of e was).requests (now_of e out).requests
+only_reach e was out goes only =
+    over_with IsUnmoving (λ (x : Seen). SameReads reach (now_of e was).requests x.requests) e one was out goes only (λ r. refl)
   where
     one : (x : Seen) (kind : RowKind) → IsUnmoving kind → SameReads reach (now_of e was).requests x.requests → SameReads reach (now_of e was).requests (after x (row_of e kind)).requests
     one x kind is same =
@@ -107,9 +107,9 @@ shown_over run s t same back =
     shown_back run s t back (λ req x runs at. (let was = was_asked reach s.requests t.requests same req x at in (was.0, was.1, ap (λ (r : Reach). r.moved) (sym was.2), ap (λ (r : Reach). r.activated) (sym was.2))))
 
 -- and where no place has changed
-pub shown_put : (e : InEvent) (run : Option ReqId) (was out : List RowKind) → HasOnly IsUnmoving was out → (now_of e out).places ≡ (now_of e was).places → MovedAreShown run (now_of e was) → MovedAreShown run (now_of e out)
-shown_put e run was out only places =
-    shown_over run (now_of e was) (now_of e out) (only_reach e was out only) (λ nav place doc placed wakes. record { place = place; placed = ap (λ (l : List Place). place_in l nav) (sym places) ∙ placed; wakes = wakes })
+pub shown_put : (e : InEvent) (run : Option ReqId) (was out : List RowKind) → EachGoes e [] out → HasOnly IsUnmoving was out → (now_of e out).places ≡ (now_of e was).places → MovedAreShown run (now_of e was) → MovedAreShown run (now_of e out)
+shown_put e run was out goes only places =
+    shown_over run (now_of e was) (now_of e out) (only_reach e was out goes only) (λ nav place doc placed wakes. record { place = place; placed = ap (λ (l : List Place). place_in l nav) (sym places) ∙ placed; wakes = wakes })
 
 -- ---- a traversal begins
 
@@ -162,9 +162,9 @@ row_over s event actor (rows.Dropped at cause) req is its =
 row_over s event actor _ req never its = absurd never
 
 -- where none ran before, the one that runs now has moved nobody
-pub shown_began : (e : InEvent) (was out : List RowKind) → HasGrown was out → (run : Option ReqId) → ArePlain None (now_of e was) → AreMoves (now_of e was) → ArePlain run (now_of e out) → MovedAreShown run (now_of e out)
-shown_began e was out grown None plain_s moves plain_n = shown_idle (now_of e out)
-shown_began e was out grown (Some run) plain_s moves plain_n =
+pub shown_began : (e : InEvent) (was out : List RowKind) → EachGoes e [] out → HasGrown was out → (run : Option ReqId) → ArePlain None (now_of e was) → AreMoves (now_of e was) → ArePlain run (now_of e out) → MovedAreShown run (now_of e out)
+shown_began e was out goes grown None plain_s moves plain_n = shown_idle (now_of e out)
+shown_began e was out goes grown (Some run) plain_s moves plain_n =
     shown_unmoved run n it.q it.found (ap (λ (r : Reach). r.moved) (sym had.2) ∙ moves.unmoved run p had.1 traverses unstarted)
   where
     s : Seen
@@ -178,7 +178,7 @@ shown_began e was out grown (Some run) plain_s moves plain_n =
 
     had : (q : Asked) × (request_in s.requests run ≡ Some q) × (reach q ≡ reach it.q)
     had =
-        was_asked reach s.requests n.requests (only_reach e was out (record { more = grown.more; is = grown.is; each = λ kind has. turn_unmoving kind (grown.each kind has) })) run it.q it.found
+        was_asked reach s.requests n.requests (only_reach e was out goes (record { more = grown.more; is = grown.is; each = λ kind has. turn_unmoving kind (grown.each kind has) })) run it.q it.found
 
     p : Asked
     p = had.0
@@ -192,7 +192,7 @@ shown_began e was out grown (Some run) plain_s moves plain_n =
       where
         then_ : IsOver n.requests run
         then_ =
-            over_each IsOfTurn (λ (x : Seen). IsOver x.requests run) e (λ x kind is at. row_over x e.event e.actor kind run is at) was out (record { more = grown.more; is = grown.is; each = grown.each }) its
+            over_with IsOfTurn (λ (x : Seen). IsOver x.requests run) e (λ x kind is at. row_over x e.event e.actor kind run is at) was out goes (record { more = grown.more; is = grown.is; each = grown.each }) its
 
         one : it.q ≡ then_.q
         one = let two : Some it.q ≡ Some then_.q = sym it.found ∙ then_.found in cc

@@ -151,7 +151,7 @@ module _ (p : InPass) (out : List RowKind) (t : Tables) (queue : Queue) (blame :
       where
         by_run : (r : Option ReqId) → t.running ≡ r → IsCalmBefore r cause s → LateKnown r s → HasPutOut p.event r cause tells out new → LateKnown r n
         by_run None is before late puts =
-            late_after p.event cause tells out new puts left.history (aim_is s t.running ready.passing.going.tab.asked t.goal ready.passing.work.goal ∙ ap (λ (r : Option ReqId). aim_in s.history r t.goal) is) left.up before late
+            late_after p.event cause tells out new passing.work.goes puts left.history (aim_is s t.running ready.passing.going.tab.asked t.goal ready.passing.work.goal ∙ ap (λ (r : Option ReqId). aim_in s.history r t.goal) is) left.up before late
         by_run (Some run) is before late puts = tt
 
     -- ---- ongoing loads, and stray documents
@@ -202,4 +202,4 @@ pass_off e first out new run cause tells off only left =
 -- before, by a pass, and by a turn
 pub put_both : (p : InPass) (first out mid new : List RowKind) (u : Tables) → IsPassing p new u → HasPut p.event first out → HasPut p.event out mid → HasPut p.event mid new → HasPut p.event first new
 put_both p first out mid new u passing one two three =
-    put_then p.event u.running first out new passing.going.tab.asked one (put_then p.event u.running out mid new passing.going.tab.asked two three)
+    put_then p.event u.running first out new passing.work.goes passing.going.tab.asked one (put_then p.event u.running out mid new passing.work.goes passing.going.tab.asked two three)

@@ -1,4 +1,6 @@
 -- What orders and drops leave, and so a pass: what requests ask and how many there are, and whose each document is; and none of them applies a traversal.
+use Rattle.std.proofs.lemmas.Bool.{not-true}
+use Rattle.tab_doors.proofs.PassedOn.{sent_goes, dropped_goes}
 use Rattle.row_facts.proofs.Owed.Standing.{sent_eased}
 use Rattle.log_model.specs.declared.row.Row.{Row}
 use Rattle.log_model.specs.Places.{all_stand_in}
@@ -21,7 +23,7 @@ use Rattle.log_model.specs.declared.row_kind.LogRow.{LogRow}
 use Rattle.log_model.specs.declared.row_kind.RowKind.{RowKind}
 use Rattle.seen_facts.proofs.Request.Readers.{on_read, reads_then, sent_reads}
 use Rattle.seen_laws.proofs.InEvents.{now_step}
-use Rattle.seen_laws.specs.InEvent.{InEvent, now_of, row_of}
+use Rattle.seen_laws.specs.InEvent.{InEvent, now_of, row_of, GoesThere}
 use Rattle.seen_laws.specs.Unasked.{is_question}
 use Rattle.std.proofs.Common.{Bool, List, None, Option, Some, [], ap, append-nil, append_assoc, cond, false, inl, inr, length, map, not, refl, subst, sym, true, ℕ, ◌++◌, ◌==◌, ◌||◌, ◌∙◌, ◌∷◌, ◌≡◌}
 use Rattle.std.proofs.lemmas.List.Folds.{list_any-append}
@@ -105,6 +107,12 @@ sent_many s job (tasks.Ask slot cause) asked = served_many job.why (request_serv
 
 -- ---- one row
 
+-- it goes in the log without questions
+pub order_or_drop_goes : (e : InEvent) (out : List RowKind) (row : RowKind) → IsOrderOrDrop row → GoesThere e out row
+order_or_drop_goes e out (rows.Sent job) is = sent_goes e out job (not-true (is_question job.task) is)
+order_or_drop_goes e out (rows.Dropped req cause) is = dropped_goes e out req cause
+order_or_drop_goes e out row is = elim is [ ]
+
 leaves_none : (s : Seen) → LeavesPut s s
 leaves_none s = record { many = refl; wishes = λ r. refl; homes = λ doc d found. (d, found, refl) }
 
@@ -153,7 +161,7 @@ rows_off e was [] each =
     subst (λ (l : List RowKind). KeepsOff (now_of e was) (now_of e l)) (sym (append-nil was)) (off_none (now_of e was))
 rows_off e was (row ∷ more) each =
     subst (λ (l : List RowKind). KeepsOff (now_of e was) (now_of e l)) (append_assoc was (row ∷ []) more)
-    (off_then (now_of e was) (now_of e (was ++ row ∷ [])) (now_of e ((was ++ row ∷ []) ++ more)) (now_step (λ (s : Seen). KeepsOff (now_of e was) s) e was row (λ same. row_off (now_of e was) e.event e.actor row (each row (inl refl))) (off_none (now_of e was)))
+    (off_then (now_of e was) (now_of e (was ++ row ∷ [])) (now_of e ((was ++ row ∷ []) ++ more)) (now_step (λ (s : Seen). KeepsOff (now_of e was) s) e was row (order_or_drop_goes e was row (each row (inl refl))) (λ same. row_off (now_of e was) e.event e.actor row (each row (inl refl))) (off_none (now_of e was)))
     (rows_off e (was ++ row ∷ []) more (λ x there. each x (inr there))))
 
 pub only_off : (e : InEvent) (was out : List RowKind) → HasOnly IsOrderOrDrop was out → KeepsOff (now_of e was) (now_of e out)
@@ -167,7 +175,7 @@ rows_leave e was [] each =
     subst (λ (l : List RowKind). LeavesPut (now_of e was) (now_of e l)) (sym (append-nil was)) (leaves_none (now_of e was))
 rows_leave e was (row ∷ more) each =
     subst (λ (l : List RowKind). LeavesPut (now_of e was) (now_of e l)) (append_assoc was (row ∷ []) more)
-    (leaves_then (now_of e was) (now_of e (was ++ row ∷ [])) (now_of e ((was ++ row ∷ []) ++ more)) (now_step (λ (s : Seen). LeavesPut (now_of e was) s) e was row (λ same. row_leaves (now_of e was) e.event e.actor row (each row (inl refl))) (leaves_none (now_of e was)))
+    (leaves_then (now_of e was) (now_of e (was ++ row ∷ [])) (now_of e ((was ++ row ∷ []) ++ more)) (now_step (λ (s : Seen). LeavesPut (now_of e was) s) e was row (order_or_drop_goes e was row (each row (inl refl))) (λ same. row_leaves (now_of e was) e.event e.actor row (each row (inl refl))) (leaves_none (now_of e was)))
     (rows_leave e (was ++ row ∷ []) more (λ x there. each x (inr there))))
 
 -- none of them applies a traversal
@@ -211,7 +219,7 @@ put_each Is e run cause tells was out drops discards serves told put =
     swept =
         record { more = put.clears.sweeps.more; is = put.clears.sweeps.is; each = λ row there. (let it = put.clears.sweeps.each row there in subst Is (sym it.is) (discards it.job it.discards)) }
 
-walk_asks_none : (task : Task) → IsOfWalk task → not (is_question task) ≡ true
+pub walk_asks_none : (task : Task) → IsOfWalk task → not (is_question task) ≡ true
 walk_asks_none (tasks.Ask slot cause) never = absurd never
 walk_asks_none (tasks.Activate entry epoch length index memo address) is = refl
 walk_asks_none (tasks.Populate nav state address initial) is = refl
@@ -220,7 +228,7 @@ walk_asks_none tasks.Discard is = refl
 walk_asks_none (tasks.Update long at) is = refl
 walk_asks_none (tasks.DoFragment req mode address) is = refl
 
-update_asks_none : (task : Task) → length_index task ≡ true → not (is_question task) ≡ true
+pub update_asks_none : (task : Task) → length_index task ≡ true → not (is_question task) ≡ true
 update_asks_none (tasks.Ask slot cause) never = absurd cc
 update_asks_none (tasks.Activate entry epoch length index memo address) is = refl
 update_asks_none (tasks.Populate nav state address initial) is = refl

@@ -17,11 +17,11 @@ use Rattle.seen_facts.proofs.Request.Readers.{on_read}
 use Rattle.log_model.specs.AfterRequests.{entries_taken}
 use Rattle.log_model.specs.declared.row_kind.Actor.{Actor}
 use Rattle.log_model.specs.declared.outcome.Ending.TheVariants as endings
-use Rattle.seen_laws.proofs.InEvents.{now_step}
+use Rattle.seen_laws.proofs.InEvents.{now_step, first_goes, rest_goes, since_goes}
 use Rattle.tab_turns.proofs.Turned.{KeepBegun, begun_as_it_was, begun_with, course_of, kept_begun, sent_begun}
 use Rattle.tab_facts.specs.Order.Orders.{IsOfCoord, AreOrders}
 use Rattle.row_facts.specs.Owed.Owed.{IsStill}
-use Rattle.seen_laws.specs.InEvent.{InEvent, now_of}
+use Rattle.seen_laws.specs.InEvent.{InEvent, now_of, EachGoes}
 use Rattle.std.proofs.Common.{Bool, List, None, Option, Some, [], ap, append-nil, append_assoc, false, inl, inr, refl, subst, sym, true, ◌++◌, ◌∙◌, ◌∷◌, ◌≡◌, ◌⊎◌, ℕ}
 use Rattle.tab_releases.specs.PassedOn.{HasGrown, IsOfTurn, MayServe, length_index, HasOnly, HasPutOut, IsServeFor, IsUpdateFor, show_why}
 use Rattle.tab_ids.specs.declared.ReqId.{ReqId}
@@ -45,20 +45,20 @@ begun_after s event actor (rows.Applied r change) fine =
 begun_after s event actor (rows.Started r goal) fine = begun_with s r goal
 begun_after s event actor _ fine = absurd fine
 
-begun_over : (e : InEvent) (more was : List RowKind) → ((kind : RowKind) → Has more kind → IsOfCoord kind) → KeepBegun (now_of e was).requests (now_of e (was ++ more)).requests
-begun_over e [] was fine =
+begun_over : (e : InEvent) (more was : List RowKind) → EachGoes e was more → ((kind : RowKind) → Has more kind → IsOfCoord kind) → KeepBegun (now_of e was).requests (now_of e (was ++ more)).requests
+begun_over e [] was goes fine =
     subst (λ (l : List RowKind). KeepBegun (now_of e was).requests (now_of e l).requests) (sym (append-nil was)) (λ this each. each)
-begun_over e (kind ∷ more) was fine =
+begun_over e (kind ∷ more) was goes fine =
     subst (λ (l : List RowKind). KeepBegun (now_of e was).requests (now_of e l).requests) (append_assoc was (kind ∷ []) more)
-    (λ this each. begun_over e more (was ++ kind ∷ []) (λ k has. fine k (inr has)) this (one this each))
+    (λ this each. begun_over e more (was ++ kind ∷ []) (rest_goes e was more kind goes) (λ k has. fine k (inr has)) this (one this each))
   where
     one : KeepBegun (now_of e was).requests (now_of e (was ++ kind ∷ [])).requests
     one =
-        now_step (λ (x : Seen). KeepBegun (now_of e was).requests x.requests) e was kind (λ was_ this each. begun_after (now_of e was) e.event e.actor kind (fine kind (inl refl)) this each) (λ this each. each)
+        now_step (λ (x : Seen). KeepBegun (now_of e was).requests x.requests) e was kind (first_goes e was more kind goes) (λ was_ this each. begun_after (now_of e was) e.event e.actor kind (fine kind (inl refl)) this each) (λ this each. each)
 
 -- ---- what orders may be for, over rows of a coordinator
 
-module _ (e : InEvent) (run : Option ReqId) (was more : List RowKind) (fine : (row : RowKind) → Has more row → IsOfCoord row) (plain : ArePlain run (now_of e (was ++ more))) where
+module _ (e : InEvent) (run : Option ReqId) (was more : List RowKind) (goes : EachGoes e was more) (fine : (row : RowKind) → Has more row → IsOfCoord row) (plain : ArePlain run (now_of e (was ++ more))) where
   abbrev s : Seen
   s = now_of e was
 
@@ -70,11 +70,11 @@ module _ (e : InEvent) (run : Option ReqId) (was more : List RowKind) (fine : (r
   serve_by req q may at =
       record {
         goes = ap (λ (o : Option Asked). holds (λ (x : Asked). implies (is_checked x) (has_passed n x)) o) still.at ∙ implied (is_checked still.r) (has_passed n still.r) passes;
-        begun = kept_begun s n req (begun_over e more was fine) may.begun;
+        begun = kept_begun s n req (begun_over e more was goes fine) may.begun;
       }
     where
       still : IsStill n req q
-      still = still_over e more was fine req q at
+      still = still_over e more was goes fine req q at
 
       passes : has_passed n still.r ≡ true
       passes = plain.passed req still.r still.at
@@ -95,17 +95,17 @@ module _ (e : InEvent) (run : Option ReqId) (was more : List RowKind) (fine : (r
   cause_more why may req is = serve_more req (may req is)
 
 -- so over those that an event puts out
-pub cause_put : (e : InEvent) (run : Option ReqId) (was out : List RowKind) → ArePlain run (now_of e out) → HasPut e was out → (why : Why) → MayCause (now_of e was) why → MayCause (now_of e out) why
-cause_put e run was out plain put why may =
+pub cause_put : (e : InEvent) (run : Option ReqId) (was out : List RowKind) → EachGoes e [] out → ArePlain run (now_of e out) → HasPut e was out → (why : Why) → MayCause (now_of e was) why → MayCause (now_of e out) why
+cause_put e run was out goes plain put why may =
     subst (λ (l : List RowKind). MayCause (now_of e l) why) (sym put.is)
-    (cause_more e run was put.more put.each (subst (λ (l : List RowKind). ArePlain run (now_of e l)) put.is plain) why may)
+    (cause_more e run was put.more (since_goes e was put.more out put.is goes) put.each (subst (λ (l : List RowKind). ArePlain run (now_of e l)) put.is plain) why may)
 
 -- orders that make documents are for what orders may be for still, with those that are put out
-pub put_makes : (e : InEvent) (run : Option ReqId) (was out : List RowKind) → ArePlain run (now_of e out) → HasPut e was out → MakesServe (now_of e was) → MakesServe (now_of e out)
-put_makes e run was out plain put makes =
+pub put_makes : (e : InEvent) (run : Option ReqId) (was out : List RowKind) → EachGoes e [] out → ArePlain run (now_of e out) → HasPut e was out → MakesServe (now_of e was) → MakesServe (now_of e out)
+put_makes e run was out goes plain put makes =
     subst (λ (l : List RowKind). AreOrders serves (now_of e l)) (sym put.is)
-    (orders_over serves e put.more was (λ row has. coord_within row (put.each row has)) (λ job has. put.makes job has)
-    (orders_on (λ (job : Job). IsMake job.task → MayCause (now_of e was) job.why) serves (now_of e was) (λ job its made. cause_put e run was out plain put job.why (its made)) makes))
+    (orders_over serves e put.more was (since_goes e was put.more out put.is goes) (λ row has. coord_within row (put.each row has)) (λ job has. put.makes job has)
+    (orders_on (λ (job : Job). IsMake job.task → MayCause (now_of e was) job.why) serves (now_of e was) (λ job its made. cause_put e run was out goes plain put job.why (its made)) makes))
   where
     serves : Job → Type 0
     serves job = IsMake job.task → MayCause (now_of e out) job.why
@@ -122,8 +122,8 @@ among (x ∷ xs) ys z (inr has) = by_rest (among xs ys z has)
     by_rest (inl in_) = inl (inr in_)
     by_rest (inr in_) = inr in_
 
-pub put_then : (e : InEvent) (run : Option ReqId) (a b c : List RowKind) → ArePlain run (now_of e c) → HasPut e a b → HasPut e b c → HasPut e a c
-put_then e run a b c plain one two =
+pub put_then : (e : InEvent) (run : Option ReqId) (a b c : List RowKind) → EachGoes e [] c → ArePlain run (now_of e c) → HasPut e a b → HasPut e b c → HasPut e a c
+put_then e run a b c goes plain one two =
     record {
       more = one.more ++ two.more;
       is = two.is ∙ ap (λ (l : List RowKind). l ++ two.more) one.is ∙ append_assoc a one.more two.more;
@@ -141,7 +141,7 @@ put_then e run a b c plain one two =
     by_each row (inr has) = two.each row has
 
     later : (why : Why) → MayCause (now_of e b) why → MayCause (now_of e c) why
-    later = cause_put e run b c plain two
+    later = cause_put e run b c goes plain two
 
     by_makes : (job : Job) → IsMake job.task → Has one.more (rows.Sent job) ⊎ Has two.more (rows.Sent job) → MayCause (now_of e c) job.why
     by_makes job makes (inl has) = later job.why (one.makes job has makes)

@@ -12,9 +12,9 @@ use Rattle.tab_facts.proofs.Order.Rows.{coord_within, orders_on, orders_over}
 use Rattle.tab_facts.proofs.Order.Stills.{still_over}
 use Rattle.tab_facts.specs.Order.Orders.{AreOrders, IsOfCoord}
 use Rattle.row_facts.specs.Owed.Owed.{IsStill}
-use Rattle.seen_laws.proofs.InEvents.{now_step}
+use Rattle.seen_laws.proofs.InEvents.{now_step, first_goes, rest_goes, since_goes}
 use Rattle.seen_laws.proofs.Keyed.{find_map}
-use Rattle.seen_laws.specs.InEvent.{InEvent, now_of}
+use Rattle.seen_laws.specs.InEvent.{InEvent, now_of, EachGoes}
 use Rattle.std.proofs.Common.{List, Option, Some, [], ap, append-nil, append_assoc, inl, inr, refl, subst, sym, ℕ, ◌++◌, ◌==◌, ◌∙◌, ◌∷◌, ◌≡◌}
 use Rattle.std.specs.Prelude.{find, option_map}
 use Rattle.tab_ids.specs.declared.DocId.{DocId}
@@ -80,21 +80,21 @@ docs_after s event actor (rows.Dropped req cause) is doc d found = (d, found, re
 docs_after s event actor _ is doc d found = absurd is
 
 module _ (e : InEvent) where
-  docs_over : (more was : List RowKind) → ((kind : RowKind) → Has more kind → IsOfCoord kind) → (doc : DocId) (d : Document) → document_of (now_of e was) doc ≡ Some d → (now : Document) × (document_of (now_of e (was ++ more)) doc ≡ Some now) × (now.nav ≡ d.nav)
-  docs_over [] was fine doc d found = (d, ap (λ (l : List RowKind). document_of (now_of e l) doc) (append-nil was) ∙ found, refl)
-  docs_over (kind ∷ more) was fine doc d found =
-      let one : IsThen (now_of e (was ++ kind ∷ [])) = now_step IsThen e was kind (λ was_. docs_after (now_of e was) e.event e.actor kind (fine kind (inl refl)) doc d found) (d, found, refl) in
-      let two = docs_over more (was ++ kind ∷ []) (λ k has. fine k (inr has)) doc one.0 one.1 in
+  docs_over : (more was : List RowKind) → EachGoes e was more → ((kind : RowKind) → Has more kind → IsOfCoord kind) → (doc : DocId) (d : Document) → document_of (now_of e was) doc ≡ Some d → (now : Document) × (document_of (now_of e (was ++ more)) doc ≡ Some now) × (now.nav ≡ d.nav)
+  docs_over [] was goes fine doc d found = (d, ap (λ (l : List RowKind). document_of (now_of e l) doc) (append-nil was) ∙ found, refl)
+  docs_over (kind ∷ more) was goes fine doc d found =
+      let one : IsThen (now_of e (was ++ kind ∷ [])) = now_step IsThen e was kind (first_goes e was more kind goes) (λ was_. docs_after (now_of e was) e.event e.actor kind (fine kind (inl refl)) doc d found) (d, found, refl) in
+      let two = docs_over more (was ++ kind ∷ []) (rest_goes e was more kind goes) (λ k has. fine k (inr has)) doc one.0 one.1 in
       (two.0, ap (λ (l : List RowKind). document_of (now_of e l) doc) (sym (append_assoc was (kind ∷ []) more)) ∙ two.1, two.2 ∙ one.2)
     where
       IsThen : Seen → Type 0
       IsThen x = (now : Document) × (document_of x doc ≡ Some now) × (now.nav ≡ d.nav)
 
-  keeps_over : (more was : List RowKind) → ((kind : RowKind) → Has more kind → IsOfCoord kind) → KeepsWhat (now_of e was) (now_of e (was ++ more))
-  keeps_over more was fine =
+  keeps_over : (more was : List RowKind) → EachGoes e was more → ((kind : RowKind) → Has more kind → IsOfCoord kind) → KeepsWhat (now_of e was) (now_of e (was ++ more))
+  keeps_over more was goes fine =
       record {
-        asked = λ req q at. (let still : IsStill (now_of e (was ++ more)) req q = still_over e more was fine req q at in (still.r, still.at, still.what));
-        homes = docs_over more was fine;
+        asked = λ req q at. (let still : IsStill (now_of e (was ++ more)) req q = still_over e more was goes fine req q at in (still.r, still.at, still.what));
+        homes = docs_over more was goes fine;
       }
 
   plain_sound : (s : Seen) (doc : DocId) (task : Task) → IsPlainTask task → IsSoundTask s doc task
@@ -107,12 +107,12 @@ module _ (e : InEvent) where
   plain_sound s doc tasks.Discard its = tt
 
   -- of those that are sent it is so, and of the others still
-  pub sound_more : (more was : List RowKind) → ((kind : RowKind) → Has more kind → IsOfCoord kind) → ((job : Job) → Has more (rows.Sent job) → IsSoundTask (now_of e (was ++ more)) job.doc job.task) → OrdersAreSound (now_of e was) → OrdersAreSound (now_of e (was ++ more))
-  sound_more more was fine sent sound =
-      orders_over (λ (job : Job). IsSoundTask (now_of e (was ++ more)) job.doc job.task) e more was (λ kind has. coord_within kind (fine kind has)) sent
-      (sound_on (now_of e was) (now_of e (was ++ more)) (keeps_over more was fine) sound)
+  pub sound_more : (more was : List RowKind) → EachGoes e was more → ((kind : RowKind) → Has more kind → IsOfCoord kind) → ((job : Job) → Has more (rows.Sent job) → IsSoundTask (now_of e (was ++ more)) job.doc job.task) → OrdersAreSound (now_of e was) → OrdersAreSound (now_of e (was ++ more))
+  sound_more more was goes fine sent sound =
+      orders_over (λ (job : Job). IsSoundTask (now_of e (was ++ more)) job.doc job.task) e more was goes (λ kind has. coord_within kind (fine kind has)) sent
+      (sound_on (now_of e was) (now_of e (was ++ more)) (keeps_over more was goes fine) sound)
 
-  pub put_sound : (was out : List RowKind) → HasPut e was out → OrdersAreSound (now_of e was) → OrdersAreSound (now_of e out)
-  put_sound was out put sound =
+  pub put_sound : (was out : List RowKind) → EachGoes e [] out → HasPut e was out → OrdersAreSound (now_of e was) → OrdersAreSound (now_of e out)
+  put_sound was out goes put sound =
       subst (λ (l : List RowKind). OrdersAreSound (now_of e l)) (sym put.is)
-      (sound_more put.more was put.each (λ job has. plain_sound (now_of e (was ++ put.more)) job.doc job.task (put.plain job has)) sound)
+      (sound_more put.more was (since_goes e was put.more out put.is goes) put.each (λ job has. plain_sound (now_of e (was ++ put.more)) job.doc job.task (put.plain job has)) sound)

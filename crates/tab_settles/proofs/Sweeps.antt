@@ -1,4 +1,5 @@
 -- After a pass no document is stray, or an order is on its way.
+use Rattle.tab_settles.proofs.PutOuts.{order_or_drop_goes}
 use Rattle.seen_facts.proofs.Coord.Unread.{next}
 use Rattle.seen_facts.specs.Hang.Members.{Has}
 use Rattle.log_model.specs.After.{desk_dropped}
@@ -10,7 +11,7 @@ use Rattle.log_model.specs.declared.row_kind.Actor.{Actor}
 use Rattle.log_model.specs.declared.row_kind.RowKind.{RowKind}
 use Rattle.seen_facts.specs.Rest.Between.{IsOfLoad}
 use Rattle.seen_laws.proofs.InEvents.{now_more}
-use Rattle.seen_laws.specs.InEvent.{InEvent, is_seen, now_of}
+use Rattle.seen_laws.specs.InEvent.{InEvent, now_of}
 use Rattle.std.proofs.Common.{Bool, List, None, Option, Some, [], ap, append-nil, append_assoc, false, inl, inr, length, map, not, refl, subst, sym, true, ℕ, ◌++◌, ◌==◌, ◌||◌, ◌∙◌, ◌∷◌, ◌≡◌, ◌⊎◌}
 use Rattle.std.specs.List.{list_any}
 use Rattle.std.specs.Prelude.{drop, is_some}
@@ -54,13 +55,8 @@ module _ (e : InEvent) where
       ap (λ (l : List RowKind). orders_go (now_of e l)) (sym (append_assoc was (row ∷ []) more))
       ∙ goes more (was ++ row ∷ []) (λ r has. each r (inr has)) (after_it row refl (each row (inl refl)) h)
     where
-      row_seen : (r : RowKind) → IsOrderOrDrop r → is_seen e.checking r ≡ true
-      row_seen (rows.Sent job) fine = fine
-      row_seen (rows.Dropped req cause) fine = refl
-      row_seen r fine = elim fine [ ]
-
       then_is : orders_go (now_of e (was ++ row ∷ [])) ≡ orders_go (next (now_of e was) e.event e.actor row)
-      then_is = ap orders_go (now_more e was row (row_seen row (each row (inl refl))))
+      then_is = ap orders_go (now_more e was row (order_or_drop_goes e was row (each row (inl refl))).read)
 
       behind : ((job : Job) → row ≡ rows.Sent job → ⊥) → SendsOne (row ∷ more) → SendsOne more
       behind no_order sends = by_has sends.0 sends.1

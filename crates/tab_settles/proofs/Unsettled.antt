@@ -9,7 +9,7 @@ use Rattle.log_model.specs.Seen.{Asked, Seen}
 use Rattle.log_model.specs.declared.change.Change.{Change}
 use Rattle.log_model.specs.declared.made.Made.{Made}
 use Rattle.log_model.specs.declared.row_kind.RowKind.{RowKind}
-use Rattle.seen_laws.specs.InEvent.{InEvent, now_of, row_of}
+use Rattle.seen_laws.specs.InEvent.{InEvent, now_of, row_of, EachGoes}
 use Rattle.std.proofs.Common.{Bool, List, None, Option, Some, [], ap, false, inl, inr, refl, subst, sym, true, ◌&&◌, ◌∙◌, ◌∷◌, ◌≡◌, ◌⊎◌}
 use Rattle.std.proofs.lemmas.Bool.{and_right}
 use Rattle.std.specs.Prelude.{if◌then◌else◌}
@@ -59,8 +59,8 @@ leaves_unsettled e was out left none req change has = unsettled_by (now_of e out
 -- ---- the rows before
 
 -- the row that takes what a document made moves nobody: its request is a poke, or a load that never begins
-pub taken_moves : (e : InEvent) (out : List RowKind) (hand : List Made) (made : Made) → IsForTaking e [] hand made → EndsAlone e [] out made → (req : ReqId) (change : Change) → Has out (rows.Applied req change) → moved_by (now_of e out) req change ≡ None
-taken_moves e out hand made taking ended req change has =
+pub taken_moves : (e : InEvent) (out : List RowKind) → EachGoes e [] out → (hand : List Made) (made : Made) → IsForTaking e [] hand made → EndsAlone e [] out made → (req : ReqId) (change : Change) → Has out (rows.Applied req change) → moved_by (now_of e out) req change ≡ None
+taken_moves e out goes hand made taking ended req change has =
     moved_none (now_of e out) req change unbegun (subst (λ (k : RowKind). is_reloading k ≡ false) is ended.no_reload)
   where
     of_one : Has (ended.kind ∷ []) (rows.Applied req change) → ended.kind ≡ rows.Applied req change
@@ -81,7 +81,7 @@ taken_moves e out hand made taking ended req change has =
     each_begins row (inr never) = absurd never
 
     begun : KeepsBegun (now_of e []) (now_of e out)
-    begun = rows_begun e [] out (record { more = ended.kind ∷ []; is = ended.out; each = each_begins })
+    begun = rows_begun e [] out goes (record { more = ended.kind ∷ []; is = ended.out; each = each_begins })
 
     unbegun_s : is_begun_load (now_of e []) made.req ≡ false
     unbegun_s =

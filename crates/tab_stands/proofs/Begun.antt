@@ -1,8 +1,9 @@
 -- An event of the coordinator begins: all goes on once its own row was logged, whatever it leaves of a tab as one is between two events.
+use Rattle.tab_doors.proofs.PassedOn.{AreNumbered, read_own, sole_own}
+use Rattle.seen_laws.proofs.InEvents.{none_goes}
 use Rattle.seen_facts.specs.Asked.Asking.{ArePlain}
 use Rattle.tab_doors.proofs.Works.{none_steps}
 use Rattle.checking_facts.specs.Checks.{AreInCheck}
-use Rattle.seen_laws.proofs.InEvents.{now_own}
 use Rattle.tab_stands.proofs.Orders.{keeps_coming, makes_first, sound_first}
 use Rattle.row_facts.proofs.FrameRows.LawfulLaws.{lawful_legal}
 use Rattle.seen_facts.proofs.Desk.Stays.{NoDeath}
@@ -50,15 +51,16 @@ checks_first e aside run plain =
     never req on = let no : false ≡ true = sym (aside.unchecked req) ∙ on in cc
 
 -- a coordinator is at work once the own row was logged, whose tables stand for what the log has come to
-pub work_first : (e : InEvent) (t : Tables) → StartsUnasked e → AreInCheck e.checking (log_of e []) → leads e.own ≡ true → IsWorker e.actor → AreLegal e [] → AreTied (now_of e []) t → IsAtWork e [] t
-work_first e t aside checks own worker legal tied =
+pub work_first : (e : InEvent) (t : Tables) → StartsUnasked e → AreInCheck e.checking (log_of e []) → AreNumbered e.start → leads e.own ≡ true → IsWorker e.actor → AreLegal e [] → AreTied (now_of e []) t → IsAtWork e [] t
+work_first e t aside checks numbered own worker legal tied =
     record {
       own = own;
       worker = worker;
-      begins = aside.begins;
       plain = aside.plain;
-      rows = refl;
-      same = now_own e;
+      goes = none_goes e [];
+      numbered = numbered;
+      read = read_own e (record { numbered = checks.numbered; others = checks.others });
+      sole = sole_own e (log_of e []);
       checks = checks;
       unheld = none_steps e.checking aside.unchecked (log_of e []);
       holds = tied.holds;
@@ -75,7 +77,7 @@ module _ (p : InPass) (t : Tables) (queue : Queue) (blame : List (StateId × Req
   passing : IsPassing p [] t
   passing =
       record {
-        work = work_first p.event t aside (checks_first p.event aside t.running going.tab.asked) own worker legal tied;
+        work = work_first p.event t aside (checks_first p.event aside t.running going.tab.asked) (λ req q at. (between.tab.asked.each req q at).nr) own worker legal tied;
         going = going;
         owed = loose_owed p.event [] (loose_first p.event);
         loose = λ all. loose_first p.event;

@@ -1,4 +1,5 @@
 -- A request of the user is accepted, and refused in the same event: the coordinator stands for the log still.
+use Rattle.tab_doors.proofs.PassedOn.{refused_goes, refused_now}
 use Rattle.seen_facts.specs.Asked.Asking.{ArePlain}
 use Rattle.tab_settles.proofs.Puts.{put_makes}
 use Rattle.tab_settles.proofs.Sounds.{put_sound}
@@ -32,8 +33,8 @@ use Rattle.seen_facts.proofs.Request.Readers.{on_read}
 use Rattle.seen_facts.proofs.Request.Times.{times_none}
 use Rattle.seen_facts.specs.Request.Whereabouts.{times_found}
 use Rattle.row_facts.proofs.RestRows.Rows.{accepted_rests, refused_rests}
-use Rattle.seen_laws.proofs.InEvents.{log_more, now_more}
-use Rattle.seen_laws.specs.InEvent.{InEvent, log_of, now_of}
+use Rattle.seen_laws.proofs.InEvents.{log_more, goes_more, none_goes}
+use Rattle.seen_laws.specs.InEvent.{InEvent, log_of, now_of, EachGoes}
 use Rattle.std.proofs.Common.{List, None, Option, Some, [], ap, arith, false, filter, inl, inr, length, refl, subst, sym, true, ℕ, ◌++◌, ◌+◌, ◌-◌, ◌==◌, ◌∙◌, ◌∷◌, ◌≡◌, ◌⊎◌}
 use Rattle.std.proofs.lemmas.Bool.Decides.{nat_tests}
 use Rattle.std.proofs.lemmas.List.{map-id}
@@ -105,7 +106,7 @@ module _ (e : InEvent) (t : Tables) (queue : Queue) (blame : List (StateId × Re
 
   pub now_refused : now_of e out ≡ n
   now_refused =
-      now_more e [] (rows.Refused req reason) refl
+      refused_now e [] req reason
       ∙ (ap (λ (a : Actor). next (now_of e []) e.event a (rows.Refused req reason)) by_user
       ∙ ap (λ (x : Seen). next x e.event actors.Ui (rows.Refused req reason)) (now e req None what by_user own nr aside))
 
@@ -257,16 +258,19 @@ module _ (e : InEvent) (t : Tables) (queue : Queue) (blame : List (StateId × Re
     strays =
         subst (λ (x : Seen). AreLeftStrays x blame) (sym n_is) (strays_more s n lost req nr refl refl refl refl t queue blame stands)
 
+    goes : EachGoes e [] out
+    goes = goes_more e [] [] (rows.Refused req reason) (none_goes e []) (refused_goes e [] req reason)
+
     makes : MakesServe n
     makes =
         subst (λ (x : Seen). MakesServe x) now_refused
-        (put_makes e run [] out (subst (λ (x : Seen). ArePlain run x) (sym now_refused) tab_then.asked) (refusal_put e req reason)
+        (put_makes e run [] out goes (subst (λ (x : Seen). ArePlain run x) (sym now_refused) tab_then.asked) (refusal_put e req reason)
         (makes_first e aside (ap (λ (k : RowKind). leads k) own) (comes_now e req None what by_user own nr aside t queue blame stands).serves stands.lasts.makes))
 
     sound : OrdersAreSound n
     sound =
         subst (λ (x : Seen). OrdersAreSound x) now_refused
-        (put_sound e [] out (refusal_put e req reason) (sound_first e aside (ap (λ (k : RowKind). leads k) own) (keeps_coming blame s (now_of e []) (comes_now e req None what by_user own nr aside t queue blame stands)) stands.lasts.sound))
+        (put_sound e [] out goes (refusal_put e req reason) (sound_first e aside (ap (λ (k : RowKind). leads k) own) (keeps_coming blame s (now_of e []) (comes_now e req None what by_user own nr aside t queue blame stands)) stands.lasts.sound))
 
     shows : AreShownUnder n
     shows =

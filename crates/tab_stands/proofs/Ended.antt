@@ -1,6 +1,8 @@
 -- An event of the coordinator ends as the tab has come to rest: the coordinator stands for what the log has come to, and each row passes.
+use Rattle.tab_doors.proofs.Works.{aimed_log}
+use Rattle.tab_doors.proofs.PassedOn.{paid_read}
+use Rattle.seen_laws.proofs.InEvents.{now_is}
 use Rattle.log_model.specs.declared.row_kind.RowKind.TheVariants as rows
-use Rattle.log_model.specs.declared.row_kind.LogRow.{LogRow}
 use Rattle.log_model.specs.declared.row_kind.Actor.{Actor}
 use Rattle.row_facts.specs.Owed.Owed.{owes_seen}
 use Rattle.seen_laws.specs.Sending.{leads}
@@ -22,7 +24,7 @@ use Rattle.tab_facts.specs.Order.Orders.{IsOfCoord}
 use Rattle.row_facts.proofs.Owed.Ends.{owed_paid}
 use Rattle.seen_facts.proofs.Rest.Seated.{all_has}
 use Rattle.seen_laws.specs.Blocks.{EachPass, Here}
-use Rattle.seen_laws.specs.InEvent.{InEvent, IsPaid, IsTakenIn, first_of, log_of, now_of, row_of, seen_rows, start_of}
+use Rattle.seen_laws.specs.InEvent.{InEvent, IsPaid, IsTakenIn, first_of, log_of, now_of, row_of, start_of}
 use Rattle.std.proofs.Common.{List, None, Option, Some, [], false, map, refl, subst, sym, true, ℕ, ◌==◌, ◌∷◌, ◌≡◌}
 use Rattle.std.specs.List.{list_all}
 use Rattle.std.specs.Prelude.{is_some, option_and_then}
@@ -73,8 +75,8 @@ paid_log e out work paid = rw (own_owes (start_of e) e.event e.actor e.own (log_
   where
     rest : owes (first_of e) (map (row_of e) out) (log_of e out) ≡ true
     rest =
-        subst (λ (s : Seen). owes (first_of e) (map (row_of e) out) s ≡ true) (sym work.plain)
-        (subst (λ (l : List LogRow). owes (first_of e) l (now_of e out) ≡ true) work.rows (subst (λ (h : Here). owes h (seen_rows e out) (now_of e out) ≡ true) work.begins paid))
+        paid_read e out (log_of e out) (aimed_log e out _ work) work.checks.others work.numbered work.read work.sole
+        (subst (λ (s : Seen). owes_seen e out s ≡ true) (now_is e out) paid)
 
 -- what a coordinator at work has of its tables
 pub work_tied : (p : InPass) (out : List RowKind) (t : Tables) → IsAtWork p.event out t → AreTied (now_of p.event out) t

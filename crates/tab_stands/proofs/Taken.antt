@@ -1,5 +1,5 @@
 -- What a document made was taken up, refused or dropped as its report was delivered: the tab may be brought to rest.
-use Rattle.row_facts.proofs.FrameRows.LawfulLaws.{ends_seen}
+use Rattle.seen_laws.proofs.InEvents.{now_at}
 use Rattle.seen_facts.specs.Asked.Asking.{IsTabRequest}
 use Rattle.tab_facts.specs.Calm.Calm.{IsCalm, IsHere}
 use Rattle.seen_facts.proofs.Coord.Held.{held_alike, without_same}
@@ -24,7 +24,6 @@ use Rattle.log_model.specs.declared.row_kind.RowKind.{RowKind}
 use Rattle.move_queue.specs.Queue.{Queue}
 use Rattle.seen_facts.proofs.Request.Readers.{SameReads}
 use Rattle.seen_facts.proofs.Request.Times.{itself}
-use Rattle.seen_laws.proofs.InEvents.{now_more}
 use Rattle.seen_laws.specs.Blocks.{point_at}
 use Rattle.seen_laws.specs.InEvent.{InEvent, IsTakenIn, now_of, row_of, start_of}
 use Rattle.std.proofs.Common.{Bool, List, None, Option, Some, [], ap, false, inl, inr, map, refl, subst, sym, true, ◌++◌, ◌||◌, ◌∙◌, ◌∷◌, ◌≡◌, ◌≤◌, ◌⊎◌}
@@ -96,7 +95,7 @@ module _ (e : InEvent) (proc : ProcId) (report : Report) (made : Made) (del : Is
 
   its : IsEnding f n made.req
   its =
-      subst (λ (x : Seen). IsEnding f x made.req) (sym (ap (λ (l : List RowKind). now_of e l) taken.ended.out ∙ now_more e [] taken.ended.kind (ends_seen e taken.ended.kind made.req taken.ended.ends))) (is_ending f e taken.ended.kind made.req taken.ended.ends)
+      subst (λ (x : Seen). IsEnding f x made.req) (sym (now_at e [] taken.ended.kind out taken.ended.out taken.passing.work.goes)) (is_ending f e taken.ended.kind made.req taken.ended.ends)
 
   apart : has_req f.parked made.req ≡ false
   apart = unparked_now e proc report made del tells t queue blame stands aside changes free room header
@@ -142,7 +141,7 @@ module _ (e : InEvent) (proc : ProcId) (report : Report) (made : Made) (del : Is
   reach_s : SameReads reach s.requests n.requests
   reach_s =
       subst (λ (l : List Asked). SameReads reach l n.requests) (ap (λ (x : Seen). x.requests) (heard_now e proc report made del tells t queue blame stands aside) ∙ heard_requests e proc report made del tells t queue blame stands aside)
-      (only_reach e [] out (record { more = taken.ended.kind ∷ []; is = taken.ended.out; each = each }))
+      (only_reach e [] out taken.passing.work.goes (record { more = taken.ended.kind ∷ []; is = taken.ended.out; each = each }))
     where
       each : (kind : RowKind) → (taken.ended.kind ≡ kind) ⊎ ⊥ → IsUnmoving kind
       each kind (inl same) = subst IsUnmoving same (turn_unmoving taken.ended.kind (ends_turn e taken.ended.kind made.req taken.ended.ends))
@@ -159,7 +158,7 @@ module _ (e : InEvent) (proc : ProcId) (report : Report) (made : Made) (del : Is
   asked = its_asked e proc report made del tells t queue blame stands aside
 
   now_is : n ≡ next f e.event e.actor taken.ended.kind
-  now_is = ap (λ (l : List RowKind). now_of e l) taken.ended.out ∙ now_more e [] taken.ended.kind (ends_seen e taken.ended.kind made.req taken.ended.ends)
+  now_is = now_at e [] taken.ended.kind out taken.ended.out taken.passing.work.goes
 
   places_f : f.places ≡ s.places
   places_f =

@@ -11,7 +11,7 @@ use Rattle.log_model.specs.declared.row_kind.RowKind.{RowKind}
 use Rattle.move_queue.specs.Queue.{Queue}
 use Rattle.row_facts.specs.Owed.Owed.{IsLoose}
 use Rattle.seen_laws.specs.Blocks.{EachPass}
-use Rattle.seen_laws.specs.InEvent.{InEvent, IsTakenIn, first_of, log_of, now_of, row_of, seen_first, start_of}
+use Rattle.seen_laws.specs.InEvent.{InEvent, IsTakenIn, log_of, now_of, row_of, start_of, here_of, seen_here}
 use Rattle.std.specs.Prelude.{List, None, Option, [], length, map, ℕ, ◌++◌, ◌+◌, ◌<◌, ◌∷◌, ◌≡◌, false}
 use Rattle.tab_settles.specs.PassedOn.{AreCounted, AreHeldUp, AreLeftStrays, AreSteps, HasQueue, InPass, IsPassing, IsTaking, LoadsMadeOwn, ParentsShown, TakersServe}
 use Rattle.tab_doors.specs.declared.tables.Tables.{Tables}
@@ -75,7 +75,7 @@ opened_at address proc =
 -- nobody is in a check as the event begins, and both then and once its own row was logged the log is as it would be had nobody been asked
 pub record StartsUnasked (e : InEvent) : Type 0 where
   pub unchecked : (req : ReqId) → e.checking req ≡ false
-  pub begins : seen_first e ≡ first_of e
+  pub begins : seen_here e [] ≡ here_of e []
   pub plain : log_of e [] ≡ now_of e []
 
 -- there is room for the requests that an event may accept

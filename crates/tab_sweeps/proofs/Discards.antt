@@ -1,4 +1,5 @@
 -- A stray document was discarded: what is left.
+use Rattle.tab_doors.proofs.PassedOn.{sent_now}
 use Rattle.seen_facts.proofs.Hang.Hung.{places_distinct}
 use Rattle.seen_facts.proofs.Load.Rows.{look_blind}
 use Rattle.seen_facts.specs.Load.Loading.{look, look_of}
@@ -17,7 +18,6 @@ use Rattle.seen_facts.specs.Mover.Movers.{IsMovedBy}
 use Rattle.seen_facts.specs.Asked.Asking.{HavePassed}
 use Rattle.seen_facts.proofs.Request.Readers.{sent_reads}
 use Rattle.row_facts.proofs.RestRows.Again.{doc_same}
-use Rattle.seen_laws.proofs.InEvents.{now_more}
 use Rattle.seen_laws.proofs.Keyed.{find_on_other, find_on_same}
 use Rattle.seen_laws.specs.InEvent.{now_of, row_of}
 use Rattle.std.proofs.Common.{Bool, List, None, Option, Some, [], ap, cond, false, inl, inr, refl, subst, sym, true, ◌++◌, ◌==◌, ◌||◌, ◌∙◌, ◌∷◌, ◌≡◌, ◌⊎◌}
@@ -210,7 +210,7 @@ module _ (p : InPass) {left : List DocId} (out : List RowKind) (t : Tables) (lea
 
   module _ (new : List RowKind) (u : Tables) (is : new ≡ out ++ rows.Sent discard ∷ []) {then_left : List DocId} (leaving_ : IsLeaving p None then_left new u) where
     pub now_is : then_ ≡ now_of p.event new
-    now_is = sym (ap (λ (x : List RowKind). now_of p.event x) is ∙ now_more p.event out (rows.Sent discard) refl)
+    now_is = sym (ap (λ (x : List RowKind). now_of p.event x) is ∙ sent_now p.event out discard refl)
 
     pub causes_then : (cause : Why) → MayCause s cause → MayCause then_ cause
     causes_then cause may =

@@ -1,4 +1,5 @@
 -- A stray document was discarded: what is left, and that the others are still to be.
+use Rattle.tab_doors.proofs.PassedOn.{sent_goes}
 use Rattle.log_model.specs.After.{after}
 use Rattle.log_model.specs.AfterPlaces.{without_doc}
 use Rattle.log_model.specs.Equal.{has_doc}
@@ -132,7 +133,7 @@ module _ (p : InPass) (blame : List (StateId × ReqId)) (doc : DocId) (rest : Li
 
     loose_then : all_stand then_ (aim_of then_) ≡ true → IsLoose p.event (out ++ rows.Sent discard ∷ [])
     loose_then stand =
-        loose_more p.event out (rows.Sent discard) refl (so.loose (sent_stood s p.event.event p.event.actor discard all_passed tt stand)) (sent_lasts s p.event.event p.event.actor discard) (λ end lasts. refl)
+        loose_more p.event out (rows.Sent discard) (sent_goes p.event out discard refl).read (so.loose (sent_stood s p.event.event p.event.actor discard all_passed tt stand)) (sent_lasts s p.event.event p.event.actor discard) (λ end lasts. refl)
 
     few_then : length then_.kept ≤ u.kept.keep
     few_then =

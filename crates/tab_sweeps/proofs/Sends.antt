@@ -11,7 +11,7 @@ use Rattle.log_model.specs.Seen.{Asked, Document, Seen, desk_of, request_of}
 use Rattle.log_model.specs.declared.job.Job.{Job}
 use Rattle.log_model.specs.declared.row_kind.RowKind.{RowKind}
 use Rattle.nav_tree.specs.Tree.{is_state, state_of}
-use Rattle.seen_laws.proofs.InEvents.{led_here}
+use Rattle.seen_laws.proofs.InEvents.{led_here, now_is}
 use Rattle.seen_laws.specs.InEvent.{InEvent, here_of, now_of, row_of}
 use Rattle.std.proofs.Common.{List, None, Option, Some, ap, false, inr, refl, subst, sym, true, ◌∙◌, ◌≡◌}
 use Rattle.std.specs.Map.{lookup}
@@ -41,7 +41,7 @@ use Rattle.log_model.specs.declared.row_kind.RowKind.TheVariants as rows
 -- an order may be sent to a document of no entry and no load
 stray_ahead : {move : Option Move} (e : InEvent) (out : List RowKind) (t : Tables) (doc : DocId) (d : Document) (by : ReqId) (r : Asked) → IsAtWorkFor move e out t → IsDiscardDue (now_of e out) (order_to (now_of e out) doc (whys.Req by) tasks.Discard) d by r → (desk_of (now_of e out) (proc_at (now_of e out) doc)).known ≡ 0 → SettlesNone (now_of e out) (row_of e (rows.Sent (order_to (now_of e out) doc (whys.Req by) tasks.Discard))) → MaySend None e out (order_to (now_of e out) doc (whys.Req by) tasks.Discard)
 stray_ahead e out t doc d by r work due known settles later ahead =
-    gone_left_may (here_of e out) e.event e.actor order its.d (led_here e out work.own) (numbered_log e out work.same order (numbered (now_of e out) (proc_at (now_of e out) doc) doc (whys.Req by) tasks.Discard known)) (gone_log e out t work order d its gone unloaded) later (prompts_log e out t work order settles later, tt)
+    gone_left_may (here_of e out) e.event e.actor order its.d (led_here e out work.own) (numbered_log e out (now_is e out) order (numbered (now_of e out) (proc_at (now_of e out) doc) doc (whys.Req by) tasks.Discard known)) (gone_log e out t work order d its gone unloaded) later (prompts_log e out t work order settles later, tt)
   where
     order : Job
     order = order_to (now_of e out) doc (whys.Req by) tasks.Discard
@@ -51,7 +51,7 @@ stray_ahead e out t doc d by r work due known settles later ahead =
 
     its : IsLeftAs e out order d
     its =
-        discards_log e out work.same order d (left_log e out t work order d due.to.found due.unhandled discards.for_one) discards
+        discards_log e out (now_is e out) order d (left_log e out t work order d due.to.found due.unhandled discards.for_one) discards
 
     gone : has_state d.state (now_of e out).history.rows ≡ false
     gone = due.gone

@@ -1,4 +1,6 @@
 -- A document that nothing needs as it is made may be discarded; nobody is awake on it.
+use Rattle.seen_laws.proofs.InEvents as events
+use Rattle.tab_doors.proofs.PassedOn.{sent_goes}
 use Rattle.seen_facts.proofs.Hang.Hung.{places_distinct}
 use Rattle.seen_facts.proofs.Hang.Members.{find_has, has_any}
 use Rattle.seen_facts.proofs.Hang.Targets.{IsTarget, target_has}
@@ -168,7 +170,7 @@ module _ (p : InPass) (out : List RowKind) (t : Tables) (passing : IsPassing p o
   alive : (stray.document.is_discarded || stray.document.is_known_dead) ≡ false
   alive = ap (λ (b : Bool). b || stray.document.is_known_dead) stray.undiscarded ∙ stray_unknown p out t leaving doc state stray
 
-  due : IsUnneededDue (seen_at p.event out leaving.work.same) (order_to s doc why tasks.Discard) stray.document
+  due : IsUnneededDue (seen_at p.event out (events.now_is p.event out)) (order_to s doc why tasks.Discard) stray.document
   due =
       record {
         discards = record {
@@ -196,11 +198,11 @@ module _ (p : InPass) (out : List RowKind) (t : Tables) (passing : IsPassing p o
   -- the document as the log has it: it may be left
   left_as : IsLeftAs p.event out (order_to s doc why tasks.Discard) stray.document
   left_as =
-      discards_log p.event out leaving.work.same (order_to s doc why tasks.Discard) stray.document (left_log p.event out t leaving.work (order_to s doc why tasks.Discard) stray.document stray.found due.discards.unhandled due.discards.for_one) due.discards
+      discards_log p.event out (events.now_is p.event out) (order_to s doc why tasks.Discard) stray.document (left_log p.event out t leaving.work (order_to s doc why tasks.Discard) stray.document stray.found due.discards.unhandled due.discards.for_one) due.discards
 
   pub unneeded_sends : MaySend None p.event out discard
   unneeded_sends later ahead =
-      unneeded_left_may (here_of p.event out) p.event.event p.event.actor (order_to s doc why tasks.Discard) left_as.d (led_here p.event out leaving.work.own) (numbered_log p.event out leaving.work.same (order_to s doc why tasks.Discard) (numbered s (proc_at s doc) doc why tasks.Discard (leaving.going.tab.asked.died (proc_at s doc)).0)) (unneeded_log p.event out t leaving.work (order_to s doc why tasks.Discard) stray.document left_as due) later (prompts_log p.event out t leaving.work (order_to s doc why tasks.Discard) (settles_none p out t leaving doc state stray (row_of p.event (rows.Sent discard))) later, tt)
+      unneeded_left_may (here_of p.event out) p.event.event p.event.actor (order_to s doc why tasks.Discard) left_as.d (led_here p.event out leaving.work.own) (numbered_log p.event out (events.now_is p.event out) (order_to s doc why tasks.Discard) (numbered s (proc_at s doc) doc why tasks.Discard (leaving.going.tab.asked.died (proc_at s doc)).0)) (unneeded_log p.event out t leaving.work (order_to s doc why tasks.Discard) stray.document left_as due) later (prompts_log p.event out t leaving.work (order_to s doc why tasks.Discard) (settles_none p out t leaving doc state stray (row_of p.event (rows.Sent discard))) later, tt)
 
   -- ---- the row was put out
 
@@ -213,7 +215,7 @@ module _ (p : InPass) (out : List RowKind) (t : Tables) (passing : IsPassing p o
 
     loose_then : all_stand then_ (aim_of then_) ≡ true → IsLoose p.event (out ++ rows.Sent discard ∷ [])
     loose_then stand =
-        loose_more p.event out (rows.Sent discard) refl (passing.loose (sent_stood s p.event.event p.event.actor discard all_passed tt stand)) (sent_lasts s p.event.event p.event.actor discard) (λ end lasts. refl)
+        loose_more p.event out (rows.Sent discard) (sent_goes p.event out discard refl).read (passing.loose (sent_stood s p.event.event p.event.actor discard all_passed tt stand)) (sent_lasts s p.event.event p.event.actor discard) (λ end lasts. refl)
 
     few_then : length then_.kept ≤ u.kept.keep
     few_then =

@@ -1,4 +1,5 @@
 -- What a document made is applied, by any change: what a pass asks of the requests and the event goes on, and what is left to be shown of the change itself.
+use Rattle.seen_laws.proofs.InEvents.{last_goes, now_at}
 use Rattle.tab_facts.proofs.Calm.Calms.{calm_need}
 use Rattle.tab_facts.specs.Calm.Calm.{AreRooted, CalmUnless, IsCalmYet, NeedIsNew, UnmovedAreHere}
 use Rattle.tab_facts.proofs.Calm.Loads.{HasOne}
@@ -38,7 +39,6 @@ use Rattle.seen_facts.proofs.Request.Readers.{SameReads, on_read, reads_then}
 use Rattle.row_facts.proofs.RestRows.Rows.{applied_rests}
 use Rattle.row_facts.proofs.RestRows.Shown.{applied_awake}
 use Rattle.row_facts.specs.RestRows.Moving.{AllRest}
-use Rattle.seen_laws.proofs.InEvents.{now_more}
 use Rattle.seen_laws.specs.InEvent.{InEvent, now_of, row_of}
 use Rattle.std.proofs.Common.{Bool, List, None, Option, Some, [], ap, false, inl, inr, length, not, refl, subst, sym, true, ℕ, ◌&&◌, ◌++◌, ◌==◌, ◌∙◌, ◌∷◌, ◌≡◌, ◌≤◌, ◌⊎◌}
 use Rattle.std.specs.List.{list_any}
@@ -252,12 +252,12 @@ module _ (p : InPass) (out : List RowKind) (t : Tables) (blame : List (StateId �
 
     module _ (new : List RowKind) (u : Tables) (out_is : new ≡ out ++ rows.Applied made.req change ∷ []) (keeps : KeepsRun t u) (work : IsAtWork e new u) (no_turn : is_traverse (row_of e (rows.Applied made.req change)) ≡ false) (no_reload : is_reloading (rows.Applied made.req change) ≡ false) where
       now_is : now_of e new ≡ n
-      now_is = ap (λ (l : List RowKind). now_of e l) out_is ∙ now_more e out (rows.Applied made.req change) refl
+      now_is = now_at e out (rows.Applied made.req change) new out_is work.goes
 
       loose_n : IsLoose e new
       loose_n =
           subst (λ (l : List RowKind). IsLoose e l) (sym out_is)
-          (loose_more e out (rows.Applied made.req change) refl at.loose (applied_lasts now_ e.event e.actor made.req change) (λ end on. refl))
+          (loose_more e out (rows.Applied made.req change) (last_goes e out (rows.Applied made.req change) _ out_is work.goes).read at.loose (applied_lasts now_ e.event e.actor made.req change) (λ end on. refl))
 
       passing_n : IsPassing (record p { hand = rest }) new u
       passing_n =

@@ -1,4 +1,5 @@
 -- What a document made is refused: the new frame's number is taken, or the frame to be removed isn't the document's.
+use Rattle.tab_doors.proofs.PassedOn.{refused_goes, refused_now}
 use Rattle.seen_facts.proofs.Coord.Unread.{next}
 use Rattle.seen_facts.proofs.Entry.Skips.{without_made}
 use Rattle.tab_facts.specs.Frame.Lasting.{wish}
@@ -17,7 +18,6 @@ use Rattle.row_facts.specs.Owed.Owed.{IsLoose}
 use Rattle.seen_facts.proofs.Request.Readers.{on_read}
 use Rattle.row_facts.proofs.RestRows.Rows.{refused_rests}
 use Rattle.row_facts.specs.RestRows.Moving.{AllRest}
-use Rattle.seen_laws.proofs.InEvents.{now_more}
 use Rattle.seen_laws.specs.InEvent.{InEvent, now_of}
 use Rattle.std.proofs.Common.{List, Some, [], ap, length, refl, subst, sym, ◌++◌, ◌∙◌, ◌∷◌, ◌≡◌, ◌≤◌}
 use Rattle.tab_rests.specs.PassedOn.{InPass, IsGoing, IsPassing, IsTab, LeavesQueue, MayCause}
@@ -72,7 +72,7 @@ module _ (p : InPass) (out : List RowKind) (t : Tables) (blame : List (StateId �
     n = next now_ e.event e.actor (rows.Refused made.req reason)
 
     now_is : now_of e new ≡ n
-    now_is = ap (λ (l : List RowKind). now_of e l) out_is ∙ now_more e out (rows.Refused made.req reason) refl
+    now_is = ap (λ (l : List RowKind). now_of e l) out_is ∙ refused_now e out made.req reason
 
     tab_n : IsTab t.running p.loads rest n
     tab_n =
@@ -86,7 +86,7 @@ module _ (p : InPass) (out : List RowKind) (t : Tables) (blame : List (StateId �
     loose_n : IsLoose e new
     loose_n =
         subst (λ (l : List RowKind). IsLoose e l) (sym out_is)
-        (loose_more e out (rows.Refused made.req reason) refl at.loose (refused_lasts now_ e.event e.actor made.req reason) (λ end on. refl))
+        (loose_more e out (rows.Refused made.req reason) (refused_goes e out made.req reason).read at.loose (refused_lasts now_ e.event e.actor made.req reason) (λ end on. refl))
 
     passing_n : IsPassing (record p { hand = rest }) new u
     passing_n =

@@ -1,4 +1,5 @@
 -- What a document made is dropped: by the request that took its navigable's last entries, or by the one that moved the navigable.
+use Rattle.tab_doors.proofs.PassedOn.{dropped_goes, dropped_now}
 use Rattle.seen_facts.proofs.Coord.Unread.{next}
 use Rattle.seen_facts.specs.Coord.Epochs.{IsWithin, MadeWithin}
 use Rattle.seen_facts.specs.Coord.Leading.{held_back}
@@ -30,7 +31,6 @@ use Rattle.row_facts.proofs.Owed.Rows.{dropped_lasts}
 use Rattle.row_facts.specs.Owed.Owed.{IsLoose}
 use Rattle.row_facts.proofs.RestRows.Rows.{dropped_rests}
 use Rattle.row_facts.specs.RestRows.Moving.{AllRest}
-use Rattle.seen_laws.proofs.InEvents.{now_more}
 use Rattle.seen_laws.proofs.Keyed.{find_has as seen_number}
 use Rattle.seen_laws.specs.Blocks.{point_at}
 use Rattle.seen_laws.specs.InEvent.{InEvent, seen_here, now_of, row_of}
@@ -112,7 +112,7 @@ module _ (p : InPass) (out : List RowKind) (t : Tables) (blame : List (StateId �
     n = next now_ e.event e.actor (rows.Dropped made.req cause)
 
     now_is : now_of e new ≡ n
-    now_is = ap (λ (l : List RowKind). now_of e l) out_is ∙ now_more e out (rows.Dropped made.req cause) refl
+    now_is = ap (λ (l : List RowKind). now_of e l) out_is ∙ dropped_now e out made.req cause
 
     tab_n : IsTab t.running p.loads rest n
     tab_n = loads_same p out t blame made at n then_
@@ -124,7 +124,7 @@ module _ (p : InPass) (out : List RowKind) (t : Tables) (blame : List (StateId �
     loose_n : IsLoose e new
     loose_n =
         subst (λ (l : List RowKind). IsLoose e l) (sym out_is)
-        (loose_more e out (rows.Dropped made.req cause) refl at.loose (dropped_lasts now_ e.event e.actor made.req cause) (λ end on. pays end))
+        (loose_more e out (rows.Dropped made.req cause) (dropped_goes e out made.req cause).read at.loose (dropped_lasts now_ e.event e.actor made.req cause) (λ end on. pays end))
 
     passing_n : IsPassing (record p { hand = rest }) new u
     passing_n =

@@ -1,4 +1,6 @@
 -- The traversal that waits first begins, or is refused where its delta leads nowhere; and all goes on then.
+use Rattle.seen_laws.proofs.InEvents.{last_goes, now_at, now_is}
+use Rattle.tab_doors.proofs.PassedOn.{refused_goes, refused_now}
 use Rattle.seen_facts.proofs.Coord.Held.{without_same}
 use Rattle.seen_facts.proofs.Coord.Unread.{next}
 use Rattle.seen_facts.specs.Each.Runs.{is_this}
@@ -26,10 +28,9 @@ use Rattle.row_facts.specs.Owed.Owed.{IsLoose}
 use Rattle.seen_facts.proofs.Request.Readers.{on_read, reads_then}
 use Rattle.row_facts.proofs.RestRows.Rows.{refused_rests, started_rests}
 use Rattle.row_facts.specs.RestRows.Moving.{AllRest}
-use Rattle.seen_laws.proofs.InEvents.{now_more}
 use Rattle.seen_laws.specs.InEvent.{InEvent, now_of, row_of, seen_here}
 use Rattle.seen_laws.specs.Owing.{is_sole_load, owes_row}
-use Rattle.std.proofs.Common.{Bool, List, None, Option, Some, [], ap, false, length, negsuc, pos, refl, subst, sym, true, ℕ, ℤ, ◌+ℤ◌, ◌++◌, ◌∙◌, ◌∷◌, ◌≡◌, ◌≤◌, ◌⊎◌, not}
+use Rattle.std.proofs.Common.{Bool, List, None, Option, Some, [], ap, false, length, negsuc, pos, refl, subst, sym, true, ℕ, ℤ, ◌+ℤ◌, ◌++◌, ◌∙◌, ◌∷◌, ◌≡◌, ◌≤◌, ◌⊎◌}
 use Rattle.std.specs.Prelude.{nat_lt, option_map}
 use Rattle.step_index.specs.contracts.step_index.StepIndexStore.TheImpl.Laws.{sound-law}
 use Rattle.step_index.specs.Held.{history_held}
@@ -135,7 +136,7 @@ module _ (p : InPass) (out : List RowKind) (t : Tables) (passing : IsPassing p o
 
   -- it isn't in its check
   off : e.checking req ≡ false
-  off = turn_off e out passing.work.same passing.work.checks.begun passing.work.unheld req its.q its.at its.open_ its.goes
+  off = turn_off e out (now_is e out) passing.work.checks.begun passing.work.unheld req its.q its.at its.open_ its.goes
 
   turn : begins_in_turn s req ≡ true
   turn = first_turn s req delta tab.asked stand first
@@ -171,7 +172,7 @@ module _ (p : InPass) (out : List RowKind) (t : Tables) (passing : IsPassing p o
       n = next s e.event e.actor (rows.Started req (Some goal))
 
       now : now_of e more ≡ n
-      now = ap (λ (l : List RowKind). now_of e l) out_is ∙ now_more e out (rows.Started req (Some goal)) (ap not (off))
+      now = now_at e out (rows.Started req (Some goal)) more out_is work.goes
 
       abbrev begin : Asked → Asked
       begin q = record q { is_started = true; goal = Some goal }
@@ -200,7 +201,7 @@ module _ (p : InPass) (out : List RowKind) (t : Tables) (passing : IsPassing p o
       loose_then : IsLoose e more
       loose_then =
           subst (λ (l : List RowKind). IsLoose e l) (sym out_is)
-          (loose_more e out (rows.Started req (Some goal)) (ap not (off)) loose (begun_lasts s e.event e.actor req (Some goal) its.q its.at (no_load its.q.what its.goes)) (λ end on. owes_none e out req goal its.q its.at its.goes end))
+          (loose_more e out (rows.Started req (Some goal)) (last_goes e out (rows.Started req (Some goal)) _ out_is work.goes).read loose (begun_lasts s e.event e.actor req (Some goal) its.q its.at (no_load its.q.what its.goes)) (λ end on. owes_none e out req goal its.q its.at its.goes end))
 
       pub begin_passing : s.parked ≡ [] → IsPassing p more u
       begin_passing none =
@@ -256,7 +257,7 @@ module _ (p : InPass) (out : List RowKind) (t : Tables) (passing : IsPassing p o
       gone = next s e.event e.actor (rows.Refused req denials.NoStep)
 
       now_gone : now_of e more ≡ gone
-      now_gone = ap (λ (l : List RowKind). now_of e l) out_is ∙ now_more e out (rows.Refused req denials.NoStep) refl
+      now_gone = ap (λ (l : List RowKind). now_of e l) out_is ∙ refused_now e out req denials.NoStep
 
       no_process : (actor : Actor) → IsWorker actor → IsNoProcess actor
       no_process actors.Ui works = tt
@@ -293,7 +294,7 @@ module _ (p : InPass) (out : List RowKind) (t : Tables) (passing : IsPassing p o
       loose_gone : IsLoose e more
       loose_gone =
           subst (λ (l : List RowKind). IsLoose e l) (sym out_is)
-          (loose_more e out (rows.Refused req denials.NoStep) refl loose (refused_lasts s e.event e.actor req denials.NoStep) (λ end on. refl))
+          (loose_more e out (rows.Refused req denials.NoStep) (refused_goes e out req denials.NoStep).read loose (refused_lasts s e.event e.actor req denials.NoStep) (λ end on. refl))
 
       going_gone : IsGoing None p.loads p.hand gone
       going_gone =

@@ -1,4 +1,5 @@
 -- A traversal that runs may end where all stand at the aim, and all goes on then.
+use Rattle.seen_laws.proofs.InEvents.{last_goes, now_at}
 use Rattle.apply_plan.specs.Standing.{are_settled}
 use Rattle.seen_facts.proofs.Coord.Held.{without_same}
 use Rattle.seen_facts.proofs.Coord.Unread.{next}
@@ -29,7 +30,6 @@ use Rattle.row_facts.specs.Owed.Owed.{IsLoose}
 use Rattle.seen_facts.specs.Request.Knowns.{is_go}
 use Rattle.row_facts.proofs.RestRows.Rows.{applied_rests}
 use Rattle.row_facts.specs.RestRows.Moving.{AllRest}
-use Rattle.seen_laws.proofs.InEvents.{now_more}
 use Rattle.seen_laws.specs.InEvent.{InEvent, now_of}
 use Rattle.std.proofs.Common.{Bool, List, None, Option, Some, [], ap, arith, false, fold, inl, inr, length, map, not, refl, subst, sym, true, ℕ, ◌&&◌, ◌++◌, ◌∙◌, ◌∷◌, ◌≡◌, ◌≤◌, ◌⊎◌}
 use Rattle.std.proofs.lemmas.Bool.{cases_Bool, le-leb}
@@ -231,7 +231,7 @@ module _ (p : InPass) (out : List RowKind) (t : Tables) (passing : IsPassing p o
       n = next s e.event e.actor (rows.Applied req (changes.Traverse goal))
 
       now : now_of e more ≡ n
-      now = ap (λ (l : List RowKind). now_of e l) out_is ∙ now_more e out (rows.Applied req (changes.Traverse goal)) refl
+      now = now_at e out (rows.Applied req (changes.Traverse goal)) more out_is work.goes
 
       tab_then : IsTab None p.loads p.hand n
       tab_then = ended_tab p.loads p.hand s e.event e.actor req tab its.q goal its.at fit
@@ -256,7 +256,7 @@ module _ (p : InPass) (out : List RowKind) (t : Tables) (passing : IsPassing p o
       loose_then : IsLoose e more
       loose_then =
           subst (λ (l : List RowKind). IsLoose e l) (sym out_is)
-          (loose_more e out (rows.Applied req (changes.Traverse goal)) refl (passing.loose stand) (applied_lasts s e.event e.actor req (changes.Traverse goal)) (λ end on. refl))
+          (loose_more e out (rows.Applied req (changes.Traverse goal)) (last_goes e out (rows.Applied req (changes.Traverse goal)) _ out_is work.goes).read (passing.loose stand) (applied_lasts s e.event e.actor req (changes.Traverse goal)) (λ end on. refl))
 
       pub end_passing : IsPassing p more u
       end_passing =
@@ -278,6 +278,7 @@ module _ (p : InPass) (out : List RowKind) (t : Tables) (passing : IsPassing p o
             req = req;
             ran = ran;
             out = out_is ∙ ap (λ (g : Step). out ++ rows.Applied req (changes.Traverse g) ∷ []) goal_aim;
+            goes = work.goes;
             none_runs = none_runs;
             keep = keep;
             current = ap (λ (x : Seen). x.history.current) now ∙ step_is;

@@ -4,7 +4,7 @@ use Rattle.log_model.specs.AfterRequests.{without_req}
 use Rattle.log_model.specs.Places.{aim_of, all_stand}
 use Rattle.log_model.specs.Seen.{Seen}
 use Rattle.log_model.specs.declared.row_kind.RowKind.{RowKind}
-use Rattle.seen_laws.specs.InEvent.{InEvent, now_of}
+use Rattle.seen_laws.specs.InEvent.{InEvent, now_of, EachGoes}
 use Rattle.std.specs.Prelude.{Bool, List, None, Option, Some, [], false, is_some, true, ◌&&◌, ◌++◌, ◌∷◌, ◌≡◌}
 use Rattle.tab_doors.specs.declared.tables.Tables.{Tables}
 use Rattle.tab_ids.specs.declared.ReqId.{ReqId}
@@ -21,6 +21,7 @@ pub record HasEnded (e : InEvent) (old new : List RowKind) (t u : Tables) : Type
   pub req : ReqId
   pub ran : t.running ≡ Some req
   pub out : new ≡ old ++ rows.Applied req (changes.Traverse (record { 0 = aim_of (now_of e old) })) ∷ []
+  pub goes : EachGoes e [] new
   pub none_runs : u.running ≡ None
   pub keep : u.kept.keep ≡ t.kept.keep
   pub current : (now_of e new).history.current ≡ aim_of (now_of e old)

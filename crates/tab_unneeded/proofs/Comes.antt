@@ -1,4 +1,5 @@
 -- A document was made and discarded at once, for no request: what comes is as it was as the event began.
+use Rattle.tab_doors.proofs.PassedOn.{sent_now}
 use Rattle.seen_facts.specs.Asked.Asking.{ArePlain}
 use Rattle.tab_facts.proofs.Calm.Loads.{HasOne, IsLoads, loads_then}
 use Rattle.tab_facts.proofs.Calm.Sents.{found_on}
@@ -27,7 +28,6 @@ use Rattle.log_model.specs.declared.row_kind.RowKind.{RowKind}
 use Rattle.move_queue.specs.Queue.{Queue}
 use Rattle.seen_facts.proofs.Place.Documents.{KeepStates, states_stay}
 use Rattle.seen_facts.proofs.Rest.Still.{found_itself}
-use Rattle.seen_laws.proofs.InEvents.{now_more}
 use Rattle.seen_laws.specs.InEvent.{InEvent, now_of, row_of}
 use Rattle.std.proofs.Common.{Bool, List, None, Option, Some, [], ap, cond, eqb-true, false, inl, inr, not, refl, subst, sym, true, ℕ, ◌&&◌, ◌==◌, ◌||◌, ◌∙◌, ◌∷◌, ◌≡◌, ◌⊎◌}
 use Rattle.std.proofs.lemmas.List.{map-id}
@@ -305,7 +305,7 @@ module _ (e : InEvent) (proc : ProcId) (job : Job) (outcome : Outcome) (del : Is
 
   module _ (out : List RowKind) (is : out ≡ rows.Sent discard ∷ []) where
     pub then_is : then_ ≡ now_of e out
-    then_is = sym (ap (λ (l : List RowKind). now_of e l) is ∙ now_more e [] (rows.Sent discard) refl)
+    then_is = sym (ap (λ (l : List RowKind). now_of e l) is ∙ sent_now e [] discard refl)
 
     pub discarded_comes : ArePlain t.running (now_of e out) → IsComing blame e.start (now_of e out)
     discarded_comes plain =

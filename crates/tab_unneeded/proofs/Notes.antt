@@ -107,7 +107,7 @@ module _ (e : InEvent) (proc : ProcId) (job : Job) (outcome : Outcome) (del : Is
     pub noted_passing : HasRoomFor e.start → IsPassing (record { event = e; loads = []; hand = [] }) [] u
     noted_passing room =
         record {
-          work = work_first e u aside checks own_leads (subst (λ (a : Actor). IsWorker a) (sym del.by_coord) tt) (told_legal e proc del.by_coord del.own t queue blame stands aside report del.first) noted_tied;
+          work = work_first e u aside checks (λ r q at. (stands.between.tab.asked.each r q at).nr) own_leads (subst (λ (a : Actor). IsWorker a) (sym del.by_coord) tt) (told_legal e proc del.by_coord del.own t queue blame stands aside report del.first) noted_tied;
           going = subst (λ (r : Option ReqId). IsGoing r [] [] (now_of e [])) (sym kept.running) (told_going e proc del.by_coord del.own t queue blame stands aside report del.first same room [] [] (did_tab e proc job outcome del t queue blame stands aside) (told_held e proc del.by_coord del.own t queue blame stands aside report del.first same (did_parked e proc job outcome del t queue blame stands aside)) (rw (places_now e proc job outcome del t queue blame stands aside nav state address initial task) stands.lasts.counted.epochs));
           owed = loose_owed e [] (loose_first e);
           loose = λ all. loose_first e;

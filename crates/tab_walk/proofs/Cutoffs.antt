@@ -28,7 +28,7 @@ use Rattle.row_facts.proofs.LeaveRows.Unasked.{all_answered}
 use Rattle.log_model.specs.Places.{all_asked}
 use Rattle.seen_facts.proofs.Rest.Stands.{all_requests}
 use Rattle.seen_facts.proofs.Rest.Still.{found_itself}
-use Rattle.seen_laws.proofs.InEvents.{led_here}
+use Rattle.seen_laws.proofs.InEvents.{led_here, now_is}
 use Rattle.seen_laws.proofs.Keyed.{find_has as seen_number}
 use Rattle.seen_laws.specs.InEvent.{InEvent, here_of, now_of, row_of, log_of}
 use Rattle.std.proofs.Common.{Bool, List, Option, Some, [], ap, arith, false, filter_map, inl, map, not, refl, subst, sym, true, ℕ, ◌&&◌, ◌||◌, ◌==◌, ◌∙◌, ◌≡◌}
@@ -68,8 +68,8 @@ neither false true e f = absurd cc
 -- such an order may be sent
 cut_ahead : (e : InEvent) (out : List RowKind) (move : Move) (t : Tables) (doc : DocId) (why : Why) (d new : Document) → IsAtWorkFor (Some move) e out t → document_of (now_of e out) move.doc ≡ Some new → IsLeaveDue (now_of e out) (order_to (now_of e out) doc why tasks.Discard) d → (desk_of (now_of e out) (proc_at (now_of e out) doc)).known ≡ 0 → SettlesNone (now_of e out) (row_of e (rows.Sent (order_to (now_of e out) doc why tasks.Discard))) → e.header.keep ≡ 0 → (now_of e out).kept ≡ [] → new.nav ≡ d.nav → (move.doc.0 == d.nr.0) ≡ false → MaySend (Some move) e out (order_to (now_of e out) doc why tasks.Discard)
 cut_ahead e out move t doc why d new work found due known settles none kept same apart =
-    left_sends (here_of e out) e.event e.actor order move (led_here e out work.own) (numbered_log e out work.same order (numbered (now_of e out) (proc_at (now_of e out) doc) doc why tasks.Discard known)) shown.d shown.found its.d (last_log e out work.same order d its due) (prompts_log e out t work order settles)
-    (subst (λ (h : Header). IsTooMany h (log_of e out) its.d) (sym (header_here e out)) (many_log e out work.same order d its e.header (none_kept e.header (now_of e out) d none kept)))
+    left_sends (here_of e out) e.event e.actor order move (led_here e out work.own) (numbered_log e out (now_is e out) order (numbered (now_of e out) (proc_at (now_of e out) doc) doc why tasks.Discard known)) shown.d shown.found its.d (last_log e out (now_is e out) order d its due) (prompts_log e out t work order settles)
+    (subst (λ (h : Header). IsTooMany h (log_of e out) its.d) (sym (header_here e out)) (many_log e out (now_is e out) order d its e.header (none_kept e.header (now_of e out) d none kept)))
     (ap (λ (x : Document). x.nav) (sym shown.is) ∙ same ∙ ap (λ (x : Document). x.nav) its.is)
     (ap (λ (x : Document). move.doc.0 == x.nr.0) (sym its.is) ∙ apart)
   where
@@ -78,11 +78,11 @@ cut_ahead e out move t doc why d new work found due known settles none kept same
 
     its : IsLeftAs e out order d
     its =
-        discards_log e out work.same order d (left_log e out t work order d due.discards.to.found due.discards.unhandled due.discards.for_one) due.discards
+        discards_log e out (now_is e out) order d (left_log e out t work order d due.discards.to.found due.discards.unhandled due.discards.for_one) due.discards
 
     -- the document that is shown, as the log has it
     shown : IsInLog e out move.doc new
-    shown = in_log e out work.same move.doc new found
+    shown = in_log e out (now_is e out) move.doc new found
 
 module _ (m : InMove) (out : List RowKind) (t : Tables) (leaving : IsLeaving m.pass (Some (cut_of m)) [] out t) (why : Why) (may : MayCut m t.running (now_of m.pass.event out) m.nav m.left m.state why) where
   abbrev s : Seen

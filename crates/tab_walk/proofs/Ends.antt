@@ -1,4 +1,5 @@
 -- Where none may be kept: the document that is left is discarded, then those below it, and then the navigable may be shown its target.
+use Rattle.tab_doors.proofs.PassedOn.{sent_now}
 use Rattle.tab_facts.proofs.Calm.Loads.{IsLoads, loads_sent}
 use Rattle.tab_facts.specs.Calm.Loads.{LoadsHaveDocuments}
 use Rattle.tab_evicts.proofs.Quiets.{no_loads, one_document}
@@ -16,7 +17,6 @@ use Rattle.log_model.specs.Places.{aim_of, is_gone}
 use Rattle.log_model.specs.Seen.{Asked, Document, Place, Seen, asleep, document_of, request_of}
 use Rattle.log_model.specs.declared.job.Why.{Why}
 use Rattle.log_model.specs.declared.row_kind.RowKind.{RowKind}
-use Rattle.seen_laws.proofs.InEvents.{now_more}
 use Rattle.seen_laws.proofs.Keyed.{find_on_same}
 use Rattle.seen_laws.specs.InEvent.{now_of}
 use Rattle.std.proofs.Common.{Bool, List, Option, Some, [], ap, cond, false, inr, refl, subst, sym, true, ℕ, ◌++◌, ◌==◌, ◌||◌, ◌∙◌, ◌∷◌, ◌≡◌, ◌≤◌}
@@ -63,7 +63,7 @@ module _ (m : InMove) (out : List RowKind) (t : Tables) (leaving : IsLeaving m.p
   then_ = cut_then m out t leaving why may
 
   now_is : then_ ≡ now
-  now_is = sym (ap (λ (l : List RowKind). now_of m.pass.event l) is ∙ now_more m.pass.event out (rows.Sent (order_to s m.left why tasks.Discard)) refl)
+  now_is = sym (ap (λ (l : List RowKind). now_of m.pass.event l) is ∙ sent_now m.pass.event out (order_to s m.left why tasks.Discard) refl)
 
   quiet : HasOnly IsQuietRow out new_out
   quiet =

@@ -1,4 +1,6 @@
 -- What holds over orders that freeze or discard documents, one after the other.
+use Rattle.seen_laws.specs.Unasked.{is_question}
+use Rattle.tab_doors.proofs.PassedOn.{sent_goes}
 use Rattle.tab_passes.proofs.SetOuts.{KeepBegun, kept_begun, sent_begun}
 use Rattle.tab_facts.proofs.Calm.Loads.{loads_sent}
 use Rattle.tab_facts.proofs.Calm.Sents.{DiscardsNone}
@@ -22,8 +24,8 @@ use Rattle.seen_facts.proofs.Mover.Orders.{PutsToSleep}
 use Rattle.seen_facts.specs.Mover.Movers.{IsMovedBy}
 use Rattle.row_facts.proofs.Owed.Requests.{AsksNone}
 use Rattle.seen_facts.proofs.Request.Readers.{sent_reads}
-use Rattle.seen_laws.proofs.InEvents.{now_step}
-use Rattle.seen_laws.specs.InEvent.{InEvent, now_of, row_of}
+use Rattle.seen_laws.proofs.InEvents.{now_step, first_goes, rest_goes, since_goes}
+use Rattle.seen_laws.specs.InEvent.{InEvent, now_of, row_of, GoesThere, EachGoes}
 use Rattle.std.proofs.Common.{List, Option, Some, [], ap, append-nil, append_assoc, cond, false, inl, inr, map, refl, subst, sym, true, Bool, None, ◌==◌, ◌++◌, ◌∙◌, ◌∷◌, ◌≡◌}
 use Rattle.std.specs.List.{list_any}
 use Rattle.std.specs.Prelude.{option_map}
@@ -58,25 +60,58 @@ pub discarded_quiet : (why : Why) (was out : List RowKind) → HasOnlyDiscarded 
 discarded_quiet why was out only =
     only_as _ IsQuietRow was out (λ row it. record { job = it.job; is = it.is; puts = subst (λ (k : Task). PutsToSleep k) (sym it.discards) tt }) only
 
--- what each row keeps is kept over all
-over_rows : (Is : RowKind → Type 0) (P : Seen → Type 0) (e : InEvent) → ((s : Seen) (row : RowKind) → Is row → P s → P (after s (row_of e row))) → (out more : List RowKind) → ((row : RowKind) → Has more row → Is row) → P (now_of e out) → P (now_of e (out ++ more))
-over_rows Is P e step out [] each so = subst (λ (l : List RowKind). P (now_of e l)) (sym (append-nil out)) so
-over_rows Is P e step out (row ∷ more) each so =
-    subst (λ (l : List RowKind). P (now_of e l)) (append_assoc out (row ∷ []) more)
-    (over_rows Is P e step (out ++ row ∷ []) more (λ other there. each other (inr there)) (now_step P e out row (λ (was : P (now_of e out)). step (now_of e out) row (each row (inl refl)) was) so))
+-- freezing and discarding asks nobody
+pub asks_nobody : (task : Task) → PutsToSleep task → is_question task ≡ false
+asks_nobody tasks.Freeze is = refl
+asks_nobody tasks.Discard is = refl
+asks_nobody _ is = absurd is
 
-pub over_each : (Is : RowKind → Type 0) (P : Seen → Type 0) (e : InEvent) → ((s : Seen) (row : RowKind) → Is row → P s → P (after s (row_of e row))) → (was out : List RowKind) → HasOnly Is was out → P (now_of e was) → P (now_of e out)
-over_each Is P e step was out only so =
-    subst (λ (l : List RowKind). P (now_of e l)) (sym only.is) (over_rows Is P e step was only.more only.each so)
+-- the row is an order that asks nobody
+pub record IsPlainOrder (row : RowKind) : Type 0 where
+  pub job : Job
+  pub is : row ≡ rows.Sent job
+  pub quiet : is_question job.task ≡ false
+
+-- so it goes in the log without questions
+pub order_goes : (e : InEvent) (out : List RowKind) (row : RowKind) → IsPlainOrder row → GoesThere e out row
+order_goes e out row it = subst (GoesThere e out) (sym it.is) (sent_goes e out it.job it.quiet)
+
+-- so do all rows of a kind, wherever they come
+abbrev pub AllGo : InEvent → (RowKind → Type 0) → Type 0
+AllGo e Is = (out : List RowKind) (row : RowKind) → Is row → GoesThere e out row
+
+kind_goes : (Is : RowKind → Type 0) (e : InEvent) → AllGo e Is → (was more : List RowKind) → ((row : RowKind) → Has more row → Is row) → EachGoes e was more
+kind_goes Is e go was more each = record { each = λ before later row is. go (was ++ before) row (each row (subst (λ (l : List RowKind). Has l row) is (among before later row))) }
+  where
+    among : (before later : List RowKind) (row : RowKind) → Has (before ++ row ∷ later) row
+    among [] later row = inl refl
+    among (first ∷ before) later row = inr (among before later row)
+
+-- what each row keeps is kept over all
+over_rows : (Is : RowKind → Type 0) (P : Seen → Type 0) (e : InEvent) → ((s : Seen) (row : RowKind) → Is row → P s → P (after s (row_of e row))) → (out more : List RowKind) → EachGoes e out more → ((row : RowKind) → Has more row → Is row) → P (now_of e out) → P (now_of e (out ++ more))
+over_rows Is P e step out [] goes each so = subst (λ (l : List RowKind). P (now_of e l)) (sym (append-nil out)) so
+over_rows Is P e step out (row ∷ more) goes each so =
+    subst (λ (l : List RowKind). P (now_of e l)) (append_assoc out (row ∷ []) more)
+    (over_rows Is P e step (out ++ row ∷ []) more (rest_goes e out more row goes) (λ other there. each other (inr there)) (now_step P e out row (first_goes e out more row goes) (λ (was : P (now_of e out)). step (now_of e out) row (each row (inl refl)) was) so))
+
+-- of an event whose rows go there
+pub over_with : (Is : RowKind → Type 0) (P : Seen → Type 0) (e : InEvent) → ((s : Seen) (row : RowKind) → Is row → P s → P (after s (row_of e row))) → (was out : List RowKind) → EachGoes e [] out → HasOnly Is was out → P (now_of e was) → P (now_of e out)
+over_with Is P e step was out goes only so =
+    subst (λ (l : List RowKind). P (now_of e l)) (sym only.is) (over_rows Is P e step was only.more (since_goes e was only.more out only.is goes) only.each so)
+
+-- of a kind that goes there
+pub over_each : (Is : RowKind → Type 0) (P : Seen → Type 0) (e : InEvent) → AllGo e Is → ((s : Seen) (row : RowKind) → Is row → P s → P (after s (row_of e row))) → (was out : List RowKind) → HasOnly Is was out → P (now_of e was) → P (now_of e out)
+over_each Is P e go step was out only so =
+    subst (λ (l : List RowKind). P (now_of e l)) (sym only.is) (over_rows Is P e step was only.more (kind_goes Is e go was only.more only.each) only.each so)
 
 pub over_only : (P : Seen → Type 0) → ((s : Seen) (event : InEvent) (job : Job) → PutsToSleep job.task → P s → P (after s (row_of event (rows.Sent job)))) → (e : InEvent) (was out : List RowKind) → HasOnly IsQuietRow was out → P (now_of e was) → P (now_of e out)
 over_only P step e =
-    over_each IsQuietRow P e (λ s row it so. subst (λ (k : RowKind). P (after s (row_of e k))) (sym it.is) (step s e it.job it.puts so))
+    over_each IsQuietRow P e (λ mid row it. order_goes e mid row (record { job = it.job; is = it.is; quiet = asks_nobody it.job.task it.puts })) (λ s row it so. subst (λ (k : RowKind). P (after s (row_of e k))) (sym it.is) (step s e it.job it.puts so))
 
 -- each ongoing load has its document still, where documents were frozen
 pub frozen_loads : (e : InEvent) (why : Why) (docs : List DocId) (was out : List RowKind) → HasOnlyFrozen why docs was out → LoadsHaveDocuments (now_of e was) → LoadsHaveDocuments (now_of e out)
 frozen_loads e why docs =
-    over_each (IsFreezeOf why docs) LoadsHaveDocuments e (λ s row it so. subst (λ (k : RowKind). LoadsHaveDocuments (after s (row_of e k))) (sym it.is) (loads_sent s e.event e.actor it.job (inl (subst (λ (k : Task). DiscardsNone k) (sym it.freezes) tt)) so))
+    over_each (IsFreezeOf why docs) LoadsHaveDocuments e (λ mid row it. order_goes e mid row (record { job = it.job; is = it.is; quiet = ap is_question it.freezes })) (λ s row it so. subst (λ (k : RowKind). LoadsHaveDocuments (after s (row_of e k))) (sym it.is) (loads_sent s e.event e.actor it.job (inl (subst (λ (k : Task). DiscardsNone k) (sym it.freezes) tt)) so))
 
 -- ---- what they keep
 
@@ -157,7 +192,7 @@ sights_over why docs e was out only = subst (λ (l : List RowKind). map sight (n
     over [] mid each so = subst (λ (l : List RowKind). map sight (now_of e l).documents ≡ map sight (now_of e was).documents) (sym (append-nil mid)) so
     over (row ∷ more) mid each so =
         subst (λ (l : List RowKind). map sight (now_of e l).documents ≡ map sight (now_of e was).documents) (append_assoc mid (row ∷ []) more)
-        (over more (mid ++ row ∷ []) (λ other there. each other (inr there)) (now_step (λ (x : Seen). map sight x.documents ≡ map sight (now_of e was).documents) e mid row (λ was_. one) so))
+        (over more (mid ++ row ∷ []) (λ other there. each other (inr there)) (now_step (λ (x : Seen). map sight x.documents ≡ map sight (now_of e was).documents) e mid row (order_goes e mid row (record { job = its.job; is = its.is; quiet = ap is_question its.freezes })) (λ was_. one) so))
       where
         its : IsFreezeOf why docs row
         its = each row (inl refl)

@@ -1,4 +1,5 @@
 -- What a move puts out: orders that freeze or discard documents, and the one that shows one; and who is awake after them.
+use Rattle.tab_doors.proofs.PassedOn.{sent_now}
 use Rattle.tab_facts.specs.Calm.Loads.{LoadsHaveDocuments}
 use Rattle.log_model.specs.After.{after}
 use Rattle.log_model.specs.Seen.{Place, Seen, place_of}
@@ -6,7 +7,6 @@ use Rattle.log_model.specs.declared.job.Task.{Task}
 use Rattle.log_model.specs.declared.job.Why.{Why}
 use Rattle.log_model.specs.declared.row_kind.RowKind.{RowKind}
 use Rattle.seen_facts.proofs.Mover.Orders.{PutsToSleep}
-use Rattle.seen_laws.proofs.InEvents.{now_more}
 use Rattle.seen_laws.specs.InEvent.{InEvent, now_of, row_of}
 use Rattle.std.proofs.Common.{List, None, Option, Some, [], ap, refl, subst, sym, ℕ, ◌++◌, ◌∙◌, ◌∷◌, ◌≡◌}
 use Rattle.tab_doors.specs.Keeping.{Move}
@@ -85,7 +85,7 @@ left_since e why was out left =
 pub woken : (e : InEvent) (why for_ : Why) (was mid out : List RowKind) (move : Option Move) (run : Option ReqId) (keep : ℕ) (t : Tables) (nav : NavId) (doc : DocId) (entry : EntryId) (cause : Why) → HasOnlyLeft why was mid → IsToShow move run keep (now_of e mid) nav doc entry cause → IsShownBy (now_of e mid) t nav doc entry for_ mid out → AwakeSince (now_of e was) (nav ∷ []) (now_of e out)
 woken e why for_ was mid out move run keep t nav doc entry cause left shows shown =
     subst (λ (l : List RowKind). AwakeSince (now_of e was) (nav ∷ []) (now_of e l)) (sym shown.is)
-    (subst (λ (s : Seen). AwakeSince (now_of e was) (nav ∷ []) s) (sym (now_more e mid _ refl))
+    (subst (λ (s : Seen). AwakeSince (now_of e was) (nav ∷ []) s) (sym (sent_now e mid _ refl))
     (subst (λ (n : NavId). AwakeSince (now_of e was) (n ∷ []) (after (now_of e mid) (row_of e (rows.Sent (order_to (now_of e mid) doc for_ (tasks.Activate entry shown.epoch shown.long shown.at shown.target.memo shown.target.address)))))) shows.wanted.nav_is
     (shown_since (now_of e was) (now_of e mid) [] (left_since e why was mid left) e.event e.actor (order_to (now_of e mid) doc for_ (tasks.Activate entry shown.epoch shown.long shown.at shown.target.memo shown.target.address)) shows.wanted.document entry shown.epoch shown.long shown.at shown.target.memo shown.target.address refl shows.wanted.found)))
 

@@ -11,3 +11,4 @@ pub mod Deliveries
 pub mod Passings
 pub mod Sited
 pub mod Beginnings
+pub mod Nows

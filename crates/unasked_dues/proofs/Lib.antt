@@ -6,3 +6,6 @@ pub mod Loads
 pub mod Ends
 pub mod Owed
 pub mod Leaves
+pub mod Paid
+pub mod Read
+pub mod Sole

@@ -1,4 +1,5 @@
 -- The document that the user evicts was discarded: those below it may be, and none of them is awake.
+use Rattle.unasked.proofs.Nows.{sent_goes, sent_now}
 use Rattle.tab_facts.proofs.Calm.Loads.{IsLoads, loads_sent}
 use Rattle.seen_facts.specs.Hang.Members.{Has}
 use Rattle.row_facts.proofs.Left.Rows.{were_shown}
@@ -24,7 +25,6 @@ use Rattle.seen_facts.proofs.Request.Readers.{sent_reads}
 use Rattle.row_facts.proofs.RestRows.Again.{doc_same}
 use Rattle.row_facts.proofs.RestRows.Orders.{discarded_less}
 use Rattle.row_facts.specs.RestRows.Moving.{RestBut}
-use Rattle.seen_laws.proofs.InEvents.{now_more}
 use Rattle.seen_laws.proofs.Keyed.{find_on_other, find_on_same}
 use Rattle.seen_laws.specs.InEvent.{InEvent, now_of, row_of}
 use Rattle.seen_laws.specs.Sending.{leads}
@@ -128,7 +128,7 @@ module _ (e : InEvent) (state : StateId) (asks : IsEvictAsk e state) (t : Tables
 
   loose_then : IsLoose e (rows.Sent order ∷ [])
   loose_then =
-      loose_more e [] (rows.Sent order) refl (loose_first e) (sent_lasts n e.event e.actor order) (λ end lasts. refl)
+      loose_more e [] (rows.Sent order) (sent_goes e [] order refl).read (loose_first e) (sent_lasts n e.event e.actor order) (λ end lasts. refl)
 
   -- ---- what is left
 
@@ -210,7 +210,7 @@ module _ (e : InEvent) (state : StateId) (asks : IsEvictAsk e state) (t : Tables
 
   module _ (new : List RowKind) (u : Tables) (is : new ≡ rows.Sent order ∷ []) where
     now_is : then_ ≡ now_of e new
-    now_is = sym (ap (λ (l : List RowKind). now_of e l) is ∙ now_more e [] (rows.Sent order) refl)
+    now_is = sym (ap (λ (l : List RowKind). now_of e l) is ∙ sent_now e [] order refl)
 
     pub first_only : HasOnlyDiscarded whys.Evict [] new
     first_only = only_one (IsDiscardFor whys.Evict) [] new (rows.Sent order) is (record { job = order; is = refl; why_is = refl; discards = refl })

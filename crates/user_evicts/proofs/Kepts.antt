@@ -23,13 +23,15 @@ use Rattle.log_model.specs.AfterPlaces.{sleepers_with}
 use Rattle.log_model.specs.Equal.{has_doc, holds}
 use Rattle.log_model.specs.History.{has_nav}
 use Rattle.log_model.specs.Places.{all_asked}
-use Rattle.log_model.specs.Seen.{Asked, Document, Place, Seen, document_of, place_of}
+use Rattle.log_model.specs.After.{after}
+use Rattle.log_model.specs.Seen.{Asked, Document, Place, Seen, document_of, place_of, request_of}
+use Rattle.log_model.specs.declared.row_kind.RowKind.{RowKind}
 use Rattle.log_model.specs.declared.row_kind.LogRow.{LogRow}
 use Rattle.nav_tree.specs.Tree.{document_of as document_at}
 use Rattle.nav_tree.specs.declared.place.Place as live_place
 use Rattle.seen_facts.proofs.Rest.Stands.{all_requests}
 use Rattle.seen_facts.proofs.Rest.Still.{found_itself}
-use Rattle.seen_laws.specs.InEvent.{InEvent, now_of}
+use Rattle.seen_laws.specs.InEvent.{InEvent, now_of, row_of}
 use Rattle.std.proofs.Common.{Bool, List, None, Option, Some, [], ap, arith, false, map, not, refl, subst, sym, true, ℕ, ◌&&◌, ◌==◌, ◌||◌, ◌∙◌, ◌≡◌}
 use Rattle.std.proofs.lemmas.Bool.Decides.{nat_tests}
 use Rattle.std.specs.Prelude.{find, option_map}
@@ -207,6 +209,7 @@ module _ (e : InEvent) (state : StateId) (asks : IsEvictAsk e state) (t : Tables
   its_evicted aside =
       record {
         aside = aside;
+        numbered = λ r q at. (tab.asked.each r q (ap (λ (x : Seen). request_of x r) (sym aside.plain ∙ ap (λ (k : RowKind). after e.start (row_of e k)) asks.own) ∙ at)).nr;
         checks = checks_first e aside t.running tab.asked;
         by_user = asks.by_user;
         own = asks.own;

@@ -21,7 +21,7 @@ use Rattle.log_model.specs.declared.job.Task.{Task}
 use Rattle.log_model.specs.declared.row_kind.Actor.{Actor}
 use Rattle.log_model.specs.declared.row_kind.LogRow.{LogRow}
 use Rattle.log_model.specs.declared.row_kind.RowKind.{RowKind}
-use Rattle.seen_laws.proofs.InEvents.{led_here, now_own}
+use Rattle.seen_laws.proofs.InEvents.{led_here, now_is}
 use Rattle.seen_laws.proofs.Keyed.{find_has as seen_number}
 use Rattle.seen_laws.specs.Blocks.{MayLog}
 use Rattle.seen_laws.specs.InEvent.{InEvent, here_of, now_of, row_of, start_of}
@@ -186,7 +186,7 @@ module _ (e : InEvent) (t : Tables) (doc : DocId) (state : StateId) (its : IsEvi
 
   -- the document as the log has it: an eviction is for no request, so it may be left
   left_as : IsLeftAs e [] discard its.document
-  left_as = discards_log e [] (now_own e) discard its.document (λ req why. cc) its.discards
+  left_as = discards_log e [] (now_is e []) discard its.document (λ req why. cc) its.discards
 
   -- nobody is asked, so no prompt is due
   no_prompts : (later : List LogRow) → PromptsLater (here_of e []) (row_of e (rows.Sent discard)) later
@@ -195,7 +195,7 @@ module _ (e : InEvent) (t : Tables) (doc : DocId) (state : StateId) (its : IsEvi
 
   second_may : MayLog (here_of e []) (row_of e (rows.Sent discard) ∷ []) (IsRestOf e (rows.Sent discard ∷ []))
   second_may later rest =
-      evict_left_may (here_of e []) e.event e.actor discard left_as.d (led_here e [] own_leads) (numbered_log e [] (now_own e) discard (numbered n (proc_at n doc) doc whys.Evict tasks.Discard its.known)) (newly_left n later) (kept_last_log e [] (now_own e) discard its.document left_as (newly_left n later) (due_for (newly_left n later) (λ x is. left_last n later x is))) evicting later (no_prompts later, sym (leaves_log e [] (now_own e) later))
+      evict_left_may (here_of e []) e.event e.actor discard left_as.d (led_here e [] own_leads) (numbered_log e [] (now_is e []) discard (numbered n (proc_at n doc) doc whys.Evict tasks.Discard its.known)) (newly_left n later) (kept_last_log e [] (now_is e []) discard its.document left_as (newly_left n later) (due_for (newly_left n later) (λ x is. left_last n later x is))) evicting later (no_prompts later, sym (leaves_log e [] (now_is e []) later))
 
   pub evicted_lawful : AreLawful e (rows.Sent discard ∷ [])
   unfolding AreLawful

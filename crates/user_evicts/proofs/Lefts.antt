@@ -1,4 +1,5 @@
 -- What orders leave that discard documents for an eviction, one after the other.
+use Rattle.unasked.proofs.Nows.{sent_goes}
 use Rattle.seen_laws.specs.Unasked.{is_question}
 use Rattle.tab_facts.proofs.Calm.Sents.{found_on, usable_was}
 use Rattle.tab_facts.specs.Calm.Calm.{HasUsable}
@@ -22,8 +23,8 @@ use Rattle.row_facts.proofs.Owed.Requests.{AsksNone}
 use Rattle.row_facts.proofs.Owed.Rows.{sent_lasts}
 use Rattle.row_facts.specs.Owed.Owed.{IsLoose}
 use Rattle.row_facts.proofs.RestRows.Again.{part_without}
-use Rattle.seen_laws.specs.InEvent.{InEvent, now_of, row_of}
-use Rattle.std.proofs.Common.{Bool, List, None, Option, Some, [], ap, append-nil, append_assoc, arith, cond, false, inl, inr, length, not, refl, subst, sym, true, ◌++◌, ◌==◌, ◌||◌, ◌∙◌, ◌∷◌, ◌≡◌, ◌≤◌}
+use Rattle.seen_laws.specs.InEvent.{InEvent, now_of, row_of, GoesThere}
+use Rattle.std.proofs.Common.{Bool, List, None, Option, Some, [], ap, append-nil, append_assoc, arith, cond, false, inl, inr, length, refl, subst, sym, true, ◌++◌, ◌==◌, ◌||◌, ◌∙◌, ◌∷◌, ◌≡◌, ◌≤◌}
 use Rattle.std.specs.Prelude.{option_map}
 use Rattle.tab_evicts.specs.Evicting.{HasOnlyDiscarded, IsDiscardFor}
 use Rattle.tab_ids.specs.declared.DocId.{DocId}
@@ -125,14 +126,14 @@ module _ (s x : Seen) (e : InEvent) (job : Job) (task : job.task ≡ tasks.Disca
 
 pub gone_over : (e : InEvent) (was out : List RowKind) → HasOnlyDiscarded whys.Evict was out → LeavesGone (now_of e was) (now_of e out)
 gone_over e was out only =
-    over_each (IsDiscardFor whys.Evict) (λ (x : Seen). LeavesGone (now_of e was) x) e (λ x row it so. subst (λ (k : RowKind). LeavesGone (now_of e was) (after x (row_of e k))) (sym it.is) (gone_more (now_of e was) x e it.job it.discards it.why_is so)) was out only (leaves_gone_none (now_of e was))
+    over_each (IsDiscardFor whys.Evict) (λ (x : Seen). LeavesGone (now_of e was) x) e (λ mid row it. subst (GoesThere e mid) (sym it.is) (sent_goes e mid it.job (ap is_question it.discards))) (λ x row it so. subst (λ (k : RowKind). LeavesGone (now_of e was) (after x (row_of e k))) (sym it.is) (gone_more (now_of e was) x e it.job it.discards it.why_is so)) was out only (leaves_gone_none (now_of e was))
 
 -- what the rows so far owe is paid by any end still
 loose_rows : (e : InEvent) (out more : List RowKind) → ((row : RowKind) → Has more row → IsDiscardFor whys.Evict row) → IsLoose e out → IsLoose e (out ++ more)
 loose_rows e out [] each loose = subst (λ (l : List RowKind). IsLoose e l) (sym (append-nil out)) loose
 loose_rows e out (row ∷ more) each loose =
     subst (λ (l : List RowKind). IsLoose e l) (append_assoc out (row ∷ []) more)
-    (loose_rows e (out ++ row ∷ []) more (λ other there. each other (inr there)) (subst (λ (k : RowKind). IsLoose e (out ++ k ∷ [])) (sym it.is) (loose_more e out (rows.Sent it.job) (ap (λ (k : Task). not (is_question k)) it.discards) loose (sent_lasts (now_of e out) e.event e.actor it.job) (λ end lasts. refl))))
+    (loose_rows e (out ++ row ∷ []) more (λ other there. each other (inr there)) (subst (λ (k : RowKind). IsLoose e (out ++ k ∷ [])) (sym it.is) (loose_more e out (rows.Sent it.job) (sent_goes e out it.job (ap (λ (k : Task). is_question k) it.discards)).read loose (sent_lasts (now_of e out) e.event e.actor it.job) (λ end lasts. refl))))
   where
     it : IsDiscardFor whys.Evict row
     it = each row (inl refl)

@@ -129,7 +129,7 @@ module _ (e : InEvent) (state : StateId) (asks : IsEvictAsk e state) (t : Tables
         blamed = taking_u.blamed;
         calm = calm_before u.running whys.Evict n taking_u.calm taking_u.unmoved taking_u.rooted;
         live = taking_u.live;
-        late = subst (λ (r : Option ReqId). LateKnown r n) (sym keeps.running) (late_put e t.running [] out (record { more = only.more; is = only.is; each = λ row has. (let it = only.each row has in subst IsUnapplied (sym it.is) tt) }) stays.places history (late_own e state asks t queue blame stands aside));
+        late = subst (λ (r : Option ReqId). LateKnown r n) (sym keeps.running) (late_put e t.running [] out passing.work.goes (record { more = only.more; is = only.is; each = λ row has. (let it = only.each row has in subst IsUnapplied (sym it.is) tt) }) stays.places history (late_own e state asks t queue blame stands aside));
         moved = subst (λ (r : Option ReqId). MovedAreShown r n) (sym keeps.running) (gone_moved s n stays left t.running (moved_own e state asks t queue blame stands aside));
         theirs = gone_theirs s n left (theirs_own e state asks t queue blame stands aside);
         queueing = queueing;

@@ -1,9 +1,9 @@
 -- The document that the user evicts is discarded by the first row that is put out, and the coordinator is at work then.
+use Rattle.tab_doors.proofs.PassedOn.{read_more, read_own, sole_own}
+use Rattle.unasked.proofs.Nows.{sent_now, sent_goes}
 use Rattle.checking_facts.proofs.Cases.{other_wakes}
 use Rattle.checking_facts.proofs.Rows.{row_checks}
 use Rattle.checking_facts.specs.Checks.{AreInCheck}
-use Rattle.seen_laws.specs.Unasked.{unasked}
-use Rattle.unasked.proofs.Sents.{sent_seen}
 use Rattle.nav_tree.specs.Tree.{discarded}  -- keep
 use Rattle.seen_facts.proofs.Hang.Members.{into_map}
 use Rattle.seen_facts.specs.Hang.Members.{Has}
@@ -19,7 +19,7 @@ use Rattle.log_model.specs.declared.row_kind.Actor.{Actor}
 use Rattle.log_model.specs.declared.row_kind.RowKind.{RowKind}
 use Rattle.page_cache.specs.Kept.{without}
 use Rattle.seen_facts.specs.Each.Runs.{is_run}
-use Rattle.seen_laws.proofs.InEvents.{log_more, now_more, now_own}
+use Rattle.seen_laws.proofs.InEvents.{log_more, goes_more, none_goes}
 use Rattle.seen_laws.specs.InEvent.{InEvent, log_of, now_of, row_of}
 use Rattle.seen_laws.specs.Sending.{leads}
 use Rattle.std.proofs.Common.{List, None, Option, Some, [], ap, false, length, refl, subst, sym, true, ℕ, ◌++◌, ◌+◌, ◌==◌, ◌∙◌, ◌∷◌, ◌≡◌, ◌≤◌}
@@ -30,7 +30,7 @@ use Rattle.tab_doors.proofs.Initial.{initial_same}
 use Rattle.tab_doors.proofs.Keeping.{gone_tied}
 use Rattle.tab_doors.proofs.ShowWorks.{served_same}
 use Rattle.tab_doors.proofs.Telling.{SendsOne}
-use Rattle.tab_doors.proofs.Works.{few_sent, goal_on, goal_read, kept_gone, none_steps, runs_on}
+use Rattle.tab_doors.proofs.Works.{few_sent, goal_on, goal_read, kept_gone, none_steps, runs_on, soles_more}
 use Rattle.tab_doors.specs.Look.{look_of, sight}
 use Rattle.tab_doors.proofs.Whose.{proc_known, proc_same}
 use Rattle.tab_doors.specs.Orders.{numbered_order, order_to, proc_at}
@@ -64,27 +64,22 @@ module _ (e : InEvent) (t u : Tables) (doc : DocId) (state : StateId) (tied : Ar
       ap (λ (y : StateId). y.0 == load.state.0) (its.gone.its_state (sight x) (into_map sight n.documents x has) is) ∙ its.gone.unloaded nav load at
 
   now_is : then_ ≡ now_of e (rows.Sent order ∷ [])
-  now_is = sym (now_more e [] (rows.Sent order) refl)
+  now_is = sym (sent_now e [] order refl)
 
   pub evicted_work : u.tree ≡ discarded state t.tree → SendsOne t u t.shown.entries t.last.entries → u.running ≡ t.running → u.goal ≡ t.goal → u.kept ≡ record t.kept { states = without state t.kept.states } → IsAtWork e (rows.Sent order ∷ []) u
   evicted_work tree one running goal kept =
       record {
         own = ap (λ (k : RowKind). leads k) its.own;
         worker = subst (λ (a : Actor). IsWorker a) (sym its.by_user) tt;
-        begins = its.aside.begins;
-        rows = refl;
         plain =
             log_more e [] (rows.Sent order)
             ∙ ap (λ (x : Seen). after x (row_of e (rows.Sent order))) its.aside.plain
             ∙ now_is;
-        same =
-            sym now_is
-            ∙ ap (λ (x : Seen). after x (row_of e (rows.Sent order))) (now_own e)
-            ∙ sym (sent_seen e.checking (log_of e []) order e.event e.actor refl)
-            ∙ ap (λ (x : Seen). unasked e.checking x) (sym (log_more e [] (rows.Sent order)));
-        checks =
-            subst (λ (x : Seen). AreInCheck e.checking x) (sym (log_more e [] (rows.Sent order)))
-            (row_checks e.checking (log_of e []) (row_of e (rows.Sent order)) (other_wakes e.checking (log_of e []) order (λ req is. its.aside.unchecked req)) tt its.checks);
+        goes = goes_more e [] [] (rows.Sent order) (none_goes e []) (sent_goes e [] order refl);
+        numbered = its.numbered;
+        read = read_more e [] (rows.Sent order) (read_own e (record { numbered = its.checks.numbered; others = its.checks.others })) (record { numbered = checks_.numbered; others = checks_.others });
+        sole = soles_more e [] (rows.Sent order) tt (sole_own e (log_of e []));
+        checks = checks_;
         unheld = none_steps e.checking its.aside.unchecked (log_of e (rows.Sent order ∷ []));
         holds = subst (λ (x : Seen). Holds (look_of x u.running) u) now_is (subst (λ (r : Option ReqId). Holds (look_of then_ r) u) (sym running) (discard_holds n t.running e.event e.actor (proc_at n doc) doc whys.Evict state [] t tied.holds tied.runs its.gone.are its.gone.its_state its.gone.its u tree one));
         runs = subst (λ (x : Seen). IsRunning x.requests u.running) now_is (runs_on n.requests then_.requests t u (served_same is_run n order tasks.Discard whys.Evict (λ q. refl)) running tied.runs);
@@ -95,6 +90,11 @@ module _ (e : InEvent) (t u : Tables) (doc : DocId) (state : StateId) (tied : Ar
         kept = kept_gone n doc (λ (x : Document). record x { is_discarded = true }) (λ x. refl) (λ x. refl) state its.own_state None t.kept u.kept tied.kept refl kept ∙ ap (λ (x : Seen). kept_states x) now_is;
         lawful = lawful_none e (rows.Sent order ∷ []) (evicted_lawful e t doc state its);
       }
+    where
+      checks_ : AreInCheck e.checking (log_of e (rows.Sent order ∷ []))
+      checks_ =
+          subst (λ (x : Seen). AreInCheck e.checking x) (sym (log_more e [] (rows.Sent order)))
+          (row_checks e.checking (log_of e []) (row_of e (rows.Sent order)) (other_wakes e.checking (log_of e []) order (λ req is. its.aside.unchecked req)) tt its.checks)
 
 -- ---- the order that is counted and put out
 

@@ -1,5 +1,6 @@
 -- When the document that is kept longest is discarded as the user evicts it: by the first row that is put out, without which the event's own row may not be logged.
 -- HTML Standard, "Documents kept for traversal" and "destroy a document"; that the user evicts, and what, is this project's own.
+use Rattle.tab_doors.proofs.PassedOn.{AreNumbered}
 use Rattle.checking_facts.specs.Checks.{AreInCheck}
 use Rattle.tab_stands.specs.Standing.{StartsUnasked}
 use Rattle.seen_facts.proofs.Kept.States.{AreOfOwnStates}
@@ -24,6 +25,7 @@ use Rattle.log_model.specs.declared.row_kind.RowKind.TheVariants as rows
 -- in this event, in which nobody is in a check, the user evicts the document state of this document, which is kept longest; nobody is awake on it, no navigable was shown it last, no document waits to be asked, and the tables have it for its state alone, which is no ongoing load's
 pub record IsEvicted (e : InEvent) (t : Tables) (doc : DocId) (state : StateId) : Type 0 where
   pub aside : StartsUnasked e
+  pub numbered : AreNumbered e.start
   pub checks : AreInCheck e.checking (log_of e [])
   pub by_user : e.actor ≡ actors.Ui
   pub own : e.own ≡ rows.Evicted state

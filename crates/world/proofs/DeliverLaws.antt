@@ -56,7 +56,7 @@ module _ (header : Header) (log : List LogRow) (t : State) (is : IsOpen header l
 
   its_report : IsReportIn s.documents s.places proc report
   its_report =
-      each_first (IsReportIn s.documents s.places proc) (desk_of s proc).reports report waits (is.keeps.stands.stands.between.tab.desks proc).told
+      each_first (IsReportIn s.documents s.places proc) (desk_of s proc).reports report waits (is.keeps.stands.but.stands.between.tab.desks proc).told
 
   taken : desk_delivered (desk_at t.desks proc) ≡ without_report (desk_at t.desks proc)
   taken =

@@ -105,7 +105,7 @@ module _ (header : Header) (log : List LogRow) (t : State) (is : IsOpen header l
   s = seen_of log
 
   pub kept_docs : AreKeptDocs (seen_of log)
-  kept_docs = is.keeps.stands.stands.between.tab.kept
+  kept_docs = is.keeps.stands.but.stands.between.tab.kept
 
   -- the one that is kept longest is there
   pub evict_due : (length s.kept == 0) ≡ false → IsSome (longest_in (seen_of log))

@@ -108,13 +108,13 @@ module _ (header : Header) (log : List LogRow) (t : State) (is : IsOpen header l
 
   -- what is true of the tab
   abbrev pub tab : IsTab t.coordinator.tables.running [] [] (seen_of log)
-  tab = is.keeps.stands.stands.between.tab
+  tab = is.keeps.stands.but.stands.between.tab
 
   -- ---- where a document lives
 
   pub lives_in : (doc : DocId) (d : Document) → document_of s doc ≡ Some d → proc_in t.coordinator.tables.whose.entries doc ≡ Some d.proc
   lives_in doc d found =
-      ap (λ (o : Option Birth). option_map (λ (b : Birth). b.proc) o) (stands.stands.tied.holds.whose doc)
+      ap (λ (o : Option Birth). option_map (λ (b : Birth). b.proc) o) (stands.but.stands.tied.holds.whose doc)
       ∙ ap (λ (o : Option Sight). option_map (λ (b : Birth). b.proc) (option_map birth_of o)) (sight_of s doc d found)
 
   pub lives_somewhere : (doc : DocId) (d : Document) → document_of s doc ≡ Some d → IsSome (proc_in t.coordinator.tables.whose.entries doc)
@@ -169,7 +169,8 @@ module _ (header : Header) (log : List LogRow) (t : State) (is : IsOpen header l
 
   -- an event may begin
   pub open_to : (actor : Actor) (own : RowKind) → IsOpenTo (event_of header log actor own) t.coordinator
-  open_to actor own = record { header = is.header_is; stands = stands; room = room; unchecked = refl }
+  open_to actor own =
+      record { in_ = record { header = is.header_is; stands = stands.but; room = room; unchecked = refl }; slots = stands.slots }
 
   pub are_of : AreOf (seen_of log) t.coordinator t.runners
   are_of = record { stands = stands; room = room; told = is.holds.runners }

@@ -231,7 +231,7 @@ module _ (header : Header) (log : List LogRow) (t : State) (is : IsOpen header l
   its_order = of_hand (IsOrderIn s.documents s.places proc) ((tab header log t is).desks proc).orders
 
   its_sound : IsSoundTask s order.job.doc order.job.task
-  its_sound = of_hand (λ (job : Job). IsSoundTask s job.doc job.task) (is.keeps.stands.stands.lasts.sound proc).orders
+  its_sound = of_hand (λ (job : Job). IsSoundTask s job.doc job.task) (is.keeps.stands.but.stands.lasts.sound proc).orders
 
   pub its_task : IsTabTask order.job.task
   its_task = tab_task s order.job.doc order.job.task its_sound

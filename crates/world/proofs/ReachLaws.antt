@@ -107,6 +107,6 @@ module _ (s : Seen) (c : Coordinator) (runners : RunnersState) (are : AreOf s c 
             d = d;
             reaches = e;
             nr = number;
-            found = ap (λ (n : DocId). document_of s n) (sym number) ∙ found_itself s.documents d are.stands.stands.between.tab.whose.numbered its.there;
+            found = ap (λ (n : DocId). document_of s n) (sym number) ∙ found_itself s.documents d are.stands.but.stands.between.tab.whose.numbered its.there;
             nav_is = its.nav_is;
           }

@@ -10,15 +10,14 @@ use Rattle.log_model.specs.declared.row_kind.LogRow.{LogRow}
 use Rattle.log_model.specs.declared.row_kind.RowKind.{RowKind}
 use Rattle.seen_facts.proofs.Request.Times.{itself}
 use Rattle.seen_laws.proofs.BlockLaws.{each_pass_append}
-use Rattle.seen_laws.proofs.InEvents.{AsksNoMore, IsQuiet, now_more, now_step}
+use Rattle.seen_laws.proofs.InEvents.{AsksNoMore, IsQuiet, log_more}
 use Rattle.seen_laws.proofs.Owings.{pays_append}
 use Rattle.seen_laws.specs.Blocks.{EachPass, MayLog}
-use Rattle.seen_laws.specs.InEvent.{Anything, AreLegal, InEvent, IsPaid, IsTakenIn, begins, here_of, is_seen, now_of, row_of, start_of}
+use Rattle.seen_laws.specs.InEvent.{Anything, AreLegal, InEvent, IsPaid, IsTakenIn, begins, here_of, log_of, now_of, row_of, start_of}
 use Rattle.seen_laws.specs.Owing.{Pays}
 use Rattle.std.proofs.Common.{Bool, List, None, Some, [], ap, append-nil, append_assoc, false, map, subst, sym, true, ◌++◌, ◌||◌, ◌∙◌, ◌∷◌, ◌≡◌}
 use Rattle.std.proofs.lemmas.List.{map-append}
 use Rattle.std.specs.List.{list_any}
-use Rattle.log_model.specs.declared.row_kind.RowKind.TheVariants as rows
 use Rattle.std.specs.Prelude.{filter, filter_map}
 use Rattle.tab_ids.specs.declared.ReqId.{ReqId}
 use Rattle.std.proofs.Common.{refl}
@@ -28,9 +27,10 @@ use Rattle.std.proofs.Common.{refl}
 abbrev pub EndsNone : InEvent → RowKind → Type 0
 EndsNone e kind = ends_in (row_of e kind) ≡ None
 
-pub keeps_held : (e : InEvent) (out : List RowKind) (kind : RowKind) → EndsNone e kind → parked_after (now_of e out) kind ≡ (now_of e out).parked → KeepsHeld e out kind
+pub keeps_held : (e : InEvent) (out : List RowKind) (kind : RowKind) → EndsNone e kind → parked_after (log_of e out) kind ≡ (log_of e out).parked → KeepsHeld e out kind
+unfolding now_of
 keeps_held e out kind none same later are =
-    let parked : (now_of e (out ++ kind ∷ [])).parked ≡ (now_of e out).parked = now_step (λ (s : Seen). s.parked ≡ (now_of e out).parked) e out kind (λ is. same) refl in
+    let parked : (log_of e (out ++ kind ∷ [])).parked ≡ (log_of e out).parked = ap (λ (s : Seen). s.parked) (log_more e out kind) ∙ same in
     ap (λ (l : List ReqId). filter (has_req (held_at_first e)) l) (dropped_none later) ∙ are ∙ parked
   where
     dropped_none : (later : List LogRow) → filter_map ends_in (row_of e kind ∷ later) ≡ filter_map ends_in later
@@ -41,28 +41,15 @@ keeps_held e out kind none same later are =
 abbrev pub Ends : InEvent → RowKind → ReqId → Type 0
 Ends e kind req = (ends_in (row_of e kind) ≡ Some req) × ((s : Seen) → parked_after s kind ≡ without_req req s.parked)
 
--- so it is seen
-pub ends_seen : (e : InEvent) (kind : RowKind) (req : ReqId) → ends_in (row_of e kind) ≡ Some req → is_seen e.checking kind ≡ true
-ends_seen e (rows.Opened entry state doc proc slot address) req is = refl
-ends_seen e (rows.Accepted r doc what) req is = refl
-ends_seen e (rows.Started r goal) req is = cc
-ends_seen e (rows.Applied r change) req is = refl
-ends_seen e (rows.Refused r reason) req is = refl
-ends_seen e (rows.Dropped r cause) req is = refl
-ends_seen e (rows.Prompted r doc) req is = cc
-ends_seen e (rows.Answered r stay) req is = cc
-ends_seen e (rows.Sent job) req is = cc
-ends_seen e (rows.Taken proc job live dirty) req is = refl
-ends_seen e (rows.Finished proc job outcome) req is = refl
-ends_seen e (rows.Made proc made) req is = refl
-ends_seen e (rows.Delivered proc) req is = refl
-ends_seen e (rows.Evicted state) req is = refl
-ends_seen e (rows.Killed proc death) req is = refl
+-- what is held back after it
+pub left_parked : (e : InEvent) (out : List RowKind) (kind : RowKind) (req : ReqId) → Ends e kind req → (now_of e (out ++ kind ∷ [])).parked ≡ without_req req (now_of e out).parked
+unfolding now_of
+left_parked e out kind req ends = ap (λ (s : Seen). s.parked) (log_more e out kind) ∙ ends.1 (log_of e out)
 
 -- one whose report wasn't held back
 pub ends_other : (e : InEvent) (out : List RowKind) (kind : RowKind) (req : ReqId) → Ends e kind req → has_req (held_at_first e) req ≡ false → has_req (now_of e out).parked req ≡ false → KeepsHeld e out kind
 ends_other e out kind req ends apart unparked later are =
-    let parked : (now_of e (out ++ kind ∷ [])).parked ≡ (now_of e out).parked = ap (λ (s : Seen). s.parked) (now_more e out kind (ends_seen e kind req ends.0)) ∙ ends.1 (now_of e out) ∙ without_same (now_of e out).parked req unparked in
+    let parked : (now_of e (out ++ kind ∷ [])).parked ≡ (now_of e out).parked = left_parked e out kind req ends ∙ without_same (now_of e out).parked req unparked in
     past ∙ are ∙ parked
   where
     past : ends_among (held_at_first e) (row_of e kind ∷ later) ≡ ends_among (held_at_first e) later
@@ -71,7 +58,7 @@ ends_other e out kind req ends apart unparked later are =
 -- the first of those that are held back
 pub ends_first : (e : InEvent) (out : List RowKind) (kind : RowKind) (req : ReqId) (others : List ReqId) → Ends e kind req → has_req (held_at_first e) req ≡ true → (now_of e out).parked ≡ req ∷ others → has_req others req ≡ false → KeepsHeld e out kind
 ends_first e out kind req others ends among is apart later are =
-    let parked : (now_of e (out ++ kind ∷ [])).parked ≡ others = ap (λ (s : Seen). s.parked) (now_more e out kind (ends_seen e kind req ends.0)) ∙ ends.1 (now_of e out) ∙ ap (λ (l : List ReqId). without_req req l) is ∙ rw (itself req) (without_same others req apart) in
+    let parked : (now_of e (out ++ kind ∷ [])).parked ≡ others = left_parked e out kind req ends ∙ ap (λ (l : List ReqId). without_req req l) is ∙ rw (itself req) (without_same others req apart) in
     here ∙ ap (λ (l : List ReqId). req ∷ l) (are ∙ parked) ∙ sym is
   where
     here : ends_among (held_at_first e) (row_of e kind ∷ later) ≡ req ∷ ends_among (held_at_first e) later

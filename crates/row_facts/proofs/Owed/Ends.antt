@@ -2,14 +2,13 @@
 use Rattle.log_model.specs.After.{after}
 use Rattle.log_model.specs.Places.{has_passed}
 use Rattle.log_model.specs.Seen.{Asked, Seen}
-use Rattle.log_model.specs.declared.row_kind.LogRow.{LogRow}
 use Rattle.log_model.specs.declared.row_kind.RowKind.{RowKind}
-use Rattle.row_facts.specs.Owed.Owed.{IsLoose, IsOwed, Lasts, Stays, owes_seen}
-use Rattle.seen_laws.proofs.InEvents.{now_more, seen_more}
-use Rattle.seen_laws.proofs.Owings.{owes_append}
-use Rattle.seen_laws.specs.InEvent.{InEvent, is_seen, now_of, row_of, seen_first, seen_here, seen_rows}
-use Rattle.seen_laws.specs.Owing.{owes, owes_row}
-use Rattle.std.proofs.Common.{List, [], refl, subst, sym, true, ◌++◌, ◌∙◌, ◌∷◌, ◌≡◌}
+use Rattle.row_facts.specs.Owed.Owed.{IsLoose, IsOwed, Lasts, Stays, owes_from, owes_seen}
+use Rattle.seen_laws.proofs.InEvents.{now_more}
+use Rattle.seen_laws.specs.InEvent.{InEvent, IsReadOff, now_of, row_of, seen_here}
+use Rattle.seen_laws.specs.Owing.{owes_row}
+use Rattle.std.proofs.Common.{Bool, List, [], append-nil, append_assoc, refl, subst, sym, true, ◌&&◌, ◌++◌, ◌∙◌, ◌∷◌, ◌≡◌}
+use Rattle.std.proofs.lemmas.Bool.{and_parts}
 use Rattle.std.proofs.lemmas.Option.{same_Some}
 
 -- ---- what lasts
@@ -70,30 +69,40 @@ loose_owed e out loose end stays = loose end stays.lasts
 
 -- where the event ends here, all is paid
 pub owed_paid : (e : InEvent) (out : List RowKind) → IsOwed e out → owes_seen e out (now_of e out) ≡ true
-unfolding now_of
 owed_paid e out owed = owed (now_of e out) (stays_refl (now_of e out))
 
+-- an end that pays some rows, and one more
+owes_last : (e : InEvent) (was more : List RowKind) (kind : RowKind) (end : Seen) → owes_from e was more end ≡ true → owes_row (seen_here e (was ++ more)) (row_of e kind) end ≡ true → owes_from e was (more ++ kind ∷ []) end ≡ true
+owes_last e was [] kind end before own =
+    rw (subst (λ (l : List RowKind). owes_row (seen_here e l) (row_of e kind) end ≡ true) (append-nil was) own) refl
+owes_last e was (k ∷ more) kind end before own =
+    let parts = and_parts (owes_row (seen_here e was) (row_of e k) end) (owes_from e (was ++ k ∷ []) more end) before in
+    let rest = owes_last e (was ++ k ∷ []) more kind end parts.1 (subst (λ (l : List RowKind). owes_row (seen_here e l) (row_of e kind) end ≡ true) (sym (append_assoc was (k ∷ []) more)) own) in
+    both (owes_row (seen_here e was) (row_of e k) end) (owes_from e (was ++ k ∷ []) (more ++ kind ∷ []) end) parts.0 rest
+  where
+    both : (a b : Bool) → a ≡ true → b ≡ true → (a && b) ≡ true
+    both a b one other = rw one other
+
 -- an end that pays the rows so far, and one more
-pub owes_more : (e : InEvent) (out : List RowKind) (kind : RowKind) → is_seen e.checking kind ≡ true → (end : Seen) → owes_seen e out end ≡ true → owes_row (seen_here e out) (row_of e kind) end ≡ true → owes_seen e (out ++ kind ∷ []) end ≡ true
-owes_more e out kind seen end before own =
-    subst (λ (l : List LogRow). owes (seen_first e) l end ≡ true) (sym (seen_more e out kind seen)) (owes_append (seen_first e) (seen_rows e out) (row_of e kind ∷ []) end ∙ rw before (rw own refl))
+pub owes_more : (e : InEvent) (out : List RowKind) (kind : RowKind) (end : Seen) → owes_seen e out end ≡ true → owes_row (seen_here e out) (row_of e kind) end ≡ true → owes_seen e (out ++ kind ∷ []) end ≡ true
+owes_more e out kind end before own = owes_last e [] out kind end before own
 
 -- a row more that undoes nothing of what stays, and is paid by the ends that undo nothing of it
-pub owed_more : (e : InEvent) (out : List RowKind) (kind : RowKind) → is_seen e.checking kind ≡ true → IsOwed e out → Stays (now_of e out) (after (now_of e out) (row_of e kind)) → ((end : Seen) → Stays (after (now_of e out) (row_of e kind)) end → owes_row (seen_here e out) (row_of e kind) end ≡ true) → IsOwed e (out ++ kind ∷ [])
-owed_more e out kind seen owed stays own end on =
-    let then_ : Stays (after (now_of e out) (row_of e kind)) end = subst (λ (s : Seen). Stays s end) (now_more e out kind seen) on in
-    owes_more e out kind seen end (owed end (stays_trans (now_of e out) (after (now_of e out) (row_of e kind)) end stays then_)) (own end then_)
+pub owed_more : (e : InEvent) (out : List RowKind) (kind : RowKind) → IsReadOff e out kind → IsOwed e out → Stays (now_of e out) (after (now_of e out) (row_of e kind)) → ((end : Seen) → Stays (after (now_of e out) (row_of e kind)) end → owes_row (seen_here e out) (row_of e kind) end ≡ true) → IsOwed e (out ++ kind ∷ [])
+owed_more e out kind read owed stays own end on =
+    let then_ : Stays (after (now_of e out) (row_of e kind)) end = subst (λ (s : Seen). Stays s end) (now_more e out kind read) on in
+    owes_more e out kind end (owed end (stays_trans (now_of e out) (after (now_of e out) (row_of e kind)) end stays then_)) (own end then_)
 
 -- any row more, where the ends that undo nothing of what lasts after it pay both it and the rows before it
-pub loose_since : (e : InEvent) (out : List RowKind) (kind : RowKind) → is_seen e.checking kind ≡ true → ((end : Seen) → Lasts (after (now_of e out) (row_of e kind)) end → owes_seen e out end ≡ true) → ((end : Seen) → Lasts (after (now_of e out) (row_of e kind)) end → owes_row (seen_here e out) (row_of e kind) end ≡ true) → IsLoose e (out ++ kind ∷ [])
-loose_since e out kind seen before own end on =
-    let then_ : Lasts (after (now_of e out) (row_of e kind)) end = subst (λ (s : Seen). Lasts s end) (now_more e out kind seen) on in
-    owes_more e out kind seen end (before end then_) (own end then_)
+pub loose_since : (e : InEvent) (out : List RowKind) (kind : RowKind) → IsReadOff e out kind → ((end : Seen) → Lasts (after (now_of e out) (row_of e kind)) end → owes_seen e out end ≡ true) → ((end : Seen) → Lasts (after (now_of e out) (row_of e kind)) end → owes_row (seen_here e out) (row_of e kind) end ≡ true) → IsLoose e (out ++ kind ∷ [])
+loose_since e out kind read before own end on =
+    let then_ : Lasts (after (now_of e out) (row_of e kind)) end = subst (λ (s : Seen). Lasts s end) (now_more e out kind read) on in
+    owes_more e out kind end (before end then_) (own end then_)
 
 -- so they do where it undoes nothing of what lasts
-pub loose_more : (e : InEvent) (out : List RowKind) (kind : RowKind) → is_seen e.checking kind ≡ true → IsLoose e out → Lasts (now_of e out) (after (now_of e out) (row_of e kind)) → ((end : Seen) → Lasts (after (now_of e out) (row_of e kind)) end → owes_row (seen_here e out) (row_of e kind) end ≡ true) → IsLoose e (out ++ kind ∷ [])
-loose_more e out kind seen loose lasts own =
-    loose_since e out kind seen (λ end then_. loose end (lasts_trans (now_of e out) (after (now_of e out) (row_of e kind)) end lasts then_)) own
+pub loose_more : (e : InEvent) (out : List RowKind) (kind : RowKind) → IsReadOff e out kind → IsLoose e out → Lasts (now_of e out) (after (now_of e out) (row_of e kind)) → ((end : Seen) → Lasts (after (now_of e out) (row_of e kind)) end → owes_row (seen_here e out) (row_of e kind) end ≡ true) → IsLoose e (out ++ kind ∷ [])
+loose_more e out kind read loose lasts own =
+    loose_since e out kind read (λ end then_. loose end (lasts_trans (now_of e out) (after (now_of e out) (row_of e kind)) end lasts then_)) own
 
 -- before any row is put out nothing is owed
 pub loose_first : (e : InEvent) → IsLoose e []

@@ -29,8 +29,9 @@ use Rattle.seen_facts.specs.Asked.Asking.{HavePassed}
 use Rattle.seen_facts.proofs.Request.LookUps.{on_itself}
 use Rattle.seen_facts.proofs.Request.Readers.{SameReads, on_read, reads_then, sent_reads}
 use Rattle.seen_laws.specs.Blocks.{Here, on_row, on_rows}
-use Rattle.seen_laws.specs.InEvent.{InEvent, now_of, row_of, seen_first, seen_rows}
-use Rattle.std.proofs.Common.{Bool, List, Option, Some, [], ap, false, refl, subst, sym, true, ℕ, ◌&&◌, ◌==◌, ◌∙◌, ◌∷◌, ◌≡◌}
+use Rattle.seen_laws.specs.InEvent.{InEvent, first_of, log_of, now_of, row_of}
+use Rattle.seen_laws.specs.Unasked.{unasked}
+use Rattle.std.proofs.Common.{Bool, List, Option, Some, [], ap, false, map, refl, subst, sym, true, ℕ, ◌&&◌, ◌==◌, ◌∙◌, ◌∷◌, ◌≡◌}
 use Rattle.std.proofs.lemmas.Bool.{and_right}
 use Rattle.std.proofs.lemmas.Option.{same_Some}
 use Rattle.std.specs.Prelude.{nat_lt, option_map}
@@ -78,7 +79,12 @@ reckoned_on h (row ∷ rows) reckoned = reckoned_on (on_row h row) rows (reckone
 -- so it is wherever an event stands
 pub reckoned_now : (e : InEvent) (out : List RowKind) → IsReckoned (now_of e out)
 unfolding now_of
-reckoned_now e out = reckoned_on (seen_first e) (seen_rows e out) (reckoned_after e.start (row_of e e.own))
+reckoned_now e out unsettled =
+    aside (reckoned_on (first_of e) (map (row_of e) out) (reckoned_after e.start (row_of e e.own)) unsettled)
+  where
+    -- whether all stand is read of the history and the places alone
+    aside : all_stand (log_of e out) (log_of e out).history.current ≡ false → all_stand (unasked e.checking (log_of e out)) (log_of e out).history.current ≡ false
+    aside is = is
 
 -- they haven't since, where they hadn't and don't now
 stood_now : (b : Bool) (t : Seen) → b ≡ false → all_stand t t.history.current ≡ false → has_stood_now b t ≡ false

@@ -4,9 +4,9 @@ use Rattle.log_model.specs.Once.{has_no_earlier_load}
 use Rattle.log_model.specs.Places.{aim_of, all_stand, has_passed, stands}
 use Rattle.log_model.specs.Seen.{Asked, Place, Seen, place_of, request_of}
 use Rattle.log_model.specs.declared.row_kind.RowKind.{RowKind}
-use Rattle.seen_laws.specs.InEvent.{InEvent, now_of, seen_first, seen_rows}
-use Rattle.seen_laws.specs.Owing.{owes}
-use Rattle.std.specs.Prelude.{Bool, List, Some, false, true, ℕ, ◌≡◌}
+use Rattle.seen_laws.specs.InEvent.{InEvent, now_of, row_of, seen_here}
+use Rattle.seen_laws.specs.Owing.{owes_row}
+use Rattle.std.specs.Prelude.{Bool, List, Some, [], false, true, ℕ, ◌&&◌, ◌++◌, ◌∷◌, ◌≡◌}
 use Rattle.tab_ids.specs.declared.NavId.{NavId}
 use Rattle.tab_ids.specs.declared.ReqId.{ReqId}
 
@@ -48,9 +48,14 @@ pub record Stays (s end : Seen) : Type 0 where
 abbrev pub IsReckoned : Seen → Type 0
 IsReckoned s = s.has_stood ≡ false → all_stand s s.history.current ≡ false
 
--- this end pays what the event's rows so far owe, in the log as it would be had nobody been asked; the own row owes nothing
+-- this end pays what these rows of an event owe, in the log as it would be had nobody been asked, where they come behind those
+abbrev pub owes_from : InEvent → List RowKind → List RowKind → Seen → Bool
+owes_from e was [] end = true
+owes_from e was (kind ∷ more) end = owes_row (seen_here e was) (row_of e kind) end && owes_from e (was ++ kind ∷ []) more end
+
+-- and what the event's rows so far owe; the own row owes nothing
 abbrev pub owes_seen : InEvent → List RowKind → Seen → Bool
-owes_seen e out end = owes (seen_first e) (seen_rows e out) end
+owes_seen e out end = owes_from e [] out end
 
 -- each end pays what the event's rows so far owe that undoes nothing which orders leave
 abbrev pub IsOwed : InEvent → List RowKind → Type 0

@@ -19,8 +19,8 @@ use Rattle.log_model.specs.declared.row_kind.Actor.{Actor}
 use Rattle.log_model.specs.declared.row_kind.RowKind.{RowKind}
 use Rattle.tab_facts.specs.Order.Orders.{AreOrders, EachOrder, IsOfCoord, TellsOf}
 use Rattle.seen_laws.proofs.Desks.{desk_on_other, desk_on_same}
-use Rattle.seen_laws.proofs.InEvents.{now_step}
-use Rattle.seen_laws.specs.InEvent.{InEvent, now_of}
+use Rattle.seen_laws.proofs.InEvents.{first_goes, now_step, rest_goes}
+use Rattle.seen_laws.specs.InEvent.{EachGoes, InEvent, now_of}
 use Rattle.std.proofs.Common.{Bool, List, None, Option, Some, [], ap, append-nil, append_assoc, false, inl, inr, refl, subst, sym, true, ℕ, ◌++◌, ◌==◌, ◌∙◌, ◌∷◌, ◌≡◌}
 use Rattle.std.specs.Prelude.{option_map, option_to_list}
 use Rattle.tab_ids.specs.declared.ProcId.{ProcId}
@@ -165,9 +165,9 @@ module _ (F : Job → Type 0) where
 
 module _ (F : Job → Type 0) (e : InEvent) where
   -- where it is so of each order that they send
-  pub orders_over : (more was : List RowKind) → ((kind : RowKind) → Has more kind → IsWithin kind) → ((job : Job) → Has more (rows.Sent job) → F job) → AreOrders F (now_of e was) → AreOrders F (now_of e (was ++ more))
-  orders_over [] was fine sent are = subst (λ (l : List RowKind). AreOrders F (now_of e l)) (sym (append-nil was)) are
-  orders_over (kind ∷ more) was fine sent are =
+  pub orders_over : (more was : List RowKind) → EachGoes e was more → ((kind : RowKind) → Has more kind → IsWithin kind) → ((job : Job) → Has more (rows.Sent job) → F job) → AreOrders F (now_of e was) → AreOrders F (now_of e (was ++ more))
+  orders_over [] was goes fine sent are = subst (λ (l : List RowKind). AreOrders F (now_of e l)) (sym (append-nil was)) are
+  orders_over (kind ∷ more) was goes fine sent are =
       subst (λ (l : List RowKind). AreOrders F (now_of e l)) (append_assoc was (kind ∷ []) more)
-      (orders_over more (was ++ kind ∷ []) (λ k has. fine k (inr has)) (λ job has. sent job (inr has))
-      (now_step (AreOrders F) e was kind (λ a. orders_after F (now_of e was) e.event e.actor kind (fine kind (inl refl)) (λ job is. sent job (inl is)) a) are))
+      (orders_over more (was ++ kind ∷ []) (rest_goes e was more kind goes) (λ k has. fine k (inr has)) (λ job has. sent job (inr has))
+      (now_step (AreOrders F) e was kind (first_goes e was more kind goes) (λ a. orders_after F (now_of e was) e.event e.actor kind (fine kind (inl refl)) (λ job is. sent job (inl is)) a) are))

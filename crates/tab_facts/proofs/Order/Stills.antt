@@ -7,8 +7,8 @@ use Rattle.log_model.specs.declared.row_kind.RowKind.{RowKind}
 use Rattle.tab_facts.specs.Order.Orders.{IsOfCoord}
 use Rattle.row_facts.proofs.Owed.Rows.{applied_lasts, begun_still, dropped_lasts, refused_lasts, sent_lasts}
 use Rattle.row_facts.specs.Owed.Owed.{IsStill}
-use Rattle.seen_laws.proofs.InEvents.{now_step}
-use Rattle.seen_laws.specs.InEvent.{InEvent, now_of}
+use Rattle.seen_laws.proofs.InEvents.{first_goes, now_step, rest_goes}
+use Rattle.seen_laws.specs.InEvent.{EachGoes, InEvent, now_of}
 use Rattle.std.proofs.Common.{List, Some, [], append-nil, append_assoc, inl, inr, refl, subst, sym, ℕ, ◌++◌, ◌∙◌, ◌∷◌, ◌≡◌}
 use Rattle.tab_ids.specs.declared.ReqId.{ReqId}
 use Rattle.log_model.specs.declared.row_kind.RowKind.TheVariants as rows
@@ -37,12 +37,12 @@ still_after s event actor (rows.Started r goal) fine req q at = begun_still s ev
 still_after s event actor _ fine req q at = absurd fine
 
 -- such rows came in an event
-pub still_over : (e : InEvent) (more was : List RowKind) → ((kind : RowKind) → Has more kind → IsOfCoord kind) → (req : ReqId) (q : Asked) → request_of (now_of e was) req ≡ Some q → IsStill (now_of e (was ++ more)) req q
-still_over e [] was fine req q at = subst (λ (l : List RowKind). IsStill (now_of e l) req q) (sym (append-nil was)) (still_itself (now_of e was) req q at)
-still_over e (kind ∷ more) was fine req q at =
+pub still_over : (e : InEvent) (more was : List RowKind) → EachGoes e was more → ((kind : RowKind) → Has more kind → IsOfCoord kind) → (req : ReqId) (q : Asked) → request_of (now_of e was) req ≡ Some q → IsStill (now_of e (was ++ more)) req q
+still_over e [] was goes fine req q at = subst (λ (l : List RowKind). IsStill (now_of e l) req q) (sym (append-nil was)) (still_itself (now_of e was) req q at)
+still_over e (kind ∷ more) was goes fine req q at =
     subst (λ (l : List RowKind). IsStill (now_of e l) req q) (append_assoc was (kind ∷ []) more)
-    (still_then (now_of e (was ++ kind ∷ [])) (now_of e ((was ++ kind ∷ []) ++ more)) req q one (still_over e more (was ++ kind ∷ []) (λ k has. fine k (inr has)) req one.r one.at))
+    (still_then (now_of e (was ++ kind ∷ [])) (now_of e ((was ++ kind ∷ []) ++ more)) req q one (still_over e more (was ++ kind ∷ []) (rest_goes e was more kind goes) (λ k has. fine k (inr has)) req one.r one.at))
   where
     one : IsStill (now_of e (was ++ kind ∷ [])) req q
     one =
-        now_step (λ (x : Seen). IsStill x req q) e was kind (λ is. still_after (now_of e was) e.event e.actor kind (fine kind (inl refl)) req q at) (still_itself (now_of e was) req q at)
+        now_step (λ (x : Seen). IsStill x req q) e was kind (first_goes e was more kind goes) (λ is. still_after (now_of e was) e.event e.actor kind (fine kind (inl refl)) req q at) (still_itself (now_of e was) req q at)

@@ -11,8 +11,8 @@ use Rattle.tab_facts.proofs.Running.Orders.{making_running, sent_running}
 use Rattle.tab_facts.proofs.Running.Rows.{accepted_running, answered_running, applied_running, delivered_running, dropped_running, evicted_running, finished_running, made_running, prompted_running, refused_running, started_running, taken_running}
 use Rattle.tab_facts.specs.Running.Fitting.{EachFits, IsFittingOrder, IsFittingRow}
 use Rattle.tab_facts.specs.Running.Running.{AreFoundRunning}
-use Rattle.seen_laws.proofs.InEvents.{now_step}
-use Rattle.seen_laws.specs.InEvent.{InEvent, now_of}
+use Rattle.seen_laws.proofs.InEvents.{first_goes, now_step, rest_goes}
+use Rattle.seen_laws.specs.InEvent.{EachGoes, InEvent, now_of}
 use Rattle.std.proofs.Common.{Bool, List, [], append-nil, append_assoc, refl, subst, sym, ℕ, ◌++◌, ◌∷◌, ◌≡◌}
 use Rattle.tab_ids.specs.declared.JobId.{JobId}
 
@@ -49,8 +49,8 @@ module _ (s : Seen) (event : ℕ) (actor : Actor) (are : AreFoundRunning s) wher
 
 -- ---- rows of an event
 
-pub running_over : (e : InEvent) (more was : List RowKind) → EachFits e was more → AreFoundRunning (now_of e was) → AreFoundRunning (now_of e (was ++ more))
-running_over e [] was fits are = subst (λ (l : List RowKind). AreFoundRunning (now_of e l)) (sym (append-nil was)) are
-running_over e (kind ∷ more) was fits are =
+pub running_over : (e : InEvent) (more was : List RowKind) → EachFits e was more → EachGoes e was more → AreFoundRunning (now_of e was) → AreFoundRunning (now_of e (was ++ more))
+running_over e [] was fits goes are = subst (λ (l : List RowKind). AreFoundRunning (now_of e l)) (sym (append-nil was)) are
+running_over e (kind ∷ more) was fits goes are =
     subst (λ (l : List RowKind). AreFoundRunning (now_of e l)) (append_assoc was (kind ∷ []) more)
-    (running_over e more (was ++ kind ∷ []) fits.1 (now_step AreFoundRunning e was kind (λ a. running_after (now_of e was) e.event e.actor a kind fits.0) are))
+    (running_over e more (was ++ kind ∷ []) fits.1 (rest_goes e was more kind goes) (now_step AreFoundRunning e was kind (first_goes e was more kind goes) (λ a. running_after (now_of e was) e.event e.actor a kind fits.0) are))

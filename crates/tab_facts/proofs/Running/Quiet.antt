@@ -19,8 +19,8 @@ use Rattle.tab_facts.proofs.Running.Lists.{live_doc}
 use Rattle.tab_facts.proofs.Running.Over.{running_over}
 use Rattle.tab_facts.specs.Running.Fitting.{EachFits, IsFittingOrder, IsFittingRow, IsOfThere, IsQuietOrder}
 use Rattle.tab_facts.specs.Running.Running.{AreFoundRunning, EachFinds, Finds}
-use Rattle.seen_laws.proofs.InEvents.{now_step}
-use Rattle.seen_laws.specs.InEvent.{InEvent, now_of}
+use Rattle.seen_laws.proofs.InEvents.{first_goes, now_step, rest_goes}
+use Rattle.seen_laws.specs.InEvent.{EachGoes, InEvent, now_of}
 use Rattle.std.proofs.Common.{Bool, List, None, Option, Some, [], ap, false, inl, inr, length, refl, sym, true, ◌++◌, ◌∙◌, ◌∷◌, ◌≡◌}
 use Rattle.std.specs.Prelude.{filter}
 use Rattle.tab_ids.specs.declared.DocId.{DocId}
@@ -99,19 +99,19 @@ module _ (base s : Seen) (there : AreOrders (IsOfThere base) s) where
   coord_fits (rows.Dropped req cause) fine quiet = tt
   coord_fits _ fine quiet = absurd fine
 
-each_quiet : (base : Seen) (e : InEvent) (more was : List RowKind) → AreOrders (IsOfThere base) (now_of e was) → ((kind : RowKind) → Has more kind → IsOfCoord kind) → ((job : Job) → Has more (rows.Sent job) → IsQuietOrder base job job.task) → EachFits e was more
-each_quiet base e [] was there fine quiet = tt
-each_quiet base e (kind ∷ more) was there fine quiet =
-    (coord_fits base (now_of e was) there kind own (λ job is. quiet job (inl is)), each_quiet base e more (was ++ kind ∷ []) then_ (λ k has. fine k (inr has)) (λ job has. quiet job (inr has)))
+each_quiet : (base : Seen) (e : InEvent) (more was : List RowKind) → EachGoes e was more → AreOrders (IsOfThere base) (now_of e was) → ((kind : RowKind) → Has more kind → IsOfCoord kind) → ((job : Job) → Has more (rows.Sent job) → IsQuietOrder base job job.task) → EachFits e was more
+each_quiet base e [] was goes there fine quiet = tt
+each_quiet base e (kind ∷ more) was goes there fine quiet =
+    (coord_fits base (now_of e was) there kind own (λ job is. quiet job (inl is)), each_quiet base e more (was ++ kind ∷ []) (rest_goes e was more kind goes) then_ (λ k has. fine k (inr has)) (λ job has. quiet job (inr has)))
   where
     own : IsOfCoord kind
     own = fine kind (inl refl)
 
     then_ : AreOrders (IsOfThere base) (now_of e (was ++ kind ∷ []))
     then_ =
-        now_step (AreOrders (IsOfThere base)) e was kind (λ a. orders_after (IsOfThere base) (now_of e was) e.event e.actor kind (coord_within kind own) (λ job is fragment. absurd (quiet_there base job job.task (quiet job (inl is)) fragment)) a) there
+        now_step (AreOrders (IsOfThere base)) e was kind (first_goes e was more kind goes) (λ a. orders_after (IsOfThere base) (now_of e was) e.event e.actor kind (coord_within kind own) (λ job is fragment. absurd (quiet_there base job job.task (quiet job (inl is)) fragment)) a) there
 
 -- what each process had was of its documents, and the orders make only documents that weren't there
-pub quiet_over : (e : InEvent) (more was : List RowKind) → AreDesksIn (now_of e was) → ((kind : RowKind) → Has more kind → IsOfCoord kind) → ((job : Job) → Has more (rows.Sent job) → IsQuietOrder (now_of e was) job job.task) → AreFoundRunning (now_of e was) → AreFoundRunning (now_of e (was ++ more))
-quiet_over e more was desks fine quiet are =
-    running_over e more was (each_quiet (now_of e was) e more was (desks_there (now_of e was) desks) fine quiet) are
+pub quiet_over : (e : InEvent) (more was : List RowKind) → EachGoes e was more → AreDesksIn (now_of e was) → ((kind : RowKind) → Has more kind → IsOfCoord kind) → ((job : Job) → Has more (rows.Sent job) → IsQuietOrder (now_of e was) job job.task) → AreFoundRunning (now_of e was) → AreFoundRunning (now_of e (was ++ more))
+quiet_over e more was goes desks fine quiet are =
+    running_over e more was (each_quiet (now_of e was) e more was goes (desks_there (now_of e was) desks) fine quiet) goes are

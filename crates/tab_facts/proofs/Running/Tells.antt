@@ -23,8 +23,8 @@ use Rattle.log_model.specs.declared.row_kind.RowKind.TheVariants as rows
 use Rattle.tab_facts.specs.Order.Orders.{IsOfCoord}
 use Rattle.tab_facts.specs.Running.Telling.{AreTelling, EndsNoFragment, TellsOfMade}
 use Rattle.seen_facts.specs.Hang.Members.{Has}
-use Rattle.seen_laws.proofs.InEvents.{now_step}
-use Rattle.seen_laws.specs.InEvent.{InEvent, now_of}
+use Rattle.seen_laws.proofs.InEvents.{first_goes, now_step, rest_goes}
+use Rattle.seen_laws.specs.InEvent.{EachGoes, InEvent, now_of}
 use Rattle.seen_laws.proofs.Desks.{desk_on_other, desk_on_same}
 use Rattle.std.proofs.Common.{Bool, List, None, Option, Some, [], ap, append-nil, append_assoc, cond, false, inl, inr, refl, subst, sym, true, ℕ, ◌&&◌, ◌++◌, ◌+◌, ◌==◌, ◌∙◌, ◌∷◌, ◌≡◌}
 use Rattle.std.specs.Prelude.{is_some, option_map, slice_get}
@@ -156,11 +156,11 @@ coord_ends s (rows.Refused req reason) fine = tt
 coord_ends s (rows.Dropped req cause) fine = tt
 coord_ends s _ fine = absurd fine
 
-pub telling_over : (e : InEvent) (more was : List RowKind) → ((kind : RowKind) → Has more kind → IsOfCoord kind) → AreTelling (now_of e was) → AreTelling (now_of e (was ++ more))
-telling_over e [] was fine are = subst (λ (l : List RowKind). AreTelling (now_of e l)) (sym (append-nil was)) are
-telling_over e (kind ∷ more) was fine are =
+pub telling_over : (e : InEvent) (more was : List RowKind) → EachGoes e was more → ((kind : RowKind) → Has more kind → IsOfCoord kind) → AreTelling (now_of e was) → AreTelling (now_of e (was ++ more))
+telling_over e [] was goes fine are = subst (λ (l : List RowKind). AreTelling (now_of e l)) (sym (append-nil was)) are
+telling_over e (kind ∷ more) was goes fine are =
     subst (λ (l : List RowKind). AreTelling (now_of e l)) (append_assoc was (kind ∷ []) more)
-    (telling_over e more (was ++ kind ∷ []) (λ k has. fine k (inr has)) (now_step AreTelling e was kind (λ a. telling_after (now_of e was) e.event e.actor a kind (coord_ends (now_of e was) kind (fine kind (inl refl)))) are))
+    (telling_over e more (was ++ kind ∷ []) (rest_goes e was more kind goes) (λ k has. fine k (inr has)) (now_step AreTelling e was kind (first_goes e was more kind goes) (λ a. telling_after (now_of e was) e.event e.actor a kind (coord_ends (now_of e was) kind (fine kind (inl refl)))) are))
 
 -- ---- the opening
 

@@ -17,11 +17,11 @@ returns-in-Rests-clause-rested g c did =
 
 pub returns-in-Refused-clause-turned : goal.returns-in-Refused-clause-turned
 returns-in-Refused-clause-turned g c did =
-    refused_turned g.p _ _ _ _ _ c.requires.0 c.requires.1 _ c.in_ok-begin_next.ensures.needs _ c.in_ok-begin_next.ensures.stood c.in-Refused.is
+    refused_turned g.p _ _ _ _ _ c.requires.0 c.requires.1 _ c.in_ok-begin_next.ensures.passing.work.goes c.in_ok-begin_next.ensures.needs _ c.in_ok-begin_next.ensures.stood c.in-Refused.is
 
 pub returns-after-is_none-clause-turned : goal.returns-after-is_none-clause-turned
 returns-after-is_none-clause-turned g c did =
-    went_turned g.p _ _ _ _ _ c.requires.0 c.requires.1 _ c.in_ok-begin_next.ensures.needs _ c.in_ok-begin_next.ensures.stood _ c.in-Went.is
+    went_turned g.p _ _ _ _ _ c.requires.0 c.requires.1 _ c.in_ok-begin_next.ensures.passing.work.goes c.in_ok-begin_next.ensures.needs _ c.in_ok-begin_next.ensures.stood _ c.in-Went.is
 
 pub returns-in-Rests-clause-still : goal.returns-in-Rests-clause-still
 returns-in-Rests-clause-still g c none =

@@ -14,7 +14,7 @@ returns-then-branch-clause-ready g c did =
 
 pub returns-then-branch-clause-put : goal.returns-then-branch-clause-put
 returns-then-branch-clause-put g c =
-    finish_put g.p.event _ _ _ _ _ _ _ c.in_ok-last.ensures.passing.going.tab.asked (has_ended _ _ _ _ _ _ c.if-branch.true c.in_ok-end_running.ensures.ended) c.in_ok-last.ensures.ended
+    finish_put g.p.event _ _ _ _ _ _ _ c.in_ok-last.ensures.passing.work.goes c.in_ok-last.ensures.passing.going.tab.asked (has_ended _ _ _ _ _ _ c.if-branch.true c.in_ok-end_running.ensures.ended) c.in_ok-last.ensures.ended
 
 pub returns-clause-due : goal.returns-clause-due
 returns-clause-due g c not_ended =
@@ -22,7 +22,7 @@ returns-clause-due g c not_ended =
 
 pub returns-then-branch-clause-turned : goal.returns-then-branch-clause-turned
 returns-then-branch-clause-turned g c did =
-    ended_turned g.p.event _ _ _ _ _ _ _ c.in_ok-end_running.ensures.passing.going.tab (has_ended _ _ _ _ _ _ c.if-branch.true c.in_ok-end_running.ensures.ended) (sym c.in_ok-end_running.ensures.due ∙ c.if-branch.true) c.in_ok-last.ensures.ended
+    ended_turned g.p.event _ _ _ _ _ _ _ c.in_ok-end_running.ensures.passing.going.tab (has_ended _ _ _ _ _ _ c.if-branch.true c.in_ok-end_running.ensures.ended) (sym c.in_ok-end_running.ensures.due ∙ c.if-branch.true) c.in_ok-last.ensures.ended c.in_ok-last.ensures.passing.work.goes
 
 pub returns-clause-still : goal.returns-clause-still
 returns-clause-still g c not_ended =

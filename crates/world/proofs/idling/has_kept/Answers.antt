@@ -5,4 +5,4 @@ use Rattle.world.proofs.idling.has_kept.Goals as goal
 
 pub returns : goal.returns
 returns c s stands =
-    c.is_some.ensures ∙ ap is_some (c.longest_kept.ensures s stands) ∙ kept_some s stands.stands.between.tab.kept
+    c.is_some.ensures ∙ ap is_some (c.longest_kept.ensures s stands) ∙ kept_some s stands.but.stands.between.tab.kept

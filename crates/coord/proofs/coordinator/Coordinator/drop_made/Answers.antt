@@ -16,4 +16,4 @@ pub settle-requires : goal.settle-requires
 settle-requires g c =
     dropped_settles (done_in g.m) c.args.self.now c.args.job.now c.requires.1.0 c.args.state c.requires.1.1.0 _ c.in_ok-discard_made.ensures.out _
     (subst (λ (x : InMade). IsReady (pass_in x) c.discard_made.new.out c.discard_made.new.tables x.queue x.noted whys.Start) c.requires.0 c.in_ok-discard_made.ensures.ready)
-    (record c.args.self.now { tables = c.discard_made.new.tables }) refl refl refl refl
+    (record c.args.self.now { tables = c.discard_made.new.tables }) refl refl refl refl refl

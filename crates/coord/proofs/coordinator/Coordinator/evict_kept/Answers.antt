@@ -9,13 +9,13 @@ use Rattle.log_model.specs.declared.job.Why.TheVariants as whys
 
 pub evict_longest-requires : goal.evict_longest-requires
 evict_longest-requires g c =
-    (keep_now g.b.event c.args.self.now c.requires.1.1.0, (c.requires.1.1.1, (c.requires.1.0, (c.requires.1.1.0.room, (subst (λ (x : InEvict). StandsFor x.event.start c.args.self.now.tables x.queue x.noted) (sym c.requires.0) c.requires.1.1.0.stands.stands, aside g.b.event g.b.state c.args.self.now c.requires.1.1.0 c.requires.1.0)))))
+    (keep_now g.b.event c.args.self.now c.requires.1.1.0.in_, (c.requires.1.1.1, (c.requires.1.0, (c.requires.1.1.0.in_.room, (subst (λ (x : InEvict). StandsFor x.event.start c.args.self.now.tables x.queue x.noted) (sym c.requires.0) c.requires.1.1.0.in_.stands.stands, aside g.b.event g.b.state c.args.self.now c.requires.1.1.0 c.requires.1.0)))))
 
 pub settle-requires : goal.settle-requires
 settle-requires g c =
     evicted_settles g.b.event g.b.state c.args.self.now c.requires.1.1.0 c.requires.1.0 _ c.in_ok-evict_longest.ensures.came _
     (subst (λ (x : InEvict). IsReady (pass_in x) c.evict_longest.new.out c.evict_longest.new.tables x.queue x.noted whys.Evict) c.requires.0 c.in_ok-evict_longest.ensures.ready)
-    (record c.args.self.now { tables = c.evict_longest.new.tables }) refl refl refl refl
+    (record c.args.self.now { tables = c.evict_longest.new.tables }) refl refl refl refl refl
 
 pub returns-clause-came : goal.returns-clause-came
 returns-clause-came g c =

@@ -5,8 +5,8 @@ use Rattle.std.proofs.Common.{refl}
 
 pub load-requires : goal.load-requires
 load-requires g c =
-    (c.requires.1.0.header, (keep_now g.e c.args.self.now c.requires.1.0, (c.requires.1.1, (load_asks g.e c.args.self.now c.requires.1.0 c.args.req c.args.nav c.args.mode c.args.address.now c.requires.0, (c.requires.1.0.room, c.requires.1.0.stands.stands)))))
+    (c.requires.1.0.in_.header, (keep_now g.e c.args.self.now c.requires.1.0.in_, (c.requires.1.1, (load_asks g.e c.args.self.now c.requires.1.0 c.args.req c.args.nav c.args.mode c.args.address.now c.requires.0, (c.requires.1.0.in_.room, c.requires.1.0.in_.stands.stands)))))
 
 pub settle-requires : goal.settle-requires
 settle-requires g c =
-    load_settles g.e c.args.self.now c.requires.1.0 c.args.req c.args.nav c.args.mode c.args.address.now c.requires.0 _ _ _ refl c.in_ok-loaded.ensures.came c.in_ok-loaded.ensures.ready _ c.cause_of-cause.ensures
+    load_settles g.e c.args.self.now c.requires.1.0 c.args.req c.args.nav c.args.mode c.args.address.now c.requires.0 _ _ _ refl refl c.in_ok-loaded.ensures.came c.in_ok-loaded.ensures.ready _ c.cause_of-cause.ensures

@@ -4,4 +4,4 @@ use Rattle.std.proofs.Common.{refl}
 
 pub returns-clause-acted : goal.returns-clause-acted
 returns-clause-acted g c =
-    settled_acts g.e c.args.out.now _ c.args.self.now _ _ _ c.requires refl c.in_ok-settle.ensures.settled c.in_ok-settle.ensures.due c.in_ok-settle.ensures.put c.in_ok-settle.ensures.off
+    settled_acts g.e c.args.out.now _ c.args.self.now _ _ _ c.requires refl refl c.in_ok-settle.ensures.settled c.in_ok-settle.ensures.due c.in_ok-settle.ensures.put c.in_ok-settle.ensures.off

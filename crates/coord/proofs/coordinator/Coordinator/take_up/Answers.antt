@@ -20,4 +20,4 @@ settle-requires g c =
       queue = c.in_ok-take.ensures.queue;
       kept = c.in_ok-take.ensures.kept;
     } in
-    taken_settles g.d c.args.self.now c.args.made.now c.requires.0 c.requires.1.0 c.args.verdict c.requires.1.1.0 c.requires.1.1.1.0 c.take.new.out c.take.new.tables c.take.new.blame.entries (subst (λ (l : List RowKind). HasTaken (record { event = g.d.event; loads = []; hand = c.args.made.now ∷ [] }) c.args.self.now.tables c.args.made.now l c.take.new.out c.take.new.tables c.take.new.blame.entries) c.requires.1.1.1.1 taken) (record c.args.self.now { tables = c.take.new.tables; blame = c.take.new.blame }) refl refl refl refl
+    taken_settles g.d c.args.self.now c.args.made.now c.requires.0 c.requires.1.0 c.args.verdict c.requires.1.1.0 c.requires.1.1.1.0 c.take.new.out c.take.new.tables c.take.new.blame.entries (subst (λ (l : List RowKind). HasTaken (record { event = g.d.event; loads = []; hand = c.args.made.now ∷ [] }) c.args.self.now.tables c.args.made.now l c.take.new.out c.take.new.tables c.take.new.blame.entries) c.requires.1.1.1.1 taken) (record c.args.self.now { tables = c.take.new.tables; blame = c.take.new.blame }) refl refl refl refl refl

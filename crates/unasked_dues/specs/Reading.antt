@@ -3,17 +3,15 @@
 use Rattle.log_model.specs.Seen.{Seen}
 use Rattle.log_model.specs.declared.row_kind.RowKind.TheVariants as rows
 use Rattle.log_model.specs.declared.row_kind.RowKind.{RowKind}
-use Rattle.seen_laws.specs.InEvent.{InEvent, here_of, log_of, now_of, row_of}
+use Rattle.seen_laws.specs.InEvent.{InEvent, here_of, log_of, row_of}
 use Rattle.seen_laws.specs.Owing.{owes_row}
-use Rattle.seen_laws.specs.Unasked.{unasked}
 use Rattle.std.specs.Prelude.{List, Option, true, ◌++◌, ◌∷◌, ◌≡◌}
 use Rattle.tab_ids.specs.declared.ReqId.{ReqId}
 use Rattle.tab_ids.specs.declared.Step.{Step}
 use Rattle.unasked_dues.specs.Checking.{AllOthersPass, AreNumbered}
 
--- after these rows the log without questions is read off the log, and whoever isn't in its check has passed
+-- after these rows requests have their numbers, and whoever isn't in its check has passed
 pub record IsReadAt (e : InEvent) (out : List RowKind) : Type 0 where
-  pub same : now_of e out ≡ unasked e.checking (log_of e out)
   pub numbered : AreNumbered (log_of e out)
   pub others : AllOthersPass e.checking (log_of e out)
 

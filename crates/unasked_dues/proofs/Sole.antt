@@ -7,8 +7,8 @@ use Rattle.log_model.specs.declared.request.Request.TheVariants as requests
 use Rattle.log_model.specs.declared.request.Request.{Request}
 use Rattle.log_model.specs.declared.row_kind.RowKind.TheVariants as rows
 use Rattle.log_model.specs.declared.row_kind.RowKind.{RowKind}
-use Rattle.unasked_owes.proofs.Read.{Parted, parted}
-use Rattle.unasked_owes.specs.Reading.{BeginSole}
+use Rattle.unasked_dues.proofs.Read.{Parted, parted}
+use Rattle.unasked_dues.specs.Reading.{BeginSole}
 use Rattle.seen_laws.proofs.InEvents.{log_more}
 use Rattle.seen_laws.specs.InEvent.{InEvent, here_of, log_of, row_of}
 use Rattle.seen_laws.specs.Owing.{is_sole_load, owes_row}

@@ -6,17 +6,16 @@ use Rattle.log_model.specs.declared.outcome.Cause.TheVariants as drops
 use Rattle.log_model.specs.declared.row_kind.LogRow.{LogRow}
 use Rattle.log_model.specs.declared.row_kind.RowKind.TheVariants as rows
 use Rattle.log_model.specs.declared.row_kind.RowKind.{RowKind}
-use Rattle.unasked_owes.specs.Reading.{BeginSole, IsReadAt, WereRead}
-use Rattle.seen_laws.proofs.InEvents.{here_more, seen_here_more}
+use Rattle.unasked_dues.specs.Reading.{BeginSole, IsReadAt, WereRead}
+use Rattle.seen_laws.proofs.InEvents.{here_more}
 use Rattle.seen_laws.specs.Blocks.{Here, on_row, on_rows, point_at}
-use Rattle.seen_laws.specs.InEvent.{InEvent, first_of, here_of, is_seen, now_of, row_of, seen_first, seen_here, seen_rows}
+use Rattle.seen_laws.specs.InEvent.{InEvent, first_of, here_of, now_of, row_of, seen_here}
 use Rattle.seen_laws.specs.Owing.{owes, owes_row}
 use Rattle.seen_laws.specs.Unasked.{unasked, unasked_request}
-use Rattle.std.proofs.Common.{Bool, List, None, Option, Some, [], ap, append-nil, append_assoc, cond, false, map, refl, subst, sym, true, ◌++◌, ◌||◌, ◌∙◌, ◌∷◌, ◌≡◌}
+use Rattle.std.proofs.Common.{Bool, List, None, Option, Some, [], ap, append_assoc, false, map, refl, subst, sym, true, ◌++◌, ◌||◌, ◌∙◌, ◌∷◌, ◌≡◌}
 use Rattle.std.proofs.lemmas.Bool.{and_parts}
-use Rattle.std.proofs.lemmas.List.Elements.{filter-append}
-use Rattle.std.specs.Prelude.{filter, option_map}
-use Rattle.row_facts.specs.Owed.Owed.{owes_seen}
+use Rattle.std.specs.Prelude.{option_map}
+use Rattle.row_facts.specs.Owed.Owed.{owes_from, owes_seen}
 use Rattle.tab_ids.specs.declared.ReqId.{ReqId}
 use Rattle.tab_ids.specs.declared.Step.{Step}
 use Rattle.unasked.proofs.Readings.{request_read}
@@ -69,13 +68,6 @@ module _ (e : InEvent) (out : List RowKind) (end : Seen) (aimed : IsAimed e.chec
   seen_end = unasked e.checking end
 
   -- where the event stands keeps what it began with
-  start_seen : (before : List RowKind) → (seen_here e before).start ≡ unasked e.checking (here_of e before).start
-  start_seen before = starts (seen_first e) (seen_rows e before) ∙ ap (unasked e.checking) (sym (starts (first_of e) (map (row_of e) before)))
-    where
-      starts : (h : Here) (rows_ : List LogRow) → (on_rows h rows_).start ≡ h.start
-      starts h [] = refl
-      starts h (row ∷ rows_) = starts (on_row h row) rows_
-
   start_here : (before : List RowKind) → (here_of e before).start ≡ e.start
   start_here before = starts (first_of e) (map (row_of e) before)
     where
@@ -84,10 +76,10 @@ module _ (e : InEvent) (out : List RowKind) (end : Seen) (aimed : IsAimed e.chec
       starts h (row ∷ rows_) = starts (on_row h row) rows_
 
   -- what the row owes
-  row_in : (before : List RowKind) → IsReadAt e before → (kind : RowKind) → (is_seen e.checking kind ≡ true → owes_row (seen_here e before) (row_of e kind) seen_end ≡ true) → ((req : ReqId) (goal : Option Step) → kind ≡ rows.Started req goal → owes_row (here_of e before) (row_of e (rows.Started req goal)) end ≡ true) → owes_row (here_of e before) (row_of e kind) end ≡ true
+  row_in : (before : List RowKind) → IsReadAt e before → (kind : RowKind) → owes_row (seen_here e before) (row_of e kind) seen_end ≡ true → ((req : ReqId) (goal : Option Step) → kind ≡ rows.Started req goal → owes_row (here_of e before) (row_of e (rows.Started req goal)) end ≡ true) → owes_row (here_of e before) (row_of e kind) end ≡ true
   unfolding now_of
   row_in before at (rows.Dropped req (drops.By r)) paid begun =
-      dropped_in e.checking (here_of e before) (seen_here e before) end (start_seen before) at.same (subst AreNumbered (sym (start_here before)) start_numbered) at.numbered at.others aimed end_others req r (paid refl)
+      dropped_in e.checking (here_of e before) (seen_here e before) end (ap (unasked e.checking) (sym (start_here before))) refl (subst AreNumbered (sym (start_here before)) start_numbered) at.numbered at.others aimed end_others req r paid
   row_in before at (rows.Dropped req drops.Stay) paid begun = refl
   row_in before at (rows.Dropped req (drops.Destroyed r)) paid begun = refl
   row_in before at (rows.Dropped req (drops.Gone death)) paid begun = refl
@@ -106,20 +98,13 @@ module _ (e : InEvent) (out : List RowKind) (end : Seen) (aimed : IsAimed e.chec
   row_in before at (rows.Killed proc death) paid begun = refl
   row_in before at (rows.Evicted state) paid begun = refl
 
-  -- a row that isn't seen leaves the log without questions where it was
-  seen_less : (before : List RowKind) (kind : RowKind) → is_seen e.checking kind ≡ false → seen_here e (before ++ kind ∷ []) ≡ seen_here e before
-  seen_less before kind unseen =
-      ap (λ (kinds : List RowKind). on_rows (seen_first e) (map (row_of e) kinds))
-      (filter-append (is_seen e.checking) before (kind ∷ []) ∙ ap (λ b. filter (is_seen e.checking) before ++ cond b (kind ∷ []) []) unseen ∙ append-nil (filter (is_seen e.checking) before))
-
   abbrev Owes : Here → List RowKind → Type 0
   Owes h kinds = owes h (map (row_of e) kinds) end ≡ true
 
-  abbrev SeenOwes : Here → List RowKind → Type 0
-  SeenOwes u kinds = owes u (map (row_of e) kinds) seen_end ≡ true
-
-  one_more : (before later : List RowKind) (kind : RowKind) → before ++ kind ∷ later ≡ out → (b : Bool) → is_seen e.checking kind ≡ b → SeenOwes (seen_here e before) (cond b (kind ∷ filter (is_seen e.checking) later) (filter (is_seen e.checking) later)) → (SeenOwes (seen_here e (before ++ kind ∷ [])) (filter (is_seen e.checking) later) → Owes (here_of e (before ++ kind ∷ [])) later) → Owes (here_of e before) (kind ∷ later)
-  one_more before later kind whole b is paid rest = by_seen b is paid
+  one_more : (before later : List RowKind) (kind : RowKind) → before ++ kind ∷ later ≡ out → owes_from e before (kind ∷ later) seen_end ≡ true → (owes_from e (before ++ kind ∷ []) later seen_end ≡ true → Owes (here_of e (before ++ kind ∷ [])) later) → Owes (here_of e before) (kind ∷ later)
+  one_more before later kind whole paid rest =
+      let parts = and_parts (owes_row (seen_here e before) (row_of e kind) seen_end) (owes_from e (before ++ kind ∷ []) later seen_end) paid in
+      rw (row_in before (read.each before (kind ∷ later) whole) kind parts.0 begun) (on (rest parts.1))
     where
       begun : (req : ReqId) (goal : Option Step) → kind ≡ rows.Started req goal → owes_row (here_of e before) (row_of e (rows.Started req goal)) end ≡ true
       begun req goal same = sole.each before later req goal (ap (λ (k : RowKind). before ++ k ∷ later) (sym same) ∙ whole)
@@ -127,20 +112,10 @@ module _ (e : InEvent) (out : List RowKind) (end : Seen) (aimed : IsAimed e.chec
       on : Owes (here_of e (before ++ kind ∷ [])) later → Owes (on_row (here_of e before) (row_of e kind)) later
       on is = subst (λ (h : Here). Owes h later) (here_more e before kind) is
 
-      at : IsReadAt e before
-      at = read.each before (kind ∷ later) whole
-
-      by_seen : (b : Bool) → is_seen e.checking kind ≡ b → SeenOwes (seen_here e before) (cond b (kind ∷ filter (is_seen e.checking) later) (filter (is_seen e.checking) later)) → Owes (here_of e before) (kind ∷ later)
-      by_seen true seen all =
-          let parts = and_parts (owes_row (seen_here e before) (row_of e kind) seen_end) (owes (on_row (seen_here e before) (row_of e kind)) (map (row_of e) (filter (is_seen e.checking) later)) seen_end) all in
-          rw (row_in before at kind (λ is. parts.0) begun) (on (rest (subst (λ (u : Here). SeenOwes u (filter (is_seen e.checking) later)) (sym (seen_here_more e before kind seen)) parts.1)))
-      by_seen false unseen all =
-          rw (row_in before at kind (λ is. (let never : true ≡ false = sym is ∙ unseen in absurd cc)) begun) (on (rest (subst (λ (u : Here). SeenOwes u (filter (is_seen e.checking) later)) (sym (seen_less before kind unseen)) all)))
-
-  read_rows : (before later : List RowKind) → before ++ later ≡ out → SeenOwes (seen_here e before) (filter (is_seen e.checking) later) → Owes (here_of e before) later
+  read_rows : (before later : List RowKind) → before ++ later ≡ out → owes_from e before later seen_end ≡ true → Owes (here_of e before) later
   read_rows before [] whole paid = refl
   read_rows before (kind ∷ later) whole paid =
-      one_more before later kind whole (is_seen e.checking kind) refl paid (read_rows (before ++ kind ∷ []) later (append_assoc before (kind ∷ []) later ∙ whole))
+      one_more before later kind whole paid (read_rows (before ++ kind ∷ []) later (append_assoc before (kind ∷ []) later ∙ whole))
 
   -- what the rows owe is paid in the log
   pub paid_read : owes_seen e out seen_end ≡ true → owes (first_of e) (map (row_of e) out) end ≡ true

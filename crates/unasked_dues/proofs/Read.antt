@@ -2,7 +2,7 @@
 use Rattle.log_model.specs.declared.row_kind.RowKind.{RowKind}
 use Rattle.seen_laws.specs.InEvent.{InEvent}
 use Rattle.std.proofs.Common.{List, [], ap, refl, subst, sym, ◌++◌, ◌∷◌, ◌≡◌}
-use Rattle.unasked_owes.specs.Reading.{IsReadAt, WereRead}
+use Rattle.unasked_dues.specs.Reading.{IsReadAt, WereRead}
 
 -- where a list with one item more is parted: behind all of it, or before that item
 pub data Parted {A : Type 0} (before out : List A) (x : A) : Type 0 where
