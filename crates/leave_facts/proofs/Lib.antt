@@ -18,3 +18,5 @@ pub mod Unbegun
 pub mod Carried
 pub mod Moved
 pub mod Lefts
+pub mod Bares
+pub mod Events

@@ -113,10 +113,10 @@ module _ (documents : List Document) (places : List Place) (p : ProcId) (doc : D
 -- ---- the document whose making is done
 
 -- it isn't made yet
-record IsUnmade (documents : List Document) (doc : DocId) : Type 0 where
-  d : Document
-  found : document_in documents doc ≡ Some d
-  unready : d.is_ready ≡ false
+pub record IsUnmade (documents : List Document) (doc : DocId) : Type 0 where
+  pub d : Document
+  pub found : document_in documents doc ≡ Some d
+  pub unready : d.is_ready ≡ false
 
 module _ (s : Seen) (checking : ReqId → Bool) (docs : AreDocs (unasked checking s)) (desks : AreDesksIn (unasked checking s)) (proc : ProcId) (order : Order) (in_hand : (desk_of s proc).in_hand ≡ Some order) (makes : makes_by true order.job.task ≡ 1) where
   abbrev bare : Seen
@@ -167,7 +167,7 @@ module _ (s : Seen) (checking : ReqId → Bool) (docs : AreDocs (unasked checkin
       by_ready true is = (let no_ : (1 + makes_sent doc (desk_of bare proc).mail) + makes_told doc (desk_of bare proc).reports ≡ 0 = sym one_here ∙ is in absurd (omega (arith, no_)))
       by_ready false is = (let sum : (1 + makes_sent doc (desk_of bare proc).mail) + makes_told doc (desk_of bare proc).reports ≡ 1 = sym one_here ∙ is in (refl, omega (arith, sum)))
 
-  unmade : IsUnmade s.documents doc
+  pub unmade : IsUnmade s.documents doc
   unmade = by_old (document_of s doc) refl (sym (document_read checking s doc) ∙ its.lives.found)
     where
       by_old : (o : Option Document) → document_of s doc ≡ o → option_map unhandled o ≡ Some d → IsUnmade s.documents doc

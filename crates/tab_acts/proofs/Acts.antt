@@ -52,7 +52,7 @@ use Rattle.tab_ids.specs.declared.ProcId.{ProcId}
 use Rattle.tab_ids.specs.declared.ReqId.{ReqId}
 use Rattle.tab_ids.specs.declared.StateId.{StateId}
 use Rattle.tab_stands.proofs.EpochRows.{made_under, refused_under}
-use Rattle.tab_stands.proofs.PassedOn.{unstood_by}
+use Rattle.tab_stands.proofs.PassedOn.{unstood_by, row_duly}
 use Rattle.tab_stands.specs.PassedOn.{IsByItsOwn, LoadsMadeOwn, is_new_entry}
 use Rattle.tab_stands.specs.Standing.{HasActed, HasRoomFor, StandsFor}
 use Rattle.tab_facts.proofs.TabWhole.Acting.{IsActing, not_running, unjoined, unparked}
@@ -215,6 +215,7 @@ module _ (e : InEvent) (t : Tables) (queue : Queue) (blame : List (StateId × Re
           (theirs_else s made_ poke.req no_load (λ r apart. on_else s.requests poke.req (λ (x : Asked). record x { made = Some its_made }) r apart) own_was homes stands.lasts.made)
           (were_shown s s.events (actors.Proc proc) stands.lasts.were (rows.Made proc its_made) tt)
           (made_under s s.events (actors.Proc proc) proc its_made stands.lasts.shows)
+          (row_duly s s.events (actors.Proc proc) stands.lasts.duly (rows.Made proc its_made) tt)
         where
           own_was : (q : Asked) → request_in made_.requests poke.req ≡ Some q → (old : Asked) × (request_in s.requests poke.req ≡ Some old) × (old.what ≡ q.what)
           own_was q at =
@@ -303,6 +304,7 @@ module _ (e : InEvent) (t : Tables) (queue : Queue) (blame : List (StateId × Re
         (theirs_else s refused poke.req no_load (λ r apart. on_else s.requests poke.req refuse r apart) (λ q at. (its_asked.q, its_asked.there, ap (λ (x : Asked). x.what) (then_is q at))) (λ doc d found. (d, found, refl)) stands.lasts.made)
         (were_shown s e.event (actors.Proc proc) stands.lasts.were (rows.Refused poke.req reason) tt)
         (refused_under s e.event (actors.Proc proc) poke.req reason stands.lasts.shows)
+        (row_duly s e.event (actors.Proc proc) stands.lasts.duly (rows.Refused poke.req reason) tt)
 
     pub refused_acts : e.actor ≡ actors.Proc proc → e.event ≡ e.start.events → e.own ≡ rows.Refused poke.req reason → Passes e.header (record { start = e.start; now = e.start; done = []; later = [] }) (record { event = e.start.events; actor = actors.Proc proc; row = rows.Refused poke.req reason }) → HasActed e [] t queue blame
     refused_acts by event own passes =

@@ -55,7 +55,7 @@ use Rattle.tab_ids.specs.declared.ReqId.{ReqId}
 use Rattle.tab_ids.specs.declared.StateId.{StateId}
 use Rattle.tab_stands.proofs.Coming.{bare}
 use Rattle.tab_stands.proofs.EpochRows.{coord_under, made_under}
-use Rattle.tab_stands.proofs.PassedOn.{unstood_by}
+use Rattle.tab_stands.proofs.PassedOn.{unstood_by, FitsWell, change_duly, row_duly}
 use Rattle.tab_stands.specs.PassedOn.{LoadsMadeOwn}
 use Rattle.tab_stands.specs.Standing.{HasActed, HasRoomFor, StandsFor}
 
@@ -254,6 +254,17 @@ module _ (e : InEvent) (t : Tables) (queue : Queue) (blame : List (StateId × Re
       own_was : (q : Asked) → request_in n.requests poke.req ≡ Some q → (old : Asked) × (request_in s.requests poke.req ≡ Some old) × (old.what ≡ q.what)
       own_was q at = (asked.q, asked.there, ap (λ (x : Asked). x.what) (some_same (sym there_then ∙ at)))
 
+  -- an edit changes no history
+  edit_fits : FitsWell edits kinds.Edit
+  edit_fits =
+      record {
+        sound = stands.between.tab.sound;
+        hangs = record { woven = stands.between.tab.hangs.woven; rows = stands.between.tab.hangs.rows };
+        fit = refl;
+        brings = tt;
+        then_sound = stands.between.tab.sound;
+      }
+
   edit_stands : StandsFor n t queue blame
   edit_stands =
       left_stands e t queue blame stands room n (but_of t.running s n (edited_left t.kept.keep t.running s proc stands.between poke first d view acting)) told
@@ -261,6 +272,7 @@ module _ (e : InEvent) (t : Tables) (queue : Queue) (blame : List (StateId × Re
       (λ F are. orders_after F edits s.events (actors.Proc proc) (rows.Applied poke.req kinds.Edit) tt (λ x is. cc) (orders_after F s s.events (actors.Proc proc) (rows.Made proc its_made) tt (λ x is. cc) are)) theirs
       (were_shown edits s.events (actors.Proc proc) (were_shown s s.events (actors.Proc proc) stands.lasts.were (rows.Made proc its_made) tt) (rows.Applied poke.req kinds.Edit) tt)
       (coord_under edits s.events (actors.Proc proc) (rows.Applied poke.req kinds.Edit) tt (record { start = s; now = edits; done = []; later = [] }) refl refl (made_under s s.events (actors.Proc proc) proc its_made stands.lasts.shows))
+      (change_duly edits s.events (actors.Proc proc) (row_duly s s.events (actors.Proc proc) stands.lasts.duly (rows.Made proc its_made) tt) poke.req kinds.Edit edit_fits tt)
 
   -- ---- the event
 

@@ -57,7 +57,7 @@ use Rattle.tab_ids.specs.declared.ProcId.{ProcId}
 use Rattle.tab_ids.specs.declared.ReqId.{ReqId}
 use Rattle.tab_ids.specs.declared.StateId.{StateId}
 use Rattle.tab_stands.proofs.EpochRows.{finished_under, made_under}
-use Rattle.tab_stands.proofs.PassedOn.{unstood_by}
+use Rattle.tab_stands.proofs.PassedOn.{unstood_by, finished_duly, row_duly}
 use Rattle.tab_stands.specs.PassedOn.{IsByItsOwn, IsOfItsLoad, IsSoundTask, LoadsMadeOwn, is_new_entry}
 use Rattle.tab_stands.specs.Standing.{HasActed, HasRoomFor, StandsFor}
 use Rattle.tab_facts.proofs.TabWhole.Fragments.{IsToFragment}
@@ -289,6 +289,7 @@ module _ (e : InEvent) (t : Tables) (queue : Queue) (blame : List (StateId × Re
       (λ F are. orders_after F half e.event (actors.Proc proc) (rows.Made proc made) tt (λ job is. cc) (orders_after F s e.event (actors.Proc proc) (rows.Finished proc order.job.nr outcomes.Fragmented) tt (λ job is. cc) are)) theirs
       (were_shown half e.event (actors.Proc proc) (were_shown s e.event (actors.Proc proc) stands.lasts.were (rows.Finished proc order.job.nr outcomes.Fragmented) tt) (rows.Made proc made) tt)
       (made_under half e.event (actors.Proc proc) proc made (finished_under s e.event (actors.Proc proc) proc order.job.nr outcomes.Fragmented stands.lasts.shows))
+      (row_duly half e.event (actors.Proc proc) (finished_duly s e.event (actors.Proc proc) stands.lasts.duly proc order outcomes.Fragmented to.in_hand (λ slot is. cc)) (rows.Made proc made) tt)
 
   -- ---- the event
 

@@ -55,7 +55,7 @@ use Rattle.tab_ids.specs.declared.ReqId.{ReqId}
 use Rattle.tab_ids.specs.declared.StateId.{StateId}
 use Rattle.tab_stands.proofs.Coming.{IsComing, bare}
 use Rattle.tab_stands.proofs.Dones.{itself}
-use Rattle.tab_stands.proofs.PassedOn.{KeepsWhat, course_of, out_alike, queue_over, sound_on}
+use Rattle.tab_stands.proofs.PassedOn.{KeepsWhat, course_of, out_alike, queue_over, sound_on, AreLeftDuly}
 use Rattle.tab_stands.proofs.Placed.{states_alike}
 use Rattle.tab_stands.proofs.Stays.{stands_still}
 use Rattle.tab_stands.specs.Offs.{AreShownUnder}
@@ -98,7 +98,7 @@ any_map : (g : Document → Document) (test : Document → Bool) (xs : List Docu
 any_map g test [] same = refl
 any_map g test (x ∷ xs) same = rw (same x) (ap (λ (b : Bool). test x || b) (any_map g test xs same))
 
-module _ (e : InEvent) (t : Tables) (queue : Queue) (blame : List (StateId × ReqId)) (stands : StandsFor e.start t queue blame) (room : HasRoomFor e.start) (n : Seen) (left : IsLeftBut t.running e.start n) (told : StaysTold e.start n) (between : IsBetween t.kept.keep t.running n) (lasting : AreLasting n) (rows_ : (F : Job → Type 0) → AreOrders F e.start → AreOrders F n) (theirs : LoadsMadeOwn n) (were : WereShown n) (shows : AreShownUnder n) where
+module _ (e : InEvent) (t : Tables) (queue : Queue) (blame : List (StateId × ReqId)) (stands : StandsFor e.start t queue blame) (room : HasRoomFor e.start) (n : Seen) (left : IsLeftBut t.running e.start n) (told : StaysTold e.start n) (between : IsBetween t.kept.keep t.running n) (lasting : AreLasting n) (rows_ : (F : Job → Type 0) → AreOrders F e.start → AreOrders F n) (theirs : LoadsMadeOwn n) (were : WereShown n) (shows : AreShownUnder n) (duly : AreLeftDuly n) where
   abbrev s : Seen
   s = e.start
 
@@ -436,4 +436,4 @@ module _ (e : InEvent) (t : Tables) (queue : Queue) (blame : List (StateId × Re
 
   pub left_stands : StandsFor n t queue blame
   left_stands =
-      stands_still e t queue blame stands n comes between going tied makes sound shows strays_then queued parked_then
+      stands_still e t queue blame stands n comes between going tied makes sound shows duly strays_then queued parked_then

@@ -50,10 +50,10 @@ use Rattle.tab_ids.specs.declared.ProcId.{ProcId}
 use Rattle.tab_ids.specs.declared.ReqId.{ReqId}
 use Rattle.tab_ids.specs.declared.StateId.{StateId}
 use Rattle.tab_stands.proofs.EpochRows.{finished_under, taken_under}
-use Rattle.tab_stands.proofs.PassedOn.{unstood_by}
+use Rattle.tab_stands.proofs.PassedOn.{unstood_by, finished_duly, row_duly, is_made}
 use Rattle.tab_stands.specs.PassedOn.{IsSoundTask, LoadsMadeOwn}
 use Rattle.tab_stands.specs.Standing.{HasActed, HasRoomFor, StandsFor}
-use Rattle.tab_facts.proofs.TabWhole.Working.{taken_lives}
+use Rattle.tab_facts.proofs.TabWhole.Working.{taken_lives, unready}
 use Rattle.seen_facts.specs.Transit.Orders.{IsOutcomeOf}
 use Rattle.log_model.specs.declared.job.Task.TheVariants as tasks
 use Rattle.log_model.specs.declared.outcome.Outcome.TheVariants as outcomes
@@ -92,6 +92,7 @@ module _ (e : InEvent) (t : Tables) (queue : Queue) (blame : List (StateId × Re
         (theirs_same s took refl (λ doc d found. (d, found, refl)) stands.lasts.made)
         (were_shown s e.event (actors.Proc proc) stands.lasts.were (rows.Taken proc job.nr true dirty) tt)
         (taken_under s e.event (actors.Proc proc) proc job.nr true dirty stands.lasts.shows)
+        (row_duly s e.event (actors.Proc proc) stands.lasts.duly (rows.Taken proc job.nr true dirty) tt)
 
     pub taken_acts : (by : e.actor ≡ actors.Proc proc) (event : e.event ≡ e.start.events) (is_dirty : dirty ≡ holds (λ (d : Document). holds (λ (view : View). view.dirty) d.view) (document_of e.start job.doc)) (own : e.own ≡ rows.Taken proc job.nr true dirty) → HasActed e [] t queue blame
     taken_acts by event is_dirty own =
@@ -192,6 +193,19 @@ module _ (e : InEvent) (t : Tables) (queue : Queue) (blame : List (StateId × Re
         let seen : IsSeen did doc (sight d) = seen_of did doc (sight d) (ap (λ (l : List Sight). sight_in l doc) did_told.sights ∙ sight_of s doc d found) in
         (seen.document, seen.found, ap (λ (x : Sight). x.nav) seen.is)
 
+    -- where it makes a document, this isn't made yet
+    unmade : (slot : Option ℕ) → outcome ≡ outcomes.Populated slot → is_made s.documents order.job.doc ≡ false
+    unmade slot is = by_task order.job.task refl (subst (λ (o : Outcome). IsOutcomeOf order.job.task o) is its)
+      where
+        by_found : (o : Option Document) → document_of s order.job.doc ≡ o → ((x : Document) → document_of s order.job.doc ≡ Some x → x.is_ready ≡ false) → holds (λ (x : Document). x.is_ready) o ≡ false
+        by_found None found none = refl
+        by_found (Some x) found none = none x found
+
+        by_task : (task : Task) → order.job.task ≡ task → IsOutcomeOf task (outcomes.Populated slot) → is_made s.documents order.job.doc ≡ false
+        by_task (tasks.Populate nav state address initial) task out =
+            by_found (document_of s order.job.doc) refl (λ x found. unready t.running s e.event proc stands.between.tab stands.between.flows order outcome hand its bare (tasks.Populate nav state address initial) task x found)
+        by_task _ task out = elim out [ ]
+
     pub finished_stands : StandsFor (next e.start e.event (actors.Proc proc) (rows.Finished proc order.job.nr outcome)) t queue blame
     finished_stands =
         left_stands e t queue blame stands room did (but_of t.running s did did_left) did_told (finished_between t.kept.keep t.running s e.event proc stands.between order outcome hand its bare other)
@@ -200,6 +214,7 @@ module _ (e : InEvent) (t : Tables) (queue : Queue) (blame : List (StateId × Re
         (theirs_same s did requests_same homes stands.lasts.made)
         (were_shown s e.event (actors.Proc proc) stands.lasts.were (rows.Finished proc order.job.nr outcome) tt)
         (finished_under s e.event (actors.Proc proc) proc order.job.nr outcome stands.lasts.shows)
+        (finished_duly s e.event (actors.Proc proc) stands.lasts.duly proc order outcome hand unmade)
 
     -- ---- it passes, where no page has a handler
 

@@ -42,7 +42,7 @@ use Rattle.tab_ids.specs.declared.StateId.{StateId}
 use Rattle.tab_stands.proofs.Coming.{bare}
 use Rattle.tab_stands.proofs.Dones.{did, did_joined, did_now, did_parked, did_requests, did_tab, did_takes, documents_same, places_same, quiet_asks, quiet_begun}
 use Rattle.tab_stands.proofs.EpochRows.{delivered_under}
-use Rattle.tab_stands.proofs.PassedOn.{of_load, unstood_by}
+use Rattle.tab_stands.proofs.PassedOn.{of_load, unstood_by, row_duly}
 use Rattle.tab_stands.proofs.Reports.{told_kept, told_legal}
 use Rattle.tab_stands.specs.Delivering.{IsDelivery, IsQuietTask}
 use Rattle.tab_stands.specs.PassedOn.{IsStray}
@@ -137,6 +137,7 @@ module _ (e : InEvent) (proc : ProcId) (job : Job) (outcome : Outcome) (del : Is
       (theirs_same s n asked (λ doc d found. (d, ap (λ (l : List Document). find (λ (x : Document). x.nr.0 == doc.0) l) docs ∙ found, refl)) stands.lasts.made)
       (were_shown s e.event actors.Coord stands.lasts.were (rows.Delivered proc) tt)
       (delivered_under s e.event actors.Coord proc (fine t.running s e.event proc stands.between.tab stands.between.flows (reports.Done job outcome None) del.first) stands.lasts.shows)
+      (row_duly s e.event actors.Coord stands.lasts.duly (rows.Delivered proc) tt)
 
   -- so the event is over
   pub told_acts : HasActed e [] t queue blame

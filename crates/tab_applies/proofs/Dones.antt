@@ -1,12 +1,14 @@
 -- As a ready load was applied, all goes on, and the rest is as it was.
-use Rattle.seen_laws.proofs.InEvents.{last_goes, now_at}
+use Rattle.seen_facts.proofs.Hang.Frames.{IsNoFrame}
+use Rattle.seen_facts.specs.Each.Runs.{OnlyRuns}
+use Rattle.tab_turns.proofs.PassedOn.{AreLeftDuly, alone_log, bare_alone_duly, duly_then, load_pushed_tab, load_replaced_tab, pushed_going, pushed_lasting, replaced_going, replaced_lasting}
+use Rattle.seen_laws.proofs.InEvents.{last_goes, now_at, now_is}
 use Rattle.seen_facts.proofs.Coord.Held.{without_same}
 use Rattle.seen_facts.proofs.Coord.Unread.{next}
 use Rattle.seen_facts.proofs.Entry.Skips.{without_made}
 use Rattle.tab_facts.proofs.Frame.Applied.{applied_wishes}
 use Rattle.tab_facts.proofs.FrameTab.Plainly.{applied_reads}
 use Rattle.tab_facts.proofs.FrameWhole.Refusing.{none_without}
-use Rattle.tab_turns.proofs.PassedOn.{load_pushed_tab, load_replaced_tab, pushed_going, pushed_lasting, replaced_going, replaced_lasting}
 use Rattle.load_doors.specs.Applying.{new_entry}
 use Rattle.load_table.specs.Loads.{ongoing_load}
 use Rattle.load_table.specs.declared.load.Load.{Load}
@@ -24,7 +26,7 @@ use Rattle.row_facts.proofs.Owed.Rows.{applied_lasts}
 use Rattle.row_facts.specs.Owed.Owed.{IsLoose}
 use Rattle.row_facts.proofs.RestRows.Rows.{applied_rests}
 use Rattle.row_facts.specs.RestRows.Moving.{AllRest}
-use Rattle.seen_laws.specs.InEvent.{InEvent, now_of}
+use Rattle.seen_laws.specs.InEvent.{InEvent, now_of, log_of}
 use Rattle.std.proofs.Common.{Bool, List, None, Option, Some, [], ap, false, if◌then◌else◌, length, refl, subst, sym, true, ℕ, ◌++◌, ◌∙◌, ◌∷◌, ◌≡◌, ◌≤◌}
 use Rattle.tab_applies.proofs.Dues.{aim_now, fit, given, going, next_is, open_, tab, tie, unheld_at}
 use Rattle.tab_applies.specs.Applying.{HasApplied, MayApply}
@@ -117,6 +119,18 @@ module _ (p : InPass) (out : List RowKind) (t : Tables) (passing : IsPassing p o
         subst (λ (l : List RowKind). IsLoose e l) (sym out_is)
         (loose_more e out (rows.Applied load.req change) (last_goes e out (rows.Applied load.req change) _ out_is work.goes).read (passing.loose stand) (applied_lasts s e.event e.actor load.req change) (λ end on. refl))
 
+    -- it adds no frame
+    no_frame : (b : Bool) → load.replace ≡ b → IsNoFrame change
+    no_frame true is = subst IsNoFrame (sym (change_is true is)) tt
+    no_frame false is = subst IsNoFrame (sym (change_is false is)) tt
+
+    -- whom requests leave was asked still, as no traversal is under way
+    applied_duly : AreLeftDuly (log_of e more)
+    applied_duly =
+        duly_then e out (rows.Applied load.req change) more out_is
+        (bare_alone_duly e.checking (log_of e out) e.event e.actor passing.duly load.req change (no_frame load.replace refl) (subst (λ (x : Seen). fits x.history change ≡ true) (now_is e out) (fit p out t passing nav load at idle may over over_is))
+        (alone_log e.checking (log_of e out) passing.work.unheld passing.work.checks.numbered load.req None (subst (λ (x : Seen). OnlyRuns None x) (now_is e out) goes.tab.asked.only) (λ r never. absurd cc)))
+
     pub apply_passing : IsPassing p more u
     apply_passing =
         record {
@@ -125,6 +139,7 @@ module _ (p : InPass) (out : List RowKind) (t : Tables) (passing : IsPassing p o
           owed = loose_owed e more loose_then;
           loose = λ all. loose_then;
           rests = subst (λ (x : Seen). AllRest x) (sym now) (applied_rests s e.event e.actor [] passing.rests load.req change);
+          duly = applied_duly;
           few = subst (λ (k : ℕ). length (now_of e more).kept ≤ k) (sym keeps.keep) (subst (λ (l : List DocId). length l ≤ t.kept.keep) (sym (ap (λ (x : Seen). x.kept) now)) passing.few);
         }
 

@@ -1,4 +1,5 @@
 -- An ongoing load is dropped: what that asks, that all goes on then, and that all else is as it was.
+use Rattle.tab_passes.proofs.PassedOn.{dropped_duly}
 use Rattle.tab_doors.proofs.PassedOn.{dropped_now}
 use Rattle.tab_passes.proofs.SetOuts.{KeepBegun, begun_as_it_was, course_of, kept_begun}
 use Rattle.seen_facts.proofs.Coord.Held.{on_else, without_same}
@@ -139,6 +140,7 @@ module _ (p : InPass) (out : List RowKind) (t : Tables) (pass : IsPassing p out 
         owed = owed;
         loose = λ stand. loose (subst (λ (x : Seen). all_stand x (aim_of x) ≡ true) (sym now_is) stand);
         rests = subst (λ (x : Seen). AllRest x) now_is (dropped_rests s p.event.event p.event.actor [] pass.rests req cause);
+        duly = dropped_duly p.event out req cause (out ++ rows.Dropped req cause ∷ []) refl pass.duly;
         few = subst (λ (n : ℕ). length (now_of p.event (out ++ rows.Dropped req cause ∷ [])).kept ≤ n) (sym keeps.keep) (subst (λ (x : Seen). length x.kept ≤ t.kept.keep) now_is pass.few);
       })
     where

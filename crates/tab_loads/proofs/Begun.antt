@@ -1,4 +1,10 @@
 -- A load has begun: all goes on, and its navigable stands still.
+use Rattle.seen_facts.specs.Home.Homes.{AreHomed}
+use Rattle.seen_facts.specs.Hang.Hanging.{Hangs}
+use Rattle.log_model.specs.Soundness.{IsSound}
+use Rattle.seen_laws.proofs.InEvents as events
+use Rattle.seen_laws.specs.Unasked.{unasked}
+use Rattle.tab_passes.proofs.PassedOn.{AreLeftDuly, bare_load_duly, duly_then}
 use Rattle.seen_laws.proofs.InEvents.{last_goes, now_at}
 use Rattle.seen_facts.specs.Asked.Asking.{ArePlain}
 use Rattle.tab_facts.proofs.Calm.Awakes.{lost_none}
@@ -7,7 +13,7 @@ use Rattle.tab_facts.proofs.Last.Rows.{started_lasting}
 use Rattle.seen_facts.specs.LoadEnds.Standing.{is_reached}
 use Rattle.seen_facts.specs.Load.Loading.{look}
 use Rattle.row_facts.proofs.LoadRows.Earlier.{no_earlier_stays}
-use Rattle.row_facts.specs.LoadRows.Beginning.{begins_no_earlier}
+use Rattle.row_facts.specs.LoadRows.Beginning.{begins_no_earlier, IsLoadToBegin}
 use Rattle.log_model.proofs.Refl.{nat_eq_refl}
 use Rattle.log_model.specs.Equal.{holds}
 use Rattle.log_model.specs.History.{History, has_nav}
@@ -21,7 +27,7 @@ use Rattle.row_facts.proofs.Owed.Ends.{loose_owed, loose_since}
 use Rattle.row_facts.specs.Owed.Owed.{IsLoose}
 use Rattle.row_facts.proofs.RestRows.Rows.{started_rests}
 use Rattle.row_facts.specs.RestRows.Moving.{AllRest}
-use Rattle.seen_laws.specs.InEvent.{now_of, row_of}
+use Rattle.seen_laws.specs.InEvent.{now_of, row_of, here_of, log_of}
 use Rattle.std.proofs.Common.{Bool, List, None, Option, Some, [], ap, arith, false, length, not, refl, subst, sym, true, ℕ, ◌&&◌, ◌++◌, ◌+◌, ◌==◌, ◌||◌, ◌∙◌, ◌∷◌, ◌≡◌, ◌≤◌}
 use Rattle.std.proofs.lemmas.Bool.Decides.{nat_tests}
 use Rattle.std.proofs.lemmas.Bool.{and_parts}
@@ -138,6 +144,18 @@ module _ (l : InLoad) (t : Tables) (asked : IsAsked l t) (placed_ : away_in t l.
   pub loose_now : IsLoose l.event now
   loose_now = subst (λ (o : List RowKind). IsLoose l.event o) (sym now_is) loose_then
 
+  -- whom requests leave was asked, as the load asks nobody
+  begun_duly : AreLeftDuly (log_of l.event now)
+  begun_duly =
+      duly_then l.event out (rows.Started l.req None) now now_is
+      (bare_load_duly l.event.checking (log_of l.event out) l.event.event l.event.actor made.duly (bare (λ (x : Seen). IsSound x.history) made.going.tab.sound) (bare Hangs made.going.tab.hangs) (bare AreHomed made.going.tab.homes) l.req own its.at l.nav l.mode l.address refl its.unasked)
+    where
+      its : IsLoadToBegin (here_of l.event out) l.req l.nav l.mode l.address own
+      its = starts.due l t asked placed_ anew_ noted v out way
+
+      bare : (P : Seen → Type 0) → P n → P (unasked l.event.checking (log_of l.event out))
+      bare P is = subst P (events.now_is l.event out) is
+
   pub passing_now : IsPassing (pass_of l.event) now w
   passing_now =
       record {
@@ -146,6 +164,7 @@ module _ (l : InLoad) (t : Tables) (asked : IsAsked l t) (placed_ : away_in t l.
         owed = loose_owed l.event now loose_now;
         loose = λ all_. loose_now;
         rests = subst (λ (x : Seen). AllRest x) (sym is_then) (started_rests n l.event.event l.event.actor [] made.rests l.req None);
+        duly = begun_duly;
         few = subst (λ (k : ℕ). length (now_of l.event now).kept ≤ k) (sym keep_same) (subst (λ (k : List DocId). length k ≤ t.kept.keep) (sym (ap (λ (x : Seen). x.kept) is_then ∙ made.kept)) (pass l t asked).few);
       }
 

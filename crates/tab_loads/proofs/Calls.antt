@@ -101,8 +101,8 @@ module _ (e : InEvent) (t : Tables) (queue : Queue) (blame : List (StateId × Re
     refused_ready out out_is work =
         row_ready e req nav mode address asks t queue blame its.going its.taking its.moved its.late its.theirs header its.queueing (rows.Refused req reason) (refused_goes e [] req reason) tt tt
         (refused_changes (now_of e []) e.event e.actor req (idle e req nav mode address asks) (unjoined e req nav mode address asks t.running its.going.tab) (unparked e req nav mode address asks t.running its.going.tab) reason)
-        (refused_tab e req nav mode address asks t its.going its.rests its.few reason) refl out t out_is refl refl
-        (refused_passing e req nav mode address asks t its.going its.rests its.few reason (loose_owed e (rows.Refused req reason ∷ []) loose) (λ all. loose) out t out_is refl work)
+        (refused_tab e req nav mode address asks t its.going its.rests its.few its.duly reason) refl out t out_is refl refl
+        (refused_passing e req nav mode address asks t its.going its.rests its.few its.duly reason (loose_owed e (rows.Refused req reason ∷ []) loose) (λ all. loose) out t out_is refl work)
 
   -- ---- no reason stands against it
 

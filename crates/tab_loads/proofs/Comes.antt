@@ -119,7 +119,7 @@ module _ (l : InLoad) (t : Tables) (asked : IsAsked l t) where
 
       passing : IsPassing (pass_of l.event) out u
       passing =
-          dropped_passing l.event l.req l.nav l.mode l.address asked.asks t pass.going pass.rests pass.few (drops.By by) paid.owed paid.loose out u out_is same work
+          dropped_passing l.event l.req l.nav l.mode l.address asked.asks t pass.going pass.rests pass.few pass.duly (drops.By by) paid.owed paid.loose out u out_is same work
 
       away : is_way_placed s l.nav ≡ false
       away =
@@ -131,7 +131,7 @@ module _ (l : InLoad) (t : Tables) (asked : IsAsked l t) where
             came = (asked.undenied, record { by = by; away = away; is = out_is });
             ready = row_ready l.event l.req l.nav l.mode l.address asked.asks t l.queue l.noted pass.going asked.begun.taking asked.begun.moved asked.begun.late asked.begun.theirs asked.begun.header asked.begun.queueing
                 (rows.Dropped l.req (drops.By by)) (dropped_goes l.event [] l.req (drops.By by)) tt tt (dropped_changes s l.event.event l.event.actor l.req (idle l.event l.req l.nav l.mode l.address asked.asks) (unjoined l.event l.req l.nav l.mode l.address asked.asks t.running pass.going.tab) (unparked l.event l.req l.nav l.mode l.address asked.asks t.running pass.going.tab) (drops.By by))
-                (dropped_tab l.event l.req l.nav l.mode l.address asked.asks t pass.going pass.rests pass.few (drops.By by)) refl out u out_is (ap (λ (y : Tables). y.running) same) (ap (λ (y : Tables). y.kept.keep) same) passing;
+                (dropped_tab l.event l.req l.nav l.mode l.address asked.asks t pass.going pass.rests pass.few pass.duly (drops.By by)) refl out u out_is (ap (λ (y : Tables). y.running) same) (ap (λ (y : Tables). y.kept.keep) same) passing;
             kept = runs_on u same;
           }
 

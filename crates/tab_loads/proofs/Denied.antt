@@ -1,4 +1,6 @@
 -- The own row of a load was logged against which a reason stands: all goes on with the load at hand, and a pass may follow once it is refused.
+use Rattle.log_model.specs.After.{after}
+use Rattle.tab_stands.proofs.PassedOn.{AreLeftDuly, row_duly}
 use Rattle.seen_facts.specs.LoadWhereabouts.Whereabouts.{times_on_way, ways_of}
 use Rattle.log_model.specs.Causes.{denial_at_acceptance}
 use Rattle.log_model.specs.Equal.{has_req}
@@ -8,7 +10,7 @@ use Rattle.log_model.specs.declared.request.Mode.{Mode}
 use Rattle.log_model.specs.declared.request.Request.{Request}
 use Rattle.move_queue.specs.Queue.{Queue}
 use Rattle.row_facts.specs.RestRows.Moving.{AllRest}
-use Rattle.seen_laws.specs.InEvent.{InEvent, now_of}
+use Rattle.seen_laws.specs.InEvent.{InEvent, now_of, log_of, row_of}
 use Rattle.std.proofs.Common.{List, None, Option, Some, [], ap, arith, false, inl, inr, length, refl, subst, sym, true, ℕ, ◌<◌, ◌∙◌, ◌∷◌, ◌≡◌, ◌≤◌, ◌⊎◌}
 use Rattle.std.proofs.lemmas.Bool.Decides.{nat_tests}
 use Rattle.std.specs.Prelude.{nat_lt}
@@ -34,7 +36,9 @@ use Rattle.tab_facts.proofs.TabWhole.Accepting.{load_accepted_tab}
 use Rattle.tab_facts.proofs.TabWhole.Where.{way_unheld}
 use Rattle.tab_facts.specs.TabWhole.Tab.{IsTab}
 use Rattle.log_model.specs.declared.request.Request.TheVariants as requests
+use Rattle.log_model.specs.declared.row_kind.RowKind.{RowKind}
 use Rattle.log_model.specs.declared.row_kind.Actor.TheVariants as actors
+use Rattle.log_model.specs.declared.row_kind.RowKind.TheVariants as rows
 
 -- the load's own row was logged: all goes on with it at hand, and what documents made may be taken
 pub record HasDenied (e : InEvent) (req : ReqId) (t : Tables) (queue : Queue) (blame : List (StateId × ReqId)) : Type 0 where
@@ -45,6 +49,7 @@ pub record HasDenied (e : InEvent) (req : ReqId) (t : Tables) (queue : Queue) (b
   pub moved : MovedAreShown t.running (now_of e [])
   pub late : LateKnown t.running (now_of e [])
   pub theirs : LoadsMadeOwn (now_of e [])
+  pub duly : AreLeftDuly (log_of e [])
   pub queueing : IsQueueing (record { event = e; loads = req ∷ []; hand = [] }) [] t queue
 
 module _ (e : InEvent) (t : Tables) (queue : Queue) (blame : List (StateId × ReqId)) (stands : StandsFor e.start t queue blame) (room : HasRoomFor e.start) (header : t.kept.keep ≡ e.header.keep) (req : ReqId) (nav : NavId) (mode : Mode) (address : List ℕ) (asks : IsLoadAsk e req nav mode address) where
@@ -110,5 +115,6 @@ module _ (e : InEvent) (t : Tables) (queue : Queue) (blame : List (StateId × Re
         late = late_first blame e.start (now_of e []) comes t.running tab.standing stands.lasts.off;
         moved = moved_coming blame e.start (now_of e []) comes t.running stands.between.tab.asked stands.lasts.moved;
         theirs = comes.theirs;
+        duly = subst AreLeftDuly (sym (ap (λ (k : RowKind). after e.start (row_of e k)) asks.own)) (row_duly e.start e.event e.actor stands.lasts.duly (rows.Accepted req None load) asks.next);
         queueing = queueing_now e req None load asks.by_user asks.own asks.next asks.aside t queue blame stands (req ∷ []) queue aim turning queued refl;
       }

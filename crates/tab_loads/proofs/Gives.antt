@@ -1,4 +1,5 @@
 -- The navigable's ongoing load gives way to the one that is to begin: what its drop asks, and that all goes on before the other one begins.
+use Rattle.tab_passes.proofs.PassedOn.{AreLeftDuly, dropped_duly}
 use Rattle.tab_doors.proofs.PassedOn.{dropped_now}
 use Rattle.seen_facts.proofs.Coord.Unread.{next}
 use Rattle.seen_facts.proofs.Each.Courses.{was_asked}
@@ -25,7 +26,7 @@ use Rattle.seen_facts.proofs.Request.Readers.{SameReads, on_read}
 use Rattle.row_facts.proofs.RestRows.Rows.{dropped_rests}
 use Rattle.row_facts.specs.RestRows.Moving.{AllRest}
 use Rattle.seen_laws.specs.Blocks.{point_at}
-use Rattle.seen_laws.specs.InEvent.{InEvent, now_of, row_of, seen_here}
+use Rattle.seen_laws.specs.InEvent.{InEvent, now_of, row_of, seen_here, log_of}
 use Rattle.std.proofs.Common.{Bool, List, None, Option, Some, [], ap, arith, cond, false, inl, inr, length, refl, subst, sym, true, ℕ, ◌++◌, ◌+◌, ◌-◌, ◌<◌, ◌==◌, ◌∙◌, ◌∷◌, ◌≡◌, ◌≤◌, ◌⊎◌}
 use Rattle.std.proofs.lemmas.Bool.Decides.{nat_tests}
 use Rattle.std.proofs.lemmas.Option.{slice_get_past}
@@ -118,6 +119,7 @@ module _ (e : InEvent) (req : ReqId) (nav : NavId) (mode : Mode) (address : List
       pub found : request_of n req ≡ Some (q e req nav mode address asks)
       pub alone : (r : ReqId) → IsLoadOf n r nav → ⊥
       pub paid : (end : Seen) → Lasts (after n (row_of e (rows.Started req None))) end → owes_seen e out end ≡ true
+      pub duly : AreLeftDuly (log_of e out)
 
     -- the own row owes nothing
     own_paid : (end : Seen) → owes_seen e [] end ≡ true
@@ -143,6 +145,7 @@ module _ (e : InEvent) (req : ReqId) (nav : NavId) (mode : Mode) (address : List
           found = found e req nav mode address asks;
           alone = λ r its. (let has = load_held s t.loads r nav pass.work.loads its in let never : None ≡ Some has.load = sym it.none_ ∙ has.at in cc);
           paid = λ end lasts. own_paid end;
+          duly = pass.duly;
         }
 
     module _ (old : Load) (at : ongoing_load nav t.loads ≡ Some old) where
@@ -254,6 +257,7 @@ module _ (e : InEvent) (req : ReqId) (nav : NavId) (mode : Mode) (address : List
             found = other_request p [] t pass old.req nav load cause req other ∙ found e req nav mode address asks;
             alone = λ r its_. gone r its_;
             paid = paid;
+            duly = dropped_duly e [] old.req cause (rows.Dropped old.req (drops.By req) ∷ []) refl pass.duly;
           }
         where
           gone : (r : ReqId) → IsLoadOf n r nav → ⊥

@@ -1,4 +1,5 @@
 -- The document of the load's navigable is sent to a fragment: the order may be sent, and all goes on then.
+use Rattle.tab_passes.proofs.PassedOn.{sent_duly}
 use Rattle.tab_doors.proofs.PassedOn.{sent_goes, sent_now}
 use Rattle.seen_laws.specs.Sending.{IsNumbered}
 use Rattle.seen_laws.specs.Blocks.{Here}
@@ -131,5 +132,6 @@ module _ (e : InEvent) (req : ReqId) (nav : NavId) (mode : Mode) (address : List
         owed = loose_owed e (rows.Sent order ∷ []) loose_then;
         loose = λ all. loose_then;
         rests = subst (λ (x : Seen). AllRest x) (sym now_is) (told_rests s e.event e.actor [] pass.rests order (sent_home t.running (req ∷ []) [] s pass.going.tab order home.document to_made) tt);
+        duly = sent_duly e [] order (rows.Sent order ∷ []) refl tt pass.duly;
         few = subst (λ (k : ℕ). length (now_of e (rows.Sent order ∷ [])).kept ≤ k) (sym keeps.keep) (subst (λ (l : List DocId). length l ≤ t.kept.keep) (sym (ap (λ (x : Seen). x.kept) now_is)) pass.few);
       })

@@ -31,7 +31,7 @@ use Rattle.tab_loads.specs.Giving.{HasMadeWay}
 use Rattle.tab_loads.specs.Loading.{pass_of}
 use Rattle.tab_loads.specs.Telling.{away_in, fragment_in}
 use Rattle.tab_moves.specs.Making.{home_in}
-use Rattle.tab_passes.proofs.PassedOn.{lives_first}
+use Rattle.tab_passes.proofs.PassedOn.{lives_first, sent_duly}
 use Rattle.tab_passes.specs.Passing.{IsPassing}
 use Rattle.tab_facts.proofs.TabWhole.Making.{IsMakeOf, make_load_tab}
 use Rattle.tab_facts.specs.TabWhole.Tab.{IsTab}
@@ -141,5 +141,6 @@ module _ (l : InLoad) (t : Tables) (asked : IsAsked l t) (placed_ : away_in t l.
         owed = loose_owed l.event last loose_fin;
         loose = λ all_. loose_fin;
         rests = subst (λ (x : Seen). AllRest x) (sym is_fin) (making_rests m l.event.event l.event.actor [] passing_now.rests order sent_home l.nav its_state l.address false refl none_there_);
+        duly = sent_duly l.event now order last last_is absent passing_now.duly;
         few = subst (λ (k : ℕ). length (now_of l.event last).kept ≤ k) (sym keeps_y.keep) (subst (λ (k : List DocId). length k ≤ w.kept.keep) (sym (ap (λ (x : Seen). x.kept) is_fin)) passing_now.few);
       }

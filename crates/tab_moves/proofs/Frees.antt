@@ -217,6 +217,7 @@ module _ (m : InMoving) (nav : NavId) (doc : DocId) (why : Why) (out : List RowK
         going = so.going;
         owed = so.owed;
         rests = rest_more (now_of e last_out) (without_all docs left) [] (λ x has. absurd (all_left m nav doc why out t leaving to docs are x (subst (λ (l : List DocId). has_doc (without_all docs l) x ≡ true) is_left has))) so.rests;
+        duly = so.duly;
       }
 
   pub has_left_as : (docs : List DocId) (last_seen : Seen) → docs ≡ docs_below t.tree nav → IsStill docs (now_of e then_out) last_seen → HasLeft (doc ∷ docs_below t.tree nav) why s last_seen nav

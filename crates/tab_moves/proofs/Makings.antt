@@ -1,4 +1,5 @@
 -- A document may be made for a navigable's target that has none and for which none is being made, and all goes on then.
+use Rattle.tab_passes.proofs.PassedOn.{IsMakeOf, lives_first, make_tab, making_lasting, sent_duly}
 use Rattle.tab_doors.proofs.PassedOn.{sent_goes, sent_now}
 use Rattle.apply_plan.specs.declared.need.Need.TheVariants as needs
 use Rattle.seen_facts.proofs.Coord.Kept.{IsSentHome}
@@ -9,7 +10,6 @@ use Rattle.seen_facts.proofs.Hang.Members.{find_has, has_any, into_map}
 use Rattle.seen_facts.proofs.Hang.Parts.{state_is}
 use Rattle.seen_facts.proofs.Hang.Targets.{IsTarget, target_has}
 use Rattle.seen_facts.specs.Hang.Members.{Has}
-use Rattle.tab_passes.proofs.PassedOn.{IsMakeOf, lives_first, make_tab, making_lasting}
 use Rattle.seen_facts.specs.Load.Loading.{AreLoading, look}
 use Rattle.log_model.proofs.Refl.{nat_eq_refl}
 use Rattle.log_model.specs.Checks.{may_go_on}
@@ -339,6 +339,7 @@ module _ (p : InPass) (out : List RowKind) (t : Tables) (pass : IsPassing p out 
                 owed = owed_then;
                 loose = λ all. let never : false ≡ true = sym (subst (λ (x : Seen). all_stand x (aim_of x) ≡ false) now_is late) ∙ all in absurd cc;
                 rests = subst (λ (x : Seen). AllRest x) now_is (making_rests s p.event.event p.event.actor [] pass.rests job sent nav target.state target.address initial refl none_there);
+                duly = sent_duly p.event out job then_out refl absent pass.duly;
                 few = subst (λ (n : ℕ). length (now_of p.event then_out).kept ≤ n) (sym keeps.keep) (subst (λ (x : Seen). length x.kept ≤ t.kept.keep) now_is pass.few);
               }
             where

@@ -1,4 +1,5 @@
 -- All goes on as documents are left: frozen or discarded, within a move or not.
+use Rattle.leave_facts.proofs.Events.{sent_duly}
 use Rattle.tab_doors.proofs.PassedOn.{sent_goes, sent_now}
 use Rattle.tab_facts.proofs.TabGoing.PassedOn.{ServesNoneToBegin, discard_tab, discarded_lasting, freeze_tab, frozen_lasting, show_tab, shown_lasting}
 use Rattle.seen_facts.specs.Doc.Docs.{HasPlace}
@@ -38,12 +39,12 @@ use Rattle.log_model.specs.declared.row_kind.RowKind.TheVariants as rows
 -- ---- between two moves
 
 pub leaving_none : (p : InPass) (out : List RowKind) (t : Tables) → IsPassing p out t → IsLeaving p None [] out t
-leaving_none p out t pass = record { work = pass.work; going = pass.going; owed = pass.owed; rests = pass.rests }
+leaving_none p out t pass = record { work = pass.work; going = pass.going; owed = pass.owed; rests = pass.rests; duly = pass.duly }
 
 -- all is as it was, where what is owed is paid and no more are kept than may be
 pub passing_again : (p : InPass) (out : List RowKind) (t : Tables) → IsLeaving p None [] out t → (all_stand (now_of p.event out) (aim_of (now_of p.event out)) ≡ true → IsLoose p.event out) → length (now_of p.event out).kept ≤ t.kept.keep → IsPassing p out t
 passing_again p out t leaving loose few =
-    record { work = leaving.work; going = leaving.going; owed = leaving.owed; loose = loose; rests = leaving.rests; few = few }
+    record { work = leaving.work; going = leaving.going; owed = leaving.owed; loose = loose; rests = leaving.rests; few = few; duly = leaving.duly }
 
 -- ---- a move begins, for which the cache notes what is left
 
@@ -82,7 +83,7 @@ begun_work e out t doc left states work is =
 
 pub begun_leaving : (p : InPass) (out : List RowKind) (t : Tables) (doc : DocId) (left : Option StateId) (states : List StateId) → IsPassing p out t → states ≡ with_left left t.kept.keep t.kept.states → IsLeaving p (Some (record { doc = doc; left = left })) [] out (record t { kept = record t.kept { states = states } })
 begun_leaving p out t doc left states pass is =
-    record { work = begun_work p.event out t doc left states pass.work is; going = pass.going; owed = pass.owed; rests = pass.rests }
+    record { work = begun_work p.event out t doc left states pass.work is; going = pass.going; owed = pass.owed; rests = pass.rests; duly = pass.duly }
 
 -- ---- a document is left
 
@@ -126,6 +127,7 @@ module _ (p : InPass) (move : Option Move) (docs : List DocId) (out : List RowKi
         going = subst (λ (x : Seen). IsGoing u.running p.loads p.hand x) now_is (subst (λ (r : Option ReqId). IsGoing r p.loads p.hand frozen) (sym keeps.running) frozen_going);
         owed = frozen_owed;
         rests = subst (λ (x : Seen). RestBut (left_then s doc docs) x) now_is frozen_rests;
+        duly = sent_duly p.event out freeze (out ++ rows.Sent freeze ∷ []) refl tt leaving.duly;
       })
     where
       now_is : frozen ≡ now_of p.event (out ++ rows.Sent freeze ∷ [])
@@ -161,6 +163,7 @@ module _ (p : InPass) (move : Option Move) (docs : List DocId) (out : List RowKi
         going = subst (λ (x : Seen). IsGoing u.running p.loads p.hand x) now_is (subst (λ (r : Option ReqId). IsGoing r p.loads p.hand gone) (sym keeps.running) gone_going);
         owed = gone_owed;
         rests = subst (λ (x : Seen). RestBut (left_then s doc docs) x) now_is gone_rests;
+        duly = sent_duly p.event out discard (out ++ rows.Sent discard ∷ []) refl tt leaving.duly;
       })
     where
       now_is : gone ≡ now_of p.event (out ++ rows.Sent discard ∷ [])
@@ -196,6 +199,7 @@ module _ (p : InPass) (move : Option Move) (docs : List DocId) (out : List RowKi
         going = subst (λ (x : Seen). IsGoing u.running p.loads p.hand x) now_is (subst (λ (r : Option ReqId). IsGoing r p.loads p.hand shown) (sym keeps.running) shown_going);
         owed = shown_owed;
         rests = subst (λ (x : Seen). RestBut docs_ x) now_is rests;
+        duly = sent_duly p.event out showing (out ++ rows.Sent showing ∷ []) refl tt leaving.duly;
       })
     where
       now_is : shown ≡ now_of p.event (out ++ rows.Sent showing ∷ [])

@@ -1,4 +1,5 @@
 -- All goes on after a document was told length and index.
+use Rattle.leave_facts.proofs.Events.{sent_duly}
 use Rattle.tab_doors.proofs.PassedOn.{sent_goes, sent_now}
 use Rattle.tab_passes.proofs.Untold.{IsTellDue}  -- keep
 use Rattle.seen_facts.specs.Home.Homes.{IsAtHome}
@@ -90,6 +91,7 @@ module _ (p : InPass) (out : List RowKind) (t : Tables) (pass : IsPassing p out 
         owed = owed_then;
         loose = λ stand. loose_then (subst (λ (x : Seen). all_stand x (aim_of x) ≡ true) (sym now_is) stand);
         rests = subst (λ (x : Seen). AllRest x) now_is rests_then;
+        duly = sent_duly p.event out update (out ++ rows.Sent update ∷ []) refl tt pass.duly;
         few = subst (λ (n : ℕ). length (now_of p.event (out ++ rows.Sent update ∷ [])).kept ≤ n) (sym keeps.keep) (subst (λ (x : Seen). length x.kept ≤ t.kept.keep) now_is pass.few);
       })
     where

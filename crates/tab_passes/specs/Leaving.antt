@@ -2,6 +2,7 @@
 -- HTML Standard, "apply the history step" and "Documents kept for traversal"; that what is left is frozen or discarded by orders is this project's own.
 use Rattle.seen_facts.specs.Hang.Members.{Has}
 use Rattle.seen_facts.specs.Kept.Keeping.{kept_states}
+use Rattle.leave_facts.proofs.Carried.{AreLeftDuly}
 use Rattle.load_table.specs.Loads.{ongoing_load}
 use Rattle.load_table.specs.declared.load.Load.{Load}
 use Rattle.log_model.specs.Equal.{has_doc, holds}
@@ -19,7 +20,7 @@ use Rattle.nav_tree.specs.Tree.{Tree, document_of as document_at}
 use Rattle.nav_tree.specs.declared.place.Place as live_place
 use Rattle.row_facts.specs.RestRows.Left.{left_below}
 use Rattle.row_facts.specs.RestRows.Moving.{RestBut}
-use Rattle.seen_laws.specs.InEvent.{InEvent, now_of}
+use Rattle.seen_laws.specs.InEvent.{InEvent, log_of, now_of}
 use Rattle.std.specs.Prelude.{ℕ, List, None, Option, Some, false, map, option_map, true, ◌++◌, ◌==◌, ◌||◌, ◌≡◌, [], fold, ◌∷◌, take, drop, length, ◌+◌, ◌<◌}
 use Rattle.tab_doors.specs.Keeping.{Move}
 use Rattle.tab_doors.specs.Look.{Sight, sight}
@@ -41,6 +42,7 @@ pub record IsLeaving (p : InPass) (move : Option Move) (docs : List DocId) (out 
   pub going : IsGoing t.running p.loads p.hand (now_of p.event out)
   pub owed : IsOwed p.event out
   pub rests : RestBut docs (now_of p.event out)
+  pub duly : AreLeftDuly (log_of p.event out)
 
 -- the document may be left for a reason, for which orders may be sent: it is made, and who falls asleep with it is moved by the reason, which is no traversal that is still to begin
 pub record MayLeave (s : Seen) (doc : DocId) (why : Why) : Type 0 where

@@ -1,13 +1,14 @@
 -- A coordinator in an event of a tab with loads: its tables stand for what the log has come to, all that goes on from row to row does, what the rows owe is paid, what isn't shown rests, and no more documents are kept than may be.
 -- This project's own.
 use Rattle.seen_facts.specs.Hang.Members.{Has}
+use Rattle.leave_facts.proofs.Carried.{AreLeftDuly}
 use Rattle.log_model.specs.History.{History, used_step_at}
 use Rattle.log_model.specs.Places.{aim_of, all_stand}
 use Rattle.log_model.specs.declared.made.Made.{Made}
 use Rattle.log_model.specs.declared.row_kind.RowKind.{RowKind}
 use Rattle.row_facts.specs.Owed.Owed.{IsLoose, IsOwed}
 use Rattle.row_facts.specs.RestRows.Moving.{AllRest}
-use Rattle.seen_laws.specs.InEvent.{InEvent, now_of}
+use Rattle.seen_laws.specs.InEvent.{InEvent, log_of, now_of}
 use Rattle.std.specs.Prelude.{List, None, Option, Some, length, true, ℕ, ◌++◌, ◌≡◌, ◌≤◌}
 use Rattle.tab_doors.specs.Working.{IsAtWork}
 use Rattle.tab_doors.specs.declared.tables.Tables.{Tables}
@@ -29,6 +30,8 @@ pub record IsPassing (p : InPass) (out : List RowKind) (t : Tables) : Type 0 whe
   pub loose : all_stand (now_of p.event out) (aim_of (now_of p.event out)) ≡ true → IsLoose p.event out
   pub rests : AllRest (now_of p.event out)
   pub few : length (now_of p.event out).kept ≤ t.kept.keep
+  -- whom requests leave was asked
+  pub duly : AreLeftDuly (log_of p.event out)
 
 -- the step that the history is brought to, as the tables tell: that of the goal of the traversal that runs, else the current one
 abbrev pub aim_in : History → Option ReqId → Step → ℕ

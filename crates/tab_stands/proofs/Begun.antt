@@ -1,4 +1,5 @@
 -- An event of the coordinator begins: all goes on once its own row was logged, whatever it leaves of a tab as one is between two events.
+use Rattle.tab_stands.proofs.DulyEvents.{own_duly}
 use Rattle.tab_doors.proofs.PassedOn.{AreNumbered, read_own, sole_own}
 use Rattle.seen_laws.proofs.InEvents.{none_goes}
 use Rattle.seen_facts.specs.Asked.Asking.{ArePlain}
@@ -82,6 +83,7 @@ module _ (p : InPass) (t : Tables) (queue : Queue) (blame : List (StateId × Req
         owed = loose_owed p.event [] (loose_first p.event);
         loose = λ all. loose_first p.event;
         rests = rests;
+        duly = own_duly p.event own (checks_first p.event aside t.running going.tab.asked).numbered lasts.duly;
         few = subst (λ (k : ℕ). k ≤ t.kept.keep) (sym (ap (λ (l : List DocId). length l) comes.kept)) between.few;
       }
 

@@ -1,4 +1,5 @@
 -- A request of the user is accepted, and refused in the same event: the coordinator stands for the log still.
+use Rattle.leave_facts.proofs.Carried.{AreLeftDuly, row_duly}
 use Rattle.tab_doors.proofs.PassedOn.{refused_goes, refused_now}
 use Rattle.seen_facts.specs.Asked.Asking.{ArePlain}
 use Rattle.tab_settles.proofs.Puts.{put_makes}
@@ -272,10 +273,14 @@ module _ (e : InEvent) (t : Tables) (queue : Queue) (blame : List (StateId × Re
         subst (λ (x : Seen). OrdersAreSound x) now_refused
         (put_sound e [] out goes (refusal_put e req reason) (sound_first e aside (ap (λ (k : RowKind). leads k) own) (keeps_coming blame s (now_of e []) (comes_now e req None what by_user own nr aside t queue blame stands)) stands.lasts.sound))
 
+    duly : AreLeftDuly n
+    duly =
+        row_duly w e.event actors.Ui (row_duly s e.event actors.Ui stands.lasts.duly (rows.Accepted req None what) nr) (rows.Refused req reason) tt
+
     shows : AreShownUnder n
     shows =
         refused_under w e.event actors.Ui req reason (accepted_under s e.event actors.Ui req None what stands.lasts.shows)
 
     pub denied_stands : StandsFor (log_of e out) t queue blame
     denied_stands =
-        subst (λ (x : Seen). StandsFor x t queue blame) (sym log_refused) (stands_still e t queue blame stands n comes between going tied makes sound shows strays queued held)
+        subst (λ (x : Seen). StandsFor x t queue blame) (sym log_refused) (stands_still e t queue blame stands n comes between going tied makes sound shows duly strays queued held)

@@ -1,4 +1,5 @@
 -- An event of the coordinator ends as the tab has come to rest: the coordinator stands for what the log has come to, and each row passes.
+use Rattle.leave_facts.proofs.Carried.{AreLeftDuly}
 use Rattle.tab_doors.proofs.Works.{aimed_log}
 use Rattle.tab_doors.proofs.PassedOn.{paid_read}
 use Rattle.seen_laws.proofs.InEvents.{now_is}
@@ -135,6 +136,7 @@ module _ (p : InPass) (out : List RowKind) (t : Tables) (queue : Queue) (blame :
         makes = makes;
         sound = sound;
         shows = shown;
+        duly = subst AreLeftDuly at.passing.work.plain at.passing.duly;
         off = off_of s shown at.passing.going.tab.standing t.running at.calm at.late;
       }
 

@@ -31,3 +31,4 @@ pub mod Taking
 pub mod Parks
 pub mod Taken
 pub mod PassedOn
+pub mod DulyEvents

@@ -1,4 +1,5 @@
 -- The coordinator of a tab that was just opened stands for its log.
+use Rattle.leave_facts.proofs.Carried.{opened_duly}
 use Rattle.log_model.specs.declared.job.Job.{Job}
 use Rattle.seen_facts.specs.Place.Standing.{AreStanding}
 use Rattle.tab_facts.specs.Order.Orders.{AreOrders, EachOrder}
@@ -259,6 +260,7 @@ module _ (address : List ℕ) (proc : ProcId) where
         makes = no_orders (λ (job : Job). IsMake job.task → MayCause s job.why);
         sound = no_orders (λ (job : Job). IsSoundTask s job.doc job.task);
         shows = shows;
+        duly = opened_duly 0 actors.Start (record { maker = 0; nr = 1 }) (record { 0 = 1 }) (record { 0 = 1 }) proc None address;
         off = off_of s shows standing None calm (told_known None s (λ nav p doc found wakes. ap (λ (x : Place). x.is_delivered) (sym (only_place nav p found))));
       }
 

@@ -8,3 +8,7 @@ pub use Rattle.tab_settles.proofs.Puts.{cause_more, put_makes}
 pub use Rattle.tab_settles.proofs.Sounds.{KeepsWhat, put_sound, sound_more, sound_on}
 pub use Rattle.tab_settles.proofs.Stood.{theirs_over}
 pub use Rattle.tab_settles.proofs.Unsettled.{leaves_unsettled, taken_moves}
+pub use Rattle.leave_facts.proofs.Applied.{FitsWell}
+pub use Rattle.leave_facts.proofs.Carried.{AreLeftDuly, change_duly, row_duly}
+pub use Rattle.tab_stands.proofs.DulyEvents.{finished_duly}
+pub use Rattle.leave_facts.proofs.Readies.{is_made}

@@ -1,4 +1,5 @@
 -- A poke is accepted by the document that it reaches: the event ends with that, and the coordinator stands for the log still.
+use Rattle.leave_facts.proofs.Carried.{AreLeftDuly, row_duly}
 use Rattle.log_model.specs.declared.row_kind.RowKind.{RowKind}
 use Rattle.seen_laws.specs.Sending.{leads}
 use Rattle.tab_stands.proofs.Orders.{keeps_coming, makes_first, sound_first}
@@ -65,6 +66,7 @@ module _ (e : InEvent) (t : Tables) (queue : Queue) (blame : List (StateId × Re
       (makes_first e aside (ap (λ (k : RowKind). leads k) own) (comes_now e req doc poke by_user own nr aside t queue blame stands).serves stands.lasts.makes)
       (sound_first e aside (ap (λ (k : RowKind). leads k) own) (keeps_coming blame e.start (now_of e []) (comes_now e req doc poke by_user own nr aside t queue blame stands)) stands.lasts.sound)
       (subst (λ (x : Seen). AreShownUnder x) (sym then_) (accepted_under e.start e.event actors.Ui req doc poke stands.lasts.shows))
+      (subst (λ (x : Seen). AreLeftDuly x) (sym then_) (row_duly e.start e.event actors.Ui stands.lasts.duly (rows.Accepted req doc poke) nr))
       (subst (λ (x : Seen). AreLeftStrays x blame) (sym then_) (strays_still e req doc poke by_user own nr aside t queue blame stands))
       (subst (λ (x : Seen). HasQueue x t.running queue.waiting) (sym then_) (queued_still e req doc poke by_user own nr aside t queue blame stands unjoined))
       (parked_now e req doc poke by_user own nr aside t queue blame stands)

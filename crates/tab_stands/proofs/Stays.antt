@@ -1,4 +1,5 @@
 -- Where what came leaves all that goes on from event to event as it was, the coordinator that stood for the log stands for it still.
+use Rattle.leave_facts.proofs.Carried.{AreLeftDuly}
 use Rattle.load_doors.specs.Tied.{AreTied}
 use Rattle.log_model.specs.Seen.{Seen}
 use Rattle.move_queue.specs.Queue.{Queue}
@@ -16,7 +17,7 @@ use Rattle.tab_stands.proofs.LateEvents.{late_first, off_of}
 use Rattle.tab_stands.specs.Offs.{AreShownUnder}
 use Rattle.tab_stands.specs.Standing.{Lasts, StandsFor}
 
-module _ (e : InEvent) (t : Tables) (queue : Queue) (blame : List (StateId × ReqId)) (stands : StandsFor e.start t queue blame) (n : Seen) (comes : IsComing blame e.start n) (between : IsBetween t.kept.keep t.running n) (going : IsGoing t.running [] [] n) (tied : AreTied n t) (makes : MakesServe n) (sound : OrdersAreSound n) (shows : AreShownUnder n) where
+module _ (e : InEvent) (t : Tables) (queue : Queue) (blame : List (StateId × ReqId)) (stands : StandsFor e.start t queue blame) (n : Seen) (comes : IsComing blame e.start n) (between : IsBetween t.kept.keep t.running n) (going : IsGoing t.running [] [] n) (tied : AreTied n t) (makes : MakesServe n) (sound : OrdersAreSound n) (shows : AreShownUnder n) (duly : AreLeftDuly n) where
   calm : IsCalmAfter t.running n
   calm =
       calm_then e t.running t.kept.keep t.goal blame n stands.between stands.lasts stands.tied.goal [] [] between.tab tied.goal comes
@@ -38,6 +39,7 @@ module _ (e : InEvent) (t : Tables) (queue : Queue) (blame : List (StateId × Re
         made = comes.theirs;
         makes = makes;
         sound = sound;
+        duly = duly;
       }
 
   pub stands_still : AreLeftStrays n blame → HasQueue n t.running queue.waiting → HoldsParked n queue.parked → StandsFor n t queue blame

@@ -1,5 +1,6 @@
 -- What a coordinator of a tab with loads keeps between two events, and how an event of it begins and ends.
 -- HTML Standard, "session history traversal queue" and "apply the history step"; that nobody dies and nobody is asked in such a tab is this project's own premise.
+use Rattle.leave_facts.proofs.Carried.{AreLeftDuly}
 use Rattle.tab_facts.specs.Last.Lasting.{AreLasting}
 use Rattle.row_facts.specs.Left.Left.{WereShown}
 use Rattle.load_doors.specs.Tied.{AreTied}
@@ -51,6 +52,8 @@ pub record Lasts (run : Option ReqId) (s : Seen) : Type 0 where
   -- which navigables were shown a document, as their epochs tell; and why one that is shown may not stand
   pub shows : AreShownUnder s
   pub off : AreOffKnown run s
+  -- whom requests leave was asked
+  pub duly : AreLeftDuly s
 
 -- the coordinator's tables, its queue and the requests that are noted for stray documents stand for what the log has come to
 pub record StandsFor (s : Seen) (t : Tables) (moves : Queue) (blame : List (StateId × ReqId)) : Type 0 where

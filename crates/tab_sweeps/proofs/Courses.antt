@@ -168,6 +168,7 @@ module _ (blame : List (StateId × ReqId)) (docs : List DocId) where
           going = leaving.going;
           owed = leaving.owed;
           rests = rest_more (now_of p.event out) [] docs (λ doc has. absurd cc) leaving.rests;
+          duly = leaving.duly;
         };
         loose = pass.loose;
         few = pass.few;

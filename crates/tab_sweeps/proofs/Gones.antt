@@ -151,6 +151,7 @@ module _ (p : InPass) (blame : List (StateId × ReqId)) (doc : DocId) (rest : Li
             going = leaving_.going;
             owed = leaving_.owed;
             rests = rest_more (now_of p.event new) (left_then s doc (doc ∷ rest)) rest left_part leaving_.rests;
+            duly = leaving_.duly;
           };
           loose = λ stand. subst (λ (l : List RowKind). IsLoose p.event l) (sym is) (loose_then (subst (λ (x : Seen). all_stand x (aim_of x) ≡ true) (sym then_is) stand));
           few = subst (λ (x : Seen). length x.kept ≤ u.kept.keep) then_is few_then;

@@ -1,4 +1,6 @@
 -- What a document made is applied: a frame is added to it, which sleeps and was never shown a document.
+use Rattle.leave_facts.proofs.Frames.{nobodys_yet}
+use Rattle.leave_facts.proofs.Applied.{FitsWell}
 use Rattle.tab_facts.specs.Calm.Calm.{AreRooted, CalmUnless, IsCalmYet, IsHere, IsRooted, UnmovedAreHere}
 use Rattle.seen_facts.proofs.Entry.Ends.{IsToEnd, no_entry_end}
 use Rattle.seen_facts.proofs.Entry.Skips.{IsNoEntry}
@@ -575,6 +577,16 @@ module _ (p : InPass) (out : List RowKind) (t : Tables) (blame : List (StateId �
         by_has true is = by_root (at.open_.rooted m x doc d_ placed wakes_ found_s is)
         by_has false is = absurd (only_new is)
 
+    well : FitsWell s add
+    well =
+        record {
+          sound = tab.sound;
+          hangs = tab.hangs;
+          fit = fit;
+          brings = new_state t.running p.loads p.hand s tab;
+          then_sound = tab_n.sound;
+        }
+
     add_after : IsAfter p out t blame made at add blame
     add_after =
         record {
@@ -588,6 +600,8 @@ module _ (p : InPass) (out : List RowKind) (t : Tables) (blame : List (StateId �
           unmoved = unmoved_n;
           rooted = rooted_n;
           usable = λ state_. ap (λ (l : List Document). list_any (λ (x : Document). is_usable x state_) l) documents_n;
+          well = well;
+          keeps = nobodys_yet s ev.event ev.actor made.req its.d.state nav (next_entry_of s) (next_state s) well (λ doc d found. (tab.docs.each doc d found).placed);
         }
 
     pub add_done : (more : List RowKind) (u : Tables) → more ≡ out ++ rows.Applied made.req put ∷ [] → KeepsRun t u → IsAtWork ev more u → HasTaken p t made out more u blame

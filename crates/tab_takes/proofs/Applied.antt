@@ -1,4 +1,11 @@
 -- What a document made is applied, by any change: what a pass asks of the requests and the event goes on, and what is left to be shown of the change itself.
+use Rattle.seen_laws.proofs.InEvents as events
+use Rattle.seen_laws.specs.Unasked.{unasked}
+use Rattle.leave_facts.proofs.Events.{duly_then}
+use Rattle.leave_facts.proofs.Changes.{KeepsTo}
+use Rattle.leave_facts.proofs.Carried.{AreLeftDuly}
+use Rattle.leave_facts.proofs.Bares.{BareKeeps, bare_change_duly}
+use Rattle.leave_facts.proofs.Applied.{FitsWell}
 use Rattle.seen_laws.proofs.InEvents.{last_goes, now_at}
 use Rattle.tab_facts.proofs.Calm.Calms.{calm_need}
 use Rattle.tab_facts.specs.Calm.Calm.{AreRooted, CalmUnless, IsCalmYet, NeedIsNew, UnmovedAreHere}
@@ -25,6 +32,7 @@ use Rattle.log_model.specs.AfterRequests.{entries_taken, on_request}
 use Rattle.log_model.specs.Orders.{is_being_made, is_usable, ongoing_load}
 use Rattle.log_model.specs.Queue.{is_traverse}
 use Rattle.log_model.specs.Seen.{Asked, Document, Seen, request_of}
+use Rattle.log_model.specs.declared.change.Change.TheVariants as changes
 use Rattle.log_model.specs.declared.change.Change.{Change}
 use Rattle.log_model.specs.declared.job.Why.{Why}
 use Rattle.log_model.specs.declared.made.Made.{Made}
@@ -39,7 +47,7 @@ use Rattle.seen_facts.proofs.Request.Readers.{SameReads, on_read, reads_then}
 use Rattle.row_facts.proofs.RestRows.Rows.{applied_rests}
 use Rattle.row_facts.proofs.RestRows.Shown.{applied_awake}
 use Rattle.row_facts.specs.RestRows.Moving.{AllRest}
-use Rattle.seen_laws.specs.InEvent.{InEvent, now_of, row_of}
+use Rattle.seen_laws.specs.InEvent.{InEvent, now_of, row_of, log_of}
 use Rattle.std.proofs.Common.{Bool, List, None, Option, Some, [], ap, false, inl, inr, length, not, refl, subst, sym, true, ℕ, ◌&&◌, ◌++◌, ◌==◌, ◌∙◌, ◌∷◌, ◌≡◌, ◌≤◌, ◌⊎◌}
 use Rattle.std.specs.List.{list_any}
 use Rattle.std.specs.Prelude.{option_map}
@@ -220,6 +228,8 @@ module _ (p : InPass) (out : List RowKind) (t : Tables) (blame : List (StateId �
     pub unmoved : UnmovedAreHere n
     pub rooted : AreRooted n
     pub usable : (state : StateId) → list_any (λ (d : Document). is_usable d state) n.documents ≡ list_any (λ (d : Document). is_usable d state) now_.documents
+    pub well : FitsWell now_ change
+    pub keeps : KeepsTo now_ made.req change
 
   module _ (noted : List (StateId × ReqId)) (after : IsAfter noted) where
     base : IsOpen e t.running whys.Start now_
@@ -259,6 +269,24 @@ module _ (p : InPass) (out : List RowKind) (t : Tables) (blame : List (StateId �
           subst (λ (l : List RowKind). IsLoose e l) (sym out_is)
           (loose_more e out (rows.Applied made.req change) (last_goes e out (rows.Applied made.req change) _ out_is work.goes).read at.loose (applied_lasts now_ e.event e.actor made.req change) (λ end on. refl))
 
+      -- whom requests leave was asked
+      duly_n : AreLeftDuly (log_of e new)
+      duly_n =
+          duly_then e out (rows.Applied made.req change) new out_is
+          (bare_change_duly e.checking (log_of e out) e.event e.actor at.passing.duly made.req change (bare (λ (x : Seen). FitsWell x change) after.well) (keeps_bare change no_turn (bare (λ (x : Seen). KeepsTo x made.req change) after.keeps)))
+        where
+          bare : (P : Seen → Type 0) → P now_ → P (unasked e.checking (log_of e out))
+          bare P is = subst P (events.now_is e out) is
+
+          keeps_bare : (c : Change) → is_traverse (row_of e (rows.Applied made.req c)) ≡ false → KeepsTo (unasked e.checking (log_of e out)) made.req c → BareKeeps e.checking (log_of e out) made.req c
+          keeps_bare (changes.Traverse goal) never is = absurd cc
+          keeps_bare (changes.Push nav entry state address memo) turns is = is
+          keeps_bare (changes.Replace nav over entry state address memo) turns is = is
+          keeps_bare (changes.AddFrame owner nav entry state) turns is = is
+          keeps_bare (changes.RemoveFrame nav) turns is = tt
+          keeps_bare (changes.Reload nav) turns is = tt
+          keeps_bare changes.Edit turns is = tt
+
       passing_n : IsPassing (record p { hand = rest }) new u
       passing_n =
           record {
@@ -267,6 +295,7 @@ module _ (p : InPass) (out : List RowKind) (t : Tables) (blame : List (StateId �
             owed = loose_owed e new loose_n;
             loose = λ all. loose_n;
             rests = subst (λ (x : Seen). AllRest x) (sym now_is) (applied_rests now_ e.event e.actor [] at.passing.rests made.req change);
+            duly = duly_n;
             few = subst (λ (k : ℕ). length (now_of e new).kept ≤ k) (sym keeps.keep) (subst (λ (l : List DocId). length l ≤ t.kept.keep) (sym (ap (λ (x : Seen). x.kept) now_is)) at.passing.few);
           }
 

@@ -1,4 +1,5 @@
 -- What a document made is refused: the new frame's number is taken, or the frame to be removed isn't the document's.
+use Rattle.leave_facts.proofs.Events.{refused_duly}
 use Rattle.tab_doors.proofs.PassedOn.{refused_goes, refused_now}
 use Rattle.seen_facts.proofs.Coord.Unread.{next}
 use Rattle.seen_facts.proofs.Entry.Skips.{without_made}
@@ -96,6 +97,7 @@ module _ (p : InPass) (out : List RowKind) (t : Tables) (blame : List (StateId �
           owed = loose_owed e new loose_n;
           loose = λ all. loose_n;
           rests = subst (λ (x : Seen). AllRest x) (sym now_is) (refused_rests now_ e.event e.actor [] at.passing.rests made.req reason);
+          duly = refused_duly e out made.req reason new out_is at.passing.duly;
           few = subst (λ (x : Tables). length (now_of e new).kept ≤ x.kept.keep) (sym same) (subst (λ (l : List DocId). length l ≤ t.kept.keep) (sym (ap (λ (x : Seen). x.kept) now_is)) at.passing.few);
         }
 

@@ -1,4 +1,5 @@
 -- What a document made is dropped: by the request that took its navigable's last entries, or by the one that moved the navigable.
+use Rattle.leave_facts.proofs.Events.{dropped_duly}
 use Rattle.tab_doors.proofs.PassedOn.{dropped_goes, dropped_now}
 use Rattle.seen_facts.proofs.Coord.Unread.{next}
 use Rattle.seen_facts.specs.Coord.Epochs.{IsWithin, MadeWithin}
@@ -134,6 +135,7 @@ module _ (p : InPass) (out : List RowKind) (t : Tables) (blame : List (StateId �
           owed = loose_owed e new loose_n;
           loose = λ all. loose_n;
           rests = subst (λ (x : Seen). AllRest x) (sym now_is) (dropped_rests now_ e.event e.actor [] at.passing.rests made.req cause);
+          duly = dropped_duly e out made.req cause new out_is at.passing.duly;
           few = subst (λ (x : Tables). length (now_of e new).kept ≤ x.kept.keep) (sym same) (subst (λ (l : List DocId). length l ≤ t.kept.keep) (sym (ap (λ (x : Seen). x.kept) now_is)) at.passing.few);
         }
 

@@ -1,4 +1,5 @@
 -- What a document made is applied: an entry is pushed, and those forward of it go. A document whose state lost its entries is that of a navigable which was given one of these, or of one below it, and the request has moved each such one.
+use Rattle.leave_facts.proofs.Applied.{FitsWell}
 use Rattle.tab_facts.specs.Calm.Calm.{AreRooted}
 use Rattle.seen_facts.proofs.Coord.TakenUp.{once_pushed, push_is}
 use Rattle.seen_facts.specs.Each.Mades.{IsNext}
@@ -22,7 +23,7 @@ use Rattle.log_model.specs.Causes.{any_place}
 use Rattle.log_model.specs.Equal.{holds}
 use Rattle.log_model.specs.History.{cleared, fits, has_nav, has_row, has_state, is_of, owner_of, same_entry, target_entry}
 use Rattle.log_model.specs.Once.{change_of_made}
-use Rattle.log_model.specs.Places.{aim_of, has_arrived, is_below, is_given_target, is_shown, way_of, way_to}
+use Rattle.log_model.specs.Places.{aim_of, has_arrived, is_below, is_given_target, is_shown, way_of, way_to, targets_state}
 use Rattle.log_model.specs.Seen.{Document, Place, Seen, awake, document_of, place_of}
 use Rattle.log_model.specs.declared.change.Change.{Change}
 use Rattle.log_model.specs.declared.made.Made.{Made}
@@ -460,6 +461,22 @@ module _ (p : InPass) (out : List RowKind) (t : Tables) (blame : List (StateId �
           (let low : nat_le a.it.step.0 s.history.current ≡ true = (was_low t.running p.loads p.hand s tab a.it old).1 in grind (arith, nat_tests, low))
       by_row (inr same) = subst (λ (r : Row). r.step.0 ≤ s.history.current + 1) same (omega arith)
 
+  -- ---- whom requests leave
+
+  -- the document state is that of its navigable's target
+  keeps_state : targets_state s.history.rows s.history.current its.d.nav its.d.state ≡ true
+  keeps_state = rw (here.at_) (ap (λ (x : StateId). x.0 == its.d.state.0) here.state_is ∙ nat_eq_refl its.d.state.0)
+
+  well : FitsWell s push
+  well =
+      record {
+        sound = tab.sound;
+        hangs = tab.hangs;
+        fit = fit;
+        brings = λ row there same. tab.whose.whose made.doc its.d row its.found there (ap (λ (n : ℕ). let x : StateId = record { 0 = n } in x) same);
+        then_sound = tab_n.sound;
+      }
+
   module _ (noted : List (StateId × ReqId)) (are : EntriesAreNoted t made.req blame noted) where
     push_after : IsAfter p out t blame made at push noted
     push_after =
@@ -474,6 +491,8 @@ module _ (p : InPass) (out : List RowKind) (t : Tables) (blame : List (StateId �
           unmoved = unmoved_n p out t blame made at push tab_n become place_n alike row_was keeps_now;
           rooted = rooted_n;
           usable = usable_then s n made.doc (once_pushed entry) (λ y. refl) documents_now (λ state_ x. refl);
+          well = well;
+          keeps = keeps_state;
         }
 
     pub push_done : (more : List RowKind) (u : Tables) → more ≡ out ++ rows.Applied made.req (changes.Push nav entry state address memo) ∷ [] → KeepsRun t u → IsAtWork ev more u → HasTaken p t made out more u noted

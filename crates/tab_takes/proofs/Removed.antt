@@ -337,6 +337,8 @@ module _ (p : InPass) (out : List RowKind) (t : Tables) (blame : List (StateId �
           unmoved = unmoved_n p out t blame made at remove tab_n become place_n alike row_was keeps_now;
           rooted = rooted_n;
           usable = λ state_. ap (λ (l : List Document). list_any (λ (x : Document). is_usable x state_) l) documents_n;
+          well = record { sound = tab.sound; hangs = tab.hangs; fit = fit; brings = tt; then_sound = tab_n.sound };
+          keeps = tt;
         }
 
     pub remove_done : (more : List RowKind) (u : Tables) → more ≡ out ++ rows.Applied made.req remove ∷ [] → KeepsRun t u → IsAtWork ev more u → HasTaken p t made out more u noted

@@ -1,4 +1,5 @@
 -- What a document made is applied: an entry takes the place of the one that its navigable was given.
+use Rattle.seen_facts.specs.Hang.Changing.{HasState}
 use Rattle.tab_facts.specs.Calm.Calm.{AreRooted, CalmUnless, IsCalmYet, IsHere, IsRooted, UnmovedAreHere}
 use Rattle.seen_facts.proofs.Coord.TakenUp.{once_replaced, replace_is}
 use Rattle.seen_facts.specs.Coord.Leading.{coming, is_made_under}
@@ -396,6 +397,13 @@ module _ (p : InPass) (out : List RowKind) (t : Tables) (blame : List (StateId �
       by_case (inr root) =
           inr (swap its.d.nav over entry address memo root.0, swapped_has root.0 root.1, state_same its.d.nav over entry address memo root.0 ∙ root.2 ∙ states, subst (λ (k : Step). k.0 ≤ s.history.current) (sym (step_same its.d.nav over entry address memo root.0)) root.3)
 
+  -- the replaced entry is of the document state
+  over_state : HasState s.history.rows over its.d.state
+  over_state row there same =
+      let entries : row.entry ≡ here.row.entry = entry_same row.entry over same ∙ over_is in
+      let one : row ≡ here.row = one_row s.history.rows here.row row (at.passing.going.tab.sound.entries here.row.entry) (target p out t blame made at told).there there entries in
+      ap (λ (r : Row). r.state) one ∙ here.state_is
+
   pub replace_after : IsAfter p out t blame made at replace blame
   replace_after =
       record {
@@ -409,6 +417,8 @@ module _ (p : InPass) (out : List RowKind) (t : Tables) (blame : List (StateId �
         unmoved = unmoved_n;
         rooted = rooted_n;
         usable = usable_then s n made.doc (once_replaced entry) (λ y. refl) documents_now (λ state_ x. refl);
+        well = record { sound = at.passing.going.tab.sound; hangs = at.passing.going.tab.hangs; fit = fit; brings = inl over_state; then_sound = tab_n.sound };
+        keeps = over_state;
       }
 
   pub replace_done : (new : List RowKind) (u : Tables) → new ≡ out ++ rows.Applied made.req (changes.Replace nav over entry state address memo) ∷ [] → KeepsRun t u → IsAtWork ev new u → HasTaken p t made out new u blame

@@ -1,4 +1,14 @@
 -- The traversal that waits first begins, or is refused where its delta leads nowhere; and all goes on then.
+use Rattle.tab_ids.specs.declared.NavId.{NavId}
+use Rattle.tab_facts.specs.FrameWhole.Tab.{AreAwakeWithRows}
+use Rattle.tab_facts.proofs.Calm.Awakes.{calm_stood}
+use Rattle.tab_facts.specs.Calm.Calm.{IsCalm, IsCalmYet, IsHere}
+use Rattle.seen_facts.specs.Home.Homes.{AreHomed}
+use Rattle.seen_facts.specs.Hang.Hanging.{Hangs}
+use Rattle.log_model.specs.Soundness.{IsSound}
+use Rattle.log_model.specs.Orders.{due_questions}
+use Rattle.seen_laws.specs.Unasked.{unasked}
+use Rattle.tab_passes.proofs.PassedOn.{AreLeftDuly, IsNoProcess, bare_traversal_duly, begun_going, begun_tab, duly_then, joined_unheld, no_load, nowhere_tab, refused_duly, refused_going, refused_lasting, started_lasting}
 use Rattle.seen_laws.proofs.InEvents.{last_goes, now_at, now_is}
 use Rattle.tab_doors.proofs.PassedOn.{refused_goes, refused_now}
 use Rattle.seen_facts.proofs.Coord.Held.{without_same}
@@ -9,15 +19,14 @@ use Rattle.row_facts.proofs.FrameRows.LawfulLaws.{ends_other}
 use Rattle.row_facts.specs.FrameRows.Lawful.{held_at_first}
 use Rattle.tab_passes.proofs.SetOuts.{course_of}
 use Rattle.history_laws.proofs.InOrder.{used_steps-ordered}
-use Rattle.tab_passes.proofs.PassedOn.{IsNoProcess, begun_going, begun_tab, joined_unheld, no_load, nowhere_tab, refused_going, refused_lasting, started_lasting}
 use Rattle.log_model.specs.AfterRequests.{on_request, request_begun}
 use Rattle.log_model.specs.Causes.{denial_at_acceptance}
 use Rattle.log_model.specs.Equal.{has_req}
-use Rattle.log_model.specs.History.{History, history_index, used_steps}
+use Rattle.log_model.specs.History.{History, history_index, used_steps, has_row}
 use Rattle.log_model.specs.Once.{index_at_delta, step_at_delta}
-use Rattle.log_model.specs.Places.{all_stand, is_traversal}
+use Rattle.log_model.specs.Places.{all_stand, is_traversal, is_awake}
 use Rattle.log_model.specs.Queue.{begins_in_turn}
-use Rattle.log_model.specs.Seen.{Asked, Seen, request_of}
+use Rattle.log_model.specs.Seen.{Asked, Seen, request_of, Place}
 use Rattle.log_model.specs.declared.request.Request.{Request}
 use Rattle.log_model.specs.declared.row.Row.{Row}
 use Rattle.log_model.specs.declared.row_kind.Actor.{Actor}
@@ -28,9 +37,9 @@ use Rattle.row_facts.specs.Owed.Owed.{IsLoose}
 use Rattle.seen_facts.proofs.Request.Readers.{on_read, reads_then}
 use Rattle.row_facts.proofs.RestRows.Rows.{refused_rests, started_rests}
 use Rattle.row_facts.specs.RestRows.Moving.{AllRest}
-use Rattle.seen_laws.specs.InEvent.{InEvent, now_of, row_of, seen_here}
+use Rattle.seen_laws.specs.InEvent.{InEvent, now_of, row_of, seen_here, log_of}
 use Rattle.seen_laws.specs.Owing.{is_sole_load, owes_row}
-use Rattle.std.proofs.Common.{Bool, List, None, Option, Some, [], ap, false, length, negsuc, pos, refl, subst, sym, true, ℕ, ℤ, ◌+ℤ◌, ◌++◌, ◌∙◌, ◌∷◌, ◌≡◌, ◌≤◌, ◌⊎◌}
+use Rattle.std.proofs.Common.{Bool, List, None, Option, Some, [], ap, false, length, negsuc, pos, refl, subst, sym, true, ℕ, ℤ, ◌+ℤ◌, ◌++◌, ◌∙◌, ◌∷◌, ◌≡◌, ◌≤◌, ◌⊎◌, inl, inr}
 use Rattle.std.specs.Prelude.{nat_lt, option_map}
 use Rattle.step_index.specs.contracts.step_index.StepIndexStore.TheImpl.Laws.{sound-law}
 use Rattle.step_index.specs.Held.{history_held}
@@ -203,14 +212,52 @@ module _ (p : InPass) (out : List RowKind) (t : Tables) (passing : IsPassing p o
           subst (λ (l : List RowKind). IsLoose e l) (sym out_is)
           (loose_more e out (rows.Started req (Some goal)) (last_goes e out (rows.Started req (Some goal)) _ out_is work.goes).read loose (begun_lasts s e.event e.actor req (Some goal) its.q its.at (no_load its.q.what its.goes)) (λ end on. owes_none e out req goal its.q its.at its.goes end))
 
-      pub begin_passing : s.parked ≡ [] → IsPassing p more u
-      begin_passing none =
+      -- whom requests leave was asked, as the tab is calm, and the traversal asks nobody
+      begun_duly : AreAwakeWithRows s → AreLeftDuly (log_of e more)
+      begun_duly with_rows =
+          duly_then e out (rows.Started req (Some goal)) more out_is
+          (bare_traversal_duly e.checking (log_of e out) e.event e.actor passing.duly (by_now tab.sound) (at_bare Hangs tab.hangs) (at_bare AreHomed tab.homes) req its.q (there_log its.q its.at) goal its.goes (at_bare IsCalmYet calm) asks_none)
+        where
+          at_bare : (P : Seen → Type 0) → P s → P (unasked e.checking (log_of e out))
+          at_bare P is = subst P (now_is e out) is
+
+          by_now : IsSound s.history → IsSound (log_of e out).history
+          by_now is = at_bare (λ (x : Seen). IsSound x.history) is
+
+          there_log : (q : Asked) → request_of s req ≡ Some q → request_of (log_of e out) req ≡ Some q
+          there_log q at = subst (λ (x : Seen). request_of x req ≡ Some q) (sym passing.work.plain) at
+
+          asks_none : due_questions (log_of e out) its.q.what (Some goal) ≡ []
+          asks_none =
+              subst (λ (x : Seen). due_questions x its.q.what (Some goal) ≡ []) (sym passing.work.plain) (none_asked s tab.docs its.q.what (Some goal))
+
+          stood : IsCalm s
+          stood = calm_stood s tab.sound tab.hangs tab.homes tab.standing with_rows stand
+
+          calm : IsCalmYet s
+          calm =
+              record {
+                here = λ nav place doc at wakes. by_here nav place (stood.here nav place doc at wakes);
+                wakes = λ nav place at shown ever. by_wakes nav place (stood.wakes nav place at shown ever);
+              }
+            where
+              by_here : (nav : NavId) (place : Place) → ⊥ ⊎ IsHere s place → (has_row nav s.history.rows ≡ false) ⊎ IsHere s place
+              by_here nav place (inl never) = absurd never
+              by_here nav place (inr here) = inr here
+
+              by_wakes : (nav : NavId) (place : Place) → ⊥ ⊎ (is_awake place ≡ true) → (has_row nav s.history.rows ≡ false) ⊎ (is_awake place ≡ true)
+              by_wakes nav place (inl never) = absurd never
+              by_wakes nav place (inr wakes) = inr wakes
+
+      pub begin_passing : s.parked ≡ [] → AreAwakeWithRows s → IsPassing p more u
+      begin_passing none with_rows =
           record {
             work = work;
             going = subst (λ (x : Seen). IsGoing u.running p.loads p.hand x) (sym now) (subst (λ (x : Tables). IsGoing x.running p.loads p.hand n) (sym tables) (going_then none));
             owed = loose_owed e more loose_then;
             loose = λ all. loose_then;
             rests = subst (λ (x : Seen). AllRest x) (sym now) (started_rests s e.event e.actor [] passing.rests req (Some goal));
+            duly = begun_duly with_rows;
             few = subst (λ (x : Tables). length (now_of e more).kept ≤ x.kept.keep) (sym tables) (subst (λ (l : List DocId). length l ≤ t.kept.keep) (sym (ap (λ (x : Seen). x.kept) now)) passing.few);
           }
 
@@ -308,6 +355,7 @@ module _ (p : InPass) (out : List RowKind) (t : Tables) (passing : IsPassing p o
             owed = loose_owed e more loose_gone;
             loose = λ all. loose_gone;
             rests = subst (λ (x : Seen). AllRest x) (sym now_gone) (refused_rests s e.event e.actor [] passing.rests req denials.NoStep);
+            duly = refused_duly e out req denials.NoStep more out_is passing.duly;
             few = subst (λ (x : Tables). length (now_of e more).kept ≤ x.kept.keep) (sym tables) (subst (λ (l : List DocId). length l ≤ t.kept.keep) (sym (ap (λ (x : Seen). x.kept) now_gone)) passing.few);
           }
 

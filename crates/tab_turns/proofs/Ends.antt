@@ -1,10 +1,11 @@
 -- A traversal that runs may end where all stand at the aim, and all goes on then.
-use Rattle.seen_laws.proofs.InEvents.{last_goes, now_at}
+use Rattle.std.proofs.lemmas.Bool.Decides.{nat_tests}
+use Rattle.tab_passes.proofs.PassedOn.{AreLeftDuly, alone_log, applied_wishes, bare_alone_duly, duly_then, ended_tab, goes_of, joined_unheld, traversed_going, traversed_lasting}
+use Rattle.seen_laws.proofs.InEvents.{last_goes, now_at, now_is}
 use Rattle.apply_plan.specs.Standing.{are_settled}
 use Rattle.seen_facts.proofs.Coord.Held.{without_same}
 use Rattle.seen_facts.proofs.Coord.Unread.{next}
-use Rattle.seen_facts.specs.Each.Runs.{is_run}
-use Rattle.tab_passes.proofs.PassedOn.{applied_wishes, ended_tab, goes_of, joined_unheld, traversed_going, traversed_lasting}
+use Rattle.seen_facts.specs.Each.Runs.{is_run, OnlyRuns, is_this}
 use Rattle.tab_passes.specs.PassedOn.{has_ended as has_ended_, wish}
 use Rattle.row_facts.specs.FrameRows.Lawful.{held_at_first}
 use Rattle.tab_passes.proofs.SetOuts.{course_of}
@@ -30,8 +31,8 @@ use Rattle.row_facts.specs.Owed.Owed.{IsLoose}
 use Rattle.seen_facts.specs.Request.Knowns.{is_go}
 use Rattle.row_facts.proofs.RestRows.Rows.{applied_rests}
 use Rattle.row_facts.specs.RestRows.Moving.{AllRest}
-use Rattle.seen_laws.specs.InEvent.{InEvent, now_of}
-use Rattle.std.proofs.Common.{Bool, List, None, Option, Some, [], ap, arith, false, fold, inl, inr, length, map, not, refl, subst, sym, true, ℕ, ◌&&◌, ◌++◌, ◌∙◌, ◌∷◌, ◌≡◌, ◌≤◌, ◌⊎◌}
+use Rattle.seen_laws.specs.InEvent.{InEvent, now_of, log_of}
+use Rattle.std.proofs.Common.{Bool, List, None, Option, Some, [], ap, arith, false, fold, inl, inr, length, map, not, refl, subst, sym, true, ℕ, ◌&&◌, ◌++◌, ◌∙◌, ◌∷◌, ◌≡◌, ◌≤◌, ◌⊎◌, ◌==◌}
 use Rattle.std.proofs.lemmas.Bool.{cases_Bool, le-leb}
 use Rattle.std.proofs.lemmas.List.{map-id}
 use Rattle.std.specs.Prelude.{filter, is_none, max, nat_le}
@@ -258,6 +259,16 @@ module _ (p : InPass) (out : List RowKind) (t : Tables) (passing : IsPassing p o
           subst (λ (l : List RowKind). IsLoose e l) (sym out_is)
           (loose_more e out (rows.Applied req (changes.Traverse goal)) (last_goes e out (rows.Applied req (changes.Traverse goal)) _ out_is work.goes).read (passing.loose stand) (applied_lasts s e.event e.actor req (changes.Traverse goal)) (λ end on. refl))
 
+      -- whom requests leave was asked still, as no other traversal is under way
+      ended_duly : AreLeftDuly (log_of e more)
+      ended_duly =
+          duly_then e out (rows.Applied req (changes.Traverse goal)) more out_is
+          (bare_alone_duly e.checking (log_of e out) e.event e.actor passing.duly req (changes.Traverse goal) tt (subst (λ (x : Seen). fits x.history (changes.Traverse goal) ≡ true) (now_is e out) fit)
+          (alone_log e.checking (log_of e out) passing.work.unheld passing.work.checks.numbered req (Some req) (subst (λ (x : Seen). OnlyRuns (Some req) x) (now_is e out) tab.asked.only) (λ r is. same r is)))
+        where
+          same : (r : ReqId) → is_this (Some req) r ≡ true → (r.0 == req.0) ≡ true
+          same r is = grind (arith, nat_tests, is)
+
       pub end_passing : IsPassing p more u
       end_passing =
           record {
@@ -266,6 +277,7 @@ module _ (p : InPass) (out : List RowKind) (t : Tables) (passing : IsPassing p o
             owed = loose_owed e more loose_then;
             loose = λ all. loose_then;
             rests = subst (λ (x : Seen). AllRest x) (sym now) (applied_rests s e.event e.actor [] passing.rests req (changes.Traverse goal));
+            duly = ended_duly;
             few = subst (λ (k : ℕ). length (now_of e more).kept ≤ k) (sym keep) (subst (λ (l : List DocId). length l ≤ t.kept.keep) (sym (ap (λ (x : Seen). x.kept) now)) passing.few);
           }
 

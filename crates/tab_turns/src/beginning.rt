@@ -3,6 +3,7 @@ ghost use Rattle.std.specs.Prelude.{◌≡◌, [], None, OnOk, true, option_map}
 ghost use Rattle.log_model.specs.Places.{all_stand};
 ghost use Rattle.seen_laws.specs.InEvent.{now_of};
 ghost use Rattle.step_index.specs.Held.{history_held};
+ghost use Rattle.tab_facts.specs.FrameWhole.Tab.{AreAwakeWithRows};
 ghost use Rattle.tab_passes.specs.Passing.{InPass, IsPassing};
 ghost use Rattle.tab_turns.specs.Beginning.{HasGone, IsFirst, step_by};
 ghost use Rattle.tab_turns.specs.Turning.{IsTurning};
@@ -26,7 +27,7 @@ fn goal_of(tables: &Tables, delta: i32) -> Option<Step>
     tables.store.step_of(place as usize)
 }
 
-/// The traversal that joined first is refused where its delta leads nowhere, else it begins, with the used step that it leads to. No traversal runs, nothing is held back, and all stand at the current step. HTML Standard, "traverse the history by a delta".
+/// The traversal that joined first is refused where its delta leads nowhere, else it begins, with the used step that it leads to. No traversal runs, nothing is held back, all stand at the current step, and whoever is awake has an entry. HTML Standard, "traverse the history by a delta".
 pub fn begin_traversal(
     tables: &mut Tables,
     out: &mut Out,
@@ -40,6 +41,7 @@ pub fn begin_traversal(
     requires first { IsFirst (now_of p.event out.old) req delta }
     requires stand { all_stand (now_of p.event out.old) (now_of p.event out.old).history.current ≡ true }
     requires none { (now_of p.event out.old).parked ≡ [] }
+    requires rows { AreAwakeWithRows (now_of p.event out.old) }
     ensures passing { OnOk result (IsPassing p out.new tables.new) }
     ensures turning { OnOk result (IsTurning p.event out.new) }
     ensures gone { OnOk result (HasGone p.event out.old out.new tables.old tables.new req delta) }

@@ -1,4 +1,7 @@
 -- A document that was made is noted in the tables: the coordinator is at work, and passes may follow, whatever the document is needed for.
+use Rattle.log_model.specs.declared.row_kind.RowKind.TheVariants as rows
+use Rattle.log_model.specs.After.{after}
+use Rattle.tab_passes.proofs.PassedOn.{AreLeftDuly, row_duly}
 use Rattle.seen_facts.specs.Asked.Asking.{ArePlain}
 use Rattle.checking_facts.specs.Checks.{AreInCheck}
 use Rattle.seen_facts.specs.Kept.Keeping.{state_in}
@@ -16,7 +19,7 @@ use Rattle.log_model.specs.declared.row_kind.RowKind.{RowKind}
 use Rattle.move_queue.specs.Queue.{Queue}
 use Rattle.row_facts.proofs.Owed.Ends.{loose_first, loose_owed}
 use Rattle.page_cache.specs.Kept.{Kept}
-use Rattle.seen_laws.specs.InEvent.{InEvent, log_of, now_of}
+use Rattle.seen_laws.specs.InEvent.{InEvent, log_of, now_of, row_of}
 use Rattle.seen_laws.specs.Sending.{leads}
 use Rattle.std.proofs.Common.{Bool, List, None, Option, Some, [], ap, length, map, refl, subst, sym, true, ℕ, ◌+◌, ◌∙◌, ◌≡◌, ◌≤◌}
 use Rattle.std.proofs.lemmas.List.{length-map}
@@ -112,5 +115,6 @@ module _ (e : InEvent) (proc : ProcId) (job : Job) (outcome : Outcome) (del : Is
           owed = loose_owed e [] (loose_first e);
           loose = λ all. loose_first e;
           rests = told_rests e proc del.by_coord del.own t queue blame stands aside report del.first;
+          duly = subst AreLeftDuly (sym (ap (λ (k : RowKind). after e.start (row_of e k)) del.own)) (row_duly e.start e.event e.actor stands.lasts.duly (rows.Delivered proc) tt);
           few = few;
         }

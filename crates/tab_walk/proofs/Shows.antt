@@ -61,7 +61,7 @@ module _ (m : InMove) (why : Why) (out : List RowKind) (t : Tables) (new : Docum
 
   pub cut_leaving : IsLeaving m.pass (Some (cut_of m)) [] last_out u
   cut_leaving =
-      record { work = so.leaving.work; going = so.leaving.going; owed = so.leaving.owed; rests = rest_more now rest [] (λ x has. absurd (done x has)) so.leaving.rests }
+      record { work = so.leaving.work; going = so.leaving.going; owed = so.leaving.owed; rests = rest_more now rest [] (λ x has. absurd (done x has)) so.leaving.rests; duly = so.leaving.duly }
 
   visited_then : IsVisitedInNeed now aimed.place
   visited_then =

@@ -1,4 +1,5 @@
 -- The document that the user evicts was discarded: those below it may be, and none of them is awake.
+use Rattle.tab_passes.proofs.PassedOn.{AreLeftDuly, row_duly, sent_duly}
 use Rattle.unasked.proofs.Nows.{sent_goes, sent_now}
 use Rattle.tab_facts.proofs.Calm.Loads.{IsLoads, loads_sent}
 use Rattle.seen_facts.specs.Hang.Members.{Has}
@@ -26,7 +27,7 @@ use Rattle.row_facts.proofs.RestRows.Again.{doc_same}
 use Rattle.row_facts.proofs.RestRows.Orders.{discarded_less}
 use Rattle.row_facts.specs.RestRows.Moving.{RestBut}
 use Rattle.seen_laws.proofs.Keyed.{find_on_other, find_on_same}
-use Rattle.seen_laws.specs.InEvent.{InEvent, now_of, row_of}
+use Rattle.seen_laws.specs.InEvent.{InEvent, now_of, row_of, log_of}
 use Rattle.seen_laws.specs.Sending.{leads}
 use Rattle.std.proofs.Common.{Bool, List, None, Option, Some, [], ap, cond, false, inl, inr, not, refl, subst, sym, true, ◌++◌, ◌==◌, ◌∙◌, ◌∷◌, ◌≡◌}
 use Rattle.std.specs.Prelude.{option_map}
@@ -224,6 +225,11 @@ module _ (e : InEvent) (state : StateId) (asks : IsEvictAsk e state) (t : Tables
     pub first_unkept : has_doc (now_of e new).kept doc ≡ false
     first_unkept = subst (λ (x : Seen). has_doc x.kept doc ≡ false) now_is (without_itself doc n.kept)
 
+    -- whom requests leave was asked as the own row was logged
+    own_duly : AreLeftDuly (log_of e [])
+    own_duly =
+        subst AreLeftDuly (sym (ap (λ (k : RowKind). after e.start (row_of e k)) asks.own)) (row_duly e.start e.event e.actor stands.lasts.duly (rows.Evicted state) tt)
+
     pub first_letting : KeepsStore t u → IsAtWork e new u → IsLetting (record { pass = record { event = e; loads = []; hand = [] }; moved = None }) state whys.Evict new u
     first_letting keeps work =
         record {
@@ -232,6 +238,7 @@ module _ (e : InEvent) (state : StateId) (asks : IsEvictAsk e state) (t : Tables
             going = subst (λ (x : Seen). IsGoing u.running [] [] x) now_is (subst (λ (r : Option ReqId). IsGoing r [] [] then_) (sym keeps.running) going_then);
             owed = loose_owed e new (subst (λ (l : List RowKind). IsLoose e l) (sym is) loose_then);
             rests = subst (λ (x : Seen). RestBut [] x) now_is rests_then;
+            duly = sent_duly e [] order new is tt own_duly;
           };
           may = λ req never. absurd cc;
           were = subst (λ (x : Seen). WereShown x) now_is (were_shown n e.event e.actor were (rows.Sent order) tt);

@@ -140,7 +140,7 @@ module _ (run : Option ReqId) {loads : List ReqId} (s : Seen) (event : ℕ) (pro
         }
 
     -- where it makes a document, this isn't made yet
-    unready : (task : Task) → order.job.task ≡ task → (d : Document) → document_of s order.job.doc ≡ Some d → IsOfUnmade task d
+    pub unready : (task : Task) → order.job.task ≡ task → (d : Document) → document_of s order.job.doc ≡ Some d → IsOfUnmade task d
     unready (tasks.Populate nav state address initial) task d found = by_ready d.is_ready refl
       where
         number : d.nr ≡ order.job.doc

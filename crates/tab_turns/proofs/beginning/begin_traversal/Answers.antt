@@ -42,7 +42,7 @@ pub returns-in_ok-begin-in-Some-clause-passing : goal.returns-in_ok-begin-in-Som
 returns-in_ok-begin-in-Some-clause-passing g c =
     let fits : SFits w32 c.args.delta = search rules in
     let there = to_goal _ _ _ c.requires.0.work c.args.delta _ (to_z-of_z w32 c.args.delta fits) _ c.goal_of.ensures _ c.in-Some.is in
-    begin_passing g.p _ _ c.requires.0 c.requires.1.0 c.requires.1.1.0 _ _ c.requires.1.1.1.0 c.requires.1.1.1.1.0 _ there _ _ c.in_ok-begin-in-Some.ensures.out c.in_ok-begin-in-Some.ensures.work c.in_ok-begin-in-Some.ensures.tables c.requires.1.1.1.1.1
+    begin_passing g.p _ _ c.requires.0 c.requires.1.0 c.requires.1.1.0 _ _ c.requires.1.1.1.0 c.requires.1.1.1.1.0 _ there _ _ c.in_ok-begin-in-Some.ensures.out c.in_ok-begin-in-Some.ensures.work c.in_ok-begin-in-Some.ensures.tables c.requires.1.1.1.1.1.0 c.requires.1.1.1.1.1.1
 
 pub returns-in_ok-begin-in-Some-clause-turning : goal.returns-in_ok-begin-in-Some-clause-turning
 returns-in_ok-begin-in-Some-clause-turning g c =
