@@ -21,12 +21,12 @@ use Rattle.unasked.proofs.Readings.{checked_off, found_from, under_way_off}
 use Rattle.unasked_dues.proofs.Base.{document_from}
 
 -- a traversal that is under way there is under way in the log
-record IsGoingIn (s : Seen) (req : ReqId) (goal : Step) : Type 0 where
-  asked : Asked
-  going : IsGoing s req asked goal
+pub record IsGoingIn (s : Seen) (req : ReqId) (goal : Step) : Type 0 where
+  pub asked : Asked
+  pub going : IsGoing s req asked goal
 
 module _ (checking : ReqId → Bool) (s : Seen) where
-  going_in : (req : ReqId) (bare : Asked) (goal : Step) → IsGoing (unasked checking s) req bare goal → IsGoingIn s req goal
+  pub going_in : (req : ReqId) (bare : Asked) (goal : Step) → IsGoing (unasked checking s) req bare goal → IsGoingIn s req goal
   going_in req bare goal is =
       record {
         asked = from.0;

@@ -20,3 +20,5 @@ pub mod Moved
 pub mod Lefts
 pub mod Bares
 pub mod Events
+pub mod Duly
+pub mod Leavers

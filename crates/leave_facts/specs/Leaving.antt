@@ -1,10 +1,12 @@
 -- Whom a traversal or a load that is under way leaves: each document with a handler on which a navigable was awake as it began, and which it leaves, was asked for it.
 -- HTML Standard, "checking if unloading is canceled" and "Applying the history step". That it stays so where a document's change cuts the traversal's goal short is this project's own.
-use Rattle.std.specs.Prelude.{◌≡◌, ℕ, Bool, true, false, ◌&&◌, List, Option, Some, None, is_some}
+use Rattle.std.specs.Prelude.{◌≡◌, ◌⊎◌, ℕ, Bool, true, false, ◌&&◌, List, Option, Some, None, is_none, is_some}
 use Rattle.tab_ids.specs.declared.DocId.{DocId}
 use Rattle.tab_ids.specs.declared.NavId.{NavId}
 use Rattle.tab_ids.specs.declared.ReqId.{ReqId}
 use Rattle.tab_ids.specs.declared.Step.{Step}
+use Rattle.log_model.specs.declared.job.Why.TheVariants as whys
+use Rattle.log_model.specs.declared.job.Why.{Why}
 use Rattle.log_model.specs.declared.request.Mode.{Mode}
 use Rattle.log_model.specs.declared.request.Request.{Request}
 use Rattle.log_model.specs.declared.request.Request.TheVariants as requests
@@ -12,7 +14,7 @@ use Rattle.log_model.specs.declared.row.Row.{Row}
 use Rattle.log_model.specs.Checks.{was_asked}
 use Rattle.log_model.specs.Equal.{has_doc}
 use Rattle.log_model.specs.History.{has_nav, has_row, used_step_at}
-use Rattle.log_model.specs.Places.{is_shown, is_traversal, is_under_way, targets_state, way_of}
+use Rattle.log_model.specs.Places.{is_shown, is_traversal, is_under_way, targets_state, way_of, way_to}
 use Rattle.log_model.specs.Seen.{Seen, Asked, Document, Place, document_of, place_of, request_of}
 
 -- at the step the document's navigable is shown, and its target there has the document's state
@@ -81,6 +83,32 @@ pub record IsBelow (s : Seen) (req : ReqId) (q : Asked) (nav : NavId) : Type 0 w
 -- each such document was asked, whether the request has ended or not
 pub record BelowAsked (s : Seen) : Type 0 where
   pub each : (req : ReqId) (q : Asked) (nav : NavId) → IsBelow s req q nav → (doc : DocId) (d : Document) → document_of s doc ≡ Some d → has_doc q.awake_then doc ≡ true → is_some d.slot ≡ true → (place : Place) → place_of s d.nav ≡ Some place → has_nav (way_of place) nav ≡ true → was_asked q doc ≡ true
+
+-- the request leaves the document duly: where it has begun, a navigable was awake on it then, and it has a handler, it was asked
+pub record IsLeftDuly (s : Seen) (doc : DocId) (req : ReqId) : Type 0 where
+  pub asked : (q : Asked) (d : Document) → request_of s req ≡ Some q → q.is_started ≡ true → document_of s doc ≡ Some d → has_doc q.awake_then doc ≡ true → is_some d.slot ≡ true → was_asked q doc ≡ true
+
+-- so does a reason, if it is a request
+abbrev pub IsLeftDulyFor : Seen → DocId → Why → Type 0
+IsLeftDulyFor s doc why = (req : ReqId) → why ≡ whys.Req req → IsLeftDuly s doc req
+
+-- ---- whom a reason leaves
+
+-- the request is a load or reload of the navigable, or of one above it, that has begun and ended
+pub record IsFromAbove (s : Seen) (q : Asked) (nav : NavId) : Type 0 where
+  pub started : q.is_started ≡ true
+  pub ended : is_none q.ending ≡ false
+  pub at : NavId
+  pub leaves : leaves_nav q.what ≡ Some at
+  pub above : has_nav (way_to s nav) at ≡ true
+
+-- the navigable leaves what it shows for the reason: that is a traversal that is under way, or such a load or reload
+pub record IsLeaver (s : Seen) (reason : Why) (nav : NavId) : Type 0 where
+  pub req : ReqId
+  pub q : Asked
+  pub why : reason ≡ whys.Req req
+  pub found : request_of s req ≡ Some q
+  pub leaves : ((is_traversal q.what && is_under_way q) ≡ true) ⊎ IsFromAbove s q nav
 
 -- all of it
 pub record AreAsked (s : Seen) : Type 0 where

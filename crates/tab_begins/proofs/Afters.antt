@@ -1,4 +1,6 @@
 -- Right after a load was applied where all stood: its navigable is in need, nobody is but it and those below, and who isn't below it stands where it stood.
+use Rattle.seen_facts.proofs.Request.LookUps.{on_itself}
+use Rattle.tab_one_pass.proofs.Gives.{load_leaver}
 use Rattle.seen_laws.proofs.InEvents.{now_at}
 use Rattle.tab_facts.specs.Frame.Lasting.{wish}
 use Rattle.seen_facts.proofs.Request.Readers.{SameReads, on_read, reads_then}
@@ -14,7 +16,7 @@ use Rattle.tab_ids.specs.declared.DocId.{DocId}
 pub use Rattle.tab_one_pass.specs.Passing.{KeepsAwake, MayServe, ParentsShown, TakersServe}
 use Rattle.row_facts.specs.Left.Left.{WereShown}
 use Rattle.row_facts.proofs.Left.Rows.{were_shown}
-use Rattle.tab_one_pass.specs.Passing.{AreUnheld, HasPassed, IsLoadOf, IsOpen, MayCause}
+use Rattle.tab_one_pass.specs.Passing.{AreUnheld, HasPassed, IsLoadOf, IsOpen, MayCause, LeavesVisited}
 use Rattle.row_facts.proofs.RestRows.Shown.{applied_awake}
 use Rattle.seen_facts.proofs.Mover.Places.{ways_both, ways_mapped}
 use Rattle.seen_facts.proofs.Mover.Stays.{KeepWays}
@@ -599,9 +601,9 @@ module _ (p : InPass) (out : List RowKind) (t : Tables) (passing : IsPassing p o
           let two : Some (taker old) ≡ Some place = sym (place_then m ∙ ap (option_map taker) there) ∙ found in
           record { old = old; found = there; is = (let one : taker old ≡ place = cc in one) }
 
-  -- whoever is visited in need is moved by it
-  pub moves_then : MovesVisited n (whys.Req load.req)
-  moves_then m place found need epoch = by_own (m.0 == load.nav.0) refl
+  -- whoever is visited in need is its navigable, or below that
+  visited_under : (m : NavId) (place : Place) → place_of n m ≡ Some place → IsVisitedInNeed n place → has_nav (way_to n m) load.nav ≡ true
+  visited_under m place found need = by_own (m.0 == load.nav.0) refl
     where
       was : WasAt m place
       was = was_at m place found
@@ -609,19 +611,43 @@ module _ (p : InPass) (out : List RowKind) (t : Tables) (passing : IsPassing p o
       above_same : place.above ≡ was.old.above
       above_same = ap (λ (q : Place). q.above) (sym was.is) ∙ taker_same (λ (q : Place). q.above) (λ q. refl) was.old
 
-      by_below : (m.0 == load.nav.0) ≡ false → (b : Bool) → has_nav was.old.above load.nav ≡ b → IsMovedBy n (whys.Req load.req) m
+      by_below : (m.0 == load.nav.0) ≡ false → (b : Bool) → has_nav was.old.above load.nav ≡ b → has_nav (way_to n m) load.nav ≡ true
       by_below apart true below =
-          moves_at m (ap (λ (l : List NavId). has_nav l load.nav) (way_is m place found) ∙ ap (λ (b : Bool). b || has_nav place.above load.nav) apart ∙ ap (λ (l : List NavId). has_nav l load.nav) above_same ∙ below)
+          ap (λ (l : List NavId). has_nav l load.nav) (way_is m place found) ∙ ap (λ (b : Bool). b || has_nav place.above load.nav) apart ∙ ap (λ (l : List NavId). has_nav l load.nav) above_same ∙ below
       by_below apart false beside =
           let shown : is_shown n.history.rows n.history.current m ≡ true = sym (ap (λ (step : ℕ). is_shown n.history.rows step place.nav) aim_then ∙ ap (λ (x : NavId). is_shown n.history.rows n.history.current x) (found_nav n.places m place found)) ∙ need.shown in
           let none : is_needing n.history.rows n.history.current place ≡ false = ap (λ (x : Place). is_needing n.history.rows n.history.current x) (sym was.is) ∙ needless m was.old was.found apart beside shown in
           let never : true ≡ false = sym (sym (ap (λ (step : ℕ). is_needing n.history.rows step place) aim_then) ∙ need.needs) ∙ none in
           absurd cc
 
-      by_own : (b : Bool) → (m.0 == load.nav.0) ≡ b → IsMovedBy n (whys.Req load.req) m
+      by_own : (b : Bool) → (m.0 == load.nav.0) ≡ b → has_nav (way_to n m) load.nav ≡ true
       by_own true same =
-          moves_at m (ap (λ (l : List NavId). has_nav l load.nav) (way_is m place found) ∙ ap (λ (b : Bool). b || has_nav place.above load.nav) same)
+          ap (λ (l : List NavId). has_nav l load.nav) (way_is m place found) ∙ ap (λ (b : Bool). b || has_nav place.above load.nav) same
       by_own false apart = by_below apart (has_nav was.old.above load.nav) refl
+
+  -- so it is moved by the load
+  pub moves_then : MovesVisited n (whys.Req load.req)
+  moves_then m place found need epoch = moves_at m (visited_under m place found need)
+
+  abbrev end_it : Asked → Asked
+  end_it x = record x { ending = Some endings.Applied }
+
+  abbrev change_it : Asked → Asked
+  change_it x = record x { change = Some change }
+
+  abbrev take_it : Asked → Asked
+  take_it x = record x { took = entries_taken s.history change }
+
+  request_then : request_of n load.req ≡ Some (take_it (change_it (end_it q)))
+  request_then =
+      ap (λ (x : Seen). request_of x load.req) now_is
+      ∙ on_itself (on_request load.req change_it (on_request load.req end_it s.requests)) load.req take_it
+      ∙ ap (option_map take_it) (on_itself (on_request load.req end_it s.requests) load.req change_it ∙ ap (option_map change_it) (on_itself s.requests load.req end_it ∙ ap (option_map end_it) asked_at))
+
+  -- and leaves what it shows for it
+  leavers_then : LeavesVisited n (whys.Req load.req)
+  leavers_then m place found need epoch =
+      load_leaver n m load.req (take_it (change_it (end_it q))) load.nav (tie p out t passing nav load at idle may).mode load.address request_then (its_what ∙ ap (λ (x : NavId). requests.Load x (tie p out t passing nav load at idle may).mode load.address) (sym own)) began refl (visited_under m place found need)
 
   -- ---- the other requests
 
@@ -837,6 +863,7 @@ module _ (p : InPass) (out : List RowKind) (t : Tables) (passing : IsPassing p o
         };
         unwoken = λ m place doc outside found wakes. (let was = it.wakes m place doc refl found wakes in passed.walked.unwoken (ap (λ (step : ℕ). all_stand s step) aim_was ∙ may.stand) m was.place doc refl was.placed was.wakes);
         moves = moves_then;
+        leavers = leavers_then;
         were = subst (λ (x : Seen). WereShown x) (sym now_is) (were_shown s e.event e.actor passed.walked.were (rows.Applied load.req change) tt);
         parents = parents_then;
         held = held_then passed.held;

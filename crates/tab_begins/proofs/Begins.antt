@@ -32,7 +32,7 @@ use Rattle.tab_ids.specs.declared.NavId.{NavId}
 use Rattle.tab_ids.specs.declared.ReqId.{ReqId}
 use Rattle.tab_ids.specs.declared.StateId.{StateId}
 pub use Rattle.tab_one_pass.proofs.Opens.{serve_on, takers_on}
-pub use Rattle.tab_one_pass.proofs.Gives.{show_causes}
+pub use Rattle.tab_one_pass.proofs.Gives.{run_leaver, run_leavers, show_causes}
 use Rattle.tab_one_pass.specs.PassedOn.{InPass, IsTab}
 use Rattle.tab_one_pass.proofs.Stands.{IsReachedAt, reached_at}
 pub use Rattle.tab_one_pass.proofs.Calms.{loaded_never}
@@ -218,6 +218,7 @@ module _ (p : InPass) (s n : Seen) (alone : LeavesAlone s n) (loads : (req : Req
           since = record { distinct = passed.walked.since.distinct; homed = passed.walked.since.homed; ways = ways_on };
           unwoken = places_since p.event.start s [] (passed.walked.unwoken (ap (all_stand s) aim ∙ stand)) n alone.places;
           moves = moves_then;
+          leavers = λ nav place at need epoch. run_leaver n run tab_n.asked nav;
           were = were_on;
           parents = parents_on;
           held = held_on;

@@ -1,6 +1,6 @@
 -- Rows that leave the history, the navigables and the documents that are there: what documents made may be taken after them as before, so that a pass may follow.
 use Rattle.seen_facts.specs.Asked.Asking.{ArePlain}
-use Rattle.tab_facts.specs.Calm.Calm.{AreRooted, CalmUnless, IsCalmYet, IsHere, IsRooted, UnmovedAreHere}
+use Rattle.tab_facts.specs.Calm.Calm.{AreRooted, CalmUnless, IsCalmYet, IsHere, IsRooted, UnmovedAreHere, NeedIsNew}
 use Rattle.row_facts.specs.FrameRows.Lawful.{held_at_first}
 use Rattle.tab_facts.proofs.FrameTab.Running.{moved_same as moved_in}
 use Rattle.seen_facts.specs.Hang.Members.{Has}
@@ -23,7 +23,7 @@ use Rattle.tab_ids.specs.declared.DocId.{DocId}
 use Rattle.tab_ids.specs.declared.NavId.{NavId}
 use Rattle.tab_ids.specs.declared.ReqId.{ReqId}
 use Rattle.tab_ids.specs.declared.StateId.{StateId}
-use Rattle.tab_stands.proofs.PassedOn.{IsBare, IsUnsettled, StandOrBare, new_of, reached_same, show_causes, takers_on, visited_same}
+use Rattle.tab_stands.proofs.PassedOn.{IsBare, IsUnsettled, StandOrBare, new_of, reached_same, run_leavers, show_causes, takers_on, visited_same}
 use Rattle.tab_stands.specs.PassedOn.{AreBlamed, IsLoadOf, IsOpen, IsTaking, LoadsLive, MayCause, MayServe, MayStand, ParentsShown, StandOrMove, TakersServe, show_why}
 use Rattle.row_facts.proofs.WalkRows.Moved.{run_moves}
 use Rattle.row_facts.specs.WalkRows.Since.{MovesVisited}
@@ -92,10 +92,14 @@ module _ (e : InEvent) (run : Option ReqId) (s n : Seen) (at : IsTakenBut e run 
   takers : TakersServe n
   takers = takers_on s n it.causes (λ nav. ap (λ (o : Option Place). option_map (λ (x : Place). x.taken_by) o) (place_same nav)) base.takers
 
+  needs_new : run ≡ None → NeedIsNew n
+  needs_new is nav place there need =
+      let idle : IsOpen e None whys.Start s = subst (λ (r : Option ReqId). IsOpen e r whys.Start s) is base in
+      new_of e s idle nav place (sym (place_same nav) ∙ there) (visited_same n s (sym it.places) (sym it.history) (sym it.aim) place need)
+
   moves_then : (o : Option ReqId) → run ≡ o → (cause : Why) → MovesVisited n (show_why o cause)
   moves_then None is cause nav place there need epoch =
-      let idle : IsOpen e None whys.Start s = subst (λ (r : Option ReqId). IsOpen e r whys.Start s) is base in
-      let zero_ : place.epoch.0 ≡ 0 = new_of e s idle nav place (sym (place_same nav) ∙ there) (visited_same n s (sym it.places) (sym it.history) (sym it.aim) place need) in
+      let zero_ : place.epoch.0 ≡ 0 = needs_new is nav place there need in
       absurd (omega (arith, zero_, epoch))
   moves_then (Some req) is cause nav place there need epoch =
       let own = plain.runs req is in
@@ -109,6 +113,7 @@ module _ (e : InEvent) (run : Option ReqId) (s n : Seen) (at : IsTakenBut e run 
         since = record { distinct = base.since.distinct; homed = base.since.homed; ways = subst (λ (l : List Place). KeepWays e.start.places l) (sym it.places) base.since.ways };
         unwoken = λ nav place doc outside there wakes. base.unwoken nav place doc outside (sym (place_same nav) ∙ there) wakes;
         moves = moves_then run refl cause;
+        leavers = run_leavers n run plain needs_new cause;
         were = were;
         parents = parents;
         held = λ r nav its. by_case r nav (loads r nav its);

@@ -17,7 +17,7 @@ use Rattle.log_model.specs.declared.job.Why.{Why}
 use Rattle.log_model.specs.declared.row_kind.RowKind.{RowKind}
 use Rattle.row_facts.proofs.RestRows.Again.{rest_more}
 use Rattle.seen_laws.proofs.Keyed.{find_on_other}
-use Rattle.seen_laws.specs.InEvent.{InEvent, now_of, row_of}
+use Rattle.seen_laws.specs.InEvent.{InEvent, log_of, now_of, row_of}
 use Rattle.std.proofs.Common.{Bool, List, Option, Some, [], ap, cond, false, inl, inr, refl, subst, sym, true, ◌++◌, ◌==◌, ◌||◌, ◌∙◌, ◌∷◌, ◌≡◌}
 use Rattle.std.proofs.lemmas.Bool.{or_parts}
 use Rattle.std.specs.Option.{option_map_or}
@@ -30,16 +30,17 @@ use Rattle.tab_ids.specs.declared.DocId.{DocId}
 use Rattle.tab_ids.specs.declared.NavId.{NavId}
 use Rattle.tab_ids.specs.declared.ReqId.{ReqId}
 use Rattle.tab_moves.proofs.Leaves.{distinct, showed, under}
-use Rattle.tab_moves.proofs.Shown.{AreEach, IsShown, all_left, apart_left, apart_new, each_below, freezes, home}
+use Rattle.tab_moves.proofs.Shown.{AreEach, IsShown, all_left, apart_left, apart_new, each_below, freezes, home, shown_in}
 use Rattle.tab_moves.proofs.Sleeps.{WasSlept, was_slept}
-use Rattle.tab_moves.specs.Moving.{AllAsleep, HasLeft, InMoving, IsAtOrBelow, IsToLeave}
+use Rattle.tab_moves.specs.Moving.{AllAsleep, AreLeftUnder, HasLeft, InMoving, IsAtOrBelow, IsToLeave}
+use Rattle.tab_passes.proofs.PassedOn.{left_on}
 use Rattle.tab_passes.proofs.Freezings.{found_still, new_still}
 use Rattle.tab_passes.proofs.Frozen.{freezes_it, frozen_more}
 pub use Rattle.tab_passes.proofs.Goings.{goes_on}
 pub use Rattle.tab_passes.proofs.Onlies.{only_one, only_then}
 use Rattle.tab_passes.proofs.Serveds.{served_causes}
 use Rattle.tab_passes.specs.Causes.{MayCause, show_why}
-use Rattle.tab_passes.specs.Leaving.{AreLeftBelow, IsFreezing, IsLeaving, IsLeftBelow, IsNewFor, IsStill, IsToFreeze, left_then, without_all}
+use Rattle.tab_passes.specs.Leaving.{AreLeftBelow, AreLeftDulyFor, IsFreezing, IsLeaving, IsLeftBelow, IsNewFor, IsStill, IsToFreeze, left_then, without_all}
 pub use Rattle.tab_passes.specs.Leaving.{HasOnlyFrozen, IsFreezeOf}
 pub use Rattle.tab_passes.specs.Sleepers.{docs_below}
 use Rattle.seen_facts.proofs.Walk.Placed.{found_nav}
@@ -155,21 +156,28 @@ module _ (m : InMoving) (nav : NavId) (doc : DocId) (why : Why) (out : List RowK
   left_each [] are = tt
   left_each (x ∷ l) are = (are.0, are.1, left_each l are.2)
 
-  pub freezing : (docs : List DocId) → docs ≡ docs_below t.tree nav → IsFreezing (record { pass = m.pass; move = m.move; nav = nav; cause = m.cause }) why (left_then s doc []) docs then_out u
-  freezing docs are =
+  -- each of them is left duly
+  lefts_then : AreLeftUnder e out nav why → (docs : List DocId) → docs ≡ docs_below t.tree nav → AreLeftDulyFor (log_of e then_out) docs why
+  lefts_then lefts docs are x has =
+      let its : IsShown m nav doc why out t leaving to x = shown_in m nav doc why out t leaving to x (ap (λ (l : List DocId). has_doc l x) (sym are) ∙ has) in
+      left_on e out (rows.Sent freeze) then_out is tt x why (lefts its.place.nav its.place x (inr its.below) its.placed its.wakes)
+
+  pub freezing : AreLeftUnder e out nav why → (docs : List DocId) → docs ≡ docs_below t.tree nav → IsFreezing (record { pass = m.pass; move = m.move; nav = nav; cause = m.cause }) why (left_then s doc []) docs then_out u
+  freezing lefts docs are =
       record {
         leaving = then_;
         for_run = to.for_run ∙ ap (λ (o : Option ReqId). show_why o m.cause) (sym keeps.running);
         may = subst (λ (x : Seen). MayCause x why) now_is (served_causes s e freeze why (subst (λ (x : Seen). (req : ReqId) (q : Asked) → request_of x req ≡ Some q → may_go_on x req ≡ true) (sym now_is) (goes_on (now_of e then_out) u.running then_.going.tab.asked)) to.may);
         new = subst (λ (x : Seen). IsNewFor e x m.move nav) now_is (new_still e s doc why m.move nav to.new to.apart);
         each = subst (λ (x : Seen). AreLeftBelow e x m.move nav docs) now_is (subst (λ (l : List DocId). AreLeftBelow e frozen m.move nav l) (sym are) (left_each (docs_below t.tree nav) (each_below m nav doc why out t leaving to (IsLeftBelow e frozen m.move nav) left_)));
+        lefts = lefts_then lefts docs are;
       }
 
   -- under the names of a call
-  pub freezing_as : (n : NavId) → n ≡ nav → (left : List DocId) → left ≡ left_then s doc [] → (docs : List DocId) → docs ≡ docs_below t.tree nav → IsFreezing (record { pass = m.pass; move = m.move; nav = n; cause = m.cause }) why left docs then_out u
-  freezing_as n named left is_left docs are =
+  pub freezing_as : AreLeftUnder e out nav why → (n : NavId) → n ≡ nav → (left : List DocId) → left ≡ left_then s doc [] → (docs : List DocId) → docs ≡ docs_below t.tree nav → IsFreezing (record { pass = m.pass; move = m.move; nav = n; cause = m.cause }) why left docs then_out u
+  freezing_as lefts n named left is_left docs are =
       subst (λ (x : NavId). IsFreezing (record { pass = m.pass; move = m.move; nav = x; cause = m.cause }) why left docs then_out u) (sym named)
-      (subst (λ (l : List DocId). IsFreezing (record { pass = m.pass; move = m.move; nav = nav; cause = m.cause }) why l docs then_out u) (sym is_left) (freezing docs are))
+      (subst (λ (l : List DocId). IsFreezing (record { pass = m.pass; move = m.move; nav = nav; cause = m.cause }) why l docs then_out u) (sym is_left) (freezing lefts docs are))
 
   -- ---- what is left then
 

@@ -24,7 +24,7 @@ use Rattle.tab_doors.specs.Working.{MaySend}
 use Rattle.tab_doors.specs.declared.tables.Tables.{Tables}
 use Rattle.tab_ids.specs.declared.DocId.{DocId}
 use Rattle.tab_ids.specs.declared.NavId.{NavId}
-use Rattle.tab_moves.specs.Moving.{InMoving, IsToLeave}
+use Rattle.tab_moves.specs.Moving.{AreLeftUnder, InMoving, IsToLeave}
 use Rattle.tab_passes.proofs.Freezable.{freeze_ahead}
 use Rattle.tab_passes.proofs.Goings.{for_passed, is_passed_for, none_to_begin}
 use Rattle.tab_passes.proofs.Others.{cause_off}
@@ -147,9 +147,9 @@ module _ (m : InMoving) (nav : NavId) (doc : DocId) (why : Why) (out : List RowK
         known = (leaving.going.tab.asked.died its_home.document.proc).0;
       }
 
-  pub may_send : MaySend (Some m.move) m.pass.event out (order_to s doc why tasks.Freeze)
-  may_send =
-      freeze_ahead m.pass.event out m.move t nav doc why leaving.work (to_freeze nav to.place doc (inl (nat_eq_refl nav.0)) to.placed to.wakes) (leaving.going.tab.asked.died (proc_at s doc)).0
+  pub may_send : AreLeftUnder m.pass.event out nav why → MaySend (Some m.move) m.pass.event out (order_to s doc why tasks.Freeze)
+  may_send lefts =
+      freeze_ahead m.pass.event out m.move t nav doc why leaving.work leaving.duly (lefts nav to.place doc (inl (nat_eq_refl nav.0)) to.placed to.wakes) (to_freeze nav to.place doc (inl (nat_eq_refl nav.0)) to.placed to.wakes) (leaving.going.tab.asked.died (proc_at s doc)).0
       (is_passed_for s t.running leaving.going.tab.asked tasks.Freeze why to.may)
       (for_passed s t.running leaving.going.tab.asked (order_to s doc why tasks.Freeze) m.cause to.for_run)
       (cause_off m.pass.event out t leaving.work leaving.going.tab.asked.each why to.may) to.new

@@ -192,3 +192,11 @@ module _ (m : InMoving) (nav : NavId) (doc : DocId) (why : Why) (out : List RowK
       let listed : has_doc docs x ≡ true = ap (λ (l : List DocId). has_doc l x) are ∙ left_listed x (ap (λ (l : List DocId). has_doc l x) (sym (append-nil (left_below s doc))) ∙ parts.0) in
       let never_ : false ≡ true = sym parts.1 ∙ listed in
       cc
+
+  -- and each of them is shown
+  pub shown_in : (x : DocId) → has_doc (docs_below t.tree nav) x ≡ true → IsShown x
+  shown_in x has =
+      let is : docs_below t.tree nav ≡ filter_map (shows_below nav) (walk_of s.places) = below_is s t.running t leaving.work.holds leaving.going.tab.sound leaving.going.tab.hangs nav in
+      let found = has_docs (filter_map (shows_below nav) (walk_of s.places)) x (ap (λ (l : List DocId). has_doc l x) (sym is) ∙ has) in
+      let other = has_filter_map (shows_below nav) (walk_of s.places) found.it found.there in
+      subst (λ (y : DocId). IsShown y) (doc_same found.it x found.passes) (shown_at other.it found.it (walked other.it other.there) other.is)

@@ -7,9 +7,10 @@ use Rattle.log_model.specs.Equal.{has_doc}
 use Rattle.log_model.specs.Places.{is_below}
 use Rattle.log_model.specs.Seen.{Place, Seen, asleep, awake, document_of, place_of}
 use Rattle.log_model.specs.declared.job.Why.{Why}
+use Rattle.log_model.specs.declared.row_kind.RowKind.{RowKind}
 use Rattle.seen_facts.proofs.Mover.Stays.{KeepWays}
 use Rattle.seen_facts.specs.Mover.Movers.{IsMovedBy}
-use Rattle.seen_laws.specs.InEvent.{InEvent}
+use Rattle.seen_laws.specs.InEvent.{InEvent, log_of, now_of}
 use Rattle.std.specs.Prelude.{List, Option, Some, false, true, ◌==◌, ◌≡◌, ◌≤◌, ◌⊎◌}
 use Rattle.tab_doors.specs.Keeping.{Move}
 use Rattle.tab_ids.specs.declared.DocId.{DocId}
@@ -17,7 +18,7 @@ use Rattle.tab_ids.specs.declared.NavId.{NavId}
 use Rattle.tab_ids.specs.declared.ReqId.{ReqId}
 use Rattle.tab_passes.specs.Causes.{show_why}
 pub use Rattle.tab_passes.specs.Causes.{MayCause}
-use Rattle.tab_passes.specs.Leaving.{IsNewFor}
+use Rattle.tab_passes.specs.Leaving.{IsLeftDulyFor, IsNewFor}
 pub use Rattle.tab_passes.specs.Passing.{InPass}
 use Rattle.seen_facts.specs.Walk.Walking.{LeavesOthers}
 use Rattle.row_facts.specs.WalkRows.Since.{WasAwake}
@@ -47,6 +48,11 @@ pub record MayBeMoved (e : InEvent) (s : Seen) (nav : NavId) (why : Why) : Type 
   pub since : IsSince e.start s
   pub awake_since : AwakeUnder e.start s nav
   pub moved : (place : Place) → place_of s nav ≡ Some place → 1 ≤ place.epoch.0 → IsMovedBy s why nav
+
+-- each document on which a navigable at or below this one is awake is left duly for a reason
+abbrev pub AreLeftUnder : InEvent → List RowKind → NavId → Why → Type 0
+AreLeftUnder e out nav why =
+    (other : NavId) (place : Place) (doc : DocId) → IsAtOrBelow nav other place → place_of (now_of e out) other ≡ Some place → place.status ≡ awake doc → IsLeftDulyFor (log_of e out) doc why
 
 -- a move has begun, for a cause
 pub record InMoving : Type 0 where

@@ -2,7 +2,7 @@
 ghost use Rattle.std.specs.Prelude.{◌≡◌, ◌∷◌, [], OnOk, Some};
 ghost use Rattle.seen_laws.specs.InEvent.{now_of};
 ghost use Rattle.tab_doors.specs.Working.{KeepsStore};
-ghost use Rattle.tab_moves.specs.Moving.{HasLeft, InLeft, IsToLeave};
+ghost use Rattle.tab_moves.specs.Moving.{AreLeftUnder, HasLeft, InLeft, IsToLeave};
 ghost use Rattle.tab_passes.specs.Leaving.{HasOnlyFrozen, IsLeaving, left_then};
 ghost use Rattle.tab_passes.specs.Sleepers.{docs_below};
 
@@ -27,6 +27,7 @@ pub fn freeze_left(
     requires nav { l.nav ≡ nav }
     requires rest { l.left ≡ left_then (now_of l.moving.pass.event out.old) doc [] }
     requires leaves { IsToLeave l.moving tables.old.running (now_of l.moving.pass.event out.old) nav doc why }
+    requires lefts { AreLeftUnder l.moving.pass.event out.old nav why }
     ensures leaving { OnOk result (IsLeaving l.moving.pass (Some l.moving.move) [] out.new tables.new) }
     ensures only { OnOk result (HasOnlyFrozen why (doc ∷ docs_below tables.old.tree nav) out.old out.new) }
     ensures left { OnOk result (HasLeft (doc ∷ docs_below tables.old.tree nav) why (now_of l.moving.pass.event out.old) (now_of l.moving.pass.event out.new) nav) }

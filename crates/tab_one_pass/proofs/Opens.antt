@@ -1,14 +1,15 @@
 -- What goes on through a pass does so over the loads that give way and the documents that are discarded.
+use Rattle.std.specs.Option.{option_map_or}
 use Rattle.seen_facts.specs.Hang.Members.{Has}
 use Rattle.row_facts.specs.Left.Left.{LastWereShown, OwnersFollow, WasEverShown}
-use Rattle.log_model.specs.Places.{aim_of}
+use Rattle.log_model.specs.Places.{aim_of, way_of}
 use Rattle.log_model.specs.Seen.{Place, Seen, place_in, place_of}
 use Rattle.log_model.specs.declared.job.Task.{Task}
 use Rattle.log_model.specs.declared.job.Why.{Why}
 use Rattle.log_model.specs.declared.row_kind.RowKind.{RowKind}
 use Rattle.seen_facts.proofs.Mover.Stays.{KeepWays}
 use Rattle.seen_laws.specs.InEvent.{now_of}
-use Rattle.std.proofs.Common.{List, None, Option, Some, [], ap, refl, subst, sym, ◌∙◌, ◌≡◌}
+use Rattle.std.proofs.Common.{List, None, Option, Some, [], ap, refl, subst, sym, ◌∙◌, ◌≡◌, ◌∷◌, ◌≤◌, ℕ}
 use Rattle.std.specs.Prelude.{option_map}
 use Rattle.tab_drops.proofs.Spans.{unheld_on}
 pub use Rattle.tab_drops.proofs.Turns.{visited_same}
@@ -22,7 +23,10 @@ use Rattle.tab_serves.proofs.Calms.{only_as}
 use Rattle.tab_serves.specs.PassedOn.{MayServe, IsTab}
 use Rattle.tab_serves.specs.Serving.{HasOnly, InPass, IsOfWalk, MayCause, show_why}
 use Rattle.tab_serves.proofs.Orders.{IsOrderOf, parents_over, taken_over, ways_over, were_over}
-use Rattle.tab_sweeps.proofs.ForCallers.{moves_on}
+use Rattle.tab_passes.proofs.PassedOn.{leaver_beside, leaver_same}
+use Rattle.tab_serves.proofs.Leavers.{ways_same}
+use Rattle.tab_serves.specs.Serving.{LeavesVisited}
+use Rattle.tab_sweeps.proofs.ForCallers.{above_same, moves_on, need_before}
 use Rattle.tab_sweeps.specs.Sweeping.{HasOnlySwept, IsSweepOf, IsSweptTurn, NoneStray}
 use Rattle.row_facts.proofs.WalkRows.Sinces.{places_since}
 use Rattle.row_facts.specs.WalkRows.Since.{AwakeSince, IsVisitedInNeed}
@@ -67,6 +71,7 @@ open_left p run cause s t left so =
       };
       unwoken = places_since p.event.start s [] so.unwoken t left.places;
       moves = λ nav place at need epoch. left.movers (show_why run cause) nav (so.moves nav place (sym (place_same s t left.places left.history left.aim nav) ∙ at) (need_was s t left.places left.history left.aim place need) epoch);
+      leavers = λ nav place at need epoch. leaver_beside s t (show_why run cause) nav left.others (ap (λ (l : List Place). option_map_or way_of (place_in l nav) (nav ∷ [])) left.places) (so.leavers nav place (sym (place_same s t left.places left.history left.aim nav) ∙ at) (need_was s t left.places left.history left.aim place need) epoch);
       were = record {
         lasts = subst (λ (l : List Place). LastWereShown l) (sym left.places) so.were.lasts;
         kept = λ doc there. subst (λ (l : List Place). WasEverShown l doc) (sym left.places) (so.were.kept doc (subst (λ (l : List DocId). Has l doc) left.kept there));
@@ -98,6 +103,11 @@ module _ (p : InPass) (run : Option ReqId) (cause : Why) (was out : List RowKind
   since_then since nav place doc outside at wakes =
       let before = turn.awake_ nav place doc refl at wakes in since nav before.place doc refl before.placed before.wakes
 
+  leavers_then : LeavesVisited s (show_why run cause) → LeavesVisited t (show_why run cause)
+  leavers_then leavers nav place at need epoch =
+      let was = need_before run p.loads p.hand s t tab then_ turn swept nav place at need in
+      leaver_same s t (show_why run cause) nav turn.looks (ways_same s t nav (above_same run p.loads p.hand s t tab then_ turn swept nav)) (leavers nav was.old was.there was.need (subst (λ (n : ℕ). 1 ≤ n) was.epoch epoch))
+
   pub open_swept : IsOpen p.event run cause s → IsOpen p.event run cause t
   open_swept so =
       record {
@@ -105,6 +115,7 @@ module _ (p : InPass) (run : Option ReqId) (cause : Why) (was out : List RowKind
         since = record { distinct = so.since.distinct; homed = so.since.homed; ways = ways_over p.event was out only p.event.start.places so.since.ways };
         unwoken = since_then so.unwoken;
         moves = moves_on run p.loads p.hand s t tab then_ turn swept (show_why run cause) so.moves;
+        leavers = leavers_then so.leavers;
         were = were_over p.event was out only so.were;
         parents = parents_over p.event was out only so.parents;
         held = λ req nav load. so.held req nav (load_was req nav load);

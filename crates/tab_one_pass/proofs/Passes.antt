@@ -185,13 +185,15 @@ left_blamed s blame with_rows own left doc state stray =
 
 -- ---- the walk
 
-pub may_walk : (e : InEvent) (run : Option ReqId) (keep : ℕ) (cause : Why) (s : Seen) → IsOpen e run cause s → LoadsStand s → keep ≡ e.header.keep → MayWalk e run keep cause s
-may_walk e run keep cause s so stand header =
+pub may_walk : (e : InEvent) (run : Option ReqId) (keep : ℕ) (cause : Why) (s : Seen) → IsOpen e run cause s → AreAwakeWithRows s → LoadsStand s → keep ≡ e.header.keep → MayWalk e run keep cause s
+may_walk e run keep cause s so with_rows stand header =
     record {
       may = so.may;
       since = so.since;
       unwoken = so.unwoken;
       moves = so.moves;
+      leavers = so.leavers;
+      rows_ = with_rows;
       were = so.were;
       parents = so.parents;
       loads = stand;

@@ -49,9 +49,9 @@ module _ (p : InPass) (cause tells : Why) (t m : Tables) (was given cleared : Li
     running : u.running ≡ t.running
     running = kept_cleared.running ∙ kept_given.running
 
-    pub walk_asks : LoadsStand mid → t.kept.keep ≡ p.event.header.keep → MayWalk p.event u.running u.kept.keep cause mid
-    walk_asks stand header =
-        may_walk p.event u.running u.kept.keep cause mid so stand (kept_cleared.keep ∙ kept_given.keep ∙ header)
+    pub walk_asks : AreAwakeWithRows mid → LoadsStand mid → t.kept.keep ≡ p.event.header.keep → MayWalk p.event u.running u.kept.keep cause mid
+    walk_asks with_rows stand header =
+        may_walk p.event u.running u.kept.keep cause mid so with_rows stand (kept_cleared.keep ∙ kept_given.keep ∙ header)
 
     module _ (v w : Tables) (served out : List RowKind) (serves : HasOnlyServed u.running cause cleared served) (log : LeavesLog (now_of p.event cleared) (now_of p.event served)) (only : HasOnlyTold tells served out) (more : IsToldMore (now_of p.event served) (now_of p.event out)) (passing : IsPassing p out w) where
       abbrev asked : ArePlain w.running (now_of p.event out)

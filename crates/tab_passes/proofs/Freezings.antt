@@ -1,5 +1,7 @@
 -- Documents below one that was left are frozen, one after the other.
 use Rattle.tab_doors.proofs.PassedOn.{sent_now}
+use Rattle.leave_facts.proofs.Events.{left_on}
+use Rattle.log_model.proofs.Refl.{nat_eq_refl}
 use Rattle.log_model.specs.After.{after}
 use Rattle.log_model.specs.AfterDocuments.{addressed}
 use Rattle.log_model.specs.AfterPlaces.{put_to_sleep, sleepers_with, without_doc}
@@ -101,6 +103,16 @@ module _ (e : InEvent) (s : Seen) (doc : DocId) (why : Why) where
 
 -- ---- one of them
 
+first_has : (doc : DocId) (docs : List DocId) → has_doc (doc ∷ docs) doc ≡ true
+first_has doc docs = rw (nat_eq_refl doc.0) refl
+
+rest_has : (doc : DocId) (docs : List DocId) (x : DocId) → has_doc docs x ≡ true → has_doc (doc ∷ docs) x ≡ true
+rest_has doc docs x has = by_first (doc.0 == x.0)
+  where
+    by_first : (b : Bool) → (b || has_doc docs x) ≡ true
+    by_first true = refl
+    by_first false = has
+
 module _ (l : InFreezing) (why : Why) (left docs : List DocId) (doc : DocId) (out : List RowKind) (t : Tables) (so : IsFreezing l why left (doc ∷ docs) out t) where
   abbrev s : Seen
   s = now_of l.pass.event out
@@ -130,7 +142,7 @@ module _ (l : InFreezing) (why : Why) (left docs : List DocId) (doc : DocId) (ou
 
   pub freeze_may_go : MaySend (Some l.move) l.pass.event out (order_to s doc why tasks.Freeze)
   freeze_may_go =
-      freeze_ahead l.pass.event out l.move t l.nav doc why so.leaving.work its (so.leaving.going.tab.asked.died (proc_at s doc)).0
+      freeze_ahead l.pass.event out l.move t l.nav doc why so.leaving.work so.leaving.duly (so.lefts doc (first_has doc docs)) its (so.leaving.going.tab.asked.died (proc_at s doc)).0
       (is_passed_for s t.running so.leaving.going.tab.asked tasks.Freeze why so.may)
       (for_passed s t.running so.leaving.going.tab.asked (order_to s doc why tasks.Freeze) l.cause so.for_run)
       (cause_off l.pass.event out t so.leaving.work so.leaving.going.tab.asked.each why so.may) so.new
@@ -143,6 +155,7 @@ module _ (l : InFreezing) (why : Why) (left docs : List DocId) (doc : DocId) (ou
         may = subst (λ (x : Seen). MayCause x why) now_is (served_causes s l.pass.event (order_to s doc why tasks.Freeze) why (subst (λ (x : Seen). (req : ReqId) (q : Asked) → request_of x req ≡ Some q → may_go_on x req ≡ true) (sym now_is) (goes_on (now_of l.pass.event new) u.running leaving.going.tab.asked)) so.may);
         new = subst (λ (x : Seen). IsNewFor l.pass.event x l.move l.nav) now_is (new_still l.pass.event s doc why l.move l.nav so.new so.each.0.apart);
         each = subst (λ (x : Seen). AreLeftBelow l.pass.event x l.move l.nav docs) now_is (all_still l.pass.event s doc why so.each.0.nobody l.move l.nav docs so.each.1 so.each.2);
+        lefts = λ x has. left_on l.pass.event out (rows.Sent (order_to s doc why tasks.Freeze)) new is tt x why (so.lefts x (rest_has doc docs x has));
       }
     where
       now_is : after s (row_of l.pass.event (rows.Sent (order_to s doc why tasks.Freeze))) ≡ now_of l.pass.event new

@@ -11,6 +11,7 @@ pub mod Sleeps
 pub mod Sleepers
 pub mod Lefts
 pub mod Aheads
+pub mod LeftFor
 pub mod Freezable
 pub mod SetOuts
 pub mod Others

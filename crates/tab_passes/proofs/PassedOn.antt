@@ -7,4 +7,7 @@ pub use Rattle.tab_facts.proofs.TabGoing.Rows.{dropped_going, refused_going}
 pub use Rattle.tab_facts.proofs.TabGoing.Steps.{pushed_steps, replaced_steps}
 pub use Rattle.leave_facts.proofs.Bares.{alone_log, bare_accepted_duly, bare_alone_duly, bare_change_duly, bare_load_duly, bare_traversal_duly}
 pub use Rattle.leave_facts.proofs.Carried.{AreLeftDuly, row_duly}
-pub use Rattle.leave_facts.proofs.Events.{dropped_duly, duly_then, refused_duly, sent_duly}
+pub use Rattle.leave_facts.proofs.Events.{dropped_duly, duly_then, left_on, refused_duly, sent_duly}
+pub use Rattle.leave_facts.proofs.Leavers.{IsMovedThere, leaver_below, leaver_beside, leaver_same, left_duly}
+pub use Rattle.leave_facts.specs.Leaving.{IsFromAbove, IsGoing}
+pub use Rattle.leave_facts.specs.Moved.{IsMoved}

@@ -3,6 +3,7 @@
 use Rattle.seen_facts.specs.Hang.Members.{Has}
 use Rattle.seen_facts.specs.Kept.Keeping.{kept_states}
 use Rattle.leave_facts.proofs.Carried.{AreLeftDuly}
+pub use Rattle.leave_facts.specs.Leaving.{IsLeftDulyFor, IsLeaver}
 use Rattle.load_table.specs.Loads.{ongoing_load}
 use Rattle.load_table.specs.declared.load.Load.{Load}
 use Rattle.log_model.specs.Equal.{has_doc, holds}
@@ -115,13 +116,18 @@ pub record InFreezing : Type 0 where
   pub nav : NavId
   pub cause : Why
 
--- these documents are still to be frozen or discarded, and among them these, one after the other, on which nobody is awake
+-- each of these documents is left duly for a reason
+abbrev pub AreLeftDulyFor : Seen → List DocId → Why → Type 0
+AreLeftDulyFor s docs why = (doc : DocId) → has_doc docs doc ≡ true → IsLeftDulyFor s doc why
+
+-- these documents are still to be frozen or discarded, and among them these, one after the other, on which nobody is awake, each left duly
 pub record IsFreezing (l : InFreezing) (why : Why) (left docs : List DocId) (out : List RowKind) (t : Tables) : Type 0 where
   pub leaving : IsLeaving l.pass (Some l.move) left out t
   pub for_run : why ≡ show_why t.running l.cause
   pub may : MayCause (now_of l.pass.event out) why
   pub new : IsNewFor l.pass.event (now_of l.pass.event out) l.move l.nav
   pub each : AreLeftBelow l.pass.event (now_of l.pass.event out) l.move l.nav docs
+  pub lefts : AreLeftDulyFor (log_of l.pass.event out) docs why
 
 -- of these that are still to be frozen or discarded, those that are to be frozen after the next one
 pub record InNext : Type 0 where

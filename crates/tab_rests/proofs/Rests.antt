@@ -42,6 +42,7 @@ module _ (p : InPass) (out : List RowKind) (t : Tables) (passing : IsPassing p o
         since = passed.walked.since;
         unwoken = passed.walked.unwoken rest_stand;
         moves = λ nav place at need epoch. absurd (none_needs nav place at need);
+        leavers = λ nav place at need epoch. absurd (none_needs nav place at need);
         were = passed.walked.were;
         parents = passed.walked.parents;
         held = passed.held;

@@ -3,6 +3,7 @@ pub mod Below
 pub mod PassedOn
 pub mod Orders
 pub mod Ups
+pub mod Leavers
 pub mod Turns
 pub mod Rounds
 pub mod Calms

@@ -112,6 +112,8 @@ module _ (p : InPass) (cause : Why) (navs : List NavId) where
           may = may.may;
           unwoken = may.unwoken;
           moves = later_first (now_of p.event out) (show_why t.running cause) navs may.moves;
+          leavers = λ nav place later. may.leavers nav place;
+          rows_ = may.rows_;
           header = may.header;
           order = walk_here p out t passing navs is;
           served = record { each = λ k nav low at. absurd (omega (arith, low)) };

@@ -36,12 +36,16 @@ use Rattle.tab_walk.proofs.Thens.{IsAtOrBelow}
 use Rattle.tab_walk.proofs.Froms.{IsTurn}
 use Rattle.tab_walk.specs.Cutting.{show_why}
 use Rattle.tab_walk.specs.Moving.{HasBeenMoved, HasOnly, MayMoveTo}
+use Rattle.row_facts.specs.WalkRows.Later.{IsLater}
+use Rattle.tab_passes.proofs.PassedOn.{leaver_below}
+use Rattle.tab_passes.specs.Leaving.{IsLeaver}
+use Rattle.tab_serves.proofs.Leavers.{leaver_still, leavers_kept}
 use Rattle.tab_serves.proofs.Below.{kept_loads, left_loads}
 use Rattle.tab_serves.proofs.Calms.{made_calm, made_loads, made_place, moved_calm, moved_first, moved_loads}
 use Rattle.tab_serves.proofs.Ups.{turn_up, up_places}
 use Rattle.tab_serves.proofs.Orders.{IsOrderOf, looks_over, moved_over, parents_over, stood_over, walk_orders, ways_over, were_over}
 use Rattle.tab_serves.proofs.Reached.{loads_stand_still, reached_still}
-use Rattle.tab_serves.specs.Serving.{HasOnlyServed, HasWalked, InWalk, IsOfWalk, IsWalking, LeavesLog}
+use Rattle.tab_serves.specs.Serving.{HasOnlyServed, HasWalked, InWalk, IsOfWalk, IsWalking, LeavesLater, LeavesLog}
 use Rattle.seen_facts.proofs.Walk.Leaving.{one_more, walk_stays}
 use Rattle.seen_facts.proofs.Walk.Placed.{found_nav}
 use Rattle.seen_facts.specs.Walk.Serving.{IsServedAt, is_needing, is_stopping}
@@ -125,6 +129,8 @@ module _ (w : InWalk) (n : ℕ) (out : List RowKind) (t : Tables) (walking : IsW
         may = walking.may;
         unwoken = subst (λ (m : ℕ). AwakeSince e.start (take m w.navs) s) (sym (plus_one n)) (since_more e.start s (take n w.navs) walking.unwoken (take (suc n) w.navs) (more_taken n w.navs));
         moves = later_more s (show_why t.running w.cause) w.navs n walking.moves;
+        leavers = λ other place later placed visited shown. walking.leavers other place (λ k low there. later k (omega (arith, low)) there) placed visited shown;
+        rows_ = walking.rows_;
         header = walking.header;
         order = walking.order;
         served = one_more s s passing.going.tab.sound passing.going.tab.hangs w.navs n nav here walking.order (leaves_none s nav) (idle_served none) walking.served;
@@ -173,6 +179,14 @@ module _ (w : InWalk) (n : ℕ) (out : List RowKind) (t : Tables) (walking : IsW
     moved_here =
         later_here s (show_why t.running w.cause) w.navs n nav needing.place walking.order here walking.moves needing.placed visited
 
+    -- it leaves what it shows
+    leaves_here : 1 ≤ needing.place.epoch.0 → IsLeaver s (show_why t.running w.cause) nav
+    leaves_here = walking.leavers nav needing.place later needing.placed visited
+      where
+        later : IsLater w.navs n nav
+        later k low there =
+            let never : true ≡ false = sym (nat_eq_refl nav.0) ∙ (walking.order.apart k n nav nav low there here).differs in cc
+
     -- none at or below it was served before
     not_before : (other : NavId) (place : Place) → IsAtOrBelow nav other place → place_of s other ≡ Some place → has_nav (take n w.navs) other ≡ false
     not_before other place at_or placed = by_test (has_nav (take n w.navs) other) refl
@@ -197,6 +211,8 @@ module _ (w : InWalk) (n : ℕ) (out : List RowKind) (t : Tables) (walking : IsW
             awake_since = λ other place doc at_or placed wakes. walking.unwoken other place doc (not_before other place at_or placed) placed wakes;
             moved = λ place placed shown. moved_here (let both : Some place ≡ Some needing.place = sym placed ∙ needing.placed in let one : place ≡ needing.place = cc in subst (λ (p : Place). 1 ≤ p.epoch.0) one shown);
           };
+          leaves = λ place placed shown. leaves_here (let both : Some place ≡ Some needing.place = sym placed ∙ needing.placed in let one : place ≡ needing.place = cc in subst (λ (p : Place). 1 ≤ p.epoch.0) one shown);
+          rows_ = walking.rows_;
           were = walking.walked.were;
           loads = kept_loads t.running w.pass.loads w.pass.hand s passing.going.tab walking.walked.were.owned walking.walked.loads;
           left_loads = λ place left d placed last found undiscarded. left_loads t.running w.pass.loads w.pass.hand s passing.going.tab walking.walked.were.owned walking.walked.loads nav needing.place needing.placed visited left d (let both : Some place ≡ Some needing.place = sym placed ∙ needing.placed in let one : place ≡ needing.place = cc in ap (λ (p : Place). p.last) (sym one) ∙ last) found undiscarded;
@@ -266,6 +282,14 @@ module _ (w : InWalk) (n : ℕ) (out : List RowKind) (t : Tables) (walking : IsW
       moved_below other place placed below visited_ shown =
           below_moved x why nav then_.going.tab.sound then_.going.tab.hangs (moved_over e out new orders why nav (moved_here (raised (shown_above other place placed below)))) other place placed below
 
+      -- so do those leave what they show that are below it
+      leaver_then : (other : NavId) → IsLeaver s why other → IsLeaver x why other
+      leaver_then other its = leaver_still s x why (looks_over e out new orders) other (turn.others.ways other) its
+
+      leaves_below : (other : NavId) (place : Place) → place_of x other ≡ Some place → is_below nav place ≡ true → IsVisitedInNeed x place → 1 ≤ place.epoch.0 → IsLeaver x why other
+      leaves_below other place placed below visited_ shown =
+          leaver_below x then_.going.tab.sound then_.going.tab.hangs why nav (leaver_then nav (leaves_here (raised (shown_above other place placed below)))) other place placed below
+
       -- who is awake has an entry: it was awake on the same document before, or has its target
       own_row : has_row nav x.history.rows ≡ true
       own_row =
@@ -310,6 +334,8 @@ module _ (w : InWalk) (n : ℕ) (out : List RowKind) (t : Tables) (walking : IsW
             may = turn.causes w.cause walking.may;
             unwoken = subst (λ (m : ℕ). AwakeSince e.start (take m w.navs) x) (sym (plus_one n)) unwoken_then;
             moves = subst (λ (r : Option ReqId). MovesLater x (show_why r w.cause) w.navs (n + 1)) (sym kept.running) (later_kept s x why w.navs n nav passing.going.tab.sound passing.going.tab.hangs here turn.others (moved_over e out new orders why) moved_below walking.moves);
+            leavers = subst (λ (r : Option ReqId). LeavesLater x (show_why r w.cause) w.navs (n + 1)) (sym kept.running) (leavers_kept s x why w.navs n nav passing.going.tab.sound passing.going.tab.hangs here turn.others leaver_then leaves_below walking.leavers);
+            rows_ = rows_then walking.rows_;
             header = kept.keep ∙ walking.header;
             order = walk_stays s x w.navs nav turn.others walking.order;
             served = one_more s x passing.going.tab.sound passing.going.tab.hangs w.navs n nav here walking.order turn.others turn.own walking.served;

@@ -24,8 +24,9 @@ pub use Rattle.tab_walk.specs.PassedOn.{IsPassing, IsSince}
 pub use Rattle.tab_walk.specs.Cutting.{InPass, MayCause, show_why}
 pub use Rattle.tab_walk.specs.Moving.{HasOnly}
 use Rattle.seen_facts.specs.Walk.Walking.{AreServedUpTo, IsWalk}
-use Rattle.row_facts.specs.WalkRows.Later.{MovesLater}
-use Rattle.row_facts.specs.WalkRows.Since.{AwakeSince, MovesVisited}
+use Rattle.row_facts.specs.WalkRows.Later.{IsLater, MovesLater}
+use Rattle.row_facts.specs.WalkRows.Since.{AwakeSince, IsVisitedInNeed, MovesVisited}
+use Rattle.tab_passes.specs.Leaving.{IsLeaver}
 use Rattle.log_model.specs.declared.job.Task.TheVariants as tasks
 use Rattle.log_model.specs.declared.row_kind.RowKind.TheVariants as rows
 
@@ -34,14 +35,26 @@ abbrev pub ParentsShown : Seen → Type 0
 ParentsShown s =
     (nav above : NavId) (place up : Place) → place_of s nav ≡ Some place → has_nav place.above above ≡ true → place_of s above ≡ Some up → is_some up.last ≡ true
 
+-- each navigable that the walk visits, that needs something and was shown a document before, leaves what it shows for the reason
+abbrev pub LeavesVisited : Seen → Why → Type 0
+LeavesVisited s why =
+    (nav : NavId) (place : Place) → place_of s nav ≡ Some place → IsVisitedInNeed s place → 1 ≤ place.epoch.0 → IsLeaver s why nav
+
+-- of a walk that has served its first navigables, so does each later one
+abbrev pub LeavesLater : Seen → Why → List NavId → ℕ → Type 0
+LeavesLater s why walk n =
+    (nav : NavId) (place : Place) → IsLater walk n nav → place_of s nav ≡ Some place → IsVisitedInNeed s place → 1 ≤ place.epoch.0 → IsLeaver s why nav
+
 -- ---- what the walk asks for
 
--- orders may be for the cause; who is awake was so as the event began; who is visited in need was moved by the reason, unless it was never shown a document; ongoing loads stand
+-- orders may be for the cause; who is awake was so as the event began; who is visited in need was moved by the reason, and leaves what it shows for it, unless it was never shown a document; who is awake has an entry; ongoing loads stand
 pub record MayWalk (e : InEvent) (run : Option ReqId) (keep : ℕ) (cause : Why) (s : Seen) : Type 0 where
   pub may : MayCause s cause
   pub since : IsSince e.start s
   pub unwoken : AwakeSince e.start [] s
   pub moves : MovesVisited s (show_why run cause)
+  pub leavers : LeavesVisited s (show_why run cause)
+  pub rows_ : AreAwakeWithRows s
   pub were : WereShown s
   pub parents : ParentsShown s
   pub loads : LoadsStand s
@@ -119,9 +132,12 @@ pub record IsWalking (w : InWalk) (n : ℕ) (out : List RowKind) (t : Tables) : 
   pub passing : IsPassing w.pass out t
   pub walked : HasWalked w.pass.event (now_of w.pass.event out)
   pub may : MayCause (now_of w.pass.event out) w.cause
-  -- of the others, who is awake was so as the event began; and who is visited in need was moved by the reason, unless it was never shown a document
+  -- of the others, who is awake was so as the event began; and who is visited in need was moved by the reason, and leaves what it shows for it, unless it was never shown a document
   pub unwoken : AwakeSince w.pass.event.start (take n w.navs) (now_of w.pass.event out)
   pub moves : MovesLater (now_of w.pass.event out) (show_why t.running w.cause) w.navs n
+  pub leavers : LeavesLater (now_of w.pass.event out) (show_why t.running w.cause) w.navs n
+  -- who is awake has an entry
+  pub rows_ : AreAwakeWithRows (now_of w.pass.event out)
   pub header : t.kept.keep ≡ w.pass.event.header.keep
   pub order : IsWalk (now_of w.pass.event out) w.navs
   pub served : AreServedUpTo (now_of w.pass.event out) w.navs n

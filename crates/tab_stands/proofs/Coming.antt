@@ -2,7 +2,7 @@
 use Rattle.tab_facts.proofs.Calm.Calms.{calm_but, calm_need, calm_rooted}
 use Rattle.tab_facts.proofs.Calm.Sames.{SameSights, Sight, calm_same, given_same, here_same, rooted_kept, sight_of, way_at}
 use Rattle.tab_facts.proofs.Calm.Awakes.{lost_none}
-use Rattle.tab_facts.specs.Calm.Calm.{AreRooted, CalmUnless, IsCalm, IsCalmYet, UnmovedAreHere}
+use Rattle.tab_facts.specs.Calm.Calm.{AreRooted, CalmUnless, IsCalm, IsCalmYet, UnmovedAreHere, NeedIsNew}
 use Rattle.tab_facts.specs.Calm.Loads.{LoadsHaveDocuments}
 use Rattle.tab_facts.specs.FrameWhole.Tab.{AreAwakeWithRows}
 use Rattle.seen_facts.proofs.Hang.Hung.{places_distinct}
@@ -24,7 +24,7 @@ use Rattle.std.proofs.Common.{List, None, Option, Some, [], ap, arith, false, in
 use Rattle.std.proofs.lemmas.Bool.{and_parts}
 use Rattle.std.specs.List.{list_any}
 use Rattle.std.specs.Prelude.{is_some, option_map}
-use Rattle.tab_settles.proofs.PassedOn.{IsReachedAt, aim_is, all_of, bare_move, calm_unmoved, each_stands, own_document, reached_at, show_causes, stand_awake, stand_bare, stand_reached}
+use Rattle.tab_settles.proofs.PassedOn.{IsReachedAt, aim_is, all_of, bare_move, calm_unmoved, each_stands, own_document, reached_at, run_leavers, show_causes, stand_awake, stand_bare, stand_reached}
 use Rattle.tab_doors.specs.Working.{HasGoal}
 use Rattle.tab_facts.specs.TabEvents.Between.{IsBetween}
 use Rattle.tab_ids.specs.declared.DocId.{DocId}
@@ -242,10 +242,15 @@ module _ (e : InEvent) (run : Option ReqId) (keep : ℕ) (goal : Step) (blame : 
 
   -- ---- who is visited in need
 
+  needs_new : run ≡ None → NeedIsNew n
+  needs_new is nav place there need =
+      let calm : IsCalmAfter None n = subst (λ (r : Option ReqId). IsCalmAfter r n) is calm_then in
+      let idle : aim_of n ≡ n.history.current = aim_is n run tab.asked goal goal_then ∙ ap (λ (r : Option ReqId). aim_in n.history r goal) is in
+      calm_need n tab.standing idle tab.sound tab.hangs (calm_but n calm (λ (x : NavId). has_row x n.history.rows ≡ false)) nav place there need
+
   moves_then : (r : Option ReqId) → run ≡ r → IsCalmAfter r n → (cause : Why) → MovesVisited n (show_why r cause)
   moves_then None is calm cause nav place there need epoch =
-      let idle : aim_of n ≡ n.history.current = aim_is n run tab.asked goal goal_then ∙ ap (λ (r : Option ReqId). aim_in n.history r goal) is in
-      let zero_ : place.epoch.0 ≡ 0 = calm_need n tab.standing idle tab.sound tab.hangs (calm_but n calm (λ (x : NavId). has_row x n.history.rows ≡ false)) nav place there need in
+      let zero_ : place.epoch.0 ≡ 0 = needs_new is nav place there need in
       absurd (omega (arith, zero_, epoch))
   moves_then (Some req) is calm cause nav place there need epoch =
       let it = tab.asked.runs req is in
@@ -262,6 +267,7 @@ module _ (e : InEvent) (run : Option ReqId) (keep : ℕ) (goal : Step) (blame : 
           since = record { distinct = places_distinct s between.tab.sound between.tab.hangs; homed = between.tab.homes.homed; ways = ways_then };
           unwoken = awake_then;
           moves = moves_then run refl calm_then cause;
+          leavers = run_leavers n run tab.asked needs_new cause;
           were = comes.were;
           parents = parents_then;
           held = unheld;

@@ -30,7 +30,7 @@ use Rattle.tab_sweeps.specs.Sweeping.{IsOnStray, IsStray, IsSweptTurn, NoneStray
 use Rattle.tab_passes.specs.PassedOn.{IsTab}
 use Rattle.seen_facts.proofs.Walk.Placed.{found_nav}
 use Rattle.seen_facts.specs.Walk.Serving.{is_in_place, is_needing, is_stopping}
-use Rattle.row_facts.specs.WalkRows.Since.{MovesVisited, WasAwake}
+use Rattle.row_facts.specs.WalkRows.Since.{IsVisitedInNeed, MovesVisited, WasAwake}
 
 -- a navigable that is awake
 record WakesAt (s : Seen) (nav : NavId) : Type 0 where
@@ -110,7 +110,7 @@ module _ (run : Option ReqId) (loads : List ReqId) (hand : List Made) (s t : See
           subst (λ (n : NavId). WakesAt t n) (nav_is parent over same) (record { place = up.above; placed = up.there; doc = up.doc; wakes = up.wakes })
       by_first false apart h more = more h
 
-  above_same : (nav : NavId) → option_map (λ (place : Place). place.above) (place_of t nav) ≡ option_map (λ (place : Place). place.above) (place_of s nav)
+  pub above_same : (nav : NavId) → option_map (λ (place : Place). place.above) (place_of t nav) ≡ option_map (λ (place : Place). place.above) (place_of s nav)
   above_same nav = read_same (λ (place : Place). place.above) (λ place. refl) s t turn nav
 
   -- nobody that was on one, or below one, is awake
@@ -193,13 +193,19 @@ module _ (run : Option ReqId) (loads : List ReqId) (hand : List Made) (s t : See
           let never : true ≡ false = sym yes ∙ none in
           absurd cc
 
-  -- who is visited in need then was so before, and is moved by whom it was to be
-  pub moves_on : (why : Why) → MovesVisited s why → MovesVisited t why
-  moves_on why moves nav place at need epoch = turn.moved why nav (by_old (place_of s nav) refl)
+  -- who is visited in need then was so before
+  pub record WasInNeed (nav : NavId) (place : Place) : Type 0 where
+    pub old : Place
+    pub there : place_of s nav ≡ Some old
+    pub need : IsVisitedInNeed s old
+    pub epoch : place.epoch.0 ≡ old.epoch.0
+
+  pub need_before : (nav : NavId) (place : Place) → place_of t nav ≡ Some place → IsVisitedInNeed t place → WasInNeed nav place
+  need_before nav place at need = by_old (place_of s nav) refl
     where
-      by_place : (old : Place) → place_of s nav ≡ Some old → IsMovedBy s why nav
+      by_place : (old : Place) → place_of s nav ≡ Some old → WasInNeed nav place
       by_place old there =
-          moves nav old there (record { shown = shown; reached = reached; needs = by_needs (is_needing s.history.rows (aim_of s) old) refl }) (subst (λ (n : ℕ). 1 ≤ n) epoch_is epoch)
+          record { old = old; there = there; need = record { shown = shown; reached = reached; needs = by_needs (is_needing s.history.rows (aim_of s) old) refl }; epoch = epoch_is }
         where
           nav_same : place.nav ≡ old.nav
           nav_same = found_nav t.places nav place at ∙ sym (found_nav s.places nav old there)
@@ -243,7 +249,13 @@ module _ (run : Option ReqId) (loads : List ReqId) (hand : List Made) (s t : See
               let needs : is_needing s.history.rows (aim_of s) old ≡ true = sym (ap (λ (h : History). is_needing h.rows (aim_of t) place) turn.history ∙ ap (λ (step : ℕ). is_needing s.history.rows step place) turn.aim ∙ ap (is_needing s.history.rows (aim_of s)) one) ∙ need.needs in
               needs
 
-      by_old : (o : Option Place) → place_of s nav ≡ o → IsMovedBy s why nav
+      by_old : (o : Option Place) → place_of s nav ≡ o → WasInNeed nav place
       by_old None none =
           let never : Some place.above ≡ None = sym (ap (option_map (λ (p : Place). p.above)) at) ∙ above_same nav ∙ ap (option_map (λ (p : Place). p.above)) none in absurd cc
       by_old (Some old) there = by_place old there
+
+  -- and is moved by whom it was to be
+  pub moves_on : (why : Why) → MovesVisited s why → MovesVisited t why
+  moves_on why moves nav place at need epoch =
+      let was : WasInNeed nav place = need_before nav place at need in
+      turn.moved why nav (moves nav was.old was.there was.need (subst (λ (n : ℕ). 1 ≤ n) was.epoch epoch))

@@ -13,7 +13,7 @@ use Rattle.tab_rests.specs.PassedOn.{IsLoadOf, IsOpen, MayCause, show_why}
 use Rattle.tab_ids.specs.declared.NavId.{NavId}
 use Rattle.tab_ids.specs.declared.ReqId.{ReqId}
 use Rattle.tab_rests.proofs.PassedOn.{MayServe, ParentsShown, TakersServe}
-pub use Rattle.tab_rests.proofs.PassedOn.{show_causes}
+pub use Rattle.tab_rests.proofs.PassedOn.{run_leavers, show_causes}
 use Rattle.row_facts.proofs.WalkRows.Moved.{run_moves}
 use Rattle.row_facts.specs.WalkRows.Since.{AwakeSince, MovesVisited}
 use Rattle.log_model.specs.declared.job.Why.TheVariants as whys
@@ -49,6 +49,7 @@ module _ (e : InEvent) (run : Option ReqId) (s n : Seen) (so : IsOpen e run whys
         since = record { distinct = so.since.distinct; homed = so.since.homed; ways = ways_both e.start.places s.places n.places so.since.ways ways };
         unwoken = λ nav place doc outside at is. (let was = wakes nav place doc refl at is in so.unwoken nav was.place doc refl was.placed was.wakes);
         moves = moves run refl cause;
+        leavers = run_leavers n run plain new cause;
         were = were;
         parents = parents;
         held = λ req nav its. so.held req nav (loads req nav its);

@@ -1,4 +1,5 @@
 -- What the walk finds of a navigable that is to be moved: its target's document, and what it leaves for it.
+use Rattle.tab_moves.specs.Making.{show_why}
 use Rattle.seen_facts.proofs.Hang.Targets.{IsTarget, target_has}
 use Rattle.seen_facts.specs.Kept.Keeping.{IsMadeFor}
 use Rattle.log_model.specs.AfterPlaces.{kept_leaving}
@@ -36,6 +37,8 @@ use Rattle.tab_moves.specs.PassedOn.{IsPassing}
 use Rattle.tab_moves.specs.Moving.{InPass}
 use Rattle.tab_evicts.specs.Evicting.{NoLoadBelow}
 use Rattle.tab_walk.specs.Cutting.{MayCutFrom}
+use Rattle.tab_moves.specs.Moving.{AreLeftUnder}
+use Rattle.tab_walk.proofs.LeftUnder.{lefts_under}
 use Rattle.tab_walk.specs.Moving.{IsBound, MayMoveFrom, MayMoveTo, in_move}
 use Rattle.row_facts.specs.WalkRows.Since.{IsVisitedInNeed}
 use Rattle.apply_plan.specs.declared.need.Need.TheVariants as needs
@@ -182,6 +185,12 @@ module _ (p : InPass) (out : List RowKind) (t : Tables) (pass : IsPassing p out 
         where
           at_target : (bound_from keep cause may left old leaves).target ≡ target
           at_target = let both : Some (bound_from keep cause may left old leaves).target ≡ Some target = sym (bound_from keep cause may left old leaves).at ∙ due.needing.at in cc
+
+      -- what it leaves, and what is shown below it, is left duly
+      pub found_lefts : (run_keep : ℕ) (cause : Why) → MayMoveTo p t.running run_keep s nav cause → (left : DocId) (old : StateId) → left_in t nav doc ≡ Some (left, old) → AreLeftUnder p.event out nav (show_why t.running cause)
+      found_lefts keep cause may left old leaves =
+          let bound : IsBound (in_move p nav cause doc entry left old) t.running s = bound_from keep cause may left old leaves in
+          lefts_under (in_move p nav cause doc entry left old) (show_why t.running cause) out t pass bound (may.leaves bound.place bound.placed) may.rows_
 
       -- ---- it leaves none
 

@@ -8,12 +8,15 @@ use Rattle.log_model.specs.declared.row.Row.{Row}
 use Rattle.page_cache.specs.Kept.{left_first}
 use Rattle.std.proofs.Common.{List, Option, Some, ap, drop, subst, sym, ℕ, ◌∙◌, ◌≡◌, ◌≤◌}
 use Rattle.std.specs.Option.{option_to_list}
+use Rattle.tab_ids.specs.declared.DocId.{DocId}
+use Rattle.tab_ids.specs.declared.EntryId.{EntryId}
 use Rattle.tab_ids.specs.declared.NavId.{NavId}
 use Rattle.tab_ids.specs.declared.ReqId.{ReqId}
 use Rattle.tab_ids.specs.declared.StateId.{StateId}
 pub use Rattle.tab_moves.specs.Showing.{IsTurn}
 use Rattle.tab_moves.specs.Making.{show_why}
-use Rattle.tab_walk.specs.Moving.{HasSetOff, InMove, IsPart, MayMakeRoom, MayMoveFrom}
+use Rattle.tab_moves.specs.Moving.{MayBeMoved}
+use Rattle.tab_walk.specs.Moving.{HasSetOff, InMove, IsBound, IsPart, MayMakeRoom, MayMoveFrom, MaySetOff, in_move}
 use Rattle.row_facts.proofs.WalkRows.Leaves.{leaves_then}
 
 pub part_named : (one other : NavId) → one ≡ other → (s t : Seen) → IsPart s t one → IsPart s t other
@@ -46,3 +49,24 @@ part_turn s t u nav part turn =
       parked = turn.parked ∙ part.parked;
       causes = λ why may. turn.causes why (part.causes why may);
     }
+
+-- ---- it sets off
+
+-- what that asks, by the names of a call
+pub off_ready : (m : InMove) (nav : NavId) (cause : Why) (doc : DocId) (entry : EntryId) (left : DocId) (old : StateId) → in_move m.pass nav cause doc entry left old ≡ m → (run then_run : Option ReqId) → then_run ≡ run → (why : Why) → why ≡ show_why then_run cause → (keep : ℕ) (s : Seen) (state : StateId) → MayMoveFrom m run keep s state → MaySetOff m then_run s nav left why
+off_ready m nav cause doc entry left old its run then_run runs why why_is keep s state may =
+    record {
+      its = sym named;
+      its_left = sym (ap (λ (x : InMove). x.left) its);
+      for_run = for_run;
+      bound = subst (λ (r : Option ReqId). IsBound m r s) (sym runs) may.bound;
+      movable = subst (λ (n : NavId). MayBeMoved m.pass.event s n why) (sym named) (subst (λ (w : Why). MayBeMoved m.pass.event s m.nav w) (sym (for_run ∙ ap (λ (r : Option ReqId). show_why r m.cause) runs)) may.movable);
+      were = may.were;
+      loads = may.loads;
+    }
+  where
+    named : nav ≡ m.nav
+    named = ap (λ (x : InMove). x.nav) its
+
+    for_run : why ≡ show_why then_run m.cause
+    for_run = why_is ∙ ap (λ (x : InMove). show_why then_run x.cause) its

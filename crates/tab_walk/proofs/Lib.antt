@@ -4,6 +4,7 @@ pub mod Binds
 pub mod Offs
 pub mod Rooms
 pub mod Froms
+pub mod LeftUnder
 pub mod Finds
 pub mod Cuts
 pub mod Cutoffs

@@ -32,7 +32,9 @@ use Rattle.tab_ids.specs.declared.Epoch.{Epoch}
 use Rattle.tab_ids.specs.declared.NavId.{NavId}
 use Rattle.tab_ids.specs.declared.ReqId.{ReqId}
 use Rattle.tab_ids.specs.declared.StateId.{StateId}
+use Rattle.tab_facts.specs.FrameWhole.Tab.{AreAwakeWithRows}
 use Rattle.tab_moves.specs.Moving.{AllAsleep, InPass, MayBeMoved, MayCause}
+use Rattle.tab_passes.specs.Leaving.{IsLeaver}
 use Rattle.tab_moves.specs.Showing.{IsWanted}
 pub use Rattle.tab_moves.specs.PassedOn.{HasOnly}
 use Rattle.row_facts.specs.WalkRows.Since.{IsVisitedInNeed}
@@ -43,10 +45,12 @@ use Rattle.log_model.specs.declared.row_kind.RowKind.TheVariants as rows
 abbrev pub NoLoadBelowKept : Seen → Type 0
 NoLoadBelowKept s = (gone : StateId) → Has (kept_states s) gone → NoLoadBelow s gone
 
--- the navigable may be moved, for a cause
+-- the navigable may be moved, for a cause; it leaves what it shows for the reason, unless it was never shown a document; and who is awake has an entry
 pub record MayMoveTo (p : InPass) (run : Option ReqId) (keep : ℕ) (s : Seen) (nav : NavId) (cause : Why) : Type 0 where
   pub may : MayCause s cause
   pub movable : MayBeMoved p.event s nav (show_why run cause)
+  pub leaves : (place : Place) → place_of s nav ≡ Some place → 1 ≤ place.epoch.0 → IsLeaver s (show_why run cause) nav
+  pub rows_ : AreAwakeWithRows s
   pub were : WereShown s
   pub loads : NoLoadBelowKept s
   pub left_loads : (place : Place) (left : DocId) (d : Document) → place_of s nav ≡ Some place → place.last ≡ Some left → document_of s left ≡ Some d → d.is_discarded ≡ false → NoLoadBelow s d.state

@@ -4,6 +4,7 @@ ghost use Rattle.seen_facts.specs.Kept.Keeping.{kept_states};
 ghost use Rattle.seen_laws.specs.InEvent.{now_of};
 ghost use Rattle.tab_doors.specs.Working.{KeepsStore};
 ghost use Rattle.tab_moves.specs.Showing.{IsToShow};
+ghost use Rattle.tab_moves.specs.Moving.{AreLeftUnder};
 ghost use Rattle.tab_moves.specs.PassedOn.{IsLeaving};
 ghost use Rattle.tab_walk.specs.Moving.{HasOnlyLeft, HasSetOff, InMove, IsPart, MayMakeRoom, MaySetOff, is_up_in, move_of};
 
@@ -42,6 +43,7 @@ pub(crate) fn set_off(
     ghost m: { InMove }
     requires leaving { IsLeaving m.pass (Some (move_of m)) [] out.old tables.old }
     requires may { MaySetOff m tables.old.running (now_of m.pass.event out.old) nav left why }
+    requires lefts { AreLeftUnder m.pass.event out.old nav why }
     ensures leaving { OnOk result (IsLeaving m.pass (Some (move_of m)) [] out.new tables.new) }
     ensures off { OnOk result (HasSetOff m tables.new.running (now_of m.pass.event out.new)) }
     ensures states { OnOk result (kept_states (now_of m.pass.event out.new) ≡ kept_states (now_of m.pass.event out.old)) }

@@ -7,7 +7,7 @@ ghost use Rattle.tab_moves.specs.Leaving.{left_in};
 ghost use Rattle.tab_moves.specs.Showing.{IsTurn, need_in};
 ghost use Rattle.tab_moves.specs.Making.{show_why};
 ghost use Rattle.tab_moves.specs.PassedOn.{IsPassing};
-ghost use Rattle.tab_moves.specs.Moving.{InPass};
+ghost use Rattle.tab_moves.specs.Moving.{AreLeftUnder, InPass};
 ghost use Rattle.tab_walk.specs.Cutting.{MayCutFrom};
 ghost use Rattle.tab_walk.specs.Moving.{HasBeenMoved, HasOnlyMoved, InMove, MayMoveFrom, MayMoveTo, in_move};
 ghost use Rattle.row_facts.specs.WalkRows.Since.{AwakeSince};
@@ -40,6 +40,7 @@ fn move_from(
     requires its { in_move m.pass nav cause doc entry left old ≡ m }
     requires passing { IsPassing m.pass out.old tables.old }
     requires may { MayMoveFrom m tables.old.running tables.old.kept.keep (now_of m.pass.event out.old) state }
+    requires lefts { AreLeftUnder m.pass.event out.old nav (show_why tables.old.running cause) }
     ensures passing { OnOk result (IsPassing m.pass out.new tables.new) }
     ensures turn { OnOk result (IsTurn (now_of m.pass.event out.old) (now_of m.pass.event out.new) nav) }
     ensures wakes { OnOk result (AwakeSince (now_of m.pass.event out.old) (nav ∷ []) (now_of m.pass.event out.new)) }

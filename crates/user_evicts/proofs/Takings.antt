@@ -1,7 +1,7 @@
 -- Documents were discarded on which nobody is awake, for an eviction: what documents made may be taken after that as before, so that a pass may follow.
 use Rattle.seen_facts.specs.Asked.Asking.{ArePlain}
 use Rattle.tab_facts.proofs.Calm.Sames.{here_same, places_calm, places_rooted, yet_same}
-use Rattle.tab_facts.specs.Calm.Calm.{CalmUnless, IsCalmYet, UnmovedAreHere}
+use Rattle.tab_facts.specs.Calm.Calm.{CalmUnless, IsCalmYet, UnmovedAreHere, NeedIsNew}
 use Rattle.tab_facts.specs.Frame.Lasting.{wish}
 use Rattle.row_facts.specs.Left.Left.{WereShown}
 use Rattle.seen_facts.specs.Load.Loading.{look}
@@ -21,7 +21,7 @@ use Rattle.tab_ids.specs.declared.DocId.{DocId}
 use Rattle.tab_ids.specs.declared.NavId.{NavId}
 use Rattle.tab_ids.specs.declared.ReqId.{ReqId}
 use Rattle.tab_ids.specs.declared.StateId.{StateId}
-use Rattle.tab_stands.proofs.PassedOn.{IsBare, IsBegun, IsUnsettled, causes_on, new_of, serve_on, show_causes, takers_on}
+use Rattle.tab_stands.proofs.PassedOn.{IsBare, IsBegun, IsUnsettled, causes_on, new_of, run_leavers, serve_on, show_causes, takers_on}
 use Rattle.tab_stands.specs.PassedOn.{IsBlamed, IsByItsOwn, IsLoadOf, IsOpen, IsStray, IsTaking, LoadsLive, LoadsMadeOwn, MayCause, MayServe, MayStand, MovedAreShown, ParentsShown, TakersServe, is_new_entry, show_why}
 use Rattle.user_evicts.proofs.Lefts.{LeavesGone, read_gone}
 use Rattle.row_facts.proofs.WalkRows.Moved.{run_moves}
@@ -71,10 +71,14 @@ module _ (e : InEvent) (run : Option ReqId) (blame : List (StateId × ReqId)) (s
   takers : TakersServe n
   takers = takers_on s n causes (λ nav. ap (λ (o : Option Place). option_map (λ (x : Place). x.taken_by) o) (place_same nav)) base.takers
 
+  needs_new : run ≡ None → NeedIsNew n
+  needs_new is nav place there need =
+      let idle : IsOpen e None whys.Start s = subst (λ (r : Option ReqId). IsOpen e r whys.Start s) is base in
+      new_of e s idle nav place (sym (place_same nav) ∙ there) (visited_same s n stays.places history_same aim_still place need)
+
   moves_then : (o : Option ReqId) → run ≡ o → (cause : Why) → MovesVisited n (show_why o cause)
   moves_then None is cause nav place there need epoch =
-      let idle : IsOpen e None whys.Start s = subst (λ (r : Option ReqId). IsOpen e r whys.Start s) is base in
-      let zero_ : place.epoch.0 ≡ 0 = new_of e s idle nav place (sym (place_same nav) ∙ there) (visited_same s n stays.places history_same aim_still place need) in
+      let zero_ : place.epoch.0 ≡ 0 = needs_new is nav place there need in
       absurd (omega (arith, zero_, epoch))
   moves_then (Some req) is cause nav place there need epoch =
       let own = plain.runs req is in
@@ -88,6 +92,7 @@ module _ (e : InEvent) (run : Option ReqId) (blame : List (StateId × ReqId)) (s
         since = record { distinct = base.since.distinct; homed = base.since.homed; ways = subst (λ (l : List Place). KeepWays e.start.places l) (sym stays.places) base.since.ways };
         unwoken = λ nav place doc outside there wakes. base.unwoken nav place doc outside (sym (place_same nav) ∙ there) wakes;
         moves = moves_then run refl cause;
+        leavers = run_leavers n run plain needs_new cause;
         were = were;
         parents = parents;
         held = λ req nav its. base.held req nav (load_was req nav its);

@@ -10,7 +10,7 @@ serve_all-requires g c = (
   c.in_ok-clear_out.ensures.passing,
   (
     c.requires.1.0,
-    walk_asks g.p c.args.cause c.args.tells c.args.tables.now _ c.args.out.now c.give_way.new.out _ c.in_ok-give_way.ensures.kept c.give_way.new.blame.entries _ c.in_ok-clear_out.ensures.kept c.in_ok-clear_out.ensures.open_ c.in_ok-clear_out.ensures.loads c.requires.1.1.0.header,
+    walk_asks g.p c.args.cause c.args.tells c.args.tables.now _ c.args.out.now c.give_way.new.out _ c.in_ok-give_way.ensures.kept c.give_way.new.blame.entries _ c.in_ok-clear_out.ensures.kept c.in_ok-clear_out.ensures.open_ c.in_ok-clear_out.ensures.rows c.in_ok-clear_out.ensures.loads c.requires.1.1.0.header,
   ),
 )
 

@@ -2,7 +2,7 @@ use Rattle.log_model.specs.declared.header.Header.{Header}
 use Rattle.std.proofs.Common.{ap, arith, refl, sym, ◌∙◌, ◌≤◌, ◌≡◌}
 use Rattle.std.proofs.lemmas.Bool.Decides.{nat_tests}
 use Rattle.tab_moves.proofs.PassedOn.{leaving_none, only_none}
-use Rattle.tab_walk.proofs.Finds.{doc_there, first_epoch, found_cut, found_from, found_none, row_there}
+use Rattle.tab_walk.proofs.Finds.{doc_there, first_epoch, found_cut, found_from, found_lefts, found_none, row_there}
 use Rattle.tab_walk.proofs.Puts.{moved_by, moved_for, woken}
 use Rattle.tab_walk.proofs.moving.move_to.Goals as goal
 
@@ -25,7 +25,8 @@ pub move_from-requires : goal.move_from-requires
 move_from-requires g c =
     let some = c.if-header-eq0.false in
     let keep : c.args.tables.now.kept.keep ≡ c.args.header.now.keep = c.requires.1.1.1.header ∙ ap (λ (h : Header). h.keep) (sym c.requires.1.0) in
-    (refl, (c.requires.0, found_from g.p c.args.out.now c.args.tables.now c.requires.0 c.args.nav c.args.entry c.requires.1.1.0 c.row_there.result.now c.row_there.ensures c.doc_there-doc.result c.doc_there-doc.ensures c.args.tables.now.kept.keep c.args.cause c.requires.1.1.1 (let low : 1 ≤ c.args.tables.now.kept.keep = grind (arith, nat_tests, some, keep) in low) c.in-Some.left.0 c.in-Some.left.1 (sym c.left_by.ensures ∙ c.in-Some.is)))
+    (refl, (c.requires.0, (found_from g.p c.args.out.now c.args.tables.now c.requires.0 c.args.nav c.args.entry c.requires.1.1.0 c.row_there.result.now c.row_there.ensures c.doc_there-doc.result c.doc_there-doc.ensures c.args.tables.now.kept.keep c.args.cause c.requires.1.1.1 (let low : 1 ≤ c.args.tables.now.kept.keep = grind (arith, nat_tests, some, keep) in low) c.in-Some.left.0 c.in-Some.left.1 (sym c.left_by.ensures ∙ c.in-Some.is),
+    found_lefts g.p c.args.out.now c.args.tables.now c.requires.0 c.args.nav c.args.entry c.requires.1.1.0 c.row_there.result.now c.row_there.ensures c.doc_there-doc.result c.doc_there-doc.ensures c.args.tables.now.kept.keep c.args.cause c.requires.1.1.1 c.in-Some.left.0 c.in-Some.left.1 (sym c.left_by.ensures ∙ c.in-Some.is))))
 
 pub returns-in_ok-show_target-in-None-clause-only : goal.returns-in_ok-show_target-in-None-clause-only
 returns-in_ok-show_target-in-None-clause-only g c = moved_for _ _ _ _ _ _ _ _ _ _ _ refl refl (only_none _ _) c.in_ok-show_target-in-None.ensures.shown
