@@ -131,7 +131,7 @@ module _ (checking : ReqId → Bool) (s : Seen) where
   -- ---- rows that begin no request and change no history
 
   -- an order to make a document makes a new one
-  makes_log : (job : Job) (task : Task) → MakesNew (unasked checking s) job task → MakesNew s job task
+  pub makes_log : (job : Job) (task : Task) → MakesNew (unasked checking s) job task → MakesNew s job task
   makes_log job (tasks.Populate nav state address initial) new = none_bare job.doc new
   makes_log job (tasks.Activate entry epoch length index memo address) new = tt
   makes_log job (tasks.Update length index) new = tt

@@ -83,7 +83,7 @@ module _ (s : Seen) (event : ℕ) (actor : Actor) (duly : AreLeftDuly s) where
   abbrev then : RowKind → Seen
   then kind = after s (record { event = event; actor = actor; row = kind })
 
-  makes : (job : Job) (task : Task) → MakesNew s job task → MakesUnawake s job task
+  pub makes : (job : Job) (task : Task) → MakesNew s job task → MakesUnawake s job task
   makes job (tasks.Populate nav state address initial) new = unawake_new s duly.made job.doc new
   makes job (tasks.Activate entry epoch length index memo address) new = tt
   makes job (tasks.Update length index) new = tt

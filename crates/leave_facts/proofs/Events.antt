@@ -1,6 +1,6 @@
 -- Whom requests leave was asked, over one row more of an event in which a coordinator works.
-use Rattle.leave_facts.proofs.Bares.{bare_sent_duly}
-use Rattle.leave_facts.proofs.Carried.{AreLeftDuly, MakesNew, row_duly}
+use Rattle.leave_facts.proofs.Bares.{bare_sent_duly, makes_log}
+use Rattle.leave_facts.proofs.Carried.{AreLeftDuly, MakesNew, makes, row_duly}
 use Rattle.leave_facts.proofs.Duly.{duly_left, duly_still}
 use Rattle.leave_facts.proofs.Rows.{IsKeeping}
 use Rattle.leave_facts.specs.Leaving.{IsLeftDuly, IsLeftDulyFor}
@@ -52,10 +52,15 @@ module _ (e : InEvent) (out : List RowKind) where
       subst (λ (s : Seen). IsLeftDuly s doc req) (sym (ap (λ (l : List RowKind). log_of e l) is ∙ log_more e out kind))
       (duly_still (log_of e out) e.event e.actor kind keeps doc req (left req why_is))
 
+  -- also over an order that makes a new document
+  pub left_made : AreLeftDuly (log_of e out) → (job : Job) (new : List RowKind) → new ≡ out ++ rows.Sent job ∷ [] → MakesNew (now_of e out) job job.task → (doc : DocId) (why : Why) → IsLeftDulyFor (log_of e out) doc why → IsLeftDulyFor (log_of e new) doc why
+  left_made duly job new is new_one doc why left =
+      left_on (rows.Sent job) new is (makes (log_of e out) e.event e.actor duly job job.task (makes_log e.checking (log_of e out) job job.task (subst (λ (s : Seen). MakesNew s job job.task) (now_is e out) new_one))) doc why left
+
   -- ---- so it may be left
 
   -- a request that is there in the log without questions is there in the log
-  request_there : (req : ReqId) → is_some (request_of (now_of e out) req) ≡ true → (q : Asked) × (request_of (log_of e out) req ≡ Some q)
+  pub request_there : (req : ReqId) → is_some (request_of (now_of e out) req) ≡ true → (q : Asked) × (request_of (log_of e out) req ≡ Some q)
   request_there req there = by_found (request_of (log_of e out) req) refl
     where
       by_found : (o : Option Asked) → request_of (log_of e out) req ≡ o → (q : Asked) × (request_of (log_of e out) req ≡ Some q)

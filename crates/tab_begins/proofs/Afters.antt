@@ -1,6 +1,6 @@
 -- Right after a load was applied where all stood: its navigable is in need, nobody is but it and those below, and who isn't below it stands where it stood.
 use Rattle.seen_facts.proofs.Request.LookUps.{on_itself}
-use Rattle.tab_one_pass.proofs.Gives.{load_leaver}
+use Rattle.tab_one_pass.proofs.Gives.{load_leaver, still_on}
 use Rattle.seen_laws.proofs.InEvents.{now_at}
 use Rattle.tab_facts.specs.Frame.Lasting.{wish}
 use Rattle.seen_facts.proofs.Request.Readers.{SameReads, on_read, reads_then}
@@ -71,7 +71,7 @@ use Rattle.tab_facts.specs.ShownWays.Ways.{KeepsTargets, hanging}
 use Rattle.std.proofs.Common.{Bool, List, None, Option, Some, [], ap, arith, cond, false, if◌then◌else◌, map, not, refl, subst, sym, true, ℕ, ◌&&◌, ◌+◌, ◌==◌, ◌||◌, ◌∙◌, ◌∷◌, ◌≡◌, ◌≤◌, ◌<◌, inl, inr, ◌⊎◌}
 use Rattle.std.proofs.lemmas.Bool.{and_parts}
 use Rattle.std.specs.List.{list_any}
-use Rattle.std.specs.Prelude.{is_some, option_map}
+use Rattle.std.specs.Prelude.{find, is_some, option_map}
 use Rattle.load_doors.specs.Applying.{IsApplyDue}
 use Rattle.log_model.specs.Orders.{is_usable}
 use Rattle.tab_ids.specs.declared.DocId.{DocId}
@@ -862,6 +862,7 @@ module _ (p : InPass) (out : List RowKind) (t : Tables) (passing : IsPassing p o
           ways = ways_both e.start.places s.places n.places passed.walked.since.ways ways_then;
         };
         unwoken = λ m place doc outside found wakes. (let was = it.wakes m place doc refl found wakes in passed.walked.unwoken (ap (λ (step : ℕ). all_stand s step) aim_was ∙ may.stand) m was.place doc refl was.placed was.wakes);
+        still = still_on e.start s n awake_then (λ doc gone. ap (λ (l : List Document). holds (λ (d : Document). d.is_discarded) (find (λ (d : Document). d.nr.0 == doc.0) l)) documents_same ∙ gone) (passed.walked.still (ap (λ (step : ℕ). all_stand s step) aim_was ∙ may.stand));
         moves = moves_then;
         leavers = leavers_then;
         were = subst (λ (x : Seen). WereShown x) (sym now_is) (were_shown s e.event e.actor passed.walked.were (rows.Applied load.req change) tt);

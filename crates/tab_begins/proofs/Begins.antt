@@ -32,7 +32,7 @@ use Rattle.tab_ids.specs.declared.NavId.{NavId}
 use Rattle.tab_ids.specs.declared.ReqId.{ReqId}
 use Rattle.tab_ids.specs.declared.StateId.{StateId}
 pub use Rattle.tab_one_pass.proofs.Opens.{serve_on, takers_on}
-pub use Rattle.tab_one_pass.proofs.Gives.{run_leaver, run_leavers, show_causes}
+pub use Rattle.tab_one_pass.proofs.Gives.{run_leaver, run_leavers, show_causes, still_left, still_on}
 use Rattle.tab_one_pass.specs.PassedOn.{InPass, IsTab}
 use Rattle.tab_one_pass.proofs.Stands.{IsReachedAt, reached_at}
 pub use Rattle.tab_one_pass.proofs.Calms.{loaded_never}
@@ -131,6 +131,7 @@ module _ (p : InPass) (s n : Seen) (alone : LeavesAlone s n) (loads : (req : Req
         walked = record {
           since = record { distinct = passed.walked.since.distinct; homed = passed.walked.since.homed; ways = ways_on };
           unwoken = λ all. places_since p.event.start s [] (passed.walked.unwoken (stand all)) n alone.places;
+          still = λ all. still_left p.event.start s n alone.places alone.documents (passed.walked.still (stand all));
           were = were_on;
           parents = parents_on;
           loads = each_stands n (λ req nav its. reached_rows s n alone.places alone.rows_ aim nav (stand_reached s passed.walked.loads req nav (load_was req nav its)));
@@ -217,6 +218,7 @@ module _ (p : InPass) (s n : Seen) (alone : LeavesAlone s n) (loads : (req : Req
           may = may;
           since = record { distinct = passed.walked.since.distinct; homed = passed.walked.since.homed; ways = ways_on };
           unwoken = places_since p.event.start s [] (passed.walked.unwoken (ap (all_stand s) aim ∙ stand)) n alone.places;
+          still = still_left p.event.start s n alone.places alone.documents (passed.walked.still (ap (all_stand s) aim ∙ stand));
           moves = moves_then;
           leavers = λ nav place at need epoch. run_leaver n run tab_n.asked nav;
           were = were_on;

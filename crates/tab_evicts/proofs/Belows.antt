@@ -23,7 +23,7 @@ use Rattle.seen_laws.specs.InEvent.{row_of}
 use Rattle.std.proofs.Common.{Bool, List, None, Option, Some, [], ap, false, length, map, refl, subst, sym, true, ℕ, ◌++◌, ◌==◌, ◌∙◌, ◌∷◌, ◌≡◌, ◌≤◌}
 use Rattle.std.specs.Prelude.{if◌then◌else◌, option_and_then, option_map}
 use Rattle.tab_doors.proofs.Sights.{seen_of, sight_of}
-use Rattle.tab_doors.proofs.Leavable.{IsLeftAs, below_log, discards_log, left_log, numbered_log, prompts_log}
+use Rattle.tab_doors.proofs.Leavable.{IsLeftAs, below_log, discards_log, numbered_log, prompts_log}
 use Rattle.tab_doors.proofs.Works.{numbered}
 use Rattle.tab_doors.specs.Keeping.{LetsGo, Move, with_left}
 use Rattle.tab_doors.specs.Look.{Sight, is_live_for, sight}
@@ -37,6 +37,8 @@ use Rattle.tab_evicts.proofs.Hangings.{hangs_same}
 use Rattle.tab_evicts.proofs.Theres.{there_apart, there_elsewhere, there_gone, there_unloaded}
 use Rattle.tab_evicts.specs.Evicting.{IsThereBelow}
 use Rattle.row_facts.specs.Left.Left.{WereShown}
+use Rattle.row_facts.specs.LeaveRows.MayLeave.{MayBeLeft}
+use Rattle.tab_evicts.proofs.Offs.{off_gone, quiet_left}
 use Rattle.tab_evicts.proofs.Quiets.{IsQuiet, gone_seen, gone_leaving, gone_looks, gone_may, gone_now, gone_other, gone_places, gone_states, gone_stays, gone_were, one_document, one_of_state, quiet_discards, quiet_settles}
 use Rattle.tab_evicts.specs.Evicting.{InEvicting, InLetting, IsBeside, IsGoneFor, IsLetting, NoLoadBelow, NoneBelow, StaysPlaced, below_in, hangs_in, move_in}
 use Rattle.tab_ids.specs.declared.DocId.{DocId}
@@ -52,8 +54,8 @@ use Rattle.log_model.specs.declared.job.Task.TheVariants as tasks
 use Rattle.log_model.specs.declared.row_kind.RowKind.TheVariants as rows
 
 -- such an order may be sent
-pub below_ahead : (e : InEvent) (out : List RowKind) (move : Option Move) (t : Tables) (doc : DocId) (why : Why) (d : Document) → IsAtWorkFor move e out t → IsBelowDue (now_of e out) (order_to (now_of e out) doc why tasks.Discard) d → (desk_of (now_of e out) (proc_at (now_of e out) doc)).known ≡ 0 → SettlesNone (now_of e out) (row_of e (rows.Sent (order_to (now_of e out) doc why tasks.Discard))) → MaySend move e out (order_to (now_of e out) doc why tasks.Discard)
-below_ahead e out move t doc why d work due known settles later ahead =
+pub below_ahead : (e : InEvent) (out : List RowKind) (move : Option Move) (t : Tables) (doc : DocId) (why : Why) (d : Document) → IsAtWorkFor move e out t → MayBeLeft (here_of e out) (order_to (now_of e out) doc why tasks.Discard) → IsBelowDue (now_of e out) (order_to (now_of e out) doc why tasks.Discard) d → (desk_of (now_of e out) (proc_at (now_of e out) doc)).known ≡ 0 → SettlesNone (now_of e out) (row_of e (rows.Sent (order_to (now_of e out) doc why tasks.Discard))) → MaySend move e out (order_to (now_of e out) doc why tasks.Discard)
+below_ahead e out move t doc why d work left due known settles later ahead =
     below_left_may (here_of e out) e.event e.actor order its.d (led_here e out work.own) (numbered_log e out (events.now_is e out) order (numbered (now_of e out) (proc_at (now_of e out) doc) doc why tasks.Discard known)) (below_log e out (events.now_is e out) order d its due) later (prompts_log e out t work order settles later, tt)
   where
     order : Job
@@ -61,7 +63,7 @@ below_ahead e out move t doc why d work due known settles later ahead =
 
     its : IsLeftAs e out order d
     its =
-        discards_log e out (events.now_is e out) order d (left_log e out t work order d due.discards.to.found due.discards.unhandled due.discards.for_one) due.discards
+        discards_log e out (events.now_is e out) order d left due.discards
 
 -- ---- a document below
 
@@ -205,7 +207,7 @@ module _ (l : InLetting) (gone : StateId) (why : Why) (out : List RowKind) (t : 
 
     pub below_sends : MaySend move p.event out (order_to s doc why tasks.Discard)
     below_sends =
-        below_ahead p.event out move t doc why its_quiet.document so.leaving.work
+        below_ahead p.event out move t doc why its_quiet.document so.leaving.work (quiet_left p move out t so.leaving why so.may doc its its_quiet so.off)
         (record {
           discards = quiet_discards p move out t so.leaving why so.may doc its its_quiet;
           below = ap (λ (d : Document). is_below_gone s d) (one_document s doc its_quiet.document b.document its_quiet.found b.found) ∙ below_gone;
@@ -234,6 +236,7 @@ module _ (l : InLetting) (gone : StateId) (why : Why) (out : List RowKind) (t : 
           gone_for = subst (λ (x : Seen). IsGoneFor x gone) now_is gone_then;
           none = subst (λ (x : Seen). NoneBelow x gone) now_is none_then;
           moving = λ m at. record { noted = (so.moving m at).noted; beside = subst (λ (x : Seen). IsBeside x gone m) now_is (beside_then m at); room = room_then m at };
+          off = off_gone p move out t so.leaving why so.may doc its its_quiet so.off new u made;
         }
       where
         leaving : IsLeaving p move [] new u

@@ -3,6 +3,7 @@ pub mod Climbs
 pub mod Cuts
 pub mod Hangings
 pub mod Quiets
+pub mod Offs
 pub mod Theres
 pub mod Nones
 pub mod Belows

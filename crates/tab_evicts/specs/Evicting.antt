@@ -29,6 +29,7 @@ use Rattle.tab_ids.specs.declared.ReqId.{ReqId}
 use Rattle.tab_ids.specs.declared.StateId.{StateId}
 use Rattle.tab_passes.specs.Causes.{MayCause}
 use Rattle.tab_passes.specs.Leaving.{IsLeaving}
+pub use Rattle.tab_passes.specs.Leaving.{OffAreLeft}
 use Rattle.tab_passes.specs.Passing.{HasOnly, InPass}
 use Rattle.seen_facts.specs.Walk.Walking.{LeavesOthers}
 use Rattle.log_model.specs.declared.job.Task.TheVariants as tasks
@@ -120,6 +121,8 @@ pub record IsLetting (l : InLetting) (gone : StateId) (why : Why) (out : List Ro
   pub gone_for : IsGoneFor (now_of l.pass.event out) gone
   pub none : NoneBelow (now_of l.pass.event out) gone
   pub moving : (m : InEvicting) → l.moved ≡ Some m → HasRoomBeside m gone (now_of l.pass.event out) t.kept.keep
+  -- who isn't shown wasn't as the event began, or is left duly
+  pub off : OffAreLeft l.pass.event out why
 
 -- the same within a move
 abbrev pub letting_for : InEvicting → InLetting

@@ -3,7 +3,7 @@ ghost use Rattle.std.specs.Prelude.{◌≡◌, [], OnOk, IsSome, Some, option_ma
 ghost use Rattle.nav_tree.specs.Tree.{document_of};
 ghost use Rattle.seen_laws.specs.InEvent.{now_of};
 ghost use Rattle.tab_doors.specs.Working.{KeepsStore};
-ghost use Rattle.tab_evicts.specs.Evicting.{HasOnlyDiscarded, InEvicting, IsEvicting, IsToEvict, NoneThereBelow, StaysPlaced};
+ghost use Rattle.tab_evicts.specs.Evicting.{HasOnlyDiscarded, InEvicting, IsEvicting, IsToEvict, NoneThereBelow, OffAreLeft, StaysPlaced};
 ghost use Rattle.tab_passes.specs.Leaving.{IsLeaving};
 
 use crate::below::discard_below;
@@ -37,6 +37,7 @@ pub fn evict(
     ghost m: { InEvicting }
     requires leaving { IsLeaving m.pass (Some m.move) [] out.old tables.old }
     requires evicts { IsToEvict m gone why (now_of m.pass.event out.old) tables.old.kept.keep }
+    requires off { OffAreLeft m.pass.event out.old why }
     ensures evicting { OnOk result (IsEvicting m gone why out.new tables.new) }
     ensures below { OnOk result (NoneThereBelow (now_of m.pass.event out.new) gone) }
     ensures only { OnOk result (HasOnlyDiscarded why out.old out.new) }

@@ -7,7 +7,7 @@ use Rattle.seen_facts.specs.Hang.Members.{Has}
 use Rattle.seen_facts.specs.Home.Homes.{AreHomed, IsAtHome}
 use Rattle.row_facts.specs.Left.Left.{LastWereShown, OwnersFollow, WasEverShown, WereShown}
 use Rattle.seen_facts.specs.LoadEnds.Standing.{is_reached}
-use Rattle.log_model.specs.Equal.{has_req}
+use Rattle.log_model.specs.Equal.{has_req, holds}
 use Rattle.log_model.specs.History.{History, has_row, has_state}
 use Rattle.log_model.specs.Places.{aim_of, is_awake, is_given_target, is_moved, is_shown}
 use Rattle.log_model.specs.Seen.{Asked, Document, Place, Seen, document_of, place_in, place_of}
@@ -23,7 +23,7 @@ use Rattle.tab_ids.specs.declared.DocId.{DocId}
 use Rattle.tab_ids.specs.declared.NavId.{NavId}
 use Rattle.tab_ids.specs.declared.ReqId.{ReqId}
 use Rattle.tab_ids.specs.declared.StateId.{StateId}
-use Rattle.tab_stands.proofs.PassedOn.{IsBare, IsUnsettled, StandOrBare, new_of, reached_same, run_leavers, show_causes, takers_on, visited_same}
+use Rattle.tab_stands.proofs.PassedOn.{IsBare, IsUnsettled, StandOrBare, new_of, reached_same, run_leavers, show_causes, still_on, takers_on, visited_same}
 use Rattle.tab_stands.specs.PassedOn.{AreBlamed, IsLoadOf, IsOpen, IsTaking, LoadsLive, MayCause, MayServe, MayStand, ParentsShown, StandOrMove, TakersServe, show_why}
 use Rattle.row_facts.proofs.WalkRows.Moved.{run_moves}
 use Rattle.row_facts.specs.WalkRows.Since.{MovesVisited}
@@ -92,6 +92,14 @@ module _ (e : InEvent) (run : Option ReqId) (s n : Seen) (at : IsTakenBut e run 
   takers : TakersServe n
   takers = takers_on s n it.causes (λ nav. ap (λ (o : Option Place). option_map (λ (x : Place). x.taken_by) o) (place_same nav)) base.takers
 
+  -- what was discarded is so still
+  gone_on : (doc : DocId) → holds (λ (d : Document). d.is_discarded) (document_of s doc) ≡ true → holds (λ (d : Document). d.is_discarded) (document_of n doc) ≡ true
+  gone_on doc is = by_old (document_of s doc) refl is
+    where
+      by_old : (o : Option Document) → document_of s doc ≡ o → holds (λ (d : Document). d.is_discarded) o ≡ true → holds (λ (d : Document). d.is_discarded) (document_of n doc) ≡ true
+      by_old (Some d) at h = ap (λ (o : Option Document). holds (λ (x : Document). x.is_discarded) o) (it.found doc d at) ∙ h
+      by_old None at h = absurd cc
+
   needs_new : run ≡ None → NeedIsNew n
   needs_new is nav place there need =
       let idle : IsOpen e None whys.Start s = subst (λ (r : Option ReqId). IsOpen e r whys.Start s) is base in
@@ -112,6 +120,7 @@ module _ (e : InEvent) (run : Option ReqId) (s n : Seen) (at : IsTakenBut e run 
         may = may;
         since = record { distinct = base.since.distinct; homed = base.since.homed; ways = subst (λ (l : List Place). KeepWays e.start.places l) (sym it.places) base.since.ways };
         unwoken = λ nav place doc outside there wakes. base.unwoken nav place doc outside (sym (place_same nav) ∙ there) wakes;
+        still = still_on e.start s n (λ nav doc was. record { place = was.place; placed = place_same nav ∙ was.placed; wakes = was.wakes }) gone_on base.still;
         moves = moves_then run refl cause;
         leavers = run_leavers n run plain needs_new cause;
         were = were;

@@ -1,4 +1,6 @@
 -- A document may be made for a navigable's target that has none and for which none is being made, and all goes on then.
+use Rattle.tab_passes.proofs.LeftFor.{made_off}
+use Rattle.tab_passes.specs.Leaving.{KeepsOff}
 use Rattle.tab_passes.proofs.PassedOn.{IsMakeOf, lives_first, make_tab, making_lasting, sent_duly}
 use Rattle.tab_doors.proofs.PassedOn.{sent_goes, sent_now}
 use Rattle.apply_plan.specs.declared.need.Need.TheVariants as needs
@@ -346,6 +348,9 @@ module _ (p : InPass) (out : List RowKind) (t : Tables) (pass : IsPassing p out 
               sent : IsSentHome s job
               sent = record { home = λ d found. absurd (none_there d found); lives = lives_first t.running p.loads p.hand s pass.going.tab job refl }
 
+          off_then : KeepsOff p.event out then_out
+          off_then = made_off p.event out pass.duly job nav target.state target.address initial refl absent then_out refl
+
           turn_then : IsTurn s (now_of p.event then_out) nav
           turn_then =
               subst (λ (x : Seen). IsTurn s x nav) now_is (record {
@@ -364,7 +369,7 @@ module _ (p : InPass) (out : List RowKind) (t : Tables) (pass : IsPassing p out 
     pub unknown : sight_in (map sight s.documents) (record { 0 = t.documents + 1 }) ≡ None
     pub unloaded : ongoing_load s state ≡ None
     pub other : IsForOther p.event.checking x
-    pub done : (u : Tables) (new : List RowKind) → KeepsStore t u → new ≡ out ++ rows.Sent (next_order s.jobs proc (record { 0 = t.documents + 1 }) x (tasks.Populate nav state address initial)) ∷ [] → IsAtWork p.event new u → IsPassing p new u × IsTurn s (now_of p.event new) nav
+    pub done : (u : Tables) (new : List RowKind) → KeepsStore t u → new ≡ out ++ rows.Sent (next_order s.jobs proc (record { 0 = t.documents + 1 }) x (tasks.Populate nav state address initial)) ∷ [] → IsAtWork p.event new u → IsPassing p new u × IsTurn s (now_of p.event new) nav × KeepsOff p.event out new
 
   pub ready_to_make : (due : IsMakingDue) (cause : Why) → MayCause s cause → (row : Row) → row_of entry (history_held t.store).rows ≡ Some row → lookup (is_state row.state) t.making.entries ≡ None → (address : List ℕ) → address ≡ row.address → (new : Bool) (x : Why) → x ≡ make_why new t.running cause → (initial : Bool) → initial ≡ is_some (lookup (is_state row.state) t.initial.entries) → (proc : ProcId) → home_in p.event.header t nav address ≡ Some proc → IsReadyToMake row.state address initial proc x
   ready_to_make due cause may row there unmade address address_is new x why_is initial initial_is proc home =
@@ -376,9 +381,9 @@ module _ (p : InPass) (out : List RowKind) (t : Tables) (pass : IsPassing p out 
         unknown = unknown due unmade_;
         unloaded = unloaded due unmade_;
         other = cause_off p.event out t pass.work pass.going.tab.asked.each (make_why new t.running cause) (causes due unmade_ cause may new initial initial_ proc home_ new);
-        done = λ u new_out keeps is work. subst (λ (l : List RowKind). IsPassing p l u × IsTurn s (now_of p.event l) nav) (sym is)
+        done = λ u new_out keeps is work. subst (λ (l : List RowKind). IsPassing p l u × IsTurn s (now_of p.event l) nav × KeepsOff p.event out l) (sym is)
             (let work_ : IsAtWork p.event (then_out due unmade_ cause may new initial initial_ proc home_) u = subst (λ (l : List RowKind). IsAtWork p.event l u) is work in
-            (passing_then due unmade_ cause may new initial initial_ proc home_ u keeps work_, turn_then due unmade_ cause may new initial initial_ proc home_ u keeps work_));
+            (passing_then due unmade_ cause may new initial initial_ proc home_ u keeps work_, turn_then due unmade_ cause may new initial initial_ proc home_ u keeps work_, off_then due unmade_ cause may new initial initial_ proc home_ u keeps work_));
       })))
     where
       same : row ≡ due.needing.target

@@ -8,6 +8,7 @@ ghost use Rattle.tab_doors.specs.Working.{KeepsStore};
 ghost use Rattle.tab_moves.specs.Making.{HasMade, is_new_by, make_why};
 ghost use Rattle.tab_moves.specs.Showing.{IsTurn, need_in};
 ghost use Rattle.tab_passes.specs.Causes.{MayCause};
+ghost use Rattle.tab_passes.specs.Leaving.{KeepsOff};
 ghost use Rattle.tab_passes.specs.Passing.{InPass, IsPassing};
 
 use crate::homes::home_there;
@@ -73,6 +74,7 @@ pub fn make_target(
     ensures passing { OnOk result (IsPassing p out.new tables.new) }
     ensures turn { OnOk result (IsTurn (now_of p.event out.old) (now_of p.event out.new) nav) }
     ensures made { OnOk result (HasMade header.now tables.old nav entry cause out.old out.new) }
+    ensures off { OnOk result (KeepsOff p.event out.old out.new) }
     ensures kept { OnOk result (KeepsStore tables.old tables.new) }
 {
     let row = row_there(&tables.store, entry);

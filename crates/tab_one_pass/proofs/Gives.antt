@@ -26,6 +26,7 @@ use Rattle.tab_one_pass.proofs.Passes.{left_drops, left_then, loaded_before, swe
 use Rattle.tab_one_pass.proofs.Stands.{rows_swept, stand_swept}
 use Rattle.tab_one_pass.specs.Noting.{AreNoted}
 use Rattle.tab_one_pass.specs.Passing.{AreLeftStrays, HasClearedOut, HasGivenWay, IsOpen, LeavesPass, MayStand, SendsForStrays, WereLoaded}
+pub use Rattle.tab_one_pass.proofs.Opens.{still_left, still_on}
 pub use Rattle.tab_serves.proofs.Leavers.{load_leaver, run_leaver, run_leavers}
 pub use Rattle.tab_serves.proofs.PassedOn.{show_causes}
 use Rattle.tab_serves.specs.PassedOn.{MayServe, IsTab}

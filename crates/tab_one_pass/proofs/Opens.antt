@@ -1,16 +1,17 @@
 -- What goes on through a pass does so over the loads that give way and the documents that are discarded.
+use Rattle.log_model.specs.Equal.{holds}
 use Rattle.std.specs.Option.{option_map_or}
 use Rattle.seen_facts.specs.Hang.Members.{Has}
 use Rattle.row_facts.specs.Left.Left.{LastWereShown, OwnersFollow, WasEverShown}
 use Rattle.log_model.specs.Places.{aim_of, way_of}
-use Rattle.log_model.specs.Seen.{Place, Seen, place_in, place_of}
+use Rattle.log_model.specs.Seen.{Place, Seen, place_in, place_of, Document, document_of}
 use Rattle.log_model.specs.declared.job.Task.{Task}
 use Rattle.log_model.specs.declared.job.Why.{Why}
 use Rattle.log_model.specs.declared.row_kind.RowKind.{RowKind}
 use Rattle.seen_facts.proofs.Mover.Stays.{KeepWays}
 use Rattle.seen_laws.specs.InEvent.{now_of}
-use Rattle.std.proofs.Common.{List, None, Option, Some, [], ap, refl, subst, sym, ◌∙◌, ◌≡◌, ◌∷◌, ◌≤◌, ℕ}
-use Rattle.std.specs.Prelude.{option_map}
+use Rattle.std.proofs.Common.{List, None, Option, Some, [], ap, refl, subst, sym, ◌∙◌, ◌≡◌, ◌∷◌, ◌≤◌, ℕ, inl, inr, true, ◌⊎◌, ◌==◌}
+use Rattle.std.specs.Prelude.{option_map, find}
 use Rattle.tab_drops.proofs.Spans.{unheld_on}
 pub use Rattle.tab_drops.proofs.Turns.{visited_same}
 use Rattle.tab_drops.specs.Dropping.{IsLoadOf, LeavesAll}
@@ -18,18 +19,18 @@ use Rattle.tab_ids.specs.declared.DocId.{DocId}
 use Rattle.tab_ids.specs.declared.NavId.{NavId}
 use Rattle.tab_ids.specs.declared.ReqId.{ReqId}
 use Rattle.tab_ids.specs.declared.StateId.{StateId}
-use Rattle.tab_one_pass.specs.Passing.{IsOpen, TakersServe}
+use Rattle.tab_one_pass.specs.Passing.{IsOpen, TakersServe, KeepsAwake}
 use Rattle.tab_serves.proofs.Calms.{only_as}
 use Rattle.tab_serves.specs.PassedOn.{MayServe, IsTab}
 use Rattle.tab_serves.specs.Serving.{HasOnly, InPass, IsOfWalk, MayCause, show_why}
 use Rattle.tab_serves.proofs.Orders.{IsOrderOf, parents_over, taken_over, ways_over, were_over}
 use Rattle.tab_passes.proofs.PassedOn.{leaver_beside, leaver_same}
 use Rattle.tab_serves.proofs.Leavers.{ways_same}
-use Rattle.tab_serves.specs.Serving.{LeavesVisited}
-use Rattle.tab_sweeps.proofs.ForCallers.{above_same, moves_on, need_before}
+use Rattle.tab_serves.specs.Serving.{LeavesVisited, StillAwake}
+use Rattle.tab_sweeps.proofs.ForCallers.{above_same, gone_swept, moves_on, need_before, still_swept}
 use Rattle.tab_sweeps.specs.Sweeping.{HasOnlySwept, IsSweepOf, IsSweptTurn, NoneStray}
 use Rattle.row_facts.proofs.WalkRows.Sinces.{places_since}
-use Rattle.row_facts.specs.WalkRows.Since.{AwakeSince, IsVisitedInNeed}
+use Rattle.row_facts.specs.WalkRows.Since.{AwakeSince, IsVisitedInNeed, WasAwake}
 use Rattle.log_model.specs.declared.job.Why.TheVariants as whys
 
 -- what orders may be for, of one request
@@ -58,6 +59,22 @@ module _ (s t : Seen) (places : t.places ≡ s.places) (history : t.history ≡ 
   need_was : (place : Place) → IsVisitedInNeed t place → IsVisitedInNeed s place
   need_was place need = visited_same t s (sym places) (sym history) (sym aim) place need
 
+-- who was awake as the event began is so still, where who is awake stays so, and what is discarded
+pub still_on : (start s t : Seen) → KeepsAwake s t → ((doc : DocId) → holds (λ (d : Document). d.is_discarded) (document_of s doc) ≡ true → holds (λ (d : Document). d.is_discarded) (document_of t doc) ≡ true) → StillAwake start s → StillAwake start t
+still_on start s t awake_ gone still nav place doc at wakes = by_case (still nav place doc at wakes)
+  where
+    by_case : WasAwake s nav doc ⊎ (holds (λ (d : Document). d.is_discarded) (document_of s doc) ≡ true) → WasAwake t nav doc ⊎ (holds (λ (d : Document). d.is_discarded) (document_of t doc) ≡ true)
+    by_case (inl was) = inl (awake_ nav doc was)
+    by_case (inr is) = inr (gone doc is)
+
+-- so where places and documents are as they were
+pub still_left : (start s t : Seen) → t.places ≡ s.places → t.documents ≡ s.documents → StillAwake start s → StillAwake start t
+still_left start s t places documents still nav place doc at wakes = by_case (still nav place doc at wakes)
+  where
+    by_case : WasAwake s nav doc ⊎ (holds (λ (d : Document). d.is_discarded) (document_of s doc) ≡ true) → WasAwake t nav doc ⊎ (holds (λ (d : Document). d.is_discarded) (document_of t doc) ≡ true)
+    by_case (inl was) = inl (record { place = was.place; placed = ap (λ (l : List Place). place_in l nav) places ∙ was.placed; wakes = was.wakes })
+    by_case (inr gone) = inr (ap (λ (l : List Document). holds (λ (d : Document). d.is_discarded) (find (λ (d : Document). d.nr.0 == doc.0) l)) documents ∙ gone)
+
 -- ---- loads gave way
 
 pub open_left : (p : InPass) (run : Option ReqId) (cause : Why) (s t : Seen) → LeavesAll s t → IsOpen p.event run cause s → IsOpen p.event run cause t
@@ -70,6 +87,7 @@ open_left p run cause s t left so =
         ways = subst (λ (l : List Place). KeepWays p.event.start.places l) (sym left.places) so.since.ways;
       };
       unwoken = places_since p.event.start s [] so.unwoken t left.places;
+      still = still_left p.event.start s t left.places left.documents so.still;
       moves = λ nav place at need epoch. left.movers (show_why run cause) nav (so.moves nav place (sym (place_same s t left.places left.history left.aim nav) ∙ at) (need_was s t left.places left.history left.aim place need) epoch);
       leavers = λ nav place at need epoch. leaver_beside s t (show_why run cause) nav left.others (ap (λ (l : List Place). option_map_or way_of (place_in l nav) (nav ∷ [])) left.places) (so.leavers nav place (sym (place_same s t left.places left.history left.aim nav) ∙ at) (need_was s t left.places left.history left.aim place need) epoch);
       were = record {
@@ -103,6 +121,13 @@ module _ (p : InPass) (run : Option ReqId) (cause : Why) (was out : List RowKind
   since_then since nav place doc outside at wakes =
       let before = turn.awake_ nav place doc refl at wakes in since nav before.place doc refl before.placed before.wakes
 
+  still_then : StillAwake p.event.start s → StillAwake p.event.start t
+  still_then still nav place doc at wakes = by_case (still nav place doc at wakes)
+    where
+      by_case : WasAwake s nav doc ⊎ (holds (λ (d : Document). d.is_discarded) (document_of s doc) ≡ true) → WasAwake t nav doc ⊎ (holds (λ (d : Document). d.is_discarded) (document_of t doc) ≡ true)
+      by_case (inl was) = still_swept run p.loads p.hand s t tab then_ turn swept nav was.place doc was.placed was.wakes
+      by_case (inr gone) = inr (gone_swept run p.loads p.hand s t tab then_ turn swept doc gone)
+
   leavers_then : LeavesVisited s (show_why run cause) → LeavesVisited t (show_why run cause)
   leavers_then leavers nav place at need epoch =
       let was = need_before run p.loads p.hand s t tab then_ turn swept nav place at need in
@@ -114,6 +139,7 @@ module _ (p : InPass) (run : Option ReqId) (cause : Why) (was out : List RowKind
         may = turn.causes cause so.may;
         since = record { distinct = so.since.distinct; homed = so.since.homed; ways = ways_over p.event was out only p.event.start.places so.since.ways };
         unwoken = since_then so.unwoken;
+        still = still_then so.still;
         moves = moves_on run p.loads p.hand s t tab then_ turn swept (show_why run cause) so.moves;
         leavers = leavers_then so.leavers;
         were = were_over p.event was out only so.were;

@@ -1,4 +1,5 @@
 -- One part of a pass after the other: what it leaves, and what goes on.
+use Rattle.log_model.specs.Equal.{holds}
 use Rattle.tab_facts.proofs.Calm.Loads.{loads_same}
 use Rattle.tab_facts.specs.Calm.Loads.{LoadsHaveDocuments}
 use Rattle.tab_facts.specs.Frame.Lasting.{Wish, wish}
@@ -15,12 +16,12 @@ use Rattle.log_model.specs.Checks.{may_go_on}
 use Rattle.log_model.specs.History.{History, has_row}
 use Rattle.log_model.specs.Orders.{is_usable, ongoing_load}
 use Rattle.log_model.specs.Places.{aim_of, all_stand, all_stand_in, is_ongoing_load}
-use Rattle.log_model.specs.Seen.{Asked, Document, Place, Seen, awake, document_of, place_of, request_in, request_of}
+use Rattle.log_model.specs.Seen.{Asked, Document, Place, Seen, awake, document_of, place_of, request_in, request_of, place_in}
 use Rattle.log_model.specs.declared.job.Why.{Why}
 use Rattle.log_model.specs.declared.row_kind.RowKind.{RowKind}
 use Rattle.seen_facts.proofs.Mover.Stays.{KeepWays}
 use Rattle.seen_laws.specs.InEvent.{InEvent, now_of}
-use Rattle.std.proofs.Common.{List, None, Option, Some, [], ap, false, map, refl, subst, sym, true, ℕ, ◌∙◌, ◌≡◌}
+use Rattle.std.proofs.Common.{List, None, Option, Some, [], ap, false, inl, inr, map, refl, subst, sym, true, ℕ, ◌∙◌, ◌≡◌, ◌⊎◌}
 use Rattle.std.specs.List.{list_any}
 use Rattle.std.specs.Prelude.{is_some, option_map}
 use Rattle.tab_drops.specs.Dropping.{LeavesAll}
@@ -30,19 +31,19 @@ use Rattle.tab_ids.specs.declared.ReqId.{ReqId}
 use Rattle.tab_ids.specs.declared.StateId.{StateId}
 use Rattle.tab_one_pass.proofs.Calms.{drops_calm, swept_loads, told_calm, told_loads}
 use Rattle.tab_one_pass.proofs.Opens.{place_same, serve_on, takers_on}
-use Rattle.tab_one_pass.proofs.Sents.{IsAnyTask, WasStray, joined_same, looks_same, strays_over, usable_before, were_same}
+use Rattle.tab_one_pass.proofs.Sents.{IsAnyTask, WasStray, joined_same, looks_same, strays_over, usable_before, were_same, discarded_over}
 use Rattle.tab_one_pass.specs.Passing.{AreLeftStrays, HasPassed, IsLeftStray, IsOpen, LeavesPass}
 pub use Rattle.tab_serves.proofs.PassedOn.{goes_on}
 use Rattle.tab_serves.proofs.Calms.{only_as}
 use Rattle.tab_serves.proofs.Ups.{up_places, up_then}
-use Rattle.tab_serves.specs.Serving.{HasOnly, HasOnlyServed, HasWalked, IsOfWalk, KeepsUp, LeavesLog, MayCause, MayWalk}
+use Rattle.tab_serves.specs.Serving.{HasOnly, HasOnlyServed, HasWalked, IsOfWalk, KeepsUp, LeavesLog, MayCause, MayWalk, StillAwake}
 use Rattle.tab_serves.specs.PassedOn.{HasOnlyTold, IsToldMore, IsUpdateFor}
 use Rattle.tab_serves.proofs.Orders.{IsOrderOf, taken_over, walk_orders, walk_quiet, tells_quiet}
 pub use Rattle.tab_drops.proofs.Turns.{reached_same}
 use Rattle.tab_serves.proofs.Reached.{loads_stand_still}
 use Rattle.tab_sweeps.specs.Sweeping.{AreBlamed, IsSweptTurn}
 use Rattle.row_facts.proofs.WalkRows.Sinces.{places_since}
-use Rattle.row_facts.specs.WalkRows.Since.{AwakeSince}
+use Rattle.row_facts.specs.WalkRows.Since.{AwakeSince, WasAwake}
 use Rattle.log_model.specs.declared.row_kind.RowKind.TheVariants as rows
 
 -- ---- what is left
@@ -191,6 +192,7 @@ may_walk e run keep cause s so with_rows stand header =
       may = so.may;
       since = so.since;
       unwoken = so.unwoken;
+      still = so.still;
       moves = so.moves;
       leavers = so.leavers;
       rows_ = with_rows;
@@ -232,6 +234,13 @@ module _ (e : InEvent) (run : Option ReqId) (why : Why) (was out : List RowKind)
   told_since : AwakeSince e.start [] s → AwakeSince e.start [] t
   told_since since = places_since e.start s [] since t more.places
 
+  told_still : StillAwake e.start s → StillAwake e.start t
+  told_still still nav place doc at wakes = by_case (still nav place doc at wakes)
+    where
+      by_case : WasAwake s nav doc ⊎ (holds (λ (d : Document). d.is_discarded) (document_of s doc) ≡ true) → WasAwake t nav doc ⊎ (holds (λ (d : Document). d.is_discarded) (document_of t doc) ≡ true)
+      by_case (inl was) = inl (record { place = was.place; placed = ap (λ (l : List Place). place_in l nav) more.places ∙ was.placed; wakes = was.wakes })
+      by_case (inr gone) = inr (discarded_over e was out orders doc gone)
+
   told_stood : all_stand t (aim_of t) ≡ all_stand s (aim_of s)
   told_stood =
       ap (λ (h : History). all_stand_in h.rows t.places (aim_of t)) more.history
@@ -249,6 +258,7 @@ module _ (e : InEvent) (run : Option ReqId) (why : Why) (was out : List RowKind)
       record {
         since = record { distinct = so.since.distinct; homed = so.since.homed; ways = subst (λ (l : List Place). KeepWays e.start.places l) (sym more.places) so.since.ways };
         unwoken = λ all. told_since (so.unwoken (sym told_stood ∙ all));
+        still = λ all. told_still (so.still (sym told_stood ∙ all));
         were = were_same e was out orders so.were;
         parents = λ nav above place up placed has there. so.parents nav above place up (sym (place_then nav) ∙ placed) has (sym (place_then above) ∙ there);
         loads = loads_stand_still s t (ap (map look) more.requests) reached_then so.loads;

@@ -1,4 +1,7 @@
 -- No order makes a document stray, and what is read of the requests is as before.
+use Rattle.std.proofs.lemmas.List.Folds.{find-append}
+use Rattle.std.specs.Option.{option_or}
+use Rattle.log_model.specs.Equal.{holds}
 use Rattle.seen_laws.specs.Unasked.{is_question}
 use Rattle.tab_facts.proofs.Calm.Sents.{usable_was}
 use Rattle.tab_facts.specs.Calm.Calm.{HasUsable}
@@ -7,7 +10,7 @@ use Rattle.seen_facts.specs.Load.Loading.{look, look_of}
 use Rattle.seen_facts.specs.Home.Homes.{document_in}
 use Rattle.log_model.specs.After.{after}
 use Rattle.log_model.specs.AfterDocuments.{addressed, documents_sent, new_document, on_document}
-use Rattle.log_model.specs.Seen.{Document, Seen}
+use Rattle.log_model.specs.Seen.{Document, Seen, document_of}
 use Rattle.log_model.specs.declared.job.Job.{Job}
 use Rattle.log_model.specs.declared.job.Task.{Task}
 use Rattle.log_model.specs.declared.row_kind.RowKind.{RowKind}
@@ -16,7 +19,7 @@ use Rattle.row_facts.proofs.RestRows.Again.{doc_same}
 use Rattle.seen_laws.proofs.Keyed.{find_on_other, find_on_same}
 use Rattle.seen_laws.specs.InEvent.{InEvent, now_of, row_of}
 use Rattle.std.proofs.Common.{Bool, List, None, Option, Some, [], ap, cond, false, inl, inr, refl, sym, true, ◌++◌, ◌==◌, ◌∙◌, ◌∷◌, ◌≡◌, ◌⊎◌}
-use Rattle.std.specs.Prelude.{option_map}
+use Rattle.std.specs.Prelude.{option_map, find}
 use Rattle.tab_ids.specs.declared.DocId.{DocId}
 use Rattle.row_facts.proofs.Left.Rows.{were_shown}
 use Rattle.row_facts.specs.Left.Left.{WereShown}
@@ -175,3 +178,45 @@ module _ (e : InEvent) (was out : List RowKind) (only : HasOnly (IsOrderOf IsAny
 pub usable_before : (e : InEvent) (was out : List RowKind) → HasOnly (IsOrderOf IsAnyTask) was out → (state : StateId) → HasUsable (now_of e out) state → HasUsable (now_of e was) state
 usable_before e was out only state =
     over_orders IsAnyTask (λ task is. is) (λ (x : Seen). HasUsable x state → HasUsable (now_of e was) state) (λ x event job any before some. before (usable_was x event.event event.actor job state some)) e was out only (λ some. some)
+
+-- ---- discarded documents
+
+abbrev discarded_in : List Document → DocId → Bool
+discarded_in docs doc = holds (λ (d : Document). d.is_discarded) (find (λ (d : Document). d.nr.0 == doc.0) docs)
+
+on_discarded : (docs : List Document) (at : DocId) (f : Document → Document) → ((d : Document) → (f d).nr.0 ≡ d.nr.0) → ((d : Document) → d.is_discarded ≡ true → (f d).is_discarded ≡ true) → (doc : DocId) → discarded_in docs doc ≡ true → discarded_in (on_document at f docs) doc ≡ true
+on_discarded docs at f nr keeps doc is = by_test (at.0 == doc.0) refl
+  where
+    by_old : (o : Option Document) → holds (λ (d : Document). d.is_discarded) o ≡ true → holds (λ (d : Document). d.is_discarded) (option_map f o) ≡ true
+    by_old (Some d) h = keeps d h
+    by_old None h = absurd cc
+
+    by_test : (b : Bool) → (at.0 == doc.0) ≡ b → discarded_in (on_document at f docs) doc ≡ true
+    by_test true same =
+        let one : at ≡ doc = doc_same at doc same in
+        ap (λ (x : DocId). discarded_in (on_document at f docs) x) (sym one)
+        ∙ ap (λ (o : Option Document). holds (λ (d : Document). d.is_discarded) o) (find_on_same (λ (d : Document). d.nr.0) f at.0 docs nr)
+        ∙ by_old (find (λ (d : Document). d.nr.0 == at.0) docs) (ap (λ (x : DocId). discarded_in docs x) one ∙ is)
+    by_test false apart =
+        ap (λ (o : Option Document). holds (λ (d : Document). d.is_discarded) o) (find_on_other (λ (d : Document). d.nr.0) f at.0 doc.0 docs nr apart) ∙ is
+
+discarded_sent : (s : Seen) (job : Job) (task : Task) (doc : DocId) → discarded_in s.documents doc ≡ true → discarded_in (documents_sent s job task) doc ≡ true
+discarded_sent s job (tasks.Populate nav state address initial) doc is =
+    ap (λ (o : Option Document). holds (λ (d : Document). d.is_discarded) o) (find-append (λ (d : Document). d.nr.0 == doc.0) s.documents (new_document s job nav state ∷ []))
+    ∙ by_old (find (λ (d : Document). d.nr.0 == doc.0) s.documents) is
+  where
+    by_old : (o : Option Document) → holds (λ (d : Document). d.is_discarded) o ≡ true → holds (λ (d : Document). d.is_discarded) (option_or o (find (λ (d : Document). d.nr.0 == doc.0) (new_document s job nav state ∷ []))) ≡ true
+    by_old (Some d) h = h
+    by_old None h = absurd cc
+discarded_sent s job tasks.Discard doc is = on_discarded s.documents job.doc (λ (d : Document). record d { is_discarded = true }) (λ d. refl) (λ d h. refl) doc is
+discarded_sent s job (tasks.Activate entry epoch length index memo address) doc is =
+    on_discarded s.documents job.doc (addressed (tasks.Activate entry epoch length index memo address)) (λ d. refl) (λ d h. h) doc is
+discarded_sent s job (tasks.Update length index) doc is = on_discarded s.documents job.doc (addressed (tasks.Update length index)) (λ d. refl) (λ d h. h) doc is
+discarded_sent s job tasks.Freeze doc is = on_discarded s.documents job.doc (addressed tasks.Freeze) (λ d. refl) (λ d h. h) doc is
+discarded_sent s job (tasks.Ask slot cause) doc is = on_discarded s.documents job.doc (addressed (tasks.Ask slot cause)) (λ d. refl) (λ d h. h) doc is
+discarded_sent s job (tasks.DoFragment req mode address) doc is = on_discarded s.documents job.doc (addressed (tasks.DoFragment req mode address)) (λ d. refl) (λ d h. h) doc is
+
+-- what was discarded is so still
+pub discarded_over : (e : InEvent) (was out : List RowKind) → HasOnly (IsOrderOf IsAnyTask) was out → (doc : DocId) → holds (λ (d : Document). d.is_discarded) (document_of (now_of e was) doc) ≡ true → holds (λ (d : Document). d.is_discarded) (document_of (now_of e out) doc) ≡ true
+discarded_over e was out only doc =
+    over_orders IsAnyTask (λ task is. is) (λ (x : Seen). holds (λ (d : Document). d.is_discarded) (document_of x doc) ≡ true) (λ x event job is so. discarded_sent x job job.task doc so) e was out only

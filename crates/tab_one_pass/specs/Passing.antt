@@ -24,7 +24,7 @@ use Rattle.tab_ids.specs.declared.ReqId.{ReqId}
 use Rattle.tab_ids.specs.declared.StateId.{StateId}
 use Rattle.tab_serves.specs.Serving.{HasOnlyServed, HasWalked, IsSince, KeepsUp}
 pub use Rattle.tab_serves.specs.PassedOn.{MayServe}
-pub use Rattle.tab_serves.specs.Serving.{LeavesVisited, MayCause, ParentsShown, show_why}
+pub use Rattle.tab_serves.specs.Serving.{LeavesVisited, StillAwake, MayCause, ParentsShown, show_why}
 use Rattle.tab_serves.specs.PassedOn.{HasOnlyTold}
 pub use Rattle.tab_sweeps.specs.Sweeping.{HasOnlySwept, IsStray}
 use Rattle.row_facts.specs.WalkRows.Since.{AwakeSince, MovesVisited, WasAwake}
@@ -42,11 +42,12 @@ abbrev pub MayStand : Option ReqId → Seen → Type 0
 MayStand None s = StandOrBare s
 MayStand (Some req) s = StandOrMove s
 
--- what goes on until the walk: orders may be for the cause; who is awake was so as the event began; who is visited in need was moved by the reason, and leaves what it shows for it, unless it was never shown a document; no ongoing load was held back as the event began
+-- what goes on until the walk: orders may be for the cause; who is awake was so as the event began, and who was awake then is so, but for discarded documents; who is visited in need was moved by the reason, and leaves what it shows for it, unless it was never shown a document; no ongoing load was held back as the event began
 pub record IsOpen (e : InEvent) (run : Option ReqId) (cause : Why) (s : Seen) : Type 0 where
   pub may : MayCause s cause
   pub since : IsSince e.start s
   pub unwoken : AwakeSince e.start [] s
+  pub still : StillAwake e.start s
   pub moves : MovesVisited s (show_why run cause)
   pub leavers : LeavesVisited s (show_why run cause)
   pub were : WereShown s

@@ -22,7 +22,7 @@ use Rattle.nav_tree.specs.declared.place.Place as live_place
 use Rattle.row_facts.specs.RestRows.Left.{left_below}
 use Rattle.row_facts.specs.RestRows.Moving.{RestBut}
 use Rattle.seen_laws.specs.InEvent.{InEvent, log_of, now_of}
-use Rattle.std.specs.Prelude.{ℕ, List, None, Option, Some, false, map, option_map, true, ◌++◌, ◌==◌, ◌||◌, ◌≡◌, [], fold, ◌∷◌, take, drop, length, ◌+◌, ◌<◌}
+use Rattle.std.specs.Prelude.{ℕ, List, None, Option, Some, false, map, option_map, true, ◌++◌, ◌==◌, ◌||◌, ◌≡◌, ◌⊎◌, [], fold, ◌∷◌, take, drop, length, ◌+◌, ◌<◌}
 use Rattle.tab_doors.specs.Keeping.{Move}
 use Rattle.tab_doors.specs.Look.{Sight, sight}
 use Rattle.tab_doors.specs.Working.{IsAtWorkFor}
@@ -119,6 +119,19 @@ pub record InFreezing : Type 0 where
 -- each of these documents is left duly for a reason
 abbrev pub AreLeftDulyFor : Seen → List DocId → Why → Type 0
 AreLeftDulyFor s docs why = (doc : DocId) → has_doc docs doc ≡ true → IsLeftDulyFor s doc why
+
+-- nobody was awake on the document as the event began, or it is left duly for a reason
+abbrev pub WasOffOrLeft : InEvent → List RowKind → Why → DocId → Type 0
+WasOffOrLeft e out why doc = (shower_of e.start doc ≡ None) ⊎ IsLeftDulyFor (log_of e out) doc why
+
+-- so it is of each document that is made and there, on which nobody is awake
+abbrev pub OffAreLeft : InEvent → List RowKind → Why → Type 0
+OffAreLeft e out why =
+    (doc : DocId) (d : Document) → document_of (now_of e out) doc ≡ Some d → d.is_ready ≡ true → d.is_discarded ≡ false → shower_of (now_of e out) doc ≡ None → WasOffOrLeft e out why doc
+
+-- the rows keep that, whatever the reason
+abbrev pub KeepsOff : InEvent → List RowKind → List RowKind → Type 0
+KeepsOff e was out = (why : Why) → OffAreLeft e was why → OffAreLeft e out why
 
 -- these documents are still to be frozen or discarded, and among them these, one after the other, on which nobody is awake, each left duly
 pub record IsFreezing (l : InFreezing) (why : Why) (left docs : List DocId) (out : List RowKind) (t : Tables) : Type 0 where

@@ -41,6 +41,7 @@ module _ (p : InPass) (out : List RowKind) (t : Tables) (passing : IsPassing p o
         may = may;
         since = passed.walked.since;
         unwoken = passed.walked.unwoken rest_stand;
+        still = passed.walked.still rest_stand;
         moves = λ nav place at need epoch. absurd (none_needs nav place at need);
         leavers = λ nav place at need epoch. absurd (none_needs nav place at need);
         were = passed.walked.were;

@@ -4,6 +4,7 @@ pub mod PassedOn
 pub mod Orders
 pub mod Ups
 pub mod Leavers
+pub mod Stills
 pub mod Turns
 pub mod Rounds
 pub mod Calms

@@ -23,6 +23,8 @@ use Rattle.tab_walk.proofs.Ends.{only_one}
 use Rattle.tab_walk.proofs.Overs.{only_as}
 pub use Rattle.tab_walk.proofs.PassedOn.{only_none}
 pub use Rattle.tab_walk.proofs.Puts.{only_then}
+use Rattle.seen_facts.proofs.Hang.Hung.{places_distinct}
+use Rattle.tab_serves.proofs.Stills.{off_first}
 use Rattle.tab_serves.proofs.Ups.{up_places, up_then}
 use Rattle.tab_walk.specs.Cutting.{InPass, show_why}
 use Rattle.tab_serves.specs.Serving.{HasOnlyServed, InWalk, IsOfWalk, IsServeFor, IsServing, IsWalking, LeavesLog, MayWalk, walk_by}
@@ -108,12 +110,13 @@ module _ (p : InPass) (cause : Why) (navs : List NavId) where
       record {
         walking = record {
           passing = passing;
-          walked = record { since = may.since; unwoken = λ all. may.unwoken; were = may.were; parents = may.parents; loads = may.loads };
+          walked = record { since = may.since; unwoken = λ all. may.unwoken; still = λ all. may.still; were = may.were; parents = may.parents; loads = may.loads };
           may = may.may;
           unwoken = may.unwoken;
           moves = later_first (now_of p.event out) (show_why t.running cause) navs may.moves;
           leavers = λ nav place later. may.leavers nav place;
           rows_ = may.rows_;
+          off = off_first p.event out (show_why t.running cause) may.since.distinct (places_distinct (now_of p.event out) passing.going.tab.sound passing.going.tab.hangs) passing.going.tab.homes.homed may.still;
           header = may.header;
           order = walk_here p out t passing navs is;
           served = record { each = λ k nav low at. absurd (omega (arith, low)) };

@@ -11,7 +11,7 @@ use Rattle.seen_facts.proofs.Hang.Members.{find_has, has_any}
 use Rattle.seen_facts.proofs.Hang.Targets.{target_has}
 use Rattle.log_model.proofs.Refl.{nat_eq_refl}
 use Rattle.log_model.specs.History.{History, has_nav, has_row, is_of}
-use Rattle.log_model.specs.Places.{aim_of, is_below, is_shown}
+use Rattle.log_model.specs.Places.{all_stand, aim_of, is_below, is_shown}
 use Rattle.log_model.specs.Seen.{Place, Seen, place_of}
 use Rattle.log_model.specs.declared.header.Header.{Header}
 use Rattle.log_model.specs.declared.job.Why.{Why}
@@ -38,7 +38,7 @@ use Rattle.tab_walk.specs.Cutting.{show_why}
 use Rattle.tab_walk.specs.Moving.{HasBeenMoved, HasOnly, MayMoveTo}
 use Rattle.row_facts.specs.WalkRows.Later.{IsLater}
 use Rattle.tab_passes.proofs.PassedOn.{leaver_below}
-use Rattle.tab_passes.specs.Leaving.{IsLeaver}
+use Rattle.tab_passes.specs.Leaving.{IsLeaver, OffAreLeft}
 use Rattle.tab_serves.proofs.Leavers.{leaver_still, leavers_kept}
 use Rattle.tab_serves.proofs.Below.{kept_loads, left_loads}
 use Rattle.tab_serves.proofs.Calms.{made_calm, made_loads, made_place, moved_calm, moved_first, moved_loads}
@@ -131,6 +131,7 @@ module _ (w : InWalk) (n : ℕ) (out : List RowKind) (t : Tables) (walking : IsW
         moves = later_more s (show_why t.running w.cause) w.navs n walking.moves;
         leavers = λ other place later placed visited shown. walking.leavers other place (λ k low there. later k (omega (arith, low)) there) placed visited shown;
         rows_ = walking.rows_;
+        off = walking.off;
         header = walking.header;
         order = walking.order;
         served = one_more s s passing.going.tab.sound passing.going.tab.hangs w.navs n nav here walking.order (leaves_none s nav) (idle_served none) walking.served;
@@ -312,6 +313,10 @@ module _ (w : InWalk) (n : ℕ) (out : List RowKind) (t : Tables) (walking : IsW
               ∙ ap (λ (m : NavId). has_row m s.history.rows) (own ∙ sym (found_nav s.places other was.place was.placed))
               ∙ are other was.place doc was.placed was.wakes
 
+      -- where something was put out, not all stand
+      never_all : all_stand x (aim_of x) ≡ true → ⊥
+      never_all all = let never : true ≡ false = sym (stood_over e out new orders all_passed all) ∙ need_not_all_stand s nav needing.place needing.placed visited in cc
+
       walked_then : HasWalked e x
       walked_then =
           record {
@@ -320,14 +325,15 @@ module _ (w : InWalk) (n : ℕ) (out : List RowKind) (t : Tables) (walking : IsW
               homed = walking.walked.since.homed;
               ways = ways_over e out new orders e.start.places walking.walked.since.ways;
             };
-            unwoken = λ all. absurd (let never : true ≡ false = sym (stood_over e out new orders all_passed all) ∙ need_not_all_stand s nav needing.place needing.placed visited in cc);
+            unwoken = λ all. absurd (never_all all);
+            still = λ all. absurd (never_all all);
             were = were_over e out new orders walking.walked.were;
             parents = parents_over e out new orders walking.walked.parents;
             loads = loads_stand_still s x (looks_over e out new orders) (reached_still s x nav needing.place passing.going.tab.sound passing.going.tab.hangs turn.others needing.placed visited) walking.walked.loads;
           }
 
-      pub turn_walking : IsWalking w (n + 1) new u
-      turn_walking =
+      pub turn_walking : OffAreLeft e new why → IsWalking w (n + 1) new u
+      turn_walking off =
           record {
             passing = then_;
             walked = walked_then;
@@ -336,6 +342,7 @@ module _ (w : InWalk) (n : ℕ) (out : List RowKind) (t : Tables) (walking : IsW
             moves = subst (λ (r : Option ReqId). MovesLater x (show_why r w.cause) w.navs (n + 1)) (sym kept.running) (later_kept s x why w.navs n nav passing.going.tab.sound passing.going.tab.hangs here turn.others (moved_over e out new orders why) moved_below walking.moves);
             leavers = subst (λ (r : Option ReqId). LeavesLater x (show_why r w.cause) w.navs (n + 1)) (sym kept.running) (leavers_kept s x why w.navs n nav passing.going.tab.sound passing.going.tab.hangs here turn.others leaver_then leaves_below walking.leavers);
             rows_ = rows_then walking.rows_;
+            off = subst (λ (r : Option ReqId). OffAreLeft e new (show_why r w.cause)) (sym kept.running) off;
             header = kept.keep ∙ walking.header;
             order = walk_stays s x w.navs nav turn.others walking.order;
             served = one_more s x passing.going.tab.sound passing.going.tab.hangs w.navs n nav here walking.order turn.others turn.own walking.served;

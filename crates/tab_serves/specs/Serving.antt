@@ -8,7 +8,8 @@ use Rattle.seen_facts.specs.LoadEnds.Standing.{LoadsStand}
 use Rattle.seen_facts.specs.Load.Loading.{look}
 use Rattle.log_model.specs.History.{has_nav}
 use Rattle.log_model.specs.Places.{aim_of, all_stand, is_shown}
-use Rattle.log_model.specs.Seen.{Place, Seen, awake, place_of}
+use Rattle.log_model.specs.Equal.{holds}
+use Rattle.log_model.specs.Seen.{Document, Place, Seen, awake, document_of, place_of}
 use Rattle.log_model.specs.declared.job.Job.{Job}
 use Rattle.log_model.specs.declared.job.Task.{Task}
 use Rattle.log_model.specs.declared.job.Why.{Why}
@@ -25,8 +26,8 @@ pub use Rattle.tab_walk.specs.Cutting.{InPass, MayCause, show_why}
 pub use Rattle.tab_walk.specs.Moving.{HasOnly}
 use Rattle.seen_facts.specs.Walk.Walking.{AreServedUpTo, IsWalk}
 use Rattle.row_facts.specs.WalkRows.Later.{IsLater, MovesLater}
-use Rattle.row_facts.specs.WalkRows.Since.{AwakeSince, IsVisitedInNeed, MovesVisited}
-use Rattle.tab_passes.specs.Leaving.{IsLeaver}
+use Rattle.row_facts.specs.WalkRows.Since.{AwakeSince, IsVisitedInNeed, MovesVisited, WasAwake}
+use Rattle.tab_passes.specs.Leaving.{IsLeaver, OffAreLeft}
 use Rattle.log_model.specs.declared.job.Task.TheVariants as tasks
 use Rattle.log_model.specs.declared.row_kind.RowKind.TheVariants as rows
 
@@ -45,13 +46,19 @@ abbrev pub LeavesLater : Seen → Why → List NavId → ℕ → Type 0
 LeavesLater s why walk n =
     (nav : NavId) (place : Place) → IsLater walk n nav → place_of s nav ≡ Some place → IsVisitedInNeed s place → 1 ≤ place.epoch.0 → IsLeaver s why nav
 
+-- who was awake on a document is so still, or that document is discarded
+abbrev pub StillAwake : Seen → Seen → Type 0
+StillAwake start s =
+    (nav : NavId) (place : Place) (doc : DocId) → place_of start nav ≡ Some place → place.status ≡ awake doc → WasAwake s nav doc ⊎ (holds (λ (d : Document). d.is_discarded) (document_of s doc) ≡ true)
+
 -- ---- what the walk asks for
 
--- orders may be for the cause; who is awake was so as the event began; who is visited in need was moved by the reason, and leaves what it shows for it, unless it was never shown a document; who is awake has an entry; ongoing loads stand
+-- orders may be for the cause; who is awake was so as the event began, and who was awake then is so, but for discarded documents; who is visited in need was moved by the reason, and leaves what it shows for it, unless it was never shown a document; who is awake has an entry; ongoing loads stand
 pub record MayWalk (e : InEvent) (run : Option ReqId) (keep : ℕ) (cause : Why) (s : Seen) : Type 0 where
   pub may : MayCause s cause
   pub since : IsSince e.start s
   pub unwoken : AwakeSince e.start [] s
+  pub still : StillAwake e.start s
   pub moves : MovesVisited s (show_why run cause)
   pub leavers : LeavesVisited s (show_why run cause)
   pub rows_ : AreAwakeWithRows s
@@ -112,6 +119,7 @@ pub record LeavesLog (s t : Seen) : Type 0 where
 pub record HasWalked (e : InEvent) (s : Seen) : Type 0 where
   pub since : IsSince e.start s
   pub unwoken : all_stand s (aim_of s) ≡ true → AwakeSince e.start [] s
+  pub still : all_stand s (aim_of s) ≡ true → StillAwake e.start s
   pub were : WereShown s
   pub parents : ParentsShown s
   pub loads : LoadsStand s
@@ -136,8 +144,9 @@ pub record IsWalking (w : InWalk) (n : ℕ) (out : List RowKind) (t : Tables) : 
   pub unwoken : AwakeSince w.pass.event.start (take n w.navs) (now_of w.pass.event out)
   pub moves : MovesLater (now_of w.pass.event out) (show_why t.running w.cause) w.navs n
   pub leavers : LeavesLater (now_of w.pass.event out) (show_why t.running w.cause) w.navs n
-  -- who is awake has an entry
+  -- who is awake has an entry; and who isn't shown wasn't as the event began, or is left duly
   pub rows_ : AreAwakeWithRows (now_of w.pass.event out)
+  pub off : OffAreLeft w.pass.event out (show_why t.running w.cause)
   pub header : t.kept.keep ≡ w.pass.event.header.keep
   pub order : IsWalk (now_of w.pass.event out) w.navs
   pub served : AreServedUpTo (now_of w.pass.event out) w.navs n

@@ -266,6 +266,7 @@ module _ (e : InEvent) (run : Option ReqId) (keep : ℕ) (goal : Step) (blame : 
           may = may;
           since = record { distinct = places_distinct s between.tab.sound between.tab.hangs; homed = between.tab.homes.homed; ways = ways_then };
           unwoken = awake_then;
+          still = λ nav place doc at wakes. inl (record { place = comes.g place; placed = still nav place at; wakes = status_same place ∙ wakes });
           moves = moves_then run refl calm_then cause;
           leavers = run_leavers n run tab.asked needs_new cause;
           were = comes.were;

@@ -161,6 +161,15 @@ module _ (p : InPass) {left : List DocId} (out : List RowKind) (t : Tables) (lea
           subst (λ (n : DocId). option_map (λ (d : Document). d.state) (document_of then_ n) ≡ option_map (λ (d : Document). d.state) (document_of s n)) (doc_same doc x same)
           (ap (option_map (λ (d : Document). d.state)) discarded ∙ sym (ap (option_map (λ (d : Document). d.state)) stray.found))
 
+  ready_then : (x : DocId) → option_map (λ (d : Document). d.is_ready) (document_of then_ x) ≡ option_map (λ (d : Document). d.is_ready) (document_of s x)
+  ready_then x = by_test (doc.0 == x.0) refl
+    where
+      by_test : (b : Bool) → (doc.0 == x.0) ≡ b → option_map (λ (d : Document). d.is_ready) (document_of then_ x) ≡ option_map (λ (d : Document). d.is_ready) (document_of s x)
+      by_test false apart = ap (option_map (λ (d : Document). d.is_ready)) (other_then x apart)
+      by_test true same =
+          subst (λ (n : DocId). option_map (λ (d : Document). d.is_ready) (document_of then_ n) ≡ option_map (λ (d : Document). d.is_ready) (document_of s n)) (doc_same doc x same)
+          (ap (option_map (λ (d : Document). d.is_ready)) discarded ∙ sym (ap (option_map (λ (d : Document). d.is_ready)) stray.found))
+
   -- who isn't on a stray one, or below one, stays as it is
   stays_then : (nav : NavId) → (IsOnStray s nav → ⊥) → place_of then_ nav ≡ place_of s nav
   stays_then nav none = then_place nav ∙ by_old (place_of s nav) refl
@@ -229,6 +238,7 @@ module _ (p : InPass) {left : List DocId} (out : List RowKind) (t : Tables) (lea
           ways = sleep_ways (sleepers_with s doc) why s.places;
           places = places_then;
           states = states_then;
+          ready = ready_then;
           stays = stays_then;
           others = λ x none. other_then x (apart_of x none);
           kept = λ x none. without_has doc x s.kept (apart_of x none);

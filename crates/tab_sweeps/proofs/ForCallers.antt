@@ -1,4 +1,5 @@
 -- For callers of the sweep: nobody that was on a stray document, or below one, is awake then; and who is visited in need then was so before, so that it is moved by whom it was to be moved.
+use Rattle.tab_sweeps.proofs.Unders.{on_stray}
 use Rattle.seen_facts.proofs.Hang.Forms.{nav_is}
 use Rattle.seen_facts.proofs.Hang.Hung.{place_chain}
 use Rattle.seen_facts.proofs.Hang.Members.{has_any}
@@ -10,7 +11,7 @@ use Rattle.log_model.proofs.Refl.{nat_eq_refl}
 use Rattle.log_model.specs.Equal.{holds}
 use Rattle.log_model.specs.History.{History, has_nav, has_state, same_entry, target_entry}
 use Rattle.log_model.specs.Places.{aim_of, is_asleep, is_awake, is_below, is_given_target, is_shown}
-use Rattle.log_model.specs.Seen.{Document, Place, Seen, Status, asleep, awake, lost, place_of}
+use Rattle.log_model.specs.Seen.{Document, Place, Seen, Status, asleep, awake, lost, place_of, document_of}
 use Rattle.log_model.specs.declared.job.Why.{Why}
 use Rattle.log_model.specs.declared.made.Made.{Made}
 use Rattle.log_model.specs.declared.row.Row.{Row}
@@ -25,8 +26,8 @@ use Rattle.tab_ids.specs.declared.NavId.{NavId}
 use Rattle.tab_ids.specs.declared.ReqId.{ReqId}
 use Rattle.tab_ids.specs.declared.StateId.{StateId}
 use Rattle.tab_sweeps.proofs.Courses.{read_same}
-use Rattle.tab_sweeps.proofs.Loads.{unloaded_same}
-use Rattle.tab_sweeps.specs.Sweeping.{IsOnStray, IsStray, IsSweptTurn, NoneStray}
+use Rattle.tab_sweeps.proofs.Loads.{unloaded_same, awake_unloaded}
+use Rattle.tab_sweeps.specs.Sweeping.{IsNoStray, IsOnStray, IsStray, IsSweptTurn, NoneStray}
 use Rattle.tab_passes.specs.PassedOn.{IsTab}
 use Rattle.seen_facts.proofs.Walk.Placed.{found_nav}
 use Rattle.seen_facts.specs.Walk.Serving.{is_in_place, is_needing, is_stopping}
@@ -259,3 +260,68 @@ module _ (run : Option ReqId) (loads : List ReqId) (hand : List Made) (s t : See
   moves_on why moves nav place at need epoch =
       let was : WasInNeed nav place = need_before nav place at need in
       turn.moved why nav (moves nav was.old was.there was.need (subst (λ (n : ℕ). 1 ≤ n) was.epoch epoch))
+
+  -- what was stray is discarded
+  stray_gone : (doc : DocId) (state : StateId) → IsStray s doc state → holds (λ (d : Document). d.is_discarded) (document_of t doc) ≡ true
+  stray_gone doc state stray = by_found (document_of t doc) refl
+    where
+      by_flag : (x : Document) → document_of t doc ≡ Some x → (b : Bool) → x.is_discarded ≡ b → holds (λ (d : Document). d.is_discarded) (document_of t doc) ≡ true
+      by_flag x at true is = ap (λ (o : Option Document). holds (λ (d : Document). d.is_discarded) o) at ∙ is
+      by_flag x at false is =
+          let states : Some x.state ≡ Some stray.document.state = sym (ap (option_map (λ (d : Document). d.state)) at) ∙ turn.states doc ∙ ap (option_map (λ (d : Document). d.state)) stray.found in
+          let readies : Some x.is_ready ≡ Some stray.document.is_ready = sym (ap (option_map (λ (d : Document). d.is_ready)) at) ∙ turn.ready doc ∙ ap (option_map (λ (d : Document). d.is_ready)) stray.found in
+          let state_is : x.state ≡ stray.document.state = cc in
+          let ready_is : x.is_ready ≡ stray.document.is_ready = cc in
+          absurd (swept doc state (record {
+            document = x;
+            found = at;
+            its_state = state_is ∙ stray.its_state;
+            ready = ready_is ∙ stray.ready;
+            undiscarded = is;
+            bare = ap (λ (h : History). has_state state h.rows) turn.history ∙ stray.bare;
+            unloaded = unloaded_same t s (λ r. sym (turn.looks r)) state stray.unloaded;
+          }))
+
+      by_found : (o : Option Document) → document_of t doc ≡ o → holds (λ (d : Document). d.is_discarded) (document_of t doc) ≡ true
+      by_found (Some x) at = by_flag x at x.is_discarded refl
+      by_found None at =
+          let never : None ≡ Some stray.document.state = sym (ap (option_map (λ (d : Document). d.state)) at) ∙ turn.states doc ∙ ap (option_map (λ (d : Document). d.state)) stray.found in
+          absurd cc
+
+  -- who was awake on a document is so still, or that one is discarded
+  pub still_swept : (nav : NavId) (place : Place) (x : DocId) → place_of s nav ≡ Some place → place.status ≡ awake x → WasAwake t nav x ⊎ (holds (λ (d : Document). d.is_discarded) (document_of t x) ≡ true)
+  still_swept nav place x at wakes = by_stray (has_state home.document.state s.history.rows) refl
+    where
+      home : IsAtHome s.documents place.nav x
+      home = (tab.homes.homed nav place x at wakes).home
+
+      by_stray : (b : Bool) → has_state home.document.state s.history.rows ≡ b → WasAwake t nav x ⊎ (holds (λ (d : Document). d.is_discarded) (document_of t x) ≡ true)
+      by_stray false bare =
+          inr (stray_gone x home.document.state (record {
+            document = home.document;
+            found = home.found;
+            its_state = refl;
+            ready = home.ready;
+            undiscarded = home.undiscarded;
+            bare = bare;
+            unloaded = awake_unloaded s tab.loading tab.shown.ever nav place x home.document at wakes home.found;
+          }))
+      by_stray true has =
+          inl (record { place = place; placed = turn.stays nav off ∙ at; wakes = wakes })
+        where
+          off : IsOnStray s nav → ⊥
+          off on =
+              let it = on_stray run loads hand s tab nav place x at wakes on in
+              let both : Some it.stray.document ≡ Some home.document = sym it.stray.found ∙ home.found in
+              let one : it.stray.document ≡ home.document = cc in
+              let never : true ≡ false = sym has ∙ ap (λ (d : Document). has_state d.state s.history.rows) (sym one) ∙ ap (λ (y : StateId). has_state y s.history.rows) it.stray.its_state ∙ it.stray.bare in
+              cc
+
+  -- what was discarded is so still
+  pub gone_swept : (doc : DocId) → holds (λ (d : Document). d.is_discarded) (document_of s doc) ≡ true → holds (λ (d : Document). d.is_discarded) (document_of t doc) ≡ true
+  gone_swept doc discarded = ap (λ (o : Option Document). holds (λ (d : Document). d.is_discarded) o) (turn.others doc none) ∙ discarded
+    where
+      none : IsNoStray s doc
+      none state stray =
+          let never : true ≡ false = sym discarded ∙ ap (λ (o : Option Document). holds (λ (d : Document). d.is_discarded) o) stray.found ∙ stray.undiscarded in
+          cc

@@ -10,7 +10,7 @@ use Rattle.log_model.specs.AfterPlaces.{sleepers_with, woken_below}
 use Rattle.log_model.specs.Equal.{has_doc, holds}
 use Rattle.log_model.specs.History.{has_nav, has_state}
 use Rattle.log_model.specs.Places.{awake_document, is_asleep, is_below, shower_of}
-use Rattle.log_model.specs.Seen.{Place, Seen, Status, asleep, awake, lost, place_of}
+use Rattle.log_model.specs.Seen.{Document, Place, Seen, Status, asleep, awake, lost, place_of, document_of}
 use Rattle.log_model.specs.declared.job.Why.{Why}
 use Rattle.log_model.specs.declared.made.Made.{Made}
 use Rattle.seen_facts.proofs.Mover.Orders.{MovesEach}
@@ -27,7 +27,7 @@ use Rattle.tab_ids.specs.declared.StateId.{StateId}
 use Rattle.tab_sweeps.proofs.Bares.{bare_below}
 use Rattle.tab_sweeps.proofs.Lists.{has_of}
 use Rattle.tab_sweeps.proofs.Loads.{awake_unloaded}
-use Rattle.tab_sweeps.specs.Sweeping.{IsStray, MovesUnder}
+use Rattle.tab_sweeps.specs.Sweeping.{IsStray, MovesUnder, IsOnStray}
 use Rattle.tab_sweeps.specs.Turns.{IsAnyStray}
 use Rattle.tab_passes.specs.PassedOn.{IsTab}
 use Rattle.seen_facts.proofs.Walk.Placed.{each_found}
@@ -171,3 +171,40 @@ module _ (run : Option ReqId) (loads : List ReqId) (hand : List Made) (s : Seen)
       untrue : (b : Bool) → not b ≡ true → b ≡ false
       untrue true e = cc
       untrue false e = refl
+
+-- a document on which a navigable is awake that is on a stray one, or below such a one, is stray
+pub on_stray : (run : Option ReqId) (loads : List ReqId) (hand : List Made) (s : Seen) → IsTab run loads hand s → (nav : NavId) (place : Place) (x : DocId) → place_of s nav ≡ Some place → place.status ≡ awake x → IsOnStray s nav → IsAnyStray s x
+on_stray run loads hand s tab nav place x placed wakes on =
+    record {
+      state = home.document.state;
+      stray = record {
+        document = home.document;
+        found = home.found;
+        its_state = refl;
+        ready = home.ready;
+        undiscarded = home.undiscarded;
+        bare = by_under on.under;
+        unloaded = awake_unloaded s tab.loading tab.shown.ever nav place x home.document placed wakes home.found;
+      };
+    }
+  where
+    home : IsAtHome s.documents place.nav x
+    home = (tab.homes.homed nav place x placed wakes).home
+
+    here : on.place ≡ place
+    here = let two : Some on.place ≡ Some place = sym on.placed ∙ placed in cc
+
+    over_bare : has_state on.stray.document.state s.history.rows ≡ false
+    over_bare = ap (λ (y : StateId). has_state y s.history.rows) on.stray.its_state ∙ on.stray.bare
+
+    by_under : ((nav.0 == on.over.0) ≡ true) ⊎ (is_below on.over on.place ≡ true) → has_state home.document.state s.history.rows ≡ false
+    by_under (inl same) =
+        let two : Some place ≡ Some on.own = sym placed ∙ ap (λ (n : NavId). place_of s n) (nav_is nav on.over same) ∙ on.there in
+        let one : place ≡ on.own = cc in
+        let docs : awake x ≡ awake on.doc = sym wakes ∙ ap (λ (p : Place). p.status) one ∙ on.wakes in
+        let doc_is : x ≡ on.doc = cc in
+        let both : Some home.document ≡ Some on.stray.document = sym home.found ∙ ap (λ (d : DocId). document_of s d) doc_is ∙ on.stray.found in
+        let document_is : home.document ≡ on.stray.document = cc in
+        ap (λ (d : Document). has_state d.state s.history.rows) document_is ∙ over_bare
+    by_under (inr below) =
+        bare_below run loads hand s tab on.over on.own on.doc on.stray.document on.there on.wakes on.stray.found over_bare place.above nav place x home.document placed wakes home.found refl (place_chain s tab.sound tab.hangs nav place placed) (ap (λ (p : Place). is_below on.over p) (sym here) ∙ below)

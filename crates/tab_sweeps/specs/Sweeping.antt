@@ -143,7 +143,7 @@ pub record IsOnStray (s : Seen) (nav : NavId) : Type 0 where
 abbrev pub but_status : Place → Place
 but_status place = record place { status = asleep; why = whys.Req (record { 0 = 0 }) }
 
--- some stray documents were discarded: the history, the aim, what the requests are and what is held back is as it was; what orders may be for, and who was moved for whom, is so still; who is awake was so on the same document; each navigable's place is as it was but for whether it is awake, and in that, too, unless it, or one above it, was awake on a stray document; each document is of its state; and each other document is as it was, and kept if it was
+-- some stray documents were discarded: the history, the aim, what the requests are and what is held back is as it was; what orders may be for, and who was moved for whom, is so still; who is awake was so on the same document; each navigable's place is as it was but for whether it is awake, and in that, too, unless it, or one above it, was awake on a stray document; each document is of its state, and made if it was; and each other document is as it was, and kept if it was
 pub record IsSweptTurn (s t : Seen) : Type 0 where
   pub history : t.history ≡ s.history
   pub aim : aim_of t ≡ aim_of s
@@ -156,6 +156,7 @@ pub record IsSweptTurn (s t : Seen) : Type 0 where
   pub places : (nav : NavId) → option_map but_status (place_of t nav) ≡ option_map but_status (place_of s nav)
   pub stays : (nav : NavId) → (IsOnStray s nav → ⊥) → place_of t nav ≡ place_of s nav
   pub states : (doc : DocId) → option_map (λ (d : Document). d.state) (document_of t doc) ≡ option_map (λ (d : Document). d.state) (document_of s doc)
+  pub ready : (doc : DocId) → option_map (λ (d : Document). d.is_ready) (document_of t doc) ≡ option_map (λ (d : Document). d.is_ready) (document_of s doc)
   pub others : (doc : DocId) → IsNoStray s doc → document_of t doc ≡ document_of s doc
   pub kept : (doc : DocId) → IsNoStray s doc → has_doc t.kept doc ≡ has_doc s.kept doc
   pub fewer : (doc : DocId) (state : StateId) → IsStray t doc state → IsStray s doc state

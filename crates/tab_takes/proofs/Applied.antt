@@ -1,4 +1,5 @@
 -- What a document made is applied, by any change: what a pass asks of the requests and the event goes on, and what is left to be shown of the change itself.
+use Rattle.log_model.specs.Equal.{holds}
 use Rattle.seen_laws.proofs.InEvents as events
 use Rattle.seen_laws.specs.Unasked.{unasked}
 use Rattle.leave_facts.proofs.Events.{duly_then}
@@ -31,7 +32,7 @@ use Rattle.log_model.specs.After.{ended}
 use Rattle.log_model.specs.AfterRequests.{entries_taken, on_request}
 use Rattle.log_model.specs.Orders.{is_being_made, is_usable, ongoing_load}
 use Rattle.log_model.specs.Queue.{is_traverse}
-use Rattle.log_model.specs.Seen.{Asked, Document, Seen, request_of}
+use Rattle.log_model.specs.Seen.{Asked, Document, Seen, request_of, document_of}
 use Rattle.log_model.specs.declared.change.Change.TheVariants as changes
 use Rattle.log_model.specs.declared.change.Change.{Change}
 use Rattle.log_model.specs.declared.job.Why.{Why}
@@ -177,6 +178,16 @@ module _ (p : InPass) (out : List RowKind) (t : Tables) (blame : List (StateId �
       let a = applied_awake now_ made.req change nav was.place doc was.placed was.wakes in
       record { place = a.new; placed = a.there; wakes = a.wakes }
 
+  -- what was discarded is so still
+  gone_on : (doc : DocId) → holds (λ (d : Document). d.is_discarded) (document_of now_ doc) ≡ true → holds (λ (d : Document). d.is_discarded) (document_of n doc) ≡ true
+  gone_on doc is =
+      ap (λ (o : Option Document). holds (λ (d : Document). d.is_discarded) o) (document_then now_.documents (takes_in change) (λ d. (change_as change d).nr) doc)
+      ∙ by_old (document_of now_ doc) is
+    where
+      by_old : (o : Option Document) → holds (λ (d : Document). d.is_discarded) o ≡ true → holds (λ (d : Document). d.is_discarded) (option_map (takes_in change) o) ≡ true
+      by_old (Some d) h = (change_as change d).discarded ∙ h
+      by_old None h = absurd cc
+
   live_n : LoadsLive n
   live_n =
       live_then now_ n (look_back now_ n made.req q at.taking.there at.taking.unstarted other starts) awake_on (λ state is one. one_on state one) at.open_.live
@@ -243,7 +254,7 @@ module _ (p : InPass) (out : List RowKind) (t : Tables) (blame : List (StateId �
     taking_n : IsTaking e t.running noted n
     taking_n =
         record {
-          open_ = open_then e t.running now_ n base after.tab_n.asked (applied_places now_ made.req change).ways (applied_since now_ now_ [] (since_itself now_) e.event e.actor made.req change) (were_shown now_ e.event e.actor base.were (rows.Applied made.req change) tt) after.parents loads_back after.takers new_n;
+          open_ = open_then e t.running now_ n base after.tab_n.asked (applied_places now_ made.req change).ways (applied_since now_ now_ [] (since_itself now_) e.event e.actor made.req change) (were_shown now_ e.event e.actor base.were (rows.Applied made.req change) tt) after.parents loads_back after.takers awake_on gone_on new_n;
           loads = after.loads;
           blamed = after.blamed;
           calm = after.calm;

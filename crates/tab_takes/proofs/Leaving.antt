@@ -1,4 +1,5 @@
 -- A row that ends the request of what a document made, and leaves the history: a pass may follow then as before.
+use Rattle.log_model.specs.Equal.{holds}
 use Rattle.tab_facts.specs.Calm.Calm.{AreRooted, CalmUnless, IsCalmYet, IsHere, IsRooted, UnmovedAreHere}
 use Rattle.seen_facts.proofs.Coord.Held.{on_else}
 use Rattle.seen_facts.proofs.Entry.Skips.{without_made}
@@ -166,6 +167,8 @@ module _ (p : InPass) (out : List RowKind) (t : Tables) (blame : List (StateId �
     pub opens : (cause : Why) → MayCause n cause → IsOpen p.event t.running cause n
     opens =
         open_then p.event t.running now_ n base tab_n.asked (subst (λ (l : List Place). KeepWays now_.places l) (sym places) (same_ways now_.places)) (places_since now_ now_ [] (since_itself now_) n places) were parents loads takers
+        (λ nav doc was. record { place = was.place; placed = place_same nav ∙ was.placed; wakes = was.wakes })
+        (λ doc is. ap (λ (l : List Document). holds (λ (d : Document). d.is_discarded) (document_in l doc)) documents ∙ is)
         (λ idle_ nav place found need. new_of p.event now_ (subst (λ (r : Option ReqId). IsOpen p.event r whys.Start now_) idle_ base) nav place (sym (place_same nav) ∙ found) (visited_same n now_ (sym places) (sym history) (sym aim) place need))
 
     -- ---- loads

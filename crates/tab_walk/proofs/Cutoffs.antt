@@ -1,4 +1,5 @@
 -- Where none may be kept, the document that is left may be discarded.
+use Rattle.seen_facts.specs.Home.Homes.{IsHomed}
 use Rattle.seen_facts.proofs.Asked.Passed.{asked_all}
 use Rattle.seen_facts.proofs.Hang.Hung.{places_distinct}
 use Rattle.seen_facts.proofs.Hang.Members.{has_map}
@@ -16,7 +17,7 @@ use Rattle.log_model.proofs.Refl.{nat_eq_refl}
 use Rattle.log_model.specs.AfterPlaces.{sleepers_with}
 use Rattle.log_model.specs.Equal.{has_doc}
 use Rattle.log_model.specs.History.{has_nav}
-use Rattle.log_model.specs.Seen.{Asked, Document, Place, Seen, asleep, awake, desk_of, document_of, place_of}
+use Rattle.log_model.specs.Seen.{Asked, Document, Place, Seen, asleep, awake, desk_of, document_of, place_of, Status, lost}
 use Rattle.log_model.specs.declared.header.Header.{Header}
 use Rattle.log_model.specs.declared.job.Job.{Job}
 use Rattle.log_model.specs.declared.job.Why.{Why}
@@ -31,18 +32,23 @@ use Rattle.seen_facts.proofs.Rest.Still.{found_itself}
 use Rattle.seen_laws.proofs.InEvents.{led_here, now_is}
 use Rattle.seen_laws.proofs.Keyed.{find_has as seen_number}
 use Rattle.seen_laws.specs.InEvent.{InEvent, here_of, now_of, row_of, log_of}
-use Rattle.std.proofs.Common.{Bool, List, Option, Some, [], ap, arith, false, filter_map, inl, map, not, refl, subst, sym, true, ℕ, ◌&&◌, ◌||◌, ◌==◌, ◌∙◌, ◌≡◌}
+use Rattle.std.proofs.Common.{Bool, List, Option, Some, [], ap, arith, false, filter_map, inl, map, not, refl, subst, sym, true, ℕ, ◌&&◌, ◌||◌, ◌==◌, ◌∙◌, ◌≡◌, inr}
 use Rattle.std.proofs.lemmas.Bool.Decides.{nat_tests}
 use Rattle.std.specs.Prelude.{find, option_map}
 use Rattle.tab_doors.proofs.Sights.{sight_of}
 use Rattle.tab_doors.proofs.Whose.{proc_found}
-use Rattle.tab_doors.proofs.Leavable.{IsInLog, IsLeftAs, discards_log, in_log, last_log, left_log, many_log, numbered_log, prompts_log}
+use Rattle.tab_doors.proofs.Leavable.{IsInLog, IsLeftAs, discards_log, in_log, last_log, many_log, numbered_log, prompts_log}
 use Rattle.tab_doors.proofs.Works.{header_here, numbered}
 use Rattle.tab_doors.specs.Keeping.{Move}
 use Rattle.tab_doors.specs.Look.{Sight, is_live_for, sight}
 use Rattle.tab_doors.specs.Orders.{order_to, proc_at}
 use Rattle.tab_doors.specs.Working.{IsAtWorkFor, MaySend}
 use Rattle.tab_doors.specs.declared.tables.Tables.{Tables}
+use Rattle.row_facts.specs.LeaveRows.MayLeave.{MayBeLeft}
+use Rattle.tab_evicts.proofs.Offs.{off_none}
+use Rattle.tab_moves.specs.Moving.{AreLeftUnder}
+use Rattle.tab_passes.proofs.LeftFor.{off_for}
+use Rattle.tab_passes.specs.Leaving.{IsLeftDulyFor, OffAreLeft, WasOffOrLeft}
 use Rattle.tab_evicts.proofs.Quiets.{for_one, one_document}
 use Rattle.tab_ids.specs.declared.DocId.{DocId}
 use Rattle.tab_ids.specs.declared.NavId.{NavId}
@@ -66,8 +72,8 @@ neither true b e f = absurd cc
 neither false true e f = absurd cc
 
 -- such an order may be sent
-cut_ahead : (e : InEvent) (out : List RowKind) (move : Move) (t : Tables) (doc : DocId) (why : Why) (d new : Document) → IsAtWorkFor (Some move) e out t → document_of (now_of e out) move.doc ≡ Some new → IsLeaveDue (now_of e out) (order_to (now_of e out) doc why tasks.Discard) d → (desk_of (now_of e out) (proc_at (now_of e out) doc)).known ≡ 0 → SettlesNone (now_of e out) (row_of e (rows.Sent (order_to (now_of e out) doc why tasks.Discard))) → e.header.keep ≡ 0 → (now_of e out).kept ≡ [] → new.nav ≡ d.nav → (move.doc.0 == d.nr.0) ≡ false → MaySend (Some move) e out (order_to (now_of e out) doc why tasks.Discard)
-cut_ahead e out move t doc why d new work found due known settles none kept same apart =
+cut_ahead : (e : InEvent) (out : List RowKind) (move : Move) (t : Tables) (doc : DocId) (why : Why) (d new : Document) → IsAtWorkFor (Some move) e out t → MayBeLeft (here_of e out) (order_to (now_of e out) doc why tasks.Discard) → document_of (now_of e out) move.doc ≡ Some new → IsLeaveDue (now_of e out) (order_to (now_of e out) doc why tasks.Discard) d → (desk_of (now_of e out) (proc_at (now_of e out) doc)).known ≡ 0 → SettlesNone (now_of e out) (row_of e (rows.Sent (order_to (now_of e out) doc why tasks.Discard))) → e.header.keep ≡ 0 → (now_of e out).kept ≡ [] → new.nav ≡ d.nav → (move.doc.0 == d.nr.0) ≡ false → MaySend (Some move) e out (order_to (now_of e out) doc why tasks.Discard)
+cut_ahead e out move t doc why d new work left found due known settles none kept same apart =
     left_sends (here_of e out) e.event e.actor order move (led_here e out work.own) (numbered_log e out (now_is e out) order (numbered (now_of e out) (proc_at (now_of e out) doc) doc why tasks.Discard known)) shown.d shown.found its.d (last_log e out (now_is e out) order d its due) (prompts_log e out t work order settles)
     (subst (λ (h : Header). IsTooMany h (log_of e out) its.d) (sym (header_here e out)) (many_log e out (now_is e out) order d its e.header (none_kept e.header (now_of e out) d none kept)))
     (ap (λ (x : Document). x.nav) (sym shown.is) ∙ same ∙ ap (λ (x : Document). x.nav) its.is)
@@ -78,7 +84,7 @@ cut_ahead e out move t doc why d new work found due known settles none kept same
 
     its : IsLeftAs e out order d
     its =
-        discards_log e out (now_is e out) order d (left_log e out t work order d due.discards.to.found due.discards.unhandled due.discards.for_one) due.discards
+        discards_log e out (now_is e out) order d left due.discards
 
     -- the document that is shown, as the log has it
     shown : IsInLog e out move.doc new
@@ -156,9 +162,22 @@ module _ (m : InMove) (out : List RowKind) (t : Tables) (leaving : IsLeaving m.p
         for_one = for_one s why cut_cause;
       }
 
-  pub cut_sends : MaySend (Some (cut_of m)) m.pass.event out (order_to s m.left why tasks.Discard)
-  cut_sends =
-      cut_ahead m.pass.event out (cut_of m) t m.left why bound.old bound.new leaving.work bound.new_found
+  -- it may be left: the navigable, which is awake on it, leaves it, or nobody is awake on it
+  cut_may_be : AreLeftUnder m.pass.event out m.nav why → OffAreLeft m.pass.event out why → MayBeLeft (here_of m.pass.event out) (order_to s m.left why tasks.Discard)
+  cut_may_be lefts off_ = off_for m.pass.event out leaving.duly (order_to s m.left why tasks.Discard) bound.old bound.old_found (for_one s why cut_cause) (by_status bound.place.status refl)
+    where
+      by_status : (st : Status) → bound.place.status ≡ st → WasOffOrLeft m.pass.event out why m.left
+      by_status (awake x) is =
+          let homed : IsHomed s.documents bound.place x = leaving.going.tab.homes.homed m.nav bound.place x bound.placed is in
+          let last : Some x ≡ Some m.left = sym homed.last ∙ bound.last in
+          let same : x ≡ m.left = cc in
+          inr (subst (λ (d : DocId). IsLeftDulyFor (log_of m.pass.event out) d why) same (lefts m.nav bound.place x (inl (nat_eq_refl m.nav.0)) bound.placed is))
+      by_status asleep is = off_ m.left bound.old bound.old_found ready bound.undiscarded (off_none s m.left (cut_nobody is))
+      by_status lost is = absurd ((leaving.going.tab.standing m.nav bound.place bound.placed).unlost is)
+
+  pub cut_sends : AreLeftUnder m.pass.event out m.nav why → OffAreLeft m.pass.event out why → MaySend (Some (cut_of m)) m.pass.event out (order_to s m.left why tasks.Discard)
+  cut_sends lefts off_ =
+      cut_ahead m.pass.event out (cut_of m) t m.left why bound.old bound.new leaving.work (cut_may_be lefts off_) bound.new_found
       (record { discards = discards; place = bound.place; placed = ap (λ (n : NavId). place_of s n) bound.old_nav ∙ bound.placed; last = bound.last ∙ ap (λ (d : DocId). Some d) (sym old_nr) })
       (leaving.going.tab.asked.died (proc_at s m.left)).0
       (all_answered s (row_of m.pass.event (rows.Sent (order_to s m.left why tasks.Discard))) (all_requests s.requests (all_asked s) (λ req q at. asked_all s q (leaving.going.tab.asked.passed req q at))))

@@ -22,6 +22,7 @@ use Rattle.tab_doors.specs.Orders.{order_to, proc_at}
 use Rattle.tab_doors.specs.Working.{MaySend}
 use Rattle.tab_doors.specs.declared.tables.Tables.{Tables}
 use Rattle.tab_evicts.proofs.Belows.{below_ahead}
+use Rattle.tab_evicts.proofs.Offs.{off_gone, quiet_left}
 use Rattle.tab_evicts.proofs.Quiets.{IsQuiet, gone_leaving, gone_looks, gone_may, gone_now, gone_other, gone_places, gone_seen, gone_stays, one_document, quiet_discards, quiet_settles}
 use Rattle.tab_evicts.proofs.Theres.{there_apart, there_gone, there_lives, there_unloaded}
 use Rattle.tab_evicts.specs.Evicting.{IsGoneFor, IsThereBelow, NoLoadBelow, StaysPlaced}
@@ -74,7 +75,7 @@ module _ (c : InCut) (gone : StateId) (why : Why) (rest docs : List DocId) (doc 
 
     pub cut_sends : MaySend (Some c.move) c.pass.event out (order_to s doc why tasks.Discard)
     cut_sends =
-        below_ahead c.pass.event out (Some c.move) t doc why cut_quiet.document so.leaving.work
+        below_ahead c.pass.event out (Some c.move) t doc why cut_quiet.document so.leaving.work (quiet_left c.pass (Some c.move) out t so.leaving why so.may doc its cut_quiet so.off)
         (record {
           discards = quiet_discards c.pass (Some c.move) out t so.leaving why so.may doc its cut_quiet;
           below = ap (λ (d : Document). is_below_gone s d) (one_document s doc cut_quiet.document it.document cut_quiet.found it.found) ∙ there_gone s gone doc it so.gone_for;
@@ -158,6 +159,7 @@ module _ (c : InCut) (gone : StateId) (why : Why) (rest docs : List DocId) (doc 
           new_found = subst (λ (x : Seen). document_of x c.move.doc ≡ Some c.new) now_is (other c.move.doc apart_parts.0 ∙ so.new_found);
           apart = apart_parts.1;
           kept = subst (λ (x : Seen). x.kept ≡ []) now_is (ap (without_doc doc) so.kept);
+          off = off_gone c.pass (Some c.move) out t so.leaving why so.may doc its cut_quiet so.off new u made;
         }
       where
         leaving : IsLeaving c.pass (Some c.move) (without_doc doc rest) new u

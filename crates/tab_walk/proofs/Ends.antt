@@ -4,6 +4,9 @@ use Rattle.tab_facts.proofs.Calm.Loads.{IsLoads, loads_sent}
 use Rattle.tab_facts.specs.Calm.Loads.{LoadsHaveDocuments}
 use Rattle.tab_evicts.proofs.Quiets.{no_loads, one_document}
 use Rattle.tab_ids.specs.declared.StateId.{StateId}
+use Rattle.tab_moves.specs.Moving.{AreLeftUnder}
+use Rattle.tab_passes.specs.Leaving.{OffAreLeft}
+use Rattle.tab_walk.proofs.OffTurns.{IsMoveRow, off_turn}
 use Rattle.tab_walk.proofs.Cutoffs.{cut_gone}
 use Rattle.seen_facts.proofs.Hang.Hung.{places_distinct}
 use Rattle.seen_facts.specs.Hang.AsPlaces.{AreDistinct}
@@ -19,7 +22,7 @@ use Rattle.log_model.specs.declared.job.Why.{Why}
 use Rattle.log_model.specs.declared.row_kind.RowKind.{RowKind}
 use Rattle.seen_laws.proofs.Keyed.{find_on_same}
 use Rattle.seen_laws.specs.InEvent.{now_of}
-use Rattle.std.proofs.Common.{Bool, List, Option, Some, [], ap, cond, false, inr, refl, subst, sym, true, ℕ, ◌++◌, ◌==◌, ◌||◌, ◌∙◌, ◌∷◌, ◌≡◌, ◌≤◌}
+use Rattle.std.proofs.Common.{Bool, List, Option, Some, [], ap, cond, false, inr, refl, subst, sym, true, ℕ, ◌++◌, ◌==◌, ◌||◌, ◌∙◌, ◌∷◌, ◌≡◌, ◌≤◌, inl}
 use Rattle.std.specs.Prelude.{option_map}
 use Rattle.tab_doors.specs.Orders.{order_to}
 use Rattle.tab_doors.specs.Working.{KeepsStore}
@@ -123,8 +126,8 @@ module _ (m : InMove) (out : List RowKind) (t : Tables) (leaving : IsLeaving m.p
           none_of m.doc (docs_below t.tree m.nav) (each_below (moving m out t leaving why may) m.nav m.left why out t leaving (to m out t leaving why may up) (λ (x : DocId). (x.0 == m.doc.0) ≡ false) (λ x its. apart_new (moving m out t leaving why may) m.nav m.left why out t leaving (to m out t leaving why may up) x its))
       by_up false down = ap (λ (l : List DocId). has_doc l m.doc) (none_below m out t leaving why may down)
 
-  pub cutting_then : (new : Document) → document_of s m.doc ≡ Some new → IsCutting (record { pass = m.pass; move = cut_of m; left = m.left; new = new }) m.state why (left_then s m.left []) (docs_below t.tree m.nav) new_out u
-  cutting_then new there =
+  pub cutting_then : AreLeftUnder m.pass.event out m.nav why → OffAreLeft m.pass.event out why → (new : Document) → document_of s m.doc ≡ Some new → IsCutting (record { pass = m.pass; move = cut_of m; left = m.left; new = new }) m.state why (left_then s m.left []) (docs_below t.tree m.nav) new_out u
+  cutting_then lefts off new there =
       record {
         leaving = leaving_;
         noted = refl;
@@ -136,7 +139,14 @@ module _ (m : InMove) (out : List RowKind) (t : Tables) (leaving : IsLeaving m.p
         new_found = subst (λ (x : Seen). document_of x m.doc ≡ Some new) now_is (other_then m out t leaving why may m.doc bound.apart ∙ there);
         apart = new_apart;
         kept = subst (λ (x : Seen). x.kept ≡ []) now_is (ap (without_doc m.left) may.kept);
+        off =
+            off_turn m.pass.event out new_out why m.nav quiet_moves (subst (λ (x : Seen). LeavesOthers s x m.nav) now_is (leaves_then_ m out t leaving why may)) (places_distinct s leaving.going.tab.sound leaving.going.tab.hangs) (places_distinct now leaving_.going.tab.sound leaving_.going.tab.hangs) leaving_.going.tab.homes.homed
+            (λ other place doc under at up. inl (lefts other place doc under at up)) off;
       }
+    where
+      quiet_moves : HasOnly IsMoveRow out new_out
+      quiet_moves =
+          only_one IsMoveRow out new_out (rows.Sent (order_to s m.left why tasks.Discard)) is (record { job = order_to s m.left why tasks.Discard; is = refl; moves = tt })
 
   -- ---- and none of what falls to be left is then
 

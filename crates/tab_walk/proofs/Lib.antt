@@ -5,6 +5,7 @@ pub mod Offs
 pub mod Rooms
 pub mod Froms
 pub mod LeftUnder
+pub mod OffTurns
 pub mod Finds
 pub mod Cuts
 pub mod Cutoffs

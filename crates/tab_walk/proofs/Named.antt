@@ -19,6 +19,8 @@ use Rattle.tab_moves.specs.Showing.{IsToShow}
 use Rattle.tab_moves.proofs.Leaves.{MayLeave}
 use Rattle.tab_moves.specs.PassedOn.{IsGoneAt, IsLeaving, left_then, without_all}
 use Rattle.tab_moves.proofs.Frees.{docs_below}
+use Rattle.tab_moves.specs.Moving.{AreLeftUnder}
+use Rattle.tab_passes.specs.Leaving.{OffAreLeft}
 use Rattle.tab_walk.proofs.Cutoffs.{cut_gone, cut_leaves, cut_own, cut_sends}
 use Rattle.tab_walk.proofs.Ends.{aimed_then, all_gone, cutting_then, part_cut, sleeps_then}
 use Rattle.tab_walk.proofs.Offs.{part_then}
@@ -28,7 +30,7 @@ use Rattle.tab_walk.specs.Moving.{InMove, IsPart}
 use Rattle.log_model.specs.declared.job.Task.TheVariants as tasks
 use Rattle.log_model.specs.declared.row_kind.RowKind.TheVariants as rows
 
-module _ (m : InMove) (out : List RowKind) (t : Tables) (leaving : IsLeaving m.pass (Some (cut_of m)) [] out t) (why : Why) (nav : NavId) (left : DocId) (old : StateId) (may_ : MayCut m t.running (now_of m.pass.event out) nav left old why) where
+module _ (m : InMove) (out : List RowKind) (t : Tables) (leaving : IsLeaving m.pass (Some (cut_of m)) [] out t) (why : Why) (nav : NavId) (left : DocId) (old : StateId) (may_ : MayCut m t.running (now_of m.pass.event out) nav left old why) (lefts_ : AreLeftUnder m.pass.event out nav why) (off : OffAreLeft m.pass.event out why) where
   abbrev s : Seen
   s = now_of m.pass.event out
 
@@ -47,6 +49,9 @@ module _ (m : InMove) (out : List RowKind) (t : Tables) (leaving : IsLeaving m.p
         kept = may_.kept;
       }
 
+  lefts : AreLeftUnder m.pass.event out m.nav why
+  lefts = subst (λ (n : NavId). AreLeftUnder m.pass.event out n why) (sym may_.its) lefts_
+
   -- ---- what the first Discard asks
 
   pub record IsFirstCut (doc : DocId) (state : StateId) : Type 0 where
@@ -61,7 +66,7 @@ module _ (m : InMove) (out : List RowKind) (t : Tables) (leaving : IsLeaving m.p
       subst (λ (d : DocId). IsFirstCut d old) may_.its_left
       (subst (λ (x : StateId). IsFirstCut m.left x) may_.its_state (record {
         leaves = cut_leaves m out t leaving why may;
-        sends = cut_sends m out t leaving why may;
+        sends = cut_sends m out t leaving why may lefts off;
         gone = cut_gone m out t leaving why may;
         own = cut_own m out t leaving why may;
         lets = refl;
@@ -86,7 +91,7 @@ module _ (m : InMove) (out : List RowKind) (t : Tables) (leaving : IsLeaving m.p
     cutting_named =
         subst (λ (l : List DocId). IsCutting (record { pass = m.pass; move = cut_of m; left = m.left; new = new }) m.state why l docs mid u) (sym rest_own)
         (subst (λ (l : List DocId). IsCutting (record { pass = m.pass; move = cut_of m; left = m.left; new = new }) m.state why (left_then s m.left []) l mid u) (sym docs_own)
-        (cutting_then m out t leaving why may mid u is keeps then_leaving new new_found))
+        (cutting_then m out t leaving why may mid u is keeps then_leaving lefts off new new_found))
 
     module _ (last_out : List RowKind) (v : Tables) (keeps_ : KeepsStore u v) (so : IsCutting (record { pass = m.pass; move = cut_of m; left = m.left; new = new }) m.state why (without_all docs rest) [] last_out v) (only : HasOnlyDiscarded why mid last_out) (stays : StaysPlaced (now_of m.pass.event mid) (now_of m.pass.event last_out)) where
       done : (x : DocId) → has_doc (without_all docs rest) x ≡ true → ⊥
@@ -94,7 +99,7 @@ module _ (m : InMove) (out : List RowKind) (t : Tables) (leaving : IsLeaving m.p
           all_gone m out t leaving why may mid u is keeps then_leaving x (subst (λ (l : List DocId). has_doc (without_all l (left_then s m.left [])) x ≡ true) docs_own (subst (λ (l : List DocId). has_doc (without_all docs l) x ≡ true) rest_own has))
 
       mid_new : document_of (now_of m.pass.event mid) m.doc ≡ Some new
-      mid_new = (cutting_then m out t leaving why may mid u is keeps then_leaving new new_found).new_found
+      mid_new = (cutting_then m out t leaving why may mid u is keeps then_leaving lefts off new new_found).new_found
 
       pub leaving_named : IsLeaving m.pass (Some (cut_of m)) [] last_out v
       leaving_named =

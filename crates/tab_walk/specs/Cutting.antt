@@ -23,6 +23,7 @@ use Rattle.tab_walk.specs.Moving.{InMove, IsBound}
 pub use Rattle.tab_moves.specs.Making.{show_why}
 pub use Rattle.tab_moves.specs.Moving.{InPass, MayCause}
 use Rattle.tab_moves.specs.PassedOn.{without_all}
+pub use Rattle.tab_passes.specs.Leaving.{OffAreLeft}
 pub use Rattle.tab_moves.specs.PassedOn.{IsLeaving}
 
 -- the document is there below the state, and nobody is awake on it any more
@@ -54,6 +55,7 @@ pub record IsCutting (c : InCut) (gone : StateId) (why : Why) (rest docs : List 
   pub new_found : document_of (now_of c.pass.event out) c.move.doc ≡ Some c.new
   pub apart : has_doc docs c.move.doc ≡ false
   pub kept : (now_of c.pass.event out).kept ≡ []
+  pub off : OffAreLeft c.pass.event out why
 
 -- of a list, the turn of one: those that were still to be frozen or discarded at first, and now
 pub record InCutTurn : Type 0 where

@@ -6,8 +6,9 @@ ghost use Rattle.tab_doors.specs.Working.{KeepsStore};
 ghost use Rattle.tab_evicts.specs.Evicting.{HasOnlyDiscarded, StaysPlaced};
 ghost use Rattle.log_model.specs.Seen.{document_of};
 ghost use Rattle.tab_moves.specs.Showing.{IsToShow};
+ghost use Rattle.tab_moves.specs.Moving.{AreLeftUnder};
 ghost use Rattle.tab_moves.specs.PassedOn.{IsLeaving, left_then, without_all};
-ghost use Rattle.tab_walk.specs.Cutting.{InCutLeft, InCutTurn, InCuts, IsCutTurn, IsCutting, MayCut, cut_of};
+ghost use Rattle.tab_walk.specs.Cutting.{InCutLeft, InCutTurn, InCuts, IsCutTurn, IsCutting, MayCut, OffAreLeft, cut_of};
 ghost use Rattle.tab_walk.specs.Moving.{HasOnlyLeft, IsPart};
 
 use address::OutOfMemory;
@@ -88,6 +89,8 @@ pub(crate) fn cut_left(
     requires may { MayCut k.m tables.old.running (now_of k.m.pass.event out.old) nav left old why }
     requires rest { k.rest ≡ left_then (now_of k.m.pass.event out.old) left [] }
     requires new { document_of (now_of k.m.pass.event out.old) k.m.doc ≡ Some k.new }
+    requires lefts { AreLeftUnder k.m.pass.event out.old nav why }
+    requires off { OffAreLeft k.m.pass.event out.old why }
     ensures leaving { OnOk result (IsLeaving k.m.pass (Some (cut_of k.m)) [] out.new tables.new) }
     ensures shows { OnOk result (IsToShow (Some (cut_of k.m)) tables.new.running tables.new.kept.keep (now_of k.m.pass.event out.new) k.m.nav k.m.doc k.m.entry k.m.cause) }
     ensures part { OnOk result (IsPart (now_of k.m.pass.event out.old) (now_of k.m.pass.event out.new) k.m.nav) }

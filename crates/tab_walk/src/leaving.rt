@@ -6,6 +6,7 @@ ghost use Rattle.tab_doors.specs.Working.{KeepsStore};
 ghost use Rattle.tab_moves.specs.Showing.{IsToShow};
 ghost use Rattle.tab_moves.specs.Moving.{AreLeftUnder};
 ghost use Rattle.tab_moves.specs.PassedOn.{IsLeaving};
+ghost use Rattle.tab_walk.specs.Cutting.{OffAreLeft};
 ghost use Rattle.tab_walk.specs.Moving.{HasOnlyLeft, HasSetOff, InMove, IsPart, MayMakeRoom, MaySetOff, is_up_in, move_of};
 
 use address::OutOfMemory;
@@ -69,6 +70,7 @@ pub(crate) fn make_room(
     ghost m: { InMove }
     requires leaving { IsLeaving m.pass (Some (move_of m)) [] out.old tables.old }
     requires may { MayMakeRoom m tables.old.running tables.old.kept.keep (now_of m.pass.event out.old) gone state why }
+    requires off { OffAreLeft m.pass.event out.old why }
     ensures leaving { OnOk result (IsLeaving m.pass (Some (move_of m)) [] out.new tables.new) }
     ensures shows { OnOk result (IsToShow (Some (move_of m)) tables.new.running tables.new.kept.keep (now_of m.pass.event out.new) m.nav m.doc m.entry m.cause) }
     ensures part { OnOk result (IsPart (now_of m.pass.event out.old) (now_of m.pass.event out.new) m.nav) }

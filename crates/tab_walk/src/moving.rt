@@ -8,7 +8,7 @@ ghost use Rattle.tab_moves.specs.Showing.{IsTurn, need_in};
 ghost use Rattle.tab_moves.specs.Making.{show_why};
 ghost use Rattle.tab_moves.specs.PassedOn.{IsPassing};
 ghost use Rattle.tab_moves.specs.Moving.{AreLeftUnder, InPass};
-ghost use Rattle.tab_walk.specs.Cutting.{MayCutFrom};
+ghost use Rattle.tab_walk.specs.Cutting.{MayCutFrom, OffAreLeft};
 ghost use Rattle.tab_walk.specs.Moving.{HasBeenMoved, HasOnlyMoved, InMove, MayMoveFrom, MayMoveTo, in_move};
 ghost use Rattle.row_facts.specs.WalkRows.Since.{AwakeSince};
 
@@ -41,11 +41,13 @@ fn move_from(
     requires passing { IsPassing m.pass out.old tables.old }
     requires may { MayMoveFrom m tables.old.running tables.old.kept.keep (now_of m.pass.event out.old) state }
     requires lefts { AreLeftUnder m.pass.event out.old nav (show_why tables.old.running cause) }
+    requires off { OffAreLeft m.pass.event out.old (show_why tables.old.running cause) }
     ensures passing { OnOk result (IsPassing m.pass out.new tables.new) }
     ensures turn { OnOk result (IsTurn (now_of m.pass.event out.old) (now_of m.pass.event out.new) nav) }
     ensures wakes { OnOk result (AwakeSince (now_of m.pass.event out.old) (nav ∷ []) (now_of m.pass.event out.new)) }
     ensures moved { OnOk result (HasBeenMoved m.pass.event nav out.old out.new) }
     ensures only { OnOk result (HasOnlyMoved (show_why tables.old.running cause) out.old out.new) }
+    ensures off { OnOk result (OffAreLeft m.pass.event out.new (show_why tables.old.running cause)) }
     ensures kept { OnOk result (KeepsStore tables.old tables.new) }
 {
     let gone = begin_move(tables, out, doc, old)?;
@@ -84,11 +86,14 @@ fn cut_from(
     requires its { in_move m.pass nav cause doc entry left old ≡ m }
     requires passing { IsPassing m.pass out.old tables.old }
     requires may { MayCutFrom m tables.old.running tables.old.kept.keep (now_of m.pass.event out.old) }
+    requires lefts { AreLeftUnder m.pass.event out.old nav (show_why tables.old.running cause) }
+    requires off { OffAreLeft m.pass.event out.old (show_why tables.old.running cause) }
     ensures passing { OnOk result (IsPassing m.pass out.new tables.new) }
     ensures turn { OnOk result (IsTurn (now_of m.pass.event out.old) (now_of m.pass.event out.new) nav) }
     ensures wakes { OnOk result (AwakeSince (now_of m.pass.event out.old) (nav ∷ []) (now_of m.pass.event out.new)) }
     ensures moved { OnOk result (HasBeenMoved m.pass.event nav out.old out.new) }
     ensures only { OnOk result (HasOnlyMoved (show_why tables.old.running cause) out.old out.new) }
+    ensures off { OnOk result (OffAreLeft m.pass.event out.new (show_why tables.old.running cause)) }
     ensures kept { OnOk result (KeepsStore tables.old tables.new) }
 {
     let why = show_why(tables.running, cause);
@@ -112,11 +117,13 @@ pub fn move_to(
     requires header { header.now ≡ p.event.header }
     requires need { need_in tables.old nav ≡ Some (needs.Move nav entry) }
     requires may { MayMoveTo p tables.old.running tables.old.kept.keep (now_of p.event out.old) nav cause }
+    requires off { OffAreLeft p.event out.old (show_why tables.old.running cause) }
     ensures passing { OnOk result (IsPassing p out.new tables.new) }
     ensures turn { OnOk result (IsTurn (now_of p.event out.old) (now_of p.event out.new) nav) }
     ensures wakes { OnOk result (AwakeSince (now_of p.event out.old) (nav ∷ []) (now_of p.event out.new)) }
     ensures moved { OnOk result (HasBeenMoved p.event nav out.old out.new) }
     ensures only { OnOk result (HasOnlyMoved (show_why tables.old.running cause) out.old out.new) }
+    ensures off { OnOk result (OffAreLeft p.event out.new (show_why tables.old.running cause)) }
     ensures kept { OnOk result (KeepsStore tables.old tables.new) }
 {
     let state = row_there(&tables.store, entry).state;

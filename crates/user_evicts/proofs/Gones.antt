@@ -246,4 +246,5 @@ module _ (e : InEvent) (state : StateId) (asks : IsEvictAsk e state) (t : Tables
           gone_for = subst (λ (x : Seen). IsGoneFor x state) now_is gone_then;
           none = subst (λ (x : Seen). NoneBelow x state) now_is none_then;
           moving = λ m never. absurd cc;
+          off = λ doc_ d found ready undiscarded shown. inr (λ req never. absurd cc);
         }

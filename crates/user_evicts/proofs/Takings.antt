@@ -1,4 +1,5 @@
 -- Documents were discarded on which nobody is awake, for an eviction: what documents made may be taken after that as before, so that a pass may follow.
+use Rattle.log_model.specs.Equal.{holds}
 use Rattle.seen_facts.specs.Asked.Asking.{ArePlain}
 use Rattle.tab_facts.proofs.Calm.Sames.{here_same, places_calm, places_rooted, yet_same}
 use Rattle.tab_facts.specs.Calm.Calm.{CalmUnless, IsCalmYet, UnmovedAreHere, NeedIsNew}
@@ -12,7 +13,7 @@ use Rattle.log_model.specs.Seen.{Asked, Document, Place, Seen, document_of, plac
 use Rattle.log_model.specs.declared.job.Why.{Why}
 use Rattle.seen_facts.proofs.Mover.Stays.{KeepWays}
 use Rattle.seen_laws.specs.InEvent.{InEvent}
-use Rattle.std.proofs.Common.{List, None, Option, Some, ap, arith, false, inl, inr, refl, subst, sym, true, ◌∙◌, ◌≡◌, ◌⊎◌}
+use Rattle.std.proofs.Common.{List, None, Option, Some, ap, arith, false, inl, inr, refl, subst, sym, true, ◌∙◌, ◌≡◌, ◌⊎◌, Bool}
 use Rattle.std.specs.Prelude.{option_map}
 use Rattle.seen_facts.specs.LoadEnds.Standing.{is_reached}
 use Rattle.tab_drops.proofs.Turns.{reached_same}
@@ -21,7 +22,7 @@ use Rattle.tab_ids.specs.declared.DocId.{DocId}
 use Rattle.tab_ids.specs.declared.NavId.{NavId}
 use Rattle.tab_ids.specs.declared.ReqId.{ReqId}
 use Rattle.tab_ids.specs.declared.StateId.{StateId}
-use Rattle.tab_stands.proofs.PassedOn.{IsBare, IsBegun, IsUnsettled, causes_on, new_of, run_leavers, serve_on, show_causes, takers_on}
+use Rattle.tab_stands.proofs.PassedOn.{IsBare, IsBegun, IsUnsettled, causes_on, new_of, run_leavers, serve_on, show_causes, still_on, takers_on}
 use Rattle.tab_stands.specs.PassedOn.{IsBlamed, IsByItsOwn, IsLoadOf, IsOpen, IsStray, IsTaking, LoadsLive, LoadsMadeOwn, MayCause, MayServe, MayStand, MovedAreShown, ParentsShown, TakersServe, is_new_entry, show_why}
 use Rattle.user_evicts.proofs.Lefts.{LeavesGone, read_gone}
 use Rattle.row_facts.proofs.WalkRows.Moved.{run_moves}
@@ -71,6 +72,26 @@ module _ (e : InEvent) (run : Option ReqId) (blame : List (StateId × ReqId)) (s
   takers : TakersServe n
   takers = takers_on s n causes (λ nav. ap (λ (o : Option Place). option_map (λ (x : Place). x.taken_by) o) (place_same nav)) base.takers
 
+  -- what was discarded is so still
+  gone_on : (doc : DocId) → holds (λ (d : Document). d.is_discarded) (document_of s doc) ≡ true → holds (λ (d : Document). d.is_discarded) (document_of n doc) ≡ true
+  gone_on doc is = by_now (document_of n doc) refl
+    where
+      by_flag : (x : Document) → document_of n doc ≡ Some x → (b : Bool) → x.is_discarded ≡ b → holds (λ (d : Document). d.is_discarded) (document_of n doc) ≡ true
+      by_flag x at true flag = ap (λ (o : Option Document). holds (λ (d : Document). d.is_discarded) o) at ∙ flag
+      by_flag x at false flag =
+          let never : true ≡ false = sym is ∙ ap (λ (o : Option Document). holds (λ (d : Document). d.is_discarded) o) (left.there doc x at flag) ∙ flag in
+          absurd cc
+
+      by_old : (o : Option Document) → document_of s doc ≡ o → document_of n doc ≡ None → holds (λ (d : Document). d.is_discarded) o ≡ true → ⊥
+      by_old None at none h = cc
+      by_old (Some d) at none h =
+          let never : None ≡ Some d.nr = sym (ap (λ (o : Option Document). option_map (λ (x : Document). x.nr) o) none) ∙ read_gone (λ (x : Document). x.nr) (λ x. refl) s n left doc ∙ ap (λ (o : Option Document). option_map (λ (x : Document). x.nr) o) at in
+          cc
+
+      by_now : (o : Option Document) → document_of n doc ≡ o → holds (λ (d : Document). d.is_discarded) (document_of n doc) ≡ true
+      by_now (Some x) at = by_flag x at x.is_discarded refl
+      by_now None none = absurd (by_old (document_of s doc) refl none is)
+
   needs_new : run ≡ None → NeedIsNew n
   needs_new is nav place there need =
       let idle : IsOpen e None whys.Start s = subst (λ (r : Option ReqId). IsOpen e r whys.Start s) is base in
@@ -91,6 +112,7 @@ module _ (e : InEvent) (run : Option ReqId) (blame : List (StateId × ReqId)) (s
         may = may;
         since = record { distinct = base.since.distinct; homed = base.since.homed; ways = subst (λ (l : List Place). KeepWays e.start.places l) (sym stays.places) base.since.ways };
         unwoken = λ nav place doc outside there wakes. base.unwoken nav place doc outside (sym (place_same nav) ∙ there) wakes;
+        still = still_on e.start s n (λ nav doc was. record { place = was.place; placed = place_same nav ∙ was.placed; wakes = was.wakes }) gone_on base.still;
         moves = moves_then run refl cause;
         leavers = run_leavers n run plain needs_new cause;
         were = were;

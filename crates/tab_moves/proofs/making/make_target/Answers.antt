@@ -28,6 +28,11 @@ returns-in_ok-make-in-None-clause-turn g c =
     let its = ready_to_make _ _ _ c.requires.0 _ _ (making_due _ _ _ c.requires.0 _ _ c.requires.1.1.1) _ c.requires.1.1.0 _ c.row_there-row.ensures (sym c.made_for.ensures ∙ c.in-None.is) _ c.in_ok-address-in-None.ensures _ _ c.make_why-why.ensures _ c.is_initial-initial.ensures _ (home_at _ _ c.args.tables.now c.args.nav _ _ c.requires.1.0 c.home_there-proc.ensures) in
     (its.done _ _ c.in_ok-make-in-None.ensures.kept c.in_ok-make-in-None.ensures.out c.in_ok-make-in-None.ensures.work).1
 
+pub returns-in_ok-make-in-None-clause-off : goal.returns-in_ok-make-in-None-clause-off
+returns-in_ok-make-in-None-clause-off g c =
+    let its = ready_to_make _ _ _ c.requires.0 _ _ (making_due _ _ _ c.requires.0 _ _ c.requires.1.1.1) _ c.requires.1.1.0 _ c.row_there-row.ensures (sym c.made_for.ensures ∙ c.in-None.is) _ c.in_ok-address-in-None.ensures _ _ c.make_why-why.ensures _ c.is_initial-initial.ensures _ (home_at _ _ c.args.tables.now c.args.nav _ _ c.requires.1.0 c.home_there-proc.ensures) in
+    (its.done _ _ c.in_ok-make-in-None.ensures.kept c.in_ok-make-in-None.ensures.out c.in_ok-make-in-None.ensures.work).2
+
 pub returns-in-Some-clause-made : goal.returns-in-Some-clause-made
 returns-in-Some-clause-made g c =
     made_none _ c.args.tables.now c.args.nav c.args.entry c.args.cause _ _ _ c.row_there-row.ensures (sym c.made_for.ensures ∙ c.in-Some.is)

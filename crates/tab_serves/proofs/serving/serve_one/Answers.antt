@@ -9,7 +9,7 @@ use Rattle.tab_walk.proofs.PassedOn.{only_none}
 pub move_to-requires : goal.move_to-requires
 move_to-requires g c =
     let need = sym c.need_at.ensures ∙ c.in-Some.is ∙ ap (λ (n : Need). Some n) c.in-Move.is in
-    (c.requires.0.passing, (c.requires.1.1, (move_own (walk_by g.p c.args.cause c.args.navs.now) c.args.i c.args.out.now c.args.tables.now c.requires.0 c.at-nav.result.now c.at-nav.ensures _ _ need, may_move (walk_by g.p c.args.cause c.args.navs.now) c.args.i c.args.out.now c.args.tables.now c.requires.0 c.at-nav.result.now c.at-nav.ensures _ need c.args.cause refl)))
+    (c.requires.0.passing, (c.requires.1.1, (move_own (walk_by g.p c.args.cause c.args.navs.now) c.args.i c.args.out.now c.args.tables.now c.requires.0 c.at-nav.result.now c.at-nav.ensures _ _ need, (may_move (walk_by g.p c.args.cause c.args.navs.now) c.args.i c.args.out.now c.args.tables.now c.requires.0 c.at-nav.result.now c.at-nav.ensures _ need c.args.cause refl, c.requires.0.off))))
 
 pub make_target-requires : goal.make_target-requires
 make_target-requires g c =
@@ -28,7 +28,7 @@ returns-in-None-clause-only g c = only_none _ _
 
 pub returns-in_ok-move_to-in-Move-clause-walking : goal.returns-in_ok-move_to-in-Move-clause-walking
 returns-in_ok-move_to-in-Move-clause-walking g c =
-    turn_walking (walk_by g.p c.args.cause c.args.navs.now) c.args.i c.args.out.now c.args.tables.now c.requires.0 c.at-nav.result.now c.at-nav.ensures _ (sym c.need_at.ensures ∙ c.in-Some.is) _ _ c.in_ok-move_to-in-Move.ensures.passing c.in_ok-move_to-in-Move.ensures.turn c.in_ok-move_to-in-Move.ensures.wakes (moved_served _ _ _ _ c.in_ok-move_to-in-Move.ensures.only) c.in_ok-move_to-in-Move.ensures.kept
+    turn_walking (walk_by g.p c.args.cause c.args.navs.now) c.args.i c.args.out.now c.args.tables.now c.requires.0 c.at-nav.result.now c.at-nav.ensures _ (sym c.need_at.ensures ∙ c.in-Some.is) _ _ c.in_ok-move_to-in-Move.ensures.passing c.in_ok-move_to-in-Move.ensures.turn c.in_ok-move_to-in-Move.ensures.wakes (moved_served _ _ _ _ c.in_ok-move_to-in-Move.ensures.only) c.in_ok-move_to-in-Move.ensures.kept c.in_ok-move_to-in-Move.ensures.off
 
 pub returns-in_ok-move_to-in-Move-clause-left : goal.returns-in_ok-move_to-in-Move-clause-left
 returns-in_ok-move_to-in-Move-clause-left g c =
@@ -39,7 +39,7 @@ returns-in_ok-move_to-in-Move-clause-only g c = moved_served _ _ _ _ c.in_ok-mov
 
 pub returns-in_ok-make_target-in-Populate-clause-walking : goal.returns-in_ok-make_target-in-Populate-clause-walking
 returns-in_ok-make_target-in-Populate-clause-walking g c =
-    turn_walking (walk_by g.p c.args.cause c.args.navs.now) c.args.i c.args.out.now c.args.tables.now c.requires.0 c.at-nav.result.now c.at-nav.ensures _ (sym c.need_at.ensures ∙ c.in-Some.is) _ _ c.in_ok-make_target-in-Populate.ensures.passing c.in_ok-make_target-in-Populate.ensures.turn (made_since _ _ _ _ _ g.p.event _ _ c.in_ok-make_target-in-Populate.ensures.made) (made_served _ _ _ _ _ _ _ c.in_ok-make_target-in-Populate.ensures.made) c.in_ok-make_target-in-Populate.ensures.kept
+    turn_walking (walk_by g.p c.args.cause c.args.navs.now) c.args.i c.args.out.now c.args.tables.now c.requires.0 c.at-nav.result.now c.at-nav.ensures _ (sym c.need_at.ensures ∙ c.in-Some.is) _ _ c.in_ok-make_target-in-Populate.ensures.passing c.in_ok-make_target-in-Populate.ensures.turn (made_since _ _ _ _ _ g.p.event _ _ c.in_ok-make_target-in-Populate.ensures.made) (made_served _ _ _ _ _ _ _ c.in_ok-make_target-in-Populate.ensures.made) c.in_ok-make_target-in-Populate.ensures.kept (c.in_ok-make_target-in-Populate.ensures.off _ c.requires.0.off)
 
 pub returns-in_ok-make_target-in-Populate-clause-left : goal.returns-in_ok-make_target-in-Populate-clause-left
 returns-in_ok-make_target-in-Populate-clause-left g c =
