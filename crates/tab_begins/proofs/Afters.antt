@@ -1,6 +1,7 @@
 -- Right after a load was applied where all stood: its navigable is in need, nobody is but it and those below, and who isn't below it stands where it stood.
 use Rattle.seen_facts.proofs.Request.LookUps.{on_itself}
 use Rattle.tab_one_pass.proofs.Gives.{load_leaver, still_on}
+use Rattle.tab_one_pass.proofs.Lefts.{MayLeaveNav, load_leaves}
 use Rattle.seen_laws.proofs.InEvents.{now_at}
 use Rattle.tab_facts.specs.Frame.Lasting.{wish}
 use Rattle.seen_facts.proofs.Request.Readers.{SameReads, on_read, reads_then}
@@ -648,6 +649,11 @@ module _ (p : InPass) (out : List RowKind) (t : Tables) (passing : IsPassing p o
   leavers_then : LeavesVisited n (whys.Req load.req)
   leavers_then m place found need epoch =
       load_leaver n m load.req (take_it (change_it (end_it q))) load.nav (tie p out t passing nav load at idle may).mode load.address request_then (its_what ∙ ap (λ (x : NavId). requests.Load x (tie p out t passing nav load at idle may).mode load.address) (sym own)) began refl (visited_under m place found need)
+
+  -- so it may leave whoever is at or below its navigable
+  pub leaves_under : (m : NavId) → has_nav (way_to n m) load.nav ≡ true → MayLeaveNav n load.req m
+  leaves_under m up =
+      load_leaves n load.req (take_it (change_it (end_it q))) m load.nav (tie p out t passing nav load at idle may).mode load.address request_then (its_what ∙ ap (λ (x : NavId). requests.Load x (tie p out t passing nav load at idle may).mode load.address) (sym own)) up
 
   -- ---- the other requests
 

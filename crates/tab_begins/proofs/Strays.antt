@@ -26,7 +26,7 @@ use Rattle.std.specs.Prelude.{option_map}
 use Rattle.step_index.specs.Held.{history_held}
 use Rattle.tab_applies.proofs.Dues.{tie}
 use Rattle.tab_applies.specs.Applying.{HasApplied, MayApply}
-use Rattle.tab_begins.proofs.Afters.{documents_same, hung, moves_at, other_look, same_target, serves, state_entered, tab_n, tab_s, way_is}
+use Rattle.tab_begins.proofs.Afters.{documents_same, hung, leaves_under, moves_at, other_look, same_target, serves, state_entered, tab_n, tab_s, way_is}
 use Rattle.tab_facts.proofs.Calm.Awakes.{awake_given, awake_shown}
 use Rattle.tab_facts.proofs.Calm.Calms.{IsGivenRow}
 use Rattle.tab_doors.specs.declared.tables.Tables.{Tables}
@@ -176,6 +176,7 @@ module _ (p : InPass) (out : List RowKind) (t : Tables) (passing : IsPassing p o
             noted = are.own doc state (in_table p None out t leaving doc state listed) entered;
             may = its;
             moves = λ m place other below placed wakes there is. moves_at p out t passing nav load at idle may more u then_ it other (ap (λ (l : List NavId). has_nav l load.nav) (on_way other below there) ∙ under m place other below placed wakes there is);
+            leaves = λ m place placed wakes. leaves_under p out t passing nav load at idle may more u then_ it m (ap (λ (l : List NavId). has_nav l load.nav) (on_way m place placed) ∙ mine m place placed wakes);
           }
 
     -- ---- it had none, and was no load's: it is one that was left
@@ -202,6 +203,7 @@ module _ (p : InPass) (out : List RowKind) (t : Tables) (passing : IsPassing p o
             noted = are.others state (held p None out t leaving state ∙ bare) ∙ before.noted;
             may = it.causes (whys.Req before.req) (λ r same. let one : before.req ≡ r = cc in subst (λ (x : ReqId). MayServe s x) one before.may) before.req refl;
             moves = λ m place other below placed wakes there is. absurd (unwoken m place (was_on m place placed wakes));
+            leaves = λ m place placed wakes. absurd (unwoken m place (was_on m place placed wakes));
           }
 
     -- ---- it was a load's: that goes on, or has an entry now

@@ -130,7 +130,7 @@ module _ (e : InEvent) (req : ReqId) (nav : NavId) (mode : Mode) (address : List
         record {
           going = pass.going;
           taken = taken_but e t.running blame s taking;
-          blamed = subst (λ (l : List (StateId × ReqId)). AreBlamedBy (ServesOrBegins req s) s l) (sym it.noted_is) (λ doc state stray. let was = taking.blamed doc state stray in record { req = was.req; noted = was.noted; may = inl was.may; moves = was.moves });
+          blamed = subst (λ (l : List (StateId × ReqId)). AreBlamedBy (ServesOrBegins req s) s l) (sym it.noted_is) (λ doc state stray. let was = taking.blamed doc state stray in record { req = was.req; noted = was.noted; may = inl was.may; moves = was.moves; leaves = was.leaves });
           own = theirs;
           rests = pass.rests;
           places = refl;

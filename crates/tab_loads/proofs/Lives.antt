@@ -6,7 +6,7 @@ use Rattle.log_model.specs.AfterDocuments.{new_document}
 use Rattle.log_model.specs.AfterRequests.{request_begun}
 use Rattle.log_model.specs.History.{History, has_nav, has_state}
 use Rattle.log_model.specs.Orders.{ongoing_load as load_of_state}
-use Rattle.log_model.specs.Places.{is_ongoing_load}
+use Rattle.log_model.specs.Places.{is_ongoing_load, way_to}
 use Rattle.log_model.specs.Seen.{Asked, Document, Place, Seen, document_of, place_of, request_of}
 use Rattle.log_model.specs.declared.job.Job.{Job}
 use Rattle.log_model.specs.declared.job.Why.{Why}
@@ -16,7 +16,7 @@ use Rattle.seen_facts.specs.Rest.Between.{HasLoadDocument}
 use Rattle.seen_laws.specs.InEvent.{now_of}
 use Rattle.std.proofs.Common.{Bool, List, None, Option, Some, [], ap, arith, cond, false, inl, inr, refl, subst, sym, true, ℕ, ◌++◌, ◌+◌, ◌==◌, ◌||◌, ◌∙◌, ◌∷◌, ◌≡◌, ◌⊎◌}
 use Rattle.std.proofs.lemmas.Bool.Decides.{nat_tests}
-use Rattle.std.specs.Prelude.{find}
+use Rattle.std.specs.Prelude.{find, option_map}
 use Rattle.tab_doors.specs.Orders.{next_order}
 use Rattle.tab_doors.specs.Working.{IsAtWork, KeepsStore}
 use Rattle.tab_doors.specs.declared.tables.Tables.{Tables}
@@ -37,9 +37,9 @@ use Rattle.tab_loads.specs.Telling.{away_in, fragment_in}
 use Rattle.tab_moves.specs.Making.{home_in}
 use Rattle.tab_one_pass.proofs.Lives.{placed_awake}
 use Rattle.tab_one_pass.specs.PassedOn.{IsBlamedBy}
-use Rattle.tab_passes.specs.Causes.{MayCause, MayServe}
+use Rattle.tab_passes.specs.Causes.{MayCause, MayServe, HasSetOut}
 use Rattle.tab_passes.specs.Passing.{IsPassing}
-use Rattle.tab_stands.proofs.PassedOn.{IsReachedAt, loaded_never, of_load, serve_on}
+use Rattle.tab_stands.proofs.PassedOn.{IsReachedAt, MayLeaveNav, begun_leaves, loaded_never, may_leave_same, of_load, serve_on, way_same}
 use Rattle.tab_stands.specs.PassedOn.{AreBlamed, IsBlamed, IsLoadOf as LoadOf, LoadsLive}
 use Rattle.row_facts.specs.WalkRows.Since.{WasAwake}
 use Rattle.log_model.specs.declared.job.Task.TheVariants as tasks
@@ -190,6 +190,22 @@ module _ (l : InLoad) (t : Tables) (asked : IsAsked l t) (placed_ : away_in t l.
       serves_fin r (inl may) = serve_on n fin r causes_fin may
       serves_fin r (inr same) = subst (λ (x : ReqId). MayServe fin x) (sym same) own_serves
 
+      leaves_fin : (r : ReqId) (nav : NavId) → MayServe fin r → MayLeaveNav n r nav → MayLeaveNav fin r nav
+      leaves_fin r nav may may_ = by_own (r.0 == l.req.0) refl
+        where
+          ways : way_to fin nav ≡ way_to n nav
+          ways = way_same n fin nav (ap (option_map (λ (x : Place). x.above)) (place_on nav))
+
+          own_late : HasSetOut own → ⊥
+          own_late out = let none : false ≡ true = out.loads refl in cc
+
+          by_own : (b : Bool) → (r.0 == l.req.0) ≡ b → MayLeaveNav fin r nav
+          by_own false apart = may_leave_same n fin r nav may (other_same r apart) ways may_
+          by_own true is =
+              let named : r ≡ l.req = req_same r l.req is in
+              subst (λ (x : ReqId). MayLeaveNav fin x nav) (sym named)
+              (begun_leaves n fin l.req nav own own_then made.found own_late found_then refl ways (subst (λ (x : ReqId). MayLeaveNav n x nav) named may_))
+
       by_old : IsBlamedBy (ServesOrBegins l.req n) n noted doc state_ → IsBlamed fin noted doc state_
       by_old was =
           record {
@@ -197,6 +213,7 @@ module _ (l : InLoad) (t : Tables) (asked : IsAsked l t) (placed_ : away_in t l.
             noted = was.noted;
             may = serves_fin was.req was.may;
             moves = λ nav place_ other under placed__ wakes there_ is. moved_fin (whys.Req was.req) other (was.moves nav place_ other under (sym (place_on nav) ∙ placed__) wakes (sym (place_on other) ∙ there_) is);
+            leaves = λ nav place_ placed__ wakes. leaves_fin was.req nav (serves_fin was.req was.may) (was.leaves nav place_ (sym (place_on nav) ∙ placed__) wakes);
           }
 
       by_case : (document_of n doc ≡ Some stray.document) ⊎ (new ≡ stray.document) → IsBlamed fin noted doc state_

@@ -1,4 +1,5 @@
 -- A row that changes one request alone, which hasn't begun: what documents made may be taken after it as before, and the queue waits on.
+use Rattle.std.specs.Prelude.{option_map}
 use Rattle.seen_facts.specs.Asked.Asking.{ArePlain}
 use Rattle.seen_facts.specs.Home.Homes.{AreHomed, document_in}
 use Rattle.log_model.specs.History.{History, has_state}
@@ -13,7 +14,7 @@ use Rattle.tab_ids.specs.declared.ReqId.{ReqId}
 use Rattle.tab_ids.specs.declared.StateId.{StateId}
 use Rattle.tab_loads.proofs.Changes.{ChangesOne}
 use Rattle.tab_loads.proofs.Leaving.{LeavesMost, taken_but, taking_by}
-use Rattle.tab_stands.proofs.PassedOn.{causes_on, live_then, load_back, look_back, ready_back, serve_on, unloaded_back}
+use Rattle.tab_stands.proofs.PassedOn.{causes_on, live_then, load_back, look_back, may_leave_reads, ready_back, serve_on, unloaded_back, way_same}
 use Rattle.tab_stands.specs.PassedOn.{AreBlamed, IsBlamed, IsTaking, LeavesQueue, LoadsLive, MayCause}
 use Rattle.log_model.specs.declared.job.Why.TheVariants as whys
 
@@ -57,6 +58,7 @@ module _ (e : InEvent) (run : Option ReqId) (blame : List (StateId × ReqId)) (s
             noted = was.noted;
             may = serve_on s n was.req causes_then was.may;
             moves = λ nav place other under placed wakes there is. it.moved (whys.Req was.req) other (was.moves nav place other under (sym (place_same nav) ∙ placed) wakes (sym (place_same other) ∙ there) is);
+            leaves = λ nav place placed wakes. may_leave_reads s n was.req nav (serve_on s n was.req causes_then was.may) (it.whats was.req) (it.starts was.req) (way_same s n nav (ap (option_map (λ (x : Place). x.above)) (place_same nav))) (was.leaves nav place (sym (place_same nav) ∙ placed) wakes);
           }
 
   live : LoadsLive n

@@ -36,6 +36,7 @@ use Rattle.tab_ids.specs.declared.DocId.{DocId}
 use Rattle.tab_ids.specs.declared.NavId.{NavId}
 use Rattle.tab_ids.specs.declared.ReqId.{ReqId}
 use Rattle.tab_ids.specs.declared.StateId.{StateId}
+use Rattle.tab_one_pass.proofs.Lefts.{may_leave_left}
 use Rattle.tab_one_pass.specs.Noting.{AreNoted, IsNotedBy, IsToNote, noted_for, noting_in}
 use Rattle.tab_one_pass.specs.Passing.{AreLeftStrays, IsLeftStray, TakersServe}
 use Rattle.tab_serves.specs.PassedOn.{MayServe}
@@ -181,9 +182,14 @@ module _ (p : InPass) (was : List RowKind) (t : Tables) (pass : IsPassing p was 
           record {
             req = it.req;
             noted = are.others state (unnoted (Some by) state none) ∙ it.noted;
-            may = on it.req (left.orders (whys.Req it.req) (λ r same. let one : it.req ≡ r = cc in subst (λ (y : ReqId). MayServe s y) one it.may) it.req refl);
+            may = on it.req (its_may it.req it.may);
             moves = λ nav place other under placed wakes at is. left.movers (whys.Req it.req) other (it.moves nav place other under (sym (place_was nav) ∙ placed) wakes (sym (place_was other) ∙ at) is);
+            leaves = λ nav place placed wakes. may_leave_left s x left it.req nav (its_may it.req it.may) (it.leaves nav place (sym (place_was nav) ∙ placed) wakes);
           }
+        where
+          its_may : (req : ReqId) → MayServe s req → MayServe x req
+          its_may req may_ =
+              left.orders (whys.Req req) (λ r same. let one : req ≡ r = cc in subst (λ (y : ReqId). MayServe s y) one may_) req refl
 
       now_blamed : (doc : DocId) (state : StateId) (stray : IsStray x doc state) (q : Asked) → ongoing_load s state ≡ Some q → IsBlamedBy serves x noted doc state
       now_blamed doc state stray q is =
@@ -192,6 +198,7 @@ module _ (p : InPass) (was : List RowKind) (t : Tables) (pass : IsPassing p was 
             noted = one.found;
             may = subst (λ (r : ReqId). serves r) by_is may;
             moves = λ nav place other under placed wakes at below. absurd (unwoken doc stray.document q found here nav place (sym (place_was nav) ∙ placed) wakes);
+            leaves = λ nav place placed wakes. absurd (unwoken doc stray.document q found here nav place (sym (place_was nav) ∙ placed) wakes);
           }
         where
           found : document_of s doc ≡ Some stray.document

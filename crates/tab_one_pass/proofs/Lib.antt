@@ -1,5 +1,6 @@
 pub mod Sents
 pub mod Notings
+pub mod Lefts
 pub mod Dropped
 pub mod Opens
 pub mod Stands

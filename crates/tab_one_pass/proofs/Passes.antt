@@ -179,6 +179,7 @@ left_blamed s blame with_rows own left doc state stray =
       noted = it.noted;
       may = it.may;
       moves = λ nav place other under placed wakes at is. absurd (let never : true ≡ false = sym (with_rows nav place doc placed wakes) ∙ ap (λ (n : NavId). has_row n s.history.rows) (sym (own nav place doc stray.document placed wakes stray.found)) ∙ it.bare stray.document stray.found in cc);
+      leaves = λ nav place placed wakes. absurd (let never : true ≡ false = sym (with_rows nav place doc placed wakes) ∙ ap (λ (n : NavId). has_row n s.history.rows) (sym (own nav place doc stray.document placed wakes stray.found)) ∙ it.bare stray.document stray.found in cc);
     }
   where
     it : IsLeftStray s blame doc state

@@ -291,6 +291,7 @@ module _ (e : InEvent) (run : Option ReqId) (keep : ℕ) (goal : Step) (blame : 
             noted = it.noted;
             may = it.may;
             moves = λ nav place other under placed wakes at is. absurd (let never : true ≡ false = sym (rows_then nav place doc placed wakes) ∙ ap (λ (x : NavId). has_row x n.history.rows) (sym (own_document run ids hand n tab nav place doc stray.document placed wakes stray.found)) ∙ it.bare stray.document stray.found in cc);
+            leaves = λ nav place placed wakes. absurd (let never : true ≡ false = sym (rows_then nav place doc placed wakes) ∙ ap (λ (x : NavId). has_row x n.history.rows) (sym (own_document run ids hand n tab nav place doc stray.document placed wakes stray.found)) ∙ it.bare stray.document stray.found in cc);
           }
 
       loads_of : (r : Option ReqId) → MayStand r n

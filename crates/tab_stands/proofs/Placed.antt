@@ -215,6 +215,7 @@ module _ (e : InEvent) (proc : ProcId) (job : Job) (outcome : Outcome) (del : Is
               noted = it.noted_is;
               may = it.may;
               moves = λ x place other under placed wakes found side. absurd (unshown x place placed (wakes ∙ ap (λ (y : DocId). let st : Status = awake y in st) at));
+              leaves = λ x place placed wakes. absurd (unshown x place placed (wakes ∙ ap (λ (y : DocId). let st : Status = awake y in st) at));
             })
 
         by_old : (was.before.nr.0 == job.doc.0) ≡ false → was.before ≡ stray.document → IsLeftStray n noted doc of

@@ -20,7 +20,7 @@ use Rattle.tab_ids.specs.declared.StateId.{StateId}
 use Rattle.tab_passes.proofs.Leavings.{leaving_none, passing_again}
 use Rattle.tab_passes.specs.Leaving.{IsLeaving}
 use Rattle.tab_passes.specs.Passing.{InPass, IsPassing}
-use Rattle.tab_sweeps.specs.Sweeping.{AreAscending, AreBlamed, HasOnlySwept, IsOnStray, IsSweepOf, IsSweptTurn, NoneStray, but_status, ordered_number}
+use Rattle.tab_sweeps.specs.Sweeping.{AreAscending, AreBlamed, HasOnlySwept, IsOnStray, IsSweepOf, IsSweptTurn, NoneStray, StraysAreLeft, but_status, ordered_number}
 use Rattle.tab_sweeps.specs.Turns.{AreStrays, HasSweptEach, HasSweptFirst, HasSweptNext, IsSweeping, IsSweepingAt, numbers_of}
 use Rattle.row_facts.proofs.WalkRows.Sinces.{since_itself}
 use Rattle.row_facts.specs.WalkRows.Since.{WasAwake}
@@ -161,8 +161,8 @@ module _ (blame : List (StateId × ReqId)) (docs : List DocId) where
 
   -- ---- as it begins, and as it ends
 
-  pub sweep_begins : (p : InPass) (out : List RowKind) (t : Tables) → IsPassing p out t → AreBlamed (now_of p.event out) blame → AreStrays (now_of p.event out) docs → IsSweepingAt p blame docs 0 out t
-  sweep_begins p out t pass blamed strays =
+  pub sweep_begins : (p : InPass) (out : List RowKind) (t : Tables) → IsPassing p out t → AreBlamed (now_of p.event out) blame → StraysAreLeft p.event out blame → AreStrays (now_of p.event out) docs → IsSweepingAt p blame docs 0 out t
+  sweep_begins p out t pass blamed lefts strays =
       let leaving : IsLeaving p None [] out t = leaving_none p out t pass in
       record {
         leaving = record {
@@ -175,6 +175,7 @@ module _ (blame : List (StateId × ReqId)) (docs : List DocId) where
         loose = pass.loose;
         few = pass.few;
         blamed = blamed;
+        lefts = lefts;
         strays = strays;
       }
 

@@ -30,12 +30,13 @@ use Rattle.tab_ids.specs.declared.ReqId.{ReqId}
 use Rattle.tab_ids.specs.declared.StateId.{StateId}
 use Rattle.tab_passes.proofs.Goings.{goes_on}
 use Rattle.tab_passes.proofs.Serveds.{served_causes}
-use Rattle.tab_passes.specs.Causes.{MayCause}
+use Rattle.tab_passes.specs.Causes.{MayCause, MayServe}
 use Rattle.tab_passes.specs.Leaving.{IsLeaving}
 use Rattle.tab_passes.specs.Passing.{InPass}
 use Rattle.tab_sweeps.proofs.Loads.{unloaded_same}
+use Rattle.tab_sweeps.proofs.MayLeaves.{may_leave_looks, way_same}
 use Rattle.tab_sweeps.proofs.Unders.{sleeper_is}
-use Rattle.tab_sweeps.specs.Sweeping.{IsNoStray, IsOnStray, IsStray, IsSweptTurn, MovesUnder, but_status}
+use Rattle.tab_sweeps.specs.Sweeping.{IsNoStray, IsOnStray, IsStray, IsSweptTurn, LeavesAwake, MovesUnder, but_status}
 use Rattle.seen_facts.proofs.Walk.Placed.{found_nav}
 use Rattle.seen_facts.proofs.Walk.Sleepers.{slept, slept_same}
 use Rattle.row_facts.proofs.WalkRows.Leaves.{sent_aim}
@@ -214,6 +215,20 @@ module _ (p : InPass) {left : List DocId} (out : List RowKind) (t : Tables) (lea
       by_case : (old : Place) → under.above ≡ old.above → ((other.0 == nav.0) ≡ true) ⊎ (is_below nav under ≡ true) → ((other.0 == nav.0) ≡ true) ⊎ (is_below nav old ≡ true)
       by_case old same (inl e) = inl e
       by_case old same (inr e) = inr (ap (λ (l : List NavId). has_nav l nav) (sym same) ∙ e)
+
+  -- a request that may leave whoever is awake on a document may still
+  pub leaves_then : (x : DocId) (req : ReqId) → MayServe then_ req → LeavesAwake s x req → LeavesAwake then_ x req
+  leaves_then x req may leaves nav place placed wakes =
+      let was : WasAwake s nav x = awake_then nav place x refl placed wakes in
+      may_leave_looks s then_ req nav may (looks_then req) (way_same s then_ nav above) (leaves nav was.place was.placed was.wakes)
+    where
+      through : (o : Option Place) → option_map (λ (q : Place). q.above) (option_map but_status o) ≡ option_map (λ (q : Place). q.above) o
+      through None = refl
+      through (Some q) = refl
+
+      above : option_map (λ (q : Place). q.above) (place_of then_ nav) ≡ option_map (λ (q : Place). q.above) (place_of s nav)
+      above =
+          sym (through (place_of then_ nav)) ∙ ap (option_map (λ (q : Place). q.above)) (places_then nav) ∙ through (place_of s nav)
 
   -- ---- the row was put out
 

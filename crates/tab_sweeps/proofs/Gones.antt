@@ -26,13 +26,14 @@ use Rattle.tab_ids.specs.declared.DocId.{DocId}
 use Rattle.tab_ids.specs.declared.ReqId.{ReqId}
 use Rattle.tab_ids.specs.declared.StateId.{StateId}
 use Rattle.tab_passes.proofs.Fews.{fewer as shorter}
+use Rattle.tab_passes.proofs.LeftFor.{off_on}
 use Rattle.tab_passes.specs.Causes.{MayCause, MayServe}
 use Rattle.tab_passes.specs.Leaving.{IsLeaving, left_then}
 use Rattle.tab_passes.specs.Passing.{InPass}
-use Rattle.tab_sweeps.proofs.Discards.{causes_then, now_is, stray_apart, stray_still, stray_was, under_then}
+use Rattle.tab_sweeps.proofs.Discards.{causes_then, leaves_then, now_is, stray_apart, stray_still, stray_was, under_then}
 use Rattle.tab_sweeps.proofs.Lists.{first_apart}
 use Rattle.tab_sweeps.proofs.Unders.{left_stray}
-use Rattle.tab_sweeps.specs.Sweeping.{AreBlamed, IsBlamed, IsStray, IsSweepOf}
+use Rattle.tab_sweeps.specs.Sweeping.{AreBlamed, IsBlamed, IsStray, IsSweepOf, StraysAreLeft}
 use Rattle.tab_sweeps.specs.Turns.{AreStrays, HasSweptEach, IsAnyStray, IsSweeping}
 use Rattle.row_facts.proofs.WalkRows.Needs.{sent_stood}
 use Rattle.log_model.specs.declared.job.Task.TheVariants as tasks
@@ -109,7 +110,12 @@ module _ (p : InPass) (blame : List (StateId × ReqId)) (doc : DocId) (rest : Li
     blamed_then : AreBlamed then_ blame
     blamed_then x own its =
         let b : IsBlamed s blame x own = so.blamed x own (was_stray x own its) in
-        record { req = b.req; noted = b.noted; may = serve_then b.req b.may; moves = under_then p out t so.leaving doc state stray why x (whys.Req b.req) b.moves }
+        record { req = b.req; noted = b.noted; may = serve_then b.req b.may; moves = under_then p out t so.leaving doc state stray why x (whys.Req b.req) b.moves; leaves = leaves_then p out t so.leaving doc state stray why x b.req (serve_then b.req b.may) b.leaves }
+
+    lefts_then : StraysAreLeft p.event new blame
+    lefts_then x own r its found =
+        off_on p.event out (rows.Sent discard) new is tt x (whys.Req r)
+        (so.lefts x own r (was_stray x own (subst (λ (y : Seen). IsStray y x own) (sym then_is) its)) found)
 
     -- those that are still to be frozen or discarded are among them
     left_part : IsPart (left_then s doc (doc ∷ rest)) rest
@@ -156,6 +162,7 @@ module _ (p : InPass) (blame : List (StateId × ReqId)) (doc : DocId) (rest : Li
           loose = λ stand. subst (λ (l : List RowKind). IsLoose p.event l) (sym is) (loose_then (subst (λ (x : Seen). all_stand x (aim_of x) ≡ true) (sym then_is) stand));
           few = subst (λ (x : Seen). length x.kept ≤ u.kept.keep) then_is few_then;
           blamed = subst (λ (x : Seen). AreBlamed x blame) then_is blamed_then;
+          lefts = lefts_then;
           strays = subst (λ (x : Seen). AreStrays x rest) then_is strays_then;
         }
 

@@ -5,6 +5,7 @@ pub mod Unders
 pub mod Founds
 pub mod Theres
 pub mod Sends
+pub mod MayLeaves
 pub mod Discards
 pub mod Gones
 pub mod Courses

@@ -1,6 +1,7 @@
 -- A stray document may be discarded, for the request that is noted for its state.
 use Rattle.row_facts.proofs.LeaveRows.LeftMays.{gone_left_may}
 use Rattle.row_facts.specs.LeaveRows.Leaving.{IsDiscardOf}
+use Rattle.row_facts.specs.LeaveRows.MayLeave.{MayBeLeft}
 use Rattle.row_facts.specs.FrameRows.Discarding.{IsDiscardDue, SettlesNone}
 use Rattle.seen_facts.proofs.Hang.Hung.{places_distinct}
 use Rattle.seen_facts.specs.Hang.AsPlaces.{AreDistinct}
@@ -15,8 +16,9 @@ use Rattle.seen_laws.proofs.InEvents.{led_here, now_is}
 use Rattle.seen_laws.specs.InEvent.{InEvent, here_of, now_of, row_of}
 use Rattle.std.proofs.Common.{List, None, Option, Some, ap, false, inr, refl, subst, sym, true, ◌∙◌, ◌≡◌}
 use Rattle.std.specs.Map.{lookup}
+use Rattle.std.specs.Prelude.{is_some}
 use Rattle.tab_doors.proofs.Whose.{proc_found}
-use Rattle.tab_doors.proofs.Leavable.{IsLeftAs, discards_log, gone_log, left_log, numbered_log, prompts_log}
+use Rattle.tab_doors.proofs.Leavable.{IsLeftAs, discards_log, gone_log, numbered_log, prompts_log}
 use Rattle.tab_doors.proofs.Works.{numbered}
 use Rattle.tab_doors.specs.Keeping.{Move}
 use Rattle.tab_doors.specs.Orders.{order_to, proc_at}
@@ -26,6 +28,7 @@ use Rattle.tab_ids.specs.declared.DocId.{DocId}
 use Rattle.tab_ids.specs.declared.ReqId.{ReqId}
 use Rattle.tab_ids.specs.declared.StateId.{StateId}
 use Rattle.tab_passes.proofs.Goings.{none_to_begin}
+use Rattle.tab_passes.proofs.LeftFor.{off_for}
 use Rattle.tab_passes.specs.Causes.{MayCause, MayServe}
 use Rattle.tab_passes.specs.Leaving.{MayLeave}
 use Rattle.tab_passes.specs.Passing.{InPass}
@@ -39,8 +42,8 @@ use Rattle.log_model.specs.declared.job.Why.TheVariants as whys
 use Rattle.log_model.specs.declared.row_kind.RowKind.TheVariants as rows
 
 -- an order may be sent to a document of no entry and no load
-stray_ahead : {move : Option Move} (e : InEvent) (out : List RowKind) (t : Tables) (doc : DocId) (d : Document) (by : ReqId) (r : Asked) → IsAtWorkFor move e out t → IsDiscardDue (now_of e out) (order_to (now_of e out) doc (whys.Req by) tasks.Discard) d by r → (desk_of (now_of e out) (proc_at (now_of e out) doc)).known ≡ 0 → SettlesNone (now_of e out) (row_of e (rows.Sent (order_to (now_of e out) doc (whys.Req by) tasks.Discard))) → MaySend None e out (order_to (now_of e out) doc (whys.Req by) tasks.Discard)
-stray_ahead e out t doc d by r work due known settles later ahead =
+stray_ahead : {move : Option Move} (e : InEvent) (out : List RowKind) (t : Tables) (doc : DocId) (d : Document) (by : ReqId) (r : Asked) → IsAtWorkFor move e out t → MayBeLeft (here_of e out) (order_to (now_of e out) doc (whys.Req by) tasks.Discard) → IsDiscardDue (now_of e out) (order_to (now_of e out) doc (whys.Req by) tasks.Discard) d by r → (desk_of (now_of e out) (proc_at (now_of e out) doc)).known ≡ 0 → SettlesNone (now_of e out) (row_of e (rows.Sent (order_to (now_of e out) doc (whys.Req by) tasks.Discard))) → MaySend None e out (order_to (now_of e out) doc (whys.Req by) tasks.Discard)
+stray_ahead e out t doc d by r work left due known settles later ahead =
     gone_left_may (here_of e out) e.event e.actor order its.d (led_here e out work.own) (numbered_log e out (now_is e out) order (numbered (now_of e out) (proc_at (now_of e out) doc) doc (whys.Req by) tasks.Discard known)) (gone_log e out t work order d its gone unloaded) later (prompts_log e out t work order settles later, tt)
   where
     order : Job
@@ -51,7 +54,7 @@ stray_ahead e out t doc d by r work due known settles later ahead =
 
     its : IsLeftAs e out order d
     its =
-        discards_log e out (now_is e out) order d (left_log e out t work order d due.to.found due.unhandled discards.for_one) discards
+        discards_log e out (now_is e out) order d left discards
 
     gone : has_state d.state (now_of e out).history.rows ≡ false
     gone = due.gone
@@ -118,6 +121,7 @@ module _ (p : InPass) (blame : List (StateId × ReqId)) {docs : List DocId} (out
     sweep_sends =
         let asked = is_asked s req may_serve in
         stray_ahead p.event out t doc stray.document req asked.q so.leaving.work
+        (off_for p.event out so.leaving.duly discard stray.document stray.found (ap (λ (o : Option Asked). is_some o) asked.at) (so.lefts doc state req stray noted))
         (record {
           task = refl;
           to = record { found = stray.found; proc = sym (proc_found s doc stray.document stray.found); alive = rw (stray.undiscarded, stray_unknown p out t so.leaving doc state stray) refl };

@@ -29,13 +29,13 @@ use Rattle.seen_facts.specs.Asked.Asking.{HavePassed}
 use Rattle.row_facts.specs.RestRows.Left.{left_below, shown_by}
 use Rattle.seen_laws.proofs.InEvents.{led_here}
 use Rattle.seen_laws.specs.InEvent.{here_of, now_of, row_of}
-use Rattle.std.proofs.Common.{Bool, List, None, Option, Some, [], ap, arith, false, inr, length, filter, map, not, refl, subst, sym, true, ℕ, ◌&&◌, ◌++◌, ◌==◌, ◌||◌, ◌∙◌, ◌∷◌, ◌≡◌, ◌≤◌}
+use Rattle.std.proofs.Common.{Bool, List, None, Option, Some, [], ap, arith, false, inl, inr, length, filter, map, not, refl, subst, sym, true, ℕ, ◌&&◌, ◌++◌, ◌==◌, ◌||◌, ◌∙◌, ◌∷◌, ◌≡◌, ◌≤◌}
 use Rattle.std.proofs.lemmas.Bool.Decides.{nat_tests}
 use Rattle.std.specs.List.{list_any}
 use Rattle.std.specs.Option.{option_map_or}
 use Rattle.std.specs.Prelude.{is_some, slice_get}
 use Rattle.tab_doors.proofs.Whose.{proc_found}
-use Rattle.tab_doors.proofs.Leavable.{IsLeftAs, discards_log, left_log, numbered_log, prompts_log, seen_at, unneeded_log}
+use Rattle.tab_doors.proofs.Leavable.{IsLeftAs, discards_log, numbered_log, prompts_log, seen_at, unneeded_log}
 use Rattle.tab_doors.proofs.Works.{done_here, numbered, start_here}
 use Rattle.tab_doors.specs.Orders.{order_to, proc_at}
 use Rattle.tab_doors.specs.Working.{KeepsStore, MaySend}
@@ -45,6 +45,7 @@ use Rattle.tab_ids.specs.declared.NavId.{NavId}
 use Rattle.tab_ids.specs.declared.StateId.{StateId}
 use Rattle.tab_passes.proofs.Fews.{fewer as shorter}
 use Rattle.tab_passes.proofs.Goings.{none_to_begin}
+use Rattle.tab_passes.proofs.LeftFor.{off_for}
 use Rattle.tab_passes.proofs.Leavings.{leaving_none, passing_again}
 use Rattle.tab_passes.specs.Causes.{MayCause}
 use Rattle.tab_passes.specs.Leaving.{IsLeaving, MayLeave, left_then}
@@ -198,7 +199,7 @@ module _ (p : InPass) (out : List RowKind) (t : Tables) (passing : IsPassing p o
   -- the document as the log has it: it may be left
   left_as : IsLeftAs p.event out (order_to s doc why tasks.Discard) stray.document
   left_as =
-      discards_log p.event out (events.now_is p.event out) (order_to s doc why tasks.Discard) stray.document (left_log p.event out t leaving.work (order_to s doc why tasks.Discard) stray.document stray.found due.discards.unhandled due.discards.for_one) due.discards
+      discards_log p.event out (events.now_is p.event out) (order_to s doc why tasks.Discard) stray.document (off_for p.event out leaving.duly (order_to s doc why tasks.Discard) stray.document stray.found due.discards.for_one (inl its.unwoken)) due.discards
 
   pub unneeded_sends : MaySend None p.event out discard
   unneeded_sends later ahead =

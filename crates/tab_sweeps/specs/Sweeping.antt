@@ -2,19 +2,21 @@
 -- HTML Standard, "destroy a document" and "destroy a child navigable"; that a document of no entry is discarded, and for which request, is this project's own.
 use Rattle.seen_facts.specs.Hang.Members.{Has}
 use Rattle.seen_facts.specs.Load.Loading.{look_of}
+use Rattle.leave_facts.specs.Leaving.{leaves_nav}
 use Rattle.load_table.specs.Loads.{ongoing_load as load_in}
 use Rattle.load_table.specs.declared.load.Load.{Load}
 use Rattle.log_model.specs.Equal.{has_doc, holds}
-use Rattle.log_model.specs.History.{has_state}
+use Rattle.log_model.specs.History.{has_nav, has_state}
 use Rattle.log_model.specs.Orders.{ongoing_load}
-use Rattle.log_model.specs.Places.{aim_of, is_below}
-use Rattle.log_model.specs.Seen.{Document, Place, Seen, asleep, awake, document_of, place_of}
+use Rattle.log_model.specs.Places.{aim_of, is_below, way_to}
+use Rattle.log_model.specs.Seen.{Asked, Document, Place, Seen, asleep, awake, document_of, place_of, request_of}
 use Rattle.log_model.specs.declared.job.Job.{Job}
 use Rattle.log_model.specs.declared.job.Why.{Why}
 use Rattle.log_model.specs.declared.row_kind.RowKind.{RowKind}
 use Rattle.seen_facts.proofs.Mover.Stays.{KeepWays}
 use Rattle.seen_facts.specs.Mover.Movers.{IsMovedBy}
 use Rattle.nav_tree.specs.Tree.{is_state, state_of}
+use Rattle.seen_laws.specs.InEvent.{InEvent, now_of}
 use Rattle.std.specs.Map.{lookup}
 use Rattle.std.specs.Prelude.{Bool, List, None, Option, Some, [], false, filter_map, if◌then◌else◌, is_some, option_and_then, option_map, true, ℕ, ◌++◌, ◌<◌, ◌==◌, ◌||◌, ◌∷◌, ◌≡◌, ◌⊎◌}
 use Rattle.step_index.specs.Held.{history_held}
@@ -24,7 +26,8 @@ use Rattle.tab_ids.specs.declared.DocId.{DocId}
 use Rattle.tab_ids.specs.declared.NavId.{NavId}
 use Rattle.tab_ids.specs.declared.ReqId.{ReqId}
 use Rattle.tab_ids.specs.declared.StateId.{StateId}
-use Rattle.tab_passes.specs.Causes.{MayCause, MayServe}
+use Rattle.tab_passes.specs.Causes.{HasSetOut, MayCause, MayServe}
+use Rattle.tab_passes.specs.Leaving.{WasOffOrLeft}
 use Rattle.row_facts.specs.WalkRows.Since.{AwakeSince}
 use Rattle.log_model.specs.declared.job.Task.TheVariants as tasks
 use Rattle.log_model.specs.declared.job.Why.TheVariants as whys
@@ -76,12 +79,35 @@ abbrev pub MovesUnder : Seen → DocId → Why → Type 0
 MovesUnder s doc why =
     (nav : NavId) (place : Place) (other : NavId) (under : Place) → place_of s nav ≡ Some place → place.status ≡ awake doc → place_of s other ≡ Some under → ((other.0 == nav.0) ≡ true) ⊎ (is_below nav under ≡ true) → IsMovedBy s why other
 
--- a request of which this is so is noted for the state of a stray document, and whoever falls asleep with that one is moved by it
+-- the request has set out and hasn't begun, so it never does: a document made it, or it is a load that went to a fragment
+pub record NeverBegins (q : Asked) : Type 0 where
+  pub out : HasSetOut q
+  pub unstarted : q.is_started ≡ false
+
+-- the request is a load or reload of the navigable, or of one above it
+pub record IsOverNav (s : Seen) (q : Asked) (nav : NavId) : Type 0 where
+  pub at : NavId
+  pub leaves : leaves_nav q.what ≡ Some at
+  pub above : has_nav (way_to s nav) at ≡ true
+
+-- the request may leave the navigable: it never begins, so it asks nobody, or it is a load or reload of it, or of one above it
+pub record MayLeaveNav (s : Seen) (req : ReqId) (nav : NavId) : Type 0 where
+  pub q : Asked
+  pub found : request_of s req ≡ Some q
+  pub how : NeverBegins q ⊎ IsOverNav s q nav
+
+-- so it may each navigable that is awake on the document
+abbrev pub LeavesAwake : Seen → DocId → ReqId → Type 0
+LeavesAwake s doc req =
+    (nav : NavId) (place : Place) → place_of s nav ≡ Some place → place.status ≡ awake doc → MayLeaveNav s req nav
+
+-- a request of which this is so is noted for the state of a stray document, and whoever falls asleep with that one is moved by it, and whoever is awake on it may be left for it
 pub record IsBlamedBy (serves : ReqId → Type 0) (s : Seen) (blame : List (StateId × ReqId)) (doc : DocId) (state : StateId) : Type 0 where
   pub req : ReqId
   pub noted : lookup (is_state state) blame ≡ Some req
   pub may : serves req
   pub moves : MovesUnder s doc (whys.Req req)
+  pub leaves : LeavesAwake s doc req
 
 -- one is noted for that of each
 abbrev pub AreBlamedBy : (ReqId → Type 0) → Seen → List (StateId × ReqId) → Type 0
@@ -93,6 +119,11 @@ IsBlamed s blame doc state = IsBlamedBy (MayServe s) s blame doc state
 
 abbrev pub AreBlamed : Seen → List (StateId × ReqId) → Type 0
 AreBlamed s blame = AreBlamedBy (MayServe s) s blame
+
+-- nobody was awake on a stray document as the event began, or it is left duly for the request that is noted for its state
+abbrev pub StraysAreLeft : InEvent → List RowKind → List (StateId × ReqId) → Type 0
+StraysAreLeft e out blame =
+    (doc : DocId) (state : StateId) (req : ReqId) → IsStray (now_of e out) doc state → lookup (is_state state) blame ≡ Some req → WasOffOrLeft e out (whys.Req req) doc
 
 -- ---- what is put out
 

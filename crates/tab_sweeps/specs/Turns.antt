@@ -14,7 +14,7 @@ use Rattle.tab_ids.specs.declared.ReqId.{ReqId}
 use Rattle.tab_ids.specs.declared.StateId.{StateId}
 use Rattle.tab_passes.specs.Leaving.{IsLeaving}
 use Rattle.tab_passes.specs.Passing.{InPass}
-use Rattle.tab_sweeps.specs.Sweeping.{AreAscending, AreBlamed, IsStray, IsSweepOf, ordered_number}
+use Rattle.tab_sweeps.specs.Sweeping.{AreAscending, AreBlamed, IsStray, IsSweepOf, StraysAreLeft, ordered_number}
 
 -- the numbers of documents
 abbrev pub numbers_of : List DocId → List ℕ
@@ -37,6 +37,7 @@ pub record IsSweeping (p : InPass) (blame : List (StateId × ReqId)) (docs : Lis
   pub loose : all_stand (now_of p.event out) (aim_of (now_of p.event out)) ≡ true → IsLoose p.event out
   pub few : length (now_of p.event out).kept ≤ t.kept.keep
   pub blamed : AreBlamed (now_of p.event out) blame
+  pub lefts : StraysAreLeft p.event out blame
   pub strays : AreStrays (now_of p.event out) docs
 
 -- where one is: those that are still to be

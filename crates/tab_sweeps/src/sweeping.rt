@@ -5,7 +5,7 @@ ghost use Rattle.seen_laws.specs.InEvent.{now_of};
 ghost use Rattle.std.specs.Map.{lookup};
 ghost use Rattle.tab_doors.specs.Working.{KeepsStore};
 ghost use Rattle.tab_passes.specs.Passing.{InPass, IsPassing};
-ghost use Rattle.tab_sweeps.specs.Sweeping.{AreBlamed, HasOnlySwept, IsSweptTurn, NoneStray};
+ghost use Rattle.tab_sweeps.specs.Sweeping.{AreBlamed, HasOnlySwept, IsSweptTurn, NoneStray, StraysAreLeft};
 ghost use Rattle.tab_sweeps.specs.Turns.{AreStrays, HasSweptNext, InSweep, IsSweepTurn, IsSweepingAt};
 
 use crate::strays::strays_among;
@@ -75,6 +75,7 @@ fn sweep_each(
     ghost p: { InPass }
     requires passing { IsPassing p out.old tables.old }
     requires blamed { AreBlamed (now_of p.event out.old) blame.now.entries }
+    requires lefts { StraysAreLeft p.event out.old blame.now.entries }
     requires strays { AreStrays (now_of p.event out.old) strays.now }
     ensures passing { OnOk result (IsPassing p out.new tables.new) }
     ensures swept { OnOk result (NoneStray (now_of p.event out.new)) }
@@ -98,6 +99,7 @@ pub fn sweep(
     ghost p: { InPass }
     requires passing { IsPassing p out.old tables.old }
     requires blamed { AreBlamed (now_of p.event out.old) blame.now.entries }
+    requires lefts { StraysAreLeft p.event out.old blame.now.entries }
     ensures passing { OnOk result (IsPassing p out.new tables.new) }
     ensures swept { OnOk result (NoneStray (now_of p.event out.new)) }
     ensures only { OnOk result (HasOnlySwept (now_of p.event out.old) blame.now.entries out.old out.new) }

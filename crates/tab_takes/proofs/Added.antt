@@ -19,7 +19,7 @@ use Rattle.address.specs.Addresses.{blank_text}
 use Rattle.log_model.specs.History.{History, first_step, fits, has_nav, has_row, has_state, is_of}
 use Rattle.log_model.specs.Once.{change_of_made, next_entry_of, next_state}
 use Rattle.log_model.specs.Orders.{is_usable}
-use Rattle.log_model.specs.Places.{aim_of, holder_of, is_awake, is_below, is_load, is_shown}
+use Rattle.log_model.specs.Places.{aim_of, holder_of, is_awake, is_below, is_load, is_shown, way_to}
 use Rattle.log_model.specs.Seen.{Asked, Document, Place, Seen, asleep, awake, document_of, place_of, request_in}
 use Rattle.log_model.specs.declared.change.Change.{Change}
 use Rattle.log_model.specs.declared.made.Made.{Made}
@@ -44,7 +44,7 @@ pub use Rattle.tab_doors.specs.Look.{moved_by}
 use Rattle.tab_doors.specs.Ties.{AreTied}
 use Rattle.tab_doors.specs.Working.{IsAtWork, KeepsRun}
 use Rattle.tab_doors.specs.declared.tables.Tables.{Tables}
-use Rattle.tab_rests.proofs.PassedOn.{IsBare, IsBlamed, IsUnsettled, MayServe, ParentsShown, StandOrBare, TakersServe, added_going, added_tab, count_few, fresh, new_state, new_to, serve_on, tab_placed}
+use Rattle.tab_rests.proofs.PassedOn.{IsBare, IsBlamed, IsUnsettled, MayServe, ParentsShown, StandOrBare, TakersServe, added_going, added_tab, count_few, fresh, new_state, new_to, serve_on, tab_placed, way_same}
 use Rattle.tab_rests.specs.PassedOn.{AreBlamed, InPass, IsGoing, IsLoadOf, IsOpen, MayStand, StandOrMove, aim_in, count_of, has_ended, has_spent}
 use Rattle.tab_ids.specs.declared.DocId.{DocId}
 use Rattle.tab_ids.specs.declared.EntryId.{EntryId}
@@ -52,7 +52,7 @@ use Rattle.tab_ids.specs.declared.NavId.{NavId}
 use Rattle.tab_ids.specs.declared.ReqId.{ReqId}
 use Rattle.tab_ids.specs.declared.StateId.{StateId}
 use Rattle.tab_takes.proofs.Adds.{apart, old_place, reached_on, shown_same, given_same, visited_on, was_or_new}
-use Rattle.tab_takes.proofs.Applied.{IsAfter, aim_then, aim_was, causes, has_applied, loads_back, moved_on, moved_same, n as after_change, stray_unloaded}
+use Rattle.tab_takes.proofs.Applied.{IsAfter, aim_then, aim_was, causes, has_applied, leave_on, loads_back, moved_on, moved_same, n as after_change, stray_unloaded}
 use Rattle.tab_takes.proofs.Asks.{free_is, unlike, what_is}
 use Rattle.tab_takes.proofs.Entered.{IsLeast, least_row, used_more, way_entered}
 use Rattle.tab_takes.proofs.Entries.{has_its_state}
@@ -496,8 +496,13 @@ module _ (p : InPass) (out : List RowKind) (t : Tables) (blame : List (StateId �
               noted = before.noted;
               may = serve_on s n before.req (causes p out t blame made at add tab_n) before.may;
               moves = λ m x other under placed wakes_ there is. by_under m x other under (was_awake m x doc placed wakes_) wakes_ (was other under there) is;
+              leaves = λ m x placed wakes_. leave_on p out t blame made at add tab_n before.req m before.may (way_was m x placed wakes_) (before.leaves m x (was_awake m x doc placed wakes_) wakes_);
             }
           where
+            way_was : (m : NavId) (x : Place) → place_of n m ≡ Some x → x.status ≡ awake doc → way_to n m ≡ way_to s m
+            way_was m x placed wakes_ =
+                way_same s n m (ap (option_map (λ (y : Place). y.above)) placed ∙ sym (ap (option_map (λ (y : Place). y.above)) (was_awake m x doc placed wakes_)))
+
             by_under : (m : NavId) (x : Place) (other : NavId) (under : Place) → place_of s m ≡ Some x → x.status ≡ awake doc → (place_of s other ≡ Some under) ⊎ ((new ≡ under) × ((new.nav.0 == other.0) ≡ true)) → ((other.0 == m.0) ≡ true) ⊎ (is_below m under ≡ true) → IsMovedBy n (whys.Req before.req) other
             by_under m x other under found wakes_ (inl there) is =
                 moved_on p out t blame made at add (whys.Req before.req) other (before.moves m x other under found wakes_ there is)

@@ -21,10 +21,10 @@ use Rattle.tab_rests.proofs.PassedOn.{course_of}
 use Rattle.seen_facts.proofs.Each.Courses.{was_asked}
 use Rattle.tab_facts.proofs.FrameTab.Running.{moved_same as moved_in}
 use Rattle.row_facts.proofs.Left.Rows.{were_shown}
-use Rattle.log_model.specs.Places.{aim_of, is_moved}
+use Rattle.log_model.specs.Places.{aim_of, is_moved, way_to}
 use Rattle.seen_facts.specs.Mover.Movers.{IsMovedBy}
 use Rattle.tab_doors.specs.Working.{HasGoal}
-use Rattle.tab_rests.proofs.PassedOn.{KeepsAwake, MayServe, ParentsShown, TakersServe, aim_is, live_then}
+use Rattle.tab_rests.proofs.PassedOn.{KeepsAwake, MayLeaveNav, MayServe, ParentsShown, TakersServe, aim_is, live_then, may_leave_reads, serve_on, unbegun_leaves}
 use Rattle.tab_rests.specs.PassedOn.{AreBlamed, InPass, IsGoing, IsLoadOf, IsOpen, IsPassing, IsTab, LeavesQueue, LoadsLive, MayCause, MayStand, aim_in}
 use Rattle.row_facts.proofs.WalkRows.Moved.{applied_moved, open_none}
 use Rattle.log_model.proofs.Refl.{nat_eq_refl}
@@ -225,6 +225,16 @@ module _ (p : InPass) (out : List RowKind) (t : Tables) (blame : List (StateId �
 
     pub serves : MayServe n made.req
     serves = its_cause made.req refl
+
+    -- ---- whom they may leave
+
+    -- each may leave whom it might
+    pub leave_on : (r : ReqId) (nav : NavId) → MayServe now_ r → way_to n nav ≡ way_to now_ nav → MayLeaveNav now_ r nav → MayLeaveNav n r nav
+    leave_on r nav may = may_leave_reads now_ n r nav (serve_on now_ n r causes may) (whats r) (starts r)
+
+    -- and this one, which never begins, any
+    pub own_leaves : (nav : NavId) → MayLeaveNav n made.req nav
+    own_leaves nav = unbegun_leaves n made.req then_q nav own_then at.taking.unstarted serves
 
   -- ---- what is to be shown of the change itself
 

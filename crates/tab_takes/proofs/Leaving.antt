@@ -31,7 +31,7 @@ use Rattle.seen_facts.proofs.Request.Readers.{SameReads, on_read}
 use Rattle.std.proofs.Common.{Bool, List, None, Option, Some, [], ap, false, inl, inr, refl, subst, sym, true, ◌&&◌, ◌==◌, ◌∙◌, ◌≡◌, ◌≤◌, ◌⊎◌}
 use Rattle.std.specs.List.{list_any}
 use Rattle.std.specs.Prelude.{option_map}
-use Rattle.tab_rests.proofs.PassedOn.{IsBare, IsBlamed, IsUnsettled, MayServe, ParentsShown, StandOrBare, TakersServe, begun_as_it_was, causes_on, goes_on, live_then, reached_same, serve_on, takers_on, visited_same}
+use Rattle.tab_rests.proofs.PassedOn.{IsBare, IsBlamed, IsUnsettled, MayServe, ParentsShown, StandOrBare, TakersServe, begun_as_it_was, causes_on, goes_on, live_then, may_leave_reads, reached_same, serve_on, takers_on, visited_same, way_same}
 use Rattle.tab_rests.specs.PassedOn.{AreBlamed, InPass, IsLoadOf, IsOpen, IsTab, LeavesQueue, LoadsLive, MayCause, MayStand, StandOrMove}
 use Rattle.tab_doors.specs.declared.tables.Tables.{Tables}
 use Rattle.tab_ids.specs.declared.DocId.{DocId}
@@ -228,6 +228,7 @@ module _ (p : InPass) (out : List RowKind) (t : Tables) (blame : List (StateId �
               noted = was.noted;
               may = serve_on now_ n was.req causes was.may;
               moves = λ nav place other_ under placed wakes there is. moved (whys.Req was.req) other_ (was.moves nav place other_ under (sym (place_same nav) ∙ placed) wakes (sym (place_same other_) ∙ there) is);
+              leaves = λ nav place placed wakes. may_leave_reads now_ n was.req nav (serve_on now_ n was.req causes was.may) (whats was.req) (starts was.req) (way_same now_ n nav (ap (option_map (λ (x : Place). x.above)) (place_same nav))) (was.leaves nav place (sym (place_same nav) ∙ placed) wakes);
             }
 
     -- ---- where navigables are

@@ -3,7 +3,7 @@ use Rattle.tab_facts.specs.Calm.Calm.{CalmUnless, IsCalmYet, IsHere, UnmovedAreH
 use Rattle.seen_facts.proofs.Entry.Skips.{without_made}
 use Rattle.seen_facts.specs.LoadEnds.Standing.{is_reached}
 use Rattle.log_model.specs.History.{has_nav, has_row, has_state, target_entry}
-use Rattle.log_model.specs.Places.{aim_of, is_awake, is_below, is_given_target, is_shown, way_of}
+use Rattle.log_model.specs.Places.{aim_of, is_awake, is_below, is_given_target, is_shown, way_of, way_to}
 use Rattle.log_model.specs.Seen.{Document, Place, Seen, awake, document_of, place_of}
 use Rattle.log_model.specs.declared.change.Change.{Change}
 use Rattle.log_model.specs.declared.made.Made.{Made}
@@ -15,13 +15,13 @@ use Rattle.std.proofs.Common.{Bool, List, None, Option, Some, ap, false, inl, in
 use Rattle.std.specs.Prelude.{is_some, option_map}
 use Rattle.step_index.specs.Held.{history_held}
 use Rattle.tab_doors.specs.declared.tables.Tables.{Tables}
-use Rattle.tab_rests.proofs.PassedOn.{EntriesAreNoted, IsBare, IsBlamed, IsStray, IsUnsettled, MayServe, ParentsShown, StandOrBare, TakersServe, entered_in, held, in_table, leaving_none, listed_here, serve_on, tab_placed}
+use Rattle.tab_rests.proofs.PassedOn.{EntriesAreNoted, IsBare, IsBlamed, IsStray, IsUnsettled, MayServe, ParentsShown, StandOrBare, TakersServe, entered_in, held, in_table, leaving_none, listed_here, serve_on, tab_placed, way_same}
 use Rattle.tab_rests.specs.PassedOn.{AreBlamed, InPass, IsLoadOf, IsOpen, IsTab, MayStand, StandOrMove}
 use Rattle.tab_ids.specs.declared.DocId.{DocId}
 use Rattle.tab_ids.specs.declared.NavId.{NavId}
 use Rattle.tab_ids.specs.declared.ReqId.{ReqId}
 use Rattle.tab_ids.specs.declared.StateId.{StateId}
-use Rattle.tab_takes.proofs.Applied.{causes, loads_back, moved_on, moved_same, n as after_change, serves, stray_unloaded}
+use Rattle.tab_takes.proofs.Applied.{causes, leave_on, loads_back, moved_on, moved_same, n as after_change, own_leaves, serves, stray_unloaded}
 use Rattle.tab_takes.proofs.Stays.{but_given, reached_same, shown_same, visited_on, way_rows}
 use Rattle.tab_takes.proofs.Verdicts.{s as before_change, tab}
 use Rattle.tab_takes.proofs.Ways.{IsTargetOf}
@@ -77,6 +77,11 @@ module _ (p : InPass) (out : List RowKind) (t : Tables) (blame : List (StateId �
             let two : Some (become old) ≡ Some place = sym (place_n m ∙ ap (option_map become) there) ∙ found in
             let one : become old ≡ place = cc in
             record { old = old; there = there; is = one; same = sym (alike old) ∙ ap but_given one }
+
+    way_was : (m : NavId) (place : Place) → place_of n m ≡ Some place → way_to n m ≡ way_to s m
+    way_was m place found =
+        let w = was m place found in
+        way_same s n m (ap (option_map (λ (x : Place). x.above)) found ∙ ap (λ (x : Place). let o : Option (List NavId) = Some x.above in o) (sym w.same) ∙ sym (ap (option_map (λ (x : Place). x.above)) w.there))
 
     pub now_at : (m : NavId) (old : Place) → place_of s m ≡ Some old → place_of n m ≡ Some (become old)
     now_at m old there = place_n m ∙ ap (option_map become) there
@@ -229,6 +234,7 @@ module _ (p : InPass) (out : List RowKind) (t : Tables) (blame : List (StateId �
               may = serves p out t blame made at change tab_n;
               moves = λ m place other under placed_ wakes_ there is. (let w = was m place placed_ in
                   moves m w.old doc d.old w.there (ap (λ (x : Place). x.status) w.same ∙ wakes_) d.there (ap (λ (x : StateId). has_state x s.history.rows) of_state ∙ had) (ap (λ (x : StateId). has_state x n.history.rows) of_state ∙ stray.bare) other under there is);
+              leaves = λ m place placed_ wakes_. own_leaves p out t blame made at change tab_n m;
             }
           where
             listed : state_of doc t.tree ≡ Some state
@@ -265,6 +271,8 @@ module _ (p : InPass) (out : List RowKind) (t : Tables) (blame : List (StateId �
                   may = serve_on s n before.req (causes p out t blame made at change tab_n) before.may;
                   moves = λ m place other under placed_ wakes_ there is. (let one = was m place placed_ in let two = was other under there in
                       moved_on p out t blame made at change (whys.Req before.req) other (before.moves m one.old other two.old one.there (ap (λ (x : Place). x.status) one.same ∙ wakes_) two.there (below m other under two is)));
+                  leaves = λ m place placed_ wakes_. (let w = was m place placed_ in
+                      leave_on p out t blame made at change tab_n before.req m before.may (way_was m place placed_) (before.leaves m w.old w.there (ap (λ (x : Place). x.status) w.same ∙ wakes_)));
                 }
 
       pub blamed_n : AreBlamed n noted

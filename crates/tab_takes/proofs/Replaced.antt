@@ -20,7 +20,7 @@ use Rattle.log_model.specs.AfterPlaces.{given_entry, on_place, with_taker}
 use Rattle.log_model.specs.AfterDocuments.{on_document}
 use Rattle.log_model.specs.History.{applied, fits, has_nav, has_row, has_state, is_of, same_entry}
 use Rattle.log_model.specs.Once.{change_of_made}
-use Rattle.log_model.specs.Places.{aim_of, is_awake, is_below, is_shown, way_of}
+use Rattle.log_model.specs.Places.{aim_of, is_awake, is_below, is_shown, way_of, way_to}
 use Rattle.log_model.specs.Seen.{Document, Place, Seen, awake, desk_of, document_of, place_of}
 use Rattle.log_model.specs.declared.change.Change.{Change}
 use Rattle.log_model.specs.declared.made.Made.{Made}
@@ -29,13 +29,13 @@ use Rattle.log_model.specs.declared.row.Row.{Row}
 use Rattle.log_model.specs.declared.row_kind.RowKind.{RowKind}
 use Rattle.seen_laws.specs.InEvent.{InEvent}
 use Rattle.std.proofs.Common.{Bool, List, None, Option, Some, [], ap, cond, false, inl, inr, map, not, refl, subst, sym, true, ℕ, ◌&&◌, ◌++◌, ◌<◌, ◌==◌, ◌∙◌, ◌∷◌, ◌≡◌, ◌≤◌, ◌⊎◌}
-use Rattle.std.specs.Prelude.{filter}
+use Rattle.std.specs.Prelude.{filter, option_map}
 use Rattle.sync_core.specs.declared.judging.Judged.TheVariants as verdicts
 use Rattle.tab_doors.specs.Dues.{IsTakeDue, KeepsRows, MayChange}
 use Rattle.tab_doors.specs.Ties.{IsAwakeIn}
 use Rattle.tab_doors.specs.Working.{IsAtWork, KeepsRun}
 use Rattle.tab_doors.specs.declared.tables.Tables.{Tables}
-use Rattle.tab_rests.proofs.PassedOn.{IsBare, IsBlamed, IsUnsettled, MayServe, StandOrBare, TakersServe, replaced_going, replaced_tab, serve_on}
+use Rattle.tab_rests.proofs.PassedOn.{IsBare, IsBlamed, IsUnsettled, MayServe, StandOrBare, TakersServe, replaced_going, replaced_tab, serve_on, way_same}
 use Rattle.tab_rests.specs.PassedOn.{AreBlamed, InPass, IsGoing, IsLoadOf, IsTab, MayStand, StandOrMove, aim_in}
 use Rattle.tab_ids.specs.declared.DocId.{DocId}
 use Rattle.tab_ids.specs.declared.EntryId.{EntryId}
@@ -44,7 +44,7 @@ use Rattle.tab_ids.specs.declared.NavId.{NavId}
 use Rattle.tab_ids.specs.declared.ReqId.{ReqId}
 use Rattle.tab_ids.specs.declared.StateId.{StateId}
 use Rattle.tab_ids.specs.declared.Step.{Step}
-use Rattle.tab_takes.proofs.Applied.{IsAfter, aim_then, aim_was, causes, has_applied, loads_back, moved_on, moved_same, n as after_change, stray_unloaded}
+use Rattle.tab_takes.proofs.Applied.{IsAfter, aim_then, aim_was, causes, has_applied, leave_on, loads_back, moved_on, moved_same, n as after_change, stray_unloaded}
 use Rattle.tab_takes.proofs.Asks.{unlike, what_is}
 use Rattle.tab_takes.proofs.Entries.{entry_fresh, entry_later, entry_maker, entry_new, its_next, its_own, state_of_it}
 use Rattle.tab_takes.proofs.Given.{WasAt, WasDoc, become, parents_then, read_doc, usable_then, was_doc}
@@ -309,8 +309,14 @@ module _ (p : InPass) (out : List RowKind) (t : Tables) (blame : List (StateId �
             may = serve_on s n before.req (causes p out t blame made at replace tab_n) before.may;
             moves = λ m place other under_ placed wakes_ there is. (let one = was m place placed in let two = was other under_ there in
                 moved_on p out t blame made at replace (whys.Req before.req) other (before.moves m one.old other two.old one.there (read (λ (x : Place). x.status) (λ x. refl) (λ x. refl) m place one ∙ wakes_) two.there (below m other under_ two is)));
+            leaves = λ m place placed wakes_. (let one = was m place placed in
+                leave_on p out t blame made at replace tab_n before.req m before.may (way_was m place placed one) (before.leaves m one.old one.there (read (λ (x : Place). x.status) (λ x. refl) (λ x. refl) m place one ∙ wakes_)));
           }
         where
+          way_was : (m : NavId) (place : Place) → place_of n m ≡ Some place → Was m place → way_to n m ≡ way_to s m
+          way_was m place placed w =
+              way_same s n m (ap (option_map (λ (x : Place). x.above)) placed ∙ ap (λ (l : List NavId). let o : Option (List NavId) = Some l in o) (sym (read (λ (x : Place). x.above) (λ x. refl) (λ x. refl) m place w)) ∙ sym (ap (option_map (λ (x : Place). x.above)) w.there))
+
           below : (m other : NavId) (under_ : Place) (two : Was other under_) → ((other.0 == m.0) ≡ true) ⊎ (is_below m under_ ≡ true) → ((other.0 == m.0) ≡ true) ⊎ (is_below m two.old ≡ true)
           below m other under_ two (inl same) = inl same
           below m other under_ two (inr is) = inr (ap (λ (l : List NavId). has_nav l m) (read (λ (x : Place). x.above) (λ x. refl) (λ x. refl) other under_ two) ∙ is)

@@ -1,4 +1,5 @@
 -- A document that was just made was never shown: no navigable was shown it last, it isn't kept, and nobody is awake on it.
+use Rattle.std.specs.Prelude.{find}
 use Rattle.seen_facts.proofs.Hang.Hung.{places_distinct}
 use Rattle.seen_facts.proofs.Hang.Members.{find_has}
 use Rattle.seen_facts.specs.Hang.Members.{Has}
@@ -7,6 +8,7 @@ use Rattle.seen_facts.specs.Kept.Keeping.{IsKeptDoc, IsMadeFor}
 use Rattle.row_facts.specs.LeaveRows.Evicting.{is_last}
 use Rattle.log_model.specs.AfterPlaces.{sleepers_with}
 use Rattle.log_model.specs.Equal.{has_doc, holds}
+use Rattle.log_model.specs.Places.{is_awake_on, shower_of}
 use Rattle.log_model.specs.Seen.{Document, Place, Seen, awake, document_of, place_in, place_of}
 use Rattle.log_model.specs.declared.job.Job.{Job}
 use Rattle.log_model.specs.declared.made.Report.{Report}
@@ -71,8 +73,11 @@ module _ (e : InEvent) (proc : ProcId) (job : Job) (outcome : Outcome) (del : Is
       let never : true ≡ false = sym homed.home.ready ∙ ap (λ (y : Document). y.is_ready) one ∙ new in
       cc
 
+  made_off : shower_of n job.doc ≡ None
+  made_off = no_shower n job.doc (places_distinct n tab_made.sound tab_made.hangs) never_awake
+
   pub made_nobody : sleepers_with n job.doc ≡ []
-  made_nobody = nobody_awake n job.doc (no_shower n job.doc (places_distinct n tab_made.sound tab_made.hangs) never_awake)
+  made_nobody = nobody_awake n job.doc made_off
 
   -- ---- it isn't kept
 
@@ -139,6 +144,7 @@ module _ (e : InEvent) (proc : ProcId) (job : Job) (outcome : Outcome) (del : Is
         stray = stray;
         unshown = unshown stray.document stray.found;
         unkept = made_unkept;
+        unwoken = ap (λ (l : List Place). find (is_awake_on job.doc) l) (sym places_same) ∙ made_off;
       }
     where
       slot : (slot : Option ℕ) × (outcome ≡ outcomes.Populated slot)

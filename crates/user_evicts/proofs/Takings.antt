@@ -22,7 +22,7 @@ use Rattle.tab_ids.specs.declared.DocId.{DocId}
 use Rattle.tab_ids.specs.declared.NavId.{NavId}
 use Rattle.tab_ids.specs.declared.ReqId.{ReqId}
 use Rattle.tab_ids.specs.declared.StateId.{StateId}
-use Rattle.tab_stands.proofs.PassedOn.{IsBare, IsBegun, IsUnsettled, causes_on, new_of, run_leavers, serve_on, show_causes, still_on, takers_on}
+use Rattle.tab_stands.proofs.PassedOn.{IsBare, IsBegun, IsUnsettled, MayLeaveNav, causes_on, may_leave_same, new_of, run_leavers, serve_on, show_causes, still_on, takers_on, way_same}
 use Rattle.tab_stands.specs.PassedOn.{IsBlamed, IsByItsOwn, IsLoadOf, IsOpen, IsStray, IsTaking, LoadsLive, LoadsMadeOwn, MayCause, MayServe, MayStand, MovedAreShown, ParentsShown, TakersServe, is_new_entry, show_why}
 use Rattle.user_evicts.proofs.Lefts.{LeavesGone, read_gone}
 use Rattle.row_facts.proofs.WalkRows.Moved.{run_moves}
@@ -165,7 +165,7 @@ module _ (e : InEvent) (run : Option ReqId) (blame : List (StateId × ReqId)) (s
 
   blamed : (doc : DocId) (state : StateId) → IsStray n doc state → IsBlamed n blame doc state
   blamed doc state stray =
-      record { req = it.req; noted = it.noted; may = serve_on s n it.req causes it.may; moves = λ nav place other under placed wakes there is. left.moved (whys.Req it.req) other (it.moves nav place other under (sym (place_same nav) ∙ placed) wakes (sym (place_same other) ∙ there) is) }
+      record { req = it.req; noted = it.noted; may = serve_on s n it.req causes it.may; moves = λ nav place other under placed wakes there is. left.moved (whys.Req it.req) other (it.moves nav place other under (sym (place_same nav) ∙ placed) wakes (sym (place_same other) ∙ there) is); leaves = λ nav place placed wakes. leave_on nav (it.leaves nav place (sym (place_same nav) ∙ placed) wakes) }
     where
       it : IsBlamed s blame doc state
       it =
@@ -178,6 +178,10 @@ module _ (e : InEvent) (run : Option ReqId) (blame : List (StateId × ReqId)) (s
             bare = ap (λ (h : History). has_state state h.rows) (sym history_same) ∙ stray.bare;
             unloaded = sym (loaded_same state) ∙ stray.unloaded;
           })
+
+      leave_on : (nav : NavId) → MayLeaveNav s it.req nav → MayLeaveNav n it.req nav
+      leave_on nav =
+          may_leave_same s n it.req nav (serve_on s n it.req causes it.may) (ap (λ (asked : List Asked). request_in asked it.req) left.requests) (way_same s n nav (ap (option_map (λ (x : Place). x.above)) (place_same nav)))
 
   -- ---- where navigables are
 

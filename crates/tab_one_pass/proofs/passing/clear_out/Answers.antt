@@ -1,5 +1,15 @@
 use Rattle.tab_one_pass.proofs.Gives.{cleared_left, cleared_loaded, cleared_loads, cleared_only, cleared_open, cleared_rows, cleared_sent, cleared_strays, destroy_asks}
+use Rattle.tab_one_pass.proofs.Lefts.{strays_are_left}
 use Rattle.tab_one_pass.proofs.passing.clear_out.Goals as goal
+
+pub sweep-requires : goal.sweep-requires
+sweep-requires g c = (
+  c.requires.0,
+  (
+    c.requires.1.1.1,
+    strays_are_left g.p c.args.out.now c.args.tables.now c.requires.0 c.args.cause c.requires.1.0 c.args.blame.now.entries c.requires.1.1.1,
+  ),
+)
 
 pub destroy_loads-requires : goal.destroy_loads-requires
 destroy_loads-requires g c =

@@ -6,10 +6,10 @@ use Rattle.tab_sweeps.proofs.sweeping.sweep_each.Goals as goal
 
 pub loop-i-init : goal.loop-i-init
 loop-i-init g c = (
-  sweep_begins c.args.blame.now.entries c.args.strays.now g.p c.args.out.now c.args.tables.now c.requires.0 c.requires.1.0 c.requires.1.1,
+  sweep_begins c.args.blame.now.entries c.args.strays.now g.p c.args.out.now c.args.tables.now c.requires.0 c.requires.1.0 c.requires.1.1.0 c.requires.1.1.1,
   turn_none _,
   swept_first c.args.blame.now.entries c.args.strays.now _ _,
-  c.requires.1.1,
+  c.requires.1.1.1,
   kept_none _,
 )
 
