@@ -1,30 +1,26 @@
 -- Documents that orders freeze or discard, where the facts speak of the log as it would be had nobody been asked: so in the log they may be left, for the same reasons.
 use Rattle.seen_laws.proofs.InEvents.{now_is}
-use Rattle.std.proofs.Common.{◌≡◌, Bool, false, true, List, Option, Some, None, [], refl, sym, ap, ◌∙◌, subst}
+use Rattle.std.proofs.Common.{◌≡◌, Bool, false, List, Option, Some, None, refl, sym, ap, ◌∙◌, subst}
 use Rattle.tab_ids.specs.declared.DocId.{DocId}
 use Rattle.tab_ids.specs.declared.NavId.{NavId}
 use Rattle.tab_ids.specs.declared.ReqId.{ReqId}
 use Rattle.tab_ids.specs.declared.StateId.{StateId}
-use Rattle.log_model.specs.Checks.{is_sent_in_time}
 use Rattle.log_model.specs.History.{has_state}
 use Rattle.log_model.specs.Orders.{ongoing_load}
 use Rattle.log_model.specs.Seen.{Document, Place, Seen, document_of, place_of}
 use Rattle.log_model.specs.Suits.{kept_with, newly_left}
 use Rattle.log_model.specs.declared.header.Header.{Header}
 use Rattle.log_model.specs.declared.job.Job.{Job}
-use Rattle.log_model.specs.declared.job.Task.TheVariants as tasks
-use Rattle.log_model.specs.declared.job.Why.{Why}
 use Rattle.log_model.specs.declared.row_kind.LogRow.{LogRow}
 use Rattle.log_model.specs.declared.row_kind.RowKind.{RowKind}
 use Rattle.log_model.specs.declared.row_kind.RowKind.TheVariants as rows
 use Rattle.row_facts.proofs.LeaveRows.LeftRows.{prompts_none}
-use Rattle.row_facts.proofs.LeaveRows.Unasked.{discard_in_time}
 use Rattle.row_facts.specs.FrameRows.Discarding.{SettlesNone}
 use Rattle.row_facts.specs.LeaveRows.Evicting.{IsBelowDue, IsKeptLast, IsUnneededDue}
 use Rattle.row_facts.specs.LeaveRows.Freezing.{IsFreezeDue}
-use Rattle.row_facts.specs.LeaveRows.Leaving.{IsDiscardOf, IsLeaveDue, IsTooMany, is_for_one}
+use Rattle.row_facts.specs.LeaveRows.Leaving.{IsDiscardOf, IsLeaveDue, IsTooMany}
 use Rattle.row_facts.specs.LeaveRows.MayLeave.{IsBelowLeft, IsDiscardLeft, IsFreezeLeft, IsGoneLeft, IsKeptLeft, IsLastLeft, IsUnneededLeft, MayBeLeft, PromptsLater}
-use Rattle.seen_laws.specs.Blocks.{Here, point_at}
+use Rattle.seen_laws.specs.Blocks.{Here}
 use Rattle.seen_laws.specs.InEvent.{InEvent, here_of, log_of, now_of, row_of}
 use Rattle.seen_laws.specs.Sending.{IsNumbered}
 use Rattle.seen_laws.specs.Unasked.{unasked, unhandled}
@@ -121,12 +117,7 @@ module _ (e : InEvent) (out : List RowKind) (same : now_of e out ≡ unasked e.c
 -- ---- where the coordinator works
 
 module _ {move : Option Move} (e : InEvent) (out : List RowKind) (t : Tables) (work : IsAtWorkFor move e out t) where
-  -- where nobody is asked, no document has a handler, so each may be left
-  pub left_log : (job : Job) (bare : Document) → document_of (now_of e out) job.doc ≡ Some bare → bare.slot ≡ None → is_for_one (now_of e out) job.why ≡ true → MayBeLeft (here_of e out) job
-  left_log job bare found bare_slot one =
-      λ req why. subst (λ (w : Why). is_sent_in_time (point_at (here_of e out) []) job.doc w tasks.Discard ≡ true) why (discard_in_time (point_at (here_of e out) []) job.doc bare (at_log e out t work (λ (x : Seen). document_of x job.doc ≡ Some bare) found) bare_slot job.why (at_log e out t work (λ (x : Seen). is_for_one x job.why ≡ true) one))
-
-  -- and no order makes a prompt due
+  -- where nobody is asked, no order makes a prompt due
   pub prompts_log : (job : Job) → SettlesNone (now_of e out) (row_of e (rows.Sent job)) → (later : List LogRow) → PromptsLater (here_of e out) (row_of e (rows.Sent job)) later
   prompts_log job settles later =
       prompts_none (here_of e out) (row_of e (rows.Sent job)) (at_log e out t work (λ (x : Seen). SettlesNone x (row_of e (rows.Sent job))) settles) later
