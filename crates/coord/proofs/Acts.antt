@@ -63,7 +63,7 @@ module _ (e : InEvent) (c : Coordinator) (open_ : IsOpenTo e c) (proc : ProcId) 
         out : List RowKind
         out = rows.Applied poke.req changes.Edit ∷ []
 
-        its : tab.HasActed e (rows.Applied poke.req changes.Edit ∷ []) c.tables c.queue c.blame.entries
+        its : tab.HasActed tab.none_in_check e (rows.Applied poke.req changes.Edit ∷ []) c.tables c.queue c.blame.entries
         its =
             edits.edit_acts e c.tables c.queue c.blame.entries open_.in_.stands.stands open_.in_.room proc poke first d view found has runs makes by event own
 

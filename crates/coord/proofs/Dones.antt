@@ -40,12 +40,12 @@ pub keep_now : (e : InEvent) (c : Coordinator) → IsOpenIn e c → c.tables.kep
 keep_now e c open_ = open_.stands.keep ∙ ap (λ (h : Header). h.keep) open_.header
 
 -- where an event has begun, and what it delivers is taken up, the tab may be brought to rest
-pub to_settle : (e : InEvent) (c : Coordinator) → c.header ≡ e.header → e.checking ≡ nobody → HasBegun (pass_of e) c.tables c.queue c.blame.entries → (cause : Why) → MayCause (now_of e []) cause → IsTakenUp e [] → AreFoundRunning (now_of e []) → AreTelling (now_of e []) → AreSlots (log_of e []) c.slots.entries → IsToSettle e [] c cause
+pub to_settle : (e : InEvent) (c : Coordinator) → c.header ≡ e.header → e.checking ≡ nobody → HasBegun (pass_of e []) c.tables c.queue c.blame.entries → (cause : Why) → MayCause (now_of e []) cause → IsTakenUp e [] → AreFoundRunning (now_of e []) → AreTelling (now_of e []) → AreSlots (log_of e []) c.slots.entries → IsToSettle e [] c cause
 to_settle e c header unchecked begun cause may taken found telling slots =
     record {
       header = header;
       unchecked = unchecked;
-      ready = ready (pass_of e) c.tables c.queue c.blame.entries begun refl cause may;
+      ready = ready (pass_of e []) c.tables c.queue c.blame.entries begun refl cause may;
       makes = begun.makes;
       sound = begun.sound;
       coord = λ row has. absurd has;

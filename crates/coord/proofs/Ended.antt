@@ -14,7 +14,7 @@ use Rattle.log_model.specs.declared.row_kind.LogRow.{LogRow}
 use Rattle.log_model.specs.declared.row_kind.RowKind.{RowKind}
 use Rattle.tab_facts.specs.Order.Orders.{IsOfCoord}
 use Rattle.seen_laws.specs.InEvent.{InEvent, IsTakenIn, log_of, now_of, row_of}
-use Rattle.std.proofs.Common.{Bool, List, ap, inl, inr, map, refl, subst, sym, ℕ, ◌∙◌, ◌≡◌, ◌⊎◌}
+use Rattle.std.proofs.Common.{Bool, List, [], ap, false, inl, inr, map, subst, sym, ℕ, ◌∙◌, ◌≡◌, ◌⊎◌}
 use Rattle.std.proofs.lemmas.List.{map-append}
 use Rattle.tab_loads.specs.Loading.{pass_of}
 use Rattle.tab_stands.proofs.Ended.{acted}
@@ -41,7 +41,7 @@ of_coord e was out put first row has =
     by_part (inl there) = first row there
     by_part (inr there) = put.each row there
 
-pub settled_acts : (e : InEvent) (was out : List RowKind) (c after : Coordinator) (cause last : Why) → IsToSettle e was c cause → after.header ≡ c.header → after.slots.entries ≡ c.slots.entries → HasSettled (pass_of e) out after.tables after.queue after.blame.entries last → IsNoneDue (now_of e out) after.tables.running after.queue.waiting → HasPut e was out → LeavesOff e was out → HasActed e out after
+pub settled_acts : (e : InEvent) (was out : List RowKind) (c after : Coordinator) (cause last : Why) → IsToSettle e was c cause → after.header ≡ c.header → after.slots.entries ≡ c.slots.entries → HasSettled (pass_of e []) out after.tables after.queue after.blame.entries last → IsNoneDue (now_of e out) after.tables.running after.queue.waiting → HasPut e was out → LeavesOff e was out → HasActed e out after
 settled_acts e was out c after cause last to header slots at due put left =
     record {
       stands = record {
@@ -65,6 +65,6 @@ settled_acts e was out c after cause last to header slots at due put left =
       off = subst (λ (x : Seen). ChangesLeaveOff x out) (sym at.passing.work.plain) (leaves_unsettled e was out left to.unmoved);
     }
   where
-    all : tab.HasActed e out after.tables after.queue after.blame.entries
+    all : tab.HasActed tab.none_in_check e out after.tables after.queue after.blame.entries
     all =
-        acted (pass_of e) out after.tables after.queue after.blame.entries last refl at (put_makes e after.tables.running was out at.passing.work.goes at.passing.going.tab.asked put to.makes) (put_sound e was out at.passing.work.goes put to.sound) (of_coord e was out put to.coord) to.shows due (taken_in e was out put to.taken)
+        acted (pass_of e []) out after.tables after.queue after.blame.entries last false (λ never. absurd cc) at (put_makes e after.tables.running was out at.passing.work.goes at.passing.going.tab.asked put to.makes) (put_sound e was out at.passing.work.goes put to.sound) (of_coord e was out put to.coord) to.shows (λ free. due) (taken_in e was out put to.taken)

@@ -49,7 +49,7 @@ pub longest_is : (s : Seen) (c : Coordinator) → StandsFor s c → oldest_of c.
 longest_is s c its = ap oldest_of its.but.stands.tied.kept
 
 module _ (e : InEvent) (state : StateId) (c : Coordinator) (open_ : IsOpenTo e c) (asks : IsEvictAsk e state) where
-  abbrev stands : tab.StandsFor e.start c.tables c.queue c.blame.entries
+  abbrev stands : tab.StandsFor tab.none_in_check e.start c.tables c.queue c.blame.entries
   stands = open_.in_.stands.stands
 
   pub aside : StartsUnasked e
@@ -65,7 +65,7 @@ module _ (e : InEvent) (state : StateId) (c : Coordinator) (open_ : IsOpenTo e c
   alive : (proc : ProcId) → e.own ≡ rows.Delivered proc → NoDeath (slice_get (desk_of e.start proc).reports 0)
   alive proc is = let never : rows.Evicted state ≡ rows.Delivered proc = sym asks.own ∙ is in absurd cc
 
-  module _ (out : List RowKind) (came : HasEvicted e state out) (u : Tables) (ready : IsReady (pass_of e) out u c.queue c.blame.entries whys.Evict) where
+  module _ (out : List RowKind) (came : HasEvicted e state out) (u : Tables) (ready : IsReady (pass_of e []) out u c.queue c.blame.entries whys.Evict) where
     discards : (row : RowKind) → IsDiscardFor whys.Evict row → IsFine (now_of e out) whys.Evict row
     discards row it =
         subst (λ (r : RowKind). IsFine (now_of e out) whys.Evict r) (sym it.is) (fine_discard (now_of e out) whys.Evict it.job it.discards)
@@ -111,9 +111,9 @@ module _ (e : InEvent) (state : StateId) (c : Coordinator) (open_ : IsOpenTo e c
           header = header ∙ open_.in_.header;
           unchecked = open_.in_.unchecked;
           ready =
-              subst (λ (l : List (StateId × ReqId)). IsReady (pass_of e) out after.tables after.queue l whys.Evict) (sym noted)
-              (subst (λ (q : Queue). IsReady (pass_of e) out after.tables q c.blame.entries whys.Evict) (sym queue)
-              (subst (λ (x : Tables). IsReady (pass_of e) out x c.queue c.blame.entries whys.Evict) (sym tables) ready));
+              subst (λ (l : List (StateId × ReqId)). IsReady (pass_of e []) out after.tables after.queue l whys.Evict) (sym noted)
+              (subst (λ (q : Queue). IsReady (pass_of e []) out after.tables q c.blame.entries whys.Evict) (sym queue)
+              (subst (λ (x : Tables). IsReady (pass_of e []) out x c.queue c.blame.entries whys.Evict) (sym tables) ready));
           makes = makes;
           sound = sound;
           coord = λ row has. (fine row has).coord;

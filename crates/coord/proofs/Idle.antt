@@ -29,7 +29,7 @@ applies_none (row ∷ more) none req change (inl is) = subst AppliesNone is none
 applies_none (row ∷ more) none req change (inr has) = applies_none more none.1 req change has
 
 -- after these rows the coordinator stands for the log, where all that it keeps does
-pub stands_then : (e : InEvent) (c : Coordinator) → IsOpenIn e c → (out : List RowKind) → tab.StandsFor (log_of e out) c.tables c.queue c.blame.entries → IsPlain e out → AreFoundRunning (now_of e out) → AreTelling (now_of e out) → AreSlots (log_of e out) c.slots.entries → StandsFor (log_of e out) c
+pub stands_then : (e : InEvent) (c : Coordinator) → IsOpenIn e c → (out : List RowKind) → tab.StandsFor tab.none_in_check (log_of e out) c.tables c.queue c.blame.entries → IsPlain e out → AreFoundRunning (now_of e out) → AreTelling (now_of e out) → AreSlots (log_of e out) c.slots.entries → StandsFor (log_of e out) c
 stands_then e c open_ out stands at found telling slots =
     record {
       but = record {
@@ -42,7 +42,7 @@ stands_then e c open_ out stands at found telling slots =
       slots = slots;
     }
 
-pub idle_acts : (e : InEvent) (c : Coordinator) → IsOpenTo e c → (out : List RowKind) → ApplyNone out → tab.HasActed e out c.tables c.queue c.blame.entries → IsPlain e out → AreFoundRunning (now_of e out) → AreTelling (now_of e out) → AreSlots (log_of e out) c.slots.entries → HasActed e out c
+pub idle_acts : (e : InEvent) (c : Coordinator) → IsOpenTo e c → (out : List RowKind) → ApplyNone out → tab.HasActed tab.none_in_check e out c.tables c.queue c.blame.entries → IsPlain e out → AreFoundRunning (now_of e out) → AreTelling (now_of e out) → AreSlots (log_of e out) c.slots.entries → HasActed e out c
 idle_acts e c open_ out none acted at found telling slots =
     record {
       stands = stands_then e c open_.in_ out acted.stands at found telling slots;
@@ -63,5 +63,5 @@ module _ (e : InEvent) (c : Coordinator) (open_ : IsOpenTo e c) (kind : RowKind)
       subst AreTelling at.same (telling_after e.start e.event e.actor open_.in_.stands.telling e.own (subst (EndsNoFragment e.start) (sym own) ends))
 
   -- the event has no other row
-  pub alone_acts : IsFittingRow e.start kind → EndsNoFragment e.start kind → AreSlots (log_of e []) c.slots.entries → tab.HasActed e [] c.tables c.queue c.blame.entries → HasActed e [] c
+  pub alone_acts : IsFittingRow e.start kind → EndsNoFragment e.start kind → AreSlots (log_of e []) c.slots.entries → tab.HasActed tab.none_in_check e [] c.tables c.queue c.blame.entries → HasActed e [] c
   alone_acts fits ends slots acted = idle_acts e c open_ [] tt acted at (found_now fits) (telling_now ends) slots

@@ -39,7 +39,7 @@ use Rattle.tab_stands.proofs.Orders.{keeps_coming, makes_first, sound_first}
 use Rattle.tab_stands.proofs.PassedOn.{KeepsWhat, sent_homes}
 use Rattle.tab_stands.specs.Offs.{AreShownUnder}
 use Rattle.tab_stands.specs.PassedOn.{Ends, EndsAlone, HasPut, IsOfItsLoad, IsReady, IsTab, MakesServe, OrdersAreSound}
-use Rattle.tab_stands.specs.Standing.{IsTakenUp, StandsFor}
+use Rattle.tab_stands.specs.Standing.{IsTakenUp, StandsFor, none_in_check}
 use Rattle.log_model.specs.declared.outcome.Cause.TheVariants as drops
 use Rattle.log_model.specs.declared.request.Request.TheVariants as requests
 use Rattle.log_model.specs.declared.row_kind.RowKind.TheVariants as rows
@@ -60,7 +60,7 @@ use Rattle.log_model.specs.declared.row_kind.Actor.TheVariants as actors
 
 -- ---- a load
 
-module _ (e : InEvent) (t : Tables) (queue : Queue) (blame : List (StateId × ReqId)) (stands : StandsFor e.start t queue blame) (req : ReqId) (nav : NavId) (mode : Mode) (address : List ℕ) (its : IsLoadAsk e req nav mode address) where
+module _ (e : InEvent) (t : Tables) (queue : Queue) (blame : List (StateId × ReqId)) (stands : StandsFor none_in_check e.start t queue blame) (req : ReqId) (nav : NavId) (mode : Mode) (address : List ℕ) (its : IsLoadAsk e req nav mode address) where
   abbrev load : Request
   load = requests.Load nav mode address
 
@@ -183,7 +183,7 @@ module _ (e : InEvent) (t : Tables) (queue : Queue) (blame : List (StateId × Re
         subst (λ (l : List RowKind). Fine ToFragment l) (sym came.1.is) (one_fine n (cause_of req ToFragment) (rows.Sent came.1.job) (fine_fragment n (cause_of req ToFragment) came.1.job req mode address came.1.task (fragment_own came.1)))
     fine_came Begun came = fine_begun came.1
 
-    module _ (loaded : Loaded) (came : CameTo e req nav mode address out loaded) (moves : Queue) (ready : IsReady (pass_of e) out u moves noted (cause_of req loaded)) where
+    module _ (loaded : Loaded) (came : CameTo e req nav mode address out loaded) (moves : Queue) (ready : IsReady (pass_of e []) out u moves noted (cause_of req loaded)) where
       abbrev tab : IsTab u.running [] [] (now_of e out)
       tab = ready.passing.going.tab
 
@@ -225,12 +225,12 @@ module _ (e : InEvent) (c : Coordinator) (open_ : IsOpenTo e c) (req : ReqId) (n
   load_asks =
       record { by_user = asked.by_user; own = asked.own; next = asked.next; aside = accepted_aside e c open_.in_ req None (requests.Load nav mode address) asked.own }
 
-  pub load_settles : (loaded : Loaded) (out : List RowKind) (after : Coordinator) → after.header ≡ c.header → after.slots.entries ≡ c.slots.entries → CameTo e req nav mode address out loaded → IsReady (pass_of e) out after.tables after.queue after.blame.entries (cause_of req loaded) → (cause : Why) → cause ≡ cause_of req loaded → IsToSettle e out after cause
+  pub load_settles : (loaded : Loaded) (out : List RowKind) (after : Coordinator) → after.header ≡ c.header → after.slots.entries ≡ c.slots.entries → CameTo e req nav mode address out loaded → IsReady (pass_of e []) out after.tables after.queue after.blame.entries (cause_of req loaded) → (cause : Why) → cause ≡ cause_of req loaded → IsToSettle e out after cause
   load_settles loaded out after header slots came ready cause is =
       record {
         header = header ∙ open_.in_.header;
         unchecked = open_.in_.unchecked;
-        ready = subst (λ (w : Why). IsReady (pass_of e) out after.tables after.queue after.blame.entries w) (sym is) ready;
+        ready = subst (λ (w : Why). IsReady (pass_of e []) out after.tables after.queue after.blame.entries w) (sym is) ready;
         makes = load_makes e c.tables c.queue c.blame.entries open_.in_.stands.stands req nav mode address load_asks out after.tables after.blame.entries loaded came after.queue ready;
         sound = load_sound e c.tables c.queue c.blame.entries open_.in_.stands.stands req nav mode address load_asks out after.tables after.blame.entries loaded came after.queue ready;
         coord = load_coord e c.tables c.queue c.blame.entries open_.in_.stands.stands req nav mode address load_asks out after.tables after.blame.entries loaded came after.queue ready;

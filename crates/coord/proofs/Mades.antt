@@ -37,7 +37,7 @@ use Rattle.tab_stands.proofs.Taken.{taken_ready, taken_up}
 use Rattle.tab_stands.proofs.Taking.{changes_no_go, hand_to_take}
 use Rattle.tab_stands.specs.PassedOn.{HasNode, HasPut, HasTaken, IsReady, IsToTake, MakesServe, OrdersAreSound, judged_in}
 use Rattle.tab_stands.specs.Delivering.{IsDelivery}
-use Rattle.tab_stands.specs.Standing.{HasBegun, StandsFor, StartsUnasked}
+use Rattle.tab_stands.specs.Standing.{HasBegun, StandsFor, StartsUnasked, none_in_check}
 use Rattle.log_model.specs.declared.job.Why.TheVariants as whys
 use Rattle.log_model.specs.declared.made.Report.TheVariants as reports
 use Rattle.log_model.specs.declared.made.What.TheVariants as whats
@@ -49,7 +49,7 @@ module _ (d : InDelivery) (c : Coordinator) (made : Made) (its : IsMade d c made
   abbrev e : InEvent
   e = d.event
 
-  abbrev stands : StandsFor e.start c.tables c.queue c.blame.entries
+  abbrev stands : StandsFor none_in_check e.start c.tables c.queue c.blame.entries
   stands = its.open_.stands.stands
 
   aside : StartsUnasked e
@@ -128,9 +128,9 @@ module _ (d : InDelivery) (c : Coordinator) (made : Made) (its : IsMade d c made
               header = header ∙ its.open_.header;
               unchecked = its.open_.unchecked;
               ready =
-                  subst (λ (l : List (StateId × ReqId)). IsReady (pass_of d.event) out after.tables after.queue l (whys.Req made.req)) (sym blame)
-                  (subst (λ (q : Queue). IsReady (pass_of d.event) out after.tables q noted (whys.Req made.req)) (sym queue)
-                  (subst (λ (t : Tables). IsReady (pass_of d.event) out t c.queue noted (whys.Req made.req)) (sym tables)
+                  subst (λ (l : List (StateId × ReqId)). IsReady (pass_of d.event []) out after.tables after.queue l (whys.Req made.req)) (sym blame)
+                  (subst (λ (q : Queue). IsReady (pass_of d.event []) out after.tables q noted (whys.Req made.req)) (sym queue)
+                  (subst (λ (t : Tables). IsReady (pass_of d.event []) out t c.queue noted (whys.Req made.req)) (sym tables)
                   (taken_ready e d.proc d.report made its.delivery its.tells c.tables c.queue c.blame.entries stands aside changes free its.open_.room (keep_now e c its.open_) out u noted taken)));
               makes = taken_makes;
               sound = taken_sound;

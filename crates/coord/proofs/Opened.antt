@@ -25,7 +25,7 @@ fresh_stands header proc c same fresh empty none unslotted =
     record {
       but = record {
         stands =
-            subst (λ (l : List (StateId × ReqId)). tab.StandsFor (opened_at header.first proc) c.tables c.queue l) (sym none)
+            subst (λ (l : List (StateId × ReqId)). tab.StandsFor tab.none_in_check (opened_at header.first proc) c.tables c.queue l) (sym none)
             (opening.fresh_stands header.first proc header.keep c.tables c.queue fresh empty);
         keep = ap (λ (k : Kept). k.keep) fresh.kept ∙ ap (λ (h : Header). h.keep) (sym same);
         plain = opened_seen nobody nothing 0 actors.Start (record { maker = 0; nr = 1 }) (record { 0 = 1 }) (record { 0 = 1 }) proc None header.first;

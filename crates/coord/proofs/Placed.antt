@@ -46,7 +46,7 @@ use Rattle.log_model.specs.Seen.{desk_of}
 use Rattle.log_model.specs.declared.made.Report.TheVariants as reports
 use Rattle.tab_stands.specs.Delivering.{IsMadeNoted, IsMakeTask, step_ready}
 use Rattle.tab_stands.specs.PassedOn.{IsMake, IsStray, MayCause}
-use Rattle.tab_stands.specs.Standing.{HasBegun, StandsFor, StartsUnasked}
+use Rattle.tab_stands.specs.Standing.{HasBegun, StandsFor, StartsUnasked, none_in_check}
 use Rattle.tab_unneeded.proofs.Strays.{needed_is}
 use Rattle.tab_unneeded.specs.Telling.{is_unneeded_in}
 use Rattle.log_model.specs.declared.job.Task.TheVariants as tasks
@@ -82,7 +82,7 @@ module _ (d : InDone) (c : Coordinator) (job : Job) (done : IsDone d c job) (sta
   abbrev t : Tables
   t = c.tables
 
-  abbrev stands : StandsFor s c.tables c.queue c.blame.entries
+  abbrev stands : StandsFor none_in_check s c.tables c.queue c.blame.entries
   stands = done.open_.stands.stands
 
   aside : StartsUnasked e
@@ -217,8 +217,8 @@ module _ (d : InDone) (c : Coordinator) (job : Job) (done : IsDone d c job) (sta
   pub placed_settles : (then_ after : Coordinator) → HasPlaced c then_ job.doc state → after.header ≡ then_.header → after.tables ≡ then_.tables → after.queue ≡ then_.queue → after.slots.entries ≡ then_.slots.entries → IsMadeNoted (now_of d.event []) c.blame.entries after.blame.entries job.doc state → IsToSettle d.event [] after job.why
   placed_settles then_ after placed header tables queue slots noted =
       to_settle e after (header ∙ placed.header ∙ done.open_.header) done.open_.unchecked
-      (subst (λ (q : Queue). HasBegun (pass_of e) after.tables q after.blame.entries) (sym queue)
-      (subst (λ (x : Tables). HasBegun (pass_of e) x then_.queue after.blame.entries) (sym tables)
+      (subst (λ (q : Queue). HasBegun (pass_of e []) after.tables q after.blame.entries) (sym queue)
+      (subst (λ (x : Tables). HasBegun (pass_of e []) x then_.queue after.blame.entries) (sym tables)
       (placed_begun e d.proc job d.outcome done.delivery t c.queue c.blame.entries stands aside its.nav state its.address its.initial its.task placed.one_each then_.tables placed.one placed.run done.open_.room (keep_now e c done.open_) then_.queue placed.queue after.blame.entries noted)))
       job.why made_may (done_taken d c job done) (done_found d c job done) (done_telling d c job done)
       (subst (λ (l : List (DocId × ℕ)). AreSlots (log_of e []) l) (sym (slots ∙ placed.slots)) done.slots)

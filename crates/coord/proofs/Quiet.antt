@@ -13,7 +13,7 @@ use Rattle.tab_stands.specs.Delivering.{IsQuietTask}
 use Rattle.tab_stands.specs.Standing as tab
 
 module _ (d : InDone) (c : Coordinator) (job : Job) (done : IsDone d c job) (quiet : IsQuietTask job.task) (clear : c.blame.entries ≡ []) where
-  its : tab.HasActed d.event [] c.tables c.queue c.blame.entries
+  its : tab.HasActed tab.none_in_check d.event [] c.tables c.queue c.blame.entries
   its =
       told_acts d.event d.proc job d.outcome done.delivery c.tables c.queue c.blame.entries done.open_.stands.stands (done_aside d c job done) quiet done.open_.room (keep_now d.event c done.open_) clear
 

@@ -38,7 +38,7 @@ use Rattle.tab_stands.proofs.Unmade.{made_at}
 use Rattle.tab_stands.specs.Delivering.{IsMakeTask}
 use Rattle.tab_stands.specs.Offs.{AreShownUnder}
 use Rattle.tab_stands.specs.PassedOn.{IsReady, MakesServe, MayServe, OrdersAreSound}
-use Rattle.tab_stands.specs.Standing.{StandsFor, StartsUnasked}
+use Rattle.tab_stands.specs.Standing.{StandsFor, StartsUnasked, none_in_check}
 use Rattle.tab_unneeded.proofs.Strays.{unneeded_is}
 use Rattle.tab_unneeded.specs.Made.{IsMadeUnneeded}
 use Rattle.tab_unneeded.specs.Telling.{is_unneeded_in}
@@ -61,7 +61,7 @@ module _ (d : InDone) (c : Coordinator) (job : Job) (done : IsDone d c job) (sta
   abbrev t : Tables
   t = c.tables
 
-  abbrev stands : StandsFor s c.tables c.queue c.blame.entries
+  abbrev stands : StandsFor none_in_check s c.tables c.queue c.blame.entries
   stands = done.open_.stands.stands
 
   aside : StartsUnasked e
@@ -125,7 +125,7 @@ module _ (d : InDone) (c : Coordinator) (job : Job) (done : IsDone d c job) (sta
 
   -- ---- so the tab may be brought to rest
 
-  module _ (out : List RowKind) (is : out ≡ rows.Sent (order_to (now_of d.event []) job.doc job.why tasks.Discard) ∷ []) (u : Tables) (ready : IsReady (pass_of d.event) out u c.queue c.blame.entries whys.Start) where
+  module _ (out : List RowKind) (is : out ≡ rows.Sent (order_to (now_of d.event []) job.doc job.why tasks.Discard) ∷ []) (u : Tables) (ready : IsReady (pass_of d.event []) out u c.queue c.blame.entries whys.Start) where
     fine : (row : RowKind) → Has out row → IsFine (now_of e out) whys.Start row
     fine =
         subst (λ (l : List RowKind). (row : RowKind) → Has l row → IsFine (now_of e out) whys.Start row) (sym is)
@@ -156,9 +156,9 @@ module _ (d : InDone) (c : Coordinator) (job : Job) (done : IsDone d c job) (sta
           header = header ∙ done.open_.header;
           unchecked = done.open_.unchecked;
           ready =
-              subst (λ (l : List (StateId × ReqId)). IsReady (pass_of e) out after.tables after.queue l whys.Start) (sym noted)
-              (subst (λ (q : Queue). IsReady (pass_of e) out after.tables q c.blame.entries whys.Start) (sym queue)
-              (subst (λ (x : Tables). IsReady (pass_of e) out x c.queue c.blame.entries whys.Start) (sym tables) ready));
+              subst (λ (l : List (StateId × ReqId)). IsReady (pass_of e []) out after.tables after.queue l whys.Start) (sym noted)
+              (subst (λ (q : Queue). IsReady (pass_of e []) out after.tables q c.blame.entries whys.Start) (sym queue)
+              (subst (λ (x : Tables). IsReady (pass_of e []) out x c.queue c.blame.entries whys.Start) (sym tables) ready));
           makes = makes;
           sound = sound;
           coord = λ row has. (fine row has).coord;

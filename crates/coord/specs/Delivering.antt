@@ -1,5 +1,6 @@
 -- What a coordinator is told by a report as it is delivered.
 -- HTML Standard, "apply the history step" and "URL and history update steps"; orders and reports are this project's own.
+use Rattle.tab_stands.specs.Standing.{none_in_check}
 use Rattle.coord.specs.Standing.{IsOpenIn}
 use Rattle.coord.specs.declared.coordinator.Coordinator.{Coordinator}
 use Rattle.indexmap.specs.IndexMap.{insert_entry}
@@ -75,7 +76,7 @@ pub record IsMade (d : InDelivery) (c : Coordinator) (made : Made) : Type 0 wher
 -- what the event makes of a document that nothing needs
 abbrev pub made_in : InDone → Coordinator → Job → InMade
 made_in d c job =
-    record { event = d.event; proc = d.proc; job = job; outcome = d.outcome; queue = c.queue; noted = c.blame.entries }
+    record { event = d.event; check = none_in_check; proc = d.proc; job = job; outcome = d.outcome; queue = c.queue; noted = c.blame.entries }
 
 abbrev pub done_in : InMade → InDone
 done_in m = record { event = m.event; proc = m.proc; outcome = m.outcome }

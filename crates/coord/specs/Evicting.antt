@@ -1,5 +1,6 @@
 -- The user has the document discarded that is kept longest.
 -- HTML Standard, "Documents kept for traversal" and "destroy a document"; that the user evicts is this project's own.
+use Rattle.tab_stands.specs.Standing.{none_in_check}
 use Rattle.coord.specs.declared.coordinator.Coordinator.{Coordinator}
 use Rattle.seen_facts.specs.Kept.Keeping.{kept_states}
 use Rattle.log_model.specs.Seen.{Seen}
@@ -17,7 +18,7 @@ pub record InEviction : Type 0 where
 
 -- the same, with what waits and for whom stray documents are noted as it begins
 abbrev pub evict_in : InEviction → Coordinator → InEvict
-evict_in v c = record { event = v.event; state = v.state; queue = c.queue; noted = c.blame.entries }
+evict_in v c = record { event = v.event; check = none_in_check; state = v.state; queue = c.queue; noted = c.blame.entries }
 
 abbrev pub eviction_of : InEvict → InEviction
 eviction_of b = record { event = b.event; state = b.state }

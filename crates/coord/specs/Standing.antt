@@ -37,7 +37,7 @@ nobody req = false
 
 -- but for its slots: its tables, its queue and the requests that are noted for stray documents stand for what the log has come to, and it keeps as many documents as its settings say
 pub record StandsBut (s : Seen) (c : Coordinator) : Type 0 where
-  pub stands : tab.StandsFor s c.tables c.queue c.blame.entries
+  pub stands : tab.StandsFor tab.none_in_check s c.tables c.queue c.blame.entries
   pub keep : c.tables.kept.keep ≡ c.header.keep
   -- nobody was asked so far
   pub plain : unasked nobody s ≡ s
@@ -86,7 +86,7 @@ pub record HasActed (e : InEvent) (out : List RowKind) (c : Coordinator) : Type 
 pub record IsToSettle (e : InEvent) (out : List RowKind) (c : Coordinator) (cause : Why) : Type 0 where
   pub header : c.header ≡ e.header
   pub unchecked : e.checking ≡ nobody
-  pub ready : IsReady (pass_of e) out c.tables c.queue c.blame.entries cause
+  pub ready : IsReady (pass_of e []) out c.tables c.queue c.blame.entries cause
   pub makes : MakesServe (now_of e out)
   pub sound : OrdersAreSound (now_of e out)
   pub coord : (row : RowKind) → Has out row → IsOfCoord row

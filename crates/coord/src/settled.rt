@@ -39,6 +39,7 @@ impl Coordinator {
             &mut self.blame,
             out,
             &mut reasons,
+            false,
         )?;
         self.logged = reasons.logged;
         Ok(())

@@ -1,4 +1,5 @@
 -- A document makes something of the first poke of its process, but for an edit, or the process refuses that poke: the coordinator that stood for the log stands for it still.
+use Rattle.tab_facts.specs.TabWhole.Tab.{at_hand}
 use Rattle.seen_facts.proofs.Coord.Held.{held_apart, held_on, on_else, without_same}
 use Rattle.seen_facts.proofs.Coord.Unread.{next}
 use Rattle.seen_facts.specs.Desk.Own as owning
@@ -54,7 +55,7 @@ use Rattle.tab_ids.specs.declared.StateId.{StateId}
 use Rattle.tab_stands.proofs.EpochRows.{made_under, refused_under}
 use Rattle.tab_stands.proofs.PassedOn.{unstood_by, row_duly}
 use Rattle.tab_stands.specs.PassedOn.{IsByItsOwn, LoadsMadeOwn, is_new_entry}
-use Rattle.tab_stands.specs.Standing.{HasActed, HasRoomFor, StandsFor}
+use Rattle.tab_stands.specs.Standing.{HasActed, HasRoomFor, InCheck, StandsFor}
 use Rattle.tab_facts.proofs.TabWhole.Acting.{IsActing, not_running, unjoined, unparked}
 use Rattle.log_model.specs.declared.action.Action.TheVariants as actions
 use Rattle.log_model.specs.declared.made.What.TheVariants as whats
@@ -91,7 +92,7 @@ theirs_else s n req no_load others own homes theirs r q made found load makes = 
         let old = own q (ap (λ (x : ReqId). request_in n.requests x) (sym one) ∙ found) in
         let never : true ≡ false = sym (ap is_load old.2 ∙ load) ∙ no_load old.0 old.1 in absurd cc
 
-module _ (e : InEvent) (t : Tables) (queue : Queue) (blame : List (StateId × ReqId)) (stands : StandsFor e.start t queue blame) (room : HasRoomFor e.start) (proc : ProcId) (poke : Poke) (first : slice_get (desk_of e.start proc).input 0 ≡ Some poke) where
+module _ (e : InEvent) (t : Tables) (queue : Queue) (blame : List (StateId × ReqId)) {check : InCheck} (stands : StandsFor check e.start t queue blame) (room : HasRoomFor e.start) (proc : ProcId) (poke : Poke) (first : slice_get (desk_of e.start proc).input 0 ≡ Some poke) where
   abbrev s : Seen
   s = e.start
 
@@ -107,7 +108,7 @@ module _ (e : InEvent) (t : Tables) (queue : Queue) (blame : List (StateId × Re
     pub unended : q.ending ≡ None
 
   pub its_asked : Asks
-  its_asked = by_found (request_in s.requests poke.req) refl (first_poke s [] proc poke first stands.between.tab.once stands.between.tab.known)
+  its_asked = by_found (request_in s.requests poke.req) refl (first_poke s (at_hand check.loads []) proc poke first stands.between.tab.once stands.between.tab.known)
     where
       by_found : (o : Option Asked) → request_in s.requests poke.req ≡ o → IsPoke (core_of o) poke → Asks
       by_found None at k = (let never : None ≡ Some _ = k.is in absurd cc)
@@ -206,7 +207,7 @@ module _ (e : InEvent) (t : Tables) (queue : Queue) (blame : List (StateId × Re
           goes_by view its_asked.nav poke.action what delta makes (ap delta_of (sym its_asked.what) ∙ ap (λ (x : Asked). delta_of x.what) one ∙ asks)
 
       -- what it made is no edit
-      pub made_stands : IsNoEdit what → StandsFor (next e.start e.start.events (actors.Proc proc) (rows.Made proc (made_for view poke.req what))) t queue blame
+      pub made_stands : IsNoEdit what → StandsFor check (next e.start e.start.events (actors.Proc proc) (rows.Made proc (made_for view poke.req what))) t queue blame
       made_stands no_edit =
           left_stands e t queue blame stands room made_ (but_of t.running s made_ (made_left t.running s s.events (actors.Proc proc) proc its_made)) made_told
           (acted_between t.kept.keep t.running s proc stands.between poke first d view what acting no_edit)
@@ -222,10 +223,10 @@ module _ (e : InEvent) (t : Tables) (queue : Queue) (blame : List (StateId × Re
               let same : record its_asked.q { made = Some its_made } ≡ q = some_same (sym (ap (λ (o : Option Asked). option_map (λ (x : Asked). record x { made = Some its_made }) o) its_asked.there) ∙ sym (on_itself s.requests poke.req (λ (x : Asked). record x { made = Some its_made })) ∙ at) in
               (its_asked.q, its_asked.there, ap (λ (x : Asked). x.what) same)
 
-      pub made_acts : IsNoEdit what → e.actor ≡ actors.Proc proc → e.event ≡ e.start.events → e.own ≡ rows.Made proc (made_for view poke.req what) → HasActed e [] t queue blame
+      pub made_acts : IsNoEdit what → e.actor ≡ actors.Proc proc → e.event ≡ e.start.events → e.own ≡ rows.Made proc (made_for view poke.req what) → HasActed check e [] t queue blame
       made_acts no_edit by event own =
           alone_acts e (actors.Proc proc) (rows.Made proc its_made) by own event t queue blame
-          (subst (λ (n : ℕ). StandsFor (next e.start n (actors.Proc proc) (rows.Made proc its_made)) t queue blame) (sym event) (made_stands no_edit))
+          (subst (λ (n : ℕ). StandsFor check (next e.start n (actors.Proc proc) (rows.Made proc its_made)) t queue blame) (sym event) (made_stands no_edit))
           (made_passes e.header s proc poke its_asked.q its_asked.nav d view what to_act makes no_edit)
 
     -- ---- its address is none for the document
@@ -295,7 +296,7 @@ module _ (e : InEvent) (t : Tables) (queue : Queue) (blame : List (StateId × Re
           unstood = λ off away. unstood_by s (record { event = e.event; actor = actors.Proc proc; row = rows.Refused poke.req reason }) refl away off;
         }
 
-    pub refused_stands : StandsFor (next e.start e.event (actors.Proc proc) (rows.Refused poke.req reason)) t queue blame
+    pub refused_stands : StandsFor check (next e.start e.event (actors.Proc proc) (rows.Refused poke.req reason)) t queue blame
     refused_stands =
         left_stands e t queue blame stands room refused (but_of t.running s refused refused_left) refused_told
         (refused_between t.kept.keep t.running s proc stands.between poke first e.event reason)
@@ -306,7 +307,7 @@ module _ (e : InEvent) (t : Tables) (queue : Queue) (blame : List (StateId × Re
         (refused_under s e.event (actors.Proc proc) poke.req reason stands.lasts.shows)
         (row_duly s e.event (actors.Proc proc) stands.lasts.duly (rows.Refused poke.req reason) tt)
 
-    pub refused_acts : e.actor ≡ actors.Proc proc → e.event ≡ e.start.events → e.own ≡ rows.Refused poke.req reason → Passes e.header (record { start = e.start; now = e.start; done = []; later = [] }) (record { event = e.start.events; actor = actors.Proc proc; row = rows.Refused poke.req reason }) → HasActed e [] t queue blame
+    pub refused_acts : e.actor ≡ actors.Proc proc → e.event ≡ e.start.events → e.own ≡ rows.Refused poke.req reason → Passes e.header (record { start = e.start; now = e.start; done = []; later = [] }) (record { event = e.start.events; actor = actors.Proc proc; row = rows.Refused poke.req reason }) → HasActed check e [] t queue blame
     refused_acts by event own passes =
         alone_acts e (actors.Proc proc) (rows.Refused poke.req reason) by own event t queue blame refused_stands passes
 

@@ -57,7 +57,7 @@ use Rattle.tab_stands.proofs.Coming.{bare}
 use Rattle.tab_stands.proofs.EpochRows.{coord_under, made_under}
 use Rattle.tab_stands.proofs.PassedOn.{unstood_by, FitsWell, change_duly, row_duly}
 use Rattle.tab_stands.specs.PassedOn.{LoadsMadeOwn}
-use Rattle.tab_stands.specs.Standing.{HasActed, HasRoomFor, StandsFor}
+use Rattle.tab_stands.specs.Standing.{HasActed, HasRoomFor, InCheck, StandsFor}
 
 some_same : {A : Type 0} {a b : A} → (let o : Option A = Some a in o) ≡ Some b → a ≡ b
 some_same e = cc
@@ -121,7 +121,7 @@ module _ (header : Header) (s : Seen) (proc : ProcId) (poke : Poke) (q : Asked) 
 
 -- ---- the coordinator
 
-module _ (e : InEvent) (t : Tables) (queue : Queue) (blame : List (StateId × ReqId)) (stands : StandsFor e.start t queue blame) (room : HasRoomFor e.start) (proc : ProcId) (poke : Poke) (first : slice_get (desk_of e.start proc).input 0 ≡ Some poke) (d : Document) (view : View) (found : document_of e.start poke.doc ≡ Some d) (has : d.view ≡ Some view) (runs : view.running ≡ true) (makes : made_by view poke.action ≡ Some whats.Edit) where
+module _ (e : InEvent) (t : Tables) (queue : Queue) (blame : List (StateId × ReqId)) {check : InCheck} (stands : StandsFor check e.start t queue blame) (room : HasRoomFor e.start) (proc : ProcId) (poke : Poke) (first : slice_get (desk_of e.start proc).input 0 ≡ Some poke) (d : Document) (view : View) (found : document_of e.start poke.doc ≡ Some d) (has : d.view ≡ Some view) (runs : view.running ≡ true) (makes : made_by view poke.action ≡ Some whats.Edit) where
   abbrev s : Seen
   s = e.start
 
@@ -265,7 +265,7 @@ module _ (e : InEvent) (t : Tables) (queue : Queue) (blame : List (StateId × Re
         then_sound = stands.between.tab.sound;
       }
 
-  edit_stands : StandsFor n t queue blame
+  edit_stands : StandsFor check n t queue blame
   edit_stands =
       left_stands e t queue blame stands room n (but_of t.running s n (edited_left t.kept.keep t.running s proc stands.between poke first d view acting)) told
       (edited_between t.kept.keep t.running s proc stands.between poke first d view acting) lasting
@@ -300,10 +300,10 @@ module _ (e : InEvent) (t : Tables) (queue : Queue) (blame : List (StateId × Re
   abbrev out : List RowKind
   out = rows.Applied poke.req kinds.Edit ∷ []
 
-  pub edit_acts : e.actor ≡ actors.Proc proc → e.event ≡ e.start.events → e.own ≡ rows.Made proc (made_for view poke.req whats.Edit) → HasActed e (rows.Applied poke.req kinds.Edit ∷ []) t queue blame
+  pub edit_acts : e.actor ≡ actors.Proc proc → e.event ≡ e.start.events → e.own ≡ rows.Made proc (made_for view poke.req whats.Edit) → HasActed check e (rows.Applied poke.req kinds.Edit ∷ []) t queue blame
   edit_acts by event own =
       record {
-        stands = subst (λ (x : Seen). StandsFor x t queue blame) (sym came) edit_stands;
+        stands = subst (λ (x : Seen). StandsFor check x t queue blame) (sym came) edit_stands;
         passes =
             subst (λ (r : LogRow). EachPass (start_of e) (r ∷ map (row_of e) out) []) (sym (own_row e (actors.Proc proc) (rows.Made proc its_made) by own))
             (subst (λ (a : Actor). EachPass (start_of e) ((let r : LogRow = record { event = e.event; actor = actors.Proc proc; row = rows.Made proc its_made } in r) ∷ (let r : LogRow = record { event = e.event; actor = a; row = rows.Applied poke.req kinds.Edit } in r) ∷ []) []) (sym by)

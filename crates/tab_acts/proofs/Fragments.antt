@@ -59,7 +59,7 @@ use Rattle.tab_ids.specs.declared.StateId.{StateId}
 use Rattle.tab_stands.proofs.EpochRows.{finished_under, made_under}
 use Rattle.tab_stands.proofs.PassedOn.{unstood_by, finished_duly, row_duly}
 use Rattle.tab_stands.specs.PassedOn.{IsByItsOwn, IsOfItsLoad, IsSoundTask, LoadsMadeOwn, is_new_entry}
-use Rattle.tab_stands.specs.Standing.{HasActed, HasRoomFor, StandsFor}
+use Rattle.tab_stands.specs.Standing.{HasActed, HasRoomFor, InCheck, StandsFor}
 use Rattle.tab_facts.proofs.TabWhole.Fragments.{IsToFragment}
 use Rattle.tab_facts.proofs.TabWhole.Working.{in_hand_lives}
 use Rattle.seen_facts.specs.Transit.Orders.{IsOutcomeOf}
@@ -111,7 +111,7 @@ open_load s req w load = by_what w.q.what refl load
     by_what (requests.Poke nav action) is never = absurd cc
     by_what (requests.Reload nav) is never = absurd cc
 
-module _ (e : InEvent) (t : Tables) (queue : Queue) (blame : List (StateId × ReqId)) (stands : StandsFor e.start t queue blame) (room : HasRoomFor e.start) (proc : ProcId) (order : Order) (req : ReqId) (mode : Mode) (address : List ℕ) (d : Document) (view : View) (to : IsToFragment e.start proc order req mode address d view) where
+module _ (e : InEvent) (t : Tables) (queue : Queue) (blame : List (StateId × ReqId)) {check : InCheck} (stands : StandsFor check e.start t queue blame) (room : HasRoomFor e.start) (proc : ProcId) (order : Order) (req : ReqId) (mode : Mode) (address : List ℕ) (d : Document) (view : View) (to : IsToFragment e.start proc order req mode address d view) where
   abbrev s : Seen
   s = e.start
 
@@ -281,7 +281,7 @@ module _ (e : InEvent) (t : Tables) (queue : Queue) (blame : List (StateId × Re
   lasting : AreLasting n
   lasting = made_lasting half e.event (actors.Proc proc) half_lasting proc made d view half_found to.has to.runs refl goes
 
-  pub fragment_stands : StandsFor (next (next e.start e.event (actors.Proc proc) (rows.Finished proc order.job.nr outcomes.Fragmented)) e.event (actors.Proc proc) (rows.Made proc (made_for view req (fragment_of view mode address)))) t queue blame
+  pub fragment_stands : StandsFor check (next (next e.start e.event (actors.Proc proc) (rows.Finished proc order.job.nr outcomes.Fragmented)) e.event (actors.Proc proc) (rows.Made proc (made_for view req (fragment_of view mode address)))) t queue blame
   fragment_stands =
       left_stands e t queue blame stands room n
       (but_of t.running s n (left_twice t.running s half n (finished_left t.running s e.event (actors.Proc proc) proc order outcomes.Fragmented to.in_hand) (made_left t.running half e.event (actors.Proc proc) proc made)))
@@ -303,10 +303,10 @@ module _ (e : InEvent) (t : Tables) (queue : Queue) (blame : List (StateId × Re
       home : d.proc ≡ proc
       home = (in_hand_lives t.running s e.event proc stands.between.tab stands.between.flows order outcomes.Fragmented to.in_hand (subst (λ (k : Task). IsOutcomeOf k outcomes.Fragmented) (sym to.task) tt) tt).home d to.found
 
-  pub fragment_acts : e.actor ≡ actors.Proc proc → e.own ≡ rows.Finished proc order.job.nr outcomes.Fragmented → HasActed e (rows.Made proc (made_for view req (fragment_of view mode address)) ∷ []) t queue blame
+  pub fragment_acts : e.actor ≡ actors.Proc proc → e.own ≡ rows.Finished proc order.job.nr outcomes.Fragmented → HasActed check e (rows.Made proc (made_for view req (fragment_of view mode address)) ∷ []) t queue blame
   fragment_acts by own =
       record {
-        stands = subst (λ (x : Seen). StandsFor x t queue blame) (sym came) fragment_stands;
+        stands = subst (λ (x : Seen). StandsFor check x t queue blame) (sym came) fragment_stands;
         passes =
             subst (λ (r : LogRow). EachPass (start_of e) (r ∷ map (row_of e) out) []) (sym (own_row e (actors.Proc proc) (rows.Finished proc order.job.nr outcomes.Fragmented) by own))
             (subst (λ (a : Actor). EachPass (start_of e) ((let r : LogRow = record { event = e.event; actor = actors.Proc proc; row = rows.Finished proc order.job.nr outcomes.Fragmented } in r) ∷ (let r : LogRow = record { event = e.event; actor = a; row = rows.Made proc made } in r) ∷ []) []) (sym by)

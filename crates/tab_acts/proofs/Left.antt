@@ -46,7 +46,7 @@ use Rattle.tab_doors.specs.Working.{HasGoal}
 use Rattle.tab_doors.specs.declared.tables.Tables.{Tables}
 use Rattle.tab_facts.proofs.TabEvents.Left.{IsLeftBut}
 use Rattle.tab_facts.proofs.TabEvents.Requests.{IsSo}
-use Rattle.tab_facts.specs.TabEvents.Between.{IsBetween}
+use Rattle.tab_facts.specs.TabEvents.Between.{IsBetweenChecks}
 use Rattle.tab_facts.proofs.TabGoing.Steps.{steps_still}
 use Rattle.tab_facts.specs.TabGoing.Going.{AreHeldUp, IsGoing, count_of, has_ended, has_spent}
 use Rattle.tab_ids.specs.declared.DocId.{DocId}
@@ -60,7 +60,7 @@ use Rattle.tab_stands.proofs.Placed.{states_alike}
 use Rattle.tab_stands.proofs.Stays.{stands_still}
 use Rattle.tab_stands.specs.Offs.{AreShownUnder}
 use Rattle.tab_stands.specs.PassedOn.{AreLeftStrays, HasQueue, HoldsParked, IsMake, IsReadyLoadOf, IsSoundTask, IsStray, LoadsMadeOwn, MakesServe, MayCause, MayServe, OrdersAreSound}
-use Rattle.tab_stands.specs.Standing.{HasRoomFor, StandsFor}
+use Rattle.tab_stands.specs.Standing.{HasRoomFor, InCheck, StandsFor}
 
 some_same : {A : Type 0} {a b : A} → (let o : Option A = Some a in o) ≡ Some b → a ≡ b
 some_same e = cc
@@ -98,7 +98,7 @@ any_map : (g : Document → Document) (test : Document → Bool) (xs : List Docu
 any_map g test [] same = refl
 any_map g test (x ∷ xs) same = rw (same x) (ap (λ (b : Bool). test x || b) (any_map g test xs same))
 
-module _ (e : InEvent) (t : Tables) (queue : Queue) (blame : List (StateId × ReqId)) (stands : StandsFor e.start t queue blame) (room : HasRoomFor e.start) (n : Seen) (left : IsLeftBut t.running e.start n) (told : StaysTold e.start n) (between : IsBetween t.kept.keep t.running n) (lasting : AreLasting n) (rows_ : (F : Job → Type 0) → AreOrders F e.start → AreOrders F n) (theirs : LoadsMadeOwn n) (were : WereShown n) (shows : AreShownUnder n) (duly : AreLeftDuly n) where
+module _ (e : InEvent) (t : Tables) (queue : Queue) (blame : List (StateId × ReqId)) {check : InCheck} (stands : StandsFor check e.start t queue blame) (room : HasRoomFor e.start) (n : Seen) (left : IsLeftBut t.running e.start n) (told : StaysTold e.start n) (between : IsBetweenChecks t.kept.keep t.running check.loads check.holds n) (lasting : AreLasting n) (rows_ : (F : Job → Type 0) → AreOrders F e.start → AreOrders F n) (theirs : LoadsMadeOwn n) (were : WereShown n) (shows : AreShownUnder n) (duly : AreLeftDuly n) where
   abbrev s : Seen
   s = e.start
 
@@ -170,7 +170,7 @@ module _ (e : InEvent) (t : Tables) (queue : Queue) (blame : List (StateId × Re
   -- ---- ongoing loads
 
   -- nothing is made of one
-  unmade : (m : Seen) → IsBetween t.kept.keep run m → (req : ReqId) (l : Look) → look_of m req ≡ Some l → is_ongoing l ≡ true → l.made ≡ None
+  unmade : (m : Seen) → IsBetweenChecks t.kept.keep run check.loads check.holds m → (req : ReqId) (l : Look) → look_of m req ≡ Some l → is_ongoing l ≡ true → l.made ≡ None
   unmade m holding req l at on = (holding.tab.loading.each req l at on).unmade
 
   loads_were : (req : ReqId) (l : Look) → look_of n req ≡ Some l → is_ongoing l ≡ true → look_of s req ≡ Some l
@@ -419,7 +419,7 @@ module _ (e : InEvent) (t : Tables) (queue : Queue) (blame : List (StateId × Re
         unstood = told.unstood;
       }
 
-  going : IsGoing run [] [] n
+  going : IsGoing run check.loads [] n
   going =
       record {
         tab = between.tab;
@@ -434,6 +434,6 @@ module _ (e : InEvent) (t : Tables) (queue : Queue) (blame : List (StateId × Re
         room = (let low : length s.requests + 3 < 4294967296 = room in let same : length n.requests ≡ length s.requests = told.long in omega (arith, low, same));
       }
 
-  pub left_stands : StandsFor n t queue blame
+  pub left_stands : StandsFor check n t queue blame
   left_stands =
       stands_still e t queue blame stands n comes between going tied makes sound shows duly strays_then queued parked_then

@@ -52,7 +52,7 @@ use Rattle.tab_ids.specs.declared.StateId.{StateId}
 use Rattle.tab_stands.proofs.EpochRows.{finished_under, taken_under}
 use Rattle.tab_stands.proofs.PassedOn.{unstood_by, finished_duly, row_duly, is_made}
 use Rattle.tab_stands.specs.PassedOn.{IsSoundTask, LoadsMadeOwn}
-use Rattle.tab_stands.specs.Standing.{HasActed, HasRoomFor, StandsFor}
+use Rattle.tab_stands.specs.Standing.{HasActed, HasRoomFor, InCheck, StandsFor}
 use Rattle.tab_facts.proofs.TabWhole.Working.{taken_lives, unready}
 use Rattle.seen_facts.specs.Transit.Orders.{IsOutcomeOf}
 use Rattle.log_model.specs.declared.job.Task.TheVariants as tasks
@@ -67,7 +67,7 @@ theirs_same s n same homes theirs req q made found load makes =
     let d = homes made.doc its.0.d its.0.found in
     (record { d = d.0; found = d.1; nav_is = its.0.nav_is ∙ ap (λ (x : NavId). let o : Option NavId = Some x in o) (sym d.2) }, its.1)
 
-module _ (e : InEvent) (t : Tables) (queue : Queue) (blame : List (StateId × ReqId)) (stands : StandsFor e.start t queue blame) (room : HasRoomFor e.start) (proc : ProcId) where
+module _ (e : InEvent) (t : Tables) (queue : Queue) (blame : List (StateId × ReqId)) {check : InCheck} (stands : StandsFor check e.start t queue blame) (room : HasRoomFor e.start) (proc : ProcId) where
   abbrev s : Seen
   s = e.start
 
@@ -85,7 +85,7 @@ module _ (e : InEvent) (t : Tables) (queue : Queue) (blame : List (StateId × Re
     took_told =
         record { sights = refl; ways = λ r. refl; changes = changes_kept s.requests took.requests (λ r. refl); held = refl; jobs = refl; states = refl; entries = refl; initial = refl; spent = omega arith; ended = omega arith; long = refl; step = refl; unstood = λ off away. unstood_by s (record { event = e.event; actor = actors.Proc proc; row = rows.Taken proc job.nr true dirty }) refl away off }
 
-    pub taken_stands : StandsFor (next e.start e.event (actors.Proc proc) (rows.Taken proc job.nr true dirty)) t queue blame
+    pub taken_stands : StandsFor check (next e.start e.event (actors.Proc proc) (rows.Taken proc job.nr true dirty)) t queue blame
     taken_stands =
         left_stands e t queue blame stands room took (but_of t.running s took took_left) took_told (taken_between t.kept.keep t.running s e.event proc stands.between job dirty free first) (taken_lasting s e.event (actors.Proc proc) stands.lasts.lasting proc job dirty)
         (λ F. orders_after F s e.event (actors.Proc proc) (rows.Taken proc job.nr true dirty) tt (λ x is. cc))
@@ -94,7 +94,7 @@ module _ (e : InEvent) (t : Tables) (queue : Queue) (blame : List (StateId × Re
         (taken_under s e.event (actors.Proc proc) proc job.nr true dirty stands.lasts.shows)
         (row_duly s e.event (actors.Proc proc) stands.lasts.duly (rows.Taken proc job.nr true dirty) tt)
 
-    pub taken_acts : (by : e.actor ≡ actors.Proc proc) (event : e.event ≡ e.start.events) (is_dirty : dirty ≡ holds (λ (d : Document). holds (λ (view : View). view.dirty) d.view) (document_of e.start job.doc)) (own : e.own ≡ rows.Taken proc job.nr true dirty) → HasActed e [] t queue blame
+    pub taken_acts : (by : e.actor ≡ actors.Proc proc) (event : e.event ≡ e.start.events) (is_dirty : dirty ≡ holds (λ (d : Document). holds (λ (view : View). view.dirty) d.view) (document_of e.start job.doc)) (own : e.own ≡ rows.Taken proc job.nr true dirty) → HasActed check e [] t queue blame
     taken_acts by event is_dirty own =
         alone_acts e (actors.Proc proc) (rows.Taken proc job.nr true dirty) by own event t queue blame taken_stands
         (subst (λ (b : Bool). Passes e.header (record { start = e.start; now = e.start; done = []; later = [] }) (record { event = e.start.events; actor = actors.Proc proc; row = rows.Taken proc job.nr true b })) (sym is_dirty)
@@ -206,7 +206,7 @@ module _ (e : InEvent) (t : Tables) (queue : Queue) (blame : List (StateId × Re
             by_found (document_of s order.job.doc) refl (λ x found. unready t.running s e.event proc stands.between.tab stands.between.flows order outcome hand its bare (tasks.Populate nav state address initial) task x found)
         by_task _ task out = elim out [ ]
 
-    pub finished_stands : StandsFor (next e.start e.event (actors.Proc proc) (rows.Finished proc order.job.nr outcome)) t queue blame
+    pub finished_stands : StandsFor check (next e.start e.event (actors.Proc proc) (rows.Finished proc order.job.nr outcome)) t queue blame
     finished_stands =
         left_stands e t queue blame stands room did (but_of t.running s did did_left) did_told (finished_between t.kept.keep t.running s e.event proc stands.between order outcome hand its bare other)
         (finished_lasting s e.event (actors.Proc proc) stands.lasts.lasting stands.between.tab.desks proc order outcome)
@@ -251,6 +251,6 @@ module _ (e : InEvent) (t : Tables) (queue : Queue) (blame : List (StateId × Re
           suits = rw hand done_.slotted;
         }
 
-    pub finished_acts : HasNoPages e.header → e.actor ≡ actors.Proc proc → e.event ≡ e.start.events → e.own ≡ rows.Finished proc order.job.nr outcome → HasActed e [] t queue blame
+    pub finished_acts : HasNoPages e.header → e.actor ≡ actors.Proc proc → e.event ≡ e.start.events → e.own ≡ rows.Finished proc order.job.nr outcome → HasActed check e [] t queue blame
     finished_acts pages by event own =
         alone_acts e (actors.Proc proc) (rows.Finished proc order.job.nr outcome) by own event t queue blame finished_stands (finished_passes pages)

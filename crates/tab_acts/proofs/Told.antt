@@ -31,7 +31,7 @@ use Rattle.tab_facts.proofs.TabEvents.Left.{IsLeftBut, between_but, keeps_all}
 use Rattle.tab_facts.proofs.TabEvents.Requests.{lean, same_left}
 use Rattle.tab_facts.proofs.TabWhole.Delivering.{done_flows, fine}
 use Rattle.tab_facts.specs.Last.Lasting.{AreLasting}
-use Rattle.tab_facts.specs.TabEvents.Between.{AreSwept, IsBetween}
+use Rattle.tab_facts.specs.TabEvents.Between.{AreSwept, IsBetweenChecks}
 use Rattle.tab_facts.specs.TabGoing.Going.{count_of, has_ended, has_spent}
 use Rattle.seen_facts.specs.Coord.Leading.{held_back}
 use Rattle.seen_facts.specs.Rest.Between.{IsOfLoad}
@@ -46,9 +46,9 @@ use Rattle.tab_stands.proofs.PassedOn.{of_load, unstood_by, row_duly}
 use Rattle.tab_stands.proofs.Reports.{told_kept, told_legal}
 use Rattle.tab_stands.specs.Delivering.{IsDelivery, IsQuietTask}
 use Rattle.tab_stands.specs.PassedOn.{IsStray}
-use Rattle.tab_stands.specs.Standing.{HasActed, HasBegun, HasRoomFor, StandsFor, StartsUnasked}
+use Rattle.tab_stands.specs.Standing.{HasActed, HasBegun, HasRoomFor, InCheck, StandsFor, StartsUnasked}
 
-module _ (e : InEvent) (proc : ProcId) (job : Job) (outcome : Outcome) (del : IsDelivery e proc (reports.Done job outcome None)) (t : Tables) (queue : Queue) (blame : List (StateId × ReqId)) (stands : StandsFor e.start t queue blame) (aside : StartsUnasked e) (quiet : IsQuietTask job.task) (room : HasRoomFor e.start) (header : t.kept.keep ≡ e.header.keep) (clear : blame ≡ []) where
+module _ (e : InEvent) (proc : ProcId) (job : Job) (outcome : Outcome) (del : IsDelivery e proc (reports.Done job outcome None)) (t : Tables) (queue : Queue) (blame : List (StateId × ReqId)) {check : InCheck} (stands : StandsFor check e.start t queue blame) (aside : StartsUnasked e) (quiet : IsQuietTask job.task) (room : HasRoomFor e.start) (header : t.kept.keep ≡ e.header.keep) (clear : blame ≡ []) where
   abbrev s : Seen
   s = e.start
 
@@ -64,7 +64,7 @@ module _ (e : InEvent) (proc : ProcId) (job : Job) (outcome : Outcome) (del : Is
   asked : n.requests ≡ s.requests
   asked = did_requests e proc job outcome del t queue blame stands aside (quiet_asks e proc job outcome del t queue blame stands aside quiet)
 
-  begun : HasBegun (record { event = e; loads = []; hand = [] }) t queue blame
+  begun : HasBegun (record { event = e; loads = check.loads; hand = [] }) t queue blame
   begun = quiet_begun e proc job outcome del t queue blame stands aside quiet room header
 
   -- what it leaves
@@ -119,7 +119,7 @@ module _ (e : InEvent) (proc : ProcId) (job : Job) (outcome : Outcome) (del : Is
       by_row true is = inl is
       by_row false bare_ = by_load bare_ (ongoing_load n d.state) refl
 
-  between : IsBetween t.kept.keep t.running n
+  between : IsBetweenChecks t.kept.keep t.running check.loads check.holds n
   between =
       between_but t.kept.keep t.running s n stands.between (did_tab e proc job outcome del t queue blame stands aside) left
       (done_flows t.running s e.event proc stands.between.tab stands.between.flows job outcome del.first)
@@ -129,7 +129,7 @@ module _ (e : InEvent) (proc : ProcId) (job : Job) (outcome : Outcome) (del : Is
       alive : NoDeath (slice_get (desk_of s proc).reports 0)
       alive = fine t.running s e.event proc stands.between.tab stands.between.flows (reports.Done job outcome None) del.first
 
-  pub told_stands : StandsFor n t queue blame
+  pub told_stands : StandsFor check n t queue blame
   told_stands =
       left_stands e t queue blame stands room n left told between
       (subst (λ (x : Seen). AreLasting x) (did_now e proc job outcome del t queue blame stands aside) begun.passing.going.lasting)
@@ -140,10 +140,10 @@ module _ (e : InEvent) (proc : ProcId) (job : Job) (outcome : Outcome) (del : Is
       (row_duly s e.event actors.Coord stands.lasts.duly (rows.Delivered proc) tt)
 
   -- so the event is over
-  pub told_acts : HasActed e [] t queue blame
+  pub told_acts : HasActed check e [] t queue blame
   told_acts =
       record {
-        stands = subst (λ (x : Seen). StandsFor x t queue blame) (sym (aside.plain ∙ did_now e proc job outcome del t queue blame stands aside)) told_stands;
+        stands = subst (λ (x : Seen). StandsFor check x t queue blame) (sym (aside.plain ∙ did_now e proc job outcome del t queue blame stands aside)) told_stands;
         passes =
             legal_end e [] (told_legal e proc del.by_coord del.own t queue blame stands aside (reports.Done job outcome None) del.first)
             (paid_log e [] begun.passing.work (owed_paid e [] (loose_owed e [] begun.loose)))

@@ -43,7 +43,7 @@ use Rattle.log_model.specs.declared.row_kind.RowKind.TheVariants as rows
 -- the load, with these names of what it asks
 abbrev pub named : InLoad → ReqId → NavId → Mode → List ℕ → List (StateId × ReqId) → InLoad
 named l req nav mode address noted =
-    record { event = l.event; req = req; nav = nav; mode = mode; address = address; queue = l.queue; noted = noted }
+    record { event = l.event; loads = l.loads; req = req; nav = nav; mode = mode; address = address; queue = l.queue; noted = noted }
 
 module _ (l : InLoad) (t : Tables) (asked : IsAsked l t) (req : ReqId) (req_is : l.req ≡ req) (nav : NavId) (nav_is : l.nav ≡ nav) (mode : Mode) (mode_is : l.mode ≡ mode) (address : List ℕ) (address_is : l.address ≡ address) (was : List (StateId × ReqId)) (was_is : l.noted ≡ was) where
   -- it is the same

@@ -11,7 +11,6 @@ use Rattle.tab_facts.proofs.Calm.Awakes.{lost_none}
 use Rattle.seen_facts.proofs.Coord.Unread.{next}
 use Rattle.tab_facts.proofs.Last.Rows.{started_lasting}
 use Rattle.seen_facts.specs.LoadEnds.Standing.{is_reached}
-use Rattle.seen_facts.specs.Load.Loading.{look}
 use Rattle.row_facts.proofs.LoadRows.Earlier.{no_earlier_stays}
 use Rattle.row_facts.specs.LoadRows.Beginning.{begins_no_earlier, IsLoadToBegin}
 use Rattle.log_model.proofs.Refl.{nat_eq_refl}
@@ -28,7 +27,7 @@ use Rattle.row_facts.specs.Owed.Owed.{IsLoose}
 use Rattle.row_facts.proofs.RestRows.Rows.{started_rests}
 use Rattle.row_facts.specs.RestRows.Moving.{AllRest}
 use Rattle.seen_laws.specs.InEvent.{now_of, row_of, here_of, log_of}
-use Rattle.std.proofs.Common.{Bool, List, None, Option, Some, [], ap, arith, false, length, not, refl, subst, sym, true, ℕ, ◌&&◌, ◌++◌, ◌+◌, ◌==◌, ◌||◌, ◌∙◌, ◌∷◌, ◌≡◌, ◌≤◌}
+use Rattle.std.proofs.Common.{Bool, List, None, Option, Some, [], ap, arith, false, length, not, refl, subst, sym, true, ℕ, ◌&&◌, ◌++◌, ◌==◌, ◌||◌, ◌∙◌, ◌∷◌, ◌≡◌, ◌≤◌}
 use Rattle.std.proofs.lemmas.Bool.Decides.{nat_tests}
 use Rattle.std.proofs.lemmas.Bool.{and_parts}
 use Rattle.std.specs.List.{list_all, list_any}
@@ -116,9 +115,9 @@ module _ (l : InLoad) (t : Tables) (asked : IsAsked l t) (placed_ : away_in t l.
   pub keep_same : w.kept.keep ≡ t.kept.keep
   keep_same = keeps.keep ∙ runs_on.keep
 
-  pub tab_then : IsTab t.running [] [] then_
+  pub tab_then : IsTab t.running l.loads [] then_
   tab_then =
-      load_begun_tab t.running l.req [] [] n l.event.event l.event.actor made.going.tab own l.nav l.mode l.address (record {
+      load_begun_tab t.running l.req l.loads [] n l.event.event l.event.actor made.going.tab own l.nav l.mode l.address (record {
         there = made.found;
         what = refl;
         placed = record { place = own_place; found = there };
@@ -126,9 +125,9 @@ module _ (l : InLoad) (t : Tables) (asked : IsAsked l t) (placed_ : away_in t l.
         alone = λ other m at on its. made.alone other (record { look = m; at = at; ongoing = on; loads_it = its });
       })
 
-  pub going_then : IsGoing t.running [] [] then_
+  pub going_then : IsGoing t.running l.loads [] then_
   going_then =
-      load_begun_going t.running (l.req ∷ []) [] n l.event.event l.event.actor made.going l.req own made.found None refl refl refl [] [] tab_then (started_lasting n l.event.event l.event.actor made.going.lasting l.req None)
+      load_begun_going t.running (l.req ∷ l.loads) [] n l.event.event l.event.actor made.going l.req own made.found None refl refl refl l.loads [] tab_then (started_lasting n l.event.event l.event.actor made.going.lasting l.req None)
 
   -- no earlier load is ongoing
   pub alone_now : has_no_earlier_load n l.req l.nav ≡ true
@@ -156,11 +155,11 @@ module _ (l : InLoad) (t : Tables) (asked : IsAsked l t) (placed_ : away_in t l.
       bare : (P : Seen → Type 0) → P n → P (unasked l.event.checking (log_of l.event out))
       bare P is = subst P (events.now_is l.event out) is
 
-  pub passing_now : IsPassing (pass_of l.event) now w
+  pub passing_now : IsPassing (pass_of l.event l.loads) now w
   passing_now =
       record {
         work = work;
-        going = subst (λ (x : Seen). IsGoing w.running [] [] x) (sym is_then) (subst (λ (r : Option ReqId). IsGoing r [] [] then_) (sym run_same) going_then);
+        going = subst (λ (x : Seen). IsGoing w.running l.loads [] x) (sym is_then) (subst (λ (r : Option ReqId). IsGoing r l.loads [] then_) (sym run_same) going_then);
         owed = loose_owed l.event now loose_now;
         loose = λ all_. loose_now;
         rests = subst (λ (x : Seen). AllRest x) (sym is_then) (started_rests n l.event.event l.event.actor [] made.rests l.req None);
@@ -219,11 +218,11 @@ module _ (l : InLoad) (t : Tables) (asked : IsAsked l t) (placed_ : away_in t l.
               let off : is_placed m (aim_of m) x ≡ false = ap (λ (o : Option Place). is_shown m.history.rows (aim_of m) x && holds (is_standing m.history.rows (aim_of m)) o) at ∙ neither (is_shown m.history.rows (aim_of m) x) in
               let never : true ≡ false = sym stands_ ∙ off in absurd cc
           by_place (Some p) at =
-              let wakes = placed_awake w.running [] [] m passing_now.going.tab x p at stands_ in
+              let wakes = placed_awake w.running l.loads [] m passing_now.going.tab x p at stands_ in
               let stand : is_standing m.history.rows (aim_of m) p ≡ true = sym (ap (λ (o : Option Place). holds (is_standing m.history.rows (aim_of m)) o) at) ∙ (and_parts (is_shown m.history.rows (aim_of m) x) (holds (is_standing m.history.rows (aim_of m)) (place_of m x)) stands_).1 in
               let target_ : is_given_target m.history.rows (aim_of m) p ≡ true = (and_parts (is_given_target m.history.rows (aim_of m) p) (not p.is_unmet) (and_parts (is_given_target m.history.rows (aim_of m) p && not p.is_unmet) (has_arrived p) stand).0).0 in
               ap (λ (o : Option Place). not (holds (is_in_place m.history.rows (aim_of m)) o)) at ∙ rw wakes.1 (rw target_ refl)
 
   pub home_there : (header : Header) (address : List ℕ) → is_some (home_in header w l.nav address) ≡ true
   home_there header address =
-      home_some (pass_of l.event) now w passing_now l.nav its.place its.placed unstopped header address
+      home_some (pass_of l.event l.loads) now w passing_now l.nav its.place its.placed unstopped header address

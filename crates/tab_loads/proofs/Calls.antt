@@ -1,4 +1,5 @@
 -- A load is asked for while the coordinator stands for the log: what is so once its row was logged, and that it is refused where a reason stands against it.
+use Rattle.tab_facts.specs.TabWhole.Tab.{at_hand}
 use Rattle.tab_doors.proofs.PassedOn.{refused_goes}
 use Rattle.tab_stands.proofs.Begun.{checks_first}
 use Rattle.load_doors.specs.Refusing.{IsDeniedLoad}
@@ -44,12 +45,12 @@ use Rattle.tab_passes.proofs.Aims.{aim_is}
 use Rattle.tab_passes.specs.Passing.{aim_in}
 use Rattle.tab_stands.specs.Offs.{AreOffKnown, IsOffSince, is_new_place}
 use Rattle.tab_stands.specs.PassedOn.{IsReady}
-use Rattle.tab_stands.specs.Standing.{HasBegun, HasRoomFor, StandsFor}
+use Rattle.tab_stands.specs.Standing.{HasBegun, HasRoomFor, InCheck, StandsFor}
 use Rattle.log_model.specs.declared.job.Why.TheVariants as whys
 use Rattle.log_model.specs.declared.request.Request.TheVariants as requests
 use Rattle.log_model.specs.declared.row_kind.RowKind.TheVariants as rows
 
-module _ (e : InEvent) (t : Tables) (queue : Queue) (blame : List (StateId × ReqId)) (stands : StandsFor e.start t queue blame) (room : HasRoomFor e.start) (header : t.kept.keep ≡ e.header.keep) (req : ReqId) (nav : NavId) (mode : Mode) (address : List ℕ) (asks : IsLoadAsk e req nav mode address) where
+module _ (e : InEvent) (t : Tables) (queue : Queue) (blame : List (StateId × ReqId)) {check : InCheck} (stands : StandsFor check e.start t queue blame) (room : HasRoomFor e.start) (header : t.kept.keep ≡ e.header.keep) (req : ReqId) (nav : NavId) (mode : Mode) (address : List ℕ) (asks : IsLoadAsk e req nav mode address) where
   abbrev s : Seen
   s = e.start
 
@@ -73,7 +74,7 @@ module _ (e : InEvent) (t : Tables) (queue : Queue) (blame : List (StateId × Re
   none_before : request_in s.requests req ≡ None
   none_before = none_in s.requests (q e req nav mode address asks) req asks.next
 
-  nowhere : times_found req s.desks s.joined s.parked [] ≡ 0
+  nowhere : times_found req s.desks s.joined s.parked (at_hand check.loads []) ≡ 0
   nowhere = stands.between.tab.once req (rw none_before refl) ∙ rw none_before refl
 
   unparked_before : has_req s.parked req ≡ false
@@ -88,7 +89,7 @@ module _ (e : InEvent) (t : Tables) (queue : Queue) (blame : List (StateId × Re
       load_tied e t queue blame stands asks.aside room header req nav mode address asks.by_user asks.own asks.next,
     )
 
-    its : HasDenied e req t queue blame
+    its : HasDenied e req check.loads t queue blame
     its = load_denied e t queue blame stands room header req nav mode address asks
 
     loose : IsLoose e (rows.Refused req reason ∷ [])
@@ -97,7 +98,7 @@ module _ (e : InEvent) (t : Tables) (queue : Queue) (blame : List (StateId × Re
     pub refused_came : (out : List RowKind) → out ≡ rows.Refused req reason ∷ [] → CameTo e req nav mode address out Refused
     refused_came out out_is = record { reason = reason; due = denied; is = out_is }
 
-    pub refused_ready : (out : List RowKind) → out ≡ rows.Refused req reason ∷ [] → IsAtWork e out t → IsReady (pass_of e) out t queue blame whys.Start
+    pub refused_ready : (out : List RowKind) → out ≡ rows.Refused req reason ∷ [] → IsAtWork e out t → IsReady (pass_of e check.loads) out t queue blame whys.Start
     refused_ready out out_is work =
         row_ready e req nav mode address asks t queue blame its.going its.taking its.moved its.late its.theirs header its.queueing (rows.Refused req reason) (refused_goes e [] req reason) tt tt
         (refused_changes (now_of e []) e.event e.actor req (idle e req nav mode address asks) (unjoined e req nav mode address asks t.running its.going.tab) (unparked e req nav mode address asks t.running its.going.tab) reason)
@@ -110,7 +111,7 @@ module _ (e : InEvent) (t : Tables) (queue : Queue) (blame : List (StateId × Re
     off : AreOffKnown t.running e.start
     off = stands.lasts.off
 
-    begun : HasBegun (record { event = e; loads = req ∷ []; hand = [] }) t queue blame
+    begun : HasBegun (record { event = e; loads = req ∷ check.loads; hand = [] }) t queue blame
     begun = load_begun e t queue blame stands asks.aside room header req nav mode address asks.by_user asks.own asks.next admitted
 
     aim_same : aim_of (now_of e []) ≡ aim_of s
@@ -127,7 +128,7 @@ module _ (e : InEvent) (t : Tables) (queue : Queue) (blame : List (StateId × Re
       where
         by_run : (o : Option ReqId) → t.running ≡ o → all_stand (now_of e []) (aim_of (now_of e [])) ≡ false
         by_run None is = let never : true ≡ false = sym runs ∙ ap (λ (o : Option ReqId). is_some o) is in absurd cc
-        by_run (Some run) is = stand_same ∙ off_where_runs t.kept.keep t.running s stands.between run is
+        by_run (Some run) is = stand_same ∙ off_where_runs t.kept.keep t.running s stands.between stands.alone run is
 
     off_now : AreOffKnown t.running (now_of e [])
     off_now = subst (λ (x : Seen). AreOffKnown t.running x) (sym now) off_went
@@ -175,7 +176,7 @@ module _ (e : InEvent) (t : Tables) (queue : Queue) (blame : List (StateId × Re
         off_went = record { unshown = off.unshown; top_shown = off.top_shown; since = since }
 
     abbrev pub load_at : InLoad
-    load_at = record { event = e; req = req; nav = nav; mode = mode; address = address; queue = queue; noted = blame }
+    load_at = record { event = e; loads = check.loads; req = req; nav = nav; mode = mode; address = address; queue = queue; noted = blame }
 
-    pub asked_now : IsAsked (record { event = e; req = req; nav = nav; mode = mode; address = address; queue = queue; noted = blame }) t
+    pub asked_now : IsAsked (record { event = e; loads = check.loads; req = req; nav = nav; mode = mode; address = address; queue = queue; noted = blame }) t
     asked_now = record { asks = asks; undenied = admitted; begun = begun; busy = busy; off = off_now }

@@ -73,7 +73,7 @@ module _ (l : InLoad) (t : Tables) (asked : IsAsked l t) where
   abbrev pub s : Seen
   s = now_of l.event []
 
-  pub pass : IsPassing (first_pass l.event l.req) [] t
+  pub pass : IsPassing (first_pass l.event l.req l.loads) [] t
   pass = asked.begun.passing
 
   abbrev reason_in : Seen → Option Denial
@@ -94,7 +94,7 @@ module _ (l : InLoad) (t : Tables) (asked : IsAsked l t) where
   aim = held_aim t.store s.history t.running t.goal pass.work.holds.history ∙ sym (aim_is s t.running pass.going.tab.asked t.goal pass.work.goal)
 
   pub apart : is_this t.running l.req ≡ false
-  apart = load_other t.running (l.req ∷ []) [] s pass.going.tab l.req (of_load l.event l.req l.nav l.mode l.address asked.asks)
+  apart = load_other t.running (l.req ∷ l.loads) [] s pass.going.tab l.req (of_load l.event l.req l.nav l.mode l.address asked.asks)
 
   pub runs_on : (u : Tables) → u ≡ t → KeepsRun t u
   runs_on u same = record { running = ap (λ (x : Tables). x.running) same; goal = ap (λ (x : Tables). x.goal) same; keep = ap (λ (x : Tables). x.kept.keep) same }
@@ -117,7 +117,7 @@ module _ (l : InLoad) (t : Tables) (asked : IsAsked l t) where
       paid =
           cut_paid l.event l.req l.nav l.mode l.address asked.asks t pass asked.off asked.busy place placed un.shown x far.on_way far.own far.there far.away by cut asked.begun.loose
 
-      passing : IsPassing (pass_of l.event) out u
+      passing : IsPassing (pass_of l.event l.loads) out u
       passing =
           dropped_passing l.event l.req l.nav l.mode l.address asked.asks t pass.going pass.rests pass.few pass.duly (drops.By by) paid.owed paid.loose out u out_is same work
 

@@ -54,9 +54,9 @@ use Rattle.tab_stands.specs.Offs.{AreOffKnown, IsOffSince, is_new_place}
 use Rattle.log_model.specs.declared.outcome.Cause.TheVariants as drops
 use Rattle.log_model.specs.declared.row_kind.RowKind.TheVariants as rows
 
--- the pass with the load at hand
-abbrev pub first_pass : InEvent → ReqId → InPass
-first_pass e req = record { event = e; loads = req ∷ []; hand = [] }
+-- the pass with the load at hand, and with those behind it that are in their check
+abbrev pub first_pass : InEvent → ReqId → List ReqId → InPass
+first_pass e req behind = record { event = e; loads = req ∷ behind; hand = [] }
 
 none_of : (o : Option Ending) → is_none o ≡ true → o ≡ None
 none_of None is = refl
@@ -75,7 +75,7 @@ new_as fields place epoch status on =
     by_status kept.Lost is = let known : lost ≡ place.status = sym (ap status_of is) ∙ status in rw is (rw (sym known) refl)
     by_status kept.Asleep is = let known : asleep ≡ place.status = sym (ap status_of is) ∙ status in rw is (rw (sym known) refl)
 
-module _ (e : InEvent) (req : ReqId) (nav : NavId) (mode : Mode) (address : List ℕ) (asks : IsLoadAsk e req nav mode address) (t : Tables) (pass : IsPassing (first_pass e req) [] t) (off : AreOffKnown t.running (now_of e [])) (busy : is_some t.running ≡ true → all_stand (now_of e []) (aim_of (now_of e [])) ≡ false) (place : Place) (placed : place_of (now_of e []) nav ≡ Some place) (shown : is_shown (now_of e []).history.rows (now_of e []).history.current nav ≡ true) (x : NavId) (on_way : has_nav (way_to (now_of e []) nav) x ≡ true) (own : Place) (there : place_of (now_of e []) x ≡ Some own) (away : is_placed (now_of e []) (aim_of (now_of e [])) x ≡ false) where
+module _ (e : InEvent) (req : ReqId) (nav : NavId) (mode : Mode) (address : List ℕ) (asks : IsLoadAsk e req nav mode address) (t : Tables) {behind : List ReqId} (pass : IsPassing (first_pass e req behind) [] t) (off : AreOffKnown t.running (now_of e [])) (busy : is_some t.running ≡ true → all_stand (now_of e []) (aim_of (now_of e [])) ≡ false) (place : Place) (placed : place_of (now_of e []) nav ≡ Some place) (shown : is_shown (now_of e []).history.rows (now_of e []).history.current nav ≡ true) (x : NavId) (on_way : has_nav (way_to (now_of e []) nav) x ≡ true) (own : Place) (there : place_of (now_of e []) x ≡ Some own) (away : is_placed (now_of e []) (aim_of (now_of e [])) x ≡ false) where
   abbrev s : Seen
   s = now_of e []
 

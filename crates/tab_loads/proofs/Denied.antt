@@ -24,7 +24,7 @@ use Rattle.tab_ids.specs.declared.StateId.{StateId}
 use Rattle.tab_loads.proofs.Firsts.{unjoined}
 use Rattle.tab_loads.specs.Loading.{IsLoadAsk}
 use Rattle.tab_stands.specs.PassedOn.{HasQueue, IsTaking, IsTurning, LateKnown, LoadsMadeOwn, MovedAreShown}
-use Rattle.tab_stands.specs.Standing.{HasRoomFor, IsQueueing, StandsFor}
+use Rattle.tab_stands.specs.Standing.{HasRoomFor, InCheck, IsQueueing, StandsFor}
 use Rattle.tab_stands.proofs.Accepting.{comes_now, goes_on, new, now, number_low, old_or_new, rests_now}
 use Rattle.tab_stands.proofs.Coming.{IsComing, aim_same, taking_then}
 use Rattle.tab_stands.proofs.Loads.{load_tied}
@@ -40,9 +40,9 @@ use Rattle.log_model.specs.declared.row_kind.RowKind.{RowKind}
 use Rattle.log_model.specs.declared.row_kind.Actor.TheVariants as actors
 use Rattle.log_model.specs.declared.row_kind.RowKind.TheVariants as rows
 
--- the load's own row was logged: all goes on with it at hand, and what documents made may be taken
-pub record HasDenied (e : InEvent) (req : ReqId) (t : Tables) (queue : Queue) (blame : List (StateId × ReqId)) : Type 0 where
-  pub going : IsGoing t.running (req ∷ []) [] (now_of e [])
+-- the load's own row was logged: all goes on with it at hand and those behind it that are in their check, and what documents made may be taken
+pub record HasDenied (e : InEvent) (req : ReqId) (behind : List ReqId) (t : Tables) (queue : Queue) (blame : List (StateId × ReqId)) : Type 0 where
+  pub going : IsGoing t.running (req ∷ behind) [] (now_of e [])
   pub rests : AllRest (now_of e [])
   pub few : length (now_of e []).kept ≤ t.kept.keep
   pub taking : IsTaking e t.running blame (now_of e [])
@@ -50,25 +50,25 @@ pub record HasDenied (e : InEvent) (req : ReqId) (t : Tables) (queue : Queue) (b
   pub late : LateKnown t.running (now_of e [])
   pub theirs : LoadsMadeOwn (now_of e [])
   pub duly : AreLeftDuly (log_of e [])
-  pub queueing : IsQueueing (record { event = e; loads = req ∷ []; hand = [] }) [] t queue
+  pub queueing : IsQueueing (record { event = e; loads = req ∷ behind; hand = [] }) [] t queue
 
-module _ (e : InEvent) (t : Tables) (queue : Queue) (blame : List (StateId × ReqId)) (stands : StandsFor e.start t queue blame) (room : HasRoomFor e.start) (header : t.kept.keep ≡ e.header.keep) (req : ReqId) (nav : NavId) (mode : Mode) (address : List ℕ) (asks : IsLoadAsk e req nav mode address) where
+module _ (e : InEvent) (t : Tables) (queue : Queue) (blame : List (StateId × ReqId)) {check : InCheck} (stands : StandsFor check e.start t queue blame) (room : HasRoomFor e.start) (header : t.kept.keep ≡ e.header.keep) (req : ReqId) (nav : NavId) (mode : Mode) (address : List ℕ) (asks : IsLoadAsk e req nav mode address) where
   abbrev load : Request
   load = requests.Load nav mode address
 
   abbrev s : Seen
   s = now_of e []
 
-  tab : IsTab t.running (req ∷ []) [] (now_of e [])
+  tab : IsTab t.running (req ∷ check.loads) [] (now_of e [])
   tab =
-      subst (λ (x : Seen). IsTab t.running (req ∷ []) [] x) (sym (now e req None load asks.by_user asks.own asks.next asks.aside)) (load_accepted_tab t.running e.start e.event actors.Ui stands.between.tab stands.between.flows req asks.next nav mode address)
+      subst (λ (x : Seen). IsTab t.running (req ∷ check.loads) [] x) (sym (now e req None load asks.by_user asks.own asks.next asks.aside)) (load_accepted_tab t.running e.start e.event actors.Ui stands.between.tab stands.between.flows req asks.next nav mode address)
 
   comes : IsComing blame e.start (now_of e [])
   comes = comes_now e req None load asks.by_user asks.own asks.next asks.aside t queue blame stands
 
-  going : IsGoing t.running (req ∷ []) [] (now_of e [])
+  going : IsGoing t.running (req ∷ check.loads) [] (now_of e [])
   going =
-      goes_on e req None load asks.by_user asks.own asks.next asks.aside t queue blame stands room (λ x never. absurd cc) (req ∷ []) (load_accepted_tab t.running e.start e.event actors.Ui stands.between.tab stands.between.flows req asks.next nav mode address)
+      goes_on e req None load asks.by_user asks.own asks.next asks.aside t queue blame stands room (λ x never. absurd cc) (req ∷ check.loads) (load_accepted_tab t.running e.start e.event actors.Ui stands.between.tab stands.between.flows req asks.next nav mode address)
 
   -- an ongoing load is on its way, and so isn't held back
   unheld : AreUnheld e (now_of e [])
@@ -76,15 +76,15 @@ module _ (e : InEvent) (t : Tables) (queue : Queue) (blame : List (StateId × Re
   unheld r n load_ =
       let its : IsAskedFor (now_of e []) r n = asked_for (now_of e []) r n load_ in
       let way : 0 < times_on_way (request_in (now_of e []).requests r) = subst (λ (o : Option Asked). 0 < times_on_way o) (sym its.at) (let one : 0 < ways_of its.q = rw its.ongoing (omega arith) in one) in
-      (way_unheld t.running (req ∷ []) [] (now_of e []) tab r way).parked
+      (way_unheld t.running (req ∷ check.loads) [] (now_of e []) tab r way).parked
 
   taking : IsTaking e t.running blame (now_of e [])
   taking =
-      taking_then e t.running t.kept.keep t.goal blame (now_of e []) stands.between stands.lasts stands.tied.goal (req ∷ []) [] tab (load_tied e t queue blame stands asks.aside room header req nav mode address asks.by_user asks.own asks.next).goal comes unheld
+      taking_then e t.running t.kept.keep t.goal blame (now_of e []) stands.between stands.lasts stands.tied.goal (req ∷ check.loads) [] tab (load_tied e t queue blame stands asks.aside room header req nav mode address asks.by_user asks.own asks.next).goal comes unheld
 
   aim : aim_of (now_of e []) ≡ aim_of e.start
   aim =
-      aim_same e t.running t.kept.keep t.goal blame (now_of e []) stands.between stands.lasts stands.tied.goal (req ∷ []) [] tab (load_tied e t queue blame stands asks.aside room header req nav mode address asks.by_user asks.own asks.next).goal comes
+      aim_same e t.running t.kept.keep t.goal blame (now_of e []) stands.between stands.lasts stands.tied.goal (req ∷ check.loads) [] tab (load_tied e t queue blame stands asks.aside room header req nav mode address asks.by_user asks.own asks.next).goal comes
 
   -- who joined was there before
   early : (r : ReqId) (q : Asked) → has_req (now_of e []).joined r ≡ true → request_of (now_of e []) r ≡ Some q → denial_at_acceptance e.start q.what ≡ None ⊎ (nat_lt (length e.start.requests) r.0 ≡ false)
@@ -105,7 +105,7 @@ module _ (e : InEvent) (t : Tables) (queue : Queue) (blame : List (StateId × Re
   queued =
       subst (λ (x : Seen). HasQueue x t.running queue.waiting) (sym (now e req None load asks.by_user asks.own asks.next asks.aside)) (queued_still e req None load asks.by_user asks.own asks.next asks.aside t queue blame stands refl)
 
-  pub load_denied : HasDenied e req t queue blame
+  pub load_denied : HasDenied e req check.loads t queue blame
   load_denied =
       record {
         going = going;
@@ -116,5 +116,5 @@ module _ (e : InEvent) (t : Tables) (queue : Queue) (blame : List (StateId × Re
         moved = moved_coming blame e.start (now_of e []) comes t.running stands.between.tab.asked stands.lasts.moved;
         theirs = comes.theirs;
         duly = subst AreLeftDuly (sym (ap (λ (k : RowKind). after e.start (row_of e k)) asks.own)) (row_duly e.start e.event e.actor stands.lasts.duly (rows.Accepted req None load) asks.next);
-        queueing = queueing_now e req None load asks.by_user asks.own asks.next asks.aside t queue blame stands (req ∷ []) queue aim turning queued refl;
+        queueing = queueing_now e req None load asks.by_user asks.own asks.next asks.aside t queue blame stands (req ∷ check.loads) queue aim turning queued refl;
       }

@@ -56,17 +56,17 @@ module _ (e : InEvent) (req : ReqId) (nav : NavId) (mode : Mode) (address : List
   pub of_load : is_of_load (request_in (now_of e []).requests req) ≡ true
   of_load = ap is_of_load found
 
-  module _ (run : Option ReqId) (tab : IsTab run (req ∷ []) [] (now_of e [])) where
+  module _ (run : Option ReqId) {behind : List ReqId} (tab : IsTab run (req ∷ behind) [] (now_of e [])) where
     own : (let n : ℕ = cond (req.0 == req.0) 1 0 in n) ≡ 1
     own = rw (itself req) refl
 
     pub unjoined : has_req (now_of e []).joined req ≡ false
     unjoined =
-        times_none req (now_of e []).joined (let all = at_most_once run (req ∷ []) [] (now_of e []) tab req in omega (arith, all, own))
+        times_none req (now_of e []).joined (let all = at_most_once run (req ∷ behind) [] (now_of e []) tab req in omega (arith, all, own))
 
     pub unparked : has_req (now_of e []).parked req ≡ false
     unparked =
-        times_none req (now_of e []).parked (let all = at_most_once run (req ∷ []) [] (now_of e []) tab req in omega (arith, all, own))
+        times_none req (now_of e []).parked (let all = at_most_once run (req ∷ behind) [] (now_of e []) tab req in omega (arith, all, own))
 
     pub open_here : IsOpenHere e [] req
     unfolding now_of

@@ -125,10 +125,10 @@ module _ (l : InLoad) (t : Tables) (asked : IsAsked l t) (placed_ : away_in t l.
   abbrev keep_y : y.kept.keep ≡ t.kept.keep
   keep_y = sent.keep_y l t asked placed_ anew_ noted v out way w now work now_is keeps proc home y last work_y last_is keeps_y
 
-  abbrev going_fin : IsGoing w.running [] [] fin
+  abbrev going_fin : IsGoing w.running l.loads [] fin
   going_fin = sent.going_fin l t asked placed_ anew_ noted v out way w now work now_is keeps proc home y last work_y last_is keeps_y
 
-  abbrev passing_fin : IsPassing (pass_of l.event) last y
+  abbrev passing_fin : IsPassing (pass_of l.event l.loads) last y
   passing_fin = sent.passing_fin l t asked placed_ anew_ noted v out way w now work now_is keeps proc home y last work_y last_is keeps_y
 
   abbrev wishes_on : SameReads wish n.requests fin.requests
@@ -232,7 +232,7 @@ module _ (l : InLoad) (t : Tables) (asked : IsAsked l t) (placed_ : away_in t l.
   late_last =
       subst (λ (r : Option ReqId). LateKnown r (now_of l.event last)) (sym run_y) (late_put l.event t.running [] last passing_fin.work.goes (record { more = last; is = refl; each = λ kind has. (quiet kind has).1 }) places_last history_last asked.begun.late)
 
-  pub ready_last : IsReady (pass_of l.event) last y l.queue noted (whys.Req l.req)
+  pub ready_last : IsReady (pass_of l.event l.loads) last y l.queue noted (whys.Req l.req)
   ready_last =
       record {
         passing = passing_fin;
@@ -246,7 +246,7 @@ module _ (l : InLoad) (t : Tables) (asked : IsAsked l t) (placed_ : away_in t l.
         moved = moved_last;
         live = taken_last.live;
         theirs = theirs_last;
-        queueing = queueing_then l.event asked.asks.by_user (pass_of l.event) (first_pass l.event l.req) refl refl t l.queue asked.begun.queueing last y run_y left_last parked_last wishes_last unapplied places_last history_last (ap (λ (x : Seen). aim_of x) is_fin ∙ aim_fin ∙ made.aim);
+        queueing = queueing_then l.event asked.asks.by_user (pass_of l.event l.loads) (first_pass l.event l.req l.loads) refl refl t l.queue asked.begun.queueing last y run_y left_last parked_last wishes_last unapplied places_last history_last (ap (λ (x : Seen). aim_of x) is_fin ∙ aim_fin ∙ made.aim);
       }
 
   -- ---- it has begun

@@ -84,12 +84,12 @@ low_number asked req x at = by_zero (req.0 == 0) refl at
 abbrev pub ServesOrBegins : ReqId → Seen → ReqId → Type 0
 ServesOrBegins req s r = MayServe s r ⊎ (r ≡ req)
 
-module _ (e : InEvent) (req : ReqId) (nav : NavId) (mode : Mode) (address : List ℕ) (asks : IsLoadAsk e req nav mode address) (t : Tables) (pass : IsPassing (first_pass e req) [] t) (held : AreUnheld e (now_of e [])) where
+module _ (e : InEvent) (req : ReqId) (nav : NavId) (mode : Mode) (address : List ℕ) (asks : IsLoadAsk e req nav mode address) (t : Tables) {behind : List ReqId} (pass : IsPassing (first_pass e req behind) [] t) (held : AreUnheld e (now_of e [])) where
   abbrev s : Seen
   s = now_of e []
 
   abbrev p : InPass
-  p = first_pass e req
+  p = first_pass e req behind
 
   -- what the drop asks
   pub drop_asks : (old : ReqId) → option_map (λ (load : Load). load.req) (ongoing_load nav t.loads) ≡ Some old → IsAtWork e [] t × (IsOpenHere e [] old × ((is_this t.running old ≡ false) × HasLoad t.loads nav old))
@@ -102,7 +102,7 @@ module _ (e : InEvent) (req : ReqId) (nav : NavId) (mode : Mode) (address : List
   module _ (blame : List (StateId × ReqId)) (taking : IsTaking e t.running blame s) (theirs : LoadsMadeOwn s) where
     -- before the load begins: the history, the navigables and the documents are as they were; it is there, its navigable has no ongoing load, and what the rows so far owe is paid once it has begun
     pub record IsMadeWay (n : Seen) (out : List RowKind) (noted : List (StateId × ReqId)) : Type 0 where
-      pub going : IsGoing t.running (req ∷ []) [] n
+      pub going : IsGoing t.running (req ∷ behind) [] n
       pub taken : IsTakenBut e t.running n
       pub blamed : AreBlamedBy (ServesOrBegins req n) n noted
       pub own : LoadsMadeOwn n

@@ -137,7 +137,7 @@ module _ (l : InLoad) (t : Tables) (asked : IsAsked l t) (placed_ : away_in t l.
   abbrev fin : Seen
   fin = next m l.event.event l.event.actor (rows.Sent order)
 
-  abbrev going_fin : IsGoing w.running [] [] fin
+  abbrev going_fin : IsGoing w.running l.loads [] fin
   going_fin = sent.going_fin l t asked placed_ anew_ noted v out way w now work now_is keeps proc home y last work_y last_is keeps_y
 
   -- ---- what is as it was

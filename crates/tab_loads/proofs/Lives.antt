@@ -93,7 +93,7 @@ module _ (l : InLoad) (t : Tables) (asked : IsAsked l t) (placed_ : away_in t l.
   abbrev state : StateId
   state = record { 0 = n.states + 1 }
 
-  abbrev passing_now : IsPassing (pass_of l.event) now w
+  abbrev passing_now : IsPassing (pass_of l.event l.loads) now w
   passing_now = begun.passing_now l t asked placed_ anew_ noted v out way w now work now_is keeps
 
   abbrev m : Seen
@@ -270,5 +270,5 @@ module _ (l : InLoad) (t : Tables) (asked : IsAsked l t) (placed_ : away_in t l.
               let was = made.taken.live.awake r nav old in
               (was.0, record { place = was.1.place; placed = place_on nav ∙ was.1.placed; wakes = was.1.wakes })
           by_case (inr is) =
-              let wakes = placed_awake w.running [] [] m passing_now.going.tab l.nav its.place its.placed (its.each l.nav (own_first l.nav.0 (has_nav its.place.above l.nav))) in
+              let wakes = placed_awake w.running l.loads [] m passing_now.going.tab l.nav its.place its.placed (its.each l.nav (own_first l.nav.0 (has_nav its.place.above l.nav))) in
               (wakes.0, record { place = its.place; placed = ap (λ (k : NavId). place_of fin k) (sym is.1) ∙ its.placed; wakes = wakes.1 })

@@ -101,7 +101,7 @@ module _ (l : InLoad) (t : Tables) (asked : IsAsked l t) (placed_ : away_in t l.
   abbrev is_then : now_of l.event now ≡ then_
   is_then = begun.is_then l t asked placed_ anew_ noted v out way w now work now_is keeps
 
-  abbrev passing_now : IsPassing (pass_of l.event) now w
+  abbrev passing_now : IsPassing (pass_of l.event l.loads) now w
   passing_now = begun.passing_now l t asked placed_ anew_ noted v out way w now work now_is keeps
 
   abbrev m : Seen

@@ -45,7 +45,7 @@ module _ (l : InLoad) (t : Tables) (asked : IsAsked l t) (placed_ : away_in t l.
   abbrev own : Asked
   own = q l.event l.req l.nav l.mode l.address asked.asks
 
-  abbrev passing_now : IsPassing (pass_of l.event) now w
+  abbrev passing_now : IsPassing (pass_of l.event l.loads) now w
   passing_now = begun.passing_now l t asked placed_ anew_ noted v out way w now work now_is keeps
 
   abbrev m : Seen
@@ -92,7 +92,7 @@ module _ (l : InLoad) (t : Tables) (asked : IsAsked l t) (placed_ : away_in t l.
         what = refl;
         checked = all_passed;
         needs = needs_one;
-        home = home_is (pass_of l.event) now w passing_now l.nav its.place its.placed unstopped l.event.header l.address proc home;
+        home = home_is (pass_of l.event l.loads) now w passing_now l.nav its.place its.placed unstopped l.event.header l.address proc home;
         passed = is_passed_for m w.running passing_now.going.tab.asked order.task order.why causes;
       }
 

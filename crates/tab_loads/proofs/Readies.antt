@@ -74,11 +74,11 @@ module _ (e : InEvent) (by : e.actor ≡ actors.Ui) (p one : InPass) (same_p : p
 
 -- ---- one row
 
-module _ (e : InEvent) (req : ReqId) (nav : NavId) (mode : Mode) (address : List ℕ) (asks : IsLoadAsk e req nav mode address) (t : Tables) (queue : Queue) (blame : List (StateId × ReqId)) (going : IsGoing t.running (req ∷ []) [] (now_of e [])) (taking : IsTaking e t.running blame (now_of e [])) (moved : MovedAreShown t.running (now_of e [])) (late : LateKnown t.running (now_of e [])) (theirs : LoadsMadeOwn (now_of e [])) (header : t.kept.keep ≡ e.header.keep) (queueing : IsQueueing (first_pass e req) [] t queue) where
+module _ (e : InEvent) (req : ReqId) (nav : NavId) (mode : Mode) (address : List ℕ) (asks : IsLoadAsk e req nav mode address) (t : Tables) (queue : Queue) (blame : List (StateId × ReqId)) {behind : List ReqId} (going : IsGoing t.running (req ∷ behind) [] (now_of e [])) (taking : IsTaking e t.running blame (now_of e [])) (moved : MovedAreShown t.running (now_of e [])) (late : LateKnown t.running (now_of e [])) (theirs : LoadsMadeOwn (now_of e [])) (header : t.kept.keep ≡ e.header.keep) (queueing : IsQueueing (first_pass e req behind) [] t queue) where
   abbrev s : Seen
   s = now_of e []
 
-  module _ (row : RowKind) (goes : GoesThere e [] row) (unmoving : IsUnmoving row) (steady : IsUnapplied row) (change : ChangesOne s (next s e.event e.actor row) req) (tab : IsTab t.running [] [] (next s e.event e.actor row)) (unapplied : is_traverse (row_of e row) ≡ false) (new : List RowKind) (u : Tables) (out_is : new ≡ row ∷ []) (run : u.running ≡ t.running) (keep : u.kept.keep ≡ t.kept.keep) (passing : IsPassing (pass_of e) new u) where
+  module _ (row : RowKind) (goes : GoesThere e [] row) (unmoving : IsUnmoving row) (steady : IsUnapplied row) (change : ChangesOne s (next s e.event e.actor row) req) (tab : IsTab t.running behind [] (next s e.event e.actor row)) (unapplied : is_traverse (row_of e row) ≡ false) (new : List RowKind) (u : Tables) (out_is : new ≡ row ∷ []) (run : u.running ≡ t.running) (keep : u.kept.keep ≡ t.kept.keep) (passing : IsPassing (pass_of e behind) new u) where
     abbrev n : Seen
     n = next s e.event e.actor row
 
@@ -124,7 +124,7 @@ module _ (e : InEvent) (req : ReqId) (nav : NavId) (mode : Mode) (address : List
         each kind (inl same) = subst IsUnapplied same steady
         each kind (inr never) = absurd never
 
-    pub row_ready : IsReady (pass_of e) new u queue blame whys.Start
+    pub row_ready : IsReady (pass_of e behind) new u queue blame whys.Start
     row_ready =
         record {
           passing = passing;
@@ -138,5 +138,5 @@ module _ (e : InEvent) (req : ReqId) (nav : NavId) (mode : Mode) (address : List
           moved = moved_now;
           live = open_now.live;
           theirs = subst (λ (x : Seen). LoadsMadeOwn x) (sym now_is) (theirs_over s n change.wishes change.documents theirs);
-          queueing = queueing_then e asks.by_user (pass_of e) (first_pass e req) refl refl t queue queueing new u run (subst (λ (x : Seen). LeavesQueue s x) (sym now_is) left) (ap (λ (x : Seen). x.parked) now_is ∙ change.parked) (subst (λ (x : Seen). SameReads wish s.requests x.requests) (sym now_is) change.wishes) none_applied places_same (ap (λ (x : Seen). x.history) now_is ∙ change.history) (ap (λ (x : Seen). aim_of x) now_is ∙ change.aim);
+          queueing = queueing_then e asks.by_user (pass_of e behind) (first_pass e req behind) refl refl t queue queueing new u run (subst (λ (x : Seen). LeavesQueue s x) (sym now_is) left) (ap (λ (x : Seen). x.parked) now_is ∙ change.parked) (subst (λ (x : Seen). SameReads wish s.requests x.requests) (sym now_is) change.wishes) none_applied places_same (ap (λ (x : Seen). x.history) now_is ∙ change.history) (ap (λ (x : Seen). aim_of x) now_is ∙ change.aim);
         }

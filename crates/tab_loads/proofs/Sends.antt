@@ -50,7 +50,7 @@ some_row : (o : Option Row) (test : Row → Bool) → holds test o ≡ true → 
 some_row None test never = absurd cc
 some_row (Some r) test is = (r, refl, is)
 
-module _ (e : InEvent) (req : ReqId) (nav : NavId) (mode : Mode) (address : List ℕ) (asks : IsLoadAsk e req nav mode address) (t : Tables) (pass : IsPassing (first_pass e req) [] t) (loose : IsLoose e []) (place : Place) (placed : place_of (now_of e []) nav ≡ Some place) (stand : stands (now_of e []) (aim_of (now_of e [])) nav ≡ true) (doc : DocId) (wakes : place.status ≡ awake doc) (leads : holds (λ (r : Row). is_fragment_navigation r.address address) (given_row (now_of e []) place) ≡ true) where
+module _ (e : InEvent) (req : ReqId) (nav : NavId) (mode : Mode) (address : List ℕ) (asks : IsLoadAsk e req nav mode address) (t : Tables) {behind : List ReqId} (pass : IsPassing (first_pass e req behind) [] t) (loose : IsLoose e []) (place : Place) (placed : place_of (now_of e []) nav ≡ Some place) (stand : stands (now_of e []) (aim_of (now_of e [])) nav ≡ true) (doc : DocId) (wakes : place.status ≡ awake doc) (leads : holds (λ (r : Row). is_fragment_navigation r.address address) (given_row (now_of e []) place) ≡ true) where
   abbrev s : Seen
   s = now_of e []
 
@@ -110,13 +110,13 @@ module _ (e : InEvent) (req : ReqId) (nav : NavId) (mode : Mode) (address : List
   abbrev then_ : Seen
   then_ = next s e.event e.actor (rows.Sent order)
 
-  pub tab_then : IsTab t.running [] [] then_
+  pub tab_then : IsTab t.running behind [] then_
   tab_then =
-      send_fragment_tab t.running [] [] s e.event e.actor req pass.going.tab (q e req nav mode address asks) (record { found = found e req nav mode address asks; load = refl; unsent = refl }) order mode address home.document refl to_made
+      send_fragment_tab t.running behind [] s e.event e.actor req pass.going.tab (q e req nav mode address asks) (record { found = found e req nav mode address asks; load = refl; unsent = refl }) order mode address home.document refl to_made
 
-  going_then : IsGoing t.running [] [] then_
+  going_then : IsGoing t.running behind [] then_
   going_then =
-      sent_going t.running (req ∷ []) [] s e.event e.actor pass.going order [] [] tab_then (fragment_lasting s e.event e.actor pass.going.lasting order req mode address refl) tt
+      sent_going t.running (req ∷ behind) [] s e.event e.actor pass.going order behind [] tab_then (fragment_lasting s e.event e.actor pass.going.lasting order req mode address refl) tt
 
   loose_then : IsLoose e (rows.Sent order ∷ [])
   loose_then = loose_more e [] (rows.Sent order) (sent_goes e [] order refl).read loose (sent_lasts s e.event e.actor order) (λ end lasts. refl)
@@ -124,14 +124,14 @@ module _ (e : InEvent) (req : ReqId) (nav : NavId) (mode : Mode) (address : List
   now_is : now_of e (rows.Sent order ∷ []) ≡ then_
   now_is = sent_now e [] order refl
 
-  pub sent_passing : (new : List RowKind) (u : Tables) → new ≡ rows.Sent order ∷ [] → KeepsStore t u → IsAtWork e new u → IsPassing (pass_of e) new u
+  pub sent_passing : (new : List RowKind) (u : Tables) → new ≡ rows.Sent order ∷ [] → KeepsStore t u → IsAtWork e new u → IsPassing (pass_of e behind) new u
   sent_passing new u is keeps work =
-      subst (λ (l : List RowKind). IsPassing (pass_of e) l u) (sym is) (record {
+      subst (λ (l : List RowKind). IsPassing (pass_of e behind) l u) (sym is) (record {
         work = subst (λ (l : List RowKind). IsAtWork e l u) is work;
-        going = subst (λ (x : Seen). IsGoing u.running [] [] x) (sym now_is) (subst (λ (r : Option ReqId). IsGoing r [] [] then_) (sym keeps.running) going_then);
+        going = subst (λ (x : Seen). IsGoing u.running behind [] x) (sym now_is) (subst (λ (r : Option ReqId). IsGoing r behind [] then_) (sym keeps.running) going_then);
         owed = loose_owed e (rows.Sent order ∷ []) loose_then;
         loose = λ all. loose_then;
-        rests = subst (λ (x : Seen). AllRest x) (sym now_is) (told_rests s e.event e.actor [] pass.rests order (sent_home t.running (req ∷ []) [] s pass.going.tab order home.document to_made) tt);
+        rests = subst (λ (x : Seen). AllRest x) (sym now_is) (told_rests s e.event e.actor [] pass.rests order (sent_home t.running (req ∷ behind) [] s pass.going.tab order home.document to_made) tt);
         duly = sent_duly e [] order (rows.Sent order ∷ []) refl tt pass.duly;
         few = subst (λ (k : ℕ). length (now_of e (rows.Sent order ∷ [])).kept ≤ k) (sym keeps.keep) (subst (λ (l : List DocId). length l ≤ t.kept.keep) (sym (ap (λ (x : Seen). x.kept) now_is)) pass.few);
       })

@@ -60,7 +60,7 @@ module _ (l : InLoad) (t : Tables) (asked : IsAsked l t) (placed_ : away_in t l.
   abbrev loose_now : IsLoose l.event now
   loose_now = begun.loose_now l t asked placed_ anew_ noted v out way w now work now_is keeps
 
-  abbrev passing_now : IsPassing (pass_of l.event) now w
+  abbrev passing_now : IsPassing (pass_of l.event l.loads) now w
   passing_now = begun.passing_now l t asked placed_ anew_ noted v out way w now work now_is keeps
 
   abbrev m : Seen
@@ -118,26 +118,26 @@ module _ (l : InLoad) (t : Tables) (asked : IsAsked l t) (placed_ : away_in t l.
             absurd cc;
       }
 
-  pub tab_fin : IsTab w.running [] [] fin
+  pub tab_fin : IsTab w.running l.loads [] fin
   tab_fin =
-      make_load_tab w.running [] [] m l.event.event l.event.actor passing_now.going.tab order l.req own_then l.nav its_state l.address false refl make_of (record { found = found_then; ongoing = refl; loads_it = nat_eq_refl l.nav.0; own = state_is })
+      make_load_tab w.running l.loads [] m l.event.event l.event.actor passing_now.going.tab order l.req own_then l.nav its_state l.address false refl make_of (record { found = found_then; ongoing = refl; loads_it = nat_eq_refl l.nav.0; own = state_is })
 
-  pub going_fin : IsGoing w.running [] [] fin
+  pub going_fin : IsGoing w.running l.loads [] fin
   going_fin =
-      sent_going w.running [] [] m l.event.event l.event.actor passing_now.going order [] [] tab_fin (making_lasting m l.event.event l.event.actor passing_now.going.lasting order l.nav its_state l.address false refl absent) tt
+      sent_going w.running l.loads [] m l.event.event l.event.actor passing_now.going order l.loads [] tab_fin (making_lasting m l.event.event l.event.actor passing_now.going.lasting order l.nav its_state l.address false refl absent) tt
 
   pub loose_fin : IsLoose l.event last
   loose_fin =
       subst (λ (o : List RowKind). IsLoose l.event o) (sym last_is) (loose_more l.event now (rows.Sent order) (sent_goes l.event now order refl).read loose_now (sent_lasts m l.event.event l.event.actor order) (λ end lasts. refl))
 
   pub sent_home : IsSentHome m order
-  sent_home = record { home = λ d found. absurd (none_there_ d found); lives = lives_first w.running [] [] m passing_now.going.tab order refl }
+  sent_home = record { home = λ d found. absurd (none_there_ d found); lives = lives_first w.running l.loads [] m passing_now.going.tab order refl }
 
-  pub passing_fin : IsPassing (pass_of l.event) last y
+  pub passing_fin : IsPassing (pass_of l.event l.loads) last y
   passing_fin =
       record {
         work = work_y;
-        going = subst (λ (x : Seen). IsGoing y.running [] [] x) (sym is_fin) (subst (λ (r : Option ReqId). IsGoing r [] [] fin) (sym keeps_y.running) going_fin);
+        going = subst (λ (x : Seen). IsGoing y.running l.loads [] x) (sym is_fin) (subst (λ (r : Option ReqId). IsGoing r l.loads [] fin) (sym keeps_y.running) going_fin);
         owed = loose_owed l.event last loose_fin;
         loose = λ all_. loose_fin;
         rests = subst (λ (x : Seen). AllRest x) (sym is_fin) (making_rests m l.event.event l.event.actor [] passing_now.rests order sent_home l.nav its_state l.address false refl none_there_);

@@ -22,9 +22,10 @@ use Rattle.log_model.specs.declared.request.Request.TheVariants as requests
 
 -- ---- before
 
--- an event, the load that the user asks for in it, the queue, and the requests that are noted for stray documents
+-- an event, the loads in their unload check, the load that the user asks for in the event, the queue, and the requests that are noted for stray documents
 pub record InLoad : Type 0 where
   pub event : InEvent
+  pub loads : List ReqId
   pub req : ReqId
   pub nav : NavId
   pub mode : Mode
@@ -32,9 +33,9 @@ pub record InLoad : Type 0 where
   pub queue : Queue
   pub noted : List (StateId × ReqId)
 
--- the event with the load at hand
+-- the event with the load at hand, and those in their check
 abbrev pub first_of : InLoad → InPass
-first_of l = record { event = l.event; loads = l.req ∷ []; hand = [] }
+first_of l = record { event = l.event; loads = l.req ∷ l.loads; hand = [] }
 
 -- the event has begun, there is no reason against the load, where a traversal runs not all stand, and it is known why navigables don't stand
 pub record IsAsked (l : InLoad) (t : Tables) : Type 0 where
@@ -49,5 +50,5 @@ pub record IsAsked (l : InLoad) (t : Tables) : Type 0 where
 -- what became of it, and that a pass may follow
 pub record HasCome (l : InLoad) (t u : Tables) (out : List RowKind) (noted : List (StateId × ReqId)) (loaded : Loaded) : Type 0 where
   pub came : CameTo l.event l.req l.nav l.mode l.address out loaded
-  pub ready : IsReady (pass_of l.event) out u l.queue noted (cause_of l.req loaded)
+  pub ready : IsReady (pass_of l.event l.loads) out u l.queue noted (cause_of l.req loaded)
   pub kept : KeepsRun t u

@@ -1,6 +1,6 @@
 -- The rule of loads: a load that the user asks for is refused, dropped, sent to a fragment, or begins in the place of the one before, and its document is to be made.
 -- HTML Standard, "navigate", "navigate to a fragment" and "Navigables" ("ongoing navigation"); that the ways up have to stand, and that a load of a way that doesn't is dropped, is this project's own.
-use Rattle.tab_stands.specs.Standing.{StartsUnasked}
+use Rattle.tab_stands.specs.Standing.{InCheck, StartsUnasked}
 use Rattle.row_facts.specs.LoadRows.Beginning.{is_to_fragment}
 use Rattle.log_model.specs.Causes.{denial_at_acceptance}
 use Rattle.log_model.specs.Places.{aim_of, is_placed, way_to}
@@ -35,9 +35,14 @@ pub record IsLoadAsk (e : InEvent) (req : ReqId) (nav : NavId) (mode : Mode) (ad
   pub next : req.0 ≡ length e.start.requests + 1
   pub aside : StartsUnasked e
 
--- a pass of the event with nothing at hand
-abbrev pub pass_of : InEvent → InPass
-pass_of e = record { event = e; loads = []; hand = [] }
+-- an event, and what is in its unload check as it begins
+pub record InCall : Type 0 where
+  pub event : InEvent
+  pub check : InCheck
+
+-- a pass of the event with nothing at hand but these loads in their check
+abbrev pub pass_of : InEvent → List ReqId → InPass
+pass_of e loads = record { event = e; loads = loads; hand = [] }
 
 -- ---- what is put out
 

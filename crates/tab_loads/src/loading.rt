@@ -1,9 +1,8 @@
 //! A load is refused, dropped, sent to a fragment, or begins.
 ghost use Rattle.std.specs.Prelude.{◌≡◌, [], IfOk, OnOk};
-ghost use Rattle.seen_laws.specs.InEvent.{InEvent};
 ghost use Rattle.tab_doors.specs.Working.{KeepsRun};
 ghost use Rattle.tab_loads.specs.Asking.{HasCome, InLoad, IsAsked};
-ghost use Rattle.tab_loads.specs.Loading.{CameTo, IsLoadAsk, cause_of, pass_of};
+ghost use Rattle.tab_loads.specs.Loading.{CameTo, InCall, IsLoadAsk, cause_of, pass_of};
 ghost use Rattle.tab_stands.specs.PassedOn.{IsReady};
 ghost use Rattle.tab_stands.specs.Standing.{HasRoomFor, StandsFor};
 
@@ -76,15 +75,15 @@ pub fn load(
     mode: Mode,
     address: &Address,
 ) -> Result<Loaded, OutOfMemory>
-    ghost e: { InEvent }
-    requires header { header.now ≡ e.header }
-    requires keep { tables.old.kept.keep ≡ e.header.keep }
+    ghost k: { InCall }
+    requires header { header.now ≡ k.event.header }
+    requires keep { tables.old.kept.keep ≡ k.event.header.keep }
     requires first { out.old ≡ [] }
-    requires asks { IsLoadAsk e req nav mode address.now }
-    requires room { HasRoomFor e.start }
-    requires stands { StandsFor e.start tables.old queue.now blame.old.entries }
-    ensures came { IfOk result (λ loaded. CameTo e req nav mode address.now out.new loaded) }
-    ensures ready { IfOk result (λ loaded. IsReady (pass_of e) out.new tables.new queue.now blame.new.entries (cause_of req loaded)) }
+    requires asks { IsLoadAsk k.event req nav mode address.now }
+    requires room { HasRoomFor k.event.start }
+    requires stands { StandsFor k.check k.event.start tables.old queue.now blame.old.entries }
+    ensures came { IfOk result (λ loaded. CameTo k.event req nav mode address.now out.new loaded) }
+    ensures ready { IfOk result (λ loaded. IsReady (pass_of k.event k.check.loads) out.new tables.new queue.now blame.new.entries (cause_of req loaded)) }
     ensures kept { OnOk result (KeepsRun tables.old tables.new) }
 {
     match denial(tables, nav) {

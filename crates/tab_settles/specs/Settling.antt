@@ -27,7 +27,7 @@ use Rattle.move_queue.specs.declared.queue_step.QueueStep.{QueueStep}
 use Rattle.seen_facts.proofs.Request.Readers.{SameReads}
 use Rattle.seen_laws.specs.InEvent.{InEvent, now_of}
 use Rattle.seen_laws.specs.Unasked.{is_question}
-use Rattle.std.specs.Prelude.{List, None, Option, Some, [], false, length, not, true, ℕ, ◌++◌, ◌+◌, ◌≡◌, ◌⊎◌, if◌then◌else◌}
+use Rattle.std.specs.Prelude.{Bool, List, None, Option, Some, [], false, length, not, true, ℕ, ◌++◌, ◌+◌, ◌≡◌, ◌⊎◌, if◌then◌else◌}
 use Rattle.tab_releases.specs.PassedOn.{AreBlamed, AreLeftStrays, HasPassed, HasQueue, IsLoadApplied, IsOpen, LoadsLive, MayStand, show_why}
 use Rattle.tab_facts.specs.TabEvents.Between.{AreSwept, orders_go}
 use Rattle.tab_ids.specs.declared.DocId.{DocId}
@@ -156,6 +156,10 @@ pub record IsQueueing (p : InPass) (out : List RowKind) (t : Tables) (queue : Qu
 abbrev pub turns_left : Option ReqId → List QueueStep → ℕ
 turns_left None waiting = length waiting + length waiting
 turns_left (Some run) waiting = 1 + (length waiting + length waiting)
+
+-- where a traversal in its check holds the queue, none runs
+abbrev pub NoneRunsWhileHeld : Bool → Option ReqId → Type 0
+NoneRunsWhileHeld holds run = holds ≡ true → run ≡ None
 
 -- ---- how calm the tab is
 

@@ -1,9 +1,9 @@
 //! One pass after the other, until nothing is due.
-ghost use Rattle.std.specs.Prelude.{◌≡◌, OnOk};
+ghost use Rattle.std.specs.Prelude.{◌≡◌, OnOk, false};
 ghost use Rattle.seen_laws.specs.InEvent.{now_of};
 ghost use Rattle.tab_releases.specs.Releasing.{InPass};
 ghost use Rattle.tab_releases.specs.PassedOn.{IsNoneDue};
-ghost use Rattle.tab_settles.specs.Settling.{HasPut, HasSettled, IsReady, LeavesOff};
+ghost use Rattle.tab_settles.specs.Settling.{HasPut, HasSettled, IsReady, LeavesOff, NoneRunsWhileHeld};
 
 use crate::reasons::Reasons;
 use crate::turning::take_turn;
@@ -16,7 +16,7 @@ use tab_doors::Tables;
 use tab_ids::{ReqId, StateId};
 use tab_releases::pass;
 
-/// Brings the tab to rest: loads give way, stray documents are discarded, who needs it is shown a document or has one made, who is awake is told length and index; the traversal that runs ends where all stand, with what was held back for it, and the next step of the queue has its turn; then once more, until nothing is due. HTML Standard, "apply the history step" and "session history traversal queue".
+/// Brings the tab to rest: loads give way, stray documents are discarded, who needs it is shown a document or has one made, who is awake is told length and index; the traversal that runs ends where all stand, with what was held back for it, and the next step of the queue has its turn; then once more, until nothing is due. Where a traversal in its check holds the queue (`holds`), no step has its turn. HTML Standard, "apply the history step" and "session history traversal queue".
 pub fn settle(
     alloc: Global,
     header: &Header,
@@ -25,12 +25,15 @@ pub fn settle(
     blame: &mut IndexMap<StateId, ReqId>,
     out: &mut Out,
     reasons: &mut Reasons,
+    holds: bool,
 ) -> Result<(), OutOfMemory>
     ghost p: { InPass }
     requires header { header.now ≡ p.event.header }
     requires ready { IsReady p out.old tables.old queue.old blame.old.entries reasons.old.cause }
+    requires alone { NoneRunsWhileHeld holds tables.old.running }
     ensures settled { OnOk result (HasSettled p out.new tables.new queue.new blame.new.entries reasons.new.cause) }
-    ensures due { OnOk result (IsNoneDue (now_of p.event out.new) tables.new.running queue.new.waiting) }
+    ensures due { OnOk result (holds ≡ false → IsNoneDue (now_of p.event out.new) tables.new.running queue.new.waiting) }
+    ensures alone { OnOk result (NoneRunsWhileHeld holds tables.new.running) }
     ensures put { OnOk result (HasPut p.event out.old out.new) }
     ensures off { OnOk result (LeavesOff p.event out.old out.new) }
     ensures handled { OnOk result (reasons.new.handled ≡ reasons.old.handled) }
@@ -38,7 +41,7 @@ pub fn settle(
     'passes: loop {
         let (cause, tells) = (reasons.cause, reasons.tells());
         pass(alloc, header, tables, blame, out, cause, tells)?;
-        if !take_turn(alloc, tables, queue, blame, out, reasons)? {
+        if !take_turn(alloc, tables, queue, blame, out, reasons, holds)? {
             return Ok(());
         }
     }

@@ -3,7 +3,7 @@ ghost use Rattle.std.specs.Prelude.{◌≡◌, ◌<◌, IfOk, None, OnOk, false,
 ghost use Rattle.seen_laws.specs.InEvent.{now_of};
 ghost use Rattle.tab_releases.specs.Releasing.{InPass};
 ghost use Rattle.tab_releases.specs.PassedOn.{IsNoneDue};
-ghost use Rattle.tab_settles.specs.Settling.{HasPut, HasSettled, HasTurned, IsReady, turns_left};
+ghost use Rattle.tab_settles.specs.Settling.{HasPut, HasSettled, HasTurned, IsReady, NoneRunsWhileHeld, turns_left};
 
 use crate::reasons::Reasons;
 use address::OutOfMemory;
@@ -80,7 +80,7 @@ fn begin(
     }
 }
 
-/// The traversal that runs ends, or, where none runs, the next step has its turn, where that is due. Answers whether it was; else nothing is put out.
+/// The traversal that runs ends, or, where none runs, the next step has its turn, where that is due; while a traversal in its check holds the queue (`holds`), no step has. Answers whether one had a turn; else nothing is put out.
 pub(crate) fn take_turn(
     alloc: Global,
     tables: &mut Tables,
@@ -88,20 +88,26 @@ pub(crate) fn take_turn(
     blame: &mut IndexMap<StateId, ReqId>,
     out: &mut Out,
     reasons: &mut Reasons,
+    holds: bool,
 ) -> Result<bool, OutOfMemory>
     ghost p: { InPass }
     requires at { HasSettled p out.old tables.old queue.old blame.old.entries reasons.old.cause }
+    requires alone { NoneRunsWhileHeld holds tables.old.running }
     ensures ready { IfOk result (λ did. did ≡ true → IsReady p out.new tables.new queue.new blame.new.entries reasons.new.cause) }
     ensures fewer { IfOk result (λ did. did ≡ true → turns_left tables.new.running queue.new.waiting < turns_left tables.old.running queue.old.waiting) }
     ensures turned { IfOk result (λ did. did ≡ true → HasTurned p.event out.old out.new) }
     ensures still { IfOk result (λ did. did ≡ false → out.new ≡ out.old) }
     ensures rested { IfOk result (λ did. did ≡ false → HasSettled p out.new tables.new queue.new blame.new.entries reasons.new.cause) }
-    ensures due { IfOk result (λ did. did ≡ false → IsNoneDue (now_of p.event out.new) tables.new.running queue.new.waiting) }
+    ensures due { holds ≡ false → IfOk result (λ did. did ≡ false → IsNoneDue (now_of p.event out.new) tables.new.running queue.new.waiting) }
+    ensures alone { NoneRunsWhileHeld holds tables.new.running }
     ensures put { OnOk result (HasPut p.event out.old out.new) }
     ensures handled { reasons.new.handled ≡ reasons.old.handled }
 {
     if tables.running.is_some() {
         return finish(alloc, tables, queue, blame, out, reasons);
+    }
+    if holds {
+        return Ok(false);
     }
     begin(alloc, tables, queue, blame, out, reasons)
 }

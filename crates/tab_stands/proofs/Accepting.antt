@@ -43,7 +43,7 @@ use Rattle.move_queue.specs.Queue.{Queue}
 use Rattle.tab_settles.specs.Settling.{HoldsParked}
 use Rattle.tab_stands.proofs.Coming.{IsComing}
 use Rattle.tab_stands.proofs.More.{coming_more, count_as, new_there, old_stays, one_of, strays_more}
-use Rattle.tab_stands.specs.Standing.{HasRoomFor, StandsFor, StartsUnasked}
+use Rattle.tab_stands.specs.Standing.{HasRoomFor, InCheck, StandsFor, StartsUnasked}
 use Rattle.log_model.specs.declared.row_kind.Actor.TheVariants as actors
 use Rattle.log_model.specs.declared.row_kind.RowKind.TheVariants as rows
 
@@ -109,7 +109,7 @@ module _ (e : InEvent) (req : ReqId) (doc : Option DocId) (what : Request) (by_u
 
   -- ---- what comes
 
-  module _ (t : Tables) (queue : Queue) (blame : List (StateId × ReqId)) (stands : StandsFor e.start t queue blame) where
+  module _ (t : Tables) (queue : Queue) (blame : List (StateId × ReqId)) {check : InCheck} (stands : StandsFor check e.start t queue blame) where
     pub strays_still : AreLeftStrays went blame
     strays_still = strays_more s went new req nr refl refl refl refl t queue blame stands
 

@@ -16,13 +16,13 @@ use Rattle.row_facts.proofs.Owed.Ends.{loose_first, loose_owed}
 use Rattle.row_facts.specs.RestRows.Moving.{AllRest}
 use Rattle.seen_laws.specs.InEvent.{AreLegal, InEvent, log_of, now_of}
 use Rattle.seen_laws.specs.Sending.{leads}
-use Rattle.std.proofs.Common.{List, None, Option, Some, [], ap, false, length, refl, subst, sym, true, ℕ, ◌∙◌, ◌≡◌, ◌≤◌}
+use Rattle.std.proofs.Common.{Bool, List, None, Option, Some, [], ap, false, length, refl, subst, sym, true, ℕ, ◌∙◌, ◌≡◌, ◌≤◌}
 use Rattle.std.specs.Prelude.{slice_get}
 use Rattle.tab_doors.proofs.Ahead.{lawful_none}
 use Rattle.tab_doors.specs.Working.{HasGoal, IsAtWork, IsWorker}
 use Rattle.tab_doors.specs.declared.tables.Tables.{Tables}
 use Rattle.tab_settles.proofs.PassedOn.{fine, unheld_first}
-use Rattle.tab_facts.specs.TabEvents.Between.{IsBetween}
+use Rattle.tab_facts.specs.TabEvents.Between.{IsBetweenChecks}
 use Rattle.tab_settles.specs.PassedOn.{InPass, IsGoing, IsPassing}
 use Rattle.tab_ids.specs.declared.DocId.{DocId}
 use Rattle.tab_ids.specs.declared.ProcId.{ProcId}
@@ -74,7 +74,7 @@ work_first e t aside checks numbered own worker legal tied =
       lawful = lawful_none e [] (lawful_legal e [] legal);
     }
 
-module _ (p : InPass) (t : Tables) (queue : Queue) (blame : List (StateId × ReqId)) (between : IsBetween t.kept.keep t.running p.event.start) (lasts : Lasts t.running p.event.start) (goal : HasGoal p.event.start.requests t.running t.goal) (header : t.kept.keep ≡ p.event.header.keep) (aside : StartsUnasked p.event) (own : leads p.event.own ≡ true) (worker : IsWorker p.event.actor) (legal : AreLegal p.event []) (tied : AreTied (now_of p.event []) t) (going : IsGoing t.running p.loads p.hand (now_of p.event [])) (rests : AllRest (now_of p.event [])) (comes : IsComing blame p.event.start (now_of p.event [])) where
+module _ (p : InPass) (t : Tables) (queue : Queue) (blame : List (StateId × ReqId)) {loads : List ReqId} {waits : Bool} (between : IsBetweenChecks t.kept.keep t.running loads waits p.event.start) (lasts : Lasts t.running p.event.start) (goal : HasGoal p.event.start.requests t.running t.goal) (header : t.kept.keep ≡ p.event.header.keep) (aside : StartsUnasked p.event) (own : leads p.event.own ≡ true) (worker : IsWorker p.event.actor) (legal : AreLegal p.event []) (tied : AreTied (now_of p.event []) t) (going : IsGoing t.running p.loads p.hand (now_of p.event [])) (rests : AllRest (now_of p.event [])) (comes : IsComing blame p.event.start (now_of p.event [])) where
   passing : IsPassing p [] t
   passing =
       record {

@@ -20,13 +20,13 @@ use Rattle.seen_facts.proofs.Mover.Stays.{KeepWays}
 use Rattle.seen_facts.proofs.Place.Documents.{KeepStates}
 use Rattle.seen_laws.proofs.Sendings.{both}
 use Rattle.seen_laws.specs.InEvent.{InEvent}
-use Rattle.std.proofs.Common.{List, None, Option, Some, [], ap, arith, false, inl, inr, map, not, refl, subst, sym, true, ℕ, ◌&&◌, ◌∙◌, ◌∷◌, ◌≡◌, ◌⊎◌}
+use Rattle.std.proofs.Common.{Bool, List, None, Option, Some, [], ap, arith, false, inl, inr, map, not, refl, subst, sym, true, ℕ, ◌&&◌, ◌∙◌, ◌∷◌, ◌≡◌, ◌⊎◌}
 use Rattle.std.proofs.lemmas.Bool.{and_parts}
 use Rattle.std.specs.List.{list_any}
 use Rattle.std.specs.Prelude.{is_some, option_map}
 use Rattle.tab_settles.proofs.PassedOn.{IsReachedAt, aim_is, all_of, bare_move, calm_unmoved, each_stands, own_document, reached_at, run_leavers, show_causes, stand_awake, stand_bare, stand_reached}
 use Rattle.tab_doors.specs.Working.{HasGoal}
-use Rattle.tab_facts.specs.TabEvents.Between.{IsBetween}
+use Rattle.tab_facts.specs.TabEvents.Between.{IsBetweenChecks}
 use Rattle.tab_ids.specs.declared.DocId.{DocId}
 use Rattle.tab_ids.specs.declared.EntryId.{EntryId}
 use Rattle.tab_ids.specs.declared.NavId.{NavId}
@@ -87,7 +87,7 @@ pub record IsComing (blame : List (StateId × ReqId)) (s n : Seen) : Type 0 wher
 
 -- ---- what is so then
 
-module _ (e : InEvent) (run : Option ReqId) (keep : ℕ) (goal : Step) (blame : List (StateId × ReqId)) (n : Seen) (between : IsBetween keep run e.start) (lasts : Lasts run e.start) (goal_was : HasGoal e.start.requests run goal) (ids : List ReqId) (hand : List Made) (tab : IsTab run ids hand n) (goal_then : HasGoal n.requests run goal) (comes : IsComing blame e.start n) where
+module _ (e : InEvent) (run : Option ReqId) (keep : ℕ) (goal : Step) (blame : List (StateId × ReqId)) (n : Seen) {loads : List ReqId} {waits : Bool} (between : IsBetweenChecks keep run loads waits e.start) (lasts : Lasts run e.start) (goal_was : HasGoal e.start.requests run goal) (ids : List ReqId) (hand : List Made) (tab : IsTab run ids hand n) (goal_then : HasGoal n.requests run goal) (comes : IsComing blame e.start n) where
   abbrev s : Seen
   s = e.start
 

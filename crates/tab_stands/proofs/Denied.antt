@@ -42,7 +42,7 @@ use Rattle.std.proofs.lemmas.List.{map-id}
 use Rattle.std.specs.List.{list_any}
 use Rattle.std.specs.Option.{option_map_or}
 use Rattle.std.specs.Prelude.{slice_set}
-use Rattle.tab_settles.specs.PassedOn.{AreLeftStrays, AreStepsOf, AwaitTurns, HasQueue, HaveJoined, IsGoing, IsTab, is_traverse}
+use Rattle.tab_settles.specs.PassedOn.{AreLeftStrays, AreStepsOf, AwaitTurns, HasQueue, HaveJoined, IsGoing, IsTab, at_hand, is_traverse}
 use Rattle.tab_doors.proofs.EndLaws.{left_holds}
 use Rattle.tab_doors.proofs.Keeping.{unstarted_no_load}
 use Rattle.tab_doors.proofs.Requests.{ended_moved, moved_same, runs_ended_apart}
@@ -52,7 +52,7 @@ use Rattle.tab_doors.specs.declared.tables.Tables.{Tables}
 use Rattle.tab_facts.proofs.TabEvents.Left.{between_left, keeps_all}
 use Rattle.tab_facts.proofs.TabEvents.Ordered.{unrefused}
 use Rattle.tab_facts.proofs.TabEvents.Requests.{AreLeft, others_left}
-use Rattle.tab_facts.specs.TabEvents.Between.{IsBetween, has_order}
+use Rattle.tab_facts.specs.TabEvents.Between.{IsBetweenChecks, has_order}
 use Rattle.tab_settles.proofs.PassedOn.{first_refused_tab, refused_going}
 use Rattle.tab_ids.specs.declared.ReqId.{ReqId}
 use Rattle.tab_ids.specs.declared.StateId.{StateId}
@@ -65,7 +65,7 @@ use Rattle.tab_stands.proofs.More.{coming_more, more, new_there, old_stays, one_
 use Rattle.tab_stands.proofs.Stays.{stands_still}
 use Rattle.tab_stands.proofs.Waiting.{steps_stay}
 use Rattle.tab_stands.specs.Offs.{AreShownUnder}
-use Rattle.tab_stands.specs.Standing.{HasRoomFor, StandsFor, StartsUnasked}
+use Rattle.tab_stands.specs.Standing.{HasRoomFor, InCheck, StandsFor, StartsUnasked}
 use Rattle.log_model.specs.declared.outcome.Ending.TheVariants as endings
 use Rattle.log_model.specs.declared.row_kind.Actor.{Actor}
 use Rattle.log_model.specs.declared.row_kind.Actor.TheVariants as actors
@@ -79,7 +79,7 @@ set_last : {A : Type 0} (xs : List A) (x y : A) → slice_set (xs ++ x ∷ []) (
 set_last [] x y = refl
 set_last (z ∷ xs) x y = ap (λ l. z ∷ l) (set_last xs x y)
 
-module _ (e : InEvent) (t : Tables) (queue : Queue) (blame : List (StateId × ReqId)) (stands : StandsFor e.start t queue blame) (aside : StartsUnasked e) (room : HasRoomFor e.start) (req : ReqId) (what : Request) (by_user : e.actor ≡ actors.Ui) (own : e.own ≡ rows.Accepted req None what) (nr : req.0 ≡ length e.start.requests + 1) (reason : Denial) (joins : joined_accepted e.start.joined req what ≡ e.start.joined) where
+module _ (e : InEvent) (t : Tables) (queue : Queue) (blame : List (StateId × ReqId)) {check : InCheck} (stands : StandsFor check e.start t queue blame) (aside : StartsUnasked e) (room : HasRoomFor e.start) (req : ReqId) (what : Request) (by_user : e.actor ≡ actors.Ui) (own : e.own ≡ rows.Accepted req None what) (nr : req.0 ≡ length e.start.requests + 1) (reason : Denial) (joins : joined_accepted e.start.joined req what ≡ e.start.joined) where
   abbrev s : Seen
   s = e.start
 
@@ -153,7 +153,7 @@ module _ (e : InEvent) (t : Tables) (queue : Queue) (blame : List (StateId × Re
   none : request_in s.requests req ≡ None
   none = none_before s.requests asked req nr
 
-  nowhere : times_found req s.desks s.joined s.parked [] ≡ 0
+  nowhere : times_found req s.desks s.joined s.parked (at_hand check.loads []) ≡ 0
   nowhere = stands.between.tab.once req (rw none refl) ∙ rw none refl
 
   pub unparked : has_req s.parked req ≡ false
@@ -170,12 +170,12 @@ module _ (e : InEvent) (t : Tables) (queue : Queue) (blame : List (StateId × Re
 
   -- ---- what holds between two events
 
-  module _ (tab : IsTab run (req ∷ []) [] w) (flows : Flows w) where
+  module _ (tab : IsTab run (req ∷ check.loads) [] w) (flows : Flows w) where
     other : is_this run req ≡ false
     other = sym (tab.asked.only req asked there)
 
-    tab_then : IsTab run [] [] n
-    tab_then = first_refused_tab run req [] [] w e.event tab other actors.Ui reason tt
+    tab_then : IsTab run check.loads [] n
+    tab_then = first_refused_tab run req check.loads [] w e.event tab other actors.Ui reason tt
 
     left : AreLeft run s.requests n.requests
     left =
@@ -187,7 +187,7 @@ module _ (e : InEvent) (t : Tables) (queue : Queue) (blame : List (StateId × Re
         own_one : request_in n.requests req ≡ Some lost
         own_one = ap (λ (l : List Asked). request_in l req) requests_are ∙ new_there s n lost req nr
 
-    between : IsBetween t.kept.keep run n
+    between : IsBetweenChecks t.kept.keep run check.loads check.holds n
     between =
         between_left t.kept.keep run s n stands.between tab_then
         (record { g = λ x. x; keeps = keeps_all; documents = sym (map-id s.documents); asked = left; history = refl; places = refl; kept = refl; joined = joined_same; parked = parked_same; orders = λ go. ap (list_any has_order) (unrefused s.desks actors.Ui tt) ∙ go })
@@ -196,13 +196,13 @@ module _ (e : InEvent) (t : Tables) (queue : Queue) (blame : List (StateId × Re
 
     -- ---- what goes on
 
-    going : IsGoing run [] [] n
+    going : IsGoing run check.loads [] n
     going =
-        refused_going run (req ∷ []) [] w e.event actors.Ui going_w req asked there refl reason [] [] tab_then (refused_lasting w e.event actors.Ui going_w.lasting req reason)
+        refused_going run (req ∷ check.loads) [] w e.event actors.Ui going_w req asked there refl reason check.loads [] tab_then (refused_lasting w e.event actors.Ui going_w.lasting req reason)
       where
-        going_w : IsGoing run (req ∷ []) [] w
+        going_w : IsGoing run (req ∷ check.loads) [] w
         going_w =
-            subst (λ (x : Seen). IsGoing run (req ∷ []) [] x) (now e req None what by_user own nr aside) (goes_on e req None what by_user own nr aside t queue blame stands room (λ x never. absurd cc) (req ∷ []) tab)
+            subst (λ (x : Seen). IsGoing run (req ∷ check.loads) [] x) (now e req None what by_user own nr aside) (goes_on e req None what by_user own nr aside t queue blame stands room (λ x never. absurd cc) (req ∷ check.loads) tab)
 
     -- ---- the tables
 
@@ -220,7 +220,7 @@ module _ (e : InEvent) (t : Tables) (queue : Queue) (blame : List (StateId × Re
       where
         tied_w : AreTied w t
         tied_w =
-            subst (λ (x : Seen). AreTied x t) (now e req None what by_user own nr aside) (tied_now e req None what by_user own nr aside t queue blame stands (req ∷ []) tab)
+            subst (λ (x : Seen). AreTied x t) (now e req None what by_user own nr aside) (tied_now e req None what by_user own nr aside t queue blame stands (req ∷ check.loads) tab)
 
         moved : moved_by n.requests run ≡ moved_by w.requests run
         moved =
@@ -281,6 +281,6 @@ module _ (e : InEvent) (t : Tables) (queue : Queue) (blame : List (StateId × Re
     shows =
         refused_under w e.event actors.Ui req reason (accepted_under s e.event actors.Ui req None what stands.lasts.shows)
 
-    pub denied_stands : StandsFor (log_of e out) t queue blame
+    pub denied_stands : StandsFor check (log_of e out) t queue blame
     denied_stands =
-        subst (λ (x : Seen). StandsFor x t queue blame) (sym log_refused) (stands_still e t queue blame stands n comes between going tied makes sound shows duly strays queued held)
+        subst (λ (x : Seen). StandsFor check x t queue blame) (sym log_refused) (stands_still e t queue blame stands n comes between going tied makes sound shows duly strays queued held)

@@ -44,7 +44,7 @@ use Rattle.tab_stands.proofs.Begun.{begun}
 use Rattle.tab_stands.proofs.Coming.{OnlyArrives}
 use Rattle.tab_stands.proofs.Reports.{told, told_comes, told_going, told_held, told_kept, told_legal, told_moved, told_now, told_rests, told_row, told_tied, told_turning}
 use Rattle.tab_stands.specs.Delivering.{IsDelivery, IsQuietTask}
-use Rattle.tab_stands.specs.Standing.{HasBegun, HasRoomFor, StandsFor, StartsUnasked}
+use Rattle.tab_stands.specs.Standing.{HasBegun, HasRoomFor, InCheck, StandsFor, StartsUnasked}
 use Rattle.seen_facts.specs.Transit.Orders.{IsOutcomeOf}
 use Rattle.log_model.specs.declared.job.Task.TheVariants as tasks
 use Rattle.log_model.specs.declared.made.Report.TheVariants as reports
@@ -70,7 +70,7 @@ pub held_first : (e : InEvent) → (now_of e []).parked ≡ held_at_first e
 unfolding now_of
 held_first e = refl
 
-module _ (e : InEvent) (proc : ProcId) (job : Job) (outcome : Outcome) (del : IsDelivery e proc (reports.Done job outcome None)) (t : Tables) (queue : Queue) (blame : List (StateId × ReqId)) (stands : StandsFor e.start t queue blame) (aside : StartsUnasked e) where
+module _ (e : InEvent) (proc : ProcId) (job : Job) (outcome : Outcome) (del : IsDelivery e proc (reports.Done job outcome None)) (t : Tables) (queue : Queue) (blame : List (StateId × ReqId)) {check : InCheck} (stands : StandsFor check e.start t queue blame) (aside : StartsUnasked e) where
   abbrev report : Report
   report = reports.Done job outcome None
 
@@ -83,7 +83,7 @@ module _ (e : InEvent) (proc : ProcId) (job : Job) (outcome : Outcome) (del : Is
   pub did_now : now_of e [] ≡ did
   did_now = told_now e proc del.by_coord del.own t queue blame stands aside report del.first
 
-  pub did_tab : IsTab t.running [] [] did
+  pub did_tab : IsTab t.running check.loads [] did
   did_tab = done_tab t.running s e.event proc stands.between.tab stands.between.flows job outcome del.first
 
   pub did_outcome : IsOutcomeOf job.task outcome
@@ -150,7 +150,7 @@ module _ (e : InEvent) (proc : ProcId) (job : Job) (outcome : Outcome) (del : Is
             }
 
     module _ (u : Tables) (kept : KeepsRun t u) where
-      pub did_queueing : (left : Queue) → HasQueue did t.running left.waiting → left.parked ≡ queue.parked → IsQueueing (record { event = e; loads = []; hand = [] }) [] u left
+      pub did_queueing : (left : Queue) → HasQueue did t.running left.waiting → left.parked ≡ queue.parked → IsQueueing (record { event = e; loads = check.loads; hand = [] }) [] u left
       did_queueing left queued parked =
           record {
             turning = told_turning e proc del.by_coord del.own t queue blame stands aside report del.first same did_tab.known;
@@ -224,14 +224,14 @@ module _ (e : InEvent) (proc : ProcId) (job : Job) (outcome : Outcome) (del : Is
         (subst (λ (l : List Document). length l ≤ s.jobs + 1) (sym documents_same) stands.tied.few)
 
     abbrev p : InPass
-    p = record { event = e; loads = []; hand = [] }
+    p = record { event = e; loads = check.loads; hand = [] }
 
-    pub quiet_begun : HasRoomFor e.start → t.kept.keep ≡ e.header.keep → HasBegun (record { event = e; loads = []; hand = [] }) t queue blame
+    pub quiet_begun : HasRoomFor e.start → t.kept.keep ≡ e.header.keep → HasBegun (record { event = e; loads = check.loads; hand = [] }) t queue blame
     quiet_begun room header =
         begun p t queue blame stands.between stands.lasts stands.tied.goal header aside (ap (λ (k : RowKind). leads k) del.own) (subst (λ (a : Actor). IsWorker a) (sym del.by_coord) tt)
         (told_legal e proc del.by_coord del.own t queue blame stands aside report del.first)
         tied
-        (told_going e proc del.by_coord del.own t queue blame stands aside report del.first (did_requests quiet_asks) room [] [] did_tab (told_held e proc del.by_coord del.own t queue blame stands aside report del.first (did_requests quiet_asks) did_parked) (rw places_same stands.lasts.counted.epochs))
+        (told_going e proc del.by_coord del.own t queue blame stands aside report del.first (did_requests quiet_asks) room check.loads [] did_tab (told_held e proc del.by_coord del.own t queue blame stands aside report del.first (did_requests quiet_asks) did_parked) (rw places_same stands.lasts.counted.epochs))
         (told_rests e proc del.by_coord del.own t queue blame stands aside report del.first)
         (told_comes e proc del.by_coord del.own t queue blame stands aside report del.first (did_requests quiet_asks) (λ p. p) itself (places_same ∙ sym (map-id s.places)) documents_same)
         (did_queueing quiet_asks t unchanged queue (did_queue quiet_asks documents_same) refl)

@@ -26,24 +26,24 @@ use Rattle.row_facts.proofs.Owed.Ends.{owed_paid}
 use Rattle.seen_facts.proofs.Rest.Seated.{all_has}
 use Rattle.seen_laws.specs.Blocks.{EachPass, Here}
 use Rattle.seen_laws.specs.InEvent.{InEvent, IsPaid, IsTakenIn, first_of, log_of, now_of, row_of, start_of}
-use Rattle.std.proofs.Common.{List, None, Option, Some, [], false, map, refl, subst, sym, true, ℕ, ◌==◌, ◌∷◌, ◌≡◌}
+use Rattle.std.proofs.Common.{Bool, List, None, Option, Some, [], false, map, refl, subst, sym, true, ℕ, ◌==◌, ◌∷◌, ◌≡◌}
 use Rattle.std.specs.List.{list_all}
 use Rattle.std.specs.Prelude.{is_some, option_and_then}
 use Rattle.tab_doors.proofs.Ahead.{none_lawful}
 use Rattle.tab_doors.specs.Working.{IsAtWork}
 use Rattle.tab_doors.specs.declared.tables.Tables.{Tables}
-use Rattle.tab_facts.specs.TabEvents.Between.{IsBetween}
+use Rattle.tab_facts.specs.TabEvents.Between.{IsBetweenChecks}
 use Rattle.tab_ids.specs.declared.DocId.{DocId}
 use Rattle.tab_ids.specs.declared.ReqId.{ReqId}
 use Rattle.tab_ids.specs.declared.StateId.{StateId}
 use Rattle.tab_settles.specs.PassedOn.{InPass, IsTab}
 use Rattle.tab_settles.proofs.PassedOn.{stepped}
 use Rattle.tab_settles.proofs.Ended.{IsNoneDue}
-use Rattle.tab_settles.specs.Settling.{HasSettled, MakesServe, OrdersAreSound}
+use Rattle.tab_settles.specs.Settling.{HasSettled, MakesServe, NoneRunsWhileHeld, OrdersAreSound}
 use Rattle.tab_stands.proofs.EpochRows.{event_under}
 use Rattle.tab_stands.proofs.LateEvents.{off_of}
 use Rattle.tab_stands.specs.Offs.{AreShownUnder}
-use Rattle.tab_stands.specs.Standing.{HasActed, Lasts, StandsFor}
+use Rattle.tab_stands.specs.Standing.{HasActed, InCheck, Lasts, StandsFor}
 
 -- where all were told what is due, each was told something
 each_told : (s : Seen) → ends_told s ≡ true → EachIsTold s
@@ -84,24 +84,27 @@ pub work_tied : (p : InPass) (out : List RowKind) (t : Tables) → IsAtWork p.ev
 work_tied p out t work =
     record { holds = work.holds; runs = work.runs; goal = work.goal; few = work.few; initial = work.initial; loads = work.loads; kept = work.kept }
 
-module _ (p : InPass) (out : List RowKind) (t : Tables) (queue : Queue) (blame : List (StateId × ReqId)) (cause : Why) (none : p.loads ≡ []) (at : HasSettled p out t queue blame cause) (makes : MakesServe (now_of p.event out)) (sound : OrdersAreSound (now_of p.event out)) (of_coord : (row : RowKind) → Has out row → IsOfCoord row) (shows : AreShownUnder (log_of p.event [])) where
+module _ (p : InPass) (out : List RowKind) (t : Tables) (queue : Queue) (blame : List (StateId × ReqId)) (cause : Why) (waits : Bool) (alone : NoneRunsWhileHeld waits t.running) (at : HasSettled p out t queue blame cause) (makes : MakesServe (now_of p.event out)) (sound : OrdersAreSound (now_of p.event out)) (of_coord : (row : RowKind) → Has out row → IsOfCoord row) (shows : AreShownUnder (log_of p.event [])) where
   abbrev s : Seen
   s = now_of p.event out
 
-  tab : IsTab t.running [] [] s
+  -- what is in its check then: the loads that are at hand still, and one traversal or none, as before
+  abbrev check : InCheck
+  check = record { loads = p.loads; holds = waits }
+
+  tab : IsTab t.running p.loads [] s
   tab =
-      subst (λ (l : List ReqId). IsTab t.running l [] s) none
-      (subst (λ (hand : List Made). IsTab t.running p.loads hand s) at.empty at.passing.going.tab)
+      subst (λ (hand : List Made). IsTab t.running p.loads hand s) at.empty at.passing.going.tab
 
   -- what holds between two events
-  between : IsNoneDue s t.running queue.waiting → IsBetween t.kept.keep t.running s
+  between : (waits ≡ false → IsNoneDue s t.running queue.waiting) → IsBetweenChecks t.kept.keep t.running p.loads waits s
   between due =
       record {
         tab = tab;
         flows = flows_told s tab.flows (each_told s at.told) at.passed.rows_;
         served = at.served;
         told = at.told;
-        stepped = λ none. stepped s t.running tab.asked queue.waiting at.queueing.queued due;
+        stepped = λ free. stepped s t.running tab.asked queue.waiting at.queueing.queued (due free);
         held = at.queueing.held;
         rows_ = at.passed.rows_;
         rests = at.passing.rests;
@@ -140,11 +143,12 @@ module _ (p : InPass) (out : List RowKind) (t : Tables) (queue : Queue) (blame :
         off = off_of s shown at.passing.going.tab.standing t.running at.calm at.late;
       }
 
-  pub acted : IsNoneDue s t.running queue.waiting → IsTakenIn p.event (map (row_of p.event) out) → HasActed p.event out t queue blame
+  pub acted : (waits ≡ false → IsNoneDue s t.running queue.waiting) → IsTakenIn p.event (map (row_of p.event) out) → HasActed check p.event out t queue blame
   acted due taken =
       record {
-        stands = subst (λ (x : Seen). StandsFor x t queue blame) (sym at.passing.work.plain) (record {
+        stands = subst (λ (x : Seen). StandsFor check x t queue blame) (sym at.passing.work.plain) (record {
           between = between due;
+          alone = alone;
           lasts = lasts (subst (λ (x : Seen). AreShownUnder x) at.passing.work.plain (event_under p.event out (passes taken).1 of_coord shows));
           tied = work_tied p out t at.passing.work;
           strays = at.strays;

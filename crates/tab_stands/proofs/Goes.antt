@@ -31,7 +31,7 @@ use Rattle.tab_stands.proofs.Accepting.{comes_now, goes_on, its_row, new, now, n
 use Rattle.tab_stands.proofs.Begun.{begun}
 use Rattle.tab_stands.proofs.Coming.{aim_same}
 use Rattle.tab_stands.proofs.Waiting.{await_still, queueing_now, steps_stay}
-use Rattle.tab_stands.specs.Standing.{HasBegun, HasRoomFor, StandsFor, StartsUnasked}
+use Rattle.tab_stands.specs.Standing.{HasBegun, HasRoomFor, InCheck, StandsFor, StartsUnasked}
 use Rattle.tab_settles.proofs.PassedOn.{turning_first, went, went_tab}
 use Rattle.log_model.specs.declared.request.Request.TheVariants as requests
 use Rattle.log_model.specs.declared.row_kind.Actor.TheVariants as actors
@@ -59,14 +59,14 @@ tab_more waiting last own each step has = by_place (has_more waiting last step h
     by_place (inl there) = each step there
     by_place (inr same) = subst (λ (x : QueueStep). IsOfTab x) same own
 
-module _ (e : InEvent) (t : Tables) (queue : Queue) (blame : List (StateId × ReqId)) (stands : StandsFor e.start t queue blame) (aside : StartsUnasked e) (room : HasRoomFor e.start) (header : t.kept.keep ≡ e.header.keep) (req : ReqId) (delta : ℤ) (by_user : e.actor ≡ actors.Ui) (own : e.own ≡ rows.Accepted req None (requests.Go delta)) (nr : req.0 ≡ length e.start.requests + 1) where
+module _ (e : InEvent) (t : Tables) (queue : Queue) (blame : List (StateId × ReqId)) {check : InCheck} (stands : StandsFor check e.start t queue blame) (aside : StartsUnasked e) (room : HasRoomFor e.start) (header : t.kept.keep ≡ e.header.keep) (req : ReqId) (delta : ℤ) (by_user : e.actor ≡ actors.Ui) (own : e.own ≡ rows.Accepted req None (requests.Go delta)) (nr : req.0 ≡ length e.start.requests + 1) where
   abbrev go : Request
   go = requests.Go delta
 
   abbrev n : Seen
   n = went t.running e.start e.event actors.Ui stands.between.tab stands.between.flows req nr delta
 
-  tab : IsTab t.running [] [] n
+  tab : IsTab t.running check.loads [] n
   tab = went_tab t.running e.start e.event actors.Ui stands.between.tab stands.between.flows req nr delta
 
   legal : AreLegal e []
@@ -114,16 +114,16 @@ module _ (e : InEvent) (t : Tables) (queue : Queue) (blame : List (StateId × Re
   -- ---- all goes on
 
   abbrev p : InPass
-  p = record { event = e; loads = []; hand = [] }
+  p = record { event = e; loads = check.loads; hand = [] }
 
   aim : aim_of (now_of e []) ≡ aim_of e.start
   aim =
-      aim_same e t.running t.kept.keep t.goal blame (now_of e []) stands.between stands.lasts stands.tied.goal [] [] (subst (λ (x : Seen). IsTab t.running [] [] x) (sym (now e req None go by_user own nr aside)) tab) (tied_now e req None go by_user own nr aside t queue blame stands [] tab).goal (comes_now e req None go by_user own nr aside t queue blame stands)
+      aim_same e t.running t.kept.keep t.goal blame (now_of e []) stands.between stands.lasts stands.tied.goal check.loads [] (subst (λ (x : Seen). IsTab t.running check.loads [] x) (sym (now e req None go by_user own nr aside)) tab) (tied_now e req None go by_user own nr aside t queue blame stands check.loads tab).goal (comes_now e req None go by_user own nr aside t queue blame stands)
 
-  pub go_begun : (left : Queue) → left ≡ record queue { waiting = queue.waiting ++ Traverse req delta ∷ [] } → HasBegun (record { event = e; loads = []; hand = [] }) t left blame
+  pub go_begun : (left : Queue) → left ≡ record queue { waiting = queue.waiting ++ Traverse req delta ∷ [] } → HasBegun (record { event = e; loads = check.loads; hand = [] }) t left blame
   go_begun left pushed =
-      begun p t left blame stands.between stands.lasts stands.tied.goal header aside (ap (λ (k : RowKind). leads k) own) (subst (λ (a : Actor). IsWorker a) (sym by_user) tt) legal (tied_now e req None go by_user own nr aside t queue blame stands [] tab)
-      (goes_on e req None go by_user own nr aside t queue blame stands room (λ x never. absurd cc) [] tab)
+      begun p t left blame stands.between stands.lasts stands.tied.goal header aside (ap (λ (k : RowKind). leads k) own) (subst (λ (a : Actor). IsWorker a) (sym by_user) tt) legal (tied_now e req None go by_user own nr aside t queue blame stands check.loads tab)
+      (goes_on e req None go by_user own nr aside t queue blame stands room (λ x never. absurd cc) check.loads tab)
       (rests_now e req None go by_user own nr aside t queue blame stands)
       (comes_now e req None go by_user own nr aside t queue blame stands)
-      (queueing_now e req None go by_user own nr aside t queue blame stands [] left aim turning (queued left.waiting (ap (λ (q : Queue). q.waiting) pushed)) (ap (λ (q : Queue). q.parked) pushed))
+      (queueing_now e req None go by_user own nr aside t queue blame stands check.loads left aim turning (queued left.waiting (ap (λ (q : Queue). q.waiting) pushed)) (ap (λ (q : Queue). q.parked) pushed))

@@ -40,7 +40,7 @@ use Rattle.tab_stands.proofs.Mades.{IsMadeFor, heard, heard_begun, heard_comes, 
 use Rattle.tab_stands.proofs.Reports.{told_held, told_turning}
 use Rattle.tab_stands.proofs.Waiting.{off_where_runs}
 use Rattle.tab_stands.specs.Delivering.{IsDelivery, IsToldOf}
-use Rattle.tab_stands.specs.Standing.{HasBegun, HasRoomFor, StandsFor, StartsUnasked}
+use Rattle.tab_stands.specs.Standing.{HasBegun, HasRoomFor, InCheck, StandsFor, StartsUnasked}
 use Rattle.log_model.specs.declared.action.Action.TheVariants as acts
 use Rattle.log_model.specs.declared.made.What.TheVariants as whats
 use Rattle.log_model.specs.declared.request.Request.TheVariants as requests
@@ -69,7 +69,7 @@ going_delta nav (acts.AddFrame child) e = absurd cc
 going_delta nav (acts.RemoveFrame child) e = absurd cc
 going_delta nav acts.Edit e = absurd cc
 
-module _ (e : InEvent) (proc : ProcId) (report : Report) (made : Made) (del : IsDelivery e proc report) (tells : IsToldOf report made) (t : Tables) (queue : Queue) (blame : List (StateId × ReqId)) (stands : StandsFor e.start t queue blame) (aside : StartsUnasked e) where
+module _ (e : InEvent) (proc : ProcId) (report : Report) (made : Made) (del : IsDelivery e proc report) (tells : IsToldOf report made) (t : Tables) (queue : Queue) (blame : List (StateId × ReqId)) {check : InCheck} (stands : StandsFor check e.start t queue blame) (aside : StartsUnasked e) where
   abbrev s : Seen
   s = e.start
 
@@ -130,7 +130,7 @@ module _ (e : InEvent) (proc : ProcId) (report : Report) (made : Made) (del : Is
           );
         }
 
-    queueing_free : (ids : List Made) → IsTab t.running [] ids n → (left : Queue) → HasQueue n t.running left.waiting → left.parked ≡ queue.parked → IsQueueing (record { event = e; loads = []; hand = ids }) [] t left
+    queueing_free : (ids : List Made) → IsTab t.running check.loads ids n → (left : Queue) → HasQueue n t.running left.waiting → left.parked ≡ queue.parked → IsQueueing (record { event = e; loads = check.loads; hand = ids }) [] t left
     queueing_free ids tab left queued parked =
         record {
           turning = told_turning e proc del.by_coord del.own t queue blame stands aside report del.first same tab.known;
@@ -143,17 +143,17 @@ module _ (e : InEvent) (proc : ProcId) (report : Report) (made : Made) (del : Is
 
   -- ---- it is at hand
 
-  pub hand_begun : IsNoGo made.what → is_held_back e.start made ≡ false → HasRoomFor e.start → t.kept.keep ≡ e.header.keep → HasBegun (record { event = e; loads = []; hand = made ∷ [] }) t queue blame
+  pub hand_begun : IsNoGo made.what → is_held_back e.start made ≡ false → HasRoomFor e.start → t.kept.keep ≡ e.header.keep → HasBegun (record { event = e; loads = check.loads; hand = made ∷ [] }) t queue blame
   hand_begun no_go free room header =
       heard_begun e proc report made del tells t queue blame stands aside room header (made ∷ []) tab (held_free free) queue (queueing_free free (made ∷ []) tab queue (queue_still (unqueued s [] e.event actors.Coord proc report made del.first tells no_go)) refl)
     where
-      tab : IsTab t.running [] (made ∷ []) n
+      tab : IsTab t.running check.loads (made ∷ []) n
       tab = hand_tab t.running s e.event proc stands.between.tab stands.between.flows report made del.first tells no_go free
 
   -- ---- it is held back
 
   module _ (no_go : IsNoGo made.what) (held : is_held_back e.start made ≡ true) where
-    tab_held : IsTab t.running [] [] n
+    tab_held : IsTab t.running check.loads [] n
     tab_held = held_tab t.running s e.event proc stands.between.tab stands.between.flows report made del.first tells no_go held
 
     parked_more : n.parked ≡ s.parked ++ made.req ∷ []
@@ -196,7 +196,7 @@ module _ (e : InEvent) (proc : ProcId) (report : Report) (made : Made) (del : Is
 
     aim : aim_of (now_of e []) ≡ aim_of s
     aim =
-        aim_same e t.running t.kept.keep t.goal blame (now_of e []) stands.between stands.lasts stands.tied.goal [] [] (subst (λ (x : Seen). IsTab t.running [] [] x) (sym now) tab_held) (heard_tied e proc report made del tells t queue blame stands aside).goal (heard_comes e proc report made del tells t queue blame stands aside)
+        aim_same e t.running t.kept.keep t.goal blame (now_of e []) stands.between stands.lasts stands.tied.goal check.loads [] (subst (λ (x : Seen). IsTab t.running check.loads [] x) (sym now) tab_held) (heard_tied e proc report made del tells t queue blame stands aside).goal (heard_comes e proc report made del tells t queue blame stands aside)
 
     -- not all stand where the traversal leads to
     stands_not : all_stand (now_of e []) (aim_of (now_of e [])) ≡ true → ⊥
@@ -211,11 +211,11 @@ module _ (e : InEvent) (proc : ProcId) (report : Report) (made : Made) (del : Is
         by_run : (o : Option ReqId) → t.running ≡ o → ⊥
         by_run None is = busy is
         by_run (Some run) is =
-            let off : all_stand s (aim_of s) ≡ false = off_where_runs t.kept.keep t.running s stands.between run is in
+            let off : all_stand s (aim_of s) ≡ false = off_where_runs t.kept.keep t.running s stands.between stands.alone run is in
             let never : true ≡ false = sym all ∙ stood ∙ off in
             cc
 
-    pub parked_begun : HasRoomFor e.start → t.kept.keep ≡ e.header.keep → (left : Queue) → left ≡ record queue { parked = queue.parked ++ made ∷ [] } → HasBegun (record { event = e; loads = []; hand = [] }) t left blame
+    pub parked_begun : HasRoomFor e.start → t.kept.keep ≡ e.header.keep → (left : Queue) → left ≡ record queue { parked = queue.parked ++ made ∷ [] } → HasBegun (record { event = e; loads = check.loads; hand = [] }) t left blame
     parked_begun room header left pushed =
         heard_begun e proc report made del tells t queue blame stands aside room header [] tab_held held_more left (record {
           turning = told_turning e proc del.by_coord del.own t queue blame stands aside report del.first same tab_held.known;
@@ -232,7 +232,7 @@ module _ (e : InEvent) (proc : ProcId) (report : Report) (made : Made) (del : Is
     free_go : is_held_back e.start made ≡ false
     free_go = rw going refl
 
-    tab_joined : IsTab t.running [] [] n
+    tab_joined : IsTab t.running check.loads [] n
     tab_joined = joined_tab t.running s e.event proc stands.between.tab stands.between.flows report made del.first tells delta going
 
     joined_more : n.joined ≡ s.joined ++ made.req ∷ []
@@ -286,6 +286,6 @@ module _ (e : InEvent) (proc : ProcId) (report : Report) (made : Made) (del : Is
           steps = tab_more queue.waiting (Traverse made.req delta) tt stands.queue.steps;
         }
 
-    pub joined_begun : HasRoomFor e.start → t.kept.keep ≡ e.header.keep → (left : Queue) → left ≡ record queue { waiting = queue.waiting ++ Traverse made.req delta ∷ [] } → HasBegun (record { event = e; loads = []; hand = [] }) t left blame
+    pub joined_begun : HasRoomFor e.start → t.kept.keep ≡ e.header.keep → (left : Queue) → left ≡ record queue { waiting = queue.waiting ++ Traverse made.req delta ∷ [] } → HasBegun (record { event = e; loads = check.loads; hand = [] }) t left blame
     joined_begun room header left pushed =
         heard_begun e proc report made del tells t queue blame stands aside room header [] tab_joined (held_free free_go) left (queueing_free free_go [] tab_joined left (subst (λ (l : List QueueStep). HasQueue n t.running l) (sym (ap (λ (q : Queue). q.waiting) pushed)) queue_more) (ap (λ (q : Queue). q.parked) pushed))

@@ -28,25 +28,25 @@ use Rattle.tab_stands.proofs.Accepting.{comes_now, goes_on, its_row, new, now, n
 use Rattle.tab_stands.proofs.Begun.{begun}
 use Rattle.tab_stands.proofs.Coming.{aim_same}
 use Rattle.tab_stands.proofs.Waiting.{queued_still, queueing_now}
-use Rattle.tab_stands.specs.Standing.{HasBegun, HasRoomFor, StandsFor, StartsUnasked}
+use Rattle.tab_stands.specs.Standing.{HasBegun, HasRoomFor, InCheck, StandsFor, StartsUnasked}
 use Rattle.tab_settles.proofs.PassedOn.{load_accepted, load_accepted_tab, turning_first}
 use Rattle.log_model.specs.declared.request.Request.TheVariants as requests
 use Rattle.log_model.specs.declared.row_kind.Actor.TheVariants as actors
 use Rattle.log_model.specs.declared.row_kind.RowKind.TheVariants as rows
 
-module _ (e : InEvent) (t : Tables) (queue : Queue) (blame : List (StateId × ReqId)) (stands : StandsFor e.start t queue blame) (aside : StartsUnasked e) (room : HasRoomFor e.start) (header : t.kept.keep ≡ e.header.keep) (req : ReqId) (nav : NavId) (mode : Mode) (address : List ℕ) (by_user : e.actor ≡ actors.Ui) (own : e.own ≡ rows.Accepted req None (requests.Load nav mode address)) (nr : req.0 ≡ length e.start.requests + 1) where
+module _ (e : InEvent) (t : Tables) (queue : Queue) (blame : List (StateId × ReqId)) {check : InCheck} (stands : StandsFor check e.start t queue blame) (aside : StartsUnasked e) (room : HasRoomFor e.start) (header : t.kept.keep ≡ e.header.keep) (req : ReqId) (nav : NavId) (mode : Mode) (address : List ℕ) (by_user : e.actor ≡ actors.Ui) (own : e.own ≡ rows.Accepted req None (requests.Load nav mode address)) (nr : req.0 ≡ length e.start.requests + 1) where
   abbrev load : Request
   load = requests.Load nav mode address
 
   abbrev n : Seen
   n = load_accepted t.running e.start e.event actors.Ui stands.between.tab stands.between.flows req nr nav mode address
 
-  tab : IsTab t.running (req ∷ []) [] n
+  tab : IsTab t.running (req ∷ check.loads) [] n
   tab =
       load_accepted_tab t.running e.start e.event actors.Ui stands.between.tab stands.between.flows req nr nav mode address
 
   pub load_tied : AreTied (now_of e []) t
-  load_tied = tied_now e req None load by_user own nr aside t queue blame stands (req ∷ []) tab
+  load_tied = tied_now e req None load by_user own nr aside t queue blame stands (req ∷ check.loads) tab
 
   -- ---- where no reason stands against it
 
@@ -74,16 +74,16 @@ module _ (e : InEvent) (t : Tables) (queue : Queue) (blame : List (StateId × Re
         subst (λ (x : Seen). HasQueue x t.running queue.waiting) (sym (now e req None load by_user own nr aside)) (queued_still e req None load by_user own nr aside t queue blame stands refl)
 
     abbrev p : InPass
-    p = record { event = e; loads = req ∷ []; hand = [] }
+    p = record { event = e; loads = req ∷ check.loads; hand = [] }
 
     aim : aim_of (now_of e []) ≡ aim_of e.start
     aim =
-        aim_same e t.running t.kept.keep t.goal blame (now_of e []) stands.between stands.lasts stands.tied.goal (req ∷ []) [] (subst (λ (x : Seen). IsTab t.running (req ∷ []) [] x) (sym (now e req None load by_user own nr aside)) tab) load_tied.goal (comes_now e req None load by_user own nr aside t queue blame stands)
+        aim_same e t.running t.kept.keep t.goal blame (now_of e []) stands.between stands.lasts stands.tied.goal (req ∷ check.loads) [] (subst (λ (x : Seen). IsTab t.running (req ∷ check.loads) [] x) (sym (now e req None load by_user own nr aside)) tab) load_tied.goal (comes_now e req None load by_user own nr aside t queue blame stands)
 
-    pub load_begun : HasBegun (record { event = e; loads = req ∷ []; hand = [] }) t queue blame
+    pub load_begun : HasBegun (record { event = e; loads = req ∷ check.loads; hand = [] }) t queue blame
     load_begun =
         begun p t queue blame stands.between stands.lasts stands.tied.goal header aside (ap (λ (k : RowKind). leads k) own) (subst (λ (a : Actor). IsWorker a) (sym by_user) tt) legal load_tied
-        (goes_on e req None load by_user own nr aside t queue blame stands room (λ x never. absurd cc) (req ∷ []) tab)
+        (goes_on e req None load by_user own nr aside t queue blame stands room (λ x never. absurd cc) (req ∷ check.loads) tab)
         (rests_now e req None load by_user own nr aside t queue blame stands)
         (comes_now e req None load by_user own nr aside t queue blame stands)
-        (queueing_now e req None load by_user own nr aside t queue blame stands (req ∷ []) queue aim turning queued refl)
+        (queueing_now e req None load by_user own nr aside t queue blame stands (req ∷ check.loads) queue aim turning queued refl)

@@ -48,7 +48,7 @@ use Rattle.tab_stands.proofs.Coming.{IsComing}
 use Rattle.tab_stands.proofs.Dones.{itself, unchanged}
 use Rattle.tab_stands.proofs.Reports.{told, told_comes, told_going, told_kept, told_legal, told_moved, told_now, told_rests, told_row, told_tied}
 use Rattle.tab_stands.specs.Delivering.{IsDelivery, IsToldOf}
-use Rattle.tab_stands.specs.Standing.{HasBegun, HasRoomFor, StandsFor, StartsUnasked}
+use Rattle.tab_stands.specs.Standing.{HasBegun, HasRoomFor, InCheck, StandsFor, StartsUnasked}
 use Rattle.tab_settles.proofs.PassedOn.{its_report}
 use Rattle.seen_facts.specs.Transit.Orders.{IsOutcomeOf}
 use Rattle.log_model.specs.declared.job.Task.TheVariants as tasks
@@ -67,7 +67,7 @@ pub record IsMadeFor (s : Seen) (made : Made) : Type 0 where
   pub makes : q.made ≡ Some made
   pub open_ : q.ending ≡ None
 
-module _ (e : InEvent) (proc : ProcId) (report : Report) (made : Made) (del : IsDelivery e proc report) (tells : IsToldOf report made) (t : Tables) (queue : Queue) (blame : List (StateId × ReqId)) (stands : StandsFor e.start t queue blame) (aside : StartsUnasked e) where
+module _ (e : InEvent) (proc : ProcId) (report : Report) (made : Made) (del : IsDelivery e proc report) (tells : IsToldOf report made) (t : Tables) (queue : Queue) (blame : List (StateId × ReqId)) {check : InCheck} (stands : StandsFor check e.start t queue blame) (aside : StartsUnasked e) where
   abbrev s : Seen
   s = e.start
 
@@ -202,12 +202,12 @@ module _ (e : InEvent) (proc : ProcId) (report : Report) (made : Made) (del : Is
       (subst (λ (l : List Document). length l ≤ s.jobs + 1) (sym heard_documents) stands.tied.few)
 
   -- with this at hand, and what waits
-  pub heard_begun : HasRoomFor e.start → t.kept.keep ≡ e.header.keep → (hand : List Made) → IsTab t.running [] hand heard → AreHeldUp t.running heard → (left : Queue) → IsQueueing (record { event = e; loads = []; hand = hand }) [] t left → HasBegun (record { event = e; loads = []; hand = hand }) t left blame
+  pub heard_begun : HasRoomFor e.start → t.kept.keep ≡ e.header.keep → (hand : List Made) → IsTab t.running check.loads hand heard → AreHeldUp t.running heard → (left : Queue) → IsQueueing (record { event = e; loads = check.loads; hand = hand }) [] t left → HasBegun (record { event = e; loads = check.loads; hand = hand }) t left blame
   heard_begun room header hand tab held left queueing =
-      begun (record { event = e; loads = []; hand = hand }) t left blame stands.between stands.lasts stands.tied.goal header aside (ap (λ (k : RowKind). leads k) del.own) (subst (λ (a : Actor). IsWorker a) (sym del.by_coord) tt)
+      begun (record { event = e; loads = check.loads; hand = hand }) t left blame stands.between stands.lasts stands.tied.goal header aside (ap (λ (k : RowKind). leads k) del.own) (subst (λ (a : Actor). IsWorker a) (sym del.by_coord) tt)
       (told_legal e proc del.by_coord del.own t queue blame stands aside report del.first)
       heard_tied
-      (told_going e proc del.by_coord del.own t queue blame stands aside report del.first heard_requests room [] hand tab held (rw heard_places stands.lasts.counted.epochs))
+      (told_going e proc del.by_coord del.own t queue blame stands aside report del.first heard_requests room check.loads hand tab held (rw heard_places stands.lasts.counted.epochs))
       (told_rests e proc del.by_coord del.own t queue blame stands aside report del.first)
       heard_comes queueing
 

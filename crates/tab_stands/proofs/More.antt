@@ -20,7 +20,7 @@ use Rattle.tab_ids.specs.declared.ReqId.{ReqId}
 use Rattle.tab_ids.specs.declared.StateId.{StateId}
 use Rattle.move_queue.specs.Queue.{Queue}
 use Rattle.tab_stands.proofs.Coming.{IsComing}
-use Rattle.tab_stands.specs.Standing.{StandsFor}
+use Rattle.tab_stands.specs.Standing.{InCheck, StandsFor}
 
 -- ---- one more request that doesn't pass a test
 
@@ -115,7 +115,7 @@ module _ (s rest : Seen) (new : Asked) (req : ReqId) (nr : req.0 ≡ length s.re
     loaded_same state =
         find_as (λ (q : Asked). is_ongoing_load q && holds (λ (x : StateId). x.0 == state.0) q.state) new (rw idle refl) s.requests
 
-    module _ (t : Tables) (queue : Queue) (blame : List (StateId × ReqId)) (stands : StandsFor s t queue blame) where
+    module _ (t : Tables) (queue : Queue) (blame : List (StateId × ReqId)) {check : InCheck} (stands : StandsFor check s t queue blame) where
       pub strays_more : AreLeftStrays more blame
       strays_more doc state stray =
           let was : IsStray s doc state = record { document = stray.document; found = stray.found; its_state = stray.its_state; ready = stray.ready; undiscarded = stray.undiscarded; bare = stray.bare; unloaded = sym (loaded_same state) ∙ stray.unloaded } in

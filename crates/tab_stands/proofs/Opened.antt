@@ -43,7 +43,7 @@ use Rattle.tab_settles.proofs.Lates.{told_known}
 use Rattle.tab_settles.proofs.MovedRows.{shown_idle}
 use Rattle.tab_stands.proofs.LateEvents.{off_of}
 use Rattle.tab_stands.specs.Offs.{AreShownUnder, IsUnderEpoch, is_new_place}
-use Rattle.tab_stands.specs.Standing.{Lasts, StandsFor, opened_at}
+use Rattle.tab_stands.specs.Standing.{Lasts, StandsFor, none_in_check, opened_at}
 use Rattle.log_model.specs.declared.row_kind.Actor.TheVariants as actors
 
 some_same : {A : Type 0} {a b : A} → (let o : Option A = Some a in o) ≡ Some b → a ≡ b
@@ -264,10 +264,11 @@ module _ (address : List ℕ) (proc : ProcId) where
         off = off_of s shows standing None calm (told_known None s (λ nav p doc found wakes. ap (λ (x : Place). x.is_delivered) (sym (only_place nav p found))));
       }
 
-  pub fresh_stands : (keep : ℕ) (t : Tables) (queue : Queue) → IsFresh address proc keep t → queue ≡ record { waiting = []; parked = [] } → StandsFor s t queue []
+  pub fresh_stands : (keep : ℕ) (t : Tables) (queue : Queue) → IsFresh address proc keep t → queue ≡ record { waiting = []; parked = [] } → StandsFor none_in_check s t queue []
   fresh_stands keep t queue is empty =
       record {
         between = subst (λ (o : Option ReqId). IsBetween t.kept.keep o s) (sym is.running) (opened_between t.kept.keep 0 actors.Start (record { maker = 0; nr = 1 }) (record { 0 = 1 }) (record { 0 = 1 }) proc address (record { maker = refl; entry_nr = refl; state_nr = refl; doc_nr = refl }));
+        alone = λ never. absurd cc;
         lasts = subst (λ (o : Option ReqId). Lasts o s) (sym is.running) lasts;
         tied = tied keep t is;
         strays = strays;

@@ -34,7 +34,7 @@ use Rattle.tab_ids.specs.declared.StateId.{StateId}
 use Rattle.tab_settles.proofs.PassedOn.{running_is}
 use Rattle.tab_stands.proofs.Mades.{its_asked, its_nav}
 use Rattle.tab_stands.specs.Delivering.{IsDelivery, IsToldOf}
-use Rattle.tab_stands.specs.Standing.{StandsFor, StartsUnasked}
+use Rattle.tab_stands.specs.Standing.{InCheck, StandsFor, StartsUnasked}
 use Rattle.tab_settles.specs.PassedOn.{HasNode, IsByItsOwn, judged_in, nav_found}
 use Rattle.sync_core.specs.declared.judging.Judged.TheVariants as verdicts
 
@@ -55,7 +55,7 @@ awake_on p wakes = by_status p.status refl wakes
     by_status lost is h = absurd cc
     by_status asleep is h = absurd cc
 
-module _ (e : InEvent) (proc : ProcId) (report : Report) (made : Made) (del : IsDelivery e proc report) (tells : IsToldOf report made) (t : Tables) (queue : Queue) (blame : List (StateId × ReqId)) (stands : StandsFor e.start t queue blame) (aside : StartsUnasked e) where
+module _ (e : InEvent) (proc : ProcId) (report : Report) (made : Made) (del : IsDelivery e proc report) (tells : IsToldOf report made) (t : Tables) (queue : Queue) (blame : List (StateId × ReqId)) {check : InCheck} (stands : StandsFor check e.start t queue blame) (aside : StartsUnasked e) where
   abbrev s : Seen
   s = e.start
 

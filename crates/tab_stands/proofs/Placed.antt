@@ -36,7 +36,7 @@ use Rattle.tab_stands.proofs.Dones.{AsksNone, did, did_now, did_requests, itself
 use Rattle.tab_stands.proofs.Reports.{told_causes, told_kept}
 use Rattle.tab_stands.proofs.Unmade.{d, documents_now, its_found, its_number, its_state, made_at, not_ready, places_now, sole_one, the_one, undiscarded, unknown}
 use Rattle.tab_stands.specs.Delivering.{IsDelivery, IsMadeNoted, IsNotedFor}
-use Rattle.tab_stands.specs.Standing.{StandsFor, StartsUnasked}
+use Rattle.tab_stands.specs.Standing.{InCheck, StandsFor, StartsUnasked}
 use Rattle.log_model.specs.declared.job.Task.TheVariants as tasks
 use Rattle.log_model.specs.declared.made.Report.TheVariants as reports
 use Rattle.log_model.specs.declared.row_kind.Actor.TheVariants as actors
@@ -51,7 +51,7 @@ states_alike old new keep (doc ∷ docs) = by_state (state_in old doc) refl (sta
     by_state None is rest = rw (keep doc ∙ is, is) rest
     by_state (Some x) is rest = rw (keep doc ∙ is, is) (ap (λ (l : List StateId). x ∷ l) rest)
 
-module _ (e : InEvent) (proc : ProcId) (job : Job) (outcome : Outcome) (del : IsDelivery e proc (reports.Done job outcome None)) (t : Tables) (queue : Queue) (blame : List (StateId × ReqId)) (stands : StandsFor e.start t queue blame) (aside : StartsUnasked e) (nav : NavId) (state : StateId) (address : List ℕ) (initial : Bool) (task : job.task ≡ tasks.Populate nav state address initial) where
+module _ (e : InEvent) (proc : ProcId) (job : Job) (outcome : Outcome) (del : IsDelivery e proc (reports.Done job outcome None)) (t : Tables) (queue : Queue) (blame : List (StateId × ReqId)) {check : InCheck} (stands : StandsFor check e.start t queue blame) (aside : StartsUnasked e) (nav : NavId) (state : StateId) (address : List ℕ) (initial : Bool) (task : job.task ≡ tasks.Populate nav state address initial) where
   abbrev s : Seen
   s = e.start
 

@@ -16,7 +16,7 @@ use Rattle.seen_laws.specs.InEvent.{InEvent, now_of, start_of}
 use Rattle.std.proofs.Common.{List, Option, Some, [], ap, length, refl, subst, sym, ◌+◌, ◌∷◌, ◌≡◌}
 use Rattle.tab_doors.specs.declared.tables.Tables.{Tables}
 use Rattle.tab_facts.proofs.TabEvents.Poking.{poked_between}
-use Rattle.tab_facts.specs.TabEvents.Between.{IsBetween}
+use Rattle.tab_facts.specs.TabEvents.Between.{IsBetweenChecks}
 use Rattle.tab_ids.specs.declared.DocId.{DocId}
 use Rattle.tab_ids.specs.declared.NavId.{NavId}
 use Rattle.tab_ids.specs.declared.ReqId.{ReqId}
@@ -28,7 +28,7 @@ use Rattle.tab_stands.proofs.Stays.{stands_still}
 use Rattle.tab_stands.proofs.Waiting.{queued_still}
 use Rattle.tab_stands.specs.Offs.{AreShownUnder}
 use Rattle.tab_stands.specs.Poking.{ReachesOne}
-use Rattle.tab_stands.specs.Standing.{HasActed, HasRoomFor, StandsFor, StartsUnasked}
+use Rattle.tab_stands.specs.Standing.{HasActed, HasRoomFor, InCheck, StandsFor, StartsUnasked}
 use Rattle.log_model.specs.declared.request.Request.TheVariants as requests
 use Rattle.log_model.specs.declared.row_kind.Actor.TheVariants as actors
 use Rattle.log_model.specs.declared.row_kind.RowKind.TheVariants as rows
@@ -36,7 +36,7 @@ use Rattle.log_model.specs.declared.row_kind.RowKind.TheVariants as rows
 some_same : {A : Type 0} {a b : A} → (let o : Option A = Some a in o) ≡ Some b → a ≡ b
 some_same e = cc
 
-module _ (e : InEvent) (t : Tables) (queue : Queue) (blame : List (StateId × ReqId)) (stands : StandsFor e.start t queue blame) (aside : StartsUnasked e) (room : HasRoomFor e.start) (req : ReqId) (nav : NavId) (action : Action) (reached : DocId) (by_user : e.actor ≡ actors.Ui) (own : e.own ≡ rows.Accepted req (Some reached) (requests.Poke nav action)) (nr : req.0 ≡ length e.start.requests + 1) (its : ReachesOne e.start nav reached) where
+module _ (e : InEvent) (t : Tables) (queue : Queue) (blame : List (StateId × ReqId)) {check : InCheck} (stands : StandsFor check e.start t queue blame) (aside : StartsUnasked e) (room : HasRoomFor e.start) (req : ReqId) (nav : NavId) (action : Action) (reached : DocId) (by_user : e.actor ≡ actors.Ui) (own : e.own ≡ rows.Accepted req (Some reached) (requests.Poke nav action)) (nr : req.0 ≡ length e.start.requests + 1) (its : ReachesOne e.start nav reached) where
   abbrev poke : Request
   poke = requests.Poke nav action
 
@@ -50,19 +50,19 @@ module _ (e : InEvent) (t : Tables) (queue : Queue) (blame : List (StateId × Re
   its_own x is =
       subst (λ (y : DocId). IsOfItsNav e.start.documents (wish (new_request req doc poke)) y) (some_same is) (record { d = its.d; found = its.found; nav_is = ap (λ (y : NavId). let o : Option NavId = Some y in o) (sym its.nav_is) })
 
-  between : IsBetween t.kept.keep t.running n
+  between : IsBetweenChecks t.kept.keep t.running check.loads check.holds n
   between =
       poked_between t.kept.keep t.running e.start e.event actors.Ui stands.between req nr nav action reached its.d its.found
 
   unjoined : n.joined ≡ e.start.joined
   unjoined = refl
 
-  stands_then : StandsFor (now_of e []) t queue blame
+  stands_then : StandsFor check (now_of e []) t queue blame
   stands_then =
       stands_still e t queue blame stands (now_of e []) (comes_now e req doc poke by_user own nr aside t queue blame stands)
-      (subst (λ (x : Seen). IsBetween t.kept.keep t.running x) (sym then_) between)
-      (goes_on e req doc poke by_user own nr aside t queue blame stands room its_own [] between.tab)
-      (tied_now e req doc poke by_user own nr aside t queue blame stands [] between.tab)
+      (subst (λ (x : Seen). IsBetweenChecks t.kept.keep t.running check.loads check.holds x) (sym then_) between)
+      (goes_on e req doc poke by_user own nr aside t queue blame stands room its_own check.loads between.tab)
+      (tied_now e req doc poke by_user own nr aside t queue blame stands check.loads between.tab)
       (makes_first e aside (ap (λ (k : RowKind). leads k) own) (comes_now e req doc poke by_user own nr aside t queue blame stands).serves stands.lasts.makes)
       (sound_first e aside (ap (λ (k : RowKind). leads k) own) (keeps_coming blame e.start (now_of e []) (comes_now e req doc poke by_user own nr aside t queue blame stands)) stands.lasts.sound)
       (subst (λ (x : Seen). AreShownUnder x) (sym then_) (accepted_under e.start e.event actors.Ui req doc poke stands.lasts.shows))
@@ -74,9 +74,9 @@ module _ (e : InEvent) (t : Tables) (queue : Queue) (blame : List (StateId × Re
       then_ : now_of e [] ≡ n
       then_ = now e req doc poke by_user own nr aside
 
-  pub poke_acts : HasActed e [] t queue blame
+  pub poke_acts : HasActed check e [] t queue blame
   poke_acts =
       record {
-        stands = subst (λ (x : Seen). StandsFor x t queue blame) (sym aside.plain) stands_then;
+        stands = subst (λ (x : Seen). StandsFor check x t queue blame) (sym aside.plain) stands_then;
         passes = subst (λ (row : LogRow). EachPass (start_of e) (row ∷ []) []) (sym (its_row e req doc poke by_user own nr aside)) (poke_passes e.header e.start e.event req nav reached its.d its.first its.others action nr its.row its.run its.reaches its.nr, tt);
       }

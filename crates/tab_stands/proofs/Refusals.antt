@@ -19,7 +19,7 @@ use Rattle.tab_ids.specs.declared.ReqId.{ReqId}
 use Rattle.tab_ids.specs.declared.StateId.{StateId}
 use Rattle.tab_stands.proofs.Accepting.{its_row, there_now}
 use Rattle.tab_stands.proofs.Denied.{denied_stands, unparked}
-use Rattle.tab_stands.specs.Standing.{HasActed, HasRoomFor, StandsFor, StartsUnasked}
+use Rattle.tab_stands.specs.Standing.{HasActed, HasRoomFor, InCheck, StandsFor, StartsUnasked}
 use Rattle.tab_settles.proofs.PassedOn.{load_accepted_flows, load_accepted_tab, strayed_flows, strayed_tab}
 use Rattle.log_model.specs.declared.request.Request.TheVariants as requests
 use Rattle.log_model.specs.declared.row_kind.Actor.TheVariants as actors
@@ -30,7 +30,7 @@ refusal_row : (e : InEvent) (req : ReqId) (reason : Denial) → e.actor ≡ acto
 refusal_row e req reason by_user =
     ap (λ (a : Actor). let row : LogRow = record { event = e.event; actor = a; row = rows.Refused req reason } in row) by_user
 
-module _ (e : InEvent) (t : Tables) (queue : Queue) (blame : List (StateId × ReqId)) (stands : StandsFor e.start t queue blame) (aside : StartsUnasked e) (room : HasRoomFor e.start) (req : ReqId) (by_user : e.actor ≡ actors.Ui) (nr : req.0 ≡ length e.start.requests + 1) (reason : Denial) where
+module _ (e : InEvent) (t : Tables) (queue : Queue) (blame : List (StateId × ReqId)) {check : InCheck} (stands : StandsFor check e.start t queue blame) (aside : StartsUnasked e) (room : HasRoomFor e.start) (req : ReqId) (by_user : e.actor ≡ actors.Ui) (nr : req.0 ≡ length e.start.requests + 1) (reason : Denial) where
   abbrev second : LogRow
   second = record { event = e.event; actor = actors.Ui; row = rows.Refused req reason }
 
@@ -45,7 +45,7 @@ module _ (e : InEvent) (t : Tables) (queue : Queue) (blame : List (StateId × Re
         subst (λ (r : LogRow). EachPass (start_of e) (row_of e e.own ∷ r ∷ []) []) (sym (refusal_row e req reason by_user))
         (subst (λ (r : LogRow). EachPass (start_of e) (r ∷ second ∷ []) []) (sym (its_row e req None load by_user own nr aside)) (denied_load_may e.header e.start e.event req nav mode address reason nr denied (unparked e t queue blame stands aside room req load by_user own nr reason refl) [] tt))
 
-    pub load_refused_acts : HasActed e (rows.Refused req reason ∷ []) t queue blame
+    pub load_refused_acts : HasActed check e (rows.Refused req reason ∷ []) t queue blame
     load_refused_acts =
         record {
           stands = denied_stands e t queue blame stands aside room req load by_user own nr reason refl (load_accepted_tab t.running e.start e.event actors.Ui stands.between.tab stands.between.flows req nr nav mode address) (load_accepted_flows t.running e.start e.event actors.Ui stands.between.tab stands.between.flows req nr nav mode address);
@@ -77,7 +77,7 @@ module _ (e : InEvent) (t : Tables) (queue : Queue) (blame : List (StateId × Re
         subst (λ (r : LogRow). EachPass (start_of e) (row_of e e.own ∷ r ∷ []) []) (sym (refusal_row e req reason by_user))
         (subst (λ (r : LogRow). EachPass (start_of e) (r ∷ second ∷ []) []) (sym (its_row e req None poke by_user own nr aside)) (subst (λ (i : ℕ). OfNumber i) (sym event) by_number))
 
-    pub poke_refused_acts : HasActed e (rows.Refused req reason ∷ []) t queue blame
+    pub poke_refused_acts : HasActed check e (rows.Refused req reason ∷ []) t queue blame
     poke_refused_acts =
         record {
           stands = denied_stands e t queue blame stands aside room req poke by_user own nr reason refl (strayed_tab t.running e.start e.event actors.Ui stands.between.tab stands.between.flows req nr nav action) (strayed_flows t.running e.start e.event actors.Ui stands.between.tab stands.between.flows req nr nav action);

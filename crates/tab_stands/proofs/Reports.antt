@@ -44,7 +44,7 @@ use Rattle.tab_doors.specs.Look.{look_of as sights_of, moved_by}
 use Rattle.tab_doors.specs.Ties.{AreInitial, Holds, IsRunning}
 use Rattle.tab_doors.specs.Working.{HasGoal, KeepsRun}
 use Rattle.tab_doors.specs.declared.tables.Tables.{Tables}
-use Rattle.tab_facts.specs.TabEvents.Between.{IsBetween}
+use Rattle.tab_facts.specs.TabEvents.Between.{IsBetweenChecks}
 use Rattle.tab_settles.proofs.Lates.{unstood_by}
 use Rattle.tab_settles.proofs.PassedOn.{AreUpTo, IsBegun, causes_on, fine, serve_on, steps_still, turning_first}
 use Rattle.tab_settles.specs.PassedOn.{AreHeldUp, AreLeftStrays, IsGoing, IsStray, IsTab, LoadsMadeOwn, MayCause, count_of, has_ended, has_spent}
@@ -56,15 +56,15 @@ use Rattle.tab_ids.specs.declared.Step.{Step}
 use Rattle.tab_settles.specs.Settling.{IsTurning}
 use Rattle.tab_stands.proofs.Accepting.{number_low}
 use Rattle.tab_stands.proofs.Coming.{IsComing, OnlyArrives}
-use Rattle.tab_stands.specs.Standing.{HasRoomFor, Lasts, StandsFor, StartsUnasked}
+use Rattle.tab_stands.specs.Standing.{HasRoomFor, InCheck, Lasts, StandsFor, StartsUnasked}
 use Rattle.log_model.specs.declared.made.Report.TheVariants as reports
 use Rattle.log_model.specs.declared.row_kind.Actor.TheVariants as actors
 use Rattle.log_model.specs.declared.row_kind.RowKind.TheVariants as rows
 
 -- with other tables that leave the traversal that runs, all that was so before is
-pub between_as : (t u : Tables) → KeepsRun t u → (s : Seen) → IsBetween t.kept.keep t.running s → IsBetween u.kept.keep u.running s
-between_as t u kept s between =
-    subst (λ (k : ℕ). IsBetween k u.running s) (sym kept.keep) (subst (λ (r : Option ReqId). IsBetween t.kept.keep r s) (sym kept.running) between)
+pub between_as : (t u : Tables) → KeepsRun t u → (s : Seen) → {loads : List ReqId} {waits : Bool} → IsBetweenChecks t.kept.keep t.running loads waits s → IsBetweenChecks u.kept.keep u.running loads waits s
+between_as t u kept s {loads} {waits} between =
+    subst (λ (k : ℕ). IsBetweenChecks k u.running loads waits s) (sym kept.keep) (subst (λ (r : Option ReqId). IsBetweenChecks t.kept.keep r loads waits s) (sym kept.running) between)
 
 pub lasts_as : (t u : Tables) → KeepsRun t u → (s : Seen) → Lasts t.running s → Lasts u.running s
 lasts_as t u kept s lasts = subst (λ (r : Option ReqId). Lasts r s) (sym kept.running) lasts
@@ -73,7 +73,7 @@ pub goal_as : (t u : Tables) → KeepsRun t u → (asked : List Asked) → HasGo
 goal_as t u kept asked has req q is at =
     has req q (sym kept.running ∙ is) at ∙ ap (λ (g : Step). let o : Option Step = Some g in o) (sym kept.goal)
 
-module _ (e : InEvent) (proc : ProcId) (by_coord : e.actor ≡ actors.Coord) (own : e.own ≡ rows.Delivered proc) (t : Tables) (queue : Queue) (blame : List (StateId × ReqId)) (stands : StandsFor e.start t queue blame) (aside : StartsUnasked e) (report : Report) (first : slice_get (desk_of e.start proc).reports 0 ≡ Some report) where
+module _ (e : InEvent) (proc : ProcId) (by_coord : e.actor ≡ actors.Coord) (own : e.own ≡ rows.Delivered proc) (t : Tables) (queue : Queue) (blame : List (StateId × ReqId)) {check : InCheck} (stands : StandsFor check e.start t queue blame) (aside : StartsUnasked e) (report : Report) (first : slice_get (desk_of e.start proc).reports 0 ≡ Some report) where
   abbrev s : Seen
   s = e.start
 

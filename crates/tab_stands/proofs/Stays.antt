@@ -7,7 +7,7 @@ use Rattle.seen_laws.specs.InEvent.{InEvent}
 use Rattle.std.proofs.Common.{List, []}
 use Rattle.tab_settles.specs.PassedOn.{AreLeftStrays, HasQueue, IsGoing}
 use Rattle.tab_doors.specs.declared.tables.Tables.{Tables}
-use Rattle.tab_facts.specs.TabEvents.Between.{IsBetween}
+use Rattle.tab_facts.specs.TabEvents.Between.{IsBetweenChecks}
 use Rattle.tab_ids.specs.declared.ReqId.{ReqId}
 use Rattle.tab_ids.specs.declared.StateId.{StateId}
 use Rattle.tab_settles.specs.Settling.{HoldsParked, IsCalmAfter, MakesServe, OrdersAreSound}
@@ -15,12 +15,12 @@ use Rattle.tab_stands.proofs.Coming.{IsComing, calm_then, parents_then, takers_t
 use Rattle.tab_stands.proofs.MovedEvents.{moved_coming}
 use Rattle.tab_stands.proofs.LateEvents.{late_first, off_of}
 use Rattle.tab_stands.specs.Offs.{AreShownUnder}
-use Rattle.tab_stands.specs.Standing.{Lasts, StandsFor}
+use Rattle.tab_stands.specs.Standing.{InCheck, Lasts, StandsFor}
 
-module _ (e : InEvent) (t : Tables) (queue : Queue) (blame : List (StateId × ReqId)) (stands : StandsFor e.start t queue blame) (n : Seen) (comes : IsComing blame e.start n) (between : IsBetween t.kept.keep t.running n) (going : IsGoing t.running [] [] n) (tied : AreTied n t) (makes : MakesServe n) (sound : OrdersAreSound n) (shows : AreShownUnder n) (duly : AreLeftDuly n) where
+module _ (e : InEvent) (t : Tables) (queue : Queue) (blame : List (StateId × ReqId)) {check : InCheck} (stands : StandsFor check e.start t queue blame) (n : Seen) (comes : IsComing blame e.start n) (between : IsBetweenChecks t.kept.keep t.running check.loads check.holds n) (going : IsGoing t.running check.loads [] n) (tied : AreTied n t) (makes : MakesServe n) (sound : OrdersAreSound n) (shows : AreShownUnder n) (duly : AreLeftDuly n) where
   calm : IsCalmAfter t.running n
   calm =
-      calm_then e t.running t.kept.keep t.goal blame n stands.between stands.lasts stands.tied.goal [] [] between.tab tied.goal comes
+      calm_then e t.running t.kept.keep t.goal blame n stands.between stands.lasts stands.tied.goal check.loads [] between.tab tied.goal comes
 
   lasts : Lasts t.running n
   lasts =
@@ -30,8 +30,8 @@ module _ (e : InEvent) (t : Tables) (queue : Queue) (blame : List (StateId × Re
         steps = going.steps;
         held = going.held;
         were = comes.were;
-        parents = parents_then e t.running t.kept.keep t.goal blame n stands.between stands.lasts stands.tied.goal [] [] between.tab tied.goal comes;
-        takers = takers_then e t.running t.kept.keep t.goal blame n stands.between stands.lasts stands.tied.goal [] [] between.tab tied.goal comes;
+        parents = parents_then e t.running t.kept.keep t.goal blame n stands.between stands.lasts stands.tied.goal check.loads [] between.tab tied.goal comes;
+        takers = takers_then e t.running t.kept.keep t.goal blame n stands.between stands.lasts stands.tied.goal check.loads [] between.tab tied.goal comes;
         calm = calm;
         shows = shows;
         off = off_of n shows between.tab.standing t.running calm (late_first blame e.start n comes t.running between.tab.standing stands.lasts.off);
@@ -42,6 +42,6 @@ module _ (e : InEvent) (t : Tables) (queue : Queue) (blame : List (StateId × Re
         duly = duly;
       }
 
-  pub stands_still : AreLeftStrays n blame → HasQueue n t.running queue.waiting → HoldsParked n queue.parked → StandsFor n t queue blame
+  pub stands_still : AreLeftStrays n blame → HasQueue n t.running queue.waiting → HoldsParked n queue.parked → StandsFor check n t queue blame
   stands_still strays queued parked =
-      record { between = between; lasts = lasts; tied = tied; strays = strays; queue = queued; parked = parked }
+      record { between = between; alone = stands.alone; lasts = lasts; tied = tied; strays = strays; queue = queued; parked = parked }

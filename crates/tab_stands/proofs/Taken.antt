@@ -56,7 +56,7 @@ use Rattle.tab_stands.proofs.Reports.{told_row}
 use Rattle.tab_stands.proofs.Taking.{begun, there_now, unparked_now, unstarted}
 use Rattle.tab_stands.specs.Delivering.{IsDelivery, IsToldOf}
 use Rattle.tab_stands.specs.Offs.{AreOffKnown, IsOffSince}
-use Rattle.tab_stands.specs.Standing.{HasBegun, HasRoomFor, IsTakenUp, StandsFor, StartsUnasked}
+use Rattle.tab_stands.specs.Standing.{HasBegun, HasRoomFor, InCheck, IsTakenUp, StandsFor, StartsUnasked}
 use Rattle.seen_facts.proofs.Walk.Placed.{found_nav}
 use Rattle.log_model.specs.declared.request.Request.TheVariants as requests
 use Rattle.log_model.specs.declared.job.Why.TheVariants as whys
@@ -80,7 +80,7 @@ theirs_ended s n req its theirs r q made at load makes =
     by_home (Some d) there same =
         record { d = d; found = there; nav_is = ap (λ (w : Wish). nav_of_request w.what) (sym asked.2) ∙ had.nav_is ∙ sym same }
 
-module _ (e : InEvent) (proc : ProcId) (report : Report) (made : Made) (del : IsDelivery e proc report) (tells : IsToldOf report made) (t : Tables) (queue : Queue) (blame : List (StateId × ReqId)) (stands : StandsFor e.start t queue blame) (aside : StartsUnasked e) (changes : changes_history made.what ≡ true) (free : is_held_back e.start made ≡ false) (room : HasRoomFor e.start) (header : t.kept.keep ≡ e.header.keep) (out : List RowKind) (u : Tables) (noted : List (StateId × ReqId)) (taken : HasTaken (record { event = e; loads = []; hand = made ∷ [] }) t made [] out u noted) where
+module _ (e : InEvent) (proc : ProcId) (report : Report) (made : Made) (del : IsDelivery e proc report) (tells : IsToldOf report made) (t : Tables) (queue : Queue) (blame : List (StateId × ReqId)) {check : InCheck} (stands : StandsFor check e.start t queue blame) (aside : StartsUnasked e) (changes : changes_history made.what ≡ true) (free : is_held_back e.start made ≡ false) (room : HasRoomFor e.start) (header : t.kept.keep ≡ e.header.keep) (out : List RowKind) (u : Tables) (noted : List (StateId × ReqId)) (taken : HasTaken (record { event = e; loads = check.loads; hand = made ∷ [] }) t made [] out u noted) where
   abbrev s : Seen
   s = e.start
 
@@ -90,7 +90,7 @@ module _ (e : InEvent) (proc : ProcId) (report : Report) (made : Made) (del : Is
   abbrev n : Seen
   n = now_of e out
 
-  first : HasBegun (record { event = e; loads = []; hand = made ∷ [] }) t queue blame
+  first : HasBegun (record { event = e; loads = check.loads; hand = made ∷ [] }) t queue blame
   first = begun e proc report made del tells t queue blame stands aside changes free room header
 
   its : IsEnding f n made.req
@@ -109,7 +109,7 @@ module _ (e : InEvent) (proc : ProcId) (report : Report) (made : Made) (del : Is
   release : MayRelease e []
   release = hand_release e proc report made del tells t queue blame stands aside free
 
-  queueing : IsQueueing (record { event = e; loads = []; hand = [] }) out u queue
+  queueing : IsQueueing (record { event = e; loads = check.loads; hand = [] }) out u queue
   queueing =
       record {
         turning = turning_on e [] out (inl parked_out) its.wishes (λ req has. ap (λ (l : List ReqId). has_req l req) (sym joined_out) ∙ has) first.queueing.turning;
@@ -130,8 +130,8 @@ module _ (e : InEvent) (proc : ProcId) (report : Report) (made : Made) (del : Is
           let none : has_traversed e out ≡ false = ap (λ (l : List RowKind). has_traversed e l) taken.ended.out ∙ ap (λ (b : Bool). b || false) taken.ended.no_turn in
           let never_ : true ≡ false = sym ended ∙ none in cc
 
-  passing : IsPassing (record { event = e; loads = []; hand = [] }) out u
-  passing = subst (λ (l : List Made). IsPassing (record { event = e; loads = []; hand = l }) out u) none_left taken.passing
+  passing : IsPassing (record { event = e; loads = check.loads; hand = [] }) out u
+  passing = subst (λ (l : List Made). IsPassing (record { event = e; loads = check.loads; hand = l }) out u) none_left taken.passing
     where
       none_left : without_made made.req (made ∷ []) ≡ []
       none_left = rw (itself made.req) refl
@@ -231,7 +231,7 @@ module _ (e : InEvent) (proc : ProcId) (report : Report) (made : Made) (del : Is
       by_run (Some run) calm off = tt
       by_run None calm off = late_one calm off
 
-  pub taken_ready : IsReady (record { event = e; loads = []; hand = [] }) out u queue noted (whys.Req made.req)
+  pub taken_ready : IsReady (record { event = e; loads = check.loads; hand = [] }) out u queue noted (whys.Req made.req)
   taken_ready =
       record {
         passing = passing;

@@ -22,14 +22,14 @@ use Rattle.seen_facts.specs.Home.Homes.{document_in}
 use Rattle.move_queue.specs.Queue.{Queue}
 use Rattle.seen_facts.proofs.Request.Endings.{due_small}
 use Rattle.seen_facts.proofs.Request.Placings.{IsNoGo}
-use Rattle.seen_facts.proofs.Request.Times.{itself, times_none}
+use Rattle.seen_facts.proofs.Request.Times.{itself, times_append, times_none}
 use Rattle.seen_facts.specs.Request.Cores.{Core}
 use Rattle.seen_facts.specs.Request.Knowns.{is_go}
 use Rattle.seen_facts.specs.Request.Whereabouts.{times, times_due, times_found}
 use Rattle.seen_facts.specs.LoadWhereabouts.Whereabouts.{times_on_way}
 use Rattle.seen_laws.proofs.Sums.{over}
 use Rattle.seen_laws.specs.InEvent.{InEvent, here_of, now_of, row_of}
-use Rattle.std.proofs.Common.{Bool, List, None, Option, Some, [], ap, arith, false, inl, inr, length, refl, sym, true, ◌+◌, ◌==◌, ◌||◌, ◌∙◌, ◌∷◌, ◌≡◌, ◌≤◌, ◌⊎◌, subst}
+use Rattle.std.proofs.Common.{Bool, List, None, Option, Some, [], ap, arith, false, inl, inr, length, refl, subst, sym, true, ℕ, ◌+◌, ◌==◌, ◌||◌, ◌∙◌, ◌∷◌, ◌≡◌, ◌≤◌, ◌⊎◌}
 use Rattle.std.proofs.lemmas.Bool.Decides.{nat_tests}
 use Rattle.std.proofs.lemmas.Bool.{or_left}
 use Rattle.std.specs.List.{list_any}
@@ -45,7 +45,7 @@ use Rattle.tab_stands.proofs.Dones.{held_first}
 use Rattle.tab_stands.proofs.Hands.{hand_begun}
 use Rattle.tab_stands.proofs.Mades.{IsMadeFor, heard, heard_documents, heard_now, heard_parked, heard_requests, its_asked, its_nav, its_plain}
 use Rattle.tab_stands.specs.Delivering.{IsDelivery, IsToldOf}
-use Rattle.tab_stands.specs.Standing.{HasBegun, HasRoomFor, StandsFor, StartsUnasked}
+use Rattle.tab_stands.specs.Standing.{HasBegun, HasRoomFor, InCheck, StandsFor, StartsUnasked}
 use Rattle.log_model.specs.declared.made.What.TheVariants as whats
 use Rattle.log_model.specs.declared.request.Request.TheVariants as requests
 use Rattle.log_model.specs.declared.row_kind.RowKind.TheVariants as rows
@@ -62,7 +62,7 @@ changes_no_go whats.Edit is = tt
 here_now : (e : InEvent) → StartsUnasked e → (here_of e []).now ≡ now_of e []
 here_now e aside = aside.plain
 
-module _ (e : InEvent) (proc : ProcId) (report : Report) (made : Made) (del : IsDelivery e proc report) (tells : IsToldOf report made) (t : Tables) (queue : Queue) (blame : List (StateId × ReqId)) (stands : StandsFor e.start t queue blame) (aside : StartsUnasked e) (changes : changes_history made.what ≡ true) (free : is_held_back e.start made ≡ false) (room : HasRoomFor e.start) (header : t.kept.keep ≡ e.header.keep) where
+module _ (e : InEvent) (proc : ProcId) (report : Report) (made : Made) (del : IsDelivery e proc report) (tells : IsToldOf report made) (t : Tables) (queue : Queue) (blame : List (StateId × ReqId)) {check : InCheck} (stands : StandsFor check e.start t queue blame) (aside : StartsUnasked e) (changes : changes_history made.what ≡ true) (free : is_held_back e.start made ≡ false) (room : HasRoomFor e.start) (header : t.kept.keep ≡ e.header.keep) where
   abbrev s : Seen
   s = e.start
 
@@ -82,12 +82,12 @@ module _ (e : InEvent) (proc : ProcId) (report : Report) (made : Made) (del : Is
   no_go = changes_no_go made.what changes
 
   abbrev p : InPass
-  p = record { event = e; loads = []; hand = made ∷ [] }
+  p = record { event = e; loads = check.loads; hand = made ∷ [] }
 
   pub begun : HasBegun p t queue blame
   begun = hand_begun e proc report made del tells t queue blame stands aside no_go free room header
 
-  tab : IsTab t.running [] (made ∷ []) n
+  tab : IsTab t.running check.loads (made ∷ []) n
   tab = hand_tab t.running s e.event proc stands.between.tab stands.between.flows report made del.first tells no_go free
 
   parked_same : n.parked ≡ s.parked
@@ -95,11 +95,13 @@ module _ (e : InEvent) (proc : ProcId) (report : Report) (made : Made) (del : Is
 
   -- ---- it is at hand alone
 
-  once : times_found made.req n.desks n.joined n.parked (at_hand [] (made ∷ [])) + times_on_way (request_in n.requests made.req) ≡ times_due (request_in n.requests made.req)
-  once = all_once t.running [] (made ∷ []) n tab made.req
+  once : times_found made.req n.desks n.joined n.parked (at_hand check.loads (made ∷ [])) + times_on_way (request_in n.requests made.req) ≡ times_due (request_in n.requests made.req)
+  once = all_once t.running check.loads (made ∷ []) n tab made.req
 
-  one_here : times made.req (made.req ∷ []) ≡ 1
-  one_here = rw (itself made.req) refl
+  one_here : times made.req (at_hand check.loads (made ∷ [])) ≡ times made.req check.loads + 1
+  one_here =
+      times_append made.req check.loads (made.req ∷ [])
+      ∙ ap (λ (k : ℕ). times made.req check.loads + k) (let own : times made.req (made.req ∷ []) ≡ 1 = rw (itself made.req) refl in own)
 
   pub unparked : has_req n.parked made.req ≡ false
   unparked = times_none made.req n.parked (let few = due_small (request_in n.requests made.req) in omega (arith, once, one_here, few))
@@ -215,12 +217,12 @@ module _ (e : InEvent) (proc : ProcId) (report : Report) (made : Made) (del : Is
         held = λ kind_ ends. ends_other e [] kind_ made.req (ends, ends_parked e kind_ made.req ends) (ap (λ (l : List ReqId). has_req l made.req) (sym (held_first e)) ∙ unparked_now) unparked_now;
       }
 
-  pub hand_to_take : IsToTake (record { event = e; loads = []; hand = made ∷ [] }) [] t blame made
+  pub hand_to_take : IsToTake (record { event = e; loads = check.loads; hand = made ∷ [] }) [] t blame made
   hand_to_take =
       record {
         passing = begun.passing;
         taking = for_taking;
         open_ = begun.taking;
         loose = begun.loose;
-        arrived = stand_arrives t.running [] (made ∷ []) (now_of e []) begun.passing.going.tab (stand_bare (now_of e []) begun.stand);
+        arrived = stand_arrives t.running check.loads (made ∷ []) (now_of e []) begun.passing.going.tab (stand_bare (now_of e []) begun.stand);
       }

@@ -17,26 +17,30 @@ use Rattle.std.proofs.lemmas.Bool.{and_parts}
 use Rattle.std.specs.Prelude.{is_some, option_and_then}
 use Rattle.tab_settles.specs.PassedOn.{AreStepsOf, AwaitTurns, HasQueue, HaveJoined, delta_in, is_traverse}
 use Rattle.tab_doors.specs.declared.tables.Tables.{Tables}
-use Rattle.tab_facts.specs.TabEvents.Between.{IsBetween}
+use Rattle.tab_facts.specs.TabEvents.Between.{IsBetweenChecks}
 use Rattle.tab_ids.specs.declared.DocId.{DocId}
 use Rattle.tab_ids.specs.declared.ReqId.{ReqId}
 use Rattle.tab_ids.specs.declared.StateId.{StateId}
 use Rattle.tab_settles.proofs.PassedOn.{passed_is, running_is}
-use Rattle.tab_settles.specs.Settling.{IsQueueing, IsTurning}
+use Rattle.tab_settles.specs.Settling.{IsQueueing, IsTurning, NoneRunsWhileHeld}
 use Rattle.tab_stands.proofs.Accepting.{new, now, old_or_new, parked_now, stays, went}
-use Rattle.tab_stands.specs.Standing.{StandsFor, StartsUnasked}
+use Rattle.tab_stands.specs.Standing.{InCheck, StandsFor, StartsUnasked}
 use Rattle.log_model.specs.declared.row_kind.Actor.TheVariants as actors
 use Rattle.log_model.specs.declared.row_kind.RowKind.TheVariants as rows
 
 -- ---- a traversal that runs
 
 -- between two events, where one runs, not all stand where it leads to
-pub off_where_runs : (keep : ℕ) (run : Option ReqId) (s : Seen) → IsBetween keep run s → (req : ReqId) → run ≡ Some req → all_stand s (aim_of s) ≡ false
+pub off_where_runs : (keep : ℕ) (run : Option ReqId) (s : Seen) {loads : List ReqId} {waits : Bool} → IsBetweenChecks keep run loads waits s → NoneRunsWhileHeld waits run → (req : ReqId) → run ≡ Some req → all_stand s (aim_of s) ≡ false
 unfolding ends_stepped
-off_where_runs keep run s between req is = off (all_stand s (aim_of s)) (some ∙ reason)
+off_where_runs keep run s {loads} {waits} between alone req is = off (all_stand s (aim_of s)) (some ∙ reason)
   where
     reason : has_reason_to_run s ≡ true
-    reason = (and_parts (has_reason_to_run s) _ (between.stepped refl)).0
+    reason = (and_parts (has_reason_to_run s) _ (between.stepped (free waits refl))).0
+      where
+        free : (b : Bool) → waits ≡ b → waits ≡ false
+        free false same = same
+        free true same = absurd (let never : None ≡ Some req = sym (alone same) ∙ is in cc)
 
     ran : IsThere s req
     ran = between.tab.asked.runs req is
@@ -77,7 +81,7 @@ module _ (old asked : List Asked) (stay : (req : ReqId) (q : Asked) → request_
 
 -- ---- the row
 
-module _ (e : InEvent) (req : ReqId) (doc : Option DocId) (what : Request) (by_user : e.actor ≡ actors.Ui) (own : e.own ≡ rows.Accepted req doc what) (nr : req.0 ≡ length e.start.requests + 1) (aside : StartsUnasked e) (t : Tables) (queue : Queue) (blame : List (StateId × ReqId)) (stands : StandsFor e.start t queue blame) where
+module _ (e : InEvent) (req : ReqId) (doc : Option DocId) (what : Request) (by_user : e.actor ≡ actors.Ui) (own : e.own ≡ rows.Accepted req doc what) (nr : req.0 ≡ length e.start.requests + 1) (aside : StartsUnasked e) (t : Tables) (queue : Queue) (blame : List (StateId × ReqId)) {check : InCheck} (stands : StandsFor check e.start t queue blame) where
   abbrev s : Seen
   s = e.start
 
@@ -119,7 +123,7 @@ module _ (e : InEvent) (req : ReqId) (doc : Option DocId) (what : Request) (by_u
       by_run : (o : Option ReqId) → t.running ≡ o → ⊥
       by_run None is = some (held_now is)
       by_run (Some run) is =
-          let off : all_stand s (aim_of s) ≡ false = off_where_runs t.kept.keep t.running s stands.between run is in
+          let off : all_stand s (aim_of s) ≡ false = off_where_runs t.kept.keep t.running s stands.between stands.alone run is in
           let never : true ≡ false = sym all ∙ same ∙ off in
           cc
 

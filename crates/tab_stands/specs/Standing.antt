@@ -13,14 +13,14 @@ use Rattle.move_queue.specs.Queue.{Queue}
 use Rattle.row_facts.specs.Owed.Owed.{IsLoose}
 use Rattle.seen_laws.specs.Blocks.{EachPass}
 use Rattle.seen_laws.specs.InEvent.{InEvent, IsTakenIn, log_of, now_of, row_of, start_of, here_of, seen_here}
-use Rattle.std.specs.Prelude.{List, None, Option, [], length, map, ℕ, ◌++◌, ◌+◌, ◌<◌, ◌∷◌, ◌≡◌, false}
+use Rattle.std.specs.Prelude.{Bool, List, None, Option, [], length, map, ℕ, ◌++◌, ◌+◌, ◌<◌, ◌∷◌, ◌≡◌, false}
 use Rattle.tab_settles.specs.PassedOn.{AreCounted, AreHeldUp, AreLeftStrays, AreSteps, HasQueue, InPass, IsPassing, IsTaking, LoadsMadeOwn, ParentsShown, TakersServe}
 use Rattle.tab_doors.specs.declared.tables.Tables.{Tables}
-use Rattle.tab_facts.specs.TabEvents.Between.{IsBetween}
+use Rattle.tab_facts.specs.TabEvents.Between.{IsBetweenChecks}
 use Rattle.tab_ids.specs.declared.ProcId.{ProcId}
 use Rattle.tab_ids.specs.declared.ReqId.{ReqId}
 use Rattle.tab_ids.specs.declared.StateId.{StateId}
-use Rattle.tab_settles.specs.Settling.{HoldsParked, IsCalmAfter, MakesServe, MovedAreShown, OrdersAreSound}
+use Rattle.tab_settles.specs.Settling.{HoldsParked, IsCalmAfter, MakesServe, MovedAreShown, NoneRunsWhileHeld, OrdersAreSound}
 use Rattle.tab_settles.specs.Offs.{LateKnown}
 use Rattle.tab_stands.specs.Offs.{AreOffKnown, AreShownUnder}
 pub use Rattle.tab_settles.specs.Settling.{IsQueueing}
@@ -55,9 +55,20 @@ pub record Lasts (run : Option ReqId) (s : Seen) : Type 0 where
   -- whom requests leave was asked
   pub duly : AreLeftDuly s
 
--- the coordinator's tables, its queue and the requests that are noted for stray documents stand for what the log has come to
-pub record StandsFor (s : Seen) (t : Tables) (moves : Queue) (blame : List (StateId × ReqId)) : Type 0 where
-  pub between : IsBetween t.kept.keep t.running s
+-- what is in its unload check between two events: these loads, which are at hand, and one traversal, which holds the queue, or none
+pub record InCheck : Type 0 where
+  pub loads : List ReqId
+  pub holds : Bool
+
+-- nothing is
+abbrev pub none_in_check : InCheck
+none_in_check = record { loads = []; holds = false }
+
+-- the coordinator's tables, its queue and the requests that are noted for stray documents stand for what the log has come to, with this in its check
+pub record StandsFor (check : InCheck) (s : Seen) (t : Tables) (moves : Queue) (blame : List (StateId × ReqId)) : Type 0 where
+  pub between : IsBetweenChecks t.kept.keep t.running check.loads check.holds s
+  -- while a traversal in its check holds the queue, none runs
+  pub alone : NoneRunsWhileHeld check.holds t.running
   pub lasts : Lasts t.running s
   pub tied : AreTied s t
   pub strays : AreLeftStrays s blame
@@ -106,7 +117,7 @@ pub record HasBegun (p : InPass) (t : Tables) (queue : Queue) (blame : List (Sta
 abbrev pub IsTakenUp : InEvent → List RowKind → Type 0
 IsTakenUp e out = (later : List LogRow) → IsTakenIn e (map (row_of e) out ++ later)
 
--- the event ends with these rows, each of which passes, and the coordinator stands for what the log has come to
-pub record HasActed (e : InEvent) (out : List RowKind) (t : Tables) (queue : Queue) (blame : List (StateId × ReqId)) : Type 0 where
-  pub stands : StandsFor (log_of e out) t queue blame
+-- the event ends with these rows, each of which passes, and the coordinator stands for what the log has come to, with this in its check
+pub record HasActed (check : InCheck) (e : InEvent) (out : List RowKind) (t : Tables) (queue : Queue) (blame : List (StateId × ReqId)) : Type 0 where
+  pub stands : StandsFor check (log_of e out) t queue blame
   pub passes : EachPass (start_of e) (row_of e e.own ∷ map (row_of e) out) []

@@ -16,7 +16,7 @@ use Rattle.tab_ids.specs.declared.StateId.{StateId}
 use Rattle.tab_stands.proofs.Awaited.{awaited_own}
 use Rattle.tab_stands.proofs.Unmade.{d, its_found}
 use Rattle.tab_stands.specs.PassedOn.{IsPassing, IsReady, IsStray, MayCause}
-use Rattle.tab_stands.specs.Standing.{HasRoomFor, StandsFor}
+use Rattle.tab_stands.specs.Standing.{HasRoomFor, InCheck, StandsFor}
 use Rattle.tab_sweeps.specs.Unneeded.{IsUnneeded}
 use Rattle.tab_unneeded.proofs.Needs.{made_unneeded}
 use Rattle.tab_unneeded.proofs.Notes.{noted_passing}
@@ -26,7 +26,7 @@ use Rattle.log_model.specs.declared.job.Task.TheVariants as tasks
 use Rattle.log_model.specs.declared.job.Why.TheVariants as whys
 use Rattle.log_model.specs.declared.row_kind.RowKind.TheVariants as rows
 
-module _ (m : InMade) (doc : DocId) (state : StateId) (why : Why) (its : IsMadeUnneeded m doc state why) (t : Tables) (stands : StandsFor m.event.start t m.queue m.noted) (room : HasRoomFor m.event.start) (header : t.kept.keep ≡ m.event.header.keep) where
+module _ (m : InMade) (doc : DocId) (state : StateId) (why : Why) (its : IsMadeUnneeded m doc state why) (t : Tables) {check : InCheck} (stands : StandsFor check m.event.start t m.queue m.noted) (room : HasRoomFor m.event.start) (header : t.kept.keep ≡ m.event.header.keep) where
   -- the tables have its process
   pub proc_as : IsSome (proc_in t.whose.entries doc)
   proc_as =
@@ -43,7 +43,7 @@ module _ (m : InMade) (doc : DocId) (state : StateId) (why : Why) (its : IsMadeU
   own_stray = subst (λ (x : DocId). IsStray (now_of m.event []) x state) (sym its.doc_is) its.stray
 
   module _ (one_each : HasOneEach t.loads) (u : Tables) (one : PlacesOne state doc t u) (kept : KeepsRun t u) where
-    passing : IsPassing (record { event = m.event; loads = []; hand = [] }) [] u
+    passing : IsPassing (record { event = m.event; loads = check.loads; hand = [] }) [] u
     passing =
         noted_passing m.event m.proc m.job m.outcome its.tells t m.queue m.noted stands its.aside its.nav state its.address its.initial its.task one_each u (subst (λ (x : DocId). PlacesOne state x t u) (sym its.doc_is) one) kept room
 
@@ -51,9 +51,9 @@ module _ (m : InMade) (doc : DocId) (state : StateId) (why : Why) (its : IsMadeU
     may_as old req is = absurd (its.unasked req is)
 
     module _ (old : List RowKind) (first : old ≡ []) where
-      pub passing_as : IsPassing (record { event = m.event; loads = []; hand = [] }) old u
+      pub passing_as : IsPassing (record { event = m.event; loads = check.loads; hand = [] }) old u
       passing_as =
-          subst (λ (l : List RowKind). IsPassing (record { event = m.event; loads = []; hand = [] }) l u) (sym first) passing
+          subst (λ (l : List RowKind). IsPassing (record { event = m.event; loads = check.loads; hand = [] }) l u) (sym first) passing
 
       pub unneeded_as : IsUnneeded m.event (now_of m.event old) doc state
       unneeded_as =
@@ -66,13 +66,13 @@ module _ (m : InMade) (doc : DocId) (state : StateId) (why : Why) (its : IsMadeU
             put
             ∙ ap (λ (l : List RowKind). l ++ rows.Sent (order_to (now_of m.event l) doc why tasks.Discard) ∷ []) first
 
-        module _ (v : Tables) (keeps : KeepsStore u v) (then_ : IsPassing (record { event = m.event; loads = []; hand = [] }) out v) where
+        module _ (v : Tables) (keeps : KeepsStore u v) (then_ : IsPassing (record { event = m.event; loads = check.loads; hand = [] }) out v) where
           own_out : out ≡ rows.Sent (order_to (now_of m.event []) m.job.doc why tasks.Discard) ∷ []
           own_out =
               out_as
               ∙ ap (λ (x : DocId). let l : List RowKind = rows.Sent (order_to (now_of m.event []) x why tasks.Discard) ∷ [] in l) (sym its.doc_is)
 
-          pub ready_as : IsReady (record { event = m.event; loads = []; hand = [] }) out v m.queue m.noted whys.Start
+          pub ready_as : IsReady (record { event = m.event; loads = check.loads; hand = [] }) out v m.queue m.noted whys.Start
           ready_as =
               discarded_ready m.event m.proc m.job m.outcome its.tells t m.queue m.noted stands its.aside its.nav state its.address its.initial its.task why its.unasked own_stray u kept passing out v own_out keeps then_ header
 

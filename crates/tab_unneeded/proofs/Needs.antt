@@ -29,14 +29,14 @@ use Rattle.tab_stands.proofs.Reports.{told_kept}
 use Rattle.tab_stands.proofs.Unmade.{d, its_found, its_outcome, not_ready, places_now}
 use Rattle.tab_stands.specs.Delivering.{IsDelivery}
 use Rattle.tab_stands.specs.PassedOn.{IsStray, IsTab}
-use Rattle.tab_stands.specs.Standing.{StandsFor, StartsUnasked}
+use Rattle.tab_stands.specs.Standing.{InCheck, StandsFor, StartsUnasked}
 use Rattle.tab_sweeps.specs.Unneeded.{IsUnneeded}
 use Rattle.row_facts.proofs.WalkRows.Sleeping.{no_shower, nobody_awake}
 use Rattle.log_model.specs.declared.job.Task.TheVariants as tasks
 use Rattle.log_model.specs.declared.made.Report.TheVariants as reports
 use Rattle.log_model.specs.declared.outcome.Outcome.TheVariants as outcomes
 
-module _ (e : InEvent) (proc : ProcId) (job : Job) (outcome : Outcome) (del : IsDelivery e proc (reports.Done job outcome None)) (t : Tables) (queue : Queue) (blame : List (StateId × ReqId)) (stands : StandsFor e.start t queue blame) (aside : StartsUnasked e) (nav : NavId) (state : StateId) (address : List ℕ) (initial : Bool) (task : job.task ≡ tasks.Populate nav state address initial) where
+module _ (e : InEvent) (proc : ProcId) (job : Job) (outcome : Outcome) (del : IsDelivery e proc (reports.Done job outcome None)) (t : Tables) (queue : Queue) (blame : List (StateId × ReqId)) {check : InCheck} (stands : StandsFor check e.start t queue blame) (aside : StartsUnasked e) (nav : NavId) (state : StateId) (address : List ℕ) (initial : Bool) (task : job.task ≡ tasks.Populate nav state address initial) where
   abbrev s : Seen
   s = e.start
 
@@ -59,9 +59,9 @@ module _ (e : InEvent) (proc : ProcId) (job : Job) (outcome : Outcome) (del : Is
   place_same : (x : NavId) → place_of n x ≡ place_of s x
   place_same x = ap (λ (l : List Place). place_in l x) places_same
 
-  pub tab_made : IsTab t.running [] [] n
+  pub tab_made : IsTab t.running check.loads [] n
   tab_made =
-      subst (λ (x : Seen). IsTab t.running [] [] x) (sym (did_now e proc job outcome del t queue blame stands aside)) (did_tab e proc job outcome del t queue blame stands aside)
+      subst (λ (x : Seen). IsTab t.running check.loads [] x) (sym (did_now e proc job outcome del t queue blame stands aside)) (did_tab e proc job outcome del t queue blame stands aside)
 
   -- ---- nobody is awake on it
 

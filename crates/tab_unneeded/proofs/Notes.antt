@@ -45,12 +45,12 @@ use Rattle.tab_stands.proofs.Reports.{told_going, told_held, told_kept, told_leg
 use Rattle.tab_stands.proofs.Unmade.{being, d, documents_now, its_own, its_outcome, made_at, made_of, places_now, seen_found, undiscarded, unknown, unplaced}
 use Rattle.tab_stands.specs.Delivering.{IsDelivery}
 use Rattle.tab_stands.specs.PassedOn.{IsGoing, IsPassing}
-use Rattle.tab_stands.specs.Standing.{HasRoomFor, StandsFor, StartsUnasked}
+use Rattle.tab_stands.specs.Standing.{HasRoomFor, InCheck, StandsFor, StartsUnasked}
 use Rattle.log_model.specs.declared.job.Task.TheVariants as tasks
 use Rattle.log_model.specs.declared.made.Report.TheVariants as reports
 use Rattle.log_model.specs.declared.row_kind.Actor.TheVariants as actors
 
-module _ (e : InEvent) (proc : ProcId) (job : Job) (outcome : Outcome) (del : IsDelivery e proc (reports.Done job outcome None)) (t : Tables) (queue : Queue) (blame : List (StateId × ReqId)) (stands : StandsFor e.start t queue blame) (aside : StartsUnasked e) (nav : NavId) (state : StateId) (address : List ℕ) (initial : Bool) (task : job.task ≡ tasks.Populate nav state address initial) (one_each : HasOneEach t.loads) where
+module _ (e : InEvent) (proc : ProcId) (job : Job) (outcome : Outcome) (del : IsDelivery e proc (reports.Done job outcome None)) (t : Tables) (queue : Queue) (blame : List (StateId × ReqId)) {check : InCheck} (stands : StandsFor check e.start t queue blame) (aside : StartsUnasked e) (nav : NavId) (state : StateId) (address : List ℕ) (initial : Bool) (task : job.task ≡ tasks.Populate nav state address initial) (one_each : HasOneEach t.loads) where
   abbrev report : Report
   report = reports.Done job outcome None
 
@@ -107,11 +107,11 @@ module _ (e : InEvent) (proc : ProcId) (job : Job) (outcome : Outcome) (del : Is
     checks =
         checks_first e aside t.running (subst (λ (x : Seen). ArePlain t.running x) (sym (did_now e proc job outcome del t queue blame stands aside)) (did_tab e proc job outcome del t queue blame stands aside).asked)
 
-    pub noted_passing : HasRoomFor e.start → IsPassing (record { event = e; loads = []; hand = [] }) [] u
+    pub noted_passing : HasRoomFor e.start → IsPassing (record { event = e; loads = check.loads; hand = [] }) [] u
     noted_passing room =
         record {
           work = work_first e u aside checks (λ r q at. (stands.between.tab.asked.each r q at).nr) own_leads (subst (λ (a : Actor). IsWorker a) (sym del.by_coord) tt) (told_legal e proc del.by_coord del.own t queue blame stands aside report del.first) noted_tied;
-          going = subst (λ (r : Option ReqId). IsGoing r [] [] (now_of e [])) (sym kept.running) (told_going e proc del.by_coord del.own t queue blame stands aside report del.first same room [] [] (did_tab e proc job outcome del t queue blame stands aside) (told_held e proc del.by_coord del.own t queue blame stands aside report del.first same (did_parked e proc job outcome del t queue blame stands aside)) (rw (places_now e proc job outcome del t queue blame stands aside nav state address initial task) stands.lasts.counted.epochs));
+          going = subst (λ (r : Option ReqId). IsGoing r check.loads [] (now_of e [])) (sym kept.running) (told_going e proc del.by_coord del.own t queue blame stands aside report del.first same room check.loads [] (did_tab e proc job outcome del t queue blame stands aside) (told_held e proc del.by_coord del.own t queue blame stands aside report del.first same (did_parked e proc job outcome del t queue blame stands aside)) (rw (places_now e proc job outcome del t queue blame stands aside nav state address initial task) stands.lasts.counted.epochs));
           owed = loose_owed e [] (loose_first e);
           loose = λ all. loose_first e;
           rests = told_rests e proc del.by_coord del.own t queue blame stands aside report del.first;

@@ -39,14 +39,14 @@ use Rattle.tab_stands.proofs.Ready.{calm_before}
 use Rattle.tab_stands.proofs.Reports.{between_as, goal_as, lasts_as, told_turning}
 use Rattle.tab_stands.specs.Delivering.{IsDelivery}
 use Rattle.tab_stands.specs.PassedOn.{AreUnheld, HasQueue, IsPassing, IsQueueing, IsReady, IsStray, IsTaking, LateKnown, LeavesQueue, MayRelease, MovedAreShown}
-use Rattle.tab_stands.specs.Standing.{StandsFor, StartsUnasked}
+use Rattle.tab_stands.specs.Standing.{InCheck, StandsFor, StartsUnasked}
 use Rattle.tab_unneeded.proofs.Comes.{discarded_comes, discarded_usable, requests_same, then_is}
 use Rattle.log_model.specs.declared.job.Task.TheVariants as tasks
 use Rattle.log_model.specs.declared.job.Why.TheVariants as whys
 use Rattle.log_model.specs.declared.made.Report.TheVariants as reports
 use Rattle.log_model.specs.declared.row_kind.RowKind.TheVariants as rows
 
-module _ (e : InEvent) (proc : ProcId) (job : Job) (outcome : Outcome) (del : IsDelivery e proc (reports.Done job outcome None)) (t : Tables) (queue : Queue) (blame : List (StateId × ReqId)) (stands : StandsFor e.start t queue blame) (aside : StartsUnasked e) (nav : NavId) (state : StateId) (address : List ℕ) (initial : Bool) (task : job.task ≡ tasks.Populate nav state address initial) (why : Why) (unasked : (req : ReqId) → why ≡ whys.Req req → ⊥) (stray : IsStray (now_of e []) job.doc state) (u : Tables) (noted : KeepsRun t u) (first : IsPassing (record { event = e; loads = []; hand = [] }) [] u) (out : List RowKind) (v : Tables) (is : out ≡ rows.Sent (order_to (now_of e []) job.doc why tasks.Discard) ∷ []) (keeps : KeepsStore u v) (passing : IsPassing (record { event = e; loads = []; hand = [] }) out v) (header : t.kept.keep ≡ e.header.keep) where
+module _ (e : InEvent) (proc : ProcId) (job : Job) (outcome : Outcome) (del : IsDelivery e proc (reports.Done job outcome None)) (t : Tables) (queue : Queue) (blame : List (StateId × ReqId)) {check : InCheck} (stands : StandsFor check e.start t queue blame) (aside : StartsUnasked e) (nav : NavId) (state : StateId) (address : List ℕ) (initial : Bool) (task : job.task ≡ tasks.Populate nav state address initial) (why : Why) (unasked : (req : ReqId) → why ≡ whys.Req req → ⊥) (stray : IsStray (now_of e []) job.doc state) (u : Tables) (noted : KeepsRun t u) (first : IsPassing (record { event = e; loads = check.loads; hand = [] }) [] u) (out : List RowKind) (v : Tables) (is : out ≡ rows.Sent (order_to (now_of e []) job.doc why tasks.Discard) ∷ []) (keeps : KeepsStore u v) (passing : IsPassing (record { event = e; loads = check.loads; hand = [] }) out v) (header : t.kept.keep ≡ e.header.keep) where
   abbrev s : Seen
   s = e.start
 
@@ -80,14 +80,14 @@ module _ (e : InEvent) (proc : ProcId) (job : Job) (outcome : Outcome) (del : Is
 
   taking : IsTaking e v.running blame n
   taking =
-      taking_then e v.running v.kept.keep v.goal blame n (between_as t v kept_run s stands.between) (lasts_as t v kept_run s stands.lasts) (goal_as t v kept_run s.requests stands.tied.goal) [] [] passing.going.tab passing.work.goal comes unheld
+      taking_then e v.running v.kept.keep v.goal blame n (between_as t v kept_run s stands.between) (lasts_as t v kept_run s stands.lasts) (goal_as t v kept_run s.requests stands.tied.goal) check.loads [] passing.going.tab passing.work.goal comes unheld
     where
       before : (now_of e []).requests ≡ s.requests
       before = ap (λ (x : Seen). x.requests) (did_now e proc job outcome del t queue blame stands aside) ∙ same
 
       unheld : AreUnheld e n
       unheld req x its =
-          unheld_first (record { event = e; loads = []; hand = [] }) u first req x (record { look = its.look; at = ap (λ (l : List Asked). option_map look (request_in l req)) (before ∙ sym requests) ∙ its.at; ongoing = its.ongoing; loads_it = its.loads_it })
+          unheld_first (record { event = e; loads = check.loads; hand = [] }) u first req x (record { look = its.look; at = ap (λ (l : List Asked). option_map look (request_in l req)) (before ∙ sym requests) ∙ its.at; ongoing = its.ongoing; loads_it = its.loads_it })
 
   -- ---- what waits, and what is held back
 
@@ -151,7 +151,7 @@ module _ (e : InEvent) (proc : ProcId) (job : Job) (outcome : Outcome) (del : Is
         );
       }
 
-  queueing : IsQueueing (record { event = e; loads = []; hand = [] }) out v queue
+  queueing : IsQueueing (record { event = e; loads = check.loads; hand = [] }) out v queue
   queueing =
       record {
         turning = turning_on e [] out (inl parked_first) (λ req. ap (λ (l : List Asked). option_map wish (request_in l req)) requests_first) (λ req has. ap (λ (l : List ReqId). has_req l req) (sym joined_first) ∙ has) (told_turning e proc del.by_coord del.own t queue blame stands aside (reports.Done job outcome None) del.first same (did_tab e proc job outcome del t queue blame stands aside).known);
@@ -164,7 +164,7 @@ module _ (e : InEvent) (proc : ProcId) (job : Job) (outcome : Outcome) (del : Is
 
   -- ---- all of it
 
-  pub discarded_ready : IsReady (record { event = e; loads = []; hand = [] }) out v queue blame whys.Start
+  pub discarded_ready : IsReady (record { event = e; loads = check.loads; hand = [] }) out v queue blame whys.Start
   discarded_ready =
       record {
         passing = passing;

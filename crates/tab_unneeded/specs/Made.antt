@@ -1,6 +1,6 @@
 -- A document that nothing needs as it is made, and that was made for no request.
 -- HTML Standard, "attempt to populate the history entry's document" and "destroy a document"; that such a document is discarded at once, for what it was made for, is this project's own.
-use Rattle.tab_stands.specs.Standing.{StartsUnasked}
+use Rattle.tab_stands.specs.Standing.{InCheck, StartsUnasked}
 use Rattle.log_model.specs.declared.job.Job.{Job}
 use Rattle.log_model.specs.declared.job.Why.{Why}
 use Rattle.log_model.specs.declared.outcome.Outcome.{Outcome}
@@ -18,18 +18,19 @@ use Rattle.log_model.specs.declared.job.Task.TheVariants as tasks
 use Rattle.log_model.specs.declared.job.Why.TheVariants as whys
 use Rattle.log_model.specs.declared.made.Report.TheVariants as reports
 
--- the event in which the process's report of an order is taken, the queue, and the requests that are noted for stray documents
+-- the event in which the process's report of an order is taken, what is in its unload check as it begins, the queue, and the requests that are noted for stray documents
 pub record InMade : Type 0 where
   pub event : InEvent
+  pub check : InCheck
   pub proc : ProcId
   pub job : Job
   pub outcome : Outcome
   pub queue : Queue
   pub noted : List (StateId × ReqId)
 
--- a pass of it, with nothing at hand
+-- a pass of it, with nothing at hand but the loads in their check
 abbrev pub pass_in : InMade → InPass
-pass_in m = record { event = m.event; loads = []; hand = [] }
+pass_in m = record { event = m.event; loads = m.check.loads; hand = [] }
 
 -- nobody is in a check, and the report tells that the document was made for the document state, for this reason, which is no request; and the document is stray then
 pub record IsMadeUnneeded (m : InMade) (doc : DocId) (state : StateId) (why : Why) : Type 0 where

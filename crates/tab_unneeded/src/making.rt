@@ -30,7 +30,7 @@ pub fn discard_made(
     requires keep { tables.old.kept.keep ≡ m.event.header.keep }
     requires first { out.old ≡ [] }
     requires room { HasRoomFor m.event.start }
-    requires stands { StandsFor m.event.start tables.old m.queue m.noted }
+    requires stands { StandsFor m.check m.event.start tables.old m.queue m.noted }
     requires made { IsMadeUnneeded m doc state why }
     ensures out { OnOk result (out.new ≡ rows.Sent (order_to (now_of m.event []) doc why tasks.Discard) ∷ []) }
     ensures ready { OnOk result (IsReady (pass_in m) out.new tables.new m.queue m.noted whys.Start) }

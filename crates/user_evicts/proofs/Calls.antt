@@ -25,7 +25,7 @@ use Rattle.tab_ids.specs.declared.ReqId.{ReqId}
 use Rattle.tab_ids.specs.declared.StateId.{StateId}
 use Rattle.tab_passes.proofs.Onlies.{only_then}
 use Rattle.tab_stands.specs.PassedOn.{IsReady}
-use Rattle.tab_stands.specs.Standing.{HasRoomFor, StandsFor, StartsUnasked}
+use Rattle.tab_stands.specs.Standing.{HasRoomFor, InCheck, StandsFor, StartsUnasked}
 use Rattle.user_evicts.proofs.Gones.{below_listed, first_fewer, first_letting, first_only, first_stays, first_unkept}
 use Rattle.user_evicts.proofs.Kepts.{its_evicted, its_listed}
 use Rattle.user_evicts.proofs.Lefts.{gone_over}
@@ -37,7 +37,7 @@ use Rattle.log_model.specs.declared.job.Task.TheVariants as tasks
 use Rattle.log_model.specs.declared.job.Why.TheVariants as whys
 use Rattle.log_model.specs.declared.row_kind.RowKind.TheVariants as rows
 
-module _ (e : InEvent) (state : StateId) (asks : IsEvictAsk e state) (t : Tables) (queue : Queue) (blame : List (StateId × ReqId)) (stands : StandsFor e.start t queue blame) (aside : StartsUnasked e) (room : HasRoomFor e.start) where
+module _ (e : InEvent) (state : StateId) (asks : IsEvictAsk e state) (t : Tables) (queue : Queue) (blame : List (StateId × ReqId)) {check : InCheck} (stands : StandsFor check e.start t queue blame) (aside : StartsUnasked e) (room : HasRoomFor e.start) where
   abbrev n : Seen
   n = now_of e []
 
@@ -91,12 +91,12 @@ module _ (e : InEvent) (state : StateId) (asks : IsEvictAsk e state) (t : Tables
         is : first ≡ rows.Sent (order_to n asks.doc whys.Evict tasks.Discard) ∷ []
         is = put ∙ ap (λ (d : DocId). let l : List RowKind = rows.Sent (order_to n d whys.Evict tasks.Discard) ∷ [] in l) (sym doc_is)
 
-        letting : IsLetting (record { pass = record { event = e; loads = []; hand = [] }; moved = None }) state whys.Evict first v
+        letting : IsLetting (record { pass = record { event = e; loads = check.loads; hand = [] }; moved = None }) state whys.Evict first v
         letting = first_letting e state asks t queue blame stands aside room first v is keeps work
 
-        pub letting_as : IsLetting (record { pass = record { event = e; loads = []; hand = [] }; moved = None }) own whys.Evict first v
+        pub letting_as : IsLetting (record { pass = record { event = e; loads = check.loads; hand = [] }; moved = None }) own whys.Evict first v
         letting_as =
-            subst (λ (x : StateId). IsLetting (record { pass = record { event = e; loads = []; hand = [] }; moved = None }) x whys.Evict first v) (sym (longest_is own at)) letting
+            subst (λ (x : StateId). IsLetting (record { pass = record { event = e; loads = check.loads; hand = [] }; moved = None }) x whys.Evict first v) (sym (longest_is own at)) letting
 
         -- ---- and so were those below it
 
@@ -108,9 +108,9 @@ module _ (e : InEvent) (state : StateId) (asks : IsEvictAsk e state) (t : Tables
           kept_as =
               record { store = then_.store ∙ keeps.store; running = then_.running ∙ keeps.running; goal = then_.goal ∙ keeps.goal; keep = then_.keep ∙ keeps.keep }
 
-          pub ready_as : t.kept.keep ≡ e.header.keep → IsLetting (record { pass = record { event = e; loads = []; hand = [] }; moved = None }) own whys.Evict out u → IsReady (record { event = e; loads = []; hand = [] }) out u queue blame whys.Evict
+          pub ready_as : t.kept.keep ≡ e.header.keep → IsLetting (record { pass = record { event = e; loads = check.loads; hand = [] }; moved = None }) own whys.Evict out u → IsReady (record { event = e; loads = check.loads; hand = [] }) out u queue blame whys.Evict
           ready_as header so =
-              evicted_ready e state asks t queue blame stands aside room header out u kept_as (subst (λ (x : StateId). IsLetting (record { pass = record { event = e; loads = []; hand = [] }; moved = None }) x whys.Evict out u) (longest_is own at) so) only (stays_then n (now_of e first) (now_of e out) (first_stays e state asks t queue blame stands aside room first v is) stays)
+              evicted_ready e state asks t queue blame stands aside room header out u kept_as (subst (λ (x : StateId). IsLetting (record { pass = record { event = e; loads = check.loads; hand = [] }; moved = None }) x whys.Evict out u) (longest_is own at) so) only (stays_then n (now_of e first) (now_of e out) (first_stays e state asks t queue blame stands aside room first v is) stays)
 
           unkept : has_doc (now_of e out).kept asks.doc ≡ false
           unkept = by_test (has_doc (now_of e out).kept asks.doc) refl
@@ -134,6 +134,6 @@ module _ (e : InEvent) (state : StateId) (asks : IsEvictAsk e state) (t : Tables
                 task = refl;
                 why = refl;
                 only = only;
-                none = none_there (record { pass = record { event = e; loads = []; hand = [] }; moved = None }) state whys.Evict first v letting n (now_of e out) docs t.tree (below_listed e state asks t queue blame stands aside room) order (first_fewer e state asks t queue blame stands aside room first v is) (subst (λ (x : StateId). NoMoreBelow x (now_of e first) (now_of e out)) (longest_is own at) fewer) (subst (λ (x : StateId). NoneOfBelow docs (now_of e out) x) (longest_is own at) none);
+                none = none_there (record { pass = record { event = e; loads = check.loads; hand = [] }; moved = None }) state whys.Evict first v letting n (now_of e out) docs t.tree (below_listed e state asks t queue blame stands aside room) order (first_fewer e state asks t queue blame stands aside room first v is) (subst (λ (x : StateId). NoMoreBelow x (now_of e first) (now_of e out)) (longest_is own at) fewer) (subst (λ (x : StateId). NoneOfBelow docs (now_of e out) x) (longest_is own at) none);
                 unkept = unkept;
               }

@@ -49,7 +49,7 @@ use Rattle.tab_ids.specs.declared.StateId.{StateId}
 use Rattle.tab_passes.proofs.Freezings.{below_none}
 use Rattle.tab_passes.proofs.Onlies.{only_one}
 use Rattle.tab_stands.specs.PassedOn.{IsGoing, IsLoadOf, IsTab}
-use Rattle.tab_stands.specs.Standing.{HasRoomFor, StandsFor, StartsUnasked}
+use Rattle.tab_stands.specs.Standing.{HasRoomFor, InCheck, StandsFor, StartsUnasked}
 use Rattle.user_evicts.proofs.Kepts.{its_kept, its_unloaded, nobody}
 use Rattle.user_evicts.proofs.Owns.{due_own, going_own, rests_own, tab_own, taking_own, tied_own, were_own}
 use Rattle.user_evicts.specs.Evicting.{IsEvictAsk}
@@ -67,7 +67,7 @@ without_itself doc (d ∷ docs) = by_test (d.0 == doc.0) refl (without_itself do
     by_test true same rest = rw same rest
     by_test false apart rest = rw apart (rw apart rest)
 
-module _ (e : InEvent) (state : StateId) (asks : IsEvictAsk e state) (t : Tables) (queue : Queue) (blame : List (StateId × ReqId)) (stands : StandsFor e.start t queue blame) (aside : StartsUnasked e) (room : HasRoomFor e.start) where
+module _ (e : InEvent) (state : StateId) (asks : IsEvictAsk e state) (t : Tables) (queue : Queue) (blame : List (StateId × ReqId)) {check : InCheck} (stands : StandsFor check e.start t queue blame) (aside : StartsUnasked e) (room : HasRoomFor e.start) where
   abbrev n : Seen
   n = now_of e []
 
@@ -83,7 +83,7 @@ module _ (e : InEvent) (state : StateId) (asks : IsEvictAsk e state) (t : Tables
   abbrev then_ : Seen
   then_ = after n (row_of e (rows.Sent order))
 
-  abbrev tab : IsTab t.running [] [] n
+  abbrev tab : IsTab t.running check.loads [] n
   tab = tab_own e state asks t queue blame stands aside
 
   abbrev were : WereShown n
@@ -116,13 +116,13 @@ module _ (e : InEvent) (state : StateId) (asks : IsEvictAsk e state) (t : Tables
   moves : MovesEach n whys.Evict (sleepers_with n doc)
   moves other has = let never : false ≡ true = sym (ap (λ (navs : List NavId). has_nav navs other) none_sleep) ∙ has in absurd cc
 
-  going_then : IsGoing t.running [] [] then_
+  going_then : IsGoing t.running check.loads [] then_
   going_then =
-      sent_going t.running [] [] n e.event e.actor (going_own e state asks t queue blame stands aside room) order [] [] (discard_tab t.running [] [] n e.event e.actor tab order document to_discard moves refl) (discarded_lasting n e.event e.actor (going_own e state asks t queue blame stands aside room).lasting order refl (inl none_sleep)) tt
+      sent_going t.running check.loads [] n e.event e.actor (going_own e state asks t queue blame stands aside room) order check.loads [] (discard_tab t.running check.loads [] n e.event e.actor tab order document to_discard moves refl) (discarded_lasting n e.event e.actor (going_own e state asks t queue blame stands aside room).lasting order refl (inl none_sleep)) tt
 
   rests_then : RestBut [] then_
   rests_then =
-      subst (λ (l : List DocId). RestBut (l ++ []) then_) (below_none n doc none_sleep) (discarded_less n e.event e.actor [] (rests_own e state asks t queue blame stands aside) order (sent_home t.running [] [] n tab order document to_discard) refl)
+      subst (λ (l : List DocId). RestBut (l ++ []) then_) (below_none n doc none_sleep) (discarded_less n e.event e.actor [] (rests_own e state asks t queue blame stands aside) order (sent_home t.running check.loads [] n tab order document to_discard) refl)
 
   own_leads : leads e.own ≡ true
   own_leads = ap (λ (k : RowKind). leads k) asks.own
@@ -166,7 +166,7 @@ module _ (e : InEvent) (state : StateId) (asks : IsEvictAsk e state) (t : Tables
   -- nobody is awake below it
   none_hung : NoneBelow n state
   none_hung nav place x placed wakes =
-      ap (λ (own : StateId). hangs_on own place) (sym states) ∙ none_awake t.running [] [] n tab were.owned doc document found kept nav place x placed wakes
+      ap (λ (own : StateId). hangs_on own place) (sym states) ∙ none_awake t.running check.loads [] n tab were.owned doc document found kept nav place x placed wakes
 
   none_then : NoneBelow then_ state
   none_then nav place x placed wakes = none_hung nav place x (placed_was nav place placed) wakes
@@ -230,12 +230,12 @@ module _ (e : InEvent) (state : StateId) (asks : IsEvictAsk e state) (t : Tables
     own_duly =
         subst AreLeftDuly (sym (ap (λ (k : RowKind). after e.start (row_of e k)) asks.own)) (row_duly e.start e.event e.actor stands.lasts.duly (rows.Evicted state) tt)
 
-    pub first_letting : KeepsStore t u → IsAtWork e new u → IsLetting (record { pass = record { event = e; loads = []; hand = [] }; moved = None }) state whys.Evict new u
+    pub first_letting : KeepsStore t u → IsAtWork e new u → IsLetting (record { pass = record { event = e; loads = check.loads; hand = [] }; moved = None }) state whys.Evict new u
     first_letting keeps work =
         record {
           leaving = record {
             work = work;
-            going = subst (λ (x : Seen). IsGoing u.running [] [] x) now_is (subst (λ (r : Option ReqId). IsGoing r [] [] then_) (sym keeps.running) going_then);
+            going = subst (λ (x : Seen). IsGoing u.running check.loads [] x) now_is (subst (λ (r : Option ReqId). IsGoing r check.loads [] then_) (sym keeps.running) going_then);
             owed = loose_owed e new (subst (λ (l : List RowKind). IsLoose e l) (sym is) loose_then);
             rests = subst (λ (x : Seen). RestBut [] x) now_is rests_then;
             duly = sent_duly e [] order new is tt own_duly;

@@ -41,6 +41,7 @@ use Rattle.tab_doors.specs.Look.{Sight, is_live_for, sight}
 use Rattle.tab_doors.specs.Orders.{IsToGo, order_to, proc_at}
 use Rattle.tab_doors.specs.declared.tables.Tables.{Tables}
 use Rattle.tab_evicts.proofs.Hangings.{not_awake}
+use Rattle.tab_ids.specs.declared.ReqId.{ReqId}
 use Rattle.tab_ids.specs.declared.DocId.{DocId}
 use Rattle.tab_ids.specs.declared.NavId.{NavId}
 use Rattle.tab_ids.specs.declared.StateId.{StateId}
@@ -65,7 +66,7 @@ all_four true false c d e f g h = absurd cc
 all_four true true true d e f g h = absurd cc
 all_four true true false true e f g h = absurd cc
 
-module _ (e : InEvent) (state : StateId) (asks : IsEvictAsk e state) (t : Tables) (tied : AreTied (now_of e []) t) (tab : IsTab t.running [] [] (now_of e [])) (were : WereShown (now_of e [])) (due : IsEvictDue (now_of e []) state asks.doc asks.document) where
+module _ (e : InEvent) (state : StateId) (asks : IsEvictAsk e state) (t : Tables) (tied : AreTied (now_of e []) t) {ids : List ReqId} (tab : IsTab t.running ids [] (now_of e [])) (were : WereShown (now_of e [])) (due : IsEvictDue (now_of e []) state asks.doc asks.document) where
   abbrev n : Seen
   n = now_of e []
 
@@ -121,7 +122,7 @@ module _ (e : InEvent) (state : StateId) (asks : IsEvictAsk e state) (t : Tables
 
   pub nobody : sleepers_with n doc ≡ []
   nobody =
-      nobody_awake n doc (no_shower n doc (places_distinct n tab.sound tab.hangs) (λ nav place placed wakes. not_awake t.running [] [] n tab were.owned doc its.d its.found its_kept nav place doc its.d placed wakes its.found refl))
+      nobody_awake n doc (no_shower n doc (places_distinct n tab.sound tab.hangs) (λ nav place placed wakes. not_awake t.running ids [] n tab were.owned doc its.d its.found its_kept nav place doc its.d placed wakes its.found refl))
 
   -- ---- its state is its own
 

@@ -39,7 +39,7 @@ use Rattle.tab_stands.proofs.MovedEvents.{moved_coming}
 use Rattle.tab_stands.proofs.PassedOn.{queue_over, steps_still, turning_first, unstood_by}
 use Rattle.tab_stands.proofs.Waiting.{off_where_runs}
 use Rattle.tab_stands.specs.PassedOn.{AreHeldUp, AreUnheld, HasQueue, HoldsParked, IsGoing, IsLeftStray, IsStray, IsTab, IsTaking, IsTurning, LateKnown, LeavesQueue, LoadsMadeOwn, MayServe, MovedAreShown}
-use Rattle.tab_stands.specs.Standing.{HasRoomFor, StandsFor, StartsUnasked}
+use Rattle.tab_stands.specs.Standing.{HasRoomFor, InCheck, StandsFor, StartsUnasked}
 use Rattle.tab_facts.proofs.TabWhole.Beginning.{evicted_tab}
 use Rattle.tab_facts.proofs.TabWhole.Where.{way_unheld}
 use Rattle.user_evicts.specs.Evicting.{IsEvictAsk}
@@ -51,7 +51,7 @@ pub evicted_takes : (e : InEvent) (state : StateId) → IsEvictAsk e state → (
 evicted_takes e state asks later =
     ap (λ (k : RowKind). is_delivered_duly (point_at (start_of e) later) (row_of e k)) asks.own
 
-module _ (e : InEvent) (state : StateId) (asks : IsEvictAsk e state) (t : Tables) (queue : Queue) (blame : List (StateId × ReqId)) (stands : StandsFor e.start t queue blame) (aside : StartsUnasked e) where
+module _ (e : InEvent) (state : StateId) (asks : IsEvictAsk e state) (t : Tables) (queue : Queue) (blame : List (StateId × ReqId)) {check : InCheck} (stands : StandsFor check e.start t queue blame) (aside : StartsUnasked e) where
   abbrev s : Seen
   s = e.start
 
@@ -64,11 +64,11 @@ module _ (e : InEvent) (state : StateId) (asks : IsEvictAsk e state) (t : Tables
       ∙ (ap (λ (a : Actor). next e.start e.event a e.own) asks.by_user
       ∙ ap (λ (k : RowKind). next e.start e.event actors.Ui k) asks.own)
 
-  tab_went : IsTab t.running [] [] went
+  tab_went : IsTab t.running check.loads [] went
   tab_went = evicted_tab t.running s e.event actors.Ui stands.between.tab stands.between.flows state
 
-  pub tab_own : IsTab t.running [] [] (now_of e [])
-  tab_own = subst (λ (x : Seen). IsTab t.running [] [] x) (sym now) tab_went
+  pub tab_own : IsTab t.running check.loads [] (now_of e [])
+  tab_own = subst (λ (x : Seen). IsTab t.running check.loads [] x) (sym now) tab_went
 
   pub rests_own : AllRest (now_of e [])
   rests_own = subst (λ (x : Seen). AllRest x) (sym now) (evicted_rests s e.event actors.Ui [] stands.between.rests state)
@@ -153,10 +153,10 @@ module _ (e : InEvent) (state : StateId) (asks : IsEvictAsk e state) (t : Tables
       by_run None is = tt
       by_run (Some run) is = is
 
-  pub going_own : HasRoomFor e.start → IsGoing t.running [] [] (now_of e [])
-  going_own room = subst (λ (x : Seen). IsGoing t.running [] [] x) (sym now) going
+  pub going_own : HasRoomFor e.start → IsGoing t.running check.loads [] (now_of e [])
+  going_own room = subst (λ (x : Seen). IsGoing t.running check.loads [] x) (sym now) going
     where
-      going : IsGoing t.running [] [] went
+      going : IsGoing t.running check.loads [] went
       going =
           record {
             tab = tab_went;
@@ -180,15 +180,15 @@ module _ (e : InEvent) (state : StateId) (asks : IsEvictAsk e state) (t : Tables
   unheld r n load_ =
       let its : IsAskedFor (now_of e []) r n = asked_for (now_of e []) r n load_ in
       let way : 0 < times_on_way (request_in (now_of e []).requests r) = subst (λ (o : Option Asked). 0 < times_on_way o) (sym its.at) (let one : 0 < ways_of its.q = rw its.ongoing (omega arith) in one) in
-      (way_unheld t.running [] [] (now_of e []) tab_own r way).parked
+      (way_unheld t.running check.loads [] (now_of e []) tab_own r way).parked
 
   pub taking_own : IsTaking e t.running blame (now_of e [])
   taking_own =
-      taking_then e t.running t.kept.keep t.goal blame (now_of e []) stands.between stands.lasts stands.tied.goal [] [] tab_own tied_own.goal comes_own unheld
+      taking_then e t.running t.kept.keep t.goal blame (now_of e []) stands.between stands.lasts stands.tied.goal check.loads [] tab_own tied_own.goal comes_own unheld
 
   aim_own : aim_of (now_of e []) ≡ aim_of e.start
   aim_own =
-      aim_same e t.running t.kept.keep t.goal blame (now_of e []) stands.between stands.lasts stands.tied.goal [] [] tab_own tied_own.goal comes_own
+      aim_same e t.running t.kept.keep t.goal blame (now_of e []) stands.between stands.lasts stands.tied.goal check.loads [] tab_own tied_own.goal comes_own
 
   -- ---- what waits, and what is held back
 
@@ -224,6 +224,6 @@ module _ (e : InEvent) (state : StateId) (asks : IsEvictAsk e state) (t : Tables
       by_run : (o : Option ReqId) → t.running ≡ o → ⊥
       by_run None is = some (none_held is)
       by_run (Some run) is =
-          let off : all_stand s (aim_of s) ≡ false = off_where_runs t.kept.keep t.running s stands.between run is in
+          let off : all_stand s (aim_of s) ≡ false = off_where_runs t.kept.keep t.running s stands.between stands.alone run is in
           let never : true ≡ false = sym all ∙ same ∙ off in
           cc

@@ -26,14 +26,14 @@ use Rattle.tab_passes.proofs.Leavings.{passing_again}
 use Rattle.tab_stands.proofs.PassedOn.{IsUnapplied, late_put, queue_over, turning_on}
 use Rattle.tab_stands.proofs.Ready.{calm_before}
 use Rattle.tab_stands.specs.PassedOn.{HasQueue, InPass, IsPassing, IsQueueing, IsReady, IsTaking, LateKnown, LeavesQueue, MovedAreShown}
-use Rattle.tab_stands.specs.Standing.{HasRoomFor, StandsFor, StartsUnasked}
+use Rattle.tab_stands.specs.Standing.{HasRoomFor, InCheck, StandsFor, StartsUnasked}
 use Rattle.user_evicts.proofs.Lefts.{LeavesGone, gone_over, loose_over, untraversed}
 use Rattle.user_evicts.proofs.Owns.{few_own, late_own, moved_own, none_held, off_own, parked_own, queued_own, taking_own, theirs_own, turning_own}
 use Rattle.user_evicts.proofs.Takings.{aim_still, gone_moved, gone_taking, gone_theirs, history_same, wishes_same}
 use Rattle.user_evicts.specs.Evicting.{IsEvictAsk}
 use Rattle.log_model.specs.declared.job.Why.TheVariants as whys
 
-module _ (e : InEvent) (state : StateId) (asks : IsEvictAsk e state) (t : Tables) (queue : Queue) (blame : List (StateId × ReqId)) (stands : StandsFor e.start t queue blame) (aside : StartsUnasked e) (room : HasRoomFor e.start) (header : t.kept.keep ≡ e.header.keep) (out : List RowKind) (u : Tables) (keeps : KeepsStore t u) (letting : IsLetting (record { pass = record { event = e; loads = []; hand = [] }; moved = None }) state whys.Evict out u) (only : HasOnlyDiscarded whys.Evict [] out) (stays : StaysPlaced (now_of e []) (now_of e out)) where
+module _ (e : InEvent) (state : StateId) (asks : IsEvictAsk e state) (t : Tables) (queue : Queue) (blame : List (StateId × ReqId)) {check : InCheck} (stands : StandsFor check e.start t queue blame) (aside : StartsUnasked e) (room : HasRoomFor e.start) (header : t.kept.keep ≡ e.header.keep) (out : List RowKind) (u : Tables) (keeps : KeepsStore t u) (letting : IsLetting (record { pass = record { event = e; loads = check.loads; hand = [] }; moved = None }) state whys.Evict out u) (only : HasOnlyDiscarded whys.Evict [] out) (stays : StaysPlaced (now_of e []) (now_of e out)) where
   abbrev s : Seen
   s = now_of e []
 
@@ -41,7 +41,7 @@ module _ (e : InEvent) (state : StateId) (asks : IsEvictAsk e state) (t : Tables
   n = now_of e out
 
   abbrev p : InPass
-  p = record { event = e; loads = []; hand = [] }
+  p = record { event = e; loads = check.loads; hand = [] }
 
   left : LeavesGone s n
   left = gone_over e [] out only
@@ -118,7 +118,7 @@ module _ (e : InEvent) (state : StateId) (asks : IsEvictAsk e state) (t : Tables
 
   -- ---- all of it
 
-  pub evicted_ready : IsReady (record { event = e; loads = []; hand = [] }) out u queue blame whys.Evict
+  pub evicted_ready : IsReady (record { event = e; loads = check.loads; hand = [] }) out u queue blame whys.Evict
   evicted_ready =
       record {
         passing = passing;

@@ -13,21 +13,23 @@ use Rattle.tab_ids.specs.declared.DocId.{DocId}
 use Rattle.tab_ids.specs.declared.ReqId.{ReqId}
 use Rattle.tab_ids.specs.declared.StateId.{StateId}
 use Rattle.tab_stands.specs.PassedOn.{InPass}
+use Rattle.tab_stands.specs.Standing.{InCheck}
 use Rattle.log_model.specs.declared.job.Task.TheVariants as tasks
 use Rattle.log_model.specs.declared.job.Why.TheVariants as whys
 use Rattle.log_model.specs.declared.row_kind.Actor.TheVariants as actors
 use Rattle.log_model.specs.declared.row_kind.RowKind.TheVariants as rows
 
--- an event of the user's, the document state that is evicted in it, the queue, and the requests that are noted for stray documents
+-- an event of the user's, what is in its unload check as it begins, the document state that is evicted in it, the queue, and the requests that are noted for stray documents
 pub record InEvict : Type 0 where
   pub event : InEvent
+  pub check : InCheck
   pub state : StateId
   pub queue : Queue
   pub noted : List (StateId × ReqId)
 
--- a pass of it, with nothing at hand
+-- a pass of it, with nothing at hand but the loads in their check
 abbrev pub pass_in : InEvict → InPass
-pass_in b = record { event = b.event; loads = []; hand = [] }
+pass_in b = record { event = b.event; loads = b.check.loads; hand = [] }
 
 -- in this event the user evicts the document that is kept longest, which is of this document state
 pub record IsEvictAsk (e : InEvent) (state : StateId) : Type 0 where

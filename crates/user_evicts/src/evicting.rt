@@ -34,7 +34,7 @@ pub fn evict_longest(alloc: Global, tables: &mut Tables, out: &mut Out) -> Resul
     requires first { out.old ≡ [] }
     requires asks { IsEvictAsk b.event b.state }
     requires room { HasRoomFor b.event.start }
-    requires stands { StandsFor b.event.start tables.old b.queue b.noted }
+    requires stands { StandsFor b.check b.event.start tables.old b.queue b.noted }
     requires aside { StartsUnasked b.event }
     ensures came { OnOk result (HasEvicted b.event b.state out.new) }
     ensures ready { OnOk result (IsReady (pass_in b) out.new tables.new b.queue b.noted whys.Evict) }

@@ -1,5 +1,5 @@
 use Rattle.log_model.specs.declared.row_kind.RowKind.{RowKind}
-use Rattle.std.proofs.Common.{List, rules, subst, sym, ◌≡◌}
+use Rattle.std.proofs.Common.{List, rules, subst, sym, ◌∙◌, ◌≡◌}
 use Rattle.tab_settles.proofs.LoadsOff.{off_turned}
 use Rattle.tab_settles.proofs.Passed.{pass_asks, pass_off, pass_ready_put, put_both, settled}
 use Rattle.tab_settles.proofs.resting.settle.Goals as goal
@@ -11,7 +11,7 @@ pass-requires g c =
 
 pub take_turn-requires : goal.take_turn-requires
 take_turn-requires g c =
-    settled g.p _ _ _ _ _ c.passes.invariant.0 _ _ _ _ c.in_ok-pass.ensures.passing c.in_ok-pass.ensures.served c.in_ok-pass.ensures.told c.in_ok-pass.ensures.strays c.in_ok-pass.ensures.passed c.in_ok-pass.ensures.left c.in_ok-pass.ensures.only c.in_ok-pass.ensures.kept c.in_ok-pass.ensures.calm c.in_ok-pass.ensures.sent
+    (settled g.p _ _ _ _ _ c.passes.invariant.0 _ _ _ _ c.in_ok-pass.ensures.passing c.in_ok-pass.ensures.served c.in_ok-pass.ensures.told c.in_ok-pass.ensures.strays c.in_ok-pass.ensures.passed c.in_ok-pass.ensures.left c.in_ok-pass.ensures.only c.in_ok-pass.ensures.kept c.in_ok-pass.ensures.calm c.in_ok-pass.ensures.sent, λ held. c.in_ok-pass.ensures.kept.running ∙ c.passes.invariant.1.1.1.1 held)
 
 pub returns-then-not-branch-clause-put : goal.returns-then-not-branch-clause-put
 returns-then-not-branch-clause-put g c =
@@ -31,6 +31,6 @@ passes-preserved g c =
       ready,
       (
         put_both g.p _ _ _ _ _ ready.passing c.passes.invariant.1.0 (pass_ready_put g.p _ _ _ _ _ c.passes.invariant.0 _ _ c.in_ok-pass.ensures.only c.in_ok-pass.ensures.left) c.in_ok-take_turn.ensures.put,
-        (off_turned g.p.event _ _ _ (pass_off g.p.event _ _ _ _ _ _ c.passes.invariant.1.1.0 c.in_ok-pass.ensures.only c.in_ok-pass.ensures.left) turned, handled),
+        (off_turned g.p.event _ _ _ (pass_off g.p.event _ _ _ _ _ _ c.passes.invariant.1.1.0 c.in_ok-pass.ensures.only c.in_ok-pass.ensures.left) turned, (handled, c.in_ok-take_turn.ensures.alone)),
       ),
     )

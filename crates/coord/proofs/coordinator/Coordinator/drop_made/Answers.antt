@@ -10,7 +10,7 @@ use Rattle.log_model.specs.declared.job.Why.TheVariants as whys
 
 pub discard_made-requires : goal.discard_made-requires
 discard_made-requires g c =
-    (keep_now g.m.event c.args.self.now c.requires.1.0.open_, (c.requires.1.1.1.1.1, (c.requires.1.0.open_.room, (subst (λ (x : InMade). StandsFor x.event.start c.args.self.now.tables x.queue x.noted) (sym c.requires.0) c.requires.1.0.open_.stands.stands, subst (λ (x : InMade). IsMadeUnneeded x c.args.job.now.doc c.args.state c.args.job.now.why) (sym c.requires.0) (made_unneeded (done_in g.m) c.args.self.now c.args.job.now c.requires.1.0 c.args.state c.requires.1.1.0 c.requires.1.1.1.0 c.requires.1.1.1.1.0)))))
+    (keep_now g.m.event c.args.self.now c.requires.1.0.open_, (c.requires.1.1.1.1.1, (c.requires.1.0.open_.room, (subst (λ (x : InMade). StandsFor x.check x.event.start c.args.self.now.tables x.queue x.noted) (sym c.requires.0) c.requires.1.0.open_.stands.stands, subst (λ (x : InMade). IsMadeUnneeded x c.args.job.now.doc c.args.state c.args.job.now.why) (sym c.requires.0) (made_unneeded (done_in g.m) c.args.self.now c.args.job.now c.requires.1.0 c.args.state c.requires.1.1.0 c.requires.1.1.1.0 c.requires.1.1.1.1.0)))))
 
 pub settle-requires : goal.settle-requires
 settle-requires g c =

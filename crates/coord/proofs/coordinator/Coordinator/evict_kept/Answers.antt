@@ -9,7 +9,7 @@ use Rattle.log_model.specs.declared.job.Why.TheVariants as whys
 
 pub evict_longest-requires : goal.evict_longest-requires
 evict_longest-requires g c =
-    (keep_now g.b.event c.args.self.now c.requires.1.1.0.in_, (c.requires.1.1.1, (c.requires.1.0, (c.requires.1.1.0.in_.room, (subst (λ (x : InEvict). StandsFor x.event.start c.args.self.now.tables x.queue x.noted) (sym c.requires.0) c.requires.1.1.0.in_.stands.stands, aside g.b.event g.b.state c.args.self.now c.requires.1.1.0 c.requires.1.0)))))
+    (keep_now g.b.event c.args.self.now c.requires.1.1.0.in_, (c.requires.1.1.1, (c.requires.1.0, (c.requires.1.1.0.in_.room, (subst (λ (x : InEvict). StandsFor x.check x.event.start c.args.self.now.tables x.queue x.noted) (sym c.requires.0) c.requires.1.1.0.in_.stands.stands, aside g.b.event g.b.state c.args.self.now c.requires.1.1.0 c.requires.1.0)))))
 
 pub settle-requires : goal.settle-requires
 settle-requires g c =
