@@ -9,3 +9,7 @@ pub mod Settles
 pub mod Askings
 pub mod Moving
 pub mod Brings
+pub mod Tellings
+pub mod Besides
+pub mod Steps
+pub mod Nobody

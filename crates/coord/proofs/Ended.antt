@@ -67,4 +67,4 @@ settled_acts e was out c after cause last to header slots at due put left =
   where
     all : tab.HasActed tab.none_in_check e out after.tables after.queue after.blame.entries
     all =
-        acted (pass_of e []) out after.tables after.queue after.blame.entries last false (λ never. absurd cc) at (put_makes e after.tables.running was out at.passing.work.goes at.passing.going.tab.asked put to.makes) (put_sound e was out at.passing.work.goes put to.sound) (of_coord e was out put to.coord) to.shows (λ free. due) (taken_in e was out put to.taken)
+        acted (pass_of e []) out after.tables after.queue after.blame.entries last false (λ never. absurd cc) at (put_makes e after.tables.running was out at.passing.work.goes at.passing.going.tab.asked put to.makes) (put_sound e was out at.passing.work.goes put to.sound) (of_coord e was out put to.coord) to.shows (λ req. ap (λ (checking : ReqId → Bool). checking req) to.unchecked) (λ free. due) (taken_in e was out put to.taken)

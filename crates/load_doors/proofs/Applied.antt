@@ -8,8 +8,7 @@ use Rattle.log_model.specs.Places.{is_ongoing_load}
 use Rattle.row_facts.specs.LoadRows.Loaded.{IsLoadToApply}
 use Rattle.apply_plan.specs.Order.{made_in}
 use Rattle.seen_facts.specs.Each.Runs.{is_this}
-use Rattle.row_facts.proofs.FrameRows.LawfulLaws.{ends_other, lawful_plain}
-use Rattle.row_facts.specs.FrameRows.Lawful.{AreLawful}
+use Rattle.row_facts.proofs.FrameRows.LawfulLaws.{ends_other}
 use Rattle.load_doors.specs.Applying.{IsApplyDue}
 use Rattle.row_facts.proofs.LoadRows.Loads.{load_may}
 use Rattle.load_table.specs.Loads.{KeepsOthers, cancelled, ongoing_load}
@@ -32,7 +31,8 @@ use Rattle.std.proofs.lemmas.List.{length-map}
 use Rattle.std.specs.Prelude.{if◌then◌else◌}
 use Rattle.step_index.specs.Held.{history_held}
 use Rattle.step_index.specs.declared.step_index.StepIndex.{StepIndex}
-use Rattle.tab_doors.proofs.Ahead.{lawful_none, none_lawful}
+use Rattle.tab_doors.proofs.Ahead.{IsStep, step_plain}
+use Rattle.tab_doors.proofs.Works.{open_undropped}
 use Rattle.tab_doors.proofs.ChangeWorks.{applied_reads, kept_applied, lost_by}
 use Rattle.tab_doors.proofs.Changing.{Changes, pushed_documents, replaced_documents, untold_sight}
 use Rattle.tab_doors.proofs.EndLaws.{history_holds}
@@ -136,10 +136,10 @@ module _ (e : InEvent) (out : List RowKind) (t : Tables) (nav : NavId) (load : L
     with_lost = record with_entry { tree = destroy_all lost load.req t.tree }
 
     entry_changes : Changes t with_entry
-    entry_changes = record { making = refl; whose = refl; shown = refl; last = refl; documents = refl; sent = refl; loads = refl; kept = refl }
+    entry_changes = record { making = refl; whose = refl; shown = refl; last = refl; documents = refl; sent = refl; loads = refl; kept = refl; checks = refl }
 
     lost_changes : Changes with_entry with_lost
-    lost_changes = record { making = refl; whose = refl; shown = refl; last = refl; documents = refl; sent = refl; loads = refl; kept = refl }
+    lost_changes = record { making = refl; whose = refl; shown = refl; last = refl; documents = refl; sent = refl; loads = refl; kept = refl; checks = refl }
 
     bare_holds : Holds bare_look with_entry
     bare_holds =
@@ -149,9 +149,9 @@ module _ (e : InEvent) (out : List RowKind) (t : Tables) (nav : NavId) (load : L
     lost_holds =
         subst (λ (l : List Place). Holds (record (look_of (then_by b) t.running) { places = l }) with_lost) (sym (places_are due.asked due.due.at due.due.unmade b)) (taken_holds bare_look with_entry with_lost (now_of e out).history (applied (now_of e out).history (change_by b)) load.req lost bare_holds (lost_seen (now_of e out) (change_by b) t.running t work.holds sees) refl lost_changes refl refl refl)
 
-    apply_lawful : AreLawful e (out ++ rows.Applied load.req (change_by b) ∷ [])
-    apply_lawful =
-        lawful_plain e out (rows.Applied load.req (change_by b)) (λ r. refl) (ends_other e out (rows.Applied load.req (change_by b)) load.req (refl, λ s. refl) due.unheld due.unparked) (none_lawful e out work.lawful) may
+    apply_step : IsStep None None e out (rows.Applied load.req (change_by b))
+    apply_step =
+        step_plain e out (rows.Applied load.req (change_by b)) (λ r. refl) (ends_other e out (rows.Applied load.req (change_by b)) load.req (refl, λ s. refl) due.unheld due.unparked) may
       where
         may : MayLog (here_of e out) (row_of e (rows.Applied load.req (change_by b)) ∷ []) Anything
         may = apply_may e out load.req nav (change_by b) work due
@@ -188,7 +188,9 @@ module _ (e : InEvent) (out : List RowKind) (t : Tables) (nav : NavId) (load : L
         (subst (λ (l : List StateId). AreInitial l t.initial.entries) (sym (initial_same b)) work.initial)
         (load_ends (now_of e out) (then_by b) load.req (applied_ended (now_of e out) e.event e.actor load.req (change_by b)) t.loads work.loads nav load at refl next (ap (λ (l : List Load). ongoing_load nav l) loads ∙ cancelled_none nav t.loads) others)
         (kept_applied e out t t load.req (change_by b) work refl)
-        (lawful_none e (out ++ rows.Applied load.req (change_by b) ∷ []) apply_lawful)
+        (off, open_undropped (log_of e out) load.req from.0 from.2.at from.2.open_)
+        apply_step
+        refl
       where
         few_kept : (documents next_ : List Document) (jobs : ℕ) → length next_ ≡ length documents → length documents ≤ jobs + 1 → length next_ ≤ jobs + 1
         few_kept documents next_ jobs same few = omega (arith, same, few)

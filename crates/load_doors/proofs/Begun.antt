@@ -7,8 +7,6 @@ use Rattle.row_facts.specs.LoadRows.Beginning.{begins_no_earlier, IsLoadToBegin}
 use Rattle.row_facts.proofs.LoadRows.Earlier.{no_earlier_stays}
 use Rattle.unasked_dues.proofs.Sole.{sole_more}
 use Rattle.unasked.proofs.Nows.{started_goes}
-use Rattle.row_facts.proofs.FrameRows.LawfulLaws.{lawful_more_owing}
-use Rattle.row_facts.specs.FrameRows.Lawful.{AreLawful}
 use Rattle.load_doors.specs.Loading.{IsToBegin, begun_load, is_beginning}
 use Rattle.row_facts.proofs.LoadRows.Begins.{begin_load_owing}
 use Rattle.load_table.specs.Loads.{KeepsOthers, begun, ongoing_load}
@@ -31,7 +29,7 @@ use Rattle.seen_laws.specs.InEvent.{InEvent, here_of, log_of, now_of, row_of}
 use Rattle.std.proofs.Common.{Bool, List, None, Option, Some, [], ap, arith, false, inl, refl, subst, sym, true, ℕ, ◌++◌, ◌+◌, ◌==◌, ◌∙◌, ◌∷◌, ◌≡◌}
 use Rattle.std.proofs.lemmas.Bool.Decides.{nat_tests}
 use Rattle.std.specs.Prelude.{option_map, nat_lt}
-use Rattle.tab_doors.proofs.Ahead.{lawful_none, none_lawful}
+use Rattle.tab_doors.proofs.Ahead.{IsStep, step_owing}
 use Rattle.tab_doors.proofs.EndLaws.{left_holds}
 use Rattle.tab_doors.proofs.Requests.{moved_read, moved_same, runs_same}
 use Rattle.tab_doors.proofs.Works.{off_runs, started_held, work_more, BeginsSole}
@@ -123,9 +121,9 @@ module _ (e : InEvent) (out : List RowKind) (t : Tables) (req : ReqId) (nav : Na
   same_states : t.states ≡ s.states
   same_states = work.holds.states
 
-  begin_lawful : AreLawful e (out ++ rows.Started req None ∷ [])
-  begin_lawful =
-      lawful_more_owing e out (rows.Started req None) (λ r. refl) (started_held e out req None) (none_lawful e out work.lawful) (λ later both. begin_load_owing (here_of e out) e.event e.actor req nav its.mode address its.q (led_here e out work.own) its.due later (both.0.0 req (nat_eq_refl req.0), both.1))
+  begin_step : IsStep None None e out (rows.Started req None)
+  begin_step =
+      step_owing e out (rows.Started req None) (λ r. refl) (started_held e out req None) (λ later both. begin_load_owing (here_of e out) e.event e.actor req nav its.mode address its.q (led_here e out work.own) its.due later (both.0.0 req (nat_eq_refl req.0), both.1))
 
   same_reads : {B : Type 0} (read : Asked → B) → read (request_begun s (record its.q { is_started = true; goal = None })) ≡ read its.q → SameReads read s.requests then_begun.requests
   same_reads read same = begun_reads read s req None its.q there same
@@ -170,7 +168,9 @@ module _ (e : InEvent) (out : List RowKind) (t : Tables) (req : ReqId) (nav : Na
       work.initial
       ties
       work.kept
-      (lawful_none e (out ++ rows.Started req None ∷ []) begin_lawful)
+      off
+      begin_step
+      refl
     where
       soles : BeginsSole e out (rows.Started req None)
       soles sole = load_sole e out req nav its.mode address its.q its.due its.sole its.first sole

@@ -13,7 +13,7 @@ use Rattle.seen_facts.proofs.Request.Readers.{on_read}
 use Rattle.seen_laws.specs.InEvent.{InEvent, now_of, row_of}
 use Rattle.std.proofs.Common.{List, None, Some, [], arith, cond, false, length, map, refl, subst, sym, true, ℕ, ◌++◌, ◌+◌, ◌==◌, ◌∷◌, ◌≡◌}
 use Rattle.std.proofs.lemmas.List.{length-map}
-use Rattle.tab_doors.proofs.Ahead.{sent_for}
+use Rattle.tab_doors.proofs.Ahead.{step_sent}
 use Rattle.tab_doors.proofs.EndLaws.{left_holds}
 use Rattle.tab_doors.proofs.Requests.{moved_read, moved_same}
 use Rattle.tab_doors.proofs.Sights.{sights_same}
@@ -75,4 +75,6 @@ module _ (e : InEvent) (out : List RowKind) (t : Tables) (doc : DocId) (req : Re
       work.initial
       (sent_tied (now_of e out) e.event e.actor t.loads work.loads order tt)
       (kept_on (now_of e out) doc (addressed fragment) (λ d. refl) (λ d. refl) None t.kept t.kept work.kept refl)
-      (sent_for e out None order work.lawful (fragment_quiet e order req mode address refl) refl may))
+      tt
+      (step_sent e out None order (fragment_quiet e order req mode address refl) refl may)
+      refl)

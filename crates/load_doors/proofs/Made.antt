@@ -6,8 +6,6 @@ use Rattle.log_model.specs.Orders.{ongoing_load as load_in_log}
 use Rattle.unasked_dues.proofs.Shows.{numbered_in}
 use Rattle.unasked_dues.proofs.Making.{make_of_load_due}
 use Rattle.seen_laws.specs.Sending.{IsNumbered}
-use Rattle.row_facts.proofs.FrameRows.LawfulLaws.{lawful_plain}
-use Rattle.row_facts.specs.FrameRows.Lawful.{AreLawful}
 use Rattle.seen_facts.specs.Kept.Keeping.{AreKeptDocs}
 use Rattle.row_facts.proofs.LoadRows.LoadMakes.{make_load_may, make_load_quiet}
 use Rattle.row_facts.specs.LoadRows.LoadMaking.{IsMakeOfLoadDue}
@@ -26,7 +24,7 @@ use Rattle.seen_laws.specs.InEvent.{InEvent, here_of, log_of, now_of, row_of}
 use Rattle.std.proofs.Common.{List, None, Option, Some, [], ap, false, map, refl, subst, sym, ℕ, ◌++◌, ◌∙◌, ◌∷◌, ◌≡◌}
 use Rattle.std.specs.Map.{lookup}
 use Rattle.std.specs.Prelude.{option_map}
-use Rattle.tab_doors.proofs.Ahead.{lawful_none, none_lawful}
+use Rattle.tab_doors.proofs.Ahead.{IsStep, step_plain}
 use Rattle.tab_doors.proofs.Initial.{initial_same}
 use Rattle.tab_doors.proofs.Making.{MakesOne, make_holds}
 use Rattle.tab_doors.proofs.Works.{aimed_log, at_seen, few_made, header_here, kept_made, passed_log, sent_held, work_more}
@@ -58,9 +56,9 @@ module _ (e : InEvent) (out : List RowKind) (t u : Tables) (proc : ProcId) (doc 
   none_checks due =
       of_ongoing e.checking (log_of e out) work.checks.states work.checks.numbered state due.q (subst (λ (s : Seen). load_in_log s state ≡ Some due.q) (now_is e out) due.loads)
 
-  load_make_lawful : IsMakeOfLoadDue e.header (now_of e out) load_make nav state address → (desk_of (now_of e out) proc).known ≡ 0 → AreLawful e (out ++ rows.Sent load_make ∷ [])
-  load_make_lawful due known =
-      lawful_plain e out (rows.Sent load_make) (make_load_quiet e load_make nav state address refl) (sent_held e out load_make) (none_lawful e out work.lawful) (make_load_may (here_of e out) e.event e.actor load_make nav state address (led_here e out work.own) is_numbered (subst (λ (hd : Header). IsMakeOfLoadDue hd (log_of e out) load_make nav state address) (sym (header_here e out)) in_log))
+  load_make_step : IsMakeOfLoadDue e.header (now_of e out) load_make nav state address → (desk_of (now_of e out) proc).known ≡ 0 → IsStep None None e out (rows.Sent load_make)
+  load_make_step due known =
+      step_plain e out (rows.Sent load_make) (make_load_quiet e load_make nav state address refl) (sent_held e out load_make) (make_load_may (here_of e out) e.event e.actor load_make nav state address (led_here e out work.own) is_numbered (subst (λ (hd : Header). IsMakeOfLoadDue hd (log_of e out) load_make nav state address) (sym (header_here e out)) in_log))
     where
       is_numbered : IsNumbered (log_of e out) load_make
       is_numbered =
@@ -80,7 +78,9 @@ module _ (e : InEvent) (out : List RowKind) (t u : Tables) (proc : ProcId) (doc 
       (initial_same (now_of e out).initial_states t.initial.entries u.initial.entries initial work.initial)
       (own_made (now_of e out) e.event e.actor t.loads work.loads load_make nav state address false refl its.load its.at its.state_is its.unmade u.loads own others its.alone)
       (kept_made e out t u load_make nav state work kept_docs one.kept)
-      (lawful_none e (out ++ rows.Sent load_make ∷ []) (load_make_lawful due known))
+      for_other
+      (load_make_step due known)
+      one.checks
     where
       own : ongoing_load nav u.loads ≡ Some (in_phase (phases.Populating doc) its.load)
       own =

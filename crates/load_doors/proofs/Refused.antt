@@ -25,14 +25,17 @@ use Rattle.seen_laws.specs.Blocks.{MayLog}
 use Rattle.seen_laws.specs.InEvent.{InEvent, log_of, now_of, row_of, start_of}
 use Rattle.seen_laws.specs.Sending.{leads}
 use Rattle.std.proofs.Common.{List, None, Some, [], ap, false, length, refl, subst, sym, ◌+◌, ◌∙◌, ◌∷◌, ◌≡◌, ◌≤◌}
-use Rattle.tab_doors.proofs.Ahead.{lawful_none}
+use Rattle.seen_laws.proofs.InEvents as seen
+use Rattle.tab_doors.proofs.PassedOn.{lawful_pass, nobody_duly, none_told, plain_nobody}
+use Rattle.tab_doors.specs.PassedOn.{noted_by}
+use Rattle.unload_check.specs.Checks.{after_all_deaths}
 use Rattle.tab_doors.proofs.EndLaws.{left_holds}
 use Rattle.tab_doors.proofs.Keeping.{unstarted_no_load}
 use Rattle.tab_doors.proofs.Requests.{ended_moved, moved_same, runs_ended_apart}
 use Rattle.tab_doors.proofs.Works.{goal_read, goal_same, none_steps, soles_more}
 use Rattle.tab_doors.specs.Look.{look_of, moved_by}
 use Rattle.tab_doors.specs.Ties.{AreInitial, Holds, IsRunning}
-use Rattle.tab_doors.specs.Working.{HasGoal, IsAtWork, IsWorker}
+use Rattle.tab_doors.specs.Working.{HasGoal, IsAhead, IsAtWork, IsWorker}
 use Rattle.tab_doors.specs.declared.tables.Tables.{Tables}
 use Rattle.tab_ids.specs.declared.ReqId.{ReqId}
 use Rattle.log_model.specs.declared.outcome.Ending.TheVariants as endings
@@ -87,7 +90,7 @@ module _ (e : InEvent) (t : Tables) (req : ReqId) (reason : Denial) (denied : Is
       record {
         own = ap (λ (k : RowKind). leads k) denied.own;
         worker = subst (λ (a : Actor). IsWorker a) (sym denied.by_user) tt;
-        plain = log_more e [] (rows.Refused req reason) ∙ ap (λ (x : Seen). after x (row_of e (rows.Refused req reason))) denied.plain ∙ sym now_is;
+        plain = plain_then;
         goes = goes_more e [] [] (rows.Refused req reason) (none_goes e []) (refused_goes e [] req reason);
         numbered = denied.numbered;
         read = read_more e [] (rows.Refused req reason) (read_own e (record { numbered = denied.checks.numbered; others = denied.checks.others })) (record { numbered = checks_.numbered; others = checks_.others });
@@ -101,11 +104,15 @@ module _ (e : InEvent) (t : Tables) (req : ReqId) (reason : Denial) (denied : Is
         initial = subst (λ (x : Seen). AreInitial x.initial_states t.initial.entries) (sym now_is) tied.initial;
         loads = subst (λ (x : Seen). TiesLoads x t.loads) (sym now_is) (other_ends s n req (refused_ended s e.event e.actor req reason) t.loads tied.loads (unstarted_no_load s req (new_request req None (requests.Load denied.nav denied.mode denied.address)) there refl));
         kept = tied.kept ∙ ap (λ (x : Seen). kept_states x) (sym now_is);
-        lawful = lawful_none e (rows.Refused req reason ∷ []) lawful;
+        asked = nobody_duly e.checking e.start (log_of e (rows.Refused req reason ∷ [])) (after_all_deaths [] t.checks) denied.before (plain_nobody e.checking (log_of e (rows.Refused req reason ∷ [])) (sym (seen.now_is e (rows.Refused req reason ∷ [])) ∙ sym plain_then)) checks_.numbered checks_.others denied.unchecked (none_told t.checks (rows.Refused req reason ∷ []) tied.checks);
+        lawful = lawful_pass (IsAhead None) e (noted_by t.checks (rows.Refused req reason ∷ [])) (rows.Refused req reason ∷ []) lawful;
       }
     where
       now_is : now_of e (rows.Refused req reason ∷ []) ≡ n
       now_is = refused_now e [] req reason
+
+      plain_then : log_of e (rows.Refused req reason ∷ []) ≡ now_of e (rows.Refused req reason ∷ [])
+      plain_then = log_more e [] (rows.Refused req reason) ∙ ap (λ (x : Seen). after x (row_of e (rows.Refused req reason))) denied.plain ∙ sym now_is
 
       checks_ : AreInCheck e.checking (log_of e (rows.Refused req reason ∷ []))
       checks_ =

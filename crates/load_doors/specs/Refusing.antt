@@ -6,6 +6,7 @@ use Rattle.log_model.specs.Causes.{denial_at_acceptance}
 use Rattle.log_model.specs.Equal.{has_req}
 use Rattle.log_model.specs.declared.outcome.Denial.{Denial}
 use Rattle.log_model.specs.declared.request.Mode.{Mode}
+use Rattle.tab_doors.specs.PassedOn.{NobodyAsked}
 use Rattle.seen_laws.specs.InEvent.{InEvent, log_of, now_of}
 use Rattle.std.specs.Prelude.{List, None, Some, false, length, ℕ, ◌+◌, ◌≡◌, []}
 use Rattle.tab_ids.specs.declared.NavId.{NavId}
@@ -21,6 +22,7 @@ pub record IsDeniedLoad (e : InEvent) (req : ReqId) (reason : Denial) : Type 0 w
   pub numbered : AreNumbered e.start
   pub checks : AreInCheck e.checking (log_of e [])
   pub plain : log_of e [] ≡ now_of e []
+  pub before : NobodyAsked e.start
   pub nav : NavId
   pub mode : Mode
   pub address : List ℕ

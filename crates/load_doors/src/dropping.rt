@@ -52,6 +52,7 @@ pub fn drop_new(
     requires is_open { IsOpenHere e out.old req }
     requires apart { is_this tables.old.running req ≡ false }
     requires no_load { IsNoLoad (now_of e out.old) req }
+    requires off { e.checking req ≡ false }
     ensures work { OnOk result (IsAtWork e out.new tables.new) }
     ensures out { OnOk result (out.new ≡ out.old ++ rows.Dropped req (drops.By by) ∷ []) }
     ensures tables { tables.new ≡ tables.old }

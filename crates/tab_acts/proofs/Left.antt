@@ -263,6 +263,7 @@ module _ (e : InEvent) (t : Tables) (queue : Queue) (blame : List (StateId × Re
         initial = subst (λ (l : List StateId). AreInitial l t.initial.entries) (sym told.initial) stands.tied.initial;
         loads = loads_tied;
         kept = stands.tied.kept ∙ sym (states_alike s.documents n.documents states_kept s.kept) ∙ ap (λ (l : List DocId). filter_map (state_in n.documents) l) (sym left.kept);
+        checks = stands.tied.checks;
       }
     where
       few_then : length n.documents ≤ n.jobs + 1

@@ -141,7 +141,7 @@ module _ (p : InPass) (out : List RowKind) (t : Tables) (passing : IsPassing p o
 
       pub taken_kept : KeepsRun t u
       taken_kept =
-          record { running = kept.running ∙ it.keeps.running; goal = kept.goal ∙ it.keeps.goal; keep = kept.keep ∙ it.keeps.keep }
+          record { running = kept.running ∙ it.keeps.running; goal = kept.goal ∙ it.keeps.goal; keep = kept.keep ∙ it.keeps.keep; checks = kept.checks ∙ it.keeps.checks }
 
       pub has_taken : HasOnlyDroppedBy y req (IsBelowNav y nav) mid new → HasTaken p.event t nav load out new
       has_taken drops =

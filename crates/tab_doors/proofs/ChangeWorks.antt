@@ -1,10 +1,11 @@
 -- A change is put out, and the coordinator goes on working.
+use Rattle.tab_doors.proofs.Ahead.{IsStep, step_more, step_plain}
+use Rattle.tab_doors.proofs.Works.{open_undropped}
 use Rattle.unasked.proofs.Nows.{applied_goes}
 use Rattle.checking_facts.proofs.Brings.{brings_made}
 use Rattle.tab_doors.proofs.LogDues.{end_due, end_off, take_due}
 use Rattle.apply_plan.specs.Order.{made_in}
 use Rattle.seen_facts.proofs.Coord.Held.{without_same}
-use Rattle.tab_doors.proofs.Ahead.{lawful_none, none_lawful}
 use Rattle.tab_doors.proofs.Changing.{Changes, added_holds, given_holds, given_look, pushed_documents, replaced_documents, untold_sight}
 use Rattle.tab_doors.proofs.EndLaws.{ended_holds}
 use Rattle.tab_doors.proofs.Histories.{held_lost}
@@ -23,11 +24,11 @@ use Rattle.tab_doors.specs.Look.{Sight, look_of, moved_by, sight}
 use Rattle.tab_doors.specs.Ties.{AreInitial, Holds, IsAwakeAtHome, IsHome, IsRunning, IsTied, status_of}
 use Rattle.tab_doors.specs.Working.{HasGoal, IsAtWork, look_now}
 use Rattle.tab_doors.specs.declared.tables.Tables.{Tables}
-use Rattle.row_facts.proofs.FrameRows.LawfulLaws.{AsksOf, ends_other, lawful_more, lawful_plain, left_parked}
+use Rattle.row_facts.proofs.FrameRows.LawfulLaws.{AsksOf, ends_other, left_parked}
 use Rattle.row_facts.proofs.FrameRows.Takes.{taken_may}
 use Rattle.row_facts.proofs.LeaveRows.FragmentTakes.{fragment_applied_may}
 use Rattle.row_facts.proofs.FrameRows.Turns.{end_may}
-use Rattle.row_facts.specs.FrameRows.Lawful.{AreLawful, KeepsHeld, ends_among, held_at_first}
+use Rattle.row_facts.specs.FrameRows.Lawful.{KeepsHeld, ends_among, held_at_first}
 use Rattle.seen_facts.specs.Kept.Keeping.{kept_states}
 use Rattle.load_table.specs.declared.load.Load.{Load}
 use Rattle.seen_facts.proofs.LoadTies.Ends.{applied_ended, other_ends}
@@ -119,12 +120,12 @@ module _ (e : InEvent) (out : List RowKind) (t u : Tables) (req : ReqId) (change
   take_may plain d (inr made) =
       fragment_applied_may (here_of e out) e.event e.actor req d.asked d.made change (led_here e out work.own) d.due made d.free d.taken
 
-  take_lawful : IsNoTraverse → AreLawful e (out ++ rows.Applied req change ∷ [])
-  take_lawful plain =
-      lawful_plain e out (rows.Applied req change) (λ r. refl) due.held (none_lawful e out work.lawful) (take_may plain in_log in_log.by)
+  take_step : IsNoTraverse → IsStep None None e out (rows.Applied req change)
+  take_step plain =
+      step_plain e out (rows.Applied req change) (λ r. refl) due.held (take_may plain in_log in_log.by)
 
-  pub taken_work : IsNoTraverse → Holds (look_of then_ t.running) u → AreInitial then_.initial_states u.initial.entries → u.loads ≡ t.loads → u.kept ≡ t.kept → IsAtWork e (out ++ rows.Applied req change ∷ []) u
-  taken_work plain holds initial loads kept =
+  pub taken_work : IsNoTraverse → Holds (look_of then_ t.running) u → AreInitial then_.initial_states u.initial.entries → u.loads ≡ t.loads → u.kept ≡ t.kept → u.checks ≡ t.checks → IsAtWork e (out ++ rows.Applied req change ∷ []) u
+  taken_work plain holds initial loads kept checks =
       work_more e out (rows.Applied req change) None t u work (applied_goes e out req change (work.checks.numbered req) off) tt off (brings_made e.checking (log_of e out) work.checks.states in_log.asked change in_log.unstarted in_log.due.due)
       (subst (λ (r : Option ReqId). Holds (look_of then_ r) u) (sym running) holds)
       (subst (λ (r : Option ReqId). IsRunning then_.requests r) (sym running) (runs_applied_apart (now_of e out) e.event e.actor t.running req change apart work.runs))
@@ -133,7 +134,9 @@ module _ (e : InEvent) (out : List RowKind) (t u : Tables) (req : ReqId) (change
       initial
       (loads_applied e out t u req change work (unstarted_no_load (now_of e out) req due.asked due.due.at due.unstarted) loads)
       (kept_applied e out t u req change work kept)
-      (lawful_none e (out ++ rows.Applied req change ∷ []) (take_lawful plain))
+      (off, open_undropped (log_of e out) req in_log.asked in_log.due.at in_log.due.open_)
+      (take_step plain)
+      checks
     where
       few_kept : (documents next_ : List Document) (jobs : ℕ) → length next_ ≡ length documents → length documents ≤ jobs + 1 → length next_ ≤ jobs + 1
       few_kept documents next_ jobs same few = omega (arith, same, few)
@@ -152,7 +155,7 @@ lost_by e out t mid change lost work history is = is ∙ held_lost t.store mid.s
 
 -- what a change leaves of the tables that is but for the store and the navigables
 pub tree_changes : (t : Tables) (store : StepIndex) (tree : Tree) → Changes t (record t { store = store; tree = tree })
-tree_changes t store tree = record { making = refl; whose = refl; shown = refl; last = refl; documents = refl; sent = refl; loads = refl; kept = refl }
+tree_changes t store tree = record { making = refl; whose = refl; shown = refl; last = refl; documents = refl; sent = refl; loads = refl; kept = refl; checks = refl }
 
 module _ (e : InEvent) (out : List RowKind) (t : Tables) (req : ReqId) (nav : NavId) (entry : EntryId) (state : StateId) (address : List ℕ) (memo : Option (List ℕ)) (work : IsAtWork e out t) (awake_ : IsAwakeIn t.tree nav (record { 0 = entry.maker })) (due : IsTakeDue e out req (changes.Push nav entry state address memo)) (off : e.checking req ≡ false) (sees : SeesRows (now_of e out) (changes.Push nav entry state address memo)) (of_document : (entry.maker == 0) ≡ false) (apart : is_this t.running req ≡ false) where
   abbrev maker : DocId
@@ -200,6 +203,7 @@ module _ (e : InEvent) (out : List RowKind) (t : Tables) (req : ReqId) (nav : Na
       work.initial
       refl
       refl
+      refl
 
   -- so it is of the tables after the change's door
   pub push_done : (mid : Tables) (gone : List NavId) → mid ≡ record t { store = mid.store } → SameHistory (history_held mid.store) (applied (now_of e out).history push) → gone ≡ lost_of (history_held t.store).rows (history_held mid.store).rows (made_in t.tree) → IsAtWork e (out ++ rows.Applied req push ∷ []) (record mid { tree = destroy_all gone req (with_nav (λ (n : Nav). record n { told = None }) nav (with_nav (λ (n : Nav). record n { given = Some entry }) nav mid.tree)) })
@@ -238,6 +242,7 @@ module _ (e : InEvent) (out : List RowKind) (t : Tables) (req : ReqId) (nav : Na
       work.initial
       refl
       refl
+      refl
 
 -- ---- a frame is added
 
@@ -249,6 +254,7 @@ module _ (e : InEvent) (out : List RowKind) (t u : Tables) (req : ReqId) (owner 
       (initial_same ((now_of e out).initial_states ++ state ∷ []) (insert_entry is_state t.initial.entries state value) u.initial.entries initial (initial_put (now_of e out).initial_states t.initial.entries state value work.initial))
       one.loads
       one.kept
+      one.checks
 
 -- ---- a traversal ends
 
@@ -280,15 +286,18 @@ module _ (e : InEvent) (out : List RowKind) (t u : Tables) (req : ReqId) (goal_ 
       by_first (inl same) = ap (λ (l : List ReqId). ends_among l later) same ∙ asks.1 refl ∙ left
       by_first (inr none) = ap (λ (l : List ReqId). ends_among l later) none.0 ∙ none_ends (filter_map ends_in later) ∙ sym none.0
 
-  end_lawful : AreLawful e (out ++ rows.Applied req (changes.Traverse goal_) ∷ [])
-  end_lawful = by_log (end_due e out (now_is e out) (aimed_log e out t work) req goal_ due)
+  end_log : IsEndDueIn (log_of e out) e out req goal_
+  end_log = end_due e out (now_is e out) (aimed_log e out t work) req goal_ due
+
+  end_step : IsStep None None e out (rows.Applied req (changes.Traverse goal_))
+  end_step = by_log (end_due e out (now_is e out) (aimed_log e out t work) req goal_ due)
     where
       parked : (now_of e out).parked ≡ (log_of e out).parked
       parked = ap (λ (s : Seen). s.parked) (now_is e out)
 
-      by_log : IsEndDueIn (log_of e out) e out req goal_ → AreLawful e (out ++ rows.Applied req (changes.Traverse goal_) ∷ [])
+      by_log : IsEndDueIn (log_of e out) e out req goal_ → IsStep None None e out (rows.Applied req (changes.Traverse goal_))
       by_log d =
-          lawful_more e out (rows.Applied req (changes.Traverse goal_)) (λ r. refl) end_held (none_lawful e out work.lawful) (λ later asks. end_may (here_of e out) e.event e.actor req d.asked goal_ (led_here e out work.own) d.due d.traverses d.makes d.passed d.stand d.unparked later (subst (λ (l : List ReqId). ends_among l later ≡ l) parked (held_then later asks)))
+          step_more e out (rows.Applied req (changes.Traverse goal_)) (λ r. refl) end_held (λ later asks. end_may (here_of e out) e.event e.actor req d.asked goal_ (led_here e out work.own) d.due d.traverses d.makes d.passed d.stand d.unparked later (subst (λ (l : List ReqId). ends_among l later ≡ l) parked (held_then later asks)))
 
   -- it isn't in its check
   off : e.checking req ≡ false
@@ -304,7 +313,9 @@ module _ (e : InEvent) (out : List RowKind) (t u : Tables) (req : ReqId) (goal_ 
       (initial_same (now_of e out).initial_states t.initial.entries u.initial.entries initial work.initial)
       (loads_applied e out t u req (changes.Traverse goal_) work (no_load_at (now_of e out) req due.asked due.due.at (traversal_no_load due.asked.what due.traverses)) one.loads)
       (kept_applied e out t u req (changes.Traverse goal_) work one.kept)
-      (lawful_none e (out ++ rows.Applied req (changes.Traverse goal_) ∷ []) end_lawful)
+      (off, open_undropped (log_of e out) req end_log.asked end_log.due.at end_log.due.open_)
+      end_step
+      one.checks
     where
       few_kept : (documents next_ : List Document) (jobs : ℕ) → length next_ ≡ length documents → length documents ≤ jobs + 1 → length next_ ≤ jobs + 1
       few_kept documents next_ jobs same few = omega (arith, same, few)
@@ -320,6 +331,7 @@ module _ (e : InEvent) (out : List RowKind) (t : Tables) (req : ReqId) (nav : Na
       taken_work e out t (record t { store = store; tree = destroy_all removed_navs req t.tree }) req (changes.RemoveFrame nav) work due off apart refl refl (λ h later. refl)
       (removed_holds (now_of e out) t.running e.event e.actor req nav t work.holds store removed_navs (lost_seen (now_of e out) (changes.RemoveFrame nav) t.running t work.holds sees) history)
       work.initial
+      refl
       refl
       refl
 

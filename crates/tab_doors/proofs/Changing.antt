@@ -81,6 +81,7 @@ pub record Changes (t u : Tables) : Type 0 where
   pub sent : length u.sent.items ≡ length t.sent.items
   pub loads : u.loads ≡ t.loads
   pub kept : u.kept ≡ t.kept
+  pub checks : u.checks ≡ t.checks
 
 -- ---- a push or replace: the navigable is given the entry
 

@@ -13,18 +13,15 @@ use Rattle.log_model.specs.declared.header.Header.{Header}
 use Rattle.log_model.specs.declared.job.Job.{Job}
 use Rattle.log_model.specs.declared.row_kind.LogRow.{LogRow}
 use Rattle.log_model.specs.declared.row_kind.RowKind.{RowKind}
-use Rattle.log_model.specs.declared.row_kind.RowKind.TheVariants as rows
-use Rattle.row_facts.proofs.LeaveRows.LeftRows.{prompts_none}
-use Rattle.row_facts.specs.FrameRows.Discarding.{SettlesNone}
 use Rattle.row_facts.specs.LeaveRows.Evicting.{IsBelowDue, IsKeptLast, IsUnneededDue}
 use Rattle.row_facts.specs.LeaveRows.Freezing.{IsFreezeDue}
 use Rattle.row_facts.specs.LeaveRows.Leaving.{IsDiscardOf, IsLeaveDue, IsTooMany}
-use Rattle.row_facts.specs.LeaveRows.MayLeave.{IsBelowLeft, IsDiscardLeft, IsFreezeLeft, IsGoneLeft, IsKeptLeft, IsLastLeft, IsUnneededLeft, MayBeLeft, PromptsLater}
+use Rattle.row_facts.specs.LeaveRows.MayLeave.{IsBelowLeft, IsDiscardLeft, IsFreezeLeft, IsGoneLeft, IsKeptLeft, IsLastLeft, IsUnneededLeft, MayBeLeft}
 use Rattle.seen_laws.specs.Blocks.{Here}
-use Rattle.seen_laws.specs.InEvent.{InEvent, here_of, log_of, now_of, row_of}
+use Rattle.seen_laws.specs.InEvent.{InEvent, here_of, log_of, now_of}
 use Rattle.seen_laws.specs.Sending.{IsNumbered}
 use Rattle.seen_laws.specs.Unasked.{unasked, unhandled}
-use Rattle.tab_doors.proofs.Works.{aimed_log, at_log}
+use Rattle.tab_doors.proofs.Works.{aimed_log}
 use Rattle.tab_doors.specs.Keeping.{Move}
 use Rattle.tab_doors.specs.Working.{IsAtWorkFor}
 use Rattle.tab_doors.specs.declared.tables.Tables.{Tables}
@@ -117,11 +114,6 @@ module _ (e : InEvent) (out : List RowKind) (same : now_of e out ≡ unasked e.c
 -- ---- where the coordinator works
 
 module _ {move : Option Move} (e : InEvent) (out : List RowKind) (t : Tables) (work : IsAtWorkFor move e out t) where
-  -- where nobody is asked, no order makes a prompt due
-  pub prompts_log : (job : Job) → SettlesNone (now_of e out) (row_of e (rows.Sent job)) → (later : List LogRow) → PromptsLater (here_of e out) (row_of e (rows.Sent job)) later
-  prompts_log job settles later =
-      prompts_none (here_of e out) (row_of e (rows.Sent job)) (at_log e out t work (λ (x : Seen). SettlesNone x (row_of e (rows.Sent job))) settles) later
-
   -- its document state has no entry, and is no ongoing load's
   pub gone_log : (job : Job) (bare : Document) (its : IsLeftAs e out job bare) → has_state bare.state (now_of e out).history.rows ≡ false → ongoing_load (now_of e out) bare.state ≡ None → IsGoneLeft (here_of e out) job its.d
   gone_log job bare its gone unloaded =

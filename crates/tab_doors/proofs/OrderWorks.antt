@@ -1,4 +1,5 @@
 -- A document is told something, or is to be made, and the coordinator goes on working.
+use Rattle.tab_doors.proofs.Ahead.{IsStep, step_plain}
 use Rattle.unasked.proofs.Nows.{sent_goes}
 use Rattle.unasked_dues.proofs.Shows.{numbered_in, update_due}
 use Rattle.unasked_dues.proofs.Making.{make_due}
@@ -8,7 +9,6 @@ use Rattle.seen_facts.proofs.Hang.Targets.{target_has}
 use Rattle.seen_facts.specs.Hang.Members.{Has}
 use Rattle.log_model.specs.Places.{aim_of}
 use Rattle.tab_doors.proofs.ReadOff.{proc_same, there as there_log}
-use Rattle.tab_doors.proofs.Ahead.{lawful_none, none_lawful}
 use Rattle.tab_doors.proofs.Initial.{initial_same}
 use Rattle.tab_doors.proofs.Keeping.{unloaded_apart}
 use Rattle.tab_doors.proofs.Making.{MakesOne, make_holds}
@@ -20,9 +20,7 @@ use Rattle.tab_doors.specs.Orders.{IsThere, next_order, order_to, proc_at}
 use Rattle.tab_doors.specs.Ties.{Holds, IsAwakeIn}
 use Rattle.tab_doors.specs.Working.{IsAtWork}
 use Rattle.tab_doors.specs.declared.tables.Tables.{Tables}
-use Rattle.row_facts.proofs.FrameRows.LawfulLaws.{lawful_plain}
 use Rattle.row_facts.proofs.FrameRows.Makes.{make_may, make_quiet}
-use Rattle.row_facts.specs.FrameRows.Lawful.{AreLawful}
 use Rattle.row_facts.specs.FrameRows.Making.{IsMakeDue}
 use Rattle.seen_facts.specs.Kept.Keeping.{AreKeptDocs}
 use Rattle.load_table.specs.declared.load.Load.{Load}
@@ -75,9 +73,9 @@ module _ (e : InEvent) (out : List RowKind) (t u : Tables) (nav : NavId) (doc : 
       ∙ proc_same e.checking (log_of e out) doc
       ∙ proc_found (log_of e out) doc in_log.document in_log.found
 
-  update_lawful : IsUpdateDue (now_of e out) update (long, at) → AreLawful e (out ++ rows.Sent update ∷ [])
-  update_lawful due =
-      lawful_plain e out (rows.Sent update) (order_quiet e update (tasks.Update long at) refl tt) (sent_held e out update) (none_lawful e out work.lawful) (update_may (here_of e out) e.event e.actor update in_log.document long at refl (led_here e out work.own) is_numbered (record { found = in_log.found; proc = sym its_proc; alive = in_log.alive }) (update_due e.checking (log_of e out) (moving_log e out t work) update (long, at) (at_seen e out t work (λ (s : Seen). IsUpdateDue s update (long, at)) due)))
+  update_step : IsUpdateDue (now_of e out) update (long, at) → IsStep None None e out (rows.Sent update)
+  update_step due =
+      step_plain e out (rows.Sent update) (order_quiet e update (tasks.Update long at) refl tt) (sent_held e out update) (update_may (here_of e out) e.event e.actor update in_log.document long at refl (led_here e out work.own) is_numbered (record { found = in_log.found; proc = sym its_proc; alive = in_log.alive }) (update_due e.checking (log_of e out) (moving_log e out t work) update (long, at) (at_seen e out t work (λ (s : Seen). IsUpdateDue s update (long, at)) due)))
     where
       is_numbered : IsNumbered (log_of e out) update
       is_numbered =
@@ -93,7 +91,9 @@ module _ (e : InEvent) (out : List RowKind) (t u : Tables) (nav : NavId) (doc : 
       (initial_same (now_of e out).initial_states t.initial.entries u.initial.entries one.initial work.initial)
       (loads_sent e out t u update tt work one.loads)
       (kept_on (now_of e out) doc (addressed (tasks.Update long at)) (λ d. refl) (λ d. refl) None t.kept u.kept work.kept kept)
-      (lawful_none e (out ++ rows.Sent update ∷ []) (update_lawful due))
+      tt
+      (update_step due)
+      one.checks
 
 -- ---- a document is to be made
 
@@ -104,9 +104,9 @@ module _ (e : InEvent) (out : List RowKind) (t u : Tables) (proc : ProcId) (doc 
   abbrev then_made : Seen
   then_made = after (now_of e out) (row_of e (rows.Sent make))
 
-  make_lawful : IsMakeDue e.header (now_of e out) make nav state address initial → (desk_of (now_of e out) proc).known ≡ 0 → AreLawful e (out ++ rows.Sent make ∷ [])
-  make_lawful due known =
-      lawful_plain e out (rows.Sent make) (make_quiet e make nav state address initial refl) (sent_held e out make) (none_lawful e out work.lawful) (make_may (here_of e out) e.event e.actor make nav state address initial (led_here e out work.own) is_numbered (subst (λ (hd : Header). IsMakeDue hd (log_of e out) make nav state address initial) (sym (header_here e out)) in_log))
+  make_step : IsMakeDue e.header (now_of e out) make nav state address initial → (desk_of (now_of e out) proc).known ≡ 0 → IsStep None None e out (rows.Sent make)
+  make_step due known =
+      step_plain e out (rows.Sent make) (make_quiet e make nav state address initial refl) (sent_held e out make) (make_may (here_of e out) e.event e.actor make nav state address initial (led_here e out work.own) is_numbered (subst (λ (hd : Header). IsMakeDue hd (log_of e out) make nav state address initial) (sym (header_here e out)) in_log))
     where
       is_numbered : IsNumbered (log_of e out) make
       is_numbered =
@@ -131,4 +131,6 @@ module _ (e : InEvent) (out : List RowKind) (t u : Tables) (proc : ProcId) (doc 
       (initial_same (now_of e out).initial_states t.initial.entries u.initial.entries one.initial work.initial)
       (subst (λ (l : List Load). TiesLoads then_made l) (sym loads) (other_made (now_of e out) e.event e.actor t.loads work.loads make nav state address initial refl (unloaded_apart (now_of e out) t.loads work.loads state unloaded)))
       (kept_made e out t u make nav state work kept_docs one.kept)
-      (lawful_none e (out ++ rows.Sent make ∷ []) (make_lawful due known))
+      for_other
+      (make_step due known)
+      one.checks

@@ -4,3 +4,4 @@ pub use Rattle.unasked_dues.proofs.Paid.{paid_read}
 pub use Rattle.unasked_dues.proofs.Read.{read_more, read_own}
 pub use Rattle.unasked_dues.proofs.Sole.{sole_own}
 pub use Rattle.unasked_dues.specs.Checking.{AreNumbered}
+pub use Rattle.checking_facts.proofs.Nobody.{lawful_pass, nobody_duly, none_before, none_told, pass_end, plain_nobody}

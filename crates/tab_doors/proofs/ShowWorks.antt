@@ -1,11 +1,11 @@
 -- A navigable is shown its document, and the coordinator goes on working; a move to the document ends.
+use Rattle.tab_doors.proofs.Ahead.{IsMeant, IsStep, step_show}
 use Rattle.unasked.proofs.Nows.{sent_goes}
 use Rattle.unasked_dues.proofs.Shows.{numbered_in}
 use Rattle.unasked_dues.specs.Checking.{IsForOther}
 use Rattle.tab_doors.proofs.ReadOff.{may_show}
 use Rattle.seen_laws.specs.Sending.{IsNumbered}
 use Rattle.nav_tree.specs.Tree.{activated}  -- keep
-use Rattle.tab_doors.proofs.Ahead.{IsMeant, lawful_none, show_for}
 use Rattle.tab_doors.proofs.Initial.{initial_same}
 use Rattle.tab_doors.proofs.Nodes.{changed_twice, still_there}
 use Rattle.tab_doors.proofs.Showing.{show_holds, shown_nav}
@@ -17,7 +17,6 @@ use Rattle.tab_doors.specs.Orders.{MayShow, order_to, proc_at}
 use Rattle.tab_doors.specs.Ties.{Holds, IsRunning}
 use Rattle.tab_doors.specs.Working.{IsAtWork, IsAtWorkFor}
 use Rattle.tab_doors.specs.declared.tables.Tables.{Tables}
-use Rattle.row_facts.specs.FrameRows.Lawful.{AreLawful}
 use Rattle.indexmap.specs.IndexMap.{insert_entry}
 use Rattle.seen_facts.proofs.Kept.States.{AreOfOwnStates}
 use Rattle.log_model.proofs.Refl.{nat_eq_refl}
@@ -86,9 +85,9 @@ module _ {move : Option Move} (e : InEvent) (out : List RowKind) (t u : Tables) 
     may_log =
         may_show e.checking (log_of e out) (aimed_log e out t work) t.tree nav show entry epoch (long, at) memo address (passed_log e out t work show.task why for_other may.passed) (at_seen e out t work (λ (s : Seen). MayShow s t.tree nav show entry epoch (long, at) memo address) may)
 
-    show_lawful : IsMeant move doc → AreLawful e (out ++ rows.Sent show ∷ [])
-    show_lawful is_meant =
-        show_for e out move show work.lawful is_meant (order_quiet e show (tasks.Activate entry epoch long at memo address) refl tt) refl (show_may (here_of e out) e.event e.actor show may_log.document entry epoch long at memo address refl (led_here e out work.own) (numbered_in e.checking (log_of e out) show (at_seen e out t work (λ (s : Seen). IsNumbered s show) (record { number = refl; incarnation = may.known }))) may_log.goes may_log.due may_log.passed)
+    show_step : IsMeant move doc → IsStep move None e out (rows.Sent show)
+    show_step is_meant =
+        step_show e out move show is_meant (order_quiet e show (tasks.Activate entry epoch long at memo address) refl tt) refl (show_may (here_of e out) e.event e.actor show may_log.document entry epoch long at memo address refl (led_here e out work.own) (numbered_in e.checking (log_of e out) show (at_seen e out t work (λ (s : Seen). IsNumbered s show) (record { number = refl; incarnation = may.known }))) may_log.goes may_log.due may_log.passed)
 
     keeps_read : {B : Type 0} (read : Asked → B) → ((q : Asked) (navs : List NavId) (n : NavId) → read (with_activated n (with_moved navs q)) ≡ read q) → (q : Asked) → read (request_served (now_of e out) show (tasks.Activate entry epoch long at memo address) q) ≡ read q
     keeps_read read same q = rw may.goes.found (same q (option_map_or (sleepers_below (now_of e out) doc) (place_of (now_of e out) d.nav) []) d.nav)
@@ -136,7 +135,9 @@ module _ {move : Option Move} (e : InEvent) (out : List RowKind) (t u : Tables) 
         (initial_same (now_of e out).initial_states t.initial.entries u.initial.entries one.initial work.initial)
         (loads_sent e out t u show tt work one.loads)
         (kept_shown (now_of e out) doc (addressed (tasks.Activate entry epoch long at memo address)) (λ x. refl) (λ x. refl) state its_state move t.kept u.kept work.kept leaves kept)
-        (lawful_none e (out ++ rows.Sent show ∷ []) (show_lawful (meant move state t.kept.keep leaves)))
+        for_other
+        (show_step (meant move state t.kept.keep leaves))
+        one.checks
       where
         fused : with_nav (λ (n : Nav). record n { moved = is_some t.running }) nav (with_nav (λ (n : Nav). record n { told = Some (long, at) }) nav (with_nav (activated entry doc why) nav t.tree)) ≡ with_nav (shown_nav entry doc why (long, at) (λ b. is_some t.running)) d.nav t.tree
         fused =

@@ -1,9 +1,11 @@
 -- A document is frozen or discarded, navigables fall asleep for it, and the coordinator goes on working; a move that has begun goes on.
+use Rattle.tab_doors.proofs.Ahead.{step_sent}
+use Rattle.tab_doors.proofs.Leavable.{in_log}
+use Rattle.seen_laws.proofs.InEvents.{now_is}
 use Rattle.unasked.proofs.Nows.{sent_goes}
 use Rattle.unasked_dues.specs.Checking.{IsForOther}
 use Rattle.checking_facts.proofs.Cases.{other_wakes}
 use Rattle.nav_tree.specs.Tree.{discarded}  -- keep
-use Rattle.tab_doors.proofs.Ahead.{sent_for}
 use Rattle.tab_doors.proofs.Discarding.{discard_holds}
 use Rattle.tab_doors.proofs.Freezing.{freeze_holds}
 use Rattle.tab_doors.proofs.Initial.{initial_same}
@@ -75,7 +77,9 @@ module _ {move : Option Move} (e : InEvent) (out : List RowKind) (t u : Tables) 
       (initial_same (now_of e out).initial_states t.initial.entries u.initial.entries one.initial work.initial)
       (loads_sent e out t u freeze tt work one.loads)
       (kept_on (now_of e out) doc (addressed tasks.Freeze) (λ d. refl) (λ d. refl) move t.kept u.kept work.kept kept)
-      (sent_for e out move freeze work.lawful (freeze_quiet e freeze refl) refl may)
+      for_other
+      (step_sent e out move freeze (freeze_quiet e freeze refl) refl may)
+      one.checks
 
 -- ---- a document is discarded
 
@@ -100,4 +104,6 @@ module _ {move : Option Move} (e : InEvent) (out : List RowKind) (t u : Tables) 
       (initial_same (now_of e out).initial_states t.initial.entries u.initial.entries one.initial work.initial)
       (subst (λ (l : List Load). TiesLoads then_gone l) (sym one.loads) (gone_tied (now_of e out) e.event e.actor t.loads work.loads discard refl unloaded))
       (kept_gone (now_of e out) doc (λ (x : Document). record x { is_discarded = true }) (λ x. refl) (λ x. refl) state own move t.kept u.kept work.kept lets kept)
-      (sent_for e out move discard work.lawful (discard_quiet e discard refl) refl may)
+      (let its_own = in_log e out (now_is e out) doc its.document its.found in (its_own.d, its_own.found))
+      (step_sent e out move discard (discard_quiet e discard refl) refl may)
+      one.checks

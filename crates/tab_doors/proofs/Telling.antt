@@ -47,6 +47,7 @@ pub record SendsOne (t u : Tables) (shown_ : List (NavId × JobId)) (last_ : Lis
   pub sent : length u.sent.items ≡ length t.sent.items + 1
   pub loads : u.loads ≡ t.loads
   pub initial : u.initial.entries ≡ t.initial.entries
+  pub checks : u.checks ≡ t.checks
 
 abbrev pub told_to : ℕ × ℕ → Sight → Sight
 told_to pair d = record d { told = Some pair }

@@ -25,7 +25,17 @@ use Rattle.tab_doors.specs.Keeping.{HasRoom, Leaves, LeavesFor, LetsGo, Move, ke
 use Rattle.tab_doors.specs.Look.{look_of}
 use Rattle.tab_doors.specs.Orders.{next_order, numbered_order, order_to, proc_at}
 use Rattle.tab_doors.specs.Ties.{AreInitial, Holds, IsRunning, proc_in}
-use Rattle.tab_doors.specs.Working.{AreLawfulFor, HasGoal, IsAtWork, IsAtWorkFor}
+use Rattle.tab_doors.proofs.Ahead.{IsStep}
+use Rattle.tab_doors.specs.Working.{HasGoal, IsAhead, IsAtWork, IsAtWorkFor}
+use Rattle.std.proofs.lemmas.List.Sums.{fold-append}
+use Rattle.unasked_dues.specs.Checking.{AllOthersPass}
+use Rattle.log_model.specs.Checks.{is_checked}
+use Rattle.log_model.specs.Equal.{holds}
+use Rattle.log_model.specs.Outcomes.{is_drop}
+use Rattle.log_model.specs.declared.outcome.Ending.{Ending}
+use Rattle.checking_facts.proofs.Steps.{more_duly, more_pass}
+use Rattle.checking_facts.specs.Prompts.{IsUndropped, AreAskedDuly, GoesBeside, PassIf, Told, noted_in, tell_row, told_by}
+use Rattle.unload_check.specs.Checks.{OpenCheck}
 use Rattle.tab_doors.specs.declared.tables.Tables.{Tables}
 use Rattle.row_facts.proofs.FrameRows.LawfulLaws.{keeps_held}
 use Rattle.row_facts.specs.FrameRows.Lawful.{KeepsHeld}
@@ -179,8 +189,8 @@ module _ {from : Option Move} (e : InEvent) (out : List RowKind) (kind : RowKind
   abbrev pub then_ : Seen
   then_ = after (now_of e out) (row_of e kind)
 
-  pub work_more : GoesThere e out kind → BeginsSole e out kind → GoesDuly e.checking (log_of e out) kind → LeavesStates e.checking (log_of e out) kind → Holds (look_of then_ u.running) u → IsRunning then_.requests u.running → HasGoal then_.requests u.running u.goal → length then_.documents ≤ then_.jobs + 1 → AreInitial then_.initial_states u.initial.entries → TiesLoads then_ u.loads → u.kept.states ≡ kept_in move u.kept.keep (kept_states then_) → AreLawfulFor move e (out ++ kind ∷ []) → IsAtWorkFor move e (out ++ kind ∷ []) u
-  work_more it begins duly leaves holds runs goal few initial loads kept lawful =
+  pub work_more : GoesThere e out kind → BeginsSole e out kind → GoesDuly e.checking (log_of e out) kind → LeavesStates e.checking (log_of e out) kind → Holds (look_of then_ u.running) u → IsRunning then_.requests u.running → HasGoal then_.requests u.running u.goal → length then_.documents ≤ then_.jobs + 1 → AreInitial then_.initial_states u.initial.entries → TiesLoads then_ u.loads → u.kept.states ≡ kept_in move u.kept.keep (kept_states then_) → GoesBeside e.checking (log_of e out) kind → IsStep from move e out kind → u.checks ≡ t.checks → IsAtWorkFor move e (out ++ kind ∷ []) u
+  work_more it begins duly leaves holds runs goal few initial loads kept beside step same =
       record {
         own = work.own;
         worker = work.worker;
@@ -200,13 +210,41 @@ module _ {from : Option Move} (e : InEvent) (out : List RowKind) (kind : RowKind
         initial = subst (λ (s : Seen). AreInitial s.initial_states u.initial.entries) (sym (now_more e out kind it.read)) initial;
         loads = subst (λ (s : Seen). TiesLoads s u.loads) (sym (now_more e out kind it.read)) loads;
         kept = subst (λ (s : Seen). u.kept.states ≡ kept_in move u.kept.keep (kept_states s)) (sym (now_more e out kind it.read)) kept;
-        lawful = lawful;
+        asked = subst (λ (told : Told). AreAskedDuly e.checking e.start (log_of e (out ++ kind ∷ [])) told) (sym told_then) (subst (λ (s : Seen). AreAskedDuly e.checking e.start s (tell_row told kind)) (sym (log_more e out kind)) (more_duly e out told work.asked kind beside step.quiet step.held (IsAhead from) (IsAhead move) step.ahead passes));
+        lawful = subst (λ (x : Told). PassIf (IsAhead move) e (noted_in x) (out ++ kind ∷ [])) (sym told_then) (more_pass e out told work.asked kind beside step.quiet step.held (IsAhead from) (IsAhead move) step.ahead work.lawful step.may);
       }
     where
+      told : Told
+      told = told_by t.checks out
+
+      -- the table is told of the row
+      told_then : told_by u.checks (out ++ kind ∷ []) ≡ tell_row told kind
+      told_then = ap (λ (c : List (ReqId × OpenCheck)). told_by c (out ++ kind ∷ [])) same ∙ fold-append tell_row (record { checks = t.checks; run = [] }) out (kind ∷ [])
+
       checks_ : AreInCheck e.checking (log_of e (out ++ kind ∷ []))
       checks_ =
           subst (λ (s : Seen). AreInCheck e.checking s) (sym (log_more e out kind))
           (row_checks e.checking (log_of e out) (row_of e kind) duly leaves work.checks)
+
+      passes : AllOthersPass e.checking (after (log_of e out) (row_of e kind))
+      passes = subst (λ (s : Seen). AllOthersPass e.checking s) (log_more e out kind) checks_.others
+
+-- an open request wasn't dropped
+pub open_undropped : (s : Seen) (req : ReqId) (q : Asked) → request_of s req ≡ Some q → q.ending ≡ None → IsUndropped s req
+open_undropped s req q at open_ r found =
+    let both : Some q ≡ Some r = sym at ∙ found in
+    let one : q ≡ r = cc in
+    ap (λ (x : Asked). holds is_drop x.ending) (sym one) ∙ ap (λ (o : Option Ending). holds is_drop o) open_
+
+-- a request of no kind that is checked isn't in its check
+pub unchecked_off : (checking : ReqId → Bool) (s : Seen) → AreInCheck checking s → (req : ReqId) (q : Asked) → request_of s req ≡ Some q → is_checked q ≡ false → checking req ≡ false
+unchecked_off checking s checks req q at none = by_test (checking req) refl
+  where
+    by_test : (b : Bool) → checking req ≡ b → b ≡ false
+    by_test false off = refl
+    by_test true on =
+        let both : true ≡ false = sym (checks.checks req q at on).checked ∙ none in
+        absurd cc
 
 -- the rows are these
 pub next_for : (move : Option Move) (e : InEvent) (new then_out : List RowKind) (u : Tables) → new ≡ then_out → IsAtWorkFor move e then_out u → IsAtWorkFor move e new u

@@ -7,3 +7,4 @@ pub mod Ending
 pub mod Dues
 pub mod Working
 pub mod Noting
+pub mod PassedOn

@@ -80,6 +80,7 @@ pub record IsFresh (address : List ℕ) (proc : ProcId) (keep : ℕ) (t : Tables
   pub running : t.running ≡ None
   pub loads : t.loads ≡ []
   pub kept : t.kept ≡ record { keep = keep; states = [] }
+  pub checks : t.checks ≡ []
 
 -- so it is before what is noted of its document: whose it is and where, that it was shown, and whether it is an initial about:blank one; and nothing was sent
 pub record IsBare (address : List ℕ) (proc : ProcId) (keep : ℕ) (t : Tables) : Type 0 where
@@ -97,3 +98,4 @@ pub record IsBare (address : List ℕ) (proc : ProcId) (keep : ℕ) (t : Tables)
   pub running : t.running ≡ None
   pub loads : t.loads ≡ []
   pub kept : t.kept ≡ record { keep = keep; states = [] }
+  pub checks : t.checks ≡ []

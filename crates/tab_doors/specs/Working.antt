@@ -7,7 +7,8 @@ use Rattle.tab_doors.specs.Look.{Look, look_of}
 use Rattle.tab_doors.specs.Keeping.{Move, kept_in}
 use Rattle.tab_doors.specs.Ties.{AreInitial, Holds, IsRunning}
 use Rattle.tab_doors.specs.declared.tables.Tables.{Tables}
-use Rattle.row_facts.specs.FrameRows.Lawful.{IsRestOf}
+use Rattle.checking_facts.specs.Prompts.{AreAskedDuly, PassIf, PromptsFor, noted_by, told_by}
+use Rattle.unload_check.specs.Checks.{OpenCheck}
 use Rattle.seen_facts.specs.Kept.Keeping.{kept_states}
 use Rattle.seen_facts.specs.LoadTies.Tying.{TiesLoads}
 use Rattle.log_model.specs.Seen.{Asked, request_in}
@@ -17,9 +18,9 @@ use Rattle.log_model.specs.declared.row_kind.Actor.{Actor}
 use Rattle.log_model.specs.declared.row_kind.LogRow.{LogRow}
 use Rattle.log_model.specs.declared.row_kind.RowKind.{RowKind}
 use Rattle.seen_laws.specs.Blocks.{MayLog}
-use Rattle.seen_laws.specs.InEvent.{EachGoes, InEvent, here_of, log_of, now_of, row_of, start_of}
+use Rattle.seen_laws.specs.InEvent.{EachGoes, InEvent, here_of, log_of, now_of, row_of}
 use Rattle.seen_laws.specs.Sending.{leads}
-use Rattle.std.specs.Prelude.{List, None, Option, Some, [], length, map, true, ◌+◌, ◌∷◌, ◌≡◌, ◌≤◌}
+use Rattle.std.specs.Prelude.{List, None, Option, Some, [], length, true, ◌+◌, ◌∷◌, ◌≡◌, ◌≤◌}
 use Rattle.tab_ids.specs.declared.DocId.{DocId}
 use Rattle.tab_ids.specs.declared.ReqId.{ReqId}
 use Rattle.tab_ids.specs.declared.Step.{Step}
@@ -66,13 +67,13 @@ abbrev pub IsAhead : Option Move → List LogRow → Type 0
 IsAhead None later = Unit {0}
 IsAhead (Some move) later = next_shown later ≡ Some move.doc
 
--- the own row and those put out so far pass each test, whatever comes later, as long as it has what is ahead
-unfoldable pub AreLawfulFor : Option Move → InEvent → List RowKind → Type 0
-AreLawfulFor move e out = MayLog (start_of e) (row_of e e.own ∷ map (row_of e) out) (λ later. IsRestOf e out later × IsAhead move later)
+-- the own row and those put out so far pass each test, whatever comes later, as long as it has what is ahead, and prompts as it is due by a table that had these checks before the first of them
+abbrev pub AreLawfulFor : Option Move → InEvent → List (ReqId × OpenCheck) → List RowKind → Type 0
+AreLawfulFor move e checks out = PassIf (IsAhead move) e (noted_by checks out) out
 
--- the order may be sent here, as long as what comes later has what is ahead
+-- the order may be sent here, as long as what comes later has what is ahead, and the prompts that the order makes due
 abbrev pub MaySend : Option Move → InEvent → List RowKind → Job → Type 0
-MaySend move e out job = MayLog (here_of e out) (row_of e (rows.Sent job) ∷ []) (IsAhead move)
+MaySend move e out job = MayLog (here_of e out) (row_of e (rows.Sent job) ∷ []) (λ later. IsAhead move later × PromptsFor e out (rows.Sent job) later)
 
 -- ---- all of it, where a move has begun, or none has
 
@@ -98,7 +99,9 @@ pub record IsAtWorkFor (move : Option Move) (e : InEvent) (out : List RowKind) (
   pub initial : AreInitial (now_of e out).initial_states t.initial.entries
   pub loads : TiesLoads (now_of e out) t.loads
   pub kept : t.kept.states ≡ kept_in move t.kept.keep (kept_states (now_of e out))
-  pub lawful : AreLawfulFor move e out
+  -- the table of checks holds those of the requests in their check, told of the documents that the rows discarded; and the rows pass, if the prompts come that are due
+  pub asked : AreAskedDuly e.checking e.start (log_of e out) (told_by t.checks out)
+  pub lawful : AreLawfulFor move e t.checks out
 
 -- where none has
 abbrev pub IsAtWork : InEvent → List RowKind → Tables → Type 0
@@ -106,15 +109,17 @@ IsAtWork e out t = IsAtWorkFor None e out t
 
 -- ---- what a door leaves as it was
 
--- the store, the traversal that runs, what is initial, and how many documents may be kept are as they were
+-- the store, the traversal that runs, how many documents may be kept, and the unload checks are as they were
 pub record KeepsStore (t u : Tables) : Type 0 where
   pub store : u.store ≡ t.store
   pub running : u.running ≡ t.running
   pub goal : u.goal ≡ t.goal
   pub keep : u.kept.keep ≡ t.kept.keep
+  pub checks : u.checks ≡ t.checks
 
--- the traversal that runs is as it was, and how many documents may be kept
+-- the traversal that runs is as it was, and so are how many documents may be kept, and the unload checks
 pub record KeepsRun (t u : Tables) : Type 0 where
   pub running : u.running ≡ t.running
   pub goal : u.goal ≡ t.goal
   pub keep : u.kept.keep ≡ t.kept.keep
+  pub checks : u.checks ≡ t.checks

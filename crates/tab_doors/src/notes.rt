@@ -18,6 +18,7 @@ use page_cache::PageCache;
 use std::alloc::Global;
 use step_index::StepIndex;
 use tab_ids::{DocId, JobId, NavId, ProcId, ReqId, StateId, Step};
+use unload_check::UnloadCheck;
 
 /// Notes the document state of the first document, where that is an initial about:blank one.
 fn note_initial(states: &mut IndexMap<StateId, ()>, first: &Address) -> Result<(), OutOfMemory>
@@ -53,6 +54,7 @@ fn bare(alloc: Global, first: &Address, proc: ProcId, keep: u32) -> Result<Table
         goal: Step(0),
         loads: LoadTable::new(alloc),
         kept,
+        checks: UnloadCheck::new(alloc),
     })
 }
 

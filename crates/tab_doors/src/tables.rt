@@ -11,6 +11,7 @@ use nav_tree::NavTree;
 use page_cache::PageCache;
 use step_index::StepIndex;
 use tab_ids::{DocId, JobId, NavId, ProcId, ReqId, StateId, Step};
+use unload_check::UnloadCheck;
 
 /// The session history, the navigables with the documents that are there, those that are being made, how many of each were numbered, the ongoing loads and the kept documents.
 #[derive(Drop)]
@@ -40,6 +41,8 @@ pub struct Tables {
     pub loads: LoadTable,
     /// The document states whose documents are kept for traversal.
     pub kept: PageCache,
+    /// The unload checks that had begun before the event, as it was then.
+    pub checks: UnloadCheck,
 }
 
 impl Tables {

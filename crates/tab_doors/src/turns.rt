@@ -72,6 +72,7 @@ impl Tables {
         requires due { IsDestroyDue e out.old req by }
         requires apart { is_this self.old.running req ≡ false }
         requires no_load { IsNoLoad (now_of e out.old) req }
+        requires off { e.checking req ≡ false }
         ensures work { OnOk result (IsAtWork e out.new self.new) }
         ensures out { OnOk result (out.new ≡ out.old ++ rows.Dropped req (drops.Destroyed by) ∷ []) }
         ensures tables { self.new ≡ self.old }
@@ -90,6 +91,7 @@ impl Tables {
         requires due { IsDropDue e out.old req by }
         requires apart { is_this self.old.running req ≡ false }
         requires no_load { IsNoLoad (now_of e out.old) req }
+        requires off { e.checking req ≡ false }
         ensures work { OnOk result (IsAtWork e out.new self.new) }
         ensures out { OnOk result (out.new ≡ out.old ++ rows.Dropped req (drops.By by) ∷ []) }
         ensures tables { self.new ≡ self.old }

@@ -18,12 +18,10 @@ use Rattle.nav_tree.specs.Tree.{state_of}
 use Rattle.page_cache.specs.Kept.{left_first, without}
 use Rattle.seen_laws.proofs.InEvents.{led_here}
 use Rattle.seen_laws.specs.InEvent.{InEvent, here_of, now_of}
-use Rattle.row_facts.specs.FrameRows.Discarding.{SettlesNone}
-use Rattle.seen_laws.specs.InEvent.{row_of}
 use Rattle.std.proofs.Common.{Bool, List, None, Option, Some, [], ap, false, length, map, refl, subst, sym, true, ℕ, ◌++◌, ◌==◌, ◌∙◌, ◌∷◌, ◌≡◌, ◌≤◌}
 use Rattle.std.specs.Prelude.{if◌then◌else◌, option_and_then, option_map}
 use Rattle.tab_doors.proofs.Sights.{seen_of, sight_of}
-use Rattle.tab_doors.proofs.Leavable.{IsLeftAs, below_log, discards_log, numbered_log, prompts_log}
+use Rattle.tab_doors.proofs.Leavable.{IsLeftAs, below_log, discards_log, numbered_log}
 use Rattle.tab_doors.proofs.Works.{numbered}
 use Rattle.tab_doors.specs.Keeping.{LetsGo, Move, with_left}
 use Rattle.tab_doors.specs.Look.{Sight, is_live_for, sight}
@@ -39,7 +37,7 @@ use Rattle.tab_evicts.specs.Evicting.{IsThereBelow}
 use Rattle.row_facts.specs.Left.Left.{WereShown}
 use Rattle.row_facts.specs.LeaveRows.MayLeave.{MayBeLeft}
 use Rattle.tab_evicts.proofs.Offs.{off_gone, quiet_left}
-use Rattle.tab_evicts.proofs.Quiets.{IsQuiet, gone_seen, gone_leaving, gone_looks, gone_may, gone_now, gone_other, gone_places, gone_states, gone_stays, gone_were, one_document, one_of_state, quiet_discards, quiet_settles}
+use Rattle.tab_evicts.proofs.Quiets.{IsQuiet, gone_seen, gone_leaving, gone_looks, gone_may, gone_now, gone_other, gone_places, gone_states, gone_stays, gone_were, one_document, one_of_state, quiet_discards}
 use Rattle.tab_evicts.specs.Evicting.{InEvicting, InLetting, IsBeside, IsGoneFor, IsLetting, NoLoadBelow, NoneBelow, StaysPlaced, below_in, hangs_in, move_in}
 use Rattle.tab_ids.specs.declared.DocId.{DocId}
 use Rattle.tab_ids.specs.declared.NavId.{NavId}
@@ -54,9 +52,9 @@ use Rattle.log_model.specs.declared.job.Task.TheVariants as tasks
 use Rattle.log_model.specs.declared.row_kind.RowKind.TheVariants as rows
 
 -- such an order may be sent
-pub below_ahead : (e : InEvent) (out : List RowKind) (move : Option Move) (t : Tables) (doc : DocId) (why : Why) (d : Document) → IsAtWorkFor move e out t → MayBeLeft (here_of e out) (order_to (now_of e out) doc why tasks.Discard) → IsBelowDue (now_of e out) (order_to (now_of e out) doc why tasks.Discard) d → (desk_of (now_of e out) (proc_at (now_of e out) doc)).known ≡ 0 → SettlesNone (now_of e out) (row_of e (rows.Sent (order_to (now_of e out) doc why tasks.Discard))) → MaySend move e out (order_to (now_of e out) doc why tasks.Discard)
-below_ahead e out move t doc why d work left due known settles later ahead =
-    below_left_may (here_of e out) e.event e.actor order its.d (led_here e out work.own) (numbered_log e out (events.now_is e out) order (numbered (now_of e out) (proc_at (now_of e out) doc) doc why tasks.Discard known)) (below_log e out (events.now_is e out) order d its due) later (prompts_log e out t work order settles later, tt)
+pub below_ahead : (e : InEvent) (out : List RowKind) (move : Option Move) (t : Tables) (doc : DocId) (why : Why) (d : Document) → IsAtWorkFor move e out t → MayBeLeft (here_of e out) (order_to (now_of e out) doc why tasks.Discard) → IsBelowDue (now_of e out) (order_to (now_of e out) doc why tasks.Discard) d → (desk_of (now_of e out) (proc_at (now_of e out) doc)).known ≡ 0 → MaySend move e out (order_to (now_of e out) doc why tasks.Discard)
+below_ahead e out move t doc why d work left due known later ahead =
+    below_left_may (here_of e out) e.event e.actor order its.d (led_here e out work.own) (numbered_log e out (events.now_is e out) order (numbered (now_of e out) (proc_at (now_of e out) doc) doc why tasks.Discard known)) (below_log e out (events.now_is e out) order d its due) later (ahead.1, tt)
   where
     order : Job
     order = order_to (now_of e out) doc why tasks.Discard
@@ -213,7 +211,6 @@ module _ (l : InLetting) (gone : StateId) (why : Why) (out : List RowKind) (t : 
           below = ap (λ (d : Document). is_below_gone s d) (one_document s doc its_quiet.document b.document its_quiet.found b.found) ∙ below_gone;
         })
         (so.leaving.going.tab.asked.died (proc_at s doc)).0
-        (quiet_settles p move out t so.leaving why so.may doc its its_quiet (row_of p.event (rows.Sent (order_to s doc why tasks.Discard))))
 
     pub below_lets : LetsGo move t.kept.keep (kept_states s) its
     below_lets = by_move l.moved refl

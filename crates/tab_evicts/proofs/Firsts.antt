@@ -28,14 +28,13 @@ use Rattle.nav_tree.specs.declared.place.Place as live_place
 use Rattle.page_cache.specs.Kept.{left_first, oldest_of, without}
 use Rattle.seen_laws.proofs.InEvents.{led_here}
 use Rattle.seen_laws.proofs.Keyed.{find_has as seen_number, find_on_same}
-use Rattle.seen_laws.specs.InEvent.{InEvent, here_of, now_of, row_of, log_of}
-use Rattle.row_facts.specs.FrameRows.Discarding.{SettlesNone}
+use Rattle.seen_laws.specs.InEvent.{InEvent, here_of, now_of, log_of}
 use Rattle.std.proofs.Common.{Bool, List, None, Option, Some, [], ap, arith, cond, drop, false, filter_map, inl, inr, length, map, not, refl, subst, suc, sym, true, zero, ℕ, ◌++◌, ◌-◌, ◌==◌, ◌||◌, ◌∙◌, ◌∷◌, ◌≡◌, ◌≤◌}
 use Rattle.std.proofs.lemmas.Bool.Decides.{nat_tests}
 use Rattle.std.specs.Prelude.{IsSome, nat_lt, option_and_then, option_map, slice_get}
 use Rattle.tab_doors.proofs.Sights.{sight_of}
 use Rattle.log_model.specs.declared.header.Header.{Header}
-use Rattle.tab_doors.proofs.Leavable.{IsInLog, IsLeftAs, discards_log, in_log, kept_last_log, kept_log, numbered_log, placed_log, prompts_log}
+use Rattle.tab_doors.proofs.Leavable.{IsInLog, IsLeftAs, discards_log, in_log, kept_last_log, kept_log, numbered_log, placed_log}
 use Rattle.tab_doors.proofs.Works.{header_here, numbered}
 use Rattle.tab_doors.specs.Keeping.{LetsGo, Move, with_left}
 use Rattle.tab_doors.specs.Look.{is_live_for, sight}
@@ -46,7 +45,7 @@ use Rattle.tab_evicts.proofs.Cuts.{over_fits, over_leaves}
 use Rattle.tab_evicts.proofs.Hangings.{none_awake, none_hangs, not_awake}
 use Rattle.row_facts.specs.LeaveRows.MayLeave.{MayBeLeft}
 use Rattle.tab_evicts.proofs.Offs.{off_gone, quiet_left}
-use Rattle.tab_evicts.proofs.Quiets.{IsQuiet, gone_leaving, gone_looks, gone_may, gone_now, gone_other, gone_places, gone_seen, gone_states, gone_stays, gone_were, one_document, quiet_discards, quiet_settles}
+use Rattle.tab_evicts.proofs.Quiets.{IsQuiet, gone_leaving, gone_looks, gone_may, gone_now, gone_other, gone_places, gone_seen, gone_states, gone_stays, gone_were, one_document, quiet_discards}
 use Rattle.tab_evicts.specs.Evicting.{HasRoomBeside, IsBeside, InEvicting, IsEvicting, IsGoneFor, IsToEvict, NoLoadBelow, NoneBelow, OffAreLeft, StaysPlaced}
 use Rattle.tab_ids.specs.declared.DocId.{DocId}
 use Rattle.tab_ids.specs.declared.NavId.{NavId}
@@ -85,9 +84,9 @@ last_has (x ∷ []) doc is = inl (let same : x ≡ doc = cc in same)
 last_has (x ∷ y ∷ docs) doc is = inr (last_has (y ∷ docs) doc is)
 
 -- such an order may be sent
-over_ahead : (e : InEvent) (out : List RowKind) (move : Move) (t : Tables) (doc : DocId) (why : Why) (d new : Document) (place : Place) (left : DocId) → IsAtWorkFor (Some move) e out t → MayBeLeft (here_of e out) (order_to (now_of e out) doc why tasks.Discard) → document_of (now_of e out) move.doc ≡ Some new → IsKeptLast (now_of e out) (order_to (now_of e out) doc why tasks.Discard) d (Some left) → (desk_of (now_of e out) (proc_at (now_of e out) doc)).known ≡ 0 → SettlesNone (now_of e out) (row_of e (rows.Sent (order_to (now_of e out) doc why tasks.Discard))) → nat_lt e.header.keep (length (kept_with (now_of e out) (Some left))) ≡ true → place_of (now_of e out) new.nav ≡ Some place → place.last ≡ Some left → (left.0 == move.doc.0) ≡ false → MaySend (Some move) e out (order_to (now_of e out) doc why tasks.Discard)
-over_ahead e out move t doc why d new place left work may_be found due known settles many placed last apart =
-    overflow_sends (here_of e out) e.event e.actor order move (led_here e out work.own) (numbered_log e out (events.now_is e out) order (numbered (now_of e out) (proc_at (now_of e out) doc) doc why tasks.Discard known)) shown.d shown.found its.d place left (kept_last_log e out (events.now_is e out) order d its (Some left) due) (prompts_log e out t work order settles)
+over_ahead : (e : InEvent) (out : List RowKind) (move : Move) (t : Tables) (doc : DocId) (why : Why) (d new : Document) (place : Place) (left : DocId) → IsAtWorkFor (Some move) e out t → MayBeLeft (here_of e out) (order_to (now_of e out) doc why tasks.Discard) → document_of (now_of e out) move.doc ≡ Some new → IsKeptLast (now_of e out) (order_to (now_of e out) doc why tasks.Discard) d (Some left) → (desk_of (now_of e out) (proc_at (now_of e out) doc)).known ≡ 0 → nat_lt e.header.keep (length (kept_with (now_of e out) (Some left))) ≡ true → place_of (now_of e out) new.nav ≡ Some place → place.last ≡ Some left → (left.0 == move.doc.0) ≡ false → MaySend (Some move) e out (order_to (now_of e out) doc why tasks.Discard)
+over_ahead e out move t doc why d new place left work may_be found due known many placed last apart =
+    overflow_sends (here_of e out) e.event e.actor order move (led_here e out work.own) (numbered_log e out (events.now_is e out) order (numbered (now_of e out) (proc_at (now_of e out) doc) doc why tasks.Discard known)) shown.d shown.found its.d place left (kept_last_log e out (events.now_is e out) order d its (Some left) due)
     (subst (λ (h : Header). nat_lt h.keep (length (kept_with (log_of e out) (Some left))) ≡ true) (sym (header_here e out)) (subst (λ (docs : List DocId). nat_lt e.header.keep (length docs) ≡ true) (kept_log e out (events.now_is e out) (Some left)) many))
     (placed_log e out (events.now_is e out) shown.d.nav place (ap (λ (x : Document). place_of (now_of e out) x.nav) (sym shown.is) ∙ placed))
     last
@@ -285,7 +284,6 @@ module _ (m : InEvicting) (gone : StateId) (why : Why) (out : List RowKind) (t :
   first_sends =
       over_ahead p.event out move t first.doc why first_quiet.document m.new to.place m.left leaving.work (quiet_left p (Some move) out t leaving why to.may first.doc gone first_quiet off) to.new_found due
       (leaving.going.tab.asked.died (proc_at s first.doc)).0
-      (quiet_settles p (Some move) out t leaving why to.may first.doc gone first_quiet (row_of p.event (rows.Sent (order_to s first.doc why tasks.Discard))))
       kept_many
       (ap (λ (n : NavId). place_of s n) to.new_nav ∙ to.placed)
       to.last

@@ -1,19 +1,16 @@
 -- A document on which nobody is awake is discarded within a move.
 use Rattle.tab_doors.proofs.PassedOn.{sent_now}
-use Rattle.seen_facts.proofs.Asked.Passed.{asked_all}
 use Rattle.tab_facts.proofs.Calm.Loads.{IsLoads, loads_sent}
 use Rattle.seen_facts.specs.Doc.Docs.{AreDocs}
 use Rattle.seen_facts.proofs.Hang.Members.{has_map}
 use Rattle.seen_facts.specs.Hang.Members.{Has}
 use Rattle.seen_facts.proofs.Kept.States.{AreOfOwnStates, sole_states, states_without}
 use Rattle.seen_facts.specs.Kept.Keeping.{kept_states}
-use Rattle.row_facts.proofs.LeaveRows.Unasked.{all_answered}
 use Rattle.row_facts.specs.LeaveRows.Leaving.{IsDiscardOf, is_for_one}
 use Rattle.seen_facts.proofs.Load.Rows.{look_blind}
 use Rattle.seen_facts.specs.Load.Loading.{look, look_of}
 use Rattle.load_table.specs.Loads.{ongoing_load}
 use Rattle.load_table.specs.declared.load.Load.{Load}
-use Rattle.row_facts.specs.FrameRows.Discarding.{SettlesNone}
 use Rattle.row_facts.proofs.Left.Rows.{were_shown}
 use Rattle.row_facts.specs.Left.Left.{WereShown}
 use Rattle.seen_facts.specs.LoadTies.Tying.{HasLoad, IsLoadTied, TiesLoads}
@@ -22,12 +19,11 @@ use Rattle.log_model.specs.After.{after}
 use Rattle.log_model.specs.AfterPlaces.{sleepers_with, without_doc}
 use Rattle.log_model.specs.Checks.{may_go_on}
 use Rattle.log_model.specs.Once.{loads}
-use Rattle.log_model.specs.Places.{all_asked, is_load, is_under_way}
+use Rattle.log_model.specs.Places.{is_load, is_under_way}
 use Rattle.log_model.specs.Seen.{Asked, Document, Seen, document_of, request_of}
 use Rattle.log_model.specs.declared.job.Job.{Job}
 use Rattle.log_model.specs.declared.job.Why.{Why}
 use Rattle.log_model.specs.declared.request.Request.{Request}
-use Rattle.log_model.specs.declared.row_kind.LogRow.{LogRow}
 use Rattle.log_model.specs.declared.row_kind.RowKind.{RowKind}
 use Rattle.nav_tree.specs.Tree.{document_of as document_at}
 use Rattle.std.proofs.lemmas.Bool.{and_parts}
@@ -36,7 +32,6 @@ use Rattle.nav_tree.specs.declared.place.Place as live_place
 use Rattle.seen_facts.specs.Asked.Asking.{HavePassed}
 use Rattle.page_cache.specs.Kept.{without}
 use Rattle.seen_facts.proofs.Request.Readers.{sent_reads}
-use Rattle.seen_facts.proofs.Rest.Stands.{all_requests}
 use Rattle.seen_facts.proofs.Rest.Still.{found_itself}
 use Rattle.seen_laws.proofs.Keyed.{find_has as seen_number, find_on_other}
 use Rattle.seen_laws.specs.InEvent.{now_of, row_of}
@@ -178,9 +173,6 @@ module _ (p : InPass) (move : Option Move) {docs : List DocId} (out : List RowKi
 
   all_passed : HavePassed s
   all_passed = leaving.going.tab.asked.passed
-
-  pub quiet_settles : (row : LogRow) → SettlesNone s row
-  quiet_settles row = all_answered s row (all_requests s.requests (all_asked s) (λ req q at. asked_all s q (all_passed req q at)))
 
   pub quiet_discards : IsDiscardOf s discard its.document
   quiet_discards =

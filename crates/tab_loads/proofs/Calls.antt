@@ -1,4 +1,5 @@
 -- A load is asked for while the coordinator stands for the log: what is so once its row was logged, and that it is refused where a reason stands against it.
+use Rattle.tab_stands.proofs.Begun.{start_nobody}
 use Rattle.tab_facts.specs.TabWhole.Tab.{at_hand}
 use Rattle.tab_doors.proofs.PassedOn.{refused_goes}
 use Rattle.tab_stands.proofs.Begun.{checks_first}
@@ -85,7 +86,7 @@ module _ (e : InEvent) (t : Tables) (queue : Queue) (blame : List (StateId × Re
   module _ (reason : Denial) (denied : denial_at_acceptance e.start (requests.Load nav mode address) ≡ Some reason) where
     pub refuse_now : IsDeniedLoad e req reason × AreTied (now_of e []) t
     refuse_now = (
-      record { unchecked = asks.aside.unchecked; numbered = λ r q at. (stands.between.tab.asked.each r q at).nr; checks = checks_first e asks.aside t.running (load_denied e t queue blame stands room header req nav mode address asks).going.tab.asked; plain = asks.aside.plain; nav = nav; mode = mode; address = address; by_user = asks.by_user; own = asks.own; next = asks.next; reason_is = denied; unparked = unparked_before },
+      record { unchecked = asks.aside.unchecked; numbered = λ r q at. (stands.between.tab.asked.each r q at).nr; checks = checks_first e asks.aside t.running (load_denied e t queue blame stands room header req nav mode address asks).going.tab.asked; plain = asks.aside.plain; before = start_nobody e asks.aside; nav = nav; mode = mode; address = address; by_user = asks.by_user; own = asks.own; next = asks.next; reason_is = denied; unparked = unparked_before },
       load_tied e t queue blame stands asks.aside room header req nav mode address asks.by_user asks.own asks.next,
     )
 

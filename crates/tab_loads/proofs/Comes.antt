@@ -97,7 +97,7 @@ module _ (l : InLoad) (t : Tables) (asked : IsAsked l t) where
   apart = load_other t.running (l.req ∷ l.loads) [] s pass.going.tab l.req (of_load l.event l.req l.nav l.mode l.address asked.asks)
 
   pub runs_on : (u : Tables) → u ≡ t → KeepsRun t u
-  runs_on u same = record { running = ap (λ (x : Tables). x.running) same; goal = ap (λ (x : Tables). x.goal) same; keep = ap (λ (x : Tables). x.kept.keep) same }
+  runs_on u same = record { running = ap (λ (x : Tables). x.running) same; goal = ap (λ (x : Tables). x.goal) same; keep = ap (λ (x : Tables). x.kept.keep) same; checks = ap (λ (x : Tables). x.checks) same }
 
   -- ---- it is dropped
 
@@ -109,8 +109,8 @@ module _ (l : InLoad) (t : Tables) (asked : IsAsked l t) where
     cut_there =
         cut_some l.event l.req l.nav l.mode l.address asked.asks t pass asked.off asked.busy place placed un.shown x far.on_way far.own far.there far.away
 
-    pub drop_may : IsAtWork l.event [] t × (IsOpenHere l.event [] l.req × ((is_this t.running l.req ≡ false) × IsNoLoad s l.req))
-    drop_may = (pass.work, (open_here l.event l.req l.nav l.mode l.address asked.asks t.running pass.going.tab, (apart, no_load l.event l.req l.nav l.mode l.address asked.asks)))
+    pub drop_may : IsAtWork l.event [] t × (IsOpenHere l.event [] l.req × ((is_this t.running l.req ≡ false) × (IsNoLoad s l.req × (l.event.checking l.req ≡ false))))
+    drop_may = (pass.work, (open_here l.event l.req l.nav l.mode l.address asked.asks t.running pass.going.tab, (apart, (no_load l.event l.req l.nav l.mode l.address asked.asks, asked.asks.aside.unchecked l.req))))
 
     module _ (by : ReqId) (cut : cut_by_in t x ≡ Some by) (u : Tables) (out : List RowKind) (work : IsAtWork l.event out u) (out_is : out ≡ rows.Dropped l.req (drops.By by) ∷ []) (same : u ≡ t) where
       paid : IsPaidFor l.event l.req l.nav l.mode l.address asked.asks t pass asked.off asked.busy place placed un.shown x far.on_way far.own far.there far.away by cut
@@ -172,17 +172,17 @@ module _ (l : InLoad) (t : Tables) (asked : IsAsked l t) where
                 (rows.Sent order) (sent_goes l.event [] order refl) tt tt (sent_changes s l.event.event l.event.actor pass.going.tab.asked.passed (reckoned_now l.event []) order l.req l.mode l.address)
                 (tab_then l.event l.req l.nav l.mode l.address asked.asks t pass asked.begun.loose place placed standing doc sent.wakes sent.leads) refl out u out_is keeps.running keeps.keep
                 (sent_passing l.event l.req l.nav l.mode l.address asked.asks t pass asked.begun.loose place placed standing doc sent.wakes sent.leads out u out_is keeps work);
-            kept = record { running = keeps.running; goal = keeps.goal; keep = keeps.keep };
+            kept = record { running = keeps.running; goal = keeps.goal; keep = keeps.keep; checks = keeps.checks };
           }
 
 -- ---- what the code's names are of all this
 
 module _ (l : InLoad) (t : Tables) (asked : IsAsked l t) (was : List RowKind) (first : was ≡ []) (req : ReqId) (req_is : l.req ≡ req) where
   module _ (x : NavId) (is : away_in t l.nav ≡ Some x) where
-    pub drop_now : IsAtWork l.event was t × (IsOpenHere l.event was req × ((is_this t.running req ≡ false) × IsNoLoad (now_of l.event was) req))
+    pub drop_now : IsAtWork l.event was t × (IsOpenHere l.event was req × ((is_this t.running req ≡ false) × (IsNoLoad (now_of l.event was) req × (l.event.checking req ≡ false))))
     drop_now =
-        subst (λ (o : List RowKind). IsAtWork l.event o t × (IsOpenHere l.event o req × ((is_this t.running req ≡ false) × IsNoLoad (now_of l.event o) req))) (sym first)
-        (subst (λ (r : ReqId). IsAtWork l.event [] t × (IsOpenHere l.event [] r × ((is_this t.running r ≡ false) × IsNoLoad (now_of l.event []) r))) req_is (drop_may l t asked x is))
+        subst (λ (o : List RowKind). IsAtWork l.event o t × (IsOpenHere l.event o req × ((is_this t.running req ≡ false) × (IsNoLoad (now_of l.event o) req × (l.event.checking req ≡ false))))) (sym first)
+        (subst (λ (r : ReqId). IsAtWork l.event [] t × (IsOpenHere l.event [] r × ((is_this t.running r ≡ false) × (IsNoLoad (now_of l.event []) r × (l.event.checking r ≡ false))))) req_is (drop_may l t asked x is))
 
     pub cut_now : (by : ReqId) → cut_by_in t x ≡ Some by → (u : Tables) (out : List RowKind) → IsAtWork l.event out u → out ≡ was ++ rows.Dropped req (drops.By by) ∷ [] → u ≡ t → HasCome l t u out l.noted CutOff
     cut_now by cut u out work out_is same =

@@ -276,5 +276,5 @@ module _ (l : InLoad) (t : Tables) (asked : IsAsked l t) (placed_ : away_in t l.
       record {
         came = (asked.undenied, began_last);
         ready = ready_last;
-        kept = record { running = run_y; goal = keeps_y.goal ∙ keeps.goal ∙ runs_on.goal; keep = keep_y };
+        kept = record { running = run_y; goal = keeps_y.goal ∙ keeps.goal ∙ runs_on.goal; keep = keep_y; checks = keeps_y.checks ∙ keeps.checks ∙ runs_on.checks };
       }

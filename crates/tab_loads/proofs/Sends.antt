@@ -96,8 +96,8 @@ module _ (e : InEvent) (req : ReqId) (nav : NavId) (mode : Mode) (address : List
       subst (λ (x : Seen). IsNumbered x order) (sym asks.aside.plain) (numbered s order.proc doc (whys.Req req) (tasks.DoFragment req mode address) (pass.going.tab.asked.died order.proc).0)
 
   pub may_send : MaySend None e [] order
-  may_send =
-      fragment_may (here_of e []) e.event e.actor order home.document req nav mode address (q e req nav mode address asks) pass.work.own is_numbered due
+  may_send later both =
+      fragment_may (here_of e []) e.event e.actor order home.document req nav mode address (q e req nav mode address asks) pass.work.own is_numbered due later tt
 
   pub there : IsThere s doc
   there = record { document = home.document; found = home.found; alive = alive; known = (pass.going.tab.asked.died home.document.proc).0 }

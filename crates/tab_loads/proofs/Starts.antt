@@ -71,8 +71,8 @@ module _ (l : InLoad) (t : Tables) (asked : IsAsked l t) (placed_ : away_in t l.
   runs_on = by_case way.which
     where
       by_case : HasNone l.nav t v out l.noted noted ⊎ HasDropped l.req l.nav t v out l.noted noted → KeepsRun t v
-      by_case (inl it) = record { running = ap (λ (x : Tables). x.running) it.tables; goal = ap (λ (x : Tables). x.goal) it.tables; keep = ap (λ (x : Tables). x.kept.keep) it.tables }
-      by_case (inr it) = record { running = it.kept.running; goal = it.kept.goal; keep = it.kept.keep }
+      by_case (inl it) = record { running = ap (λ (x : Tables). x.running) it.tables; goal = ap (λ (x : Tables). x.goal) it.tables; keep = ap (λ (x : Tables). x.kept.keep) it.tables; checks = ap (λ (x : Tables). x.checks) it.tables }
+      by_case (inr it) = record { running = it.kept.running; goal = it.kept.goal; keep = it.kept.keep; checks = it.kept.checks }
 
   abbrev pub own_place : Place
   own_place = place l t asked

@@ -119,15 +119,15 @@ module _ (h : Here) (event : ℕ) (actor : Actor) (job : Job) (move : Move) (led
       (subst (λ (l : List LogRow). IsDisplacedLater h due.place l) (sym so.is) (displaced_by h due.place new.nav so.before (sent_row so.event so.actor so.job) so.rest on_way (activate_displaces (point_at h (so.before ++ sent_row so.event so.actor so.job ∷ so.rest)) new.nav so.event so.actor so.job new so.entry so.epoch so.long so.at so.memo so.address so.task (ap (λ (x : DocId). document_of h.now x) so.own ∙ found) refl (ap (λ (x : DocId). holds (is_awake_on x) (place_of h.start new.nav)) so.own ∙ other))))
 
   -- one that is left is discarded, since none may be kept
-  pub left_sends : (d : Document) → IsLastLeft h job d → ((later : List LogRow) → PromptsLater h (sent_row event actor job) later) → IsTooMany h.header h.now d → new.nav ≡ d.nav → (move.doc.0 == d.nr.0) ≡ false → MayLog h (sent_row event actor job ∷ []) (IsAhead (Some move))
-  left_sends d due prompts many same apart later ahead =
-      let so = shows_first later move.doc ahead in
+  pub left_sends : (d : Document) → IsLastLeft h job d → IsTooMany h.header h.now d → new.nav ≡ d.nav → (move.doc.0 == d.nr.0) ≡ false → MayLog h (sent_row event actor job ∷ []) (λ later. IsAhead (Some move) later × PromptsLater h (sent_row event actor job) later)
+  left_sends d due many same apart later both =
+      let so = shows_first later move.doc both.0 in
       unkept_last_may h event actor job d led numbered due many later
-      (prompts later, subst (λ (l : List LogRow). IsLeftLater h.now d l) (sym so.is) (left_by h.now d so.before (sent_row so.event so.actor so.job) so.rest (activate_shows_another h.now d so.event so.actor so.job new so.entry so.epoch so.long so.at so.memo so.address so.task (ap (λ (x : DocId). document_of h.now x) so.own ∙ found) same (ap (λ (x : DocId). x.0 == d.nr.0) so.own ∙ apart))))
+      (both.1, subst (λ (l : List LogRow). IsLeftLater h.now d l) (sym so.is) (left_by h.now d so.before (sent_row so.event so.actor so.job) so.rest (activate_shows_another h.now d so.event so.actor so.job new so.entry so.epoch so.long so.at so.memo so.address so.task (ap (λ (x : DocId). document_of h.now x) so.own ∙ found) same (ap (λ (x : DocId). x.0 == d.nr.0) so.own ∙ apart))))
 
   -- the one that is kept longest is discarded, since with the one that is left too many would be kept
-  pub overflow_sends : (d : Document) (place : Place) (left : DocId) → IsKeptLeft h job d (Some left) → ((later : List LogRow) → PromptsLater h (sent_row event actor job) later) → nat_lt h.header.keep (length (kept_with h.now (Some left))) ≡ true → place_of h.now new.nav ≡ Some place → place.last ≡ Some left → (left.0 == move.doc.0) ≡ false → MayLog h (sent_row event actor job ∷ []) (IsAhead (Some move))
-  overflow_sends d place left due prompts many placed last apart later ahead =
-      let so = shows_first later move.doc ahead in
+  pub overflow_sends : (d : Document) (place : Place) (left : DocId) → IsKeptLeft h job d (Some left) → nat_lt h.header.keep (length (kept_with h.now (Some left))) ≡ true → place_of h.now new.nav ≡ Some place → place.last ≡ Some left → (left.0 == move.doc.0) ≡ false → MayLog h (sent_row event actor job ∷ []) (λ later. IsAhead (Some move) later × PromptsLater h (sent_row event actor job) later)
+  overflow_sends d place left due many placed last apart later both =
+      let so = shows_first later move.doc both.0 in
       overflow_left_may h event actor job d led numbered (Some left) due many later
-      (prompts later, subst (λ (l : List LogRow). LeavesLater h.now (Some left) l) (sym so.is) (left_then h.now so.before (sent_row so.event so.actor so.job) so.rest left so.none (activate_leaves h.now so.event so.actor so.job new place left so.entry so.epoch so.long so.at so.memo so.address so.rest so.task (ap (λ (x : DocId). document_of h.now x) so.own ∙ found) placed last (ap (λ (x : DocId). left.0 == x.0) so.own ∙ apart))))
+      (both.1, subst (λ (l : List LogRow). LeavesLater h.now (Some left) l) (sym so.is) (left_then h.now so.before (sent_row so.event so.actor so.job) so.rest left so.none (activate_leaves h.now so.event so.actor so.job new place left so.entry so.epoch so.long so.at so.memo so.address so.rest so.task (ap (λ (x : DocId). document_of h.now x) so.own ∙ found) placed last (ap (λ (x : DocId). left.0 == x.0) so.own ∙ apart))))

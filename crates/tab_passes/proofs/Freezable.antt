@@ -45,10 +45,12 @@ passed_there s whys.Start passed = refl
 
 -- the order that freezes it may be sent
 pub freeze_ahead : (e : InEvent) (out : List RowKind) (move : Move) (t : Tables) (nav : NavId) (doc : DocId) (why : Why) → IsAtWorkFor (Some move) e out t → AreLeftDuly (log_of e out) → IsLeftDulyFor (log_of e out) doc why → IsToFreeze e (now_of e out) nav doc → (desk_of (now_of e out) (proc_at (now_of e out) doc)).known ≡ 0 → is_passed (now_of e out) tasks.Freeze why ≡ true → is_for_passed (now_of e out) (order_to (now_of e out) doc why tasks.Freeze) ≡ true → IsForOther e.checking why → IsNewFor e (now_of e out) move nav → MaySend (Some move) e out (order_to (now_of e out) doc why tasks.Freeze)
-freeze_ahead e out move t nav doc why work duly left its known passed for_passed for_other new =
+freeze_ahead e out move t nav doc why work duly left its known passed for_passed for_other new later both =
     freeze_sends (here_of e out) e.event e.actor order move (led_here e out work.own) (numbered_log e out (now_is e out) order (numbered s (proc_at s doc) doc why tasks.Freeze known)) shown.d shown.found frozen.d frozen.freezes
     (subst (λ (place : Place). has_nav (way_of place) shown.d.nav ≡ true) (sym frozen.place_is) (subst (λ (n : NavId). has_nav (way_of its.place) n ≡ true) nav_is its.below))
     (subst (λ (n : NavId). holds (is_awake_on move.doc) (place_of (here_of e out).start n) ≡ false) nav_is (subst (λ (x : Seen). holds (is_awake_on move.doc) (place_of x nav) ≡ false) (sym (start_here e out)) new.other))
+    later
+    both.0
   where
     s : Seen
     s = now_of e out

@@ -19,7 +19,8 @@ use Rattle.row_facts.specs.RestRows.Moving.{RestBut}
 use Rattle.seen_laws.specs.InEvent.{InEvent, now_of, row_of}
 use Rattle.std.proofs.Common.{List, None, Option, Some, [], length, refl, subst, sym, true, ℕ, ◌++◌, ◌+◌, ◌∙◌, ◌∷◌, ◌≡◌, ◌≤◌, ap}
 use Rattle.tab_doors.proofs.Whose.{proc_found}
-use Rattle.tab_doors.proofs.Ahead.{begin_move, none_lawful}
+use Rattle.tab_doors.proofs.Ahead.{begin_move}
+use Rattle.tab_doors.specs.PassedOn.{noted_by}
 use Rattle.tab_doors.specs.Keeping.{Move, with_left}
 use Rattle.tab_doors.specs.Orders.{order_to}
 use Rattle.tab_doors.specs.Working.{IsAtWork, IsAtWorkFor, KeepsStore}
@@ -78,7 +79,8 @@ begun_work e out t doc left states work is =
       initial = work.initial;
       loads = work.loads;
       kept = is ∙ ap (λ (l : List StateId). with_left left t.kept.keep l) work.kept;
-      lawful = begin_move e out (record { doc = doc; left = left }) (none_lawful e out work.lawful);
+      asked = work.asked;
+      lawful = begin_move e (noted_by t.checks out) out (record { doc = doc; left = left }) work.lawful;
     }
 
 pub begun_leaving : (p : InPass) (out : List RowKind) (t : Tables) (doc : DocId) (left : Option StateId) (states : List StateId) → IsPassing p out t → states ≡ with_left left t.kept.keep t.kept.states → IsLeaving p (Some (record { doc = doc; left = left })) [] out (record t { kept = record t.kept { states = states } })

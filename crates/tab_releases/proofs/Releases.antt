@@ -65,7 +65,7 @@ release_begins p t out blame parked passing empty turning idle open_ loose their
       last_is = refl;
       whole = refl;
       ended = record { more = []; out = sym (append-nil out); ends = refl; long = refl; no_reload = λ row never. absurd never };
-      kept = record { running = refl; goal = refl; keep = refl };
+      kept = record { running = refl; goal = refl; keep = refl; checks = refl };
     }
 
 -- ---- one more
@@ -223,7 +223,7 @@ module _ (p : InPass) (t : Tables) (was : List RowKind) (u : Tables) (out : List
               ∙ ap (λ (l : List ReqId). so.done ++ l) (sym first.parked)
               ∙ so.whole;
           ended = ends_more p.event was out more so.done made so.ended taken.ended;
-          kept = record { running = taken.kept.running ∙ so.kept.running; goal = taken.kept.goal ∙ so.kept.goal; keep = taken.kept.keep ∙ so.kept.keep };
+          kept = record { running = taken.kept.running ∙ so.kept.running; goal = taken.kept.goal ∙ so.kept.goal; keep = taken.kept.keep ∙ so.kept.keep; checks = taken.kept.checks ∙ so.kept.checks };
         }
 
 -- ---- after the last

@@ -219,6 +219,7 @@ module _ (e : InEvent) (req : ReqId) (doc : Option DocId) (what : Request) (by_u
               initial = stands.tied.initial;
               loads = accepted_tied s e.event actors.Ui t.loads stands.tied.loads req doc what nr;
               kept = stands.tied.kept;
+              checks = stands.tied.checks;
             }
 
     pub parked_now : HoldsParked (now_of e []) queue.parked

@@ -1,7 +1,8 @@
 -- An event of the coordinator begins: all goes on once its own row was logged, whatever it leaves of a tab as one is between two events.
 use Rattle.tab_stands.proofs.DulyEvents.{own_duly}
 use Rattle.tab_doors.proofs.PassedOn.{AreNumbered, read_own, sole_own}
-use Rattle.seen_laws.proofs.InEvents.{none_goes}
+use Rattle.seen_laws.proofs.InEvents.{none_goes, now_is}
+use Rattle.seen_laws.specs.Blocks.{Here}
 use Rattle.seen_facts.specs.Asked.Asking.{ArePlain}
 use Rattle.tab_doors.proofs.Works.{none_steps}
 use Rattle.checking_facts.specs.Checks.{AreInCheck}
@@ -18,8 +19,9 @@ use Rattle.seen_laws.specs.InEvent.{AreLegal, InEvent, log_of, now_of}
 use Rattle.seen_laws.specs.Sending.{leads}
 use Rattle.std.proofs.Common.{Bool, List, None, Option, Some, [], ap, false, length, refl, subst, sym, true, ℕ, ◌∙◌, ◌≡◌, ◌≤◌}
 use Rattle.std.specs.Prelude.{slice_get}
-use Rattle.tab_doors.proofs.Ahead.{lawful_none}
-use Rattle.tab_doors.specs.Working.{HasGoal, IsAtWork, IsWorker}
+use Rattle.tab_doors.proofs.PassedOn.{lawful_pass, nobody_duly, plain_nobody}
+use Rattle.tab_doors.specs.PassedOn.{NobodyAsked, noted_by}
+use Rattle.tab_doors.specs.Working.{HasGoal, IsAhead, IsAtWork, IsWorker}
 use Rattle.tab_doors.specs.declared.tables.Tables.{Tables}
 use Rattle.tab_settles.proofs.PassedOn.{fine, unheld_first}
 use Rattle.tab_facts.specs.TabEvents.Between.{IsBetweenChecks}
@@ -51,6 +53,10 @@ checks_first e aside run plain =
     never : (req : ReqId) → e.checking req ≡ true → ⊥
     never req on = let no : false ≡ true = sym (aside.unchecked req) ∙ on in cc
 
+-- as such an event begins nobody was asked
+pub start_nobody : (e : InEvent) → StartsUnasked e → NobodyAsked e.start
+start_nobody e aside = plain_nobody e.checking e.start (ap (λ (h : Here). h.start) aside.begins)
+
 -- a coordinator is at work once the own row was logged, whose tables stand for what the log has come to
 pub work_first : (e : InEvent) (t : Tables) → StartsUnasked e → AreInCheck e.checking (log_of e []) → AreNumbered e.start → leads e.own ≡ true → IsWorker e.actor → AreLegal e [] → AreTied (now_of e []) t → IsAtWork e [] t
 work_first e t aside checks numbered own worker legal tied =
@@ -71,7 +77,8 @@ work_first e t aside checks numbered own worker legal tied =
       initial = tied.initial;
       loads = tied.loads;
       kept = tied.kept;
-      lawful = lawful_none e [] (lawful_legal e [] legal);
+      asked = nobody_duly e.checking e.start (log_of e []) t.checks (start_nobody e aside) (plain_nobody e.checking (log_of e []) (sym (aside.plain ∙ now_is e []))) checks.numbered checks.others aside.unchecked tied.checks;
+      lawful = lawful_pass (IsAhead None) e (noted_by t.checks []) [] (lawful_legal e [] legal);
     }
 
 module _ (p : InPass) (t : Tables) (queue : Queue) (blame : List (StateId × ReqId)) {loads : List ReqId} {waits : Bool} (between : IsBetweenChecks t.kept.keep t.running loads waits p.event.start) (lasts : Lasts t.running p.event.start) (goal : HasGoal p.event.start.requests t.running t.goal) (header : t.kept.keep ≡ p.event.header.keep) (aside : StartsUnasked p.event) (own : leads p.event.own ≡ true) (worker : IsWorker p.event.actor) (legal : AreLegal p.event []) (tied : AreTied (now_of p.event []) t) (going : IsGoing t.running p.loads p.hand (now_of p.event [])) (rests : AllRest (now_of p.event [])) (comes : IsComing blame p.event.start (now_of p.event [])) where

@@ -216,6 +216,7 @@ module _ (e : InEvent) (t : Tables) (queue : Queue) (blame : List (StateId × Re
           initial = tied_w.initial;
           loads = other_ends w n req (refused_ended w e.event actors.Ui req reason) t.loads tied_w.loads (unstarted_no_load w req asked there refl);
           kept = tied_w.kept;
+          checks = tied_w.checks;
         }
       where
         tied_w : AreTied w t

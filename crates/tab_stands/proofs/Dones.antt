@@ -53,7 +53,7 @@ use Rattle.log_model.specs.declared.row_kind.Actor.TheVariants as actors
 
 -- the tables as they were
 pub unchanged : {t : Tables} → KeepsRun t t
-unchanged = record { running = refl; goal = refl; keep = refl }
+unchanged = record { running = refl; goal = refl; keep = refl; checks = refl }
 
 -- a place as it was
 pub itself : OnlyArrives (λ (p : Place). p)

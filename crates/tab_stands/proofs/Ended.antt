@@ -8,7 +8,6 @@ use Rattle.log_model.specs.declared.row_kind.Actor.{Actor}
 use Rattle.row_facts.specs.Owed.Owed.{owes_seen}
 use Rattle.seen_laws.specs.Sending.{leads}
 use Rattle.seen_laws.specs.Owing.{owes, owes_row}
-use Rattle.row_facts.proofs.FrameRows.LawfulLaws.{lawful_end}
 use Rattle.tab_facts.proofs.FrameWhole.FlowsAlike.{EachIsTold, flows_told}
 use Rattle.seen_facts.proofs.Hang.Members.{find_has}
 use Rattle.seen_facts.specs.Hang.Members.{Has}
@@ -26,11 +25,12 @@ use Rattle.row_facts.proofs.Owed.Ends.{owed_paid}
 use Rattle.seen_facts.proofs.Rest.Seated.{all_has}
 use Rattle.seen_laws.specs.Blocks.{EachPass, Here}
 use Rattle.seen_laws.specs.InEvent.{InEvent, IsPaid, IsTakenIn, first_of, log_of, now_of, row_of, start_of}
-use Rattle.std.proofs.Common.{Bool, List, None, Option, Some, [], false, map, refl, subst, sym, true, ℕ, ◌==◌, ◌∷◌, ◌≡◌}
+use Rattle.std.proofs.Common.{Bool, List, None, Option, Some, [], false, map, refl, subst, sym, true, ℕ, ◌==◌, ◌∙◌, ◌∷◌, ◌≡◌}
 use Rattle.std.specs.List.{list_all}
 use Rattle.std.specs.Prelude.{is_some, option_and_then}
-use Rattle.tab_doors.proofs.Ahead.{none_lawful}
-use Rattle.tab_doors.specs.Working.{IsAtWork}
+use Rattle.tab_doors.proofs.PassedOn.{none_before, pass_end, plain_nobody}
+use Rattle.tab_doors.specs.PassedOn.{noted_by}
+use Rattle.tab_doors.specs.Working.{IsAhead, IsAtWork}
 use Rattle.tab_doors.specs.declared.tables.Tables.{Tables}
 use Rattle.tab_facts.specs.TabEvents.Between.{IsBetweenChecks}
 use Rattle.tab_ids.specs.declared.DocId.{DocId}
@@ -80,11 +80,11 @@ paid_log e out work paid = rw (own_owes (start_of e) e.event e.actor e.own (log_
         (subst (λ (s : Seen). owes_seen e out s ≡ true) (now_is e out) paid)
 
 -- what a coordinator at work has of its tables
-pub work_tied : (p : InPass) (out : List RowKind) (t : Tables) → IsAtWork p.event out t → AreTied (now_of p.event out) t
-work_tied p out t work =
-    record { holds = work.holds; runs = work.runs; goal = work.goal; few = work.few; initial = work.initial; loads = work.loads; kept = work.kept }
+pub work_tied : (p : InPass) (out : List RowKind) (t : Tables) → ((req : ReqId) → p.event.checking req ≡ false) → IsAtWork p.event out t → AreTied (now_of p.event out) t
+work_tied p out t off work =
+    record { holds = work.holds; runs = work.runs; goal = work.goal; few = work.few; initial = work.initial; loads = work.loads; kept = work.kept; checks = none_before t.checks out (λ req. work.asked.within req (off req)) }
 
-module _ (p : InPass) (out : List RowKind) (t : Tables) (queue : Queue) (blame : List (StateId × ReqId)) (cause : Why) (waits : Bool) (alone : NoneRunsWhileHeld waits t.running) (at : HasSettled p out t queue blame cause) (makes : MakesServe (now_of p.event out)) (sound : OrdersAreSound (now_of p.event out)) (of_coord : (row : RowKind) → Has out row → IsOfCoord row) (shows : AreShownUnder (log_of p.event [])) where
+module _ (p : InPass) (out : List RowKind) (t : Tables) (queue : Queue) (blame : List (StateId × ReqId)) (cause : Why) (waits : Bool) (alone : NoneRunsWhileHeld waits t.running) (at : HasSettled p out t queue blame cause) (makes : MakesServe (now_of p.event out)) (sound : OrdersAreSound (now_of p.event out)) (of_coord : (row : RowKind) → Has out row → IsOfCoord row) (shows : AreShownUnder (log_of p.event [])) (off_check : (req : ReqId) → p.event.checking req ≡ false) where
   abbrev s : Seen
   s = now_of p.event out
 
@@ -121,7 +121,7 @@ module _ (p : InPass) (out : List RowKind) (t : Tables) (queue : Queue) (blame :
   -- each row passes
   passes : IsTakenIn p.event (map (row_of p.event) out) → EachPass (start_of p.event) (row_of p.event p.event.own ∷ map (row_of p.event) out) []
   passes taken =
-      lawful_end p.event out (none_lawful p.event out at.passing.work.lawful) paid taken at.queueing.over
+      pass_end (IsAhead None) p.event (noted_by t.checks out) out at.passing.work.lawful tt paid taken at.queueing.over (plain_nobody p.event.checking (log_of p.event out) (sym (at.passing.work.plain ∙ now_is p.event out)))
 
   lasts : AreShownUnder s → Lasts t.running s
   lasts shown =
@@ -150,7 +150,7 @@ module _ (p : InPass) (out : List RowKind) (t : Tables) (queue : Queue) (blame :
           between = between due;
           alone = alone;
           lasts = lasts (subst (λ (x : Seen). AreShownUnder x) at.passing.work.plain (event_under p.event out (passes taken).1 of_coord shows));
-          tied = work_tied p out t at.passing.work;
+          tied = work_tied p out t off_check at.passing.work;
           strays = at.strays;
           queue = at.queueing.queued;
           parked = at.queueing.parked;

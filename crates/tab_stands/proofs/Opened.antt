@@ -1,4 +1,5 @@
 -- The coordinator of a tab that was just opened stands for its log.
+use Rattle.unload_check.specs.Checks.{check_of}
 use Rattle.leave_facts.proofs.Carried.{opened_duly}
 use Rattle.log_model.specs.declared.job.Job.{Job}
 use Rattle.seen_facts.specs.Place.Standing.{AreStanding}
@@ -163,6 +164,7 @@ module _ (address : List ℕ) (proc : ProcId) where
         initial = is.initial;
         loads = rw is.loads (opened_tied s refl);
         kept = ap (λ k. k.states) is.kept;
+        checks = λ req. ap (check_of req) is.checks;
       }
 
   -- ---- the one navigable, its entry and its document

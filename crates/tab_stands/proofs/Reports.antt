@@ -1,4 +1,6 @@
 -- A report is delivered that answers no question: what is known of it, and what the event's own row leaves, whatever the report tells.
+use Rattle.tab_doors.specs.PassedOn.{NoneChecked}
+use Rattle.unload_check.specs.Checks.{OpenCheck}
 use Rattle.seen_facts.proofs.Asked.Passed.{asked_all}
 use Rattle.seen_facts.proofs.Asked.Rows.{delivered_plain}
 use Rattle.seen_facts.specs.Asked.Asking.{ArePlain}
@@ -192,6 +194,7 @@ module _ (e : InEvent) (proc : ProcId) (by_coord : e.actor ≡ actors.Coord) (ow
               initial = subst (λ (l : List (StateId × Unit {0})). AreInitial told.initial_states l) (sym initial) stands.tied.initial;
               loads = loads;
               kept = states;
+              checks = subst (λ (es : List (ReqId × OpenCheck)). NoneChecked es) (sym kept.checks) stands.tied.checks;
             }
 
     pub told_moved : moved_by told.requests t.running ≡ moved_by e.start.requests t.running

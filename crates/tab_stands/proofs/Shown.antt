@@ -175,7 +175,7 @@ module _ (e : InEvent) (proc : ProcId) (job : Job) (outcome : Outcome) (del : Is
     noted = record t { tree = shown_tree t job.doc job.nr }
 
     kept_run : KeepsRun t noted
-    kept_run = record { running = refl; goal = refl; keep = refl }
+    kept_run = record { running = refl; goal = refl; keep = refl; checks = refl }
 
     tied : AreTied (now_of e []) noted
     tied =

@@ -2,7 +2,7 @@
 use Rattle.row_facts.proofs.LeaveRows.LeftMays.{gone_left_may}
 use Rattle.row_facts.specs.LeaveRows.Leaving.{IsDiscardOf}
 use Rattle.row_facts.specs.LeaveRows.MayLeave.{MayBeLeft}
-use Rattle.row_facts.specs.FrameRows.Discarding.{IsDiscardDue, SettlesNone}
+use Rattle.row_facts.specs.FrameRows.Discarding.{IsDiscardDue}
 use Rattle.seen_facts.proofs.Hang.Hung.{places_distinct}
 use Rattle.seen_facts.specs.Hang.AsPlaces.{AreDistinct}
 use Rattle.log_model.specs.Checks.{may_go_on}
@@ -13,12 +13,12 @@ use Rattle.log_model.specs.declared.job.Job.{Job}
 use Rattle.log_model.specs.declared.row_kind.RowKind.{RowKind}
 use Rattle.nav_tree.specs.Tree.{is_state, state_of}
 use Rattle.seen_laws.proofs.InEvents.{led_here, now_is}
-use Rattle.seen_laws.specs.InEvent.{InEvent, here_of, now_of, row_of}
+use Rattle.seen_laws.specs.InEvent.{InEvent, here_of, now_of}
 use Rattle.std.proofs.Common.{List, None, Option, Some, ap, false, inr, refl, subst, sym, true, ◌∙◌, ◌≡◌}
 use Rattle.std.specs.Map.{lookup}
 use Rattle.std.specs.Prelude.{is_some}
 use Rattle.tab_doors.proofs.Whose.{proc_found}
-use Rattle.tab_doors.proofs.Leavable.{IsLeftAs, discards_log, gone_log, numbered_log, prompts_log}
+use Rattle.tab_doors.proofs.Leavable.{IsLeftAs, discards_log, gone_log, numbered_log}
 use Rattle.tab_doors.proofs.Works.{numbered}
 use Rattle.tab_doors.specs.Keeping.{Move}
 use Rattle.tab_doors.specs.Orders.{order_to, proc_at}
@@ -33,18 +33,17 @@ use Rattle.tab_passes.specs.Causes.{MayCause, MayServe}
 use Rattle.tab_passes.specs.Leaving.{MayLeave}
 use Rattle.tab_passes.specs.Passing.{InPass}
 use Rattle.tab_sweeps.proofs.Founds.{here_for}
-use Rattle.tab_sweeps.proofs.Theres.{settles_none, stray_unknown}
+use Rattle.tab_sweeps.proofs.Theres.{stray_unknown}
 use Rattle.tab_sweeps.proofs.Unders.{moves_sleepers}
 use Rattle.tab_sweeps.specs.Sweeping.{IsBlamed, IsStray, MovesUnder}
 use Rattle.tab_sweeps.specs.Turns.{IsAnyStray, IsSweeping}
 use Rattle.log_model.specs.declared.job.Task.TheVariants as tasks
 use Rattle.log_model.specs.declared.job.Why.TheVariants as whys
-use Rattle.log_model.specs.declared.row_kind.RowKind.TheVariants as rows
 
 -- an order may be sent to a document of no entry and no load
-stray_ahead : {move : Option Move} (e : InEvent) (out : List RowKind) (t : Tables) (doc : DocId) (d : Document) (by : ReqId) (r : Asked) → IsAtWorkFor move e out t → MayBeLeft (here_of e out) (order_to (now_of e out) doc (whys.Req by) tasks.Discard) → IsDiscardDue (now_of e out) (order_to (now_of e out) doc (whys.Req by) tasks.Discard) d by r → (desk_of (now_of e out) (proc_at (now_of e out) doc)).known ≡ 0 → SettlesNone (now_of e out) (row_of e (rows.Sent (order_to (now_of e out) doc (whys.Req by) tasks.Discard))) → MaySend None e out (order_to (now_of e out) doc (whys.Req by) tasks.Discard)
-stray_ahead e out t doc d by r work left due known settles later ahead =
-    gone_left_may (here_of e out) e.event e.actor order its.d (led_here e out work.own) (numbered_log e out (now_is e out) order (numbered (now_of e out) (proc_at (now_of e out) doc) doc (whys.Req by) tasks.Discard known)) (gone_log e out t work order d its gone unloaded) later (prompts_log e out t work order settles later, tt)
+stray_ahead : {move : Option Move} (e : InEvent) (out : List RowKind) (t : Tables) (doc : DocId) (d : Document) (by : ReqId) (r : Asked) → IsAtWorkFor move e out t → MayBeLeft (here_of e out) (order_to (now_of e out) doc (whys.Req by) tasks.Discard) → IsDiscardDue (now_of e out) (order_to (now_of e out) doc (whys.Req by) tasks.Discard) d by r → (desk_of (now_of e out) (proc_at (now_of e out) doc)).known ≡ 0 → MaySend None e out (order_to (now_of e out) doc (whys.Req by) tasks.Discard)
+stray_ahead e out t doc d by r work left due known later ahead =
+    gone_left_may (here_of e out) e.event e.actor order its.d (led_here e out work.own) (numbered_log e out (now_is e out) order (numbered (now_of e out) (proc_at (now_of e out) doc) doc (whys.Req by) tasks.Discard known)) (gone_log e out t work order d its gone unloaded) later (ahead.1, tt)
   where
     order : Job
     order = order_to (now_of e out) doc (whys.Req by) tasks.Discard
@@ -132,4 +131,3 @@ module _ (p : InPass) (blame : List (StateId × ReqId)) {docs : List DocId} (out
           there = asked.at;
         })
         (so.leaving.going.tab.asked.died (proc_at s doc)).0
-        (settles_none p out t so.leaving doc state stray (row_of p.event (rows.Sent discard)))

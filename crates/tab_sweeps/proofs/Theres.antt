@@ -1,16 +1,10 @@
 -- A stray document may be discarded as far as the tables go: nothing is asked, and it is the one that is there for its state.
-use Rattle.seen_facts.proofs.Asked.Passed.{asked_all}
-use Rattle.row_facts.specs.FrameRows.Discarding.{SettlesNone}
 use Rattle.seen_facts.proofs.Hang.Members.{has_map}
 use Rattle.seen_facts.specs.Hang.Members.{Has}
 use Rattle.seen_facts.proofs.Kept.States.{AreOfOwnStates, sole_states}
-use Rattle.row_facts.proofs.LeaveRows.Unasked.{all_answered}
-use Rattle.log_model.specs.Places.{all_asked}
 use Rattle.log_model.specs.Seen.{Document, Seen, document_of}
-use Rattle.log_model.specs.declared.row_kind.LogRow.{LogRow}
 use Rattle.log_model.specs.declared.row_kind.RowKind.{RowKind}
 use Rattle.seen_facts.specs.Asked.Asking.{HavePassed}
-use Rattle.seen_facts.proofs.Rest.Stands.{all_requests}
 use Rattle.seen_facts.proofs.Rest.Still.{found_itself}
 use Rattle.seen_laws.specs.InEvent.{now_of}
 use Rattle.std.proofs.Common.{List, None, Some, ap, arith, false, map, subst, sym, true, ℕ, ◌==◌, ◌∙◌, ◌≡◌}
@@ -37,9 +31,6 @@ module _ (p : InPass) {left : List DocId} (out : List RowKind) (t : Tables) (lea
 
   pub stray_unknown : stray.document.is_known_dead ≡ false
   stray_unknown = (leaving.going.tab.docs.each doc stray.document stray.found).live.unknown
-
-  pub settles_none : (row : LogRow) → SettlesNone s row
-  settles_none row = all_answered s row (all_requests s.requests (all_asked s) (λ r q at. asked_all s q (all_passed r q at)))
 
   pub stray_gone : IsGoneAt s t.tree t.loads doc state
   stray_gone =

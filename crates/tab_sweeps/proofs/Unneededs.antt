@@ -35,7 +35,7 @@ use Rattle.std.specs.List.{list_any}
 use Rattle.std.specs.Option.{option_map_or}
 use Rattle.std.specs.Prelude.{is_some, slice_get}
 use Rattle.tab_doors.proofs.Whose.{proc_found}
-use Rattle.tab_doors.proofs.Leavable.{IsLeftAs, discards_log, numbered_log, prompts_log, seen_at, unneeded_log}
+use Rattle.tab_doors.proofs.Leavable.{IsLeftAs, discards_log, numbered_log, seen_at, unneeded_log}
 use Rattle.tab_doors.proofs.Works.{done_here, numbered, start_here}
 use Rattle.tab_doors.specs.Orders.{order_to, proc_at}
 use Rattle.tab_doors.specs.Working.{KeepsStore, MaySend}
@@ -52,7 +52,7 @@ use Rattle.tab_passes.specs.Leaving.{IsLeaving, MayLeave, left_then}
 use Rattle.tab_passes.specs.Passing.{InPass, IsPassing}
 use Rattle.tab_sweeps.proofs.Discards.{now_is}
 use Rattle.tab_sweeps.proofs.Sends.{IsAsked, is_asked}
-use Rattle.tab_sweeps.proofs.Theres.{settles_none, stray_unknown}
+use Rattle.tab_sweeps.proofs.Theres.{stray_unknown}
 use Rattle.tab_sweeps.specs.Sweeping.{IsStray}
 use Rattle.tab_sweeps.specs.Unneeded.{IsUnneeded}
 use Rattle.row_facts.proofs.WalkRows.Needs.{sent_stood}
@@ -203,7 +203,7 @@ module _ (p : InPass) (out : List RowKind) (t : Tables) (passing : IsPassing p o
 
   pub unneeded_sends : MaySend None p.event out discard
   unneeded_sends later ahead =
-      unneeded_left_may (here_of p.event out) p.event.event p.event.actor (order_to s doc why tasks.Discard) left_as.d (led_here p.event out leaving.work.own) (numbered_log p.event out (events.now_is p.event out) (order_to s doc why tasks.Discard) (numbered s (proc_at s doc) doc why tasks.Discard (leaving.going.tab.asked.died (proc_at s doc)).0)) (unneeded_log p.event out t leaving.work (order_to s doc why tasks.Discard) stray.document left_as due) later (prompts_log p.event out t leaving.work (order_to s doc why tasks.Discard) (settles_none p out t leaving doc state stray (row_of p.event (rows.Sent discard))) later, tt)
+      unneeded_left_may (here_of p.event out) p.event.event p.event.actor (order_to s doc why tasks.Discard) left_as.d (led_here p.event out leaving.work.own) (numbered_log p.event out (events.now_is p.event out) (order_to s doc why tasks.Discard) (numbered s (proc_at s doc) doc why tasks.Discard (leaving.going.tab.asked.died (proc_at s doc)).0)) (unneeded_log p.event out t leaving.work (order_to s doc why tasks.Discard) stray.document left_as due) later (ahead.1, tt)
 
   -- ---- the row was put out
 

@@ -113,5 +113,5 @@ module _ (p : InPass) (out : List RowKind) (t : Tables) (blame : List (StateId �
           cause = subst (λ (x : Seen). MayCause x (whys.Req made.req)) (sym now_is) (cause_then p out t blame made at n tab_n (on_read wish now_.requests made.req (λ (x : Asked). record x { ending = Some (endings.Refused reason) }) (λ x. refl)) (on_read course_of now_.requests made.req (λ (x : Asked). record x { ending = Some (endings.Refused reason) }) (λ x. refl)));
           ended = record { kind = rows.Refused made.req reason; out = out_is; ends = refl; no_turn = refl; no_reload = refl; up = λ up. nat_eq_refl made.req.0 };
           queue = subst (λ (x : Seen). LeavesQueue now_ x) (sym now_is) (queue_then p out t blame made at n (endings.Refused reason) refl refl refl refl refl refl refl (λ why nav by. refused_moved now_ e.event e.actor why nav by made.req reason) tab_n);
-          kept = subst (λ (x : Tables). KeepsRun t x) (sym same) (record { running = refl; goal = refl; keep = refl });
+          kept = subst (λ (x : Tables). KeepsRun t x) (sym same) (record { running = refl; goal = refl; keep = refl; checks = refl });
         }

@@ -148,7 +148,7 @@ module _ (p : InPass) (out : List RowKind) (t : Tables) (blame : List (StateId �
           cause = subst (λ (x : Seen). MayCause x (whys.Req made.req)) (sym now_is) (cause_then p out t blame made at n tab_n (on_read wish now_.requests made.req (λ (x : Asked). record x { ending = Some (endings.Dropped cause) }) (λ x. refl)) (on_read course_of now_.requests made.req (λ (x : Asked). record x { ending = Some (endings.Dropped cause) }) (λ x. refl)));
           ended = record { kind = rows.Dropped made.req cause; out = out_is; ends = refl; no_turn = refl; no_reload = refl; up = λ due. absurd (off due) };
           queue = subst (λ (x : Seen). LeavesQueue now_ x) (sym now_is) (queue_then p out t blame made at n (endings.Dropped cause) refl refl refl refl refl refl refl (λ why nav by. dropped_moved now_ e.event e.actor why nav by made.req cause) tab_n);
-          kept = subst (λ (x : Tables). KeepsRun t x) (sym same) (record { running = refl; goal = refl; keep = refl });
+          kept = subst (λ (x : Tables). KeepsRun t x) (sym same) (record { running = refl; goal = refl; keep = refl; checks = refl });
         }
 
   in_place : is_taken_up_at_once now_ made ≡ true → is_in_place now_ made ≡ true

@@ -59,7 +59,7 @@ module _ (e : InEvent) (proc : ProcId) (job : Job) (outcome : Outcome) (del : Is
   -- the traversal that runs is as it was
   pub kept_run : KeepsRun t v
   kept_run =
-      record { running = keeps.running ∙ noted.running; goal = keeps.goal ∙ noted.goal; keep = keeps.keep ∙ noted.keep }
+      record { running = keeps.running ∙ noted.running; goal = keeps.goal ∙ noted.goal; keep = keeps.keep ∙ noted.keep; checks = keeps.checks ∙ noted.checks }
 
   plain : ArePlain t.running n
   plain = subst (λ (r : Option ReqId). ArePlain r n) kept_run.running passing.going.tab.asked

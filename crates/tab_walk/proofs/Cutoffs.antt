@@ -1,6 +1,5 @@
 -- Where none may be kept, the document that is left may be discarded.
 use Rattle.seen_facts.specs.Home.Homes.{IsHomed}
-use Rattle.seen_facts.proofs.Asked.Passed.{asked_all}
 use Rattle.seen_facts.proofs.Hang.Hung.{places_distinct}
 use Rattle.seen_facts.proofs.Hang.Members.{has_map}
 use Rattle.seen_facts.proofs.Hang.Parts.{state_is}
@@ -24,20 +23,16 @@ use Rattle.log_model.specs.declared.job.Why.{Why}
 use Rattle.log_model.specs.declared.row_kind.RowKind.{RowKind}
 use Rattle.nav_tree.specs.Tree.{document_of as document_at}
 use Rattle.nav_tree.specs.declared.place.Place as live_place
-use Rattle.row_facts.specs.FrameRows.Discarding.{SettlesNone}
-use Rattle.row_facts.proofs.LeaveRows.Unasked.{all_answered}
-use Rattle.log_model.specs.Places.{all_asked}
-use Rattle.seen_facts.proofs.Rest.Stands.{all_requests}
 use Rattle.seen_facts.proofs.Rest.Still.{found_itself}
 use Rattle.seen_laws.proofs.InEvents.{led_here, now_is}
 use Rattle.seen_laws.proofs.Keyed.{find_has as seen_number}
-use Rattle.seen_laws.specs.InEvent.{InEvent, here_of, now_of, row_of, log_of}
+use Rattle.seen_laws.specs.InEvent.{InEvent, here_of, now_of, log_of}
 use Rattle.std.proofs.Common.{Bool, List, Option, Some, [], ap, arith, false, filter_map, inl, map, not, refl, subst, sym, true, ℕ, ◌&&◌, ◌||◌, ◌==◌, ◌∙◌, ◌≡◌, inr}
 use Rattle.std.proofs.lemmas.Bool.Decides.{nat_tests}
 use Rattle.std.specs.Prelude.{find, option_map}
 use Rattle.tab_doors.proofs.Sights.{sight_of}
 use Rattle.tab_doors.proofs.Whose.{proc_found}
-use Rattle.tab_doors.proofs.Leavable.{IsInLog, IsLeftAs, discards_log, in_log, last_log, many_log, numbered_log, prompts_log}
+use Rattle.tab_doors.proofs.Leavable.{IsInLog, IsLeftAs, discards_log, in_log, last_log, many_log, numbered_log}
 use Rattle.tab_doors.proofs.Works.{header_here, numbered}
 use Rattle.tab_doors.specs.Keeping.{Move}
 use Rattle.tab_doors.specs.Look.{Sight, is_live_for, sight}
@@ -64,7 +59,6 @@ use Rattle.tab_walk.specs.Moving.{HasSetOff, InMove, IsBound, MaySetOff, is_up_i
 use Rattle.seen_facts.proofs.Walk.Placed.{found_nav}
 use Rattle.row_facts.proofs.WalkRows.Sleeping.{no_shower, nobody_awake}
 use Rattle.log_model.specs.declared.job.Task.TheVariants as tasks
-use Rattle.log_model.specs.declared.row_kind.RowKind.TheVariants as rows
 
 neither : (a b : Bool) → a ≡ false → b ≡ false → (a || b) ≡ false
 neither false false e f = refl
@@ -72,9 +66,9 @@ neither true b e f = absurd cc
 neither false true e f = absurd cc
 
 -- such an order may be sent
-cut_ahead : (e : InEvent) (out : List RowKind) (move : Move) (t : Tables) (doc : DocId) (why : Why) (d new : Document) → IsAtWorkFor (Some move) e out t → MayBeLeft (here_of e out) (order_to (now_of e out) doc why tasks.Discard) → document_of (now_of e out) move.doc ≡ Some new → IsLeaveDue (now_of e out) (order_to (now_of e out) doc why tasks.Discard) d → (desk_of (now_of e out) (proc_at (now_of e out) doc)).known ≡ 0 → SettlesNone (now_of e out) (row_of e (rows.Sent (order_to (now_of e out) doc why tasks.Discard))) → e.header.keep ≡ 0 → (now_of e out).kept ≡ [] → new.nav ≡ d.nav → (move.doc.0 == d.nr.0) ≡ false → MaySend (Some move) e out (order_to (now_of e out) doc why tasks.Discard)
-cut_ahead e out move t doc why d new work left found due known settles none kept same apart =
-    left_sends (here_of e out) e.event e.actor order move (led_here e out work.own) (numbered_log e out (now_is e out) order (numbered (now_of e out) (proc_at (now_of e out) doc) doc why tasks.Discard known)) shown.d shown.found its.d (last_log e out (now_is e out) order d its due) (prompts_log e out t work order settles)
+cut_ahead : (e : InEvent) (out : List RowKind) (move : Move) (t : Tables) (doc : DocId) (why : Why) (d new : Document) → IsAtWorkFor (Some move) e out t → MayBeLeft (here_of e out) (order_to (now_of e out) doc why tasks.Discard) → document_of (now_of e out) move.doc ≡ Some new → IsLeaveDue (now_of e out) (order_to (now_of e out) doc why tasks.Discard) d → (desk_of (now_of e out) (proc_at (now_of e out) doc)).known ≡ 0 → e.header.keep ≡ 0 → (now_of e out).kept ≡ [] → new.nav ≡ d.nav → (move.doc.0 == d.nr.0) ≡ false → MaySend (Some move) e out (order_to (now_of e out) doc why tasks.Discard)
+cut_ahead e out move t doc why d new work left found due known none kept same apart =
+    left_sends (here_of e out) e.event e.actor order move (led_here e out work.own) (numbered_log e out (now_is e out) order (numbered (now_of e out) (proc_at (now_of e out) doc) doc why tasks.Discard known)) shown.d shown.found its.d (last_log e out (now_is e out) order d its due)
     (subst (λ (h : Header). IsTooMany h (log_of e out) its.d) (sym (header_here e out)) (many_log e out (now_is e out) order d its e.header (none_kept e.header (now_of e out) d none kept)))
     (ap (λ (x : Document). x.nav) (sym shown.is) ∙ same ∙ ap (λ (x : Document). x.nav) its.is)
     (ap (λ (x : Document). move.doc.0 == x.nr.0) (sym its.is) ∙ apart)
@@ -180,7 +174,6 @@ module _ (m : InMove) (out : List RowKind) (t : Tables) (leaving : IsLeaving m.p
       cut_ahead m.pass.event out (cut_of m) t m.left why bound.old bound.new leaving.work (cut_may_be lefts off_) bound.new_found
       (record { discards = discards; place = bound.place; placed = ap (λ (n : NavId). place_of s n) bound.old_nav ∙ bound.placed; last = bound.last ∙ ap (λ (d : DocId). Some d) (sym old_nr) })
       (leaving.going.tab.asked.died (proc_at s m.left)).0
-      (all_answered s (row_of m.pass.event (rows.Sent (order_to s m.left why tasks.Discard))) (all_requests s.requests (all_asked s) (λ req q at. asked_all s q (leaving.going.tab.asked.passed req q at))))
       may.none
       may.kept
       (bound.new_nav ∙ sym bound.old_nav)

@@ -10,7 +10,7 @@ use Rattle.log_model.specs.declared.row_kind.RowKind.{RowKind}
 use Rattle.nav_tree.proofs.Lists.{drop-slice_get, take-slice_get}
 use Rattle.nav_tree.specs.Tree.{state_of}
 use Rattle.page_cache.specs.Kept.{without}
-use Rattle.seen_laws.specs.InEvent.{now_of, row_of}
+use Rattle.seen_laws.specs.InEvent.{now_of}
 use Rattle.std.proofs.Common.{Bool, List, None, Option, Some, [], ap, arith, drop, false, map, refl, subst, sym, take, true, ℕ, ◌++◌, ◌+◌, ◌==◌, ◌||◌, ◌∙◌, ◌∷◌, ◌≡◌}
 use Rattle.std.proofs.lemmas.Bool.Decides.{nat_tests}
 use Rattle.std.proofs.lemmas.List.Sums.{fold-append}
@@ -23,7 +23,7 @@ use Rattle.tab_doors.specs.Working.{MaySend}
 use Rattle.tab_doors.specs.declared.tables.Tables.{Tables}
 use Rattle.tab_evicts.proofs.Belows.{below_ahead}
 use Rattle.tab_evicts.proofs.Offs.{off_gone, quiet_left}
-use Rattle.tab_evicts.proofs.Quiets.{IsQuiet, gone_leaving, gone_looks, gone_may, gone_now, gone_other, gone_places, gone_seen, gone_stays, one_document, quiet_discards, quiet_settles}
+use Rattle.tab_evicts.proofs.Quiets.{IsQuiet, gone_leaving, gone_looks, gone_may, gone_now, gone_other, gone_places, gone_seen, gone_stays, one_document, quiet_discards}
 use Rattle.tab_evicts.proofs.Theres.{there_apart, there_gone, there_lives, there_unloaded}
 use Rattle.tab_evicts.specs.Evicting.{IsGoneFor, IsThereBelow, NoLoadBelow, StaysPlaced}
 use Rattle.tab_ids.specs.declared.DocId.{DocId}
@@ -81,7 +81,6 @@ module _ (c : InCut) (gone : StateId) (why : Why) (rest docs : List DocId) (doc 
           below = ap (λ (d : Document). is_below_gone s d) (one_document s doc cut_quiet.document it.document cut_quiet.found it.found) ∙ there_gone s gone doc it so.gone_for;
         })
         (so.leaving.going.tab.asked.died (proc_at s doc)).0
-        (quiet_settles c.pass (Some c.move) out t so.leaving why so.may doc its cut_quiet (row_of c.pass.event (rows.Sent (order_to s doc why tasks.Discard))))
 
     pub cut_lets : LetsGo (Some c.move) t.kept.keep (kept_states s) its
     cut_lets =

@@ -125,8 +125,8 @@ docs_before e was out only =
     over_each IsMoveRow (λ (x : Seen). (doc : DocId) (d : Document) → document_of x doc ≡ Some d → d.is_ready ≡ true → d.is_discarded ≡ false → WasThere (now_of e was) doc) e
     (λ mid row it. order_goes e mid row (record { job = it.job; is = it.is; quiet = asks_nobody it.job.task it.moves }))
     (λ x row it so doc d found ready undiscarded.
-        let before : WasThere x doc = was_task x it.job it.job.task it.moves doc d (subst (λ (k : RowKind). document_of (after x (row_of e k)) doc ≡ Some d) it.is found) ready undiscarded in
-        so doc before.old before.found before.ready before.undiscarded)
+    let before : WasThere x doc = was_task x it.job it.job.task it.moves doc d (subst (λ (k : RowKind). document_of (after x (row_of e k)) doc ≡ Some d) it.is found) ready undiscarded in
+    so doc before.old before.found before.ready before.undiscarded)
     was out only (λ doc d found ready undiscarded. record { old = d; found = found; ready = ready; undiscarded = undiscarded })
 
 -- ---- who is left duly
@@ -269,9 +269,9 @@ module _ (e : InEvent) (was out : List RowKind) (t : Tables) (run : Option ReqId
   pub shown_under : AreDistinct (now_of e out).places → EachWake (IsHomed (now_of e out).documents) (now_of e out) → (reason : Why) → LeftOrShown e was out nav reason
   shown_under distinct homed reason other place x under at up =
       inr (λ none.
-          let on : ShowsThen (now_of e out) other x = was_shower (now_of e out) other x distinct homed (still other place x at up) in
-          let never : None ≡ Some on.place = sym none ∙ on.showed in
-          cc)
+      let on : ShowsThen (now_of e out) other x = was_shower (now_of e out) other x distinct homed (still other place x at up) in
+      let never : None ≡ Some on.place = sym none ∙ on.showed in
+      cc)
 
   pub shown_row : HasOnly IsMoveRow was out
   shown_row = record { more = rows.Sent job ∷ []; is = by.is; each = λ row has. one row has }

@@ -106,7 +106,7 @@ module _ (e : InEvent) (state : StateId) (asks : IsEvictAsk e state) (t : Tables
 
           pub kept_as : KeepsStore t u
           kept_as =
-              record { store = then_.store ∙ keeps.store; running = then_.running ∙ keeps.running; goal = then_.goal ∙ keeps.goal; keep = then_.keep ∙ keeps.keep }
+              record { store = then_.store ∙ keeps.store; running = then_.running ∙ keeps.running; goal = then_.goal ∙ keeps.goal; keep = then_.keep ∙ keeps.keep; checks = then_.checks ∙ keeps.checks }
 
           pub ready_as : t.kept.keep ≡ e.header.keep → IsLetting (record { pass = record { event = e; loads = check.loads; hand = [] }; moved = None }) own whys.Evict out u → IsReady (record { event = e; loads = check.loads; hand = [] }) out u queue blame whys.Evict
           ready_as header so =

@@ -96,6 +96,7 @@ module _ (e : InEvent) (state : StateId) (asks : IsEvictAsk e state) (t : Tables
             initial = stands.tied.initial;
             loads = evicted_tied s e.event actors.Ui t.loads stands.tied.loads state;
             kept = stands.tied.kept;
+            checks = stands.tied.checks;
           }
 
   -- ---- what comes, and goes on

@@ -13,18 +13,25 @@ use Rattle.load_table.specs.Loads.{ongoing_load}
 use Rattle.load_table.specs.declared.load.Load.{Load}
 use Rattle.seen_facts.specs.LoadTies.Tying.{TiesLoads}
 use Rattle.log_model.specs.After.{after}
-use Rattle.log_model.specs.Seen.{Document, Seen}
+use Rattle.log_model.specs.Seen.{Document, Seen, document_of}
 use Rattle.log_model.specs.declared.job.Job.{Job}
 use Rattle.log_model.specs.declared.row_kind.Actor.{Actor}
 use Rattle.log_model.specs.declared.row_kind.RowKind.{RowKind}
 use Rattle.page_cache.specs.Kept.{without}
 use Rattle.seen_facts.specs.Each.Runs.{is_run}
-use Rattle.seen_laws.proofs.InEvents.{log_more, goes_more, none_goes}
+use Rattle.seen_laws.proofs.InEvents.{log_more, goes_more, none_goes, now_is}
 use Rattle.seen_laws.specs.InEvent.{InEvent, log_of, now_of, row_of}
 use Rattle.seen_laws.specs.Sending.{leads}
 use Rattle.std.proofs.Common.{List, None, Option, Some, [], ap, false, length, refl, subst, sym, true, ℕ, ◌++◌, ◌+◌, ◌==◌, ◌∙◌, ◌∷◌, ◌≡◌, ◌≤◌}
 use Rattle.std.proofs.lemmas.List.{length-map}
-use Rattle.tab_doors.proofs.Ahead.{lawful_none}
+use Rattle.tab_doors.proofs.PassedOn.{lawful_pass, nobody_duly, plain_nobody}
+use Rattle.tab_doors.specs.PassedOn.{AreAskedDuly, noted_by, told_by}
+use Rattle.tab_stands.proofs.Begun.{start_nobody}
+use Rattle.checking_facts.proofs.Steps.{more_duly}
+use Rattle.unload_check.specs.Checks.{OpenCheck}
+use Rattle.row_facts.proofs.FrameRows.Discards.{discard_quiet}
+use Rattle.row_facts.proofs.FrameRows.LawfulLaws.{keeps_held}
+use Rattle.unasked_dues.specs.Checking.{AllOthersPass}
 use Rattle.tab_doors.proofs.Discarding.{discard_holds}
 use Rattle.tab_doors.proofs.Initial.{initial_same}
 use Rattle.tab_doors.proofs.Keeping.{gone_tied}
@@ -35,7 +42,7 @@ use Rattle.tab_doors.specs.Look.{look_of, sight}
 use Rattle.tab_doors.proofs.Whose.{proc_known, proc_same}
 use Rattle.tab_doors.specs.Orders.{numbered_order, order_to, proc_at}
 use Rattle.tab_doors.specs.Ties.{AreInitial, Holds, IsRunning, proc_in}
-use Rattle.tab_doors.specs.Working.{HasGoal, IsAtWork, IsWorker}
+use Rattle.tab_doors.specs.Working.{HasGoal, IsAhead, IsAtWork, IsWorker}
 use Rattle.tab_doors.specs.declared.tables.Tables.{Tables}
 use Rattle.tab_ids.specs.declared.DocId.{DocId}
 use Rattle.std.specs.Option.{IsSome}
@@ -63,8 +70,8 @@ module _ (e : InEvent) (t u : Tables) (doc : DocId) (state : StateId) (tied : Ar
   unloaded x nav load has is at =
       ap (λ (y : StateId). y.0 == load.state.0) (its.gone.its_state (sight x) (into_map sight n.documents x has) is) ∙ its.gone.unloaded nav load at
 
-  now_is : then_ ≡ now_of e (rows.Sent order ∷ [])
-  now_is = sym (sent_now e [] order refl)
+  now_then : then_ ≡ now_of e (rows.Sent order ∷ [])
+  now_then = sym (sent_now e [] order refl)
 
   pub evicted_work : u.tree ≡ discarded state t.tree → SendsOne t u t.shown.entries t.last.entries → u.running ≡ t.running → u.goal ≡ t.goal → u.kept ≡ record t.kept { states = without state t.kept.states } → IsAtWork e (rows.Sent order ∷ []) u
   evicted_work tree one running goal kept =
@@ -74,27 +81,42 @@ module _ (e : InEvent) (t u : Tables) (doc : DocId) (state : StateId) (tied : Ar
         plain =
             log_more e [] (rows.Sent order)
             ∙ ap (λ (x : Seen). after x (row_of e (rows.Sent order))) its.aside.plain
-            ∙ now_is;
+            ∙ now_then;
         goes = goes_more e [] [] (rows.Sent order) (none_goes e []) (sent_goes e [] order refl);
         numbered = its.numbered;
         read = read_more e [] (rows.Sent order) (read_own e (record { numbered = its.checks.numbered; others = its.checks.others })) (record { numbered = checks_.numbered; others = checks_.others });
         sole = soles_more e [] (rows.Sent order) tt (sole_own e (log_of e []));
         checks = checks_;
         unheld = none_steps e.checking its.aside.unchecked (log_of e (rows.Sent order ∷ []));
-        holds = subst (λ (x : Seen). Holds (look_of x u.running) u) now_is (subst (λ (r : Option ReqId). Holds (look_of then_ r) u) (sym running) (discard_holds n t.running e.event e.actor (proc_at n doc) doc whys.Evict state [] t tied.holds tied.runs its.gone.are its.gone.its_state its.gone.its u tree one));
-        runs = subst (λ (x : Seen). IsRunning x.requests u.running) now_is (runs_on n.requests then_.requests t u (served_same is_run n order tasks.Discard whys.Evict (λ q. refl)) running tied.runs);
-        goal = subst (λ (x : Seen). HasGoal x.requests u.running u.goal) now_is (goal_on n.requests then_.requests t u (served_same goal_read n order tasks.Discard whys.Evict (λ q. refl)) running goal tied.goal);
-        few = subst (λ (x : Seen). length x.documents ≤ x.jobs + 1) now_is (few_sent n.documents then_.documents n.jobs (length-map n.documents _) tied.few);
-        initial = subst (λ (x : Seen). AreInitial x.initial_states u.initial.entries) now_is (initial_same n.initial_states t.initial.entries u.initial.entries one.initial tied.initial);
-        loads = subst (λ (x : Seen). TiesLoads x u.loads) now_is (subst (λ (l : List Load). TiesLoads then_ l) (sym one.loads) (gone_tied n e.event e.actor t.loads tied.loads order refl unloaded));
-        kept = kept_gone n doc (λ (x : Document). record x { is_discarded = true }) (λ x. refl) (λ x. refl) state its.own_state None t.kept u.kept tied.kept refl kept ∙ ap (λ (x : Seen). kept_states x) now_is;
-        lawful = lawful_none e (rows.Sent order ∷ []) (evicted_lawful e t doc state its);
+        holds = subst (λ (x : Seen). Holds (look_of x u.running) u) now_then (subst (λ (r : Option ReqId). Holds (look_of then_ r) u) (sym running) (discard_holds n t.running e.event e.actor (proc_at n doc) doc whys.Evict state [] t tied.holds tied.runs its.gone.are its.gone.its_state its.gone.its u tree one));
+        runs = subst (λ (x : Seen). IsRunning x.requests u.running) now_then (runs_on n.requests then_.requests t u (served_same is_run n order tasks.Discard whys.Evict (λ q. refl)) running tied.runs);
+        goal = subst (λ (x : Seen). HasGoal x.requests u.running u.goal) now_then (goal_on n.requests then_.requests t u (served_same goal_read n order tasks.Discard whys.Evict (λ q. refl)) running goal tied.goal);
+        few = subst (λ (x : Seen). length x.documents ≤ x.jobs + 1) now_then (few_sent n.documents then_.documents n.jobs (length-map n.documents _) tied.few);
+        initial = subst (λ (x : Seen). AreInitial x.initial_states u.initial.entries) now_then (initial_same n.initial_states t.initial.entries u.initial.entries one.initial tied.initial);
+        loads = subst (λ (x : Seen). TiesLoads x u.loads) now_then (subst (λ (l : List Load). TiesLoads then_ l) (sym one.loads) (gone_tied n e.event e.actor t.loads tied.loads order refl unloaded));
+        kept = kept_gone n doc (λ (x : Document). record x { is_discarded = true }) (λ x. refl) (λ x. refl) state its.own_state None t.kept u.kept tied.kept refl kept ∙ ap (λ (x : Seen). kept_states x) now_then;
+        asked = asked_then one.checks;
+        lawful = lawful_pass (IsAhead None) e (noted_by u.checks (rows.Sent order ∷ [])) (rows.Sent order ∷ []) (evicted_lawful e t doc state its);
       }
     where
       checks_ : AreInCheck e.checking (log_of e (rows.Sent order ∷ []))
       checks_ =
           subst (λ (x : Seen). AreInCheck e.checking x) (sym (log_more e [] (rows.Sent order)))
           (row_checks e.checking (log_of e []) (row_of e (rows.Sent order)) (other_wakes e.checking (log_of e []) order (λ req is. its.aside.unchecked req)) tt its.checks)
+
+      -- nobody was asked, so the table has no checks; it is told of the document
+      asked_first : AreAskedDuly e.checking e.start (log_of e []) (told_by t.checks [])
+      asked_first =
+          nobody_duly e.checking e.start (log_of e []) t.checks (start_nobody e its.aside) (plain_nobody e.checking (log_of e []) (sym (its.aside.plain ∙ now_is e []))) its.checks.numbered its.checks.others its.aside.unchecked tied.checks
+
+      there : document_of (log_of e []) doc ≡ Some its.gone.document
+      there = subst (λ (x : Seen). document_of x doc ≡ Some its.gone.document) (sym its.aside.plain) its.gone.found
+
+      asked_then : u.checks ≡ t.checks → AreAskedDuly e.checking e.start (log_of e (rows.Sent order ∷ [])) (told_by u.checks (rows.Sent order ∷ []))
+      asked_then same =
+          subst (λ (x : Seen). AreAskedDuly e.checking e.start x (told_by u.checks (rows.Sent order ∷ []))) (sym (log_more e [] (rows.Sent order)))
+          (subst (λ (es : List (ReqId × OpenCheck)). AreAskedDuly e.checking e.start (after (log_of e []) (row_of e (rows.Sent order))) (told_by es (rows.Sent order ∷ []))) (sym same)
+          (more_duly e [] (told_by t.checks []) asked_first (rows.Sent order) (its.gone.document, there) (discard_quiet e order refl) (keeps_held e [] (rows.Sent order) refl refl) (IsAhead None) (IsAhead None) (λ later is. tt) (subst (λ (x : Seen). AllOthersPass e.checking x) (log_more e [] (rows.Sent order)) checks_.others)))
 
 -- ---- the order that is counted and put out
 

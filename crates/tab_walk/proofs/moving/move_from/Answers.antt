@@ -27,21 +27,23 @@ set_off-requires g c = (
 
 pub make_room-requires : goal.make_room-requires
 make_room-requires g c =
-  let whys : c.show_why-why.result ≡ show_why c.args.tables.now.running c.args.cause = c.show_why-why.ensures ∙ ap (λ (r : Option ReqId). show_why r c.args.cause) c.in_ok-gone.ensures.kept.running in (
-  c.in_ok-set_off.ensures.leaving,
-  (room_ready g.m c.args.tables.now.running _ c.args.tables.now.kept.keep _ (now_of g.m.pass.event c.args.out.now) _ c.args.state _ _ c.args.cause c.args.nav _ c.requires.1.1.0 c.in_ok-set_off.ensures.off
-      (ap (λ (x : InMove). x.nav) c.requires.0)
-      c.in_ok-set_off.ensures.part
-      c.in_ok-set_off.ensures.states
-      (c.in_ok-set_off.ensures.kept.keep ∙ c.in_ok-gone.ensures.kept.keep)
-      c.show_why-why.ensures
-      c.in_ok-set_off.ensures.kept.running
-      (ap (λ (x : InMove). x.cause) c.requires.0)
-      (c.in_ok-gone.ensures.gone ∙ ap (λ (l : List StateId). drop c.args.tables.now.kept.keep (left_first c.args.old l)) c.requires.1.0.work.kept ∙ ap (λ (x : InMove). drop c.args.tables.now.kept.keep (left_first x.state (kept_states (now_of g.m.pass.event c.args.out.now)))) c.requires.0),
-  off_left g.m.pass.event c.args.out.now _ _ c.args.nav (left_rows _ _ _ c.in_ok-set_off.ensures.left) c.in_ok-set_off.ensures.part.others c.requires.1.0.going.tab.sound c.requires.1.0.going.tab.hangs c.in_ok-set_off.ensures.leaving.going.tab.sound c.in_ok-set_off.ensures.leaving.going.tab.hangs c.in_ok-set_off.ensures.leaving.going.tab.homes.homed
-      (subst (λ (w : Why). AreLeftUnder g.m.pass.event c.args.out.now c.args.nav w) (sym whys) c.requires.1.1.1.0)
-      (subst (λ (w : Why). OffAreLeft g.m.pass.event c.args.out.now w) (sym whys) c.requires.1.1.1.1)),
-)
+    let whys : c.show_why-why.result ≡ show_why c.args.tables.now.running c.args.cause = c.show_why-why.ensures ∙ ap (λ (r : Option ReqId). show_why r c.args.cause) c.in_ok-gone.ensures.kept.running in (
+      c.in_ok-set_off.ensures.leaving,
+      (
+        room_ready g.m c.args.tables.now.running _ c.args.tables.now.kept.keep _ (now_of g.m.pass.event c.args.out.now) _ c.args.state _ _ c.args.cause c.args.nav _ c.requires.1.1.0 c.in_ok-set_off.ensures.off
+            (ap (λ (x : InMove). x.nav) c.requires.0)
+            c.in_ok-set_off.ensures.part
+            c.in_ok-set_off.ensures.states
+            (c.in_ok-set_off.ensures.kept.keep ∙ c.in_ok-gone.ensures.kept.keep)
+            c.show_why-why.ensures
+            c.in_ok-set_off.ensures.kept.running
+            (ap (λ (x : InMove). x.cause) c.requires.0)
+            (c.in_ok-gone.ensures.gone ∙ ap (λ (l : List StateId). drop c.args.tables.now.kept.keep (left_first c.args.old l)) c.requires.1.0.work.kept ∙ ap (λ (x : InMove). drop c.args.tables.now.kept.keep (left_first x.state (kept_states (now_of g.m.pass.event c.args.out.now)))) c.requires.0),
+        off_left g.m.pass.event c.args.out.now _ _ c.args.nav (left_rows _ _ _ c.in_ok-set_off.ensures.left) c.in_ok-set_off.ensures.part.others c.requires.1.0.going.tab.sound c.requires.1.0.going.tab.hangs c.in_ok-set_off.ensures.leaving.going.tab.sound c.in_ok-set_off.ensures.leaving.going.tab.hangs c.in_ok-set_off.ensures.leaving.going.tab.homes.homed
+            (subst (λ (w : Why). AreLeftUnder g.m.pass.event c.args.out.now c.args.nav w) (sym whys) c.requires.1.1.1.0)
+            (subst (λ (w : Why). OffAreLeft g.m.pass.event c.args.out.now w) (sym whys) c.requires.1.1.1.1),
+      ),
+    )
 
 pub returns-clause-turn : goal.returns-clause-turn
 returns-clause-turn g c =

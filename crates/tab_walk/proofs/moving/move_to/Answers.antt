@@ -22,16 +22,30 @@ show_target-requires g c =
     (leaving_none g.p c.args.out.now c.args.tables.now c.requires.0, found_none g.p c.args.out.now c.args.tables.now c.requires.0 c.args.nav c.args.entry c.requires.1.1.0 c.row_there.result.now c.row_there.ensures c.doc_there-doc.result c.doc_there-doc.ensures c.args.cause c.requires.1.1.1.0 (sym c.left_by.ensures ∙ c.in-None.is))
 
 pub cut_from-requires : goal.cut_from-requires
-cut_from-requires g c =
-    (refl, (c.requires.0, (found_cut g.p c.args.out.now c.args.tables.now c.requires.0 c.args.nav c.args.entry c.requires.1.1.0 c.row_there.result.now c.row_there.ensures c.doc_there-doc.result c.doc_there-doc.ensures c.args.tables.now.kept.keep c.args.cause c.requires.1.1.1.0 (c.requires.1.1.1.0.header ∙ ap (λ (h : Header). h.keep) (sym c.requires.1.0) ∙ c.if-header-eq0.true) c.in-Some.left.0 c.in-Some.left.1 (sym c.left_by.ensures ∙ c.in-Some.is),
-    (found_lefts g.p c.args.out.now c.args.tables.now c.requires.0 c.args.nav c.args.entry c.requires.1.1.0 c.row_there.result.now c.row_there.ensures c.doc_there-doc.result c.doc_there-doc.ensures c.args.tables.now.kept.keep c.args.cause c.requires.1.1.1.0 c.in-Some.left.0 c.in-Some.left.1 (sym c.left_by.ensures ∙ c.in-Some.is), c.requires.1.1.1.1))))
+cut_from-requires g c = (
+  refl,
+  (
+    c.requires.0,
+    (
+      found_cut g.p c.args.out.now c.args.tables.now c.requires.0 c.args.nav c.args.entry c.requires.1.1.0 c.row_there.result.now c.row_there.ensures c.doc_there-doc.result c.doc_there-doc.ensures c.args.tables.now.kept.keep c.args.cause c.requires.1.1.1.0 (c.requires.1.1.1.0.header ∙ ap (λ (h : Header). h.keep) (sym c.requires.1.0) ∙ c.if-header-eq0.true) c.in-Some.left.0 c.in-Some.left.1 (sym c.left_by.ensures ∙ c.in-Some.is),
+      (found_lefts g.p c.args.out.now c.args.tables.now c.requires.0 c.args.nav c.args.entry c.requires.1.1.0 c.row_there.result.now c.row_there.ensures c.doc_there-doc.result c.doc_there-doc.ensures c.args.tables.now.kept.keep c.args.cause c.requires.1.1.1.0 c.in-Some.left.0 c.in-Some.left.1 (sym c.left_by.ensures ∙ c.in-Some.is), c.requires.1.1.1.1),
+    ),
+  ),
+)
 
 pub move_from-requires : goal.move_from-requires
 move_from-requires g c =
     let some = c.if-header-eq0.false in
-    let keep : c.args.tables.now.kept.keep ≡ c.args.header.now.keep = c.requires.1.1.1.0.header ∙ ap (λ (h : Header). h.keep) (sym c.requires.1.0) in
-    (refl, (c.requires.0, (found_from g.p c.args.out.now c.args.tables.now c.requires.0 c.args.nav c.args.entry c.requires.1.1.0 c.row_there.result.now c.row_there.ensures c.doc_there-doc.result c.doc_there-doc.ensures c.args.tables.now.kept.keep c.args.cause c.requires.1.1.1.0 (let low : 1 ≤ c.args.tables.now.kept.keep = grind (arith, nat_tests, some, keep) in low) c.in-Some.left.0 c.in-Some.left.1 (sym c.left_by.ensures ∙ c.in-Some.is),
-    (found_lefts g.p c.args.out.now c.args.tables.now c.requires.0 c.args.nav c.args.entry c.requires.1.1.0 c.row_there.result.now c.row_there.ensures c.doc_there-doc.result c.doc_there-doc.ensures c.args.tables.now.kept.keep c.args.cause c.requires.1.1.1.0 c.in-Some.left.0 c.in-Some.left.1 (sym c.left_by.ensures ∙ c.in-Some.is), c.requires.1.1.1.1))))
+    let keep : c.args.tables.now.kept.keep ≡ c.args.header.now.keep = c.requires.1.1.1.0.header ∙ ap (λ (h : Header). h.keep) (sym c.requires.1.0) in (
+      refl,
+      (
+        c.requires.0,
+        (
+          found_from g.p c.args.out.now c.args.tables.now c.requires.0 c.args.nav c.args.entry c.requires.1.1.0 c.row_there.result.now c.row_there.ensures c.doc_there-doc.result c.doc_there-doc.ensures c.args.tables.now.kept.keep c.args.cause c.requires.1.1.1.0 (let low : 1 ≤ c.args.tables.now.kept.keep = grind (arith, nat_tests, some, keep) in low) c.in-Some.left.0 c.in-Some.left.1 (sym c.left_by.ensures ∙ c.in-Some.is),
+          (found_lefts g.p c.args.out.now c.args.tables.now c.requires.0 c.args.nav c.args.entry c.requires.1.1.0 c.row_there.result.now c.row_there.ensures c.doc_there-doc.result c.doc_there-doc.ensures c.args.tables.now.kept.keep c.args.cause c.requires.1.1.1.0 c.in-Some.left.0 c.in-Some.left.1 (sym c.left_by.ensures ∙ c.in-Some.is), c.requires.1.1.1.1),
+        ),
+      ),
+    )
 
 pub returns-in_ok-show_target-in-None-clause-only : goal.returns-in_ok-show_target-in-None-clause-only
 returns-in_ok-show_target-in-None-clause-only g c = moved_for _ _ _ _ _ _ _ _ _ _ _ refl refl (only_none _ _) c.in_ok-show_target-in-None.ensures.shown
