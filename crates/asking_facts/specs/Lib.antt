@@ -1,0 +1,4 @@
+pub mod Asking
+pub mod Ones
+pub mod Noting
+pub mod Waiting
