@@ -1,4 +1,5 @@
 -- The tab has come to rest, and the event ends.
+use Rattle.tab_doors.proofs.Works.{plain_now}
 use Rattle.seen_laws.proofs.InEvents.{now_is}
 use Rattle.tab_ids.specs.declared.ReqId.{ReqId}
 use Rattle.tab_facts.specs.Running.Telling.{AreTelling}
@@ -51,20 +52,24 @@ settled_acts e was out c after cause last to header slots at due put left =
           plain =
               ap (λ (checking : ReqId → Bool). unasked checking (log_of e out)) (sym to.unchecked)
               ∙ sym (now_is e out)
-              ∙ sym at.passing.work.plain;
+              ∙ sym plain_out;
           found =
-              subst AreFoundRunning (sym at.passing.work.plain)
+              subst AreFoundRunning (sym plain_out)
               (put_found e was out at.passing.work.goes put at.passing.going.tab.whose.numbered to.ready.passing.going.tab.desks to.found);
-          telling = subst AreTelling (sym at.passing.work.plain) (put_telling e was out at.passing.work.goes put to.telling);
+          telling = subst AreTelling (sym plain_out) (put_telling e was out at.passing.work.goes put to.telling);
         };
         slots =
             subst (λ (l : List (DocId × ℕ)). AreSlots (log_of e out) l) (sym slots) (put_slots e c.slots.entries was out put to.slots);
       };
       header = header ∙ to.header;
       passes = all.passes;
-      off = subst (λ (x : Seen). ChangesLeaveOff x out) (sym at.passing.work.plain) (leaves_unsettled e was out left to.unmoved);
+      off = subst (λ (x : Seen). ChangesLeaveOff x out) (sym plain_out) (leaves_unsettled e was out left to.unmoved);
     }
   where
+    -- nobody was asked so far
+    plain_out : log_of e out ≡ now_of e out
+    plain_out = plain_now e out at.passing.work.goes at.queueing.turning.plain
+
     all : tab.HasActed tab.none_in_check e out after.tables after.queue after.blame.entries
     all =
         acted (pass_of e []) out after.tables after.queue after.blame.entries last false (λ never. absurd cc) at (put_makes e after.tables.running was out at.passing.work.goes at.passing.going.tab.asked put to.makes) (put_sound e was out at.passing.work.goes put to.sound) (of_coord e was out put to.coord) to.shows (λ req. ap (λ (checking : ReqId → Bool). checking req) to.unchecked) (λ free. due) (taken_in e was out put to.taken)

@@ -29,6 +29,9 @@ use Rattle.seen_laws.specs.InEvent.{InEvent, here_of, log_of, now_of, row_of}
 use Rattle.std.proofs.Common.{Bool, List, None, Option, Some, [], ap, arith, false, inl, refl, subst, sym, true, ℕ, ◌++◌, ◌+◌, ◌==◌, ◌∙◌, ◌∷◌, ◌≡◌}
 use Rattle.std.proofs.lemmas.Bool.Decides.{nat_tests}
 use Rattle.std.specs.Prelude.{option_map, nat_lt}
+use Rattle.seen_laws.proofs.InEvents.{now_is}
+use Rattle.seen_laws.specs.Unasked.{unasked_request, without_asks}
+use Rattle.unasked.proofs.Readings.{checked_off, request_read}
 use Rattle.tab_doors.proofs.Ahead.{IsStep, step_owing}
 use Rattle.tab_doors.proofs.EndLaws.{left_holds}
 use Rattle.tab_doors.proofs.Requests.{moved_read, moved_same, runs_same}
@@ -115,8 +118,16 @@ module _ (e : InEvent) (out : List RowKind) (t : Tables) (req : ReqId) (nav : Na
   abbrev load : Load
   load = begun_load req nav replace address (t.states + 1)
 
-  there : request_of s req ≡ Some its.q
-  there = subst (λ (x : Seen). request_of x req ≡ Some its.q) work.plain its.due.at
+  -- the request as it would be had nobody been asked
+  abbrev bare : Asked
+  bare = without_asks its.q
+
+  there : request_of s req ≡ Some bare
+  there =
+      ap (λ (x : Seen). request_of x req) (now_is e out)
+      ∙ request_read e.checking (log_of e out) req
+      ∙ ap (λ (o : Option Asked). option_map (unasked_request e.checking) o) its.due.at
+      ∙ ap (λ (q : Asked). Some q) (checked_off e.checking its.q (ap e.checking its.due.number ∙ off))
 
   same_states : t.states ≡ s.states
   same_states = work.holds.states
@@ -125,13 +136,13 @@ module _ (e : InEvent) (out : List RowKind) (t : Tables) (req : ReqId) (nav : Na
   begin_step =
       step_owing e out (rows.Started req None) (λ r. refl) (started_held e out req None) (λ later both. begin_load_owing (here_of e out) e.event e.actor req nav its.mode address its.q (led_here e out work.own) its.due later (both.0.0 req (nat_eq_refl req.0), both.1))
 
-  same_reads : {B : Type 0} (read : Asked → B) → read (request_begun s (record its.q { is_started = true; goal = None })) ≡ read its.q → SameReads read s.requests then_begun.requests
-  same_reads read same = begun_reads read s req None its.q there same
+  same_reads : {B : Type 0} (read : Asked → B) → read (request_begun s (record bare { is_started = true; goal = None })) ≡ read bare → SameReads read s.requests then_begun.requests
+  same_reads read same = begun_reads read s req None bare there same
 
-  is_a_load : is_load its.q.what ≡ true
+  is_a_load : is_load bare.what ≡ true
   is_a_load = ap is_load its.due.what
 
-  runs_none : is_run (request_begun s (record its.q { is_started = true; goal = None })) ≡ is_run its.q
+  runs_none : is_run (request_begun s (record bare { is_started = true; goal = None })) ≡ is_run bare
   runs_none = rw its.due.what (rw its.due.open_ (rw its.due.unstarted refl))
 
   own : ongoing_load nav next ≡ Some load
@@ -139,7 +150,7 @@ module _ (e : InEvent) (out : List RowKind) (t : Tables) (req : ReqId) (nav : Na
 
   ties : TiesLoads then_begun next
   ties =
-      begins_tied s e.event e.actor t.loads next work.loads load its.q its.mode there its.due.what its.due.unstarted its.due.open_ (ap (λ (n : ℕ). n + 1) same_states) (its.handling ∙ ap (λ (w : Request). load_replaces s w) (sym its.due.what)) refl
+      begins_tied s e.event e.actor t.loads next work.loads load bare its.mode there its.due.what its.due.unstarted its.due.open_ (ap (λ (n : ℕ). n + 1) same_states) (its.handling ∙ ap (λ (w : Request). load_replaces s w) (sym its.due.what)) refl
       (subst (λ (n : ℕ). made_for s.documents (let x : StateId = record { 0 = n + 1 } in x) ≡ None) (sym same_states) its.unmade) alone own others
     where
       alone : (r : ReqId) (other : Asked) → request_of s r ≡ Some other → is_ongoing_load other ≡ true → loads nav other.what ≡ true → ⊥
@@ -189,9 +200,9 @@ module _ (e : InEvent) (out : List RowKind) (t : Tables) (req : ReqId) (nav : Na
       never : (r : ReqId) → t.running ≡ Some r → (r.0 == req.0) ≡ true → ⊥
       never r is same =
           let it : r ≡ req = ap (λ (n : ℕ). let x : ReqId = record { 0 = n } in x) (grind (arith, nat_tests, same)) in
-          let only : is_run its.q ≡ is_this t.running req = work.runs.only req its.q there in
+          let only : is_run bare ≡ is_this t.running req = work.runs.only req bare there in
           let runs_ : is_this t.running req ≡ true = ap (λ (o : Option ReqId). is_this o req) is ∙ same in
-          let none : is_run its.q ≡ false = rw its.due.unstarted refl in
+          let none : is_run bare ≡ false = rw its.due.unstarted refl in
           let no_ : false ≡ true = sym none ∙ only ∙ runs_ in
           cc
 

@@ -90,7 +90,6 @@ module _ (e : InEvent) (t : Tables) (req : ReqId) (reason : Denial) (denied : Is
       record {
         own = ap (λ (k : RowKind). leads k) denied.own;
         worker = subst (λ (a : Actor). IsWorker a) (sym denied.by_user) tt;
-        plain = plain_then;
         goes = goes_more e [] [] (rows.Refused req reason) (none_goes e []) (refused_goes e [] req reason);
         numbered = denied.numbered;
         read = read_more e [] (rows.Refused req reason) (read_own e (record { numbered = denied.checks.numbered; others = denied.checks.others })) (record { numbered = checks_.numbered; others = checks_.others });

@@ -15,8 +15,11 @@ use Rattle.seen_laws.proofs.Startings.{IsWorker}  -- keep
 use Rattle.tab_doors.proofs.EndLaws.{left_holds}
 use Rattle.tab_doors.proofs.Keeping.{no_load_at}
 use Rattle.tab_doors.proofs.Requests.{ended_moved, moved_same, runs_ended_apart}
-use Rattle.tab_doors.proofs.Works.{at_log, at_seen, done_here, goal_read, goal_same, off_runs, start_here, started_held, work_more, BeginsSole, traversal_sole}
-use Rattle.tab_doors.specs.Dues.{IsBeginDue, IsDenyDue, IsDenyDueIn, IsDestroyDue, IsDestroyDueIn, IsDropDue, IsDropDueIn, IsNowhere, IsNowhereIn}
+use Rattle.unasked.proofs.Readings.{found_from}
+use Rattle.unasked_dues.proofs.Dues.{part_of}
+use Rattle.seen_laws.specs.Unasked.{unasked_request}
+use Rattle.tab_doors.proofs.Works.{at_seen, done_here, goal_read, goal_same, off_runs, start_here, started_held, work_more, BeginsSole, traversal_sole}
+use Rattle.tab_doors.specs.Dues.{AsksNone, IsBeginDue, IsDenyDue, IsDenyDueIn, IsDestroyDue, IsDestroyDueIn, IsDropDue, IsDropDueIn, IsNowhere, IsNowhereIn}
 use Rattle.tab_doors.specs.Keeping.{IsNoLoad}
 use Rattle.tab_doors.specs.Look.{look_of, moved_by, sight}
 use Rattle.tab_doors.specs.Ties.{AreInitial, Holds, IsRunning}
@@ -175,7 +178,7 @@ module _ (e : InEvent) (out : List RowKind) (t : Tables) (req : ReqId) (work : I
 
 -- ---- a traversal begins
 
-module _ (e : InEvent) (out : List RowKind) (t : Tables) (req : ReqId) (goal : Step) (work : IsAtWork e out t) (none : t.running ≡ None) (due : IsBeginDue (now_of e out) req goal) where
+module _ (e : InEvent) (out : List RowKind) (t : Tables) (req : ReqId) (goal : Step) (work : IsAtWork e out t) (none : t.running ≡ None) (due : IsBeginDue (now_of e out) req goal) (none_asked : AsksNone (log_of e out) req (Some goal)) where
   abbrev begun_ : Seen
   begun_ = after (now_of e out) (row_of e (rows.Started req (Some goal)))
 
@@ -228,11 +231,6 @@ module _ (e : InEvent) (out : List RowKind) (t : Tables) (req : ReqId) (goal : S
   off : e.checking req ≡ false
   off = turn_off e out (now_is e out) work.checks.begun work.unheld req due.asked due.at due.open_ (is_step due.asked.what its)
 
-  -- nobody is to be asked
-  none_asked : (q : Asked) → request_of (log_of e out) req ≡ Some q → due_questions (log_of e out) q.what (Some goal) ≡ []
-  none_asked =
-      at_log e out t work (λ (s : Seen). (q : Asked) → request_of s req ≡ Some q → due_questions s q.what (Some goal) ≡ []) (λ q at. ap (λ (x : Asked). due_questions (now_of e out) x.what (Some goal)) (sym (it_is q at)) ∙ due.unasked)
-
   begin_step : IsStep None None e out (rows.Started req (Some goal))
   begin_step =
       by_log (begin_due e.checking (log_of e out) work.checks.numbered work.unheld req goal off none_asked (at_seen e out t work (λ (s : Seen). IsBeginDue s req goal) due))
@@ -241,12 +239,16 @@ module _ (e : InEvent) (out : List RowKind) (t : Tables) (req : ReqId) (goal : S
       by_log d =
           step_more e out (rows.Started req (Some goal)) (λ r. refl) (started_held e out req (Some goal)) (λ later asks. begin_may (here_of e out) e.event e.actor req goal.0 d.delta d.asked (led_here e out work.own) d.at d.asks d.unstarted d.open_ d.there d.turn d.unasked later (asks.0 req (nat_eq_refl req.0)))
 
-  there : request_of (log_of e out) req ≡ Some due.asked
-  there = at_log e out t work (λ (s : Seen). request_of s req ≡ Some due.asked) due.at
+  -- as the log has it
+  from : (q : Asked) × (request_of (log_of e out) req ≡ Some q) × (due.asked ≡ unasked_request e.checking q)
+  from = found_from e.checking (log_of e out) req due.asked (at_seen e out t work (λ (s : Seen). request_of s req ≡ Some due.asked) due.at)
+
+  what_same : due.asked.what ≡ from.0.what
+  what_same = part_of e.checking (λ (x : Asked). x.what) (λ x. refl) (λ x. refl) from.0 due.asked from.2
 
   pub begin_work : IsAtWork e (out ++ rows.Started req (Some goal) ∷ []) u
   begin_work =
-      work_more e out (rows.Started req (Some goal)) None t u work (started_goes e out req (Some goal) (work.checks.numbered req) off) (traversal_sole e out req (Some goal) due.asked there (no_load due.asked.what its)) (λ by q r at there other traverses on runs. rw off (off_runs e.checking (log_of e out) work.unheld by r there on runs)) (inl off)
+      work_more e out (rows.Started req (Some goal)) None t u work (started_goes e out req (Some goal) (work.checks.numbered req) off) (traversal_sole e out req (Some goal) from.0 from.1 (ap is_load (sym what_same) ∙ no_load due.asked.what its)) (λ by q r at there other traverses on runs. rw off (off_runs e.checking (log_of e out) work.unheld by r there on runs)) (inl off)
       (on_tables (left_holds (look_now e out t.running) (look_of begun_ (Some req)) t refl refl refl moved refl states_same refl work.holds))
       runs
       goal_then

@@ -26,7 +26,7 @@ use Rattle.tab_doors.specs.Look.{look_of}
 use Rattle.tab_doors.specs.Orders.{next_order, numbered_order, order_to, proc_at}
 use Rattle.tab_doors.specs.Ties.{AreInitial, Holds, IsRunning, proc_in}
 use Rattle.tab_doors.proofs.Ahead.{IsStep}
-use Rattle.tab_doors.specs.Working.{HasGoal, IsAhead, IsAtWork, IsAtWorkFor}
+use Rattle.tab_doors.specs.Working.{HasGoal, IsAhead, IsAtWork, IsAtWorkFor, StartsPlain}
 use Rattle.std.proofs.lemmas.List.Sums.{fold-append}
 use Rattle.unasked_dues.specs.Checking.{AllOthersPass}
 use Rattle.log_model.specs.Checks.{is_checked}
@@ -59,7 +59,7 @@ use Rattle.page_cache.specs.Kept.{Kept, without}
 use Rattle.seen_facts.proofs.Request.Readers.{SameReads}
 use Rattle.seen_laws.proofs.InEvents.{goes_more, log_more, now_is, now_more}
 use Rattle.seen_laws.specs.Blocks.{Here, on_row, on_rows}
-use Rattle.seen_laws.specs.InEvent.{GoesThere, InEvent, IsReadOff, first_of, here_of, is_seen, log_of, now_of, row_of}
+use Rattle.seen_laws.specs.InEvent.{EachGoes, GoesThere, InEvent, IsReadOff, first_of, here_of, is_seen, log_of, now_of, row_of}
 use Rattle.seen_laws.specs.Sending.{IsNumbered, is_passed}
 use Rattle.std.proofs.Common.{Bool, List, None, Option, Some, [], ap, append-nil, append_assoc, arith, false, length, length-append, map, refl, subst, sym, true, ℕ, ◌++◌, ◌+◌, ◌∙◌, ◌∷◌, ◌≡◌, ◌≤◌, not, ◌&&◌}
 use Rattle.std.specs.Option.{IsSome}
@@ -79,6 +79,18 @@ use Rattle.log_model.specs.declared.request.Request.TheVariants as requests
 plain_more : (e : InEvent) (out : List RowKind) (kind : RowKind) → IsReadOff e out kind → log_of e out ≡ now_of e out → log_of e (out ++ kind ∷ []) ≡ now_of e (out ++ kind ∷ [])
 plain_more e out kind read is =
     log_more e out kind ∙ ap (λ (s : Seen). after s (row_of e kind)) is ∙ sym (now_more e out kind read)
+
+-- so nobody is asked by such rows one after the other
+plain_from : (e : InEvent) (was more : List RowKind) → ((before later : List RowKind) (kind : RowKind) → before ++ kind ∷ later ≡ more → GoesThere e (was ++ before) kind) → log_of e was ≡ now_of e was → log_of e (was ++ more) ≡ now_of e (was ++ more)
+plain_from e was [] goes is = subst (λ (l : List RowKind). log_of e l ≡ now_of e l) (sym (append-nil was)) is
+plain_from e was (kind ∷ more) goes is =
+    subst (λ (l : List RowKind). log_of e l ≡ now_of e l) (append_assoc was (kind ∷ []) more)
+    (plain_from e (was ++ kind ∷ []) more (λ before later k same. subst (λ (l : List RowKind). GoesThere e l k) (sym (append_assoc was (kind ∷ []) before)) (goes (kind ∷ before) later k (ap (λ (l : List RowKind). kind ∷ l) same)))
+    (plain_more e was kind (subst (λ (l : List RowKind). GoesThere e l kind) (append-nil was) (goes [] more kind refl)).read is))
+
+-- where nobody had been asked as the event's own row was logged, nobody is by the rows that go there
+pub plain_now : (e : InEvent) (out : List RowKind) → EachGoes e [] out → StartsPlain e → log_of e out ≡ now_of e out
+plain_now e out goes is = plain_from e [] out (λ before later kind same. goes.each before later kind same) is
 
 -- a load that begins is the only one of its navigable, and so are those that began before; a row with which none begins leaves them so
 abbrev pub BeginsSole : InEvent → List RowKind → RowKind → Type 0
@@ -194,7 +206,6 @@ module _ {from : Option Move} (e : InEvent) (out : List RowKind) (kind : RowKind
       record {
         own = work.own;
         worker = work.worker;
-        plain = plain_more e out kind it.read work.plain;
         goes = goes_more e [] out kind work.goes it;
         numbered = work.numbered;
         read = read_more e out kind work.read (record { numbered = checks_.numbered; others = checks_.others });
@@ -269,10 +280,6 @@ moving_log e out t work = are_moving e.checking (log_of e out) work.checks (step
 -- what an order is for has passed, where it isn't in its check
 pub passed_log : {move : Option Move} (e : InEvent) (out : List RowKind) (t : Tables) → IsAtWorkFor move e out t → (task : Task) (why : Why) → IsForOther e.checking why → is_passed (now_of e out) task why ≡ true → is_passed (log_of e out) task why ≡ true
 passed_log e out t work task why other is = passed_off e.checking (log_of e out) work.checks.others task why other (at_seen e out t work (λ (s : Seen). is_passed s task why ≡ true) is)
-
--- what is so of the log without questions is so of the log, where nobody is asked
-pub at_log : {move : Option Move} (e : InEvent) (out : List RowKind) (t : Tables) → IsAtWorkFor move e out t → (P : Seen → Type 0) → P (now_of e out) → P (log_of e out)
-at_log e out t work P is = subst P (sym work.plain) is
 
 -- its settings are those of the event
 on_header : (h : Here) (more : List LogRow) → (on_rows h more).header ≡ h.header

@@ -117,6 +117,10 @@ pub record IsBeginDue (s : Seen) (req : ReqId) (goal : Step) : Type 0 where
   pub unasked : due_questions s asked.what (Some goal) ≡ []
   pub unmoved : asked.moved ≡ []
 
+-- nobody is to be asked as the request begins
+abbrev pub AsksNone : Seen → ReqId → Option Step → Type 0
+AsksNone s req goal = (q : Asked) → request_of s req ≡ Some q → due_questions s q.what goal ≡ []
+
 -- one that leads nowhere is refused in its turn
 pub record IsNowhereIn (s : Seen) (e : InEvent) (out : List RowKind) (req : ReqId) : Type 0 where
   pub asked : Asked

@@ -75,13 +75,15 @@ AreLawfulFor move e checks out = PassIf (IsAhead move) e (noted_by checks out) o
 abbrev pub MaySend : Option Move → InEvent → List RowKind → Job → Type 0
 MaySend move e out job = MayLog (here_of e out) (row_of e (rows.Sent job) ∷ []) (λ later. IsAhead move later × PromptsFor e out (rows.Sent job) later)
 
+-- as the event's own row was logged nobody had been asked
+abbrev pub StartsPlain : InEvent → Type 0
+StartsPlain e = log_of e [] ≡ now_of e []
+
 -- ---- all of it, where a move has begun, or none has
 
 pub record IsAtWorkFor (move : Option Move) (e : InEvent) (out : List RowKind) (t : Tables) : Type 0 where
   pub own : leads e.own ≡ true
   pub worker : IsWorker e.actor
-  -- nobody is asked
-  pub plain : log_of e out ≡ now_of e out
   -- each row is seen in the log without questions, and read off; as the event began, and after each row, requests had their numbers, and whoever isn't in its check had passed
   pub goes : EachGoes e [] out
   pub numbered : AreNumbered e.start

@@ -4,8 +4,8 @@ ghost use Rattle.log_model.specs.declared.outcome.Cause.TheVariants as drops;
 ghost use Rattle.log_model.specs.declared.outcome.Denial.TheVariants as denials;
 ghost use Rattle.log_model.specs.declared.row_kind.RowKind.TheVariants as rows;
 ghost use Rattle.seen_facts.specs.Each.Runs.{is_this};
-ghost use Rattle.seen_laws.specs.InEvent.{InEvent, now_of};
-ghost use Rattle.tab_doors.specs.Dues.{IsBeginDue, IsNowhere, IsDenyDue, IsDestroyDue, IsDropDue};
+ghost use Rattle.seen_laws.specs.InEvent.{InEvent, log_of, now_of};
+ghost use Rattle.tab_doors.specs.Dues.{AsksNone, IsBeginDue, IsNowhere, IsDenyDue, IsDestroyDue, IsDropDue};
 ghost use Rattle.tab_doors.specs.Keeping.{IsNoLoad};
 ghost use Rattle.tab_doors.specs.Working.{IsAtWork};
 
@@ -21,6 +21,7 @@ impl Tables {
         requires work { IsAtWork e out.old self.old }
         requires none { self.old.running ≡ None }
         requires due { IsBeginDue (now_of e out.old) req goal }
+        requires unasked { AsksNone (log_of e out.old) req (Some goal) }
         ensures work { OnOk result (IsAtWork e out.new self.new) }
         ensures out { OnOk result (out.new ≡ out.old ++ rows.Started req (Some goal) ∷ []) }
         ensures tables { OnOk result (self.new ≡ record self.old { running = Some req; goal = goal }) }

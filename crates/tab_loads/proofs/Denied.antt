@@ -99,7 +99,7 @@ module _ (e : InEvent) (t : Tables) (queue : Queue) (blame : List (StateId × Re
           absurd cc
 
   turning : IsTurning e []
-  turning = turning_first e tab.known early
+  turning = turning_first e tab.known early asks.aside.plain
 
   queued : HasQueue (now_of e []) t.running queue.waiting
   queued =

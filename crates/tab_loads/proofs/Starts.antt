@@ -1,4 +1,5 @@
 -- A load begins, in the place of its navigable's ongoing one: what its door asks.
+use Rattle.tab_doors.proofs.Works.{plain_now}
 use Rattle.seen_facts.specs.Load.Loading.{look}
 use Rattle.log_model.specs.Once.{has_no_earlier_load, loads}
 use Rattle.seen_facts.proofs.Each.Runs.{at_place}
@@ -167,9 +168,13 @@ module _ (l : InLoad) (t : Tables) (asked : IsAsked l t) (placed_ : away_in t l.
         unasked = none_asked (now_of l.event out) made.going.tab.docs (requests.Load l.nav l.mode l.address) None;
       }
 
+  -- nobody was asked so far
+  plain : log_of l.event out ≡ n
+  plain = plain_now l.event out way.work.goes asked.asks.aside.plain
+
   pub due : IsLoadToBegin (here_of l.event out) l.req l.nav l.mode l.address own
   due =
-      subst (λ (h : Here). IsLoadToBegin h l.req l.nav l.mode l.address own) (ap (λ (x : Seen). let h : Here = record (here_of l.event out) { now = x } in h) (sym way.work.plain)) due_seen
+      subst (λ (h : Here). IsLoadToBegin h l.req l.nav l.mode l.address own) (ap (λ (x : Seen). let h : Here = record (here_of l.event out) { now = x } in h) (sym plain)) due_seen
 
   -- no earlier load is ongoing
   pub alone_now : has_no_earlier_load n l.req l.nav ≡ true
@@ -193,7 +198,7 @@ module _ (l : InLoad) (t : Tables) (asked : IsAsked l t) (placed_ : away_in t l.
 
   -- nor in the log
   sole : has_no_earlier_load (log_of l.event out) l.req l.nav ≡ true
-  sole = subst (λ (x : Seen). has_no_earlier_load x l.req l.nav ≡ true) (sym way.work.plain) alone_now
+  sole = subst (λ (x : Seen). has_no_earlier_load x l.req l.nav ≡ true) (sym plain) alone_now
 
   -- no request has begun in this event
   none_began : list_any is_beginning out ≡ false

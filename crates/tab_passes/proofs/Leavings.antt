@@ -54,7 +54,6 @@ begun_work e out t doc left states work is =
     record {
       own = work.own;
       worker = work.worker;
-      plain = work.plain;
       goes = work.goes;
       numbered = work.numbered;
       read = work.read;

@@ -63,7 +63,6 @@ work_first e t aside checks numbered own worker legal tied =
     record {
       own = own;
       worker = worker;
-      plain = aside.plain;
       goes = none_goes e [];
       numbered = numbered;
       read = read_own e (record { numbered = checks.numbered; others = checks.others });

@@ -1,4 +1,5 @@
 -- An event of the coordinator ends as the tab has come to rest: the coordinator stands for what the log has come to, and each row passes.
+use Rattle.tab_doors.proofs.Works.{plain_now}
 use Rattle.leave_facts.proofs.Carried.{AreLeftDuly}
 use Rattle.tab_doors.proofs.Works.{aimed_log}
 use Rattle.tab_doors.proofs.PassedOn.{paid_read}
@@ -92,6 +93,10 @@ module _ (p : InPass) (out : List RowKind) (t : Tables) (queue : Queue) (blame :
   abbrev check : InCheck
   check = record { loads = p.loads; holds = waits }
 
+  -- nobody was asked so far
+  plain : log_of p.event out ≡ s
+  plain = plain_now p.event out at.passing.work.goes at.queueing.turning.plain
+
   tab : IsTab t.running p.loads [] s
   tab =
       subst (λ (hand : List Made). IsTab t.running p.loads hand s) at.empty at.passing.going.tab
@@ -121,7 +126,7 @@ module _ (p : InPass) (out : List RowKind) (t : Tables) (queue : Queue) (blame :
   -- each row passes
   passes : IsTakenIn p.event (map (row_of p.event) out) → EachPass (start_of p.event) (row_of p.event p.event.own ∷ map (row_of p.event) out) []
   passes taken =
-      pass_end (IsAhead None) p.event (noted_by t.checks out) out at.passing.work.lawful tt paid taken at.queueing.over (plain_nobody p.event.checking (log_of p.event out) (sym (at.passing.work.plain ∙ now_is p.event out)))
+      pass_end (IsAhead None) p.event (noted_by t.checks out) out at.passing.work.lawful tt paid taken at.queueing.over (plain_nobody p.event.checking (log_of p.event out) (sym (plain ∙ now_is p.event out)))
 
   lasts : AreShownUnder s → Lasts t.running s
   lasts shown =
@@ -139,17 +144,17 @@ module _ (p : InPass) (out : List RowKind) (t : Tables) (queue : Queue) (blame :
         makes = makes;
         sound = sound;
         shows = shown;
-        duly = subst AreLeftDuly at.passing.work.plain at.passing.duly;
+        duly = subst AreLeftDuly plain at.passing.duly;
         off = off_of s shown at.passing.going.tab.standing t.running at.calm at.late;
       }
 
   pub acted : (waits ≡ false → IsNoneDue s t.running queue.waiting) → IsTakenIn p.event (map (row_of p.event) out) → HasActed check p.event out t queue blame
   acted due taken =
       record {
-        stands = subst (λ (x : Seen). StandsFor check x t queue blame) (sym at.passing.work.plain) (record {
+        stands = subst (λ (x : Seen). StandsFor check x t queue blame) (sym plain) (record {
           between = between due;
           alone = alone;
-          lasts = lasts (subst (λ (x : Seen). AreShownUnder x) at.passing.work.plain (event_under p.event out (passes taken).1 of_coord shows));
+          lasts = lasts (subst (λ (x : Seen). AreShownUnder x) plain (event_under p.event out (passes taken).1 of_coord shows));
           tied = work_tied p out t off_check at.passing.work;
           strays = at.strays;
           queue = at.queueing.queued;

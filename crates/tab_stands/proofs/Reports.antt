@@ -148,7 +148,7 @@ module _ (e : InEvent) (proc : ProcId) (by_coord : e.actor ≡ actors.Coord) (ow
         inr (grind (arith, nat_tests, low))
 
     pub told_turning : AreKnown told → IsTurning e []
-    told_turning known = turning_first e (subst (λ (x : Seen). AreKnown x) (sym told_now) known) (λ req q has at. early req q at)
+    told_turning known = turning_first e (subst (λ (x : Seen). AreKnown x) (sym told_now) known) (λ req q has at. early req q at) aside.plain
 
     -- nothing is held back that wasn't before
     pub told_held : told.parked ≡ e.start.parked → AreHeldUp t.running told

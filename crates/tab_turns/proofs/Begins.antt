@@ -1,4 +1,6 @@
 -- The traversal that waits first begins, or is refused where its delta leads nowhere; and all goes on then.
+use Rattle.tab_doors.proofs.Works.{plain_now}
+use Rattle.tab_doors.specs.Dues.{AsksNone}
 use Rattle.tab_ids.specs.declared.NavId.{NavId}
 use Rattle.tab_facts.specs.FrameWhole.Tab.{AreAwakeWithRows}
 use Rattle.tab_facts.proofs.Calm.Awakes.{calm_stood}
@@ -150,6 +152,10 @@ module _ (p : InPass) (out : List RowKind) (t : Tables) (passing : IsPassing p o
   turn : begins_in_turn s req ≡ true
   turn = first_turn s req delta tab.asked stand first
 
+  -- nobody was asked so far
+  plain : log_of e out ≡ s
+  plain = plain_now e out passing.work.goes turning.plain
+
   unheld : IsUnheld None p.loads p.hand s tab req
   unheld = joined_unheld None p.loads p.hand s tab req its.joined
 
@@ -161,6 +167,11 @@ module _ (p : InPass) (out : List RowKind) (t : Tables) (passing : IsPassing p o
   -- ---- it begins
 
   module _ (goal : Step) (there : step_at_delta s delta ≡ Some goal.0) where
+    -- nobody is to be asked
+    pub begin_unasked : AsksNone (log_of e out) req (Some goal)
+    begin_unasked q at =
+        subst (λ (x : Seen). due_questions x q.what (Some goal) ≡ []) (sym plain) (none_asked s tab.docs q.what (Some goal))
+
     pub begin_due : IsBeginDue s req goal
     begin_due =
         record {
@@ -225,11 +236,10 @@ module _ (p : InPass) (out : List RowKind) (t : Tables) (passing : IsPassing p o
           by_now is = at_bare (λ (x : Seen). IsSound x.history) is
 
           there_log : (q : Asked) → request_of s req ≡ Some q → request_of (log_of e out) req ≡ Some q
-          there_log q at = subst (λ (x : Seen). request_of x req ≡ Some q) (sym passing.work.plain) at
+          there_log q at = subst (λ (x : Seen). request_of x req ≡ Some q) (sym plain) at
 
           asks_none : due_questions (log_of e out) its.q.what (Some goal) ≡ []
-          asks_none =
-              subst (λ (x : Seen). due_questions x its.q.what (Some goal) ≡ []) (sym passing.work.plain) (none_asked s tab.docs its.q.what (Some goal))
+          asks_none = subst (λ (x : Seen). due_questions x its.q.what (Some goal) ≡ []) (sym plain) (none_asked s tab.docs its.q.what (Some goal))
 
           stood : IsCalm s
           stood = calm_stood s tab.sound tab.hangs tab.homes tab.standing with_rows stand

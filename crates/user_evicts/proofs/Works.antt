@@ -78,10 +78,6 @@ module _ (e : InEvent) (t u : Tables) (doc : DocId) (state : StateId) (tied : Ar
       record {
         own = ap (λ (k : RowKind). leads k) its.own;
         worker = subst (λ (a : Actor). IsWorker a) (sym its.by_user) tt;
-        plain =
-            log_more e [] (rows.Sent order)
-            ∙ ap (λ (x : Seen). after x (row_of e (rows.Sent order))) its.aside.plain
-            ∙ now_then;
         goes = goes_more e [] [] (rows.Sent order) (none_goes e []) (sent_goes e [] order refl);
         numbered = its.numbered;
         read = read_more e [] (rows.Sent order) (read_own e (record { numbered = its.checks.numbered; others = its.checks.others })) (record { numbered = checks_.numbered; others = checks_.others });
