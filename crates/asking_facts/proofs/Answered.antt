@@ -23,10 +23,12 @@ use Rattle.unload_check.specs.declared.check.Check.TheVariants as checks
 use Rattle.unload_check.specs.Checks as table
 use Rattle.unload_check.specs.Checks.{OpenCheck, changed, check_of, ended, is_settled, outcome_of}
 use Rattle.unload_check.proofs.Stays.{others_changed, others_ended}
-use Rattle.seen_laws.specs.Blocks.{Passes, point_at}
+use Rattle.seen_laws.proofs.InEvents.{uncut_rows}
+use Rattle.seen_laws.specs.Blocks.{EachPass, Passes, point_at}
 use Rattle.seen_laws.specs.InEvent.{InEvent, row_of, start_of}
 use Rattle.seen_facts.proofs.Coord.Held.{on_else}
 use Rattle.seen_facts.proofs.Request.LookUps.{on_itself}
+use Rattle.seen_facts.proofs.Request.Readers.{on_read}
 use Rattle.check_facts.proofs.Tables.{check_changed, check_ended}
 use Rattle.check_facts.proofs.Ties.{user_at}
 use Rattle.check_facts.specs.Checking.{AreChecksTied, AreTiedAt, is_checking, is_said}
@@ -38,8 +40,12 @@ use Rattle.checking_facts.proofs.Tellings.{told_said}
 use Rattle.checking_facts.proofs.Waits.{left_waits, none_waits, passed_waits, stayed_waits}
 use Rattle.checking_facts.specs.Checks.{AreInCheck, SameBut, just}
 use Rattle.checking_facts.specs.Prompts.{AreAskedDuly, PassIf}
+use Rattle.asking_facts.proofs.Notes.{asks_notes, ended_notes}
+use Rattle.asking_facts.proofs.NotesOver.{one_notes}
 use Rattle.asking_facts.proofs.Ones.{one_duly, one_tied, told_none}
+use Rattle.asking_facts.proofs.Waiting.{asks_of}
 use Rattle.asking_facts.specs.Ones.{ChangesOne, IsOneHeld}
+use Rattle.asking_facts.specs.Prompting.{NotesWanted}
 
 never : {A : Type 0} → true ≡ false → A
 never e = absurd cc
@@ -62,9 +68,10 @@ pub leave_comes : (e : InEvent) (req : ReqId) (later : List LogRow) → StayCome
 leave_comes e req later = refl
 
 -- whatever is noted, since the row settles no question
-pub answered_pass : (Rest : List LogRow → Type 0) (e : InEvent) (req : ReqId) (stay : Bool) (q : Asked) (todo : ReqId → Option DocId) → e.own ≡ rows.Answered req stay → e.actor ≡ actors.Ui → request_of e.start req ≡ Some q → awaits_answer q ≡ true → ((later : List LogRow) → Rest later → StayComes e req stay later) → PassIf Rest e todo []
+pub answered_pass : (Rest : List LogRow → Type 0) (e : InEvent) (req : ReqId) (stay : Bool) (q : Asked) (todo : ReqId → Option DocId) → e.before ≡ [] → e.own ≡ rows.Answered req stay → e.actor ≡ actors.Ui → request_of e.start req ≡ Some q → awaits_answer q ≡ true → ((later : List LogRow) → Rest later → StayComes e req stay later) → PassIf Rest e todo []
 unfolding PassIf
-answered_pass Rest e req stay q todo own ui at awaits comes later rest = (passes, tt)
+answered_pass Rest e req stay q todo uncut own ui at awaits comes later rest =
+    subst (λ (l : List LogRow). EachPass (start_of e) l later) (sym (uncut_rows e [] uncut)) (passes, tt)
   where
     unanswered : is_none q.answered ≡ true
     unanswered = second (is_some q.prompted) (is_none q.answered) (is_none q.ending) awaits
@@ -176,6 +183,11 @@ module _ (checking : ReqId → Bool) (start : Seen) (event : ℕ) (req : ReqId) 
           no_more true false = refl
           no_more false b = refl
 
+  -- and what the table notes was wanted
+  pub left_notes : NotesWanted start es → NotesWanted answered_then (ended req es)
+  left_notes notes =
+      asks_notes start answered_then (ended req es) (on_read asks_of start.requests req answer (λ x. refl)) (ended_notes start es req notes)
+
   -- ---- where the user stays, the check has come to that, until the request is dropped
 
   module _ (check : OpenCheck) (doc : DocId) (has : check_of req es ≡ Some check) (prompts : outcome_of check ≡ checks.Prompt doc) where
@@ -187,6 +199,10 @@ module _ (checking : ReqId → Bool) (start : Seen) (event : ℕ) (req : ReqId) 
     stayed_unnoted is =
         ap (λ (o : Option Check). option_and_then prompt_of o) (user_at req es check doc stay has prompts)
         ∙ (let out : prompt_of (table.decided (Some doc) (Some stay)) ≡ None = rw is refl in out)
+
+    pub stayed_notes : stay ≡ true → NotesWanted start es → NotesWanted answered_then table_then
+    stayed_notes is notes =
+        one_notes start answered_then es table_then req change.others (others_changed req (table.after_user stay) es) (λ x there d noted. (let none : (let o : Option DocId = None in o) ≡ Some d = sym (stayed_unnoted is) ∙ noted in absurd cc)) notes
 
     pub answered_duly : AreAskedDuly checking start answered_then (record { checks = table_then; run = [] })
     answered_duly =

@@ -19,7 +19,7 @@ use Rattle.log_model.specs.Seen.{Asked, Seen, request_of}
 use Rattle.seen_laws.proofs.InEvents.{led_here, log_fold}
 use Rattle.seen_laws.proofs.Owings.{pays_append}
 use Rattle.seen_laws.specs.Blocks.{EachPass, Here, on_row, on_rows}
-use Rattle.seen_laws.specs.InEvent.{InEvent, begins, first_of, here_of, log_of, row_of}
+use Rattle.seen_laws.specs.InEvent.{InEvent, begins, first_of, here_of, log_of, own_of, row_of, rows_of}
 use Rattle.seen_laws.specs.Owing.{Pays}
 use Rattle.seen_laws.specs.Sending.{leads}
 use Rattle.row_facts.specs.FrameRows.Lawful.{IsRestOf}
@@ -46,7 +46,7 @@ header_rows h [] = refl
 header_rows h (row ∷ rows) = header_rows (on_row h row) rows
 
 -- questions for a request that has begun
-questions_early : (e : InEvent) (base : Seen) (req : ReqId) (s : Seen) (number : ℕ) (questions : List Question) (jobs : List Job) (x : Asked) → AreQuestionsFrom base req number questions jobs → request_of s req ≡ Some x → x.is_started ≡ true → NoneAskedEarly s → NoneAskedEarly (when_asked e s jobs)
+pub questions_early : (e : InEvent) (base : Seen) (req : ReqId) (s : Seen) (number : ℕ) (questions : List Question) (jobs : List Job) (x : Asked) → AreQuestionsFrom base req number questions jobs → request_of s req ≡ Some x → x.is_started ≡ true → NoneAskedEarly s → NoneAskedEarly (when_asked e s jobs)
 questions_early e base req s number [] [] x are at begun early = early
 questions_early e base req s number (question ∷ questions) (job ∷ jobs) x are at begun early =
     questions_early e base req (once_asked s e.event e.actor job question.1 question.2 are.0.task) (number + 1) questions jobs (with_asking job x) are.1 (asked_own s e.event e.actor job question.1 question.2 are.0.task req are.0.why x at) begun (early_row s (row_of e (rows.Sent job)) (subst (λ (t : Task). IsForBegun s job t) (sym are.0.task) its) early)
@@ -73,13 +73,13 @@ module _ (e : InEvent) (out : List RowKind) (told : Told) (asked : AreAskedDuly 
   -- it hadn't begun as the event began
   before : holds (λ (x : Asked). x.is_started) (request_of h.start req) ≡ false
   before =
-      subst (λ (s : Seen). holds (λ (x : Asked). x.is_started) (request_of s req) ≡ false) (sym (start_is e out)) (hadnt_begun e.start (row_of e e.own ∷ map (row_of e) out) req q (subst (λ (s : Seen). request_of s req ≡ Some q) (log_fold e out) begins_.at) begins_.unstarted)
+      subst (λ (s : Seen). holds (λ (x : Asked). x.is_started) (request_of s req) ≡ false) (sym (start_is e out)) (hadnt_begun e.start (rows_of e out) req q (subst (λ (s : Seen). request_of s req ≡ Some q) (log_fold e out) begins_.at) begins_.unstarted)
 
   header_is : h.header ≡ e.header
-  header_is = header_rows (first_of e) (map (row_of e) out)
+  header_is = header_rows (first_of e) (map (row_of e) out) ∙ header_rows (own_of e) (map (row_of e) e.before)
 
   -- the rows so far pass with it
-  pub begun_pass : (Before Rest : List LogRow → Type 0) → ((later : List LogRow) → Rest later → Before (map (row_of e) block ++ later)) → leads e.own ≡ true → list_any (begins req) out ≡ false → MayBeginTo h (row_of e (rows.Started req goal)) req goal q → AreSome questions → e.checking req ≡ false → PassIf Before e (todo_of told.checks) out → PassIf Rest e (todo_of (checks_begun told req questions)) (out ++ block)
+  pub begun_pass : (Before Rest : List LogRow → Type 0) → ((later : List LogRow) → Rest later → Before (map (row_of e) block ++ later)) → leads e.own ≡ true → list_any (begins req) (e.before ++ out) ≡ false → MayBeginTo h (row_of e (rows.Started req goal)) req goal q → AreSome questions → e.checking req ≡ false → PassIf Before e (todo_of told.checks) out → PassIf Rest e (todo_of (checks_begun told req questions)) (out ++ block)
   begun_pass Before Rest ahead led unbegun may some off pass =
       subst (λ (todo : ReqId → Option DocId). PassIf Rest e todo (out ++ block)) (sym (all_todo e e.checking e.start now told asked req goal questions jobs q begins_ are some off)) (pass_rows e out told asked.run (rows.Started req goal) (questions_sent jobs) Before Rest ahead aside each pass)
     where

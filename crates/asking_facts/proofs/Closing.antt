@@ -1,5 +1,5 @@
 -- An event ends in which somebody was asked: its rows pass where no prompt is noted any more, and the table stands for the log as the next event begins.
-use Rattle.std.proofs.Common.{◌≡◌, ◌⊎◌, inl, inr, Bool, true, false, not, ◌&&◌, ◌||◌, List, [], ◌∷◌, map, Option, Some, None, refl, sym, ap, ◌∙◌, subst, append-nil}
+use Rattle.std.proofs.Common.{◌≡◌, ◌⊎◌, inl, inr, Bool, true, false, not, ◌&&◌, ◌||◌, List, [], Option, Some, None, refl, sym, ap, ◌∙◌, subst}
 use Rattle.std.specs.Prelude.{is_none, is_some}
 use Rattle.tab_ids.specs.declared.DocId.{DocId}
 use Rattle.tab_ids.specs.declared.ReqId.{ReqId}
@@ -10,8 +10,9 @@ use Rattle.log_model.specs.Equal.{holds}
 use Rattle.log_model.specs.Places.{all_asked, has_passed, is_gone, is_under_way}
 use Rattle.log_model.specs.Seen.{Asked, Seen, request_of}
 use Rattle.unload_check.specs.Checks.{OpenCheck, after_all_deaths, check_of}
+use Rattle.seen_laws.proofs.InEvents.{pays_end, taken_end}
 use Rattle.seen_laws.specs.Blocks.{EachPass}
-use Rattle.seen_laws.specs.InEvent.{InEvent, IsPaid, IsTakenIn, log_of, now_of, row_of, start_of}
+use Rattle.seen_laws.specs.InEvent.{InEvent, IsPaid, IsTakenIn, later_of, log_of, now_of, rows_of, start_of}
 use Rattle.row_facts.specs.FrameRows.Lawful.{has_traversed}
 use Rattle.check_facts.proofs.Agreeing.{agree_none}
 use Rattle.check_facts.proofs.Tables.{todo_none, todo_open}
@@ -37,7 +38,7 @@ unprompted checking start now told asked none req q at fresh settled un =
     by_case (inr new) = new.0
 
 -- nothing comes later
-pub pass_last : (Rest : List LogRow → Type 0) (e : InEvent) (todo : ReqId → Option DocId) (out : List RowKind) → PassIf Rest e todo out → Rest [] → IsPaid e out → IsTakenIn e (map (row_of e) out) → (has_traversed e out ≡ true → (now_of e out).parked ≡ []) → IsUnprompted e.start todo (log_of e out) → EachPass (start_of e) (row_of e e.own ∷ map (row_of e) out) []
+pub pass_last : (Rest : List LogRow → Type 0) (e : InEvent) (todo : ReqId → Option DocId) (out : List RowKind) → PassIf Rest e todo out → Rest [] → IsPaid e out → IsTakenIn e (later_of e out) → (has_traversed e out ≡ true → (now_of e out).parked ≡ []) → IsUnprompted e.start todo (log_of e out) → EachPass (start_of e) (rows_of e out) []
 unfolding PassIf
 pass_last Rest e todo out pass more paid taken parked none =
     pass [] (
@@ -45,8 +46,8 @@ pass_last Rest e todo out pass more paid taken parked none =
         rest = record {
           rest = record {
             asks = λ req began. refl;
-            taken = subst (λ (rows : List LogRow). IsTakenIn e rows) (sym (append-nil (map (row_of e) out))) taken;
-            owed = paid;
+            taken = taken_end e out taken;
+            owed = pays_end e out paid;
           };
           held = λ was. sym (parked was);
         };
@@ -61,7 +62,7 @@ pass_last Rest e todo out pass more paid taken parked none =
     by_prompted q false is f = let un = f is in rw is (rw (un.0) (un.1))
 
 -- so the event's rows pass, where the table notes no prompt that didn't come
-pub pass_asked : (Rest : List LogRow → Type 0) (e : InEvent) (out : List RowKind) (told : Told) → AreAskedDuly e.checking e.start (log_of e out) told → PassIf Rest e (todo_of told.checks) out → Rest [] → IsPaid e out → IsTakenIn e (map (row_of e) out) → (has_traversed e out ≡ true → (now_of e out).parked ≡ []) → NoneNoted (log_of e out) (after_all_deaths told.run told.checks) → EachPass (start_of e) (row_of e e.own ∷ map (row_of e) out) []
+pub pass_asked : (Rest : List LogRow → Type 0) (e : InEvent) (out : List RowKind) (told : Told) → AreAskedDuly e.checking e.start (log_of e out) told → PassIf Rest e (todo_of told.checks) out → Rest [] → IsPaid e out → IsTakenIn e (later_of e out) → (has_traversed e out ≡ true → (now_of e out).parked ≡ []) → NoneNoted (log_of e out) (after_all_deaths told.run told.checks) → EachPass (start_of e) (rows_of e out) []
 pass_asked Rest e out told asked pass more paid taken parked none =
     pass_last Rest e (todo_of told.checks) out pass more paid taken parked (unprompted e.checking e.start (log_of e out) told asked none)
 
@@ -124,6 +125,6 @@ tied_none_noted now table has req q at un =
     by_check (Some c) there tied = by_all c there tied (all_asked now q) refl
 
 -- so the event's rows pass where each check that is settled has its prompt up
-pub pass_tied : (Rest : List LogRow → Type 0) (e : InEvent) (out : List RowKind) (told : Told) → AreAskedDuly e.checking e.start (log_of e out) told → PassIf Rest e (todo_of told.checks) out → Rest [] → IsPaid e out → IsTakenIn e (map (row_of e) out) → (has_traversed e out ≡ true → (now_of e out).parked ≡ []) → IsAllTied (log_of e out) (after_all_deaths told.run told.checks) → EachPass (start_of e) (row_of e e.own ∷ map (row_of e) out) []
+pub pass_tied : (Rest : List LogRow → Type 0) (e : InEvent) (out : List RowKind) (told : Told) → AreAskedDuly e.checking e.start (log_of e out) told → PassIf Rest e (todo_of told.checks) out → Rest [] → IsPaid e out → IsTakenIn e (later_of e out) → (has_traversed e out ≡ true → (now_of e out).parked ≡ []) → IsAllTied (log_of e out) (after_all_deaths told.run told.checks) → EachPass (start_of e) (rows_of e out) []
 pass_tied Rest e out told asked pass more paid taken parked all =
     pass_asked Rest e out told asked pass more paid taken parked (tied_none_noted (log_of e out) (after_all_deaths told.run told.checks) (has_checks e.checking e.start (log_of e out) told asked all))

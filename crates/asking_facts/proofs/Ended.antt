@@ -2,7 +2,6 @@
 use Rattle.std.proofs.Common.{◌≡◌, inl, Bool, true, false, ◌&&◌, ◌==◌, List, [], ◌∷◌, ◌++◌, map, Option, Some, None, refl, sym, ap, ◌∙◌, subst}
 use Rattle.std.specs.Prelude.{is_some, option_and_then, option_map}
 use Rattle.std.proofs.lemmas.Bool.{and_parts}
-use Rattle.std.proofs.lemmas.List.{map-append}
 use Rattle.tab_ids.specs.declared.DocId.{DocId}
 use Rattle.tab_ids.specs.declared.ReqId.{ReqId}
 use Rattle.log_model.specs.declared.outcome.Cause.{Cause}
@@ -17,14 +16,13 @@ use Rattle.log_model.specs.Places.{all_asked, has_passed, is_gone, is_under_way,
 use Rattle.log_model.specs.Seen.{Asked, Seen, request_of}
 use Rattle.unload_check.specs.Checks.{OpenCheck, after_all_deaths, check_of, ended, outcome_of}
 use Rattle.unload_check.proofs.Stays.{others_ended}
-use Rattle.seen_laws.proofs.BlockLaws.{each_pass_append}
-use Rattle.seen_laws.proofs.InEvents.{log_more}
-use Rattle.seen_laws.specs.Blocks.{EachPass, MayLog}
-use Rattle.seen_laws.specs.InEvent.{InEvent, here_of, log_of, row_of, start_of}
+use Rattle.seen_laws.proofs.InEvents.{log_more, pass_more}
+use Rattle.seen_laws.specs.Blocks.{EachPass}
+use Rattle.seen_laws.specs.InEvent.{InEvent, here_of, log_of, row_of}
 use Rattle.seen_laws.specs.Owing.{Pays}
 use Rattle.seen_facts.proofs.Coord.Held.{on_else}
 use Rattle.seen_facts.proofs.Request.LookUps.{on_itself}
-use Rattle.row_facts.proofs.FrameRows.LawfulLaws.{AsksOf}
+use Rattle.row_facts.proofs.FrameRows.LawfulLaws.{AsksOf, rest_more}
 use Rattle.row_facts.specs.FrameRows.Lawful.{KeepsHeld}
 use Rattle.check_facts.proofs.Agreeing.{agree_none, agree_other}
 use Rattle.check_facts.proofs.Asides.{dropped_aside}
@@ -32,12 +30,11 @@ use Rattle.check_facts.proofs.Carried.{stay_own}
 use Rattle.check_facts.proofs.Checkings.{all_go}
 use Rattle.check_facts.proofs.Notings.{tied_held}
 use Rattle.check_facts.proofs.Promptings.{none_front}
-use Rattle.check_facts.proofs.Rests.{rest_more}
 use Rattle.check_facts.proofs.Runs.{come_aside, come_more}
 use Rattle.check_facts.proofs.Tables.{check_ended, todo_none}
 use Rattle.check_facts.specs.Checking.{AreTiedAt, is_checking}
 use Rattle.check_facts.specs.Having.{HasChecks, OpenChecked}
-use Rattle.check_facts.specs.Prompting.{IsAside, IsRestAsking, PromptsCome, comes, has_settled, none_ran, noted_or, prompt_of, run_end, still_due, todo_of, unless_prompted}
+use Rattle.check_facts.specs.Prompting.{IsAside, PromptsCome, comes, has_settled, none_ran, noted_or, prompt_of, run_end, still_due, todo_of, unless_prompted}
 use Rattle.checking_facts.proofs.Grown.{req_same}
 use Rattle.checking_facts.proofs.Steps.{same_drops}
 use Rattle.checking_facts.proofs.Tellings.{dropped_unchecked, runs_now, told_agrees, told_due, told_notes, told_numbers, told_said}
@@ -220,11 +217,10 @@ module _ (e : InEvent) (out : List RowKind) (told : Told) (asked : AreAskedDuly 
 
   row_pass : PassIf Before e (todo_of told.checks) out → PassIf Rest e (todo_of new_) (out ++ kind ∷ [])
   unfolding PassIf
-  row_pass pass =
-      subst (λ (l : List LogRow). MayLog (start_of e) (row_of e e.own ∷ l) (λ (later : List LogRow). IsRestAsking e (todo_of new_) none_ran (out ++ kind ∷ []) later × Rest later)) (sym (map-append (row_of e) out (kind ∷ []))) (λ later rest.
+  row_pass pass later rest =
       let parts = rest_more e out kind (λ r. refl) keeps later rest.0.rest in
       let come : PromptsCome e.start (todo_of new_) next_ later = subst (λ (s : Seen). PromptsCome e.start (todo_of new_) s later) (log_more e out kind) rest.0.prompts in
-      each_pass_append (start_of e) (row_of e e.own ∷ map (row_of e) out) (row_of e kind ∷ []) later (pass (row_of e kind ∷ later) (record { rest = parts.0; prompts = noted later come; agrees = agree_none (todo_of told.checks) here (row_of e kind ∷ later) }, ahead later rest.1)) (may later parts.1 rest.1))
+      pass_more e out (kind ∷ []) later (pass (row_of e kind ∷ later) (record { rest = parts.0; prompts = noted later come; agrees = agree_none (todo_of told.checks) here (row_of e kind ∷ later) }, ahead later rest.1)) (may later parts.1 rest.1)
 
   -- the requests after it
   abbrev dropped : Asked → Asked

@@ -21,7 +21,7 @@ use Rattle.unload_check.specs.Checks as table
 use Rattle.unload_check.specs.Checks.{OpenCheck, after_all_deaths, check_of, ended}
 use Rattle.unload_check.proofs.Stays.{others_changed, others_ended}
 use Rattle.seen_laws.specs.Blocks.{EachPass}
-use Rattle.seen_laws.specs.InEvent.{InEvent, IsPaid, IsTakenIn, now_of, row_of, start_of}
+use Rattle.seen_laws.specs.InEvent.{InEvent, IsPaid, IsTakenIn, later_of, now_of, row_of, rows_of, start_of}
 use Rattle.seen_facts.proofs.Coord.Held.{on_else}
 use Rattle.row_facts.specs.FrameRows.Lawful.{has_traversed}
 use Rattle.check_facts.proofs.Asks.{prompted_other}
@@ -109,7 +109,7 @@ module _ (header : Header) (s : Seen) (event : ℕ) (in_check : ReqId → Bool) 
         (on.asked_tied_one header s event in_check proc job verdict made first r why es has q found checking open_ one says open_checked within settled doc is_due unanswered)
 
     -- the event of the two rows passes
-    pub asked_event : IsPaid e (rows.Prompted r doc ∷ []) → IsTakenIn e (map (row_of e) (rows.Prompted r doc ∷ [])) → (has_traversed e (rows.Prompted r doc ∷ []) ≡ true → (now_of e (rows.Prompted r doc ∷ [])).parked ≡ []) → EachPass (start_of e) (row_of e e.own ∷ row_of e (rows.Prompted r doc) ∷ []) []
+    pub asked_event : IsPaid e (rows.Prompted r doc ∷ []) → IsTakenIn e (later_of e (rows.Prompted r doc ∷ [])) → (has_traversed e (rows.Prompted r doc ∷ []) ≡ true → (now_of e (rows.Prompted r doc ∷ [])).parked ≡ []) → EachPass (start_of e) (rows_of e (rows.Prompted r doc ∷ [])) []
     asked_event paid taken parked =
         pass_asked (Agreed (todo_of told) just_it e (rows.Prompted r doc ∷ []) Free) e (rows.Prompted r doc ∷ []) (record { checks = told; run = [] }) asked (heard.heard_prompt_pass header s event in_check proc job verdict made first r why es has q found checking open_ one says settled Free doc is_due) (agreed_end (todo_of told) just_it e (rows.Prompted r doc ∷ []) Free Free agrees tt) paid taken parked (tied_none_noted prompt_then (after_all_deaths [] told) (subst (λ (l : List (ReqId × OpenCheck)). HasChecks prompt_then l) (sym (told_none told)) has_then))
       where

@@ -1,5 +1,6 @@
 -- After an answer: who is in a check, and how it goes on. Another question is open still, or the request passes, or the user is asked.
 use Rattle.std.proofs.Common.{◌≡◌, ℕ, Bool, true, false, ◌&&◌, List, [], slice_get, Option, Some, None, refl, sym, ap, ◌∙◌, subst}
+use Rattle.std.specs.Prelude.{option_and_then, option_map}
 use Rattle.std.proofs.lemmas.Bool.{and_parts}
 use Rattle.tab_ids.specs.declared.DocId.{DocId}
 use Rattle.tab_ids.specs.declared.ProcId.{ProcId}
@@ -16,15 +17,19 @@ use Rattle.log_model.specs.declared.row_kind.LogRow.{LogRow}
 use Rattle.log_model.specs.declared.row_kind.RowKind.TheVariants as rows
 use Rattle.log_model.specs.After.{after}
 use Rattle.log_model.specs.Checks.{due_prompt, is_checked}
-use Rattle.log_model.specs.Places.{all_asked, has_passed, is_under_way}
-use Rattle.log_model.specs.Seen.{Asked, Seen, desk_of, request_of}
-use Rattle.unload_check.specs.Checks.{OpenCheck, after_all_deaths, check_of, ended}
+use Rattle.log_model.specs.Places.{all_asked, has_passed, is_gone, is_under_way}
+use Rattle.log_model.specs.Seen.{Asked, Seen, desk_of, request_in, request_of}
+use Rattle.unload_check.specs.Checks as table
+use Rattle.unload_check.specs.Checks.{OpenCheck, after_all_deaths, check_of, ended, outcome_of}
+use Rattle.unload_check.proofs.Stays.{others_changed}
 use Rattle.seen_laws.specs.InEvent.{InEvent, row_of}
 use Rattle.check_facts.proofs.Begins as begins
+use Rattle.seen_facts.proofs.Coord.Held.{on_else}
 use Rattle.check_facts.proofs.Changes.{prompt_agrees}
+use Rattle.check_facts.proofs.Hearings.{answered, requests_are}
 use Rattle.check_facts.specs.Checking.{AnswerIs, AreOneEach, IsTiedIn, is_checking}
 use Rattle.check_facts.specs.Having.{HasChecks, OpenChecked}
-use Rattle.check_facts.specs.Prompting.{AgreesNow, todo_of}
+use Rattle.check_facts.specs.Prompting.{AgreesNow, prompt_of, todo_of}
 use Rattle.unasked_dues.specs.Checking.{NonePasses}
 use Rattle.checking_facts.proofs.Askings.{heard_waits}
 use Rattle.checking_facts.proofs.Cases.{delivered_checks}
@@ -35,8 +40,11 @@ use Rattle.checking_facts.specs.Prompts.{AreAskedDuly, PassIf}
 use Rattle.asking_facts.proofs.Blocks.{pass_as}
 use Rattle.asking_facts.proofs.Ended.{IsUnnoted, ended_duly, ended_pass}
 use Rattle.asking_facts.proofs.Heard as heard
+use Rattle.asking_facts.proofs.Notes.{open_wanted}
+use Rattle.asking_facts.proofs.NotesOver.{one_notes}
 use Rattle.asking_facts.proofs.Ones.{told_none}
 use Rattle.asking_facts.proofs.Prompted.{prompt_duly, prompt_none, prompt_tied}
+use Rattle.asking_facts.specs.Prompting.{NotesWanted, has_wanted}
 
 some_same : {A : Type 0} {a b : A} → (let o : Option A = Some a in o) ≡ Some b → a ≡ b
 some_same e = cc
@@ -60,6 +68,17 @@ module _ (header : Header) (s : Seen) (event : ℕ) (in_check : ReqId → Bool) 
 
   there : request_of t r ≡ Some then
   there = heard.then_found header s event in_check proc job verdict made first r why es has q found checking open_ one says
+
+  -- ---- what is noted
+
+  -- whichever document the table notes wanted it
+  pub heard_notes : NotesWanted s es → NotesWanted t told
+  heard_notes notes =
+      one_notes s t es told r (λ req apart. ap (λ (l : List Asked). request_in l req) (requests_are s event actors.Coord proc job verdict made first r why) ∙ on_else s.requests r (answered s event actors.Coord proc job verdict made first r why) req apart) (others_changed r (table.after_answer job.doc verdict) es) own notes
+    where
+      own : (x : Asked) → request_of t r ≡ Some x → (doc : DocId) → todo_of told r ≡ Some doc → has_wanted doc x.asks ≡ true
+      own x at doc noted =
+          subst (λ (y : Asked). has_wanted doc y.asks ≡ true) (some_same (sym there ∙ at)) (open_wanted (is_gone t) doc then.asks (ap (λ (o : Option OpenCheck). option_and_then prompt_of (option_map outcome_of o)) (sym (heard.told_at header s event in_check proc job verdict made first r why es has q found checking open_ one says)) ∙ noted))
 
   -- ---- who is in a check
 

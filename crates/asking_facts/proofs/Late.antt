@@ -1,5 +1,5 @@
 -- An answer comes late, to a request whose questions were all settled, or that was dropped: the table stays as it is. And the report of a death, which the table is told of as of discarded documents.
-use Rattle.std.proofs.Common.{◌≡◌, ◌⊎◌, inl, inr, ℕ, Bool, true, false, cond, not, ◌&&◌, ◌||◌, ◌==◌, List, [], ◌∷◌, map, slice_get, Option, Some, None, refl, sym, ap, ◌∙◌, subst}
+use Rattle.std.proofs.Common.{◌≡◌, ◌⊎◌, inl, inr, ℕ, Bool, true, false, cond, not, ◌&&◌, ◌||◌, ◌==◌, List, [], ◌∷◌, ◌++◌, map, slice_get, Option, Some, None, refl, sym, ap, ◌∙◌, subst}
 use Rattle.std.specs.Prelude.{option_map}
 use Rattle.std.specs.List.{list_any}
 use Rattle.std.proofs.lemmas.Bool.{and_parts, or_right}
@@ -30,7 +30,7 @@ use Rattle.log_model.proofs.Refl.{nat_eq_refl}
 use Rattle.unload_check.specs.Checks as table
 use Rattle.unload_check.specs.Checks.{OpenCheck, check_of, is_doc}
 use Rattle.seen_laws.specs.Blocks.{Passes, point_at}
-use Rattle.seen_laws.specs.InEvent.{InEvent, row_of, start_of}
+use Rattle.seen_laws.specs.InEvent.{InEvent, IsTakenIn, row_of, start_of}
 use Rattle.seen_facts.proofs.Coord.Held.{on_else}
 use Rattle.seen_facts.proofs.Request.Readers.{SameReads}
 use Rattle.check_facts.proofs.Begins.{OwnPasses}
@@ -60,17 +60,22 @@ some_same e = cc
 -- ---- any report
 
 -- the row of a delivered report passes, if the prompts that it makes due come
-pub report_passes : (e : InEvent) (proc : ProcId) (report : Report) → e.own ≡ rows.Delivered proc → e.actor ≡ actors.Coord → slice_get (desk_of e.start proc).reports 0 ≡ Some report → OwnPasses e
-report_passes e proc report own coord first later rest duly =
+pub report_passes : (e : InEvent) (proc : ProcId) (report : Report) → e.before ≡ [] → e.own ≡ rows.Delivered proc → e.actor ≡ actors.Coord → slice_get (desk_of e.start proc).reports 0 ≡ Some report → OwnPasses e
+report_passes e proc report uncut own coord first later rest duly =
     (subst (λ (kind : RowKind). Passes e.header (point_at (start_of e) later) (row_of e kind)) (sym own) passes, tt)
   where
+    -- no row of the event is before a cut
+    taken : IsTakenIn e later
+    taken =
+        subst (λ (l : List RowKind). IsTakenIn e ((map (row_of e) l ++ []) ++ later)) uncut rest.rest.taken
+
     passes : Passes e.header (point_at (start_of e) later) (row_of e (rows.Delivered proc))
     passes =
         record {
           formed = rw coord (rw first refl);
           once = refl;
           caused = refl;
-          queued = subst (λ (kind : RowKind). is_delivered_duly (point_at (start_of e) later) (row_of e kind) ≡ true) own rest.rest.taken;
+          queued = subst (λ (kind : RowKind). is_delivered_duly (point_at (start_of e) later) (row_of e kind) ≡ true) own taken;
           ordered = refl;
           checked = subst (λ (kind : RowKind). prompts_duly (point_at (start_of e) later) (row_of e kind) ≡ true) own duly;
           in_time = refl;

@@ -24,5 +24,14 @@ pub mod Waiting
 pub mod Counts
 pub mod WaitingRows
 pub mod WaitingOver
+pub mod WaitingDesks
 pub mod WaitingEach
 pub mod WaitingBegun
+pub mod Standing
+pub mod Unanswered
+pub mod Wanted
+pub mod ApartDue
+pub mod Notes
+pub mod NotesOver
+pub mod Passed
+pub mod Known

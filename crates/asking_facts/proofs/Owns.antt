@@ -21,6 +21,7 @@ use Rattle.log_model.specs.Outcomes.{is_drop}
 use Rattle.log_model.specs.Places.{all_asked, is_gone}
 use Rattle.log_model.specs.Seen.{Asked, Seen, desk_of, request_in, request_of}
 use Rattle.unload_check.specs.Checks.{OpenCheck, check_of}
+use Rattle.seen_laws.proofs.InEvents.{uncut_rows}
 use Rattle.seen_laws.specs.Blocks.{EachPass}
 use Rattle.seen_laws.specs.InEvent.{InEvent, row_of, start_of}
 use Rattle.seen_facts.proofs.Coord.Held.{fun_ext}
@@ -51,13 +52,15 @@ some_same e = cc
 -- ---- it passes
 
 -- a row that settles nothing, whatever is noted
-pub own_pass : (Rest : List LogRow → Type 0) (e : InEvent) (todo : ReqId → Option DocId) → ((later : List LogRow) → IsRestOf e [] later → Rest later → EachPass (start_of e) (row_of e e.own ∷ []) later) → PassIf Rest e todo []
+pub own_pass : (Rest : List LogRow → Type 0) (e : InEvent) (todo : ReqId → Option DocId) → e.before ≡ [] → ((later : List LogRow) → IsRestOf e [] later → Rest later → EachPass (start_of e) (row_of e e.own ∷ []) later) → PassIf Rest e todo []
 unfolding PassIf
-own_pass Rest e todo passes later rest = passes later rest.0.rest rest.1
+own_pass Rest e todo uncut passes later rest =
+    subst (λ (l : List LogRow). EachPass (start_of e) l later) (sym (uncut_rows e [] uncut)) (passes later rest.0.rest rest.1)
 
 -- a report, if the prompts that it makes due come
-pub report_pass : (Rest : List LogRow → Type 0) (e : InEvent) (es : List (ReqId × OpenCheck)) → HasChecks e.start es → KeepsQuestions e.start (after e.start (row_of e e.own)) → DropsNone e.start (after e.start (row_of e e.own)) → OwnPasses e → PassIf Rest e (todo_of es) []
-report_pass Rest e es has keeps drops passes = pass_none Rest e (todo_of es) [] (begins e es has keeps drops passes)
+pub report_pass : (Rest : List LogRow → Type 0) (e : InEvent) (es : List (ReqId × OpenCheck)) → e.before ≡ [] → HasChecks e.start es → KeepsQuestions e.start (after e.start (row_of e e.own)) → DropsNone e.start (after e.start (row_of e e.own)) → OwnPasses e → PassIf Rest e (todo_of es) []
+report_pass Rest e es uncut has keeps drops passes =
+    pass_none Rest e (todo_of es) [] (begins e es uncut has keeps drops passes)
 
 -- ---- what is carried of prompts
 

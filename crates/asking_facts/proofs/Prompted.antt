@@ -1,7 +1,6 @@
 -- The user is asked, as the table notes it: the rows pass with that row, and what is carried of the checks stays.
 use Rattle.std.proofs.Common.{◌≡◌, inl, Bool, true, false, cond, not, ◌&&◌, List, [], ◌∷◌, ◌++◌, map, Option, Some, None, refl, sym, ap, ◌∙◌, subst}
 use Rattle.std.specs.Prelude.{is_none, is_some, option_and_then, option_map}
-use Rattle.std.proofs.lemmas.List.{map-append}
 use Rattle.tab_ids.specs.declared.DocId.{DocId}
 use Rattle.tab_ids.specs.declared.ReqId.{ReqId}
 use Rattle.log_model.specs.declared.row_kind.LogRow.{LogRow}
@@ -15,20 +14,18 @@ use Rattle.unload_check.specs.declared.check.Check.{Check}
 use Rattle.unload_check.specs.declared.check.Check.TheVariants as checks
 use Rattle.unload_check.specs.Checks as table
 use Rattle.unload_check.specs.Checks.{OpenCheck, after_all_deaths, check_of, is_settled, outcome_of}
-use Rattle.seen_laws.proofs.BlockLaws.{each_pass_append}
-use Rattle.seen_laws.proofs.InEvents.{led_here, log_more}
+use Rattle.seen_laws.proofs.InEvents.{led_here, log_more, pass_more}
 use Rattle.seen_laws.proofs.Sendings.{both, led_follows}
-use Rattle.seen_laws.specs.Blocks.{Here, MayLog, Passes, point_at}
-use Rattle.seen_laws.specs.InEvent.{InEvent, here_of, log_of, row_of, start_of}
+use Rattle.seen_laws.specs.Blocks.{Here, Passes, point_at}
+use Rattle.seen_laws.specs.InEvent.{InEvent, here_of, log_of, row_of}
 use Rattle.seen_laws.specs.Sending.{is_led, leads}
-use Rattle.row_facts.proofs.FrameRows.LawfulLaws.{keeps_held}
+use Rattle.row_facts.proofs.FrameRows.LawfulLaws.{keeps_held, rest_more}
 use Rattle.check_facts.proofs.Agreeing.{agree_none}
 use Rattle.check_facts.proofs.Asks.{ask_back, prompted_other, prompted_own}
 use Rattle.check_facts.proofs.Checked.{prompt_checked}
 use Rattle.check_facts.proofs.Events.{start_is}
-use Rattle.check_facts.proofs.Rests.{rest_more}
 use Rattle.check_facts.specs.Checking.{AreTiedAt, IsCheckTied, IsTiedIn, is_checking}
-use Rattle.check_facts.specs.Prompting.{HaveNumbers, IsAskDue, IsRestAsking, PromptsCome, had_settled, is_asked, none_ran, prompt_of, todo_of}
+use Rattle.check_facts.specs.Prompting.{HaveNumbers, IsAskDue, PromptsCome, had_settled, is_asked, prompt_of, todo_of}
 use Rattle.unasked_dues.specs.Checking.{NonePasses}
 use Rattle.checking_facts.proofs.Cases.{prompted_checks}
 use Rattle.checking_facts.proofs.Tellings.{told_numbers, told_said}
@@ -71,18 +68,17 @@ prompt_passes e h req doc later led due =
 
 pub prompt_pass : (e : InEvent) (todo : ReqId → Option DocId) (out : List RowKind) (req : ReqId) (doc : DocId) (Before Rest : List LogRow → Type 0) → ((later : List LogRow) → Rest later → Before (row_of e (rows.Prompted req doc) ∷ later)) → leads e.own ≡ true → IsAskDue e.start (log_of e out) req → HaveNumbers (log_of e out) → todo req ≡ Some doc → PassIf Before e todo out → PassIf Rest e todo (out ++ rows.Prompted req doc ∷ [])
 unfolding PassIf
-prompt_pass e todo out req doc Before Rest ahead led due numbered noted pass =
-    subst (λ (l : List LogRow). MayLog (start_of e) (row_of e e.own ∷ l) (λ (later : List LogRow). IsRestAsking e todo none_ran (out ++ kind ∷ []) later × Rest later)) (sym (map-append (row_of e) out (kind ∷ []))) (λ later rest.
+prompt_pass e todo out req doc Before Rest ahead led due numbered noted pass later rest =
     let parts = rest_more e out kind (λ r. refl) (keeps_held e out kind refl refl) later rest.0.rest in
     let come : PromptsCome e.start todo (after (log_of e out) (row_of e kind)) later = subst (λ (s : Seen). PromptsCome e.start todo s later) (log_more e out kind) rest.0.prompts in
-    each_pass_append (start_of e) (row_of e e.own ∷ map (row_of e) out) (row_of e kind ∷ []) later (pass (row_of e kind ∷ later) (
+    pass_more e out (kind ∷ []) later (pass (row_of e kind ∷ later) (
       record {
         rest = parts.0;
         prompts = ask_back e.start (log_of e out) e.event e.actor req doc todo due numbered noted later come;
         agrees = agree_none todo (log_of e out) (row_of e kind ∷ later);
       },
       ahead later rest.1,
-    )) (prompt_passes e (here_of e out) req doc later (led_here e out led) (subst (λ (s : Seen). IsAskDue s (log_of e out) req) (sym (start_is e out)) due), tt))
+    )) (prompt_passes e (here_of e out) req doc later (led_here e out led) (subst (λ (s : Seen). IsAskDue s (log_of e out) req) (sym (start_is e out)) due), tt)
   where
     kind : RowKind
     kind = rows.Prompted req doc

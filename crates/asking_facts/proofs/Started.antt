@@ -2,6 +2,7 @@
 use Rattle.std.proofs.Common.{◌≡◌, ℕ, ◌-◌, zero, suc, Bool, true, false, cond, ◌||◌, ◌==◌, List, [], ◌∷◌, ◌++◌, map, Option, Some, None, refl, sym, ap, ◌∙◌, subst}
 use Rattle.std.specs.Prelude.{fold, option_map, slice_get}
 use Rattle.std.specs.List.{list_any}
+use Rattle.std.proofs.lemmas.List.{map-append}
 use Rattle.tab_ids.specs.declared.ReqId.{ReqId}
 use Rattle.tab_ids.specs.declared.Step.{Step}
 use Rattle.log_model.specs.declared.outcome.Ending.TheVariants as endings
@@ -12,7 +13,7 @@ use Rattle.log_model.specs.After.{after, ended, new_request}
 use Rattle.log_model.specs.AfterRequests.{entries_taken, on_request, request_begun}
 use Rattle.log_model.specs.Equal.{holds}
 use Rattle.log_model.specs.Seen.{Asked, Seen, desk_of, request_in, request_of}
-use Rattle.seen_laws.specs.InEvent.{InEvent, begins, log_of, row_of}
+use Rattle.seen_laws.specs.InEvent.{InEvent, begins, log_of, own_of, row_of}
 use Rattle.seen_laws.proofs.InEvents.{log_fold}
 use Rattle.seen_facts.proofs.Each.Courses.{is_asked}
 use Rattle.seen_facts.proofs.Coord.Held.{on_else}
@@ -192,6 +193,11 @@ module _ (e : InEvent) (req : ReqId) where
       by_test false is rest = rest
 
   -- one that was there as the event's own row had come, and hasn't begun yet, began as none of the event's rows
-  pub unbegun : (out : List RowKind) (p q : Asked) → request_of (log_of e []) req ≡ Some p → request_of (log_of e out) req ≡ Some q → q.is_started ≡ false → list_any (begins req) out ≡ false
+  pub unbegun : (out : List RowKind) (p q : Asked) → request_of (own_of e).now req ≡ Some p → request_of (log_of e out) req ≡ Some q → q.is_started ≡ false → list_any (begins req) (e.before ++ out) ≡ false
   unbegun out p q was at off =
-      began_none out (log_of e []) p q was (subst (λ (s : Seen). request_of s req ≡ Some q) (log_fold e out) at) off
+      began_none (e.before ++ out) (own_of e).now p q was (subst (λ (s : Seen). request_of s req ≡ Some q) all at) off
+    where
+      all : log_of e out ≡ fold after (own_of e).now (map (row_of e) (e.before ++ out))
+      all =
+          log_fold e out
+          ∙ ap (λ (rows : List LogRow). fold after (own_of e).now rows) (sym (map-append (row_of e) e.before out))

@@ -2,3 +2,6 @@ pub mod Asking
 pub mod Ones
 pub mod Noting
 pub mod Waiting
+pub mod Standing
+pub mod Prompting
+pub mod Known

@@ -52,15 +52,15 @@ OwnPasses e =
 -- ---- any report
 
 -- with the table as it was, all that its row makes due is still to be noted
-pub begins : (e : InEvent) (es : List (ReqId × OpenCheck)) → HasChecks e.start es → KeepsQuestions e.start (after e.start (row_of e e.own)) → DropsNone e.start (after e.start (row_of e e.own)) → OwnPasses e → AreAsking e (todo_of es) none_ran []
-begins e es has keeps drops passes =
-    asking_own e (todo_of es) none_ran passes keeps drops has.numbered (settles_due e.start (todo_of es) none_ran e.start (row_of e e.own) (stay_own e.start) has.prompted (tied_unnoted e.start es has.tied has.said))
+pub begins : (e : InEvent) (es : List (ReqId × OpenCheck)) → e.before ≡ [] → HasChecks e.start es → KeepsQuestions e.start (after e.start (row_of e e.own)) → DropsNone e.start (after e.start (row_of e e.own)) → OwnPasses e → AreAsking e (todo_of es) none_ran []
+begins e es uncut has keeps drops passes =
+    asking_own e (todo_of es) none_ran uncut passes keeps drops has.numbered (settles_due e.start (todo_of es) none_ran e.start (row_of e e.own) (stay_own e.start) has.prompted (tied_unnoted e.start es has.tied has.said))
 
 -- ---- an answer
 
 module _ (header : Header) (s : Seen) (event : ℕ) (actor : Actor) (in_check : ReqId → Bool) (proc : ProcId) (job : Job) (verdict : Verdict) (made : Option Made) (first : slice_get (desk_of s proc).reports 0 ≡ Some (reports.Done job (outcomes.Asked verdict) made)) (r : ReqId) (why : job.why ≡ whys.Req r) (es : List (ReqId × OpenCheck)) (has : HasChecks s es) (q : Asked) (found : request_of s r ≡ Some q) (checking : is_checking s q ≡ true) (open_ : all_asked s q ≡ false) (one : AreOneEach job.nr job.doc q.asks) (says : AnswerIs job.nr verdict q.asks) where
   abbrev pub e : InEvent
-  e = record { header = header; start = s; event = event; actor = actor; own = rows.Delivered proc; checking = in_check }
+  e = record { header = header; start = s; event = event; actor = actor; own = rows.Delivered proc; before = []; checking = in_check; due = λ end. true }
 
   -- the log and the table once both have the answer, and the request then
   abbrev pub next : Seen
@@ -93,12 +93,12 @@ module _ (header : Header) (s : Seen) (event : ℕ) (actor : Actor) (in_check : 
   -- from then on the table notes what is due
   pub answer_begins : OwnPasses e → AreAsking e (todo_of told) (λ req. is_req req r) []
   answer_begins passes =
-      asking_noted e (todo_of es) none_ran (todo_of told) (λ req. is_req req r) [] (heard_numbers s event actor proc job verdict made first r why has.numbered) (answer_notes s (log_of e []) es told r (others_changed r (table.after_answer job.doc verdict) es) unnoted) (begins e es has (heard_keeps s event actor proc job verdict made first r why) (heard_drops s event actor proc job verdict made first r why) passes)
+      asking_noted e (todo_of es) none_ran (todo_of told) (λ req. is_req req r) [] (heard_numbers s event actor proc job verdict made first r why has.numbered) (answer_notes s (log_of e []) es told r (others_changed r (table.after_answer job.doc verdict) es) unnoted) (begins e es refl has (heard_keeps s event actor proc job verdict made first r why) (heard_drops s event actor proc job verdict made first r why) passes)
 
   -- where another question is open still, it notes what it did
   pub answer_begins_open : all_asked next then ≡ false → OwnPasses e → AreAsking e (todo_of told) none_ran []
   answer_begins_open still passes =
-      asking_noted e (todo_of es) none_ran (todo_of told) none_ran [] (heard_numbers s event actor proc job verdict made first r why has.numbered) (notes_same s (log_of e []) (todo_of es) (todo_of told) none_ran (λ req. by_number req (is_req req r) refl)) (begins e es has (heard_keeps s event actor proc job verdict made first r why) (heard_drops s event actor proc job verdict made first r why) passes)
+      asking_noted e (todo_of es) none_ran (todo_of told) none_ran [] (heard_numbers s event actor proc job verdict made first r why has.numbered) (notes_same s (log_of e []) (todo_of es) (todo_of told) none_ran (λ req. by_number req (is_req req r) refl)) (begins e es refl has (heard_keeps s event actor proc job verdict made first r why) (heard_drops s event actor proc job verdict made first r why) passes)
     where
       by_number : (req : ReqId) (b : Bool) → is_req req r ≡ b → todo_of told req ≡ todo_of es req
       by_number req false is =

@@ -1,7 +1,6 @@
 -- One row more in an event in which documents and the user are asked.
-use Rattle.std.proofs.Common.{◌≡◌, Bool, true, false, List, [], ◌∷◌, ◌++◌, map, Option, Some, None, refl, sym, ap, ◌∙◌, subst, append-nil}
+use Rattle.std.proofs.Common.{◌≡◌, Bool, true, false, List, [], ◌∷◌, ◌++◌, map, Option, Some, None, refl, sym, ap, ◌∙◌, subst}
 use Rattle.std.specs.Prelude.{fold, is_some}
-use Rattle.std.proofs.lemmas.List.{map-append}
 use Rattle.std.proofs.lemmas.List.Sums.{fold-append}
 use Rattle.tab_ids.specs.declared.DocId.{DocId}
 use Rattle.tab_ids.specs.declared.ReqId.{ReqId}
@@ -11,19 +10,17 @@ use Rattle.log_model.specs.declared.row_kind.RowKind.TheVariants as rows
 use Rattle.log_model.specs.Seen.{Seen, Asked}
 use Rattle.log_model.specs.After.{after}
 use Rattle.log_model.specs.Checks.{due_prompt, is_of_run, prompts_duly}
-use Rattle.seen_laws.specs.Blocks.{EachPass, Here, MayLog, on_row, on_rows, point_at}
-use Rattle.seen_laws.specs.InEvent.{InEvent, IsPaid, IsTakenIn, first_of, here_of, log_of, now_of, row_of, start_of}
+use Rattle.seen_laws.specs.Blocks.{EachPass, Here, on_row, on_rows, point_at}
+use Rattle.seen_laws.specs.InEvent.{InEvent, IsPaid, IsTakenIn, first_of, here_of, later_of, log_of, now_of, own_of, row_of, rows_of, start_of}
 use Rattle.seen_laws.specs.Owing.{Pays}
-use Rattle.seen_laws.proofs.BlockLaws.{each_pass_append}
-use Rattle.seen_laws.proofs.InEvents.{IsQuiet, log_fold, log_more}
+use Rattle.seen_laws.proofs.InEvents.{IsQuiet, log_fold, log_more, pass_more, pays_end, rows_more, taken_end, uncut_log, uncut_rows}
 use Rattle.row_facts.specs.FrameRows.Lawful.{AreLawful, IsRestOf, KeepsHeld, has_traversed}
-use Rattle.row_facts.proofs.FrameRows.LawfulLaws.{AsksOf}
+use Rattle.row_facts.proofs.FrameRows.LawfulLaws.{AsksOf, rest_more}
 use Rattle.check_facts.proofs.Agreeing.{agree_more, agree_other, agree_run}
 use Rattle.check_facts.proofs.Asks.{ask_agrees, ask_back}
 use Rattle.check_facts.proofs.Promptings.{come_before, duly, none_front}
-use Rattle.check_facts.proofs.Rests.{rest_more}
 use Rattle.check_facts.proofs.Runs.{come_aside, come_more, come_rows}
-use Rattle.check_facts.specs.Prompting.{Agrees, AgreesNow, AreAside, AreAsking, DropsNone, HaveNumbers, IsAside, IsAskDue, IsDiscarding, IsRestAsking, IsUnprompted, KeepsQuestions, NotesMore, PromptsCome, SettlesDue, comes, none_ran, still_due}
+use Rattle.check_facts.specs.Prompting.{Agrees, AgreesNow, AreAside, AreAsking, DropsNone, HaveNumbers, IsAside, IsAskDue, IsDiscarding, IsUnprompted, KeepsQuestions, NotesMore, PromptsCome, SettlesDue, comes, none_ran, still_due}
 
 -- an event's beginning stays
 start_rows : (h : Here) (rows : List LogRow) → (on_rows h rows).start ≡ h.start
@@ -31,14 +28,14 @@ start_rows h [] = refl
 start_rows h (row ∷ rows) = start_rows (on_row h row) rows
 
 pub start_is : (e : InEvent) (out : List RowKind) → (here_of e out).start ≡ e.start
-start_is e out = start_rows (first_of e) (map (row_of e) out)
+start_is e out = start_rows (first_of e) (map (row_of e) out) ∙ start_rows (own_of e) (map (row_of e) e.before)
 
 -- what the log has come to, some rows on
 pub now_rows : (e : InEvent) (out more : List RowKind) → log_of e (out ++ more) ≡ fold after (log_of e out) (map (row_of e) more)
 now_rows e out more =
     log_fold e (out ++ more)
-    ∙ ap (λ (rows : List LogRow). fold after e.start (row_of e e.own ∷ rows)) (map-append (row_of e) out more)
-    ∙ fold-append (λ (s : Seen) (row : LogRow). after s row) e.start (row_of e e.own ∷ map (row_of e) out) (map (row_of e) more)
+    ∙ ap (λ (rows : List LogRow). fold after e.start rows) (rows_more e out more)
+    ∙ fold-append (λ (s : Seen) (row : LogRow). after s row) e.start (rows_of e out) (map (row_of e) more)
     ∙ ap (λ (s : Seen). fold after s (map (row_of e) more)) (sym (log_fold e out))
 
 -- ---- as the event begins
@@ -49,12 +46,13 @@ unfolding AreLawful AreAsking
 asking_lawful e todo ran out lawful later rest = lawful later rest.rest
 
 -- the own row, if it passes where the rest prompts as it is due
-pub asking_own : (e : InEvent) (todo : ReqId → Option DocId) (ran : ReqId → Bool) → ((later : List LogRow) → IsRestOf e [] later → prompts_duly (point_at (start_of e) later) (row_of e e.own) ≡ true → EachPass (start_of e) (row_of e e.own ∷ []) later) → KeepsQuestions e.start (after e.start (row_of e e.own)) → DropsNone e.start (after e.start (row_of e e.own)) → HaveNumbers e.start → SettlesDue e.start todo ran e.start (row_of e e.own) → AreAsking e todo ran []
+pub asking_own : (e : InEvent) (todo : ReqId → Option DocId) (ran : ReqId → Bool) → e.before ≡ [] → ((later : List LogRow) → IsRestOf e [] later → prompts_duly (point_at (start_of e) later) (row_of e e.own) ≡ true → EachPass (start_of e) (row_of e e.own ∷ []) later) → KeepsQuestions e.start (after e.start (row_of e e.own)) → DropsNone e.start (after e.start (row_of e e.own)) → HaveNumbers e.start → SettlesDue e.start todo ran e.start (row_of e e.own) → AreAsking e todo ran []
 unfolding AreAsking
-asking_own e todo ran passes keeps drops numbered due later rest =
-    let come : PromptsCome e.start todo (after e.start (row_of e e.own)) later = rest.prompts in
-    let agrees : Agrees todo ran (after e.start (row_of e e.own)) later = rest.agrees in
-    passes later rest.rest (duly e.start todo ran e.start (row_of e e.own) later keeps drops come agrees [] numbered due)
+asking_own e todo ran uncut passes keeps drops numbered due later rest =
+    let come : PromptsCome e.start todo (after e.start (row_of e e.own)) later = subst (λ (s : Seen). PromptsCome e.start todo s later) (uncut_log e uncut) rest.prompts in
+    let agrees : Agrees todo ran (after e.start (row_of e e.own)) later = subst (λ (s : Seen). Agrees todo ran s later) (uncut_log e uncut) rest.agrees in
+    subst (λ (rows : List LogRow). EachPass (start_of e) rows later) (sym (uncut_rows e [] uncut))
+    (passes later rest.rest (duly e.start todo ran e.start (row_of e e.own) later keeps drops come agrees [] numbered due))
 
 -- ---- one row more
 
@@ -75,13 +73,12 @@ module _ (e : InEvent) (todo : ReqId → Option DocId) (ran : ReqId → Bool) (o
   -- the general step: what comes later, seen from before the row
   pub step : (runs : ReqId → Bool) → ((later : List LogRow) → PromptsCome e.start todo next later → Agrees todo runs next later → PromptsCome e.start todo now (row ∷ later) × Agrees todo ran now (row ∷ later)) → AreAsking e todo ran out → ((later : List LogRow) → Asks later → PromptsCome e.start todo next later → Agrees todo runs next later → EachPass (here_of e out) (row ∷ []) later) → AreAsking e todo runs (out ++ kind ∷ [])
   unfolding AreAsking
-  step runs back asking may =
-      subst (λ (rows : List LogRow). MayLog (start_of e) (row_of e e.own ∷ rows) (IsRestAsking e todo runs (out ++ kind ∷ []))) (sym (map-append (row_of e) out (kind ∷ []))) (λ later rest.
+  step runs back asking may later rest =
       let parts = rest_more e out kind quiet held later rest.rest in
       let come : PromptsCome e.start todo next later = subst (λ (s : Seen). PromptsCome e.start todo s later) (log_more e out kind) rest.prompts in
       let agrees : Agrees todo runs next later = subst (λ (s : Seen). Agrees todo runs s later) (log_more e out kind) rest.agrees in
       let before = back later come agrees in
-      each_pass_append (start_of e) (row_of e e.own ∷ map (row_of e) out) (row ∷ []) later (asking (row ∷ later) (record { rest = parts.0; prompts = before.0; agrees = before.1 })) (may later parts.1 come agrees))
+      pass_more e out (kind ∷ []) later (asking (row ∷ later) (record { rest = parts.0; prompts = before.0; agrees = before.1 })) (may later parts.1 come agrees)
 
   -- an order that discards a document, whatever it settles: it passes if the prompts that are due then come
   pub asking_discard : IsDiscarding row → KeepsQuestions now next → DropsNone now next → HaveNumbers now → SettlesDue e.start todo ran now row → AreAsking e todo ran out → ((later : List LogRow) → Asks later → prompts_duly (point_at (here_of e out) later) row ≡ true → EachPass (here_of e out) (row ∷ []) later) → AreAsking e todo ran (out ++ kind ∷ [])
@@ -102,15 +99,14 @@ module _ (e : InEvent) (todo : ReqId → Option DocId) (ran : ReqId → Bool) (o
 -- rows in one block, as a request that begins and its questions: what they ask of later rows but for prompts, and that they pass, is shown of the block
 pub asking_rows : (e : InEvent) (todo : ReqId → Option DocId) (ran : ReqId → Bool) (out : List RowKind) (first : RowKind) (more : List RowKind) → AreAside e.start todo (log_of e out) (map (row_of e) (first ∷ more)) → AgreesNow todo ran (log_of e out) → AreAsking e todo ran out → ((later : List LogRow) → IsRestOf e (out ++ first ∷ more) later → IsRestOf e out (map (row_of e) (first ∷ more) ++ later) × EachPass (here_of e out) (map (row_of e) (first ∷ more)) later) → AreAsking e todo none_ran (out ++ first ∷ more)
 unfolding AreAsking
-asking_rows e todo ran out first more aside agrees asking may =
-    subst (λ (rows : List LogRow). MayLog (start_of e) (row_of e e.own ∷ rows) (IsRestAsking e todo none_ran (out ++ first ∷ more))) (sym (map-append (row_of e) out (first ∷ more))) (λ later rest.
+asking_rows e todo ran out first more aside agrees asking may later rest =
     let parts = may later rest.rest in
     let come : PromptsCome e.start todo (fold after (log_of e out) (map (row_of e) (first ∷ more))) later = subst (λ (s : Seen). PromptsCome e.start todo s later) (now_rows e out (first ∷ more)) rest.prompts in
-    each_pass_append (start_of e) (row_of e e.own ∷ map (row_of e) out) (map (row_of e) (first ∷ more)) later (asking (map (row_of e) (first ∷ more) ++ later) (record {
+    pass_more e out (first ∷ more) later (asking (map (row_of e) (first ∷ more) ++ later) (record {
       rest = parts.0;
       prompts = come_rows e.start todo (log_of e out) (map (row_of e) (first ∷ more)) later aside come;
       agrees = agree_other todo ran (log_of e out) (map (row_of e) (first ∷ more) ++ later) (none_front is_of_run (row_of e first) (map (row_of e) more ++ later) aside.0.ends) agrees;
-    })) parts.1)
+    })) parts.1
 
 -- the user is asked, as it is noted
 pub asking_prompt : (e : InEvent) (todo : ReqId → Option DocId) (ran : ReqId → Bool) (out : List RowKind) (req : ReqId) (doc : DocId) → KeepsHeld e out (rows.Prompted req doc) → IsAskDue e.start (log_of e out) req → HaveNumbers (log_of e out) → todo req ≡ Some doc → AreAsking e todo ran out → ((later : List LogRow) → EachPass (here_of e out) (row_of e (rows.Prompted req doc) ∷ []) later) → AreAsking e todo ran (out ++ rows.Prompted req doc ∷ [])
@@ -131,15 +127,15 @@ asking_noted e todo ran new runs out numbered notes asking later rest =
 -- ---- at the event's end
 
 -- nothing comes later, so no prompt may be due
-pub asking_end : (e : InEvent) (todo : ReqId → Option DocId) (ran : ReqId → Bool) (out : List RowKind) → AreAsking e todo ran out → IsPaid e out → IsTakenIn e (map (row_of e) out) → (has_traversed e out ≡ true → (now_of e out).parked ≡ []) → IsUnprompted e.start todo (log_of e out) → AgreesNow todo ran (log_of e out) → EachPass (start_of e) (row_of e e.own ∷ map (row_of e) out) []
+pub asking_end : (e : InEvent) (todo : ReqId → Option DocId) (ran : ReqId → Bool) (out : List RowKind) → AreAsking e todo ran out → IsPaid e out → IsTakenIn e (later_of e out) → (has_traversed e out ≡ true → (now_of e out).parked ≡ []) → IsUnprompted e.start todo (log_of e out) → AgreesNow todo ran (log_of e out) → EachPass (start_of e) (rows_of e out) []
 unfolding AreAsking
 asking_end e todo ran out asking paid taken none unprompted agrees =
     asking [] (record {
       rest = record {
         rest = record {
           asks = λ req began. refl;
-          taken = subst (λ (rows : List LogRow). IsTakenIn e rows) (sym (append-nil (map (row_of e) out))) taken;
-          owed = paid;
+          taken = taken_end e out taken;
+          owed = pays_end e out paid;
         };
         held = λ was. sym (none was);
       };

@@ -6,7 +6,6 @@ pub mod Agreeing
 pub mod Rows
 pub mod Hearings
 pub mod Asks
-pub mod Rests
 pub mod Events
 pub mod Checked
 pub mod Tables

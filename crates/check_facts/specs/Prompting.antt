@@ -15,7 +15,7 @@ use Rattle.unload_check.specs.declared.check.Check.{Check}
 use Rattle.unload_check.specs.declared.check.Check.TheVariants as checks
 use Rattle.unload_check.specs.Checks.{OpenCheck, outcome_at}
 use Rattle.seen_laws.specs.Blocks.{MayLog}
-use Rattle.seen_laws.specs.InEvent.{InEvent, row_of, start_of, log_of}
+use Rattle.seen_laws.specs.InEvent.{InEvent, rows_of, start_of, log_of}
 use Rattle.row_facts.specs.FrameRows.Lawful.{IsRestOf}
 
 -- ---- which requests are settled in the event
@@ -138,7 +138,7 @@ pub record IsRestAsking (e : InEvent) (todo : ReqId → Option DocId) (ran : Req
 
 -- the own row and those put out so far pass each test, whatever comes later, if that prompts as it is due
 unfoldable pub AreAsking : InEvent → (ReqId → Option DocId) → (ReqId → Bool) → List RowKind → Type 0
-AreAsking e todo ran out = MayLog (start_of e) (row_of e e.own ∷ map (row_of e) out) (IsRestAsking e todo ran out)
+AreAsking e todo ran out = MayLog (start_of e) (rows_of e out) (IsRestAsking e todo ran out)
 
 -- ---- what a row does to the questions
 

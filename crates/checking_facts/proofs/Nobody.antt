@@ -1,5 +1,5 @@
 -- Where nobody was asked, what is carried of checks and prompts holds of a table without checks; and how the rows of an event begin and end to pass.
-use Rattle.std.proofs.Common.{◌≡◌, inl, Bool, true, false, ◌&&◌, List, [], ◌∷◌, append-nil, map, Option, Some, None, refl, sym, ap, ◌∙◌, subst}
+use Rattle.std.proofs.Common.{◌≡◌, inl, Bool, true, false, ◌&&◌, List, [], ◌∷◌, Option, Some, None, refl, sym, ap, ◌∙◌, subst}
 use Rattle.std.specs.Prelude.{fold, is_some, option_map}
 use Rattle.tab_ids.specs.declared.DocId.{DocId}
 use Rattle.tab_ids.specs.declared.ReqId.{ReqId}
@@ -11,15 +11,18 @@ use Rattle.log_model.specs.Places.{has_passed, is_gone, is_under_way}
 use Rattle.log_model.specs.Seen.{Asked, Seen, request_of}
 use Rattle.unload_check.specs.Checks.{OpenCheck, after_deaths, check_of}
 use Rattle.row_facts.specs.FrameRows.Lawful.{AreLawful, has_traversed}
+use Rattle.row_facts.proofs.FrameRows.Cut.{rest_cut, same_rows}
+use Rattle.seen_laws.proofs.Cuts.{log_cut}
+use Rattle.seen_laws.proofs.InEvents.{pays_end, taken_end}
 use Rattle.seen_laws.specs.Blocks.{EachPass}
-use Rattle.seen_laws.specs.InEvent.{InEvent, IsPaid, IsTakenIn, log_of, now_of, row_of, start_of}
+use Rattle.seen_laws.specs.InEvent.{InEvent, IsPaid, IsTakenIn, cut, later_of, log_of, now_of, rows_of, start_of}
 use Rattle.seen_laws.specs.Unasked.{unasked, unasked_request}
 use Rattle.unasked.proofs.Readings.{request_read}
 use Rattle.check_facts.proofs.Agreeing.{agree_none}
 use Rattle.check_facts.proofs.Checkings.{all_go}
 use Rattle.check_facts.proofs.Tables.{check_dead}
 use Rattle.check_facts.specs.Checking.{AreTiedAt, is_checking}
-use Rattle.check_facts.specs.Prompting.{HaveNumbers, had_settled, has_settled}
+use Rattle.check_facts.specs.Prompting.{Agrees, HaveNumbers, PromptsCome, had_settled, has_settled, none_ran}
 use Rattle.unasked_dues.specs.Checking.{AllOthersPass}
 use Rattle.checking_facts.proofs.Steps.{same_drops}
 use Rattle.checking_facts.specs.Prompts.{AreAskedDuly, NobodyAsked, NoneChecked, PassIf, Told, discarded_by, tell_for, tell_row, told_by}
@@ -95,7 +98,7 @@ unfolding AreLawful PassIf
 lawful_pass Rest e todo out lawful later rest = lawful later rest.0.rest
 
 -- at the end nothing comes later; where nobody was asked, no prompt is due
-pub pass_end : (Rest : List LogRow → Type 0) (e : InEvent) (todo : ReqId → Option DocId) (out : List RowKind) → PassIf Rest e todo out → Rest [] → IsPaid e out → IsTakenIn e (map (row_of e) out) → (has_traversed e out ≡ true → (now_of e out).parked ≡ []) → NobodyAsked (log_of e out) → EachPass (start_of e) (row_of e e.own ∷ map (row_of e) out) []
+pub pass_end : (Rest : List LogRow → Type 0) (e : InEvent) (todo : ReqId → Option DocId) (out : List RowKind) → PassIf Rest e todo out → Rest [] → IsPaid e out → IsTakenIn e (later_of e out) → (has_traversed e out ≡ true → (now_of e out).parked ≡ []) → NobodyAsked (log_of e out) → EachPass (start_of e) (rows_of e out) []
 unfolding PassIf
 pass_end Rest e todo out pass more paid taken parked nobody =
     pass [] (
@@ -103,8 +106,8 @@ pass_end Rest e todo out pass more paid taken parked nobody =
         rest = record {
           rest = record {
             asks = λ req began. refl;
-            taken = subst (λ (rows : List LogRow). IsTakenIn e rows) (sym (append-nil (map (row_of e) out))) taken;
-            owed = paid;
+            taken = taken_end e out taken;
+            owed = pays_end e out paid;
           };
           held = λ was. sym (parked was);
         };
@@ -113,6 +116,20 @@ pass_end Rest e todo out pass more paid taken parked nobody =
       },
       more,
     )
+
+-- the rows so far pass as they did once the event is cut behind them
+pub pass_cut : (Rest : List LogRow → Type 0) (e : InEvent) (todo : ReqId → Option DocId) (out : List RowKind) (checking : ReqId → Bool) (due : Seen → Bool) → PassIf Rest e todo out → PassIf Rest (cut e out checking due) todo []
+unfolding PassIf
+pass_cut Rest e todo out checking due pass later rest =
+    subst (λ (l : List LogRow). EachPass (start_of e) l later) (sym (same_rows e out checking due))
+    (pass later (
+      record {
+        rest = rest_cut e out checking due later rest.0.rest;
+        prompts = subst (λ (s : Seen). PromptsCome e.start todo s later) (log_cut e out checking due) rest.0.prompts;
+        agrees = subst (λ (s : Seen). Agrees todo none_ran s later) (log_cut e out checking due) rest.0.agrees;
+      },
+      rest.1,
+    ))
 
 -- ---- a table without checks stays one
 

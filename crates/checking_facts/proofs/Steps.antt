@@ -1,9 +1,8 @@
 -- Over a row beside the checks what is carried of them goes on to hold; and the rows so far go on to pass, if the prompts that are due come.
-use Rattle.std.proofs.Common.{◌≡◌, inl, inr, ℕ, Bool, true, false, ◌&&◌, ◌||◌, ◌++◌, List, [], ◌∷◌, map, Option, Some, None, refl, sym, ap, ◌∙◌, subst}
+use Rattle.std.proofs.Common.{◌≡◌, inl, inr, ℕ, Bool, true, false, ◌&&◌, ◌||◌, ◌++◌, List, [], ◌∷◌, Option, Some, None, refl, sym, ap, ◌∙◌, subst}
 use Rattle.std.specs.Prelude.{option_map}
 use Rattle.std.specs.List.{list_all, list_any}
 use Rattle.std.proofs.lemmas.Bool.{and_parts}
-use Rattle.std.proofs.lemmas.List.{map-append}
 use Rattle.tab_ids.specs.declared.DocId.{DocId}
 use Rattle.tab_ids.specs.declared.ReqId.{ReqId}
 use Rattle.log_model.specs.declared.job.Job.{Job}
@@ -21,10 +20,9 @@ use Rattle.log_model.specs.Places.{all_asked, has_passed, is_gone, is_under_way,
 use Rattle.log_model.specs.Seen.{Asked, Asking, Document, Seen, document_of}
 use Rattle.unload_check.specs.Checks.{OpenCheck, after_all_deaths, after_deaths, check_of, is_doc}
 use Rattle.row_facts.specs.FrameRows.Lawful.{KeepsHeld}
-use Rattle.seen_laws.proofs.BlockLaws.{each_pass_append}
-use Rattle.seen_laws.proofs.InEvents.{IsQuiet, log_more}
-use Rattle.seen_laws.specs.Blocks.{EachPass, MayLog, point_at}
-use Rattle.seen_laws.specs.InEvent.{InEvent, here_of, log_of, row_of, start_of}
+use Rattle.seen_laws.proofs.InEvents.{IsQuiet, log_more, pass_more}
+use Rattle.seen_laws.specs.Blocks.{EachPass, point_at}
+use Rattle.seen_laws.specs.InEvent.{InEvent, here_of, log_of, row_of}
 use Rattle.seen_laws.specs.Owing.{Pays}
 use Rattle.seen_facts.proofs.Coord.Held.{fun_ext}
 use Rattle.seen_facts.proofs.Each.Courses.{was_asked}
@@ -38,15 +36,14 @@ use Rattle.check_facts.proofs.Gones.{row_gone}
 use Rattle.check_facts.proofs.Keeping.{sent_reads}
 use Rattle.check_facts.proofs.Notings.{held_unnoted}
 use Rattle.check_facts.proofs.Promptings.{come_before, duly, keeps_settled, none_front, stay_settled}
-use Rattle.check_facts.proofs.Rests.{rest_more}
-use Rattle.row_facts.proofs.FrameRows.LawfulLaws.{AsksOf}
+use Rattle.row_facts.proofs.FrameRows.LawfulLaws.{AsksOf, rest_more}
 use Rattle.check_facts.proofs.Rows.{Plain, plain_of, row_of_kind, sent_drops, sent_keeps}
 use Rattle.check_facts.proofs.Runs.{come_aside, come_more}
 use Rattle.check_facts.proofs.Tables.{check_dead, todo_none}
 use Rattle.check_facts.proofs.Ties.{all_same, tied_same}
 use Rattle.check_facts.specs.Checking.{AreSaid, AreTiedAt, GoWith, checked_of, is_checking, is_said}
 use Rattle.check_facts.specs.Having.{AreHeld, IsHeld, OpenChecked}
-use Rattle.check_facts.specs.Prompting.{DropsNone, HaveNumbers, IsAside, IsDiscarding, IsRestAsking, KeepsQuestions, NothingElseDue, OpenUnnoted, PromptedSettled, PromptsCome, none_ran, todo_of}
+use Rattle.check_facts.specs.Prompting.{DropsNone, HaveNumbers, IsAside, IsDiscarding, KeepsQuestions, NothingElseDue, OpenUnnoted, PromptedSettled, PromptsCome, none_ran, todo_of}
 use Rattle.check_facts.specs.Rows.{IsNoQuestion, IsOfCoord}
 use Rattle.unasked_dues.specs.Checking.{AllOthersPass}
 use Rattle.checking_facts.proofs.Besides.{beside_aside, beside_drops, beside_gone, beside_plain, beside_reads, then_}
@@ -298,12 +295,11 @@ module _ (e : InEvent) (out : List RowKind) (told : Told) (asked : AreAskedDuly 
   -- what comes later, seen from before the row
   step : (todo : ReqId → Option DocId) → ((later : List LogRow) → PromptsCome e.start todo next_ later → (PromptsCome e.start (todo_of told.checks) now (row ∷ later)) × PromptsFor e out kind later) → PassIf Before e (todo_of told.checks) out → PassesBy → PassIf Rest e todo (out ++ kind ∷ [])
   unfolding PassIf
-  step todo back pass may =
-      subst (λ (l : List LogRow). MayLog (start_of e) (row_of e e.own ∷ l) (λ (later : List LogRow). IsRestAsking e todo none_ran (out ++ kind ∷ []) later × Rest later)) (sym (map-append (row_of e) out (kind ∷ []))) (λ later rest.
+  step todo back pass may later rest =
       let parts = rest_more e out kind quiet held later rest.0.rest in
       let come : PromptsCome e.start todo next_ later = subst (λ (s : Seen). PromptsCome e.start todo s later) (log_more e out kind) rest.0.prompts in
       let before = back later come in
-      each_pass_append (start_of e) (row_of e e.own ∷ map (row_of e) out) (row ∷ []) later (pass (row ∷ later) (record { rest = parts.0; prompts = before.0; agrees = agree_none (todo_of told.checks) now (row ∷ later) }, ahead later rest.1)) (may later parts.1 rest.1 before.1))
+      pass_more e out (kind ∷ []) later (pass (row ∷ later) (record { rest = parts.0; prompts = before.0; agrees = agree_none (todo_of told.checks) now (row ∷ later) }, ahead later rest.1)) (may later parts.1 rest.1 before.1)
 
   -- where the row discards nothing, the table is told of the run that it ends
   other_passes : discarded_by kind ≡ None → PassIf Before e (todo_of told.checks) out → PassesBy → PassIf Rest e (todo_of (after_all_deaths told.run told.checks)) (out ++ kind ∷ [])

@@ -1,6 +1,6 @@
 -- The prompts that the rows of an event owe, as the table of checks tells that the coordinator had before the first of them.
 -- HTML Standard, "checking if unloading is canceled". That a table is told of a run of discarded documents once that has ended is this project's own.
-use Rattle.std.specs.Prelude.{◌≡◌, ◌++◌, Bool, true, false, List, [], ◌∷◌, fold, map, Option, Some, None}
+use Rattle.std.specs.Prelude.{◌≡◌, ◌++◌, Bool, true, false, List, [], ◌∷◌, fold, Option, Some, None}
 use Rattle.tab_ids.specs.declared.DocId.{DocId}
 use Rattle.tab_ids.specs.declared.ReqId.{ReqId}
 use Rattle.log_model.specs.declared.job.Job.{Job}
@@ -15,7 +15,7 @@ use Rattle.log_model.specs.Seen.{Asked, Document, Seen, document_of, request_of}
 use Rattle.unload_check.specs.Checks.{OpenCheck, after_all_deaths, check_of}
 use Rattle.seen_facts.proofs.Request.Readers.{SameReads}
 use Rattle.seen_laws.specs.Blocks.{MayLog, point_at}
-use Rattle.seen_laws.specs.InEvent.{InEvent, here_of, row_of, start_of}
+use Rattle.seen_laws.specs.InEvent.{InEvent, here_of, row_of, rows_of, start_of}
 use Rattle.check_facts.proofs.Rows.{plain_of}
 use Rattle.check_facts.specs.Checking.{AreSaid, checked_of}
 use Rattle.check_facts.specs.Having.{AllGoWith, AreHeld, OpenChecked}
@@ -113,7 +113,7 @@ PromptsFor e out kind later = PromptsOf (discarded_by kind) e out kind later
 
 -- the own row and those put out so far pass each test, whatever comes later, if that has what it is to have, and prompts as it is due
 unfoldable pub PassIf : (List LogRow → Type 0) → InEvent → (ReqId → Option DocId) → List RowKind → Type 0
-PassIf Rest e todo out = MayLog (start_of e) (row_of e e.own ∷ map (row_of e) out) (λ later. IsRestAsking e todo none_ran out later × Rest later)
+PassIf Rest e todo out = MayLog (start_of e) (rows_of e out) (λ later. IsRestAsking e todo none_ran out later × Rest later)
 
 -- ---- where nobody was asked
 

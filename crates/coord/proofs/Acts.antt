@@ -40,8 +40,8 @@ module _ (e : InEvent) (c : Coordinator) (open_ : IsOpenTo e c) (proc : ProcId) 
     pub made_acts : (what : What) → made_by view poke.action ≡ Some what → IsNoEdit what → e.own ≡ rows.Made proc (made_for view poke.req what) → HasActed e [] c
     made_acts what makes no_edit own =
         alone_acts e c open_ (rows.Made proc (made_for view poke.req what)) own (made_plain e c open_.in_ proc (made_for view poke.req what) event own) tt tt
-        (own_slots e c.slots.entries (rows.Made proc (made_for view poke.req what)) own tt open_.slots)
-        (acts.made_acts e c.tables c.queue c.blame.entries open_.in_.stands.stands open_.in_.room proc poke first d view found has runs what makes no_edit by event own)
+        (own_slots e c.slots.entries open_.in_.uncut (rows.Made proc (made_for view poke.req what)) own tt open_.slots)
+        (acts.made_acts e c.tables c.queue c.blame.entries open_.in_.stands.stands open_.in_.room proc poke first d view found has runs what makes no_edit open_.in_.uncut by event own)
 
     -- it edits itself, which is applied at once
     pub edit_acts : made_by view poke.action ≡ Some whats.Edit → e.own ≡ rows.Made proc (made_for view poke.req whats.Edit) → HasActed e (rows.Applied poke.req changes.Edit ∷ []) c
@@ -51,7 +51,7 @@ module _ (e : InEvent) (c : Coordinator) (open_ : IsOpenTo e c) (proc : ProcId) 
               stands_then e c open_.in_ out its.stands at
               (running_over e out [] (tt, tt) goes (found_now e c open_ (rows.Made proc made) own accepted tt))
               (telling_over e out [] goes of_coord (telling_now e c open_ (rows.Made proc made) own accepted tt))
-              (rows_slots e c.slots.entries out [] of_coord (own_slots e c.slots.entries (rows.Made proc made) own tt open_.slots));
+              (rows_slots e c.slots.entries out [] of_coord (own_slots e c.slots.entries open_.in_.uncut (rows.Made proc made) own tt open_.slots));
           header = open_.in_.header;
           passes = its.passes;
           off = λ req change has. is_off req change has;
@@ -65,7 +65,7 @@ module _ (e : InEvent) (c : Coordinator) (open_ : IsOpenTo e c) (proc : ProcId) 
 
         its : tab.HasActed tab.none_in_check e (rows.Applied poke.req changes.Edit ∷ []) c.tables c.queue c.blame.entries
         its =
-            edits.edit_acts e c.tables c.queue c.blame.entries open_.in_.stands.stands open_.in_.room proc poke first d view found has runs makes by event own
+            edits.edit_acts e c.tables c.queue c.blame.entries open_.in_.stands.stands open_.in_.room proc poke first d view found has runs makes open_.in_.uncut by event own
 
         accepted : IsPlain e []
         accepted = made_plain e c open_.in_ proc (made_for view poke.req whats.Edit) event own
@@ -97,12 +97,12 @@ module _ (e : InEvent) (c : Coordinator) (open_ : IsOpenTo e c) (proc : ProcId) 
     pub no_address_acts : made_by view poke.action ≡ None → e.own ≡ rows.Refused poke.req denials.BadAddress → HasActed e [] c
     no_address_acts none own =
         alone_acts e c open_ (rows.Refused poke.req denials.BadAddress) own (refused_plain e c open_.in_ poke.req denials.BadAddress own) tt tt
-        (own_slots e c.slots.entries (rows.Refused poke.req denials.BadAddress) own tt open_.slots)
-        (acts.refused_acts e c.tables c.queue c.blame.entries open_.in_.stands.stands open_.in_.room proc poke first denials.BadAddress by event own (acts.no_address_passes e c.tables c.queue c.blame.entries open_.in_.stands.stands open_.in_.room proc poke first d view found has runs none))
+        (own_slots e c.slots.entries open_.in_.uncut (rows.Refused poke.req denials.BadAddress) own tt open_.slots)
+        (acts.refused_acts e c.tables c.queue c.blame.entries open_.in_.stands.stands open_.in_.room proc poke first denials.BadAddress open_.in_.uncut by event own (acts.no_address_passes e c.tables c.queue c.blame.entries open_.in_.stands.stands open_.in_.room proc poke first d view found has runs none))
 
   -- the poked document is gone, or doesn't run
   pub no_document_acts : is_running e.start poke.doc ≡ false → e.own ≡ rows.Refused poke.req denials.NoDocument → HasActed e [] c
   no_document_acts stopped own =
       alone_acts e c open_ (rows.Refused poke.req denials.NoDocument) own (refused_plain e c open_.in_ poke.req denials.NoDocument own) tt tt
-      (own_slots e c.slots.entries (rows.Refused poke.req denials.NoDocument) own tt open_.slots)
-      (acts.refused_acts e c.tables c.queue c.blame.entries open_.in_.stands.stands open_.in_.room proc poke first denials.NoDocument by event own (acts.no_document_passes e c.tables c.queue c.blame.entries open_.in_.stands.stands open_.in_.room proc poke first stopped))
+      (own_slots e c.slots.entries open_.in_.uncut (rows.Refused poke.req denials.NoDocument) own tt open_.slots)
+      (acts.refused_acts e c.tables c.queue c.blame.entries open_.in_.stands.stands open_.in_.room proc poke first denials.NoDocument open_.in_.uncut by event own (acts.no_document_passes e c.tables c.queue c.blame.entries open_.in_.stands.stands open_.in_.room proc poke first stopped))

@@ -20,7 +20,7 @@ use Rattle.log_model.specs.declared.made.Report.{Report}
 use Rattle.log_model.specs.declared.request.Request.{Request}
 use Rattle.log_model.specs.declared.row_kind.RowKind.{RowKind}
 use Rattle.log_model.specs.declared.row_kind.RowKind.TheVariants as rows
-use Rattle.seen_laws.proofs.InEvents.{log_more, now_more, now_is, goes_more, none_goes}
+use Rattle.seen_laws.proofs.InEvents.{log_more, now_more, now_is, goes_more, none_goes, uncut_log}
 use Rattle.seen_laws.specs.InEvent.{InEvent, log_of, now_of, row_of, GoesThere, EachGoes, IsReadOff, here_of, seen_here}
 use Rattle.seen_laws.specs.Unasked.{is_question, no_answer, no_question_in_hand, quiet_desk, unasked, without_slot}
 use Rattle.std.proofs.Common.{Bool, List, None, Option, Some, [], ap, arith, cond, false, filter, length, not, refl, subst, sym, true, ℕ, ◌&&◌, ◌++◌, ◌+◌, ◌==◌, ◌∙◌, ◌∷◌, ◌≡◌, ◌≤◌}
@@ -117,8 +117,9 @@ module _ (e : InEvent) (c : Coordinator) (open_ : IsOpenIn e c) where
   module _ (kind : RowKind) (own : e.own ≡ kind) (read : unasked e.checking (after s (row_of e kind)) ≡ after (unasked e.checking s) (row_of e kind)) where
     read_own : unasked e.checking (log_of e []) ≡ log_of e []
     read_own =
-        subst (λ (k : RowKind). unasked e.checking (after s (row_of e k)) ≡ after s (row_of e k)) (sym own)
-        (read ∙ ap (λ (x : Seen). after x (row_of e kind)) start_plain)
+        subst (λ (x : Seen). unasked e.checking x ≡ x) (sym (uncut_log e open_.uncut))
+        (subst (λ (k : RowKind). unasked e.checking (after s (row_of e k)) ≡ after s (row_of e k)) (sym own)
+        (read ∙ ap (λ (x : Seen). after x (row_of e kind)) start_plain))
 
     pub plain_own : IsPlain e []
     plain_own =
@@ -131,7 +132,7 @@ module _ (e : InEvent) (c : Coordinator) (open_ : IsOpenIn e c) where
     begins = λ i. record (here_of e []) { start = start_plain i; now = (now_is e [] ∙ read_own) i }
 
     pub aside_own : StartsUnasked e
-    aside_own = record { unchecked = off; begins = begins; plain = plain_own.same }
+    aside_own = record { uncut = open_.uncut; undue = open_.undue; unchecked = off; begins = begins; plain = plain_own.same }
 
   -- one more
   pub plain_more : (out : List RowKind) (kind : RowKind) → IsReadOff e out kind → IsPlain e out → IsPlain e (out ++ kind ∷ [])
@@ -243,8 +244,8 @@ module _ (e : InEvent) (c : Coordinator) (open_ : IsOpenIn e c) where
         record {
           seen = refl;
           read = joined_seen e.checking (log_of e []) e.event e.actor proc made (desk_of s proc).reports order.job outcome None refl
-              (ap (λ (k : RowKind). (after s (row_of e k)).just_finished) own ∙ ap (λ (o : Option Order). option_map (λ (x : Order). x.job) o) hand)
-              (ap (λ (k : RowKind). (desk_of (after s (row_of e k)) proc).reports) own ∙ reports_then)
+              (ap (λ (x : Seen). x.just_finished) (uncut_log e open_.uncut) ∙ ap (λ (k : RowKind). (after s (row_of e k)).just_finished) own ∙ ap (λ (o : Option Order). option_map (λ (x : Order). x.job) o) hand)
+              (ap (λ (x : Seen). (desk_of x proc).reports) (uncut_log e open_.uncut) ∙ ap (λ (k : RowKind). (desk_of (after s (row_of e k)) proc).reports) own ∙ reports_then)
               (hand_asks proc order hand);
         }
       where

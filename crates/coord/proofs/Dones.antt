@@ -1,4 +1,5 @@
 -- An order was done of which nothing was made, and which made no document: the tab may be brought to rest.
+use Rattle.log_model.specs.declared.row_kind.LogRow.{LogRow}
 use Rattle.coord.proofs.Asides.{delivered_aside}
 use Rattle.coord.proofs.Causes.{for_none}
 use Rattle.coord.specs.Delivering.{InDone, IsDone}
@@ -13,9 +14,9 @@ use Rattle.log_model.specs.declared.job.Task.{Task}
 use Rattle.log_model.specs.declared.job.Why.{Why}
 use Rattle.nav_tree.specs.Tree.{node_of}
 use Rattle.tab_facts.specs.Order.Orders.{TellsOf}
-use Rattle.seen_laws.specs.InEvent.{InEvent, log_of, now_of}
+use Rattle.seen_laws.specs.InEvent.{InEvent, log_of, now_of, later_of, IsTakenIn}
 use Rattle.slot_facts.specs.Slots.{AreSlots}
-use Rattle.std.proofs.Common.{None, Some, [], ap, refl, subst, ℕ, ◌∙◌, ◌≡◌}
+use Rattle.std.proofs.Common.{None, Some, [], ap, refl, subst, ℕ, ◌∙◌, ◌≡◌, List, ◌++◌}
 use Rattle.std.specs.Option.{IsSome}
 use Rattle.tab_doors.specs.Noting.{shown_tree}
 use Rattle.tab_doors.specs.Ties.{nav_in}
@@ -27,7 +28,7 @@ use Rattle.tab_stands.proofs.Ready.{ready}
 use Rattle.tab_stands.proofs.Shown.{nav_there, shown_begun}
 use Rattle.tab_stands.specs.Delivering.{IsQuietTask, IsShowTask}
 use Rattle.tab_stands.specs.PassedOn.{IsSoundTask, MayCause}
-use Rattle.tab_stands.specs.Standing.{HasBegun, IsTakenUp, StartsUnasked}
+use Rattle.tab_stands.specs.Standing.{HasBegun, StartsUnasked}
 use Rattle.log_model.specs.declared.job.Task.TheVariants as tasks
 use Rattle.log_model.specs.declared.job.Why.TheVariants as whys
 use Rattle.log_model.specs.declared.made.Report.TheVariants as reports
@@ -40,7 +41,7 @@ pub keep_now : (e : InEvent) (c : Coordinator) → IsOpenIn e c → c.tables.kep
 keep_now e c open_ = open_.stands.keep ∙ ap (λ (h : Header). h.keep) open_.header
 
 -- where an event has begun, and what it delivers is taken up, the tab may be brought to rest
-pub to_settle : (e : InEvent) (c : Coordinator) → c.header ≡ e.header → e.checking ≡ nobody → HasBegun (pass_of e []) c.tables c.queue c.blame.entries → (cause : Why) → MayCause (now_of e []) cause → IsTakenUp e [] → AreFoundRunning (now_of e []) → AreTelling (now_of e []) → AreSlots (log_of e []) c.slots.entries → IsToSettle e [] c cause
+pub to_settle : (e : InEvent) (c : Coordinator) → c.header ≡ e.header → e.checking ≡ nobody → HasBegun (pass_of e []) c.tables c.queue c.blame.entries → (cause : Why) → MayCause (now_of e []) cause → ((later : List LogRow) → IsTakenIn e later) → AreFoundRunning (now_of e []) → AreTelling (now_of e []) → AreSlots (log_of e []) c.slots.entries → IsToSettle e [] c cause
 to_settle e c header unchecked begun cause may taken found telling slots =
     record {
       header = header;
@@ -51,7 +52,7 @@ to_settle e c header unchecked begun cause may taken found telling slots =
       coord = λ row has. absurd has;
       unmoved = λ req change has. absurd has;
       shows = begun.shows;
-      taken = taken;
+      taken = λ later. taken (later_of e [] ++ later);
       found = found;
       telling = telling;
       slots = slots;
@@ -64,7 +65,7 @@ module _ (d : InDone) (c : Coordinator) (job : Job) (done : IsDone d c job) wher
   pub done_aside : StartsUnasked d.event
   done_aside = delivered_aside e c done.open_ d.proc (reports.Done job d.outcome None) done.delivery
 
-  pub done_taken : IsTakenUp d.event []
+  pub done_taken : (later : List LogRow) → IsTakenIn d.event later
   done_taken later =
       did_takes e d.proc job d.outcome done.delivery c.tables c.queue c.blame.entries done.open_.stands.stands done_aside later
 

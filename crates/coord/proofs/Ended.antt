@@ -1,6 +1,6 @@
 -- The tab has come to rest, and the event ends.
 use Rattle.tab_doors.proofs.Works.{plain_now}
-use Rattle.seen_laws.proofs.InEvents.{now_is}
+use Rattle.seen_laws.proofs.InEvents.{now_is, later_more}
 use Rattle.tab_ids.specs.declared.ReqId.{ReqId}
 use Rattle.tab_facts.specs.Running.Telling.{AreTelling}
 use Rattle.tab_facts.specs.Running.Running.{AreFoundRunning}
@@ -14,9 +14,8 @@ use Rattle.log_model.specs.declared.job.Why.{Why}
 use Rattle.log_model.specs.declared.row_kind.LogRow.{LogRow}
 use Rattle.log_model.specs.declared.row_kind.RowKind.{RowKind}
 use Rattle.tab_facts.specs.Order.Orders.{IsOfCoord}
-use Rattle.seen_laws.specs.InEvent.{InEvent, IsTakenIn, log_of, now_of, row_of}
+use Rattle.seen_laws.specs.InEvent.{InEvent, IsTakenIn, log_of, now_of, row_of, later_of}
 use Rattle.std.proofs.Common.{Bool, List, [], ap, false, inl, inr, map, subst, sym, ℕ, ◌∙◌, ◌≡◌, ◌⊎◌}
-use Rattle.std.proofs.lemmas.List.{map-append}
 use Rattle.tab_loads.specs.Loading.{pass_of}
 use Rattle.tab_stands.proofs.Ended.{acted}
 use Rattle.tab_stands.proofs.PassedOn.{IsNoneDue, leaves_unsettled, put_makes, put_sound}
@@ -29,9 +28,9 @@ use Rattle.slot_facts.specs.Slots.{AreSlots}
 use Rattle.tab_ids.specs.declared.DocId.{DocId}
 
 -- what is taken up among the rows so far is so among more
-taken_in : (e : InEvent) (was out : List RowKind) → HasPut e was out → tab.IsTakenUp e was → IsTakenIn e (map (row_of e) out)
+taken_in : (e : InEvent) (was out : List RowKind) → HasPut e was out → tab.IsTakenUp e was → IsTakenIn e (later_of e out)
 taken_in e was out put taken =
-    subst (λ (l : List LogRow). IsTakenIn e l) (sym (ap (λ (l : List RowKind). map (row_of e) l) put.is ∙ map-append (row_of e) was put.more)) (taken (map (row_of e) put.more))
+    subst (λ (l : List LogRow). IsTakenIn e l) (sym (ap (λ (l : List RowKind). later_of e l) put.is ∙ later_more e was put.more)) (taken (map (row_of e) put.more))
 
 -- the rows are a coordinator's
 of_coord : (e : InEvent) (was out : List RowKind) → HasPut e was out → ((row : RowKind) → Has was row → IsOfCoord row) → (row : RowKind) → Has out row → IsOfCoord row

@@ -27,7 +27,7 @@ use Rattle.log_model.proofs.Refl.{same_actor_refl}
 use Rattle.seen_laws.specs.Blocks.{Here, Passes, EachPass, point_at, on_row}
 use Rattle.seen_laws.specs.InEvent.{InEvent, row_of, start_of, log_of}
 use Rattle.seen_laws.proofs.Sendings.{both}
-use Rattle.seen_laws.proofs.InEvents.{log_fold}
+use Rattle.seen_laws.proofs.InEvents.{log_fold, uncut_rows}
 use Rattle.tab_facts.proofs.TabEvents.Settled.{between_settled}
 use Rattle.seen_facts.proofs.LoadEnds.Ends.{loads_end_more}
 use Rattle.seen_facts.specs.LoadEnds.Standing.{AreUnsettled, LoadsStand}
@@ -79,12 +79,16 @@ module _ (e : InEvent) (log : List LogRow) (old : Coordinator) (keeps : Keeps e.
   abbrev rows_ : List LogRow
   rows_ = map (row_of e) out
 
+  -- as nothing was put out before these rows
+  passes : EachPass (start_of e) (row_of e e.own ∷ rows_) []
+  passes = subst (λ (l : List LogRow). EachPass (start_of e) l []) (uncut_rows e out follows.uncut) acted.passes
+
   pass : (test : Point → LogRow → Bool) → ((p : Point) (row : LogRow) → Passes e.header p row → test p row ≡ true) → each_row test (seen_of log) (row_of e e.own ∷ rows_) ≡ true
   pass test one =
-      subst (λ (s : Seen). each_row test s (row_of e e.own ∷ rows_) ≡ true) follows.start (passes_one test e.header one (start_of e) refl (row_of e e.own ∷ rows_) acted.passes)
+      subst (λ (s : Seen). each_row test s (row_of e e.own ∷ rows_) ≡ true) follows.start (passes_one test e.header one (start_of e) refl (row_of e e.own ∷ rows_) passes)
 
   comes : fold after (seen_of log) (row_of e e.own ∷ rows_) ≡ log_of e out
-  comes = sym (log_fold e out ∙ ap (λ (s : Seen). fold after s (row_of e e.own ∷ rows_)) follows.start)
+  comes = sym (log_fold e out ∙ ap (λ (l : List LogRow). fold after e.start l) (uncut_rows e out follows.uncut) ∙ ap (λ (s : Seen). fold after s (row_of e e.own ∷ rows_)) follows.start)
 
   number : have_number (seen_of log).events (row_of e e.own ∷ rows_) ≡ true
   number = have_it e (seen_of log).events follows.event (e.own ∷ out)
@@ -111,7 +115,7 @@ module _ (e : InEvent) (log : List LogRow) (old : Coordinator) (keeps : Keeps e.
   pub event_in_time : LoadsEndInTime (log ++ row_of e e.own ∷ rows_)
   event_in_time =
       loads_end_more log (row_of e e.own) rows_ keeps.some number keeps.loads_end (subst LoadsStand (sym comes) acted.stands.but.stands.between.stands)
-      (subst (λ (s : Seen). AreUnsettled s (row_of e e.own ∷ rows_)) (sym comes) (event_unsettled e out acted.passes acted.off))
+      (subst (λ (s : Seen). AreUnsettled s (row_of e e.own ∷ rows_)) (sym comes) (event_unsettled e out follows.uncut passes acted.off))
 
   pub event_keeps : Keeps e.header (log ++ row_of e e.own ∷ rows_) new
   unfolding goes_in_time

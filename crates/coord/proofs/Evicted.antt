@@ -1,4 +1,5 @@
 -- The document that is kept longest was discarded as the user evicts it, with those below it: the tab may be brought to rest.
+use Rattle.tab_doors.proofs.Uncut.{uncut_now}
 use Rattle.tab_stands.specs.Standing.{StartsUnasked}
 use Rattle.coord.proofs.Asides.{evicted_aside}
 use Rattle.coord.proofs.Fines.{IsFine, fine_discard, fine_moves, makes_over, sound_over}
@@ -12,10 +13,10 @@ use Rattle.log_model.specs.Seen.{Seen, desk_of}
 use Rattle.log_model.specs.declared.row_kind.RowKind.{RowKind}
 use Rattle.move_queue.specs.Queue.{Queue}
 use Rattle.page_cache.specs.Kept.{oldest_of}
-use Rattle.seen_laws.specs.InEvent.{InEvent, log_of, now_of, row_of}
+use Rattle.seen_laws.specs.InEvent.{InEvent, log_of, now_of, later_of}
 use Rattle.seen_laws.specs.Sending.{leads}
 use Rattle.slot_facts.specs.Slots.{AreSlots}
-use Rattle.std.proofs.Common.{List, [], ap, map, subst, sym, true, ℕ, ◌++◌, ◌∙◌, ◌≡◌}
+use Rattle.std.proofs.Common.{List, [], ap, subst, sym, true, ℕ, ◌++◌, ◌∙◌, ◌≡◌}
 use Rattle.std.specs.Prelude.{slice_get}
 use Rattle.tab_doors.specs.declared.tables.Tables.{Tables}
 use Rattle.tab_evicts.specs.Evicting.{IsDiscardFor}
@@ -82,7 +83,7 @@ module _ (e : InEvent) (state : StateId) (c : Coordinator) (open_ : IsOpenTo e c
         sound_over e u.running out ready.passing.work.goes whys.Evict ready.passing.going.tab.asked ready.open_.may fine (sound_first e aside leads_own (keeps_coming c.blame.entries e.start (now_of e []) comes) stands.lasts.sound)
 
     shows : AreShownUnder (log_of e [])
-    shows = own_under e leads_own alive stands.lasts.shows
+    shows = own_under e aside.uncut leads_own alive stands.lasts.shows
 
     -- no document is sent to a fragment
     sends_none : (job : Job) → Has out (rows.Sent job) → IsFragmentTask job.task → ⊥
@@ -96,7 +97,7 @@ module _ (e : InEvent) (state : StateId) (c : Coordinator) (open_ : IsOpenTo e c
 
     desks : AreDesksIn (now_of e [])
     desks =
-        subst AreDesksIn (sym (sym aside.plain ∙ ap (λ (k : RowKind). next e.start e.event e.actor k) asks.own)) (evicted_desks e.start e.event e.actor stands.between.tab.desks state)
+        subst AreDesksIn (sym (sym (uncut_now e aside.uncut aside.plain) ∙ ap (λ (k : RowKind). next e.start e.event e.actor k) asks.own)) (evicted_desks e.start e.event e.actor stands.between.tab.desks state)
 
     found : AreFoundRunning (now_of e out)
     found =
@@ -119,10 +120,10 @@ module _ (e : InEvent) (state : StateId) (c : Coordinator) (open_ : IsOpenTo e c
           coord = λ row has. (fine row has).coord;
           unmoved = fine_moves (now_of e out) (now_of e out) whys.Evict out fine;
           shows = shows;
-          taken = λ later. evicted_takes e state asks (map (row_of e) out ++ later);
+          taken = λ later. evicted_takes e state asks (later_of e out ++ later);
           found = found;
           telling = telling;
           slots =
               subst (λ (l : List (DocId × ℕ)). AreSlots (log_of e out) l) (sym slots)
-              (rows_slots e c.slots.entries out [] (λ row has. (fine row has).coord) (own_slots e c.slots.entries (rows.Evicted state) asks.own tt open_.slots));
+              (rows_slots e c.slots.entries out [] (λ row has. (fine row has).coord) (own_slots e c.slots.entries open_.in_.uncut (rows.Evicted state) asks.own tt open_.slots));
         }

@@ -1,4 +1,5 @@
 -- Fragment orders find their documents running, and reports of them tell of what was made: as an event's own row is logged, and over rows that a coordinator puts out.
+use Rattle.tab_doors.proofs.Uncut.{uncut_now}
 use Rattle.seen_laws.proofs.InEvents.{since_goes}
 use Rattle.tab_stands.specs.Standing.{StartsUnasked}
 use Rattle.coord.proofs.Asides.{accepted_aside, delivered_aside}
@@ -55,11 +56,11 @@ module _ (e : InEvent) (led : leads e.own ≡ true) (aside : StartsUnasked e) wh
   -- where it tells of no death
   pub own_found : ((proc : ProcId) → e.own ≡ rows.Delivered proc → NoDeath (slice_get (desk_of e.start proc).reports 0)) → AreFoundRunning e.start → AreFoundRunning (now_of e [])
   own_found alive found =
-      subst AreFoundRunning aside.plain (running_after e.start e.event e.actor found e.own (own_fits e.start e.own led alive))
+      subst AreFoundRunning (uncut_now e aside.uncut aside.plain) (running_after e.start e.event e.actor found e.own (own_fits e.start e.own led alive))
 
   pub own_telling : AreTelling e.start → AreTelling (now_of e [])
   own_telling telling =
-      subst AreTelling aside.plain (telling_after e.start e.event e.actor telling e.own (own_ends e.start e.own led))
+      subst AreTelling (uncut_now e aside.uncut aside.plain) (telling_after e.start e.event e.actor telling e.own (own_ends e.start e.own led))
 
 -- a request was accepted
 module _ (e : InEvent) (c : Coordinator) (open_ : IsOpenIn e c) (req : ReqId) (doc : Option DocId) (what : Request) (own : e.own ≡ rows.Accepted req doc what) where

@@ -29,4 +29,4 @@ module _ (e : InEvent) (c : Coordinator) (open_ : IsOpenTo e c) (req : ReqId) (d
       (takes_none e req None (requests.Go delta) asked.by_user asked.own asked.next aside)
       (accepted_found e c open_.in_ req None (requests.Go delta) asked.own)
       (accepted_telling e c open_.in_ req None (requests.Go delta) asked.own)
-      (own_slots e c.slots.entries (rows.Accepted req None (requests.Go delta)) asked.own tt open_.slots)
+      (own_slots e c.slots.entries open_.in_.uncut (rows.Accepted req None (requests.Go delta)) asked.own tt open_.slots)

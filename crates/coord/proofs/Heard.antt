@@ -1,4 +1,5 @@
 -- A report was taken, and heard: the slots that the coordinator knows are those of the log then, and all else of it is as it was.
+use Rattle.seen_laws.proofs.InEvents.{uncut_log}
 use Rattle.coord.specs.Delivering.{InDelivery, IsDone, IsMade, outcome_of, slot_told, slots_with}
 use Rattle.coord.specs.Standing.{IsOpenIn, IsOpenTo}
 use Rattle.coord.specs.declared.coordinator.Coordinator.{Coordinator}
@@ -61,14 +62,17 @@ open_then e c heard same open_ =
         telling = open_.stands.telling;
       };
       room = open_.room;
+      uncut = open_.uncut;
+      undue = open_.undue;
       unchecked = open_.unchecked;
     })
 
 -- its slots are those of the log
-pub heard_slots : (e : InEvent) (proc : ProcId) (report : Report) → IsDelivery e proc report → (slots next : List (DocId × ℕ)) → AreSlots e.start slots → next ≡ slots_with slots (slot_told report) → AreSlots (log_of e []) next
-heard_slots e proc report delivery slots next are told =
-    subst (λ (k : RowKind). AreSlots (after e.start (row_of e k)) next) (sym delivery.own)
-    (delivered_slots e.start e.event e.actor proc slots next are hears)
+pub heard_slots : (e : InEvent) (proc : ProcId) (report : Report) → e.before ≡ [] → IsDelivery e proc report → (slots next : List (DocId × ℕ)) → AreSlots e.start slots → next ≡ slots_with slots (slot_told report) → AreSlots (log_of e []) next
+heard_slots e proc report uncut delivery slots next are told =
+    subst (λ (x : Seen). AreSlots x next) (sym (uncut_log e uncut))
+    (subst (λ (k : RowKind). AreSlots (after e.start (row_of e k)) next) (sym delivery.own)
+    (delivered_slots e.start e.event e.actor proc slots next are hears))
   where
     hears : IsHeard slots next (slice_get (desk_of e.start proc).reports 0)
     hears =
@@ -81,7 +85,7 @@ module _ (d : InDelivery) (proc : ProcId) (report : Report) (delivery : IsDelive
       subst (λ (p : ProcId). IsDelivery d.event p d.report) (sym proc_is) (subst (λ (r : Report). IsDelivery d.event proc r) (sym report_is) delivery)
 
   slots_now : AreSlots (log_of d.event []) heard.slots.entries
-  slots_now = heard_slots d.event proc report delivery c.slots.entries heard.slots.entries open_.slots told
+  slots_now = heard_slots d.event proc report open_.in_.uncut delivery c.slots.entries heard.slots.entries open_.slots told
 
   -- a document made something
   pub heard_made : (made : Made) → IsToldOf report made → IsMade d heard made

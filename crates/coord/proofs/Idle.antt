@@ -1,4 +1,5 @@
 -- An event in which the coordinator itself does nothing, and which changes nothing: where its tables, its queue and its notes stand for the log after the event's rows, and fragment orders find their documents running, it has acted.
+use Rattle.tab_doors.proofs.Uncut.{uncut_now}
 use Rattle.coord.proofs.Asides.{IsPlain}
 use Rattle.coord.proofs.Fines.{AppliesNone}
 use Rattle.coord.specs.Standing.{HasActed, IsOpenIn, IsOpenTo, StandsFor}
@@ -56,11 +57,11 @@ idle_acts e c open_ out none acted at found telling slots =
 module _ (e : InEvent) (c : Coordinator) (open_ : IsOpenTo e c) (kind : RowKind) (own : e.own ≡ kind) (at : IsPlain e []) where
   pub found_now : IsFittingRow e.start kind → AreFoundRunning (now_of e [])
   found_now fits =
-      subst AreFoundRunning at.same (running_after e.start e.event e.actor open_.in_.stands.found e.own (subst (IsFittingRow e.start) (sym own) fits))
+      subst AreFoundRunning (uncut_now e open_.in_.uncut at.same) (running_after e.start e.event e.actor open_.in_.stands.found e.own (subst (IsFittingRow e.start) (sym own) fits))
 
   pub telling_now : EndsNoFragment e.start kind → AreTelling (now_of e [])
   telling_now ends =
-      subst AreTelling at.same (telling_after e.start e.event e.actor open_.in_.stands.telling e.own (subst (EndsNoFragment e.start) (sym own) ends))
+      subst AreTelling (uncut_now e open_.in_.uncut at.same) (telling_after e.start e.event e.actor open_.in_.stands.telling e.own (subst (EndsNoFragment e.start) (sym own) ends))
 
   -- the event has no other row
   pub alone_acts : IsFittingRow e.start kind → EndsNoFragment e.start kind → AreSlots (log_of e []) c.slots.entries → tab.HasActed tab.none_in_check e [] c.tables c.queue c.blame.entries → HasActed e [] c

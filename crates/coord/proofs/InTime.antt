@@ -21,7 +21,7 @@ use Rattle.log_model.specs.declared.job.Task.{Task}
 use Rattle.log_model.specs.declared.row_kind.Actor.{Actor}
 use Rattle.log_model.specs.declared.row_kind.LogRow.{LogRow}
 use Rattle.log_model.specs.declared.row_kind.RowKind.{RowKind}
-use Rattle.seen_laws.proofs.InEvents.{log_fold}
+use Rattle.seen_laws.proofs.InEvents.{log_fold, uncut_rows}
 use Rattle.seen_laws.proofs.Sendings.{both}
 use Rattle.seen_laws.specs.Blocks.{EachPass, Here, Passes, point_at}
 use Rattle.seen_laws.specs.InEvent.{InEvent, log_of, row_of, start_of}
@@ -241,9 +241,9 @@ own_unsettled s e event actor (rows.Evicted state) is = refl
 
 -- ---- the event
 
-pub event_unsettled : (e : InEvent) (out : List RowKind) → EachPass (start_of e) (row_of e e.own ∷ map (row_of e) out) [] → ChangesLeaveOff (log_of e out) out → AreUnsettled (log_of e out) (row_of e e.own ∷ map (row_of e) out)
-event_unsettled e out passes off =
-    subst (λ (x : Seen). AreUnsettled x (row_of e e.own ∷ map (row_of e) out)) (sym (log_fold e out))
+pub event_unsettled : (e : InEvent) (out : List RowKind) → e.before ≡ [] → EachPass (start_of e) (row_of e e.own ∷ map (row_of e) out) [] → ChangesLeaveOff (log_of e out) out → AreUnsettled (log_of e out) (row_of e e.own ∷ map (row_of e) out)
+event_unsettled e out uncut passes off =
+    subst (λ (x : Seen). AreUnsettled x (row_of e e.own ∷ map (row_of e) out)) (sym folds)
     (both
     (own_unsettled e.start end e.event e.actor e.own (and_parts _ _ passes.0.formed).0)
     (rows_unsettled e.header e.start (after e.start (row_of e e.own)) (row_of e e.own) [] (map (row_of e) out) passes.1 changes))
@@ -251,11 +251,14 @@ event_unsettled e out passes off =
     end : Seen
     end = fold after e.start (row_of e e.own ∷ map (row_of e) out)
 
+    folds : log_of e out ≡ fold after e.start (row_of e e.own ∷ map (row_of e) out)
+    folds = log_fold e out ∙ ap (λ (l : List LogRow). fold after e.start l) (uncut_rows e out uncut)
+
     changes : (row : LogRow) → Has (map (row_of e) out) row → (req : ReqId) (change : Change) → row.row ≡ rows.Applied req change → is_change_unsettled (fold after e.start (row_of e e.own ∷ map (row_of e) out)) req change ≡ true
     changes row has req change is =
         let it = has_map (row_of e) out row has in
         let kind : it.it ≡ rows.Applied req change = ap (λ (x : LogRow). x.row) it.is ∙ is in
-        subst (λ (x : Seen). is_change_unsettled x req change ≡ true) (log_fold e out) (off req change (subst (λ (k : RowKind). Has out k) kind it.there))
+        subst (λ (x : Seen). is_change_unsettled x req change ≡ true) folds (off req change (subst (λ (k : RowKind). Has out k) kind it.there))
 
 -- ---- the opening: no event comes after it
 

@@ -20,9 +20,9 @@ use Rattle.log_model.specs.declared.row_kind.RowKind.{RowKind}
 use Rattle.move_queue.specs.Queue.{Queue}
 use Rattle.tab_facts.proofs.Order.Stills.{still_over}
 use Rattle.tab_facts.specs.Order.Orders.{IsOfCoord}
-use Rattle.seen_laws.specs.InEvent.{InEvent, log_of, now_of, row_of, EachGoes}
+use Rattle.seen_laws.specs.InEvent.{InEvent, log_of, now_of, row_of, EachGoes, later_of}
 use Rattle.seen_laws.specs.Sending.{leads}
-use Rattle.std.proofs.Common.{List, None, Option, Some, [], ap, inl, inr, map, refl, subst, sym, ℕ, ◌++◌, ◌∙◌, ◌∷◌, ◌≡◌, false}
+use Rattle.std.proofs.Common.{List, None, Option, Some, [], ap, inl, inr, refl, subst, sym, ℕ, ◌++◌, ◌∙◌, ◌∷◌, ◌≡◌, false}
 use Rattle.slot_facts.specs.Slots.{AreSlots}
 use Rattle.tab_doors.specs.declared.tables.Tables.{Tables}
 use Rattle.tab_ids.specs.declared.DocId.{DocId}
@@ -70,10 +70,10 @@ module _ (e : InEvent) (t : Tables) (queue : Queue) (blame : List (StateId × Re
   -- each document shown was shown under its navigable's epoch as the event began
   pub load_shows : AreShownUnder (log_of e [])
   load_shows =
-      own_under e (ap (λ (k : RowKind). leads k) its.own) (λ proc is. (let never : rows.Accepted req None load ≡ rows.Delivered proc = sym its.own ∙ is in absurd cc)) stands.lasts.shows
+      own_under e its.aside.uncut (ap (λ (k : RowKind). leads k) its.own) (λ proc is. (let never : rows.Accepted req None load ≡ rows.Delivered proc = sym its.own ∙ is in absurd cc)) stands.lasts.shows
 
   pub load_taken : (out : List RowKind) → IsTakenUp e out
-  load_taken out later = takes_none e req None load its.by_user its.own its.next its.aside (map (row_of e) out ++ later)
+  load_taken out later = takes_none e req None load its.by_user its.own its.next its.aside (later_of e out ++ later)
 
   -- its request is there
   there : request_of (now_of e []) req ≡ Some (new e req None load its.by_user its.own its.next its.aside)
@@ -241,7 +241,7 @@ module _ (e : InEvent) (c : Coordinator) (open_ : IsOpenTo e c) (req : ReqId) (n
         telling = load_telling e c.tables c.queue c.blame.entries open_.in_.stands.stands req nav mode address load_asks out after.tables after.blame.entries loaded came after.queue ready (accepted_telling e c open_.in_ req None (requests.Load nav mode address) asked.own);
         slots =
             subst (λ (l : List (DocId × ℕ)). AreSlots (log_of e out) l) (sym slots)
-            (rows_slots e c.slots.entries out [] (load_coord e c.tables c.queue c.blame.entries open_.in_.stands.stands req nav mode address load_asks out after.tables after.blame.entries loaded came after.queue ready) (own_slots e c.slots.entries (rows.Accepted req None (requests.Load nav mode address)) asked.own tt open_.slots));
+            (rows_slots e c.slots.entries out [] (load_coord e c.tables c.queue c.blame.entries open_.in_.stands.stands req nav mode address load_asks out after.tables after.blame.entries loaded came after.queue ready) (own_slots e c.slots.entries open_.in_.uncut (rows.Accepted req None (requests.Load nav mode address)) asked.own tt open_.slots));
       }
 
 -- ---- what was put out for what a document made: one row, which ends its request

@@ -29,7 +29,7 @@ module _ (e : InEvent) (c : Coordinator) (open_ : IsOpenTo e c) (req : ReqId) (n
   pub poke_acts : (reached : DocId) → ReachesOne e.start nav reached → e.own ≡ rows.Accepted req (Some reached) (requests.Poke nav action) → HasActed e [] c
   poke_acts reached its own =
       alone_acts e c open_ (rows.Accepted req (Some reached) (requests.Poke nav action)) own (accepted_plain e c open_.in_ req (Some reached) (requests.Poke nav action) own) tt tt
-      (own_slots e c.slots.entries (rows.Accepted req (Some reached) (requests.Poke nav action)) own tt open_.slots)
+      (own_slots e c.slots.entries open_.in_.uncut (rows.Accepted req (Some reached) (requests.Poke nav action)) own tt open_.slots)
       (pokes.poke_acts e c.tables c.queue c.blame.entries open_.in_.stands.stands (accepted_aside e c open_.in_ req (Some reached) (requests.Poke nav action) own) open_.in_.room req nav action reached by_user own nr its)
 
   -- it reaches no document
@@ -40,7 +40,7 @@ module _ (e : InEvent) (c : Coordinator) (open_ : IsOpenTo e c) (req : ReqId) (n
       (plain_more e c open_.in_ [] (rows.Refused req reason) (refused_goes e [] req reason).read accepted)
       (running_over e (rows.Refused req reason ∷ []) [] (tt, tt) goes (found_now e c open_ (rows.Accepted req None (requests.Poke nav action)) own accepted tt))
       (telling_over e (rows.Refused req reason ∷ []) [] goes of_coord (telling_now e c open_ (rows.Accepted req None (requests.Poke nav action)) own accepted tt))
-      (rows_slots e c.slots.entries (rows.Refused req reason ∷ []) [] of_coord (own_slots e c.slots.entries (rows.Accepted req None (requests.Poke nav action)) own tt open_.slots))
+      (rows_slots e c.slots.entries (rows.Refused req reason ∷ []) [] of_coord (own_slots e c.slots.entries open_.in_.uncut (rows.Accepted req None (requests.Poke nav action)) own tt open_.slots))
     where
       accepted : IsPlain e []
       accepted = accepted_plain e c open_.in_ req None (requests.Poke nav action) own

@@ -11,7 +11,7 @@ use Rattle.seen_facts.specs.Desk.Own.{AreDesksIn}
 use Rattle.seen_facts.specs.Doc.Docs.{AreDocs}
 use Rattle.seen_facts.specs.Hang.Members.{Has}
 use Rattle.seen_facts.specs.Transit.Orders.{IsOutcomeOf}
-use Rattle.seen_laws.proofs.InEvents.{log_more}
+use Rattle.seen_laws.proofs.InEvents.{log_more, uncut_log}
 use Rattle.seen_laws.specs.InEvent.{InEvent, log_of, row_of}
 use Rattle.log_model.specs.After.{after}
 use Rattle.seen_laws.specs.Unasked.{unasked}
@@ -57,15 +57,16 @@ module _ (e : InEvent) (slots : List (DocId × ℕ)) where
   -- ---- the own row
 
   -- of the user or a process, or an eviction
-  pub own_slots : (kind : RowKind) → e.own ≡ kind → tell.IsPlain kind → AreSlots e.start slots → AreSlots (log_of e []) slots
-  own_slots kind own plain are =
-      plain_slots e.start e.event e.actor e.own (subst (λ (k : RowKind). tell.IsPlain k) (sym own) plain) slots are
+  pub own_slots : e.before ≡ [] → (kind : RowKind) → e.own ≡ kind → tell.IsPlain kind → AreSlots e.start slots → AreSlots (log_of e []) slots
+  own_slots uncut kind own plain are =
+      subst (λ (x : Seen). AreSlots x slots) (sym (uncut_log e uncut)) (plain_slots e.start e.event e.actor e.own (subst (λ (k : RowKind). tell.IsPlain k) (sym own) plain) slots are)
 
 -- a process has finished the order that it has in hand
 pub finished_own : (e : InEvent) (c : Coordinator) → IsOpenTo e c → (proc : ProcId) (order : Order) (outcome : Outcome) → (desk_of e.start proc).in_hand ≡ Some order → IsOutcomeOf order.job.task outcome → e.own ≡ rows.Finished proc order.job.nr outcome → AreSlots (log_of e []) c.slots.entries
 finished_own e c open_ proc order outcome hand fits own =
-    subst (λ (k : RowKind). AreSlots (after e.start (row_of e k)) c.slots.entries) (sym own)
-    (finished_slots e.start e.event e.actor proc order outcome hand c.slots.entries open_.slots e.checking docs desks fits)
+    subst (λ (x : Seen). AreSlots x c.slots.entries) (sym (uncut_log e open_.in_.uncut))
+    (subst (λ (k : RowKind). AreSlots (after e.start (row_of e k)) c.slots.entries) (sym own)
+    (finished_slots e.start e.event e.actor proc order outcome hand c.slots.entries open_.slots e.checking docs desks fits))
   where
     docs : AreDocs (unasked e.checking e.start)
     docs = subst AreDocs (sym (start_plain e c open_.in_)) open_.in_.stands.stands.between.tab.docs

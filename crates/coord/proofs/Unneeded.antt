@@ -16,10 +16,10 @@ use Rattle.log_model.specs.declared.job.Task.{Task}
 use Rattle.log_model.specs.declared.made.Report.{Report}
 use Rattle.log_model.specs.declared.row_kind.RowKind.{RowKind}
 use Rattle.move_queue.specs.Queue.{Queue}
-use Rattle.seen_laws.specs.InEvent.{InEvent, log_of, now_of, row_of}
+use Rattle.seen_laws.specs.InEvent.{InEvent, log_of, now_of, later_of}
 use Rattle.seen_laws.specs.Sending.{leads}
 use Rattle.slot_facts.specs.Slots.{AreSlots}
-use Rattle.std.proofs.Common.{Bool, List, None, Option, [], ap, cond, false, map, refl, subst, sym, true, ℕ, ◌++◌, ◌==◌, ◌∙◌, ◌∷◌, ◌≡◌}
+use Rattle.std.proofs.Common.{Bool, List, None, Option, [], ap, cond, false, refl, subst, sym, true, ℕ, ◌++◌, ◌==◌, ◌∙◌, ◌∷◌, ◌≡◌}
 use Rattle.std.specs.Prelude.{option_map, slice_get}
 use Rattle.tab_doors.specs.Orders.{order_to}
 use Rattle.tab_doors.specs.declared.tables.Tables.{Tables}
@@ -140,7 +140,7 @@ module _ (d : InDone) (c : Coordinator) (job : Job) (done : IsDone d c job) (sta
         sound_over e u.running out ready.passing.work.goes whys.Start ready.passing.going.tab.asked ready.open_.may fine (sound_first e aside leads_own keeps stands.lasts.sound)
 
     shows : AreShownUnder (log_of e [])
-    shows = own_under e leads_own alive stands.lasts.shows
+    shows = own_under e aside.uncut leads_own alive stands.lasts.shows
 
     found : AreFoundRunning (now_of e out)
     found =
@@ -164,7 +164,7 @@ module _ (d : InDone) (c : Coordinator) (job : Job) (done : IsDone d c job) (sta
           coord = λ row has. (fine row has).coord;
           unmoved = fine_moves (now_of e out) (now_of e out) whys.Start out fine;
           shows = shows;
-          taken = λ later. done_taken d c job done (map (row_of e) out ++ later);
+          taken = λ later. done_taken d c job done (later_of e out ++ later);
           found = found;
           telling = telling;
           slots =

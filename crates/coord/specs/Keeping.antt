@@ -1,6 +1,6 @@
 -- A log of a tab with loads that keeps all rules, with the coordinator that stands for it.
 -- This project's own.
-use Rattle.std.specs.Prelude.{◌≡◌, ◌<◌, IsTrue, List}
+use Rattle.std.specs.Prelude.{◌≡◌, ◌<◌, IsTrue, List, []}
 use Rattle.log_model.specs.declared.header.Header.{Header}
 use Rattle.log_model.specs.declared.row_kind.LogRow.{LogRow}
 use Rattle.log_model.specs.ActsAtOnce.{ActsAtOnce}
@@ -23,7 +23,8 @@ pub record Keeps (header : Header) (log : List LogRow) (c : Coordinator) : Type 
   pub suits : IsTrue (opens_as header nothing (events_of log)) → Suits header log
   pub stands : StandsFor (seen_of log) c
 
--- the event is the one after the log
+-- the event is the one after the log, in which nothing was put out before
 pub record Follows (e : InEvent) (log : List LogRow) : Type 0 where
   pub start : e.start ≡ seen_of log
   pub event : e.event ≡ (seen_of log).events
+  pub uncut : e.before ≡ []

@@ -16,9 +16,9 @@ use Rattle.tab_facts.specs.Order.Orders.{IsOfCoord}
 use Rattle.tab_facts.specs.Running.Running.{AreFoundRunning}
 use Rattle.tab_facts.specs.Running.Telling.{AreTelling}
 use Rattle.seen_laws.specs.Blocks.{EachPass}
-use Rattle.seen_laws.specs.InEvent.{InEvent, log_of, now_of, row_of, start_of}
+use Rattle.seen_laws.specs.InEvent.{InEvent, log_of, now_of, rows_of, start_of}
 use Rattle.slot_facts.specs.Slots.{AreSlots}
-use Rattle.std.specs.Prelude.{Bool, List, None, [], false, length, map, true, ℕ, ◌++◌, ◌+◌, ◌∷◌, ◌≡◌}
+use Rattle.std.specs.Prelude.{Bool, List, None, [], false, length, true, ℕ, ◌++◌, ◌+◌, ◌≡◌}
 use Rattle.tab_ids.specs.declared.NavId.{NavId}
 use Rattle.tab_ids.specs.declared.ReqId.{ReqId}
 use Rattle.tab_loads.specs.Loading.{CameTo, pass_of}
@@ -53,11 +53,13 @@ pub record StandsFor (s : Seen) (c : Coordinator) : Type 0 where
 
 -- ---- an event begins
 
--- but for its slots, the coordinator stands for what the log had come to as the event began, with the event's settings; there is room for requests, and none is in a check
+-- but for its slots, the coordinator stands for what the log had come to as the event began, with the event's settings; there is room for requests, nothing was put out before, so nothing is owed, and no request is in a check
 pub record IsOpenIn (e : InEvent) (c : Coordinator) : Type 0 where
   pub header : c.header ≡ e.header
   pub stands : StandsBut e.start c
   pub room : HasRoomFor e.start
+  pub uncut : e.before ≡ []
+  pub undue : (end : Seen) → e.due end ≡ true
   pub unchecked : e.checking ≡ nobody
 
 -- so it does, and its slots are those of then
@@ -79,7 +81,7 @@ MoveNobody s out = (req : ReqId) (change : Change) → Has out (rows.Applied req
 pub record HasActed (e : InEvent) (out : List RowKind) (c : Coordinator) : Type 0 where
   pub stands : StandsFor (log_of e out) c
   pub header : c.header ≡ e.header
-  pub passes : EachPass (start_of e) (row_of e e.own ∷ map (row_of e) out) []
+  pub passes : EachPass (start_of e) (rows_of e out) []
   pub off : ChangesLeaveOff (log_of e out) out
 
 -- a pass may follow, for this cause; no request is in a check; what was delivered was taken up, if it was to be; the rows so far are a coordinator's, and move nobody; orders that make documents are for what orders may be for, and all are sound; as the event began each document shown was shown under its navigable's epoch; fragment orders find their documents running, and reports of them tell of what was made; and the coordinator's slots are those of the log

@@ -1,11 +1,12 @@
 -- A load begins, and the coordinator goes on working; and whether it is to replace the given entry.
 use Rattle.log_model.specs.declared.request.Mode.{Mode}
 use Rattle.std.proofs.lemmas.Bool.{or_parts}
+use Rattle.std.proofs.lemmas.List.Folds.{list_any-append}
 use Rattle.std.specs.List.{list_any}
 use Rattle.seen_laws.specs.Owing.{owes_row}
 use Rattle.row_facts.specs.LoadRows.Beginning.{begins_no_earlier, IsLoadToBegin}
 use Rattle.row_facts.proofs.LoadRows.Earlier.{no_earlier_stays}
-use Rattle.unasked_dues.proofs.Sole.{sole_more}
+use Rattle.unasked_dues.proofs.Sole.{HasBegun, sole_more}
 use Rattle.unasked.proofs.Nows.{started_goes}
 use Rattle.load_doors.specs.Loading.{IsToBegin, begun_load, is_beginning}
 use Rattle.row_facts.proofs.LoadRows.Begins.{begin_load_owing}
@@ -26,7 +27,7 @@ use Rattle.seen_facts.proofs.Request.Readers.{SameReads}
 use Rattle.seen_facts.proofs.Coord.Held.{on_else}
 use Rattle.seen_laws.proofs.InEvents.{led_here, log_more}
 use Rattle.seen_laws.specs.InEvent.{InEvent, here_of, log_of, now_of, row_of}
-use Rattle.std.proofs.Common.{Bool, List, None, Option, Some, [], ap, arith, false, inl, refl, subst, sym, true, ℕ, ◌++◌, ◌+◌, ◌==◌, ◌∙◌, ◌∷◌, ◌≡◌}
+use Rattle.std.proofs.Common.{Bool, List, None, Option, Some, [], ap, arith, false, inl, inr, refl, subst, sym, true, ℕ, ◌++◌, ◌+◌, ◌==◌, ◌∙◌, ◌∷◌, ◌≡◌}
 use Rattle.std.proofs.lemmas.Bool.Decides.{nat_tests}
 use Rattle.std.specs.Prelude.{option_map, nat_lt}
 use Rattle.seen_laws.proofs.InEvents.{now_is}
@@ -72,9 +73,9 @@ begun_reads {B} read s req goal q there same r = by_test (r.0 == req.0) refl
 -- ---- that it is the only one of its navigable
 
 -- where no request has begun among the rows so far, none that began has an earlier load beside it
-load_sole : (e : InEvent) (out : List RowKind) (req : ReqId) (nav : NavId) (mode : Mode) (address : List ℕ) (q : Asked) → IsLoadToBegin (here_of e out) req nav mode address q → has_no_earlier_load (log_of e out) req nav ≡ true → list_any is_beginning out ≡ false → BeginsSole e out (rows.Started req None)
+load_sole : (e : InEvent) (out : List RowKind) (req : ReqId) (nav : NavId) (mode : Mode) (address : List ℕ) (q : Asked) → IsLoadToBegin (here_of e out) req nav mode address q → has_no_earlier_load (log_of e out) req nav ≡ true → list_any is_beginning (e.before ++ out) ≡ false → BeginsSole e out (rows.Started req None)
 load_sole e out req nav mode address q due alone first sole =
-    sole_more e out (rows.Started req None) (λ x was n stays. absurd (none_began out was.before was.later was.req was.goal was.among first)) sole
+    sole_more e out (rows.Started req None) (λ x was n stays. absurd (never x was)) sole
     (λ r g same. own r g same)
   where
     none_began : (out before later : List RowKind) (r : ReqId) (g : Option Step) → before ++ rows.Started r g ∷ later ≡ out → list_any is_beginning out ≡ false → ⊥
@@ -87,6 +88,16 @@ load_sole e out req nav mode address q due alone first sole =
     none_began (o ∷ out) (b ∷ before) later r g is none =
         let rest : before ++ rows.Started r g ∷ later ≡ out = cc in
         none_began out before later r g rest (or_parts (is_beginning o) (list_any is_beginning out) none).1
+
+    -- neither before the cut nor after it
+    never : (x : Asked) → HasBegun e out x → ⊥
+    never x was =
+        let parts = or_parts (list_any is_beginning e.before) (list_any is_beginning out) (sym (list_any-append is_beginning e.before out) ∙ first) in
+        by_part parts.0 parts.1 was
+      where
+        by_part : list_any is_beginning e.before ≡ false → list_any is_beginning out ≡ false → HasBegun e out x → ⊥
+        by_part old new (inl was) = none_began e.before was.before was.later was.req was.goal was.among old
+        by_part old new (inr was) = none_began out was.before was.later was.req was.goal was.among new
 
     begins_none_earlier : begins_no_earlier (log_of e out) req nav (rows.Started req None) ≡ true
     begins_none_earlier =

@@ -1,6 +1,6 @@
 -- A load is refused as it is accepted: the two rows may be logged together, and the coordinator is at work then.
 use Rattle.unasked_dues.proofs.Read.{read_more, read_own}
-use Rattle.unasked_dues.proofs.Sole.{sole_own}
+use Rattle.unasked_dues.proofs.Sole.{debts_own, sole_own}
 use Rattle.unasked.proofs.Nows.{refused_goes, refused_now}
 use Rattle.checking_facts.proofs.Rows.{row_checks}
 use Rattle.checking_facts.specs.Checks.{AreInCheck}
@@ -20,8 +20,8 @@ use Rattle.log_model.specs.declared.row_kind.Actor.{Actor}
 use Rattle.log_model.specs.declared.row_kind.LogRow.{LogRow}
 use Rattle.log_model.specs.declared.row_kind.RowKind.{RowKind}
 use Rattle.seen_facts.proofs.Request.Readers.{on_read}
-use Rattle.seen_laws.proofs.InEvents.{log_more, goes_more, none_goes}
-use Rattle.seen_laws.specs.Blocks.{MayLog}
+use Rattle.seen_laws.proofs.InEvents.{log_more, goes_more, none_goes, uncut_log, uncut_rows}
+use Rattle.seen_laws.specs.Blocks.{EachPass, MayLog}
 use Rattle.seen_laws.specs.InEvent.{InEvent, log_of, now_of, row_of, start_of}
 use Rattle.seen_laws.specs.Sending.{leads}
 use Rattle.std.proofs.Common.{List, None, Some, [], ap, false, length, refl, subst, sym, ◌+◌, ◌∙◌, ◌∷◌, ◌≡◌, ◌≤◌}
@@ -57,10 +57,11 @@ module _ (e : InEvent) (t : Tables) (req : ReqId) (reason : Denial) (denied : Is
   lawful : AreLawful e (rows.Refused req reason ∷ [])
   unfolding AreLawful
   lawful later rest =
-      (subst (λ (second : LogRow). MayLog (start_of e) (row_of e e.own ∷ second ∷ []) (λ (l : List LogRow). Unit {0})) (sym refusal_row)
+      subst (λ (l : List LogRow). EachPass (start_of e) l later) (sym (uncut_rows e (rows.Refused req reason ∷ []) denied.uncut))
+      ((subst (λ (second : LogRow). MayLog (start_of e) (row_of e e.own ∷ second ∷ []) (λ (l : List LogRow). Unit {0})) (sym refusal_row)
       (subst (λ (own : LogRow). MayLog (start_of e) (own ∷ (let row : LogRow = record { event = e.event; actor = actors.Ui; row = rows.Refused req reason } in row) ∷ []) (λ (l : List LogRow). Unit {0})) (sym own_row)
       (denied_load_may e.header e.start e.event req denied.nav denied.mode denied.address reason denied.next denied.reason_is denied.unparked)))
-      later tt
+      later tt)
 
   -- ---- the tables stand for what the log has come to then
 
@@ -72,7 +73,7 @@ module _ (e : InEvent) (t : Tables) (req : ReqId) (reason : Denial) (denied : Is
 
   there : request_of s req ≡ Some (new_request req None (requests.Load denied.nav denied.mode denied.address))
   there =
-      ap (λ (x : Seen). request_of x req) (sym denied.plain ∙ ap (λ (row : LogRow). after e.start row) own_row)
+      ap (λ (x : Seen). request_of x req) (sym denied.plain ∙ uncut_log e denied.uncut ∙ ap (λ (row : LogRow). after e.start row) own_row)
       ∙ load_there e.start e.event req denied.nav denied.mode denied.address denied.next
 
   -- the traversal that runs has begun
@@ -93,7 +94,8 @@ module _ (e : InEvent) (t : Tables) (req : ReqId) (reason : Denial) (denied : Is
         goes = goes_more e [] [] (rows.Refused req reason) (none_goes e []) (refused_goes e [] req reason);
         numbered = denied.numbered;
         read = read_more e [] (rows.Refused req reason) (read_own e (record { numbered = denied.checks.numbered; others = denied.checks.others })) (record { numbered = checks_.numbered; others = checks_.others });
-        sole = soles_more e [] (rows.Refused req reason) tt (sole_own e (log_of e []));
+        sole = soles_more e [] (rows.Refused req reason) tt (sole_own e (log_of e []) denied.uncut);
+        debts = debts_own e denied.uncut;
         checks = checks_;
         unheld = none_steps e.checking denied.unchecked (log_of e (rows.Refused req reason ∷ []));
         holds = subst (λ (x : Seen). Holds (look_of x t.running) t) (sym now_is) (left_holds (look_of s t.running) (look_of n t.running) t refl refl refl moved refl refl refl tied.holds);

@@ -15,7 +15,7 @@ use Rattle.log_model.specs.declared.request.Mode.{Mode}
 use Rattle.log_model.specs.declared.row_kind.RowKind.{RowKind}
 use Rattle.seen_laws.specs.InEvent.{InEvent, here_of, log_of, now_of}
 use Rattle.std.specs.List.{list_any}
-use Rattle.std.specs.Prelude.{Bool, List, None, Some, false, option_and_then, true, ℕ, ◌+◌, ◌≡◌}
+use Rattle.std.specs.Prelude.{Bool, List, None, Some, false, option_and_then, true, ℕ, ◌++◌, ◌+◌, ◌≡◌}
 use Rattle.step_index.specs.Held.{history_held}
 use Rattle.tab_doors.specs.declared.tables.Tables.{Tables}
 use Rattle.tab_ids.specs.declared.EntryId.{EntryId}
@@ -38,7 +38,7 @@ pub record IsToBegin (e : InEvent) (out : List RowKind) (table : List Load) (req
   pub none_ : ongoing_load nav table ≡ None
   -- nor is an earlier one in the log, and no request has begun in this event
   pub sole : has_no_earlier_load (log_of e out) req nav ≡ true
-  pub first : list_any is_beginning out ≡ false
+  pub first : list_any is_beginning (e.before ++ out) ≡ false
   pub handling : replace ≡ load_replaces (now_of e out) (requests.Load nav mode address)
   pub unmade : made_for (now_of e out).documents (record { 0 = (now_of e out).states + 1 }) ≡ None
 

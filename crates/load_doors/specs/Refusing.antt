@@ -17,7 +17,8 @@ use Rattle.log_model.specs.declared.row_kind.RowKind.TheVariants as rows
 
 -- in this event the user asks for a load, by the next number, and there is that reason against it as the event begins
 pub record IsDeniedLoad (e : InEvent) (req : ReqId) (reason : Denial) : Type 0 where
-  -- nobody is in a check, and nobody is asked so far
+  -- nothing was put out before, nobody is in a check, and nobody is asked so far
+  pub uncut : e.before ≡ []
   pub unchecked : (r : ReqId) → e.checking r ≡ false
   pub numbered : AreNumbered e.start
   pub checks : AreInCheck e.checking (log_of e [])

@@ -1,4 +1,5 @@
 pub mod LawfulLaws
+pub mod Cut
 pub mod Makes
 pub mod Discards
 pub mod Takes

@@ -16,12 +16,12 @@ use Rattle.log_model.specs.declared.job.Task.TheVariants as tasks
 use Rattle.log_model.specs.declared.row_kind.RowKind.TheVariants as rows
 use Rattle.log_model.specs.Orders.{Question, is_for, question_in}
 use Rattle.seen_laws.specs.Sending.{IsToldTask}
-use Rattle.seen_laws.specs.InEvent.{InEvent, row_of, start_of, first_of, here_of, EachGoes, GoesThere, IsReadOff, log_of, now_of, begins, IsTakenIn, IsRest, IsPaid, IsClear, Anything, AreLegal}
-use Rattle.seen_laws.specs.Owing.{Pays, MayLogOwing}
+use Rattle.seen_laws.specs.InEvent.{InEvent, row_of, start_of, own_of, first_of, here_of, later_of, rows_of, EachGoes, GoesThere, IsReadOff, log_of, now_of, begins, IsTakenIn, IsRest, IsPaid, IsClear, Anything, AreLegal}
+use Rattle.seen_laws.specs.Owing.{owes, Pays, MayLogOwing}
 use Rattle.seen_laws.proofs.BlockLaws.{each_pass_append}
 use Rattle.seen_laws.proofs.Owings.{pays_append}
 
-on_rows_append : (h : Here) (rows more : List LogRow) → on_rows h (rows ++ more) ≡ on_rows (on_rows h rows) more
+pub on_rows_append : (h : Here) (rows more : List LogRow) → on_rows h (rows ++ more) ≡ on_rows (on_rows h rows) more
 on_rows_append h [] more = refl
 on_rows_append h (row ∷ rows) more = on_rows_append (on_row h row) rows more
 
@@ -126,8 +126,31 @@ fold_rows : (h : Here) (rows : List LogRow) → (on_rows h rows).now ≡ fold af
 fold_rows h [] = refl
 fold_rows h (row ∷ rows) = fold_rows (on_row h row) rows
 
-pub log_fold : (e : InEvent) (out : List RowKind) → log_of e out ≡ fold after e.start (row_of e e.own ∷ map (row_of e) out)
-log_fold e out = fold_rows (start_of e) (row_of e e.own ∷ map (row_of e) out)
+-- the event stands where they lead
+pub here_rows : (e : InEvent) (out : List RowKind) → here_of e out ≡ on_rows (start_of e) (rows_of e out)
+here_rows e out = sym (on_rows_append (own_of e) (map (row_of e) e.before) (map (row_of e) out))
+
+pub log_fold : (e : InEvent) (out : List RowKind) → log_of e out ≡ fold after e.start (rows_of e out)
+log_fold e out = ap (λ (h : Here). h.now) (here_rows e out) ∙ fold_rows (start_of e) (rows_of e out)
+
+-- where nothing was put out before a cut, they are the own row and these, and the first of these comes where the own one leads
+pub uncut_rows : (e : InEvent) (out : List RowKind) → e.before ≡ [] → rows_of e out ≡ row_of e e.own ∷ map (row_of e) out
+uncut_rows e out uncut = ap (λ (l : List RowKind). row_of e e.own ∷ (map (row_of e) l ++ map (row_of e) out)) uncut
+
+pub uncut_first : (e : InEvent) → e.before ≡ [] → first_of e ≡ own_of e
+uncut_first e uncut = ap (λ (l : List RowKind). on_rows (own_of e) (map (row_of e) l)) uncut
+
+pub uncut_log : (e : InEvent) → e.before ≡ [] → log_of e [] ≡ after e.start (row_of e e.own)
+uncut_log e uncut = ap (λ (h : Here). h.now) (uncut_first e uncut)
+
+-- one more of them, or some
+pub later_more : (e : InEvent) (out more : List RowKind) → later_of e (out ++ more) ≡ later_of e out ++ map (row_of e) more
+later_more e out more =
+    ap (λ (rows : List LogRow). map (row_of e) e.before ++ rows) (map-append (row_of e) out more)
+    ∙ sym (append_assoc (map (row_of e) e.before) (map (row_of e) out) (map (row_of e) more))
+
+pub rows_more : (e : InEvent) (out more : List RowKind) → rows_of e (out ++ more) ≡ rows_of e out ++ map (row_of e) more
+rows_more e out more = ap (λ (rows : List LogRow). row_of e e.own ∷ rows) (later_more e out more)
 
 -- a row that asks no document
 abbrev pub IsQuiet : InEvent → RowKind → Type 0
@@ -146,17 +169,41 @@ any_more test (k ∷ out) kind e = by_test (test k) (any_more test out kind) e
     by_test false more f = more f
 
 -- a row more, or one row before those that come later
-one_later : (e : InEvent) (out : List RowKind) (kind : RowKind) (later : List LogRow) → (map (row_of e) (out ++ kind ∷ []) ++ later) ≡ (map (row_of e) out ++ row_of e kind ∷ later)
+pub one_later : (e : InEvent) (out : List RowKind) (kind : RowKind) (later : List LogRow) → (later_of e (out ++ kind ∷ []) ++ later) ≡ (later_of e out ++ row_of e kind ∷ later)
 one_later e out kind later =
-    ap (λ (rows : List LogRow). rows ++ later) (map-append (row_of e) out (kind ∷ []))
-    ∙ append_assoc (map (row_of e) out) (row_of e kind ∷ []) later
+    ap (λ (rows : List LogRow). rows ++ later) (later_more e out (kind ∷ []))
+    ∙ append_assoc (later_of e out) (row_of e kind ∷ []) later
+
+-- a request that began among the rows so far did with one more
+pub begun_more : (e : InEvent) (out : List RowKind) (kind : RowKind) (req : ReqId) → list_any (begins req) (e.before ++ out) ≡ true → list_any (begins req) (e.before ++ (out ++ kind ∷ [])) ≡ true
+begun_more e out kind req began =
+    subst (λ (l : List RowKind). list_any (begins req) l ≡ true) (append_assoc e.before out (kind ∷ [])) (any_more (begins req) (e.before ++ out) kind began)
+
+-- what all of them owe is what those before one owe, and that one
+pub pays_more : (e : InEvent) (out more : List RowKind) (later : List LogRow) → Pays (start_of e) (rows_of e (out ++ more)) later → Pays (start_of e) (rows_of e out) (map (row_of e) more ++ later) × Pays (here_of e out) (map (row_of e) more) later
+pays_more e out more later pays =
+    let parts = pays_append (start_of e) (rows_of e out) (map (row_of e) more) later (subst (λ (rows : List LogRow). Pays (start_of e) rows later) (rows_more e out more) pays) in
+    (parts.0, subst (λ (h : Here). Pays h (map (row_of e) more) later) (sym (here_rows e out)) parts.1)
+
+-- and they pass where those before pass, and it does
+pub pass_more : (e : InEvent) (out more : List RowKind) (later : List LogRow) → EachPass (start_of e) (rows_of e out) (map (row_of e) more ++ later) → EachPass (here_of e out) (map (row_of e) more) later → EachPass (start_of e) (rows_of e (out ++ more)) later
+pass_more e out more later first second =
+    subst (λ (rows : List LogRow). EachPass (start_of e) rows later) (sym (rows_more e out more))
+    (each_pass_append (start_of e) (rows_of e out) (map (row_of e) more) later first (subst (λ (h : Here). EachPass h (map (row_of e) more) later) (here_rows e out) second))
+
+-- at the event's end nothing comes later
+pub pays_end : (e : InEvent) (out : List RowKind) → IsPaid e out → Pays (start_of e) (rows_of e out) []
+pays_end e out paid = subst (λ (h : Here). owes (start_of e) (rows_of e out) h.now ≡ true) (here_rows e out) paid
+
+pub taken_end : (e : InEvent) (out : List RowKind) → IsTakenIn e (later_of e out) → IsTakenIn e (later_of e out ++ [])
+taken_end e out taken = subst (λ (rows : List LogRow). IsTakenIn e rows) (sym (append-nil (later_of e out))) taken
 
 -- it keeps what the rows before it ask of what comes later
 rest_more : (e : InEvent) (out : List RowKind) (kind : RowKind) → IsQuiet e kind → (later : List LogRow) → IsRest e (out ++ kind ∷ []) later → IsRest e out (row_of e kind ∷ later) × Pays (here_of e out) (row_of e kind ∷ []) later
 rest_more e out kind quiet later rest =
-    let parts = pays_append (start_of e) (row_of e e.own ∷ map (row_of e) out) (row_of e kind ∷ []) later (subst (λ (rows : List LogRow). Pays (start_of e) (row_of e e.own ∷ rows) later) (map-append (row_of e) out (kind ∷ [])) rest.owed) in (
+    let parts = pays_more e out (kind ∷ []) later rest.owed in (
       record {
-        asks = λ req began. rw (quiet req) (rest.asks req (any_more (begins req) out kind began));
+        asks = λ req began. rw (quiet req) (rest.asks req (begun_more e out kind req began));
         taken = subst (λ (rows : List LogRow). IsTakenIn e rows) (one_later e out kind later) rest.taken;
         owed = parts.0;
       },
@@ -166,8 +213,9 @@ rest_more e out kind quiet later rest =
 -- a row that may be logged, if the event's end pays what it owes
 pub legal_more_owing : (e : InEvent) (out : List RowKind) (kind : RowKind) → IsQuiet e kind → AreLegal e out → MayLogOwing (here_of e out) (row_of e kind ∷ []) → AreLegal e (out ++ kind ∷ [])
 unfolding AreLegal
-legal_more_owing e out kind quiet legal may =
-    subst (λ (rows : List LogRow). MayLog (start_of e) (row_of e e.own ∷ rows) (IsRest e (out ++ kind ∷ []))) (sym (map-append (row_of e) out (kind ∷ []))) (λ later rest. let parts = rest_more e out kind quiet later rest in each_pass_append (start_of e) (row_of e e.own ∷ map (row_of e) out) (row_of e kind ∷ []) later (legal (row_of e kind ∷ later) parts.0) (may later parts.1))
+legal_more_owing e out kind quiet legal may later rest =
+    let parts = rest_more e out kind quiet later rest in
+    pass_more e out (kind ∷ []) later (legal (row_of e kind ∷ later) parts.0) (may later parts.1)
 
 -- one that owes nothing
 pub legal_more : (e : InEvent) (out : List RowKind) (kind : RowKind) → IsQuiet e kind → AreLegal e out → MayLog (here_of e out) (row_of e kind ∷ []) Anything → AreLegal e (out ++ kind ∷ [])
@@ -177,14 +225,13 @@ legal_more e out kind quiet legal may = legal_more_owing e out kind quiet legal 
 abbrev pub AsksNoMore : RowKind → List LogRow → Type 0
 AsksNoMore kind later = (req : ReqId) → begins req kind ≡ true → filter_map (question_in req) later ≡ []
 
--- at the event's end nothing comes later
-pub legal_end : (e : InEvent) (out : List RowKind) → AreLegal e out → IsPaid e out → IsTakenIn e (map (row_of e) out) → EachPass (start_of e) (row_of e e.own ∷ map (row_of e) out) []
+pub legal_end : (e : InEvent) (out : List RowKind) → AreLegal e out → IsPaid e out → IsTakenIn e (later_of e out) → EachPass (start_of e) (rows_of e out) []
 unfolding AreLegal
 legal_end e out legal paid taken =
     legal [] (record {
       asks = λ req began. refl;
-      taken = subst (λ (rows : List LogRow). IsTakenIn e rows) (sym (append-nil (map (row_of e) out))) taken;
-      owed = paid;
+      taken = taken_end e out taken;
+      owed = pays_end e out paid;
     })
 
 both_none : (b : Bool) → (let o : Option Question = cond b None None in o) ≡ None
@@ -207,7 +254,7 @@ done_led h (row ∷ rows) led = done_led (on_row h row) rows (more h.done row le
     more (own ∷ done) row led = led
 
 pub led_here : (e : InEvent) (out : List RowKind) → leads e.own ≡ true → is_led (here_of e out).done ≡ true
-led_here e out own = done_led (first_of e) (map (row_of e) out) own
+led_here e out own = done_led (first_of e) (map (row_of e) out) (done_led (own_of e) (map (row_of e) e.before) own)
 
 -- ---- where nothing is owed
 

@@ -11,3 +11,4 @@ pub mod Deliveries
 pub mod Processes
 pub mod Makings
 pub mod Strays
+pub mod Cuts

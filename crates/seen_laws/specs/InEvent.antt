@@ -23,22 +23,40 @@ pub record InEvent : Type 0 where
   pub event : ℕ
   pub actor : Actor
   pub own : RowKind
+  -- the rows put out before the coordinator's last cut; what comes after goes by another `checking`
+  pub before : List RowKind
   -- the requests that are in their unload check, as the coordinator has it
   pub checking : ReqId → Bool
+  -- what the rows before the cut owe: whether what the log comes to without questions as the event ends pays it
+  pub due : Seen → Bool
 
 -- a row of the event
 abbrev pub row_of : InEvent → RowKind → LogRow
 row_of e kind = record { event = e.event; actor = e.actor; row = kind }
 
--- where the event stands before its own row, after it, and after these rows more
+-- where the event stands before its own row, after it, at the cut, and after these rows more
 abbrev pub start_of : InEvent → Here
 start_of e = record { header = e.header; start = e.start; now = e.start; done = [] }
 
+abbrev pub own_of : InEvent → Here
+own_of e = on_row (start_of e) (row_of e e.own)
+
 abbrev pub first_of : InEvent → Here
-first_of e = on_row (start_of e) (row_of e e.own)
+first_of e = on_rows (own_of e) (map (row_of e) e.before)
 
 abbrev pub here_of : InEvent → List RowKind → Here
 here_of e out = on_rows (first_of e) (map (row_of e) out)
+
+-- all rows of the event so far behind its own one, and with it
+abbrev pub later_of : InEvent → List RowKind → List LogRow
+later_of e out = map (row_of e) e.before ++ map (row_of e) out
+
+abbrev pub rows_of : InEvent → List RowKind → List LogRow
+rows_of e out = row_of e e.own ∷ later_of e out
+
+-- the event cut behind these rows: what comes after goes by this `checking`, and they owe this
+abbrev pub cut : InEvent → List RowKind → (ReqId → Bool) → (Seen → Bool) → InEvent
+cut e out checking due = record e { before = e.before ++ out; checking = checking; due = due }
 
 -- what the log has come to by then
 abbrev pub log_of : InEvent → List RowKind → Seen
@@ -91,20 +109,20 @@ IsTakenIn e later = is_delivered_duly (point_at (start_of e) later) (row_of e e.
 -- what the event's rows so far ask of what comes later in it
 pub record IsRest (e : InEvent) (out : List RowKind) (later : List LogRow) : Type 0 where
   -- a request that began among them asks no document any more
-  pub asks : (req : ReqId) → list_any (begins req) out ≡ true → filter_map (question_in req) later ≡ []
+  pub asks : (req : ReqId) → list_any (begins req) (e.before ++ out) ≡ true → filter_map (question_in req) later ≡ []
   -- what the event delivers is taken up among them or later
-  pub taken : IsTakenIn e (map (row_of e) out ++ later)
+  pub taken : IsTakenIn e (later_of e out ++ later)
   -- and the event's end pays what they owe to it
-  pub owed : Pays (start_of e) (row_of e e.own ∷ map (row_of e) out) later
+  pub owed : Pays (start_of e) (rows_of e out) later
 
 -- the own row and those put out so far pass each test, whatever comes later
 unfoldable pub AreLegal : InEvent → List RowKind → Type 0
-AreLegal e out = MayLog (start_of e) (row_of e e.own ∷ map (row_of e) out) (IsRest e out)
+AreLegal e out = MayLog (start_of e) (rows_of e out) (IsRest e out)
 
 -- what is owed is paid by what the log has come to
 abbrev pub IsPaid : InEvent → List RowKind → Type 0
-IsPaid e out = owes (start_of e) (row_of e e.own ∷ map (row_of e) out) (here_of e out).now ≡ true
+IsPaid e out = owes (start_of e) (rows_of e out) (here_of e out).now ≡ true
 
 -- they owe nothing, whatever the event's end is
 abbrev pub IsClear : InEvent → List RowKind → Type 0
-IsClear e out = (end : Seen) → owes (start_of e) (row_of e e.own ∷ map (row_of e) out) end ≡ true
+IsClear e out = (end : Seen) → owes (start_of e) (rows_of e out) end ≡ true

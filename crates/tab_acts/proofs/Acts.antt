@@ -223,9 +223,9 @@ module _ (e : InEvent) (t : Tables) (queue : Queue) (blame : List (StateId × Re
               let same : record its_asked.q { made = Some its_made } ≡ q = some_same (sym (ap (λ (o : Option Asked). option_map (λ (x : Asked). record x { made = Some its_made }) o) its_asked.there) ∙ sym (on_itself s.requests poke.req (λ (x : Asked). record x { made = Some its_made })) ∙ at) in
               (its_asked.q, its_asked.there, ap (λ (x : Asked). x.what) same)
 
-      pub made_acts : IsNoEdit what → e.actor ≡ actors.Proc proc → e.event ≡ e.start.events → e.own ≡ rows.Made proc (made_for view poke.req what) → HasActed check e [] t queue blame
-      made_acts no_edit by event own =
-          alone_acts e (actors.Proc proc) (rows.Made proc its_made) by own event t queue blame
+      pub made_acts : IsNoEdit what → e.before ≡ [] → e.actor ≡ actors.Proc proc → e.event ≡ e.start.events → e.own ≡ rows.Made proc (made_for view poke.req what) → HasActed check e [] t queue blame
+      made_acts no_edit uncut by event own =
+          alone_acts e (actors.Proc proc) (rows.Made proc its_made) by own uncut event t queue blame
           (subst (λ (n : ℕ). StandsFor check (next e.start n (actors.Proc proc) (rows.Made proc its_made)) t queue blame) (sym event) (made_stands no_edit))
           (made_passes e.header s proc poke its_asked.q its_asked.nav d view what to_act makes no_edit)
 
@@ -307,9 +307,9 @@ module _ (e : InEvent) (t : Tables) (queue : Queue) (blame : List (StateId × Re
         (refused_under s e.event (actors.Proc proc) poke.req reason stands.lasts.shows)
         (row_duly s e.event (actors.Proc proc) stands.lasts.duly (rows.Refused poke.req reason) tt)
 
-    pub refused_acts : e.actor ≡ actors.Proc proc → e.event ≡ e.start.events → e.own ≡ rows.Refused poke.req reason → Passes e.header (record { start = e.start; now = e.start; done = []; later = [] }) (record { event = e.start.events; actor = actors.Proc proc; row = rows.Refused poke.req reason }) → HasActed check e [] t queue blame
-    refused_acts by event own passes =
-        alone_acts e (actors.Proc proc) (rows.Refused poke.req reason) by own event t queue blame refused_stands passes
+    pub refused_acts : e.before ≡ [] → e.actor ≡ actors.Proc proc → e.event ≡ e.start.events → e.own ≡ rows.Refused poke.req reason → Passes e.header (record { start = e.start; now = e.start; done = []; later = [] }) (record { event = e.start.events; actor = actors.Proc proc; row = rows.Refused poke.req reason }) → HasActed check e [] t queue blame
+    refused_acts uncut by event own passes =
+        alone_acts e (actors.Proc proc) (rows.Refused poke.req reason) by own uncut event t queue blame refused_stands passes
 
   -- its document is gone, or doesn't run
   pub no_document_passes : is_running e.start poke.doc ≡ false → Passes e.header (record { start = e.start; now = e.start; done = []; later = [] }) (record { event = e.start.events; actor = actors.Proc proc; row = rows.Refused poke.req denials.NoDocument })

@@ -1,4 +1,5 @@
 -- A document edits itself on the first poke of its process: that is applied in the same event, and the coordinator that stood for the log stands for it still.
+use Rattle.tab_doors.proofs.Uncut.{uncut_pass}
 use Rattle.log_model.proofs.Refl.{nat_eq_refl}
 use Rattle.log_model.specs.After.{after, is_new_step}
 use Rattle.log_model.specs.AfterRequests.{entries_taken}
@@ -300,20 +301,20 @@ module _ (e : InEvent) (t : Tables) (queue : Queue) (blame : List (StateId × Re
   abbrev out : List RowKind
   out = rows.Applied poke.req kinds.Edit ∷ []
 
-  pub edit_acts : e.actor ≡ actors.Proc proc → e.event ≡ e.start.events → e.own ≡ rows.Made proc (made_for view poke.req whats.Edit) → HasActed check e (rows.Applied poke.req kinds.Edit ∷ []) t queue blame
-  edit_acts by event own =
+  pub edit_acts : e.before ≡ [] → e.actor ≡ actors.Proc proc → e.event ≡ e.start.events → e.own ≡ rows.Made proc (made_for view poke.req whats.Edit) → HasActed check e (rows.Applied poke.req kinds.Edit ∷ []) t queue blame
+  edit_acts uncut by event own =
       record {
         stands = subst (λ (x : Seen). StandsFor check x t queue blame) (sym came) edit_stands;
         passes =
-            subst (λ (r : LogRow). EachPass (start_of e) (r ∷ map (row_of e) out) []) (sym (own_row e (actors.Proc proc) (rows.Made proc its_made) by own))
+            uncut_pass e out [] uncut (subst (λ (r : LogRow). EachPass (start_of e) (r ∷ map (row_of e) out) []) (sym (own_row e (actors.Proc proc) (rows.Made proc its_made) by own))
             (subst (λ (a : Actor). EachPass (start_of e) ((let r : LogRow = record { event = e.event; actor = actors.Proc proc; row = rows.Made proc its_made } in r) ∷ (let r : LogRow = record { event = e.event; actor = a; row = rows.Applied poke.req kinds.Edit } in r) ∷ []) []) (sym by)
-            (subst (λ (i : ℕ). EachPass (start_of e) ((let r : LogRow = record { event = i; actor = actors.Proc proc; row = rows.Made proc its_made } in r) ∷ (let r : LogRow = record { event = i; actor = actors.Proc proc; row = rows.Applied poke.req kinds.Edit } in r) ∷ []) []) (sym event) both_pass));
+            (subst (λ (i : ℕ). EachPass (start_of e) ((let r : LogRow = record { event = i; actor = actors.Proc proc; row = rows.Made proc its_made } in r) ∷ (let r : LogRow = record { event = i; actor = actors.Proc proc; row = rows.Applied poke.req kinds.Edit } in r) ∷ []) []) (sym event) both_pass)));
       }
     where
       came : log_of e out ≡ n
       came =
           log_more e [] (rows.Applied poke.req kinds.Edit)
-          ∙ ap (λ (x : Seen). next x e.event e.actor (rows.Applied poke.req kinds.Edit)) (log_is e (actors.Proc proc) (rows.Made proc its_made) by own)
+          ∙ ap (λ (x : Seen). next x e.event e.actor (rows.Applied poke.req kinds.Edit)) (log_is e (actors.Proc proc) (rows.Made proc its_made) by own uncut)
           ∙ ap (λ (a : Actor). next (next s e.event (actors.Proc proc) (rows.Made proc its_made)) e.event a (rows.Applied poke.req kinds.Edit)) by
           ∙ ap (λ (i : ℕ). next (next s i (actors.Proc proc) (rows.Made proc its_made)) i (actors.Proc proc) (rows.Applied poke.req kinds.Edit)) event
 

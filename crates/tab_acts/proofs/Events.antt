@@ -1,4 +1,6 @@
 -- The rows of an event of a process, and what the log has come to with them.
+use Rattle.seen_laws.proofs.InEvents.{uncut_log}
+use Rattle.tab_doors.proofs.Uncut.{uncut_pass}
 use Rattle.seen_facts.proofs.Coord.Unread.{next}
 use Rattle.log_model.specs.Seen.{Seen}
 use Rattle.log_model.specs.declared.row_kind.Actor.{Actor}
@@ -20,18 +22,20 @@ module _ (e : InEvent) (actor : Actor) (kind : RowKind) (by : e.actor ≡ actor)
       ap (λ (a : Actor). let r : LogRow = record { event = e.event; actor = a; row = e.own } in r) by
       ∙ ap (λ (k : RowKind). let r : LogRow = record { event = e.event; actor = actor; row = k } in r) own
 
-  pub log_is : log_of e [] ≡ next e.start e.event actor kind
-  log_is =
-      ap (λ (a : Actor). next e.start e.event a e.own) by
+  -- nothing was put out before
+  pub log_is : e.before ≡ [] → log_of e [] ≡ next e.start e.event actor kind
+  log_is uncut =
+      uncut_log e uncut
+      ∙ ap (λ (a : Actor). next e.start e.event a e.own) by
       ∙ ap (λ (k : RowKind). next e.start e.event actor k) own
 
   -- an event of this row alone
-  module _ (event : e.event ≡ e.start.events) where
+  module _ (uncut : e.before ≡ []) (event : e.event ≡ e.start.events) where
     pub alone_acts : (t : Tables) (queue : Queue) (blame : List (StateId × ReqId)) → {check : InCheck} → StandsFor check (next e.start e.event actor kind) t queue blame → Passes e.header (record { start = e.start; now = e.start; done = []; later = [] }) (record { event = e.start.events; actor = actor; row = kind }) → HasActed check e [] t queue blame
     alone_acts t queue blame {check} stands passes =
         record {
-          stands = subst (λ (s : Seen). StandsFor check s t queue blame) (sym log_is) stands;
+          stands = subst (λ (s : Seen). StandsFor check s t queue blame) (sym (log_is uncut)) stands;
           passes =
-              subst (λ (r : LogRow). EachPass (start_of e) (r ∷ []) []) (sym own_row)
-              (subst (λ (i : ℕ). EachPass (start_of e) ((let r : LogRow = record { event = i; actor = actor; row = kind } in r) ∷ []) []) (sym event) (passes, tt));
+              uncut_pass e [] [] uncut (subst (λ (r : LogRow). EachPass (start_of e) (r ∷ []) []) (sym own_row)
+              (subst (λ (i : ℕ). EachPass (start_of e) ((let r : LogRow = record { event = i; actor = actor; row = kind } in r) ∷ []) []) (sym event) (passes, tt)));
         }

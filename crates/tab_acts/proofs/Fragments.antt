@@ -1,4 +1,5 @@
 -- A process finishes an order that sends a document to a fragment, and the document makes an entry of it: the coordinator that stood for the log stands for it still.
+use Rattle.tab_doors.proofs.Uncut.{uncut_pass}
 use Rattle.seen_facts.proofs.Coord.Held.{held_apart, on_else}
 use Rattle.seen_facts.proofs.Coord.Unread.{next}
 use Rattle.seen_facts.proofs.Entry.Stays.{its_number}
@@ -303,18 +304,18 @@ module _ (e : InEvent) (t : Tables) (queue : Queue) (blame : List (StateId × Re
       home : d.proc ≡ proc
       home = (in_hand_lives t.running s e.event proc stands.between.tab stands.between.flows order outcomes.Fragmented to.in_hand (subst (λ (k : Task). IsOutcomeOf k outcomes.Fragmented) (sym to.task) tt) tt).home d to.found
 
-  pub fragment_acts : e.actor ≡ actors.Proc proc → e.own ≡ rows.Finished proc order.job.nr outcomes.Fragmented → HasActed check e (rows.Made proc (made_for view req (fragment_of view mode address)) ∷ []) t queue blame
-  fragment_acts by own =
+  pub fragment_acts : e.before ≡ [] → e.actor ≡ actors.Proc proc → e.own ≡ rows.Finished proc order.job.nr outcomes.Fragmented → HasActed check e (rows.Made proc (made_for view req (fragment_of view mode address)) ∷ []) t queue blame
+  fragment_acts uncut by own =
       record {
         stands = subst (λ (x : Seen). StandsFor check x t queue blame) (sym came) fragment_stands;
         passes =
-            subst (λ (r : LogRow). EachPass (start_of e) (r ∷ map (row_of e) out) []) (sym (own_row e (actors.Proc proc) (rows.Finished proc order.job.nr outcomes.Fragmented) by own))
+            uncut_pass e out [] uncut (subst (λ (r : LogRow). EachPass (start_of e) (r ∷ map (row_of e) out) []) (sym (own_row e (actors.Proc proc) (rows.Finished proc order.job.nr outcomes.Fragmented) by own))
             (subst (λ (a : Actor). EachPass (start_of e) ((let r : LogRow = record { event = e.event; actor = actors.Proc proc; row = rows.Finished proc order.job.nr outcomes.Fragmented } in r) ∷ (let r : LogRow = record { event = e.event; actor = a; row = rows.Made proc made } in r) ∷ []) []) (sym by)
-            (fragment_event_passes e.header s e.event proc order req mode address d view in_hand load.q load.is.asked load.is.unmade));
+            (fragment_event_passes e.header s e.event proc order req mode address d view in_hand load.q load.is.asked load.is.unmade)));
       }
     where
       came : log_of e out ≡ n
       came =
           log_more e [] (rows.Made proc made)
-          ∙ ap (λ (x : Seen). next x e.event e.actor (rows.Made proc made)) (log_is e (actors.Proc proc) (rows.Finished proc order.job.nr outcomes.Fragmented) by own)
+          ∙ ap (λ (x : Seen). next x e.event e.actor (rows.Made proc made)) (log_is e (actors.Proc proc) (rows.Finished proc order.job.nr outcomes.Fragmented) by own uncut)
           ∙ ap (λ (a : Actor). next half e.event a (rows.Made proc made)) by

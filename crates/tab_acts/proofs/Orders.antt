@@ -94,9 +94,9 @@ module _ (e : InEvent) (t : Tables) (queue : Queue) (blame : List (StateId × Re
         (taken_under s e.event (actors.Proc proc) proc job.nr true dirty stands.lasts.shows)
         (row_duly s e.event (actors.Proc proc) stands.lasts.duly (rows.Taken proc job.nr true dirty) tt)
 
-    pub taken_acts : (by : e.actor ≡ actors.Proc proc) (event : e.event ≡ e.start.events) (is_dirty : dirty ≡ holds (λ (d : Document). holds (λ (view : View). view.dirty) d.view) (document_of e.start job.doc)) (own : e.own ≡ rows.Taken proc job.nr true dirty) → HasActed check e [] t queue blame
-    taken_acts by event is_dirty own =
-        alone_acts e (actors.Proc proc) (rows.Taken proc job.nr true dirty) by own event t queue blame taken_stands
+    pub taken_acts : (uncut : e.before ≡ []) (by : e.actor ≡ actors.Proc proc) (event : e.event ≡ e.start.events) (is_dirty : dirty ≡ holds (λ (d : Document). holds (λ (view : View). view.dirty) d.view) (document_of e.start job.doc)) (own : e.own ≡ rows.Taken proc job.nr true dirty) → HasActed check e [] t queue blame
+    taken_acts uncut by event is_dirty own =
+        alone_acts e (actors.Proc proc) (rows.Taken proc job.nr true dirty) by own uncut event t queue blame taken_stands
         (subst (λ (b : Bool). Passes e.header (record { start = e.start; now = e.start; done = []; later = [] }) (record { event = e.start.events; actor = actors.Proc proc; row = rows.Taken proc job.nr true b })) (sym is_dirty)
         (taken_passes e.header s s.events proc job free first (taken_lives t.running s e.event proc stands.between.tab stands.between.flows job dirty free first)))
 
@@ -251,6 +251,6 @@ module _ (e : InEvent) (t : Tables) (queue : Queue) (blame : List (StateId × Re
           suits = rw hand done_.slotted;
         }
 
-    pub finished_acts : HasNoPages e.header → e.actor ≡ actors.Proc proc → e.event ≡ e.start.events → e.own ≡ rows.Finished proc order.job.nr outcome → HasActed check e [] t queue blame
-    finished_acts pages by event own =
-        alone_acts e (actors.Proc proc) (rows.Finished proc order.job.nr outcome) by own event t queue blame finished_stands (finished_passes pages)
+    pub finished_acts : HasNoPages e.header → e.before ≡ [] → e.actor ≡ actors.Proc proc → e.event ≡ e.start.events → e.own ≡ rows.Finished proc order.job.nr outcome → HasActed check e [] t queue blame
+    finished_acts pages uncut by event own =
+        alone_acts e (actors.Proc proc) (rows.Finished proc order.job.nr outcome) by own uncut event t queue blame finished_stands (finished_passes pages)

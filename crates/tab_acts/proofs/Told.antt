@@ -16,7 +16,7 @@ use Rattle.row_facts.proofs.Owed.Ends.{loose_owed, owed_paid}
 use Rattle.row_facts.proofs.RestRows.Rows.{delivered_rests}
 use Rattle.seen_facts.proofs.Request.Readers.{SameReads}
 use Rattle.seen_laws.proofs.InEvents.{legal_end}
-use Rattle.seen_laws.specs.InEvent.{InEvent}
+use Rattle.seen_laws.specs.InEvent.{InEvent, later_of}
 use Rattle.std.proofs.Common.{Bool, List, None, Option, Some, [], ap, arith, false, inl, inr, length, map, refl, subst, sym, true, ◌&&◌, ◌==◌, ◌∙◌, ◌≡◌, ◌≤◌, ◌⊎◌}
 use Rattle.std.proofs.lemmas.List.{map-id}
 use Rattle.std.specs.Map.{lookup}
@@ -147,5 +147,5 @@ module _ (e : InEvent) (proc : ProcId) (job : Job) (outcome : Outcome) (del : Is
         passes =
             legal_end e [] (told_legal e proc del.by_coord del.own t queue blame stands aside (reports.Done job outcome None) del.first)
             (paid_log e [] begun.passing.work (owed_paid e [] (loose_owed e [] begun.loose)))
-            (did_takes e proc job outcome del t queue blame stands aside []);
+            (did_takes e proc job outcome del t queue blame stands aside (later_of e []));
       }

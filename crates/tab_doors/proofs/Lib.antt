@@ -36,3 +36,4 @@ pub mod Noted
 pub mod Filtered
 pub mod Readied
 pub mod PassedOn
+pub mod Uncut

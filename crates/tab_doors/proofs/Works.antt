@@ -59,7 +59,7 @@ use Rattle.page_cache.specs.Kept.{Kept, without}
 use Rattle.seen_facts.proofs.Request.Readers.{SameReads}
 use Rattle.seen_laws.proofs.InEvents.{goes_more, log_more, now_is, now_more}
 use Rattle.seen_laws.specs.Blocks.{Here, on_row, on_rows}
-use Rattle.seen_laws.specs.InEvent.{EachGoes, GoesThere, InEvent, IsReadOff, first_of, here_of, is_seen, log_of, now_of, row_of}
+use Rattle.seen_laws.specs.InEvent.{EachGoes, GoesThere, InEvent, IsReadOff, first_of, here_of, is_seen, log_of, now_of, own_of, row_of, rows_of}
 use Rattle.seen_laws.specs.Sending.{IsNumbered, is_passed}
 use Rattle.std.proofs.Common.{Bool, List, None, Option, Some, [], ap, append-nil, append_assoc, arith, false, length, length-append, map, refl, subst, sym, true, ℕ, ◌++◌, ◌+◌, ◌∙◌, ◌∷◌, ◌≡◌, ◌≤◌, not, ◌&&◌}
 use Rattle.std.specs.Option.{IsSome}
@@ -210,6 +210,7 @@ module _ {from : Option Move} (e : InEvent) (out : List RowKind) (kind : RowKind
         numbered = work.numbered;
         read = read_more e out kind work.read (record { numbered = checks_.numbered; others = checks_.others });
         sole = soles_more e out kind begins work.sole;
+        debts = work.debts;
         checks = checks_;
         unheld =
             subst (λ (s : Seen). NoStepChecks e.checking s) (sym (log_more e out kind))
@@ -287,7 +288,7 @@ on_header h [] = refl
 on_header h (row ∷ more) = on_header (on_row h row) more
 
 pub header_here : (e : InEvent) (out : List RowKind) → (here_of e out).header ≡ e.header
-header_here e out = on_header (first_of e) (map (row_of e) out)
+header_here e out = on_header (first_of e) (map (row_of e) out) ∙ on_header (own_of e) (map (row_of e) e.before)
 
 -- it began where the event did
 on_start : (h : Here) (more : List LogRow) → (on_rows h more).start ≡ h.start
@@ -295,15 +296,17 @@ on_start h [] = refl
 on_start h (row ∷ more) = on_start (on_row h row) more
 
 pub start_here : (e : InEvent) (out : List RowKind) → (here_of e out).start ≡ e.start
-start_here e out = on_start (first_of e) (map (row_of e) out)
+start_here e out = on_start (first_of e) (map (row_of e) out) ∙ on_start (own_of e) (map (row_of e) e.before)
 
 -- and its rows are the own one and those put out
 on_done : (h : Here) (more : List LogRow) → (on_rows h more).done ≡ h.done ++ more
 on_done h [] = sym (append-nil h.done)
 on_done h (row ∷ more) = on_done (on_row h row) more ∙ append_assoc h.done (row ∷ []) more
 
-pub done_here : (e : InEvent) (out : List RowKind) → (here_of e out).done ≡ row_of e e.own ∷ map (row_of e) out
-done_here e out = on_done (first_of e) (map (row_of e) out)
+pub done_here : (e : InEvent) (out : List RowKind) → (here_of e out).done ≡ rows_of e out
+done_here e out =
+    on_done (first_of e) (map (row_of e) out)
+    ∙ ap (λ (l : List LogRow). l ++ map (row_of e) out) (on_done (own_of e) (map (row_of e) e.before))
 
 -- an order keeps what is held back
 pub sent_held : (e : InEvent) (out : List RowKind) (job : Job) → KeepsHeld e out (rows.Sent job)

@@ -1,7 +1,7 @@
 -- A coordinator that works in an event: its tables stand for what the log has come to, and the rows so far pass.
 -- This project's own.
 use Rattle.unasked_dues.specs.Checking.{AreNumbered, NoStepChecks}
-use Rattle.unasked_dues.specs.Reading.{BeginSole, WereRead}
+use Rattle.unasked_dues.specs.Reading.{AreDebts, BeginSole, WereRead}
 use Rattle.checking_facts.specs.Checks.{AreInCheck}
 use Rattle.tab_doors.specs.Look.{Look, look_of}
 use Rattle.tab_doors.specs.Keeping.{Move, kept_in}
@@ -88,8 +88,9 @@ pub record IsAtWorkFor (move : Option Move) (e : InEvent) (out : List RowKind) (
   pub goes : EachGoes e [] out
   pub numbered : AreNumbered e.start
   pub read : WereRead e out
-  -- each load that began among the rows is the only one of its navigable
+  -- each load that began among the rows is the only one of its navigable; and what those before the cut owe is paid in the log if it is in the log without questions
   pub sole : BeginSole e out (log_of e out)
+  pub debts : AreDebts e
   -- it is known who is in a check: no step that is under way
   pub checks : AreInCheck e.checking (log_of e out)
   pub unheld : NoStepChecks e.checking (log_of e out)

@@ -12,7 +12,7 @@ use Rattle.row_facts.proofs.Owed.Requests.{req_same}
 use Rattle.seen_facts.proofs.Request.LookUps.{on_itself}
 use Rattle.seen_facts.proofs.Request.Readers.{IsBlind, SameReads, delivered_reads, finished_reads, on_read, reads_then, sent_reads}
 use Rattle.seen_laws.specs.Blocks.{Here, on_row, on_rows, point_at}
-use Rattle.seen_laws.specs.InEvent.{InEvent, first_of, now_of, row_of, seen_here, log_of}
+use Rattle.seen_laws.specs.InEvent.{InEvent, first_of, now_of, own_of, row_of, seen_here, log_of}
 use Rattle.seen_laws.specs.Unasked.{unasked_request, unbegun, without_asks}
 use Rattle.std.proofs.Common.{Bool, List, None, Option, Some, [], ap, cond, false, map, refl, subst, sym, true, zero, suc, ℕ, ◌++◌, ◌-◌, ◌==◌, ◌∙◌, ◌∷◌, ◌≡◌}
 use Rattle.std.specs.Prelude.{if◌then◌else◌, is_some, option_map, slice_get}
@@ -130,7 +130,7 @@ outcome_now : (e : InEvent) (out : List RowKind) (req : ReqId) → HasOutcome e.
 unfolding now_of
 outcome_now e out req has =
     as_seen e.checking (log_of e out).requests req
-    ∙ outcome_on (first_of e) (map (row_of e) out) req (outcome_stays e.start (row_of e e.own) req has)
+    ∙ outcome_on (first_of e) (map (row_of e) out) req (outcome_on (own_of e) (map (row_of e) e.before) req (outcome_stays e.start (row_of e e.own) req has))
 
 -- a request that is open had no outcome before the event
 pub open_before : (e : InEvent) (out : List RowKind) (req : ReqId) (q : Asked) → request_of (now_of e out) req ≡ Some q → q.ending ≡ None → had_ended (point_at (seen_here e out) []) req ≡ false

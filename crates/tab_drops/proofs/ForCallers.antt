@@ -10,7 +10,7 @@ use Rattle.log_model.specs.declared.row_kind.Actor.{Actor}
 use Rattle.seen_facts.proofs.Request.LookUps.{on_itself}
 use Rattle.row_facts.proofs.WalkRows.Needs.{need_not_all_stand}
 use Rattle.row_facts.specs.WalkRows.Since.{IsVisitedInNeed}
-use Rattle.log_model.specs.Equal.{holds}
+use Rattle.log_model.specs.Equal.{has_req, holds}
 use Rattle.log_model.specs.Places.{aim_of, all_stand, is_load, is_ongoing_load, is_reload}
 use Rattle.log_model.specs.Points.{nav_of_request}
 use Rattle.log_model.specs.Seen.{Asked, Place, Seen, place_of, request_of}
@@ -21,6 +21,7 @@ use Rattle.std.proofs.Common.{Bool, List, Option, Some, [], ap, false, inl, inr,
 use Rattle.std.proofs.lemmas.Bool.{and_parts, or_right}
 use Rattle.std.specs.List.{list_all}
 use Rattle.std.specs.Prelude.{option_map}
+use Rattle.tab_doors.proofs.Uncut.{uncut_held}
 use Rattle.tab_doors.specs.declared.tables.Tables.{Tables}
 use Rattle.tab_drops.proofs.Drops.{unheld}
 use Rattle.tab_drops.proofs.Loads.{IsAskedFor, IsNavLoad, asked_for, nav_load}
@@ -36,9 +37,9 @@ use Rattle.log_model.specs.declared.row_kind.RowKind.TheVariants as rows
 pub use Rattle.tab_drops.proofs.Spans.{unheld_on}
 
 -- as the event begins
-pub unheld_first : (p : InPass) (t : Tables) → IsPassing p [] t → AreUnheld p.event (now_of p.event [])
-unfolding now_of
-unheld_first p t pass req nav load = (unheld p [] t pass req nav load).parked
+pub unheld_first : (p : InPass) (t : Tables) → p.event.before ≡ [] → IsPassing p [] t → AreUnheld p.event (now_of p.event [])
+unheld_first p t uncut pass req nav load =
+    ap (λ (l : List ReqId). has_req l req) (sym (uncut_held p.event uncut)) ∙ (unheld p [] t pass req nav load).parked
 
 -- one of several that pass a test
 all_has : {A : Type 0} (test : A → Bool) (xs : List A) (x : A) → list_all test xs ≡ true → Has xs x → test x ≡ true

@@ -1,4 +1,5 @@
 -- A load is asked for while the coordinator stands for the log: what is so once its row was logged, and that it is refused where a reason stands against it.
+use Rattle.row_facts.proofs.Owed.Rows.{refused_lasts}
 use Rattle.tab_stands.proofs.Begun.{start_nobody}
 use Rattle.tab_facts.specs.TabWhole.Tab.{at_hand}
 use Rattle.tab_doors.proofs.PassedOn.{refused_goes}
@@ -17,7 +18,7 @@ use Rattle.log_model.specs.declared.row_kind.RowKind.{RowKind}
 use Rattle.seen_facts.proofs.Coord.Unread.{next}
 use Rattle.move_queue.specs.Queue.{Queue}
 use Rattle.row_facts.specs.Owed.Owed.{IsLoose}
-use Rattle.row_facts.proofs.Owed.Ends.{loose_owed}
+use Rattle.row_facts.proofs.Owed.Ends.{loose_owed, loose_first, loose_more}
 use Rattle.seen_facts.proofs.Request.LookUps.{none_before as none_in, others_before}
 use Rattle.seen_facts.proofs.Request.Times.{times_none}
 use Rattle.seen_facts.specs.Request.Whereabouts.{times_found}
@@ -86,7 +87,7 @@ module _ (e : InEvent) (t : Tables) (queue : Queue) (blame : List (StateId × Re
   module _ (reason : Denial) (denied : denial_at_acceptance e.start (requests.Load nav mode address) ≡ Some reason) where
     pub refuse_now : IsDeniedLoad e req reason × AreTied (now_of e []) t
     refuse_now = (
-      record { unchecked = asks.aside.unchecked; numbered = λ r q at. (stands.between.tab.asked.each r q at).nr; checks = checks_first e asks.aside t.running (load_denied e t queue blame stands room header req nav mode address asks).going.tab.asked; plain = asks.aside.plain; before = start_nobody e asks.aside; nav = nav; mode = mode; address = address; by_user = asks.by_user; own = asks.own; next = asks.next; reason_is = denied; unparked = unparked_before },
+      record { uncut = asks.aside.uncut; unchecked = asks.aside.unchecked; numbered = λ r q at. (stands.between.tab.asked.each r q at).nr; checks = checks_first e asks.aside t.running (load_denied e t queue blame stands room header req nav mode address asks).going.tab.asked; plain = asks.aside.plain; before = start_nobody e asks.aside; nav = nav; mode = mode; address = address; by_user = asks.by_user; own = asks.own; next = asks.next; reason_is = denied; unparked = unparked_before },
       load_tied e t queue blame stands asks.aside room header req nav mode address asks.by_user asks.own asks.next,
     )
 
@@ -94,7 +95,8 @@ module _ (e : InEvent) (t : Tables) (queue : Queue) (blame : List (StateId × Re
     its = load_denied e t queue blame stands room header req nav mode address asks
 
     loose : IsLoose e (rows.Refused req reason ∷ [])
-    loose end on = refl
+    loose =
+        loose_more e [] (rows.Refused req reason) (refused_goes e [] req reason).read (loose_first e asks.aside.undue) (refused_lasts (now_of e []) e.event e.actor req reason) (λ end lasts. refl)
 
     pub refused_came : (out : List RowKind) → out ≡ rows.Refused req reason ∷ [] → CameTo e req nav mode address out Refused
     refused_came out out_is = record { reason = reason; due = denied; is = out_is }

@@ -1,4 +1,6 @@
 -- The own row of a load was logged against which a reason stands: all goes on with the load at hand, and a pass may follow once it is refused.
+use Rattle.seen_laws.proofs.InEvents.{uncut_log}
+use Rattle.tab_doors.proofs.Uncut.{uncut_held}
 use Rattle.log_model.specs.After.{after}
 use Rattle.tab_stands.proofs.PassedOn.{AreLeftDuly, row_duly}
 use Rattle.seen_facts.specs.LoadWhereabouts.Whereabouts.{times_on_way, ways_of}
@@ -72,11 +74,10 @@ module _ (e : InEvent) (t : Tables) (queue : Queue) (blame : List (StateId × Re
 
   -- an ongoing load is on its way, and so isn't held back
   unheld : AreUnheld e (now_of e [])
-  unfolding now_of
   unheld r n load_ =
       let its : IsAskedFor (now_of e []) r n = asked_for (now_of e []) r n load_ in
       let way : 0 < times_on_way (request_in (now_of e []).requests r) = subst (λ (o : Option Asked). 0 < times_on_way o) (sym its.at) (let one : 0 < ways_of its.q = rw its.ongoing (omega arith) in one) in
-      (way_unheld t.running (req ∷ check.loads) [] (now_of e []) tab r way).parked
+      ap (λ (l : List ReqId). has_req l r) (sym (uncut_held e asks.aside.uncut)) ∙ (way_unheld t.running (req ∷ check.loads) [] (now_of e []) tab r way).parked
 
   taking : IsTaking e t.running blame (now_of e [])
   taking =
@@ -99,7 +100,7 @@ module _ (e : InEvent) (t : Tables) (queue : Queue) (blame : List (StateId × Re
           absurd cc
 
   turning : IsTurning e []
-  turning = turning_first e tab.known early asks.aside.plain
+  turning = turning_first e asks.aside.uncut tab.known early asks.aside.plain
 
   queued : HasQueue (now_of e []) t.running queue.waiting
   queued =
@@ -115,6 +116,6 @@ module _ (e : InEvent) (t : Tables) (queue : Queue) (blame : List (StateId × Re
         late = late_first blame e.start (now_of e []) comes t.running tab.standing stands.lasts.off;
         moved = moved_coming blame e.start (now_of e []) comes t.running stands.between.tab.asked stands.lasts.moved;
         theirs = comes.theirs;
-        duly = subst AreLeftDuly (sym (ap (λ (k : RowKind). after e.start (row_of e k)) asks.own)) (row_duly e.start e.event e.actor stands.lasts.duly (rows.Accepted req None load) asks.next);
+        duly = subst AreLeftDuly (sym (uncut_log e asks.aside.uncut ∙ ap (λ (k : RowKind). after e.start (row_of e k)) asks.own)) (row_duly e.start e.event e.actor stands.lasts.duly (rows.Accepted req None load) asks.next);
         queueing = queueing_now e req None load asks.by_user asks.own asks.next asks.aside t queue blame stands (req ∷ check.loads) queue aim turning queued refl;
       }

@@ -1,4 +1,6 @@
 -- The load as its event begins: it is there by the next number, open and unstarted, at hand and nowhere else.
+use Rattle.seen_laws.proofs.InEvents.{uncut_first}
+use Rattle.tab_doors.proofs.Uncut.{uncut_held, uncut_now}
 use Rattle.seen_facts.proofs.Coord.Unread.{next}
 use Rattle.load_doors.specs.Loading.{IsOpenHere}
 use Rattle.log_model.specs.After.{new_request}
@@ -32,13 +34,13 @@ module _ (e : InEvent) (req : ReqId) (nav : NavId) (mode : Mode) (address : List
   q = new_request req None (requests.Load nav mode address)
 
   pub first_is : now_of e [] ≡ next e.start e.event e.actor (rows.Accepted req None (requests.Load nav mode address))
-  first_is = sym asks.aside.plain ∙ ap (λ (k : RowKind). next e.start e.event e.actor k) asks.own
+  first_is = sym (uncut_now e asks.aside.uncut asks.aside.plain) ∙ ap (λ (k : RowKind). next e.start e.event e.actor k) asks.own
 
   pub found : request_of (now_of e []) req ≡ Some q
   found = ap (λ (s : Seen). request_of s req) first_is ∙ one_more e.start.requests q req asks.next
 
   pub accepted_here : is_accepted_here (point_at (here_of e []) []) req ≡ true
-  accepted_here = (let number = asks.next in let more : nat_lt (length e.start.requests) req.0 ≡ true = grind (arith, nat_tests, number) in more)
+  accepted_here = subst (λ (h : Here). is_accepted_here (point_at h []) req ≡ true) (sym (uncut_first e asks.aside.uncut)) (let number = asks.next in let more : nat_lt (length e.start.requests) req.0 ≡ true = grind (arith, nat_tests, number) in more)
 
   -- so in the log as it would be had nobody been asked
   pub accepted_seen : is_accepted_here (point_at (seen_here e []) []) req ≡ true
@@ -69,5 +71,4 @@ module _ (e : InEvent) (req : ReqId) (nav : NavId) (mode : Mode) (address : List
         times_none req (now_of e []).parked (let all = at_most_once run (req ∷ behind) [] (now_of e []) tab req in omega (arith, all, own))
 
     pub open_here : IsOpenHere e [] req
-    unfolding now_of
-    open_here = record { asked = q; at = found; open_ = refl; unparked = unparked; unheld = unparked }
+    open_here = record { asked = q; at = found; open_ = refl; unparked = unparked; unheld = ap (λ (l : List ReqId). has_req l req) (sym (uncut_held e asks.aside.uncut)) ∙ unparked }

@@ -1,4 +1,6 @@
 -- A pass may follow once the document of a load that has begun is being made.
+use Rattle.std.specs.List.{list_any}
+use Rattle.log_model.specs.Queue.{is_traverse}
 use Rattle.seen_facts.specs.Asked.Asking.{ArePlain}
 use Rattle.seen_facts.proofs.Coord.Unread.{next}
 use Rattle.tab_facts.specs.Frame.Lasting.{wish}
@@ -10,8 +12,8 @@ use Rattle.log_model.specs.Seen.{Asked, Document, Place, Seen, document_of, plac
 use Rattle.log_model.specs.declared.job.Job.{Job}
 use Rattle.log_model.specs.declared.row_kind.RowKind.{RowKind}
 use Rattle.seen_facts.proofs.Request.Readers.{SameReads, reads_then}
-use Rattle.seen_laws.specs.InEvent.{now_of}
-use Rattle.std.proofs.Common.{List, None, Option, Some, [], ap, append_assoc, false, inl, inr, refl, subst, sym, ℕ, ◌++◌, ◌+◌, ◌∙◌, ◌∷◌, ◌≡◌, ◌⊎◌}
+use Rattle.seen_laws.specs.InEvent.{now_of, row_of}
+use Rattle.std.proofs.Common.{List, None, Option, Some, [], ap, append_assoc, false, inl, inr, refl, subst, sym, ℕ, ◌++◌, ◌+◌, ◌∙◌, ◌∷◌, ◌≡◌, ◌⊎◌, map}
 use Rattle.tab_doors.specs.Orders.{next_order}
 use Rattle.tab_doors.specs.Working.{IsAtWork, KeepsRun, KeepsStore}
 use Rattle.tab_doors.specs.declared.tables.Tables.{Tables}
@@ -180,11 +182,14 @@ module _ (l : InLoad) (t : Tables) (asked : IsAsked l t) (placed_ : away_in t l.
   last_all = last_is ∙ ap (λ (o : List RowKind). o ++ rows.Sent order ∷ []) now_is
 
   pub unapplied : has_traversed l.event last ≡ false
-  unapplied = ap (λ (o : List RowKind). has_traversed l.event o) last_all ∙ by_case way.which
+  unapplied =
+      ap (λ (o : List RowKind). has_traversed l.event o) last_all
+      ∙ ap (λ (o : List RowKind). list_any is_traverse (map (row_of l.event) o ++ map (row_of l.event) (whole out))) asked.asks.aside.uncut
+      ∙ by_case way.which
     where
-      by_case : HasNone l.nav t v out l.noted noted ⊎ HasDropped l.req l.nav t v out l.noted noted → has_traversed l.event (whole out) ≡ false
-      by_case (inl it) = ap (λ (o : List RowKind). has_traversed l.event (whole o)) it.out_is
-      by_case (inr it) = ap (λ (o : List RowKind). has_traversed l.event (whole o)) it.out_is
+      by_case : HasNone l.nav t v out l.noted noted ⊎ HasDropped l.req l.nav t v out l.noted noted → list_any is_traverse (map (row_of l.event) (whole out)) ≡ false
+      by_case (inl it) = ap (λ (o : List RowKind). list_any is_traverse (map (row_of l.event) (whole o))) it.out_is
+      by_case (inr it) = ap (λ (o : List RowKind). list_any is_traverse (map (row_of l.event) (whole o))) it.out_is
 
   pub parked_last : (now_of l.event last).parked ≡ s.parked
   parked_last = ap (λ (x : Seen). x.parked) is_fin ∙ ap (λ (x : Seen). x.parked) is_then ∙ made.parked

@@ -1,4 +1,5 @@
 -- A pass may follow once the load was refused or dropped, or a document was sent to a fragment for it, by the first row that was put out.
+use Rattle.std.specs.List.{list_any}
 use Rattle.seen_facts.proofs.Coord.Held.{held_alike}
 use Rattle.seen_facts.proofs.Coord.Unread.{next}
 use Rattle.seen_facts.specs.Coord.Leading.{held_back}
@@ -15,7 +16,7 @@ use Rattle.move_queue.specs.Queue.{Queue}
 use Rattle.seen_facts.proofs.Request.Readers.{SameReads}
 use Rattle.seen_laws.proofs.InEvents.{now_more}
 use Rattle.seen_laws.specs.InEvent.{InEvent, now_of, row_of, GoesThere}
-use Rattle.std.proofs.Common.{Bool, List, Option, [], ap, false, inl, inr, refl, subst, sym, true, ℕ, ◌||◌, ◌∙◌, ◌∷◌, ◌≡◌, ◌⊎◌}
+use Rattle.std.proofs.Common.{Bool, List, Option, [], ap, false, inl, inr, refl, subst, sym, true, ℕ, ◌||◌, ◌∙◌, ◌∷◌, ◌≡◌, ◌⊎◌, map, ◌++◌}
 use Rattle.tab_doors.specs.declared.tables.Tables.{Tables}
 use Rattle.tab_facts.specs.TabGoing.Going.{IsGoing}
 use Rattle.tab_ids.specs.declared.NavId.{NavId}
@@ -99,7 +100,9 @@ module _ (e : InEvent) (req : ReqId) (nav : NavId) (mode : Mode) (address : List
 
     none_applied : has_traversed e new ≡ false
     none_applied =
-        ap (λ (l : List RowKind). has_traversed e l) out_is ∙ or_none (is_traverse (row_of e row)) unapplied
+        ap (λ (l : List RowKind). has_traversed e l) out_is
+        ∙ ap (λ (l : List RowKind). list_any is_traverse (map (row_of e) l ++ row_of e row ∷ [])) asks.aside.uncut
+        ∙ or_none (is_traverse (row_of e row)) unapplied
 
     open_now : IsTaking e u.running blame (now_of e new)
     open_now =

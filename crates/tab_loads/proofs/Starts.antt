@@ -20,7 +20,7 @@ use Rattle.log_model.specs.declared.row_kind.RowKind.{RowKind}
 use Rattle.seen_facts.proofs.Rest.Still.{found_itself}
 use Rattle.seen_laws.specs.Blocks.{Here, point_at}
 use Rattle.seen_laws.specs.InEvent.{InEvent, here_of, now_of, log_of}
-use Rattle.std.proofs.Common.{Bool, List, None, Option, Some, [], ap, arith, false, inl, inr, length, not, refl, subst, sym, true, ℕ, ◌+◌, ◌<◌, ◌==◌, ◌||◌, ◌∙◌, ◌≡◌, ◌≤◌, ◌⊎◌, ◌&&◌}
+use Rattle.std.proofs.Common.{Bool, List, None, Option, Some, [], ap, arith, false, inl, inr, length, not, refl, subst, sym, true, ℕ, ◌+◌, ◌<◌, ◌==◌, ◌||◌, ◌∙◌, ◌≡◌, ◌≤◌, ◌⊎◌, ◌&&◌, ◌++◌}
 use Rattle.std.proofs.lemmas.Bool.Decides.{nat_tests}
 use Rattle.std.proofs.lemmas.Bool.{and_parts}
 use Rattle.std.specs.List.{list_all, list_any}
@@ -201,8 +201,8 @@ module _ (l : InLoad) (t : Tables) (asked : IsAsked l t) (placed_ : away_in t l.
   sole = subst (λ (x : Seen). has_no_earlier_load x l.req l.nav ≡ true) (sym plain) alone_now
 
   -- no request has begun in this event
-  none_began : list_any is_beginning out ≡ false
-  none_began = by_way way.which
+  none_began : list_any is_beginning (l.event.before ++ out) ≡ false
+  none_began = ap (λ (x : List RowKind). list_any is_beginning (x ++ out)) asked.asks.aside.uncut ∙ by_way way.which
     where
       by_way : HasNone l.nav t v out l.noted noted ⊎ HasDropped l.req l.nav t v out l.noted noted → list_any is_beginning out ≡ false
       by_way (inl it) = ap (λ (x : List RowKind). list_any is_beginning x) it.out_is

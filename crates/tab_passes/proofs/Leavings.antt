@@ -58,6 +58,7 @@ begun_work e out t doc left states work is =
       numbered = work.numbered;
       read = work.read;
       sole = work.sole;
+      debts = work.debts;
       checks = work.checks;
       unheld = work.unheld;
       holds = record {

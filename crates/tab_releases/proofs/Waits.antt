@@ -32,15 +32,15 @@ use Rattle.seen_facts.proofs.Request.Times.{itself, times_none}
 use Rattle.seen_facts.specs.Request.Cores.{Core, core, core_of}
 use Rattle.seen_facts.specs.Request.Knowns.{AllOf, IsMadeOf, IsParked, req_itself}
 use Rattle.seen_facts.specs.Request.Whereabouts.{times, times_at, times_due, times_found}
+use Rattle.seen_laws.proofs.InEvents.{later_more}
 use Rattle.seen_laws.proofs.Sendings.{both}
 use Rattle.seen_laws.proofs.Startings.{implied}
 use Rattle.seen_laws.proofs.Sums.{over}
-use Rattle.seen_laws.specs.InEvent.{InEvent, here_of, now_of, row_of}
-use Rattle.std.proofs.Common.{Bool, List, None, Option, Some, [], ap, arith, cond, false, inl, inr, length, map, refl, subst, sym, true, ℕ, ◌++◌, ◌+◌, ◌-◌, ◌<◌, ◌==◌, ◌||◌, ◌∙◌, ◌∷◌, ◌≡◌, ◌≤◌, ◌⊎◌}
+use Rattle.seen_laws.specs.InEvent.{InEvent, here_of, later_of, now_of, row_of}
+use Rattle.std.proofs.Common.{Bool, List, None, Option, Some, [], ap, arith, cond, false, inl, inr, length, refl, subst, sym, true, ℕ, ◌++◌, ◌+◌, ◌-◌, ◌<◌, ◌==◌, ◌||◌, ◌∙◌, ◌∷◌, ◌≡◌, ◌≤◌, ◌⊎◌}
 use Rattle.std.proofs.lemmas.Bool.Decides.{nat_tests}
 use Rattle.std.proofs.lemmas.Bool.{or_left, or_right}
 use Rattle.std.proofs.lemmas.List.Folds.{list_any-append}
-use Rattle.std.proofs.lemmas.List.{map-append}
 use Rattle.std.proofs.lemmas.Option.{slice_get_within}
 use Rattle.std.specs.List.{list_any}
 use Rattle.std.specs.Prelude.{nat_lt, option_map, slice_get}
@@ -141,8 +141,8 @@ none_held s known none = by_parked s.parked refl known none
 -- once its rows have applied a traversal they have, whatever comes later
 pub traversed_on : (e : InEvent) (out : List RowKind) (kind : RowKind) → has_traversed e out ≡ true → has_traversed e (out ++ kind ∷ []) ≡ true
 traversed_on e out kind is =
-    ap (λ (l : List LogRow). list_any is_traverse l) (map-append (row_of e) out (kind ∷ []))
-    ∙ list_any-append is_traverse (map (row_of e) out) (row_of e kind ∷ [])
+    ap (λ (l : List LogRow). list_any is_traverse l) (later_more e out (kind ∷ []))
+    ∙ list_any-append is_traverse (later_of e out) (row_of e kind ∷ [])
     ∙ or_left (has_traversed e out) (list_any is_traverse (row_of e kind ∷ [])) is
 
 traversed_here : (e : InEvent) (out : List RowKind) → has_traversed e out ≡ true → list_any is_traverse (here_of e out).done ≡ true

@@ -1,5 +1,5 @@
 -- The traversal that ran has ended: what was held back for it may be taken up, and then a pass may follow.
-use Rattle.seen_laws.proofs.InEvents.{now_at}
+use Rattle.seen_laws.proofs.InEvents.{later_more, now_at}
 use Rattle.tab_facts.proofs.Calm.Awakes.{calm_stood}
 use Rattle.tab_facts.proofs.Calm.Loads.{loads_same}
 use Rattle.tab_facts.specs.Calm.Calm.{CalmUnless, IsCalmYet}
@@ -18,11 +18,10 @@ use Rattle.log_model.specs.declared.row_kind.LogRow.{LogRow}
 use Rattle.log_model.specs.declared.row_kind.RowKind.{RowKind}
 use Rattle.move_queue.specs.Queue.{Queue}
 use Rattle.row_facts.specs.Owed.Owed.{IsLoose}
-use Rattle.seen_laws.specs.InEvent.{InEvent, now_of, row_of, EachGoes}
+use Rattle.seen_laws.specs.InEvent.{InEvent, later_of, now_of, row_of, EachGoes}
 use Rattle.std.proofs.Common.{Bool, List, None, Option, Some, [], ap, append-nil, arith, false, inl, inr, length, map, refl, subst, sym, true, ◌++◌, ◌∙◌, ◌∷◌, ◌≡◌, ◌≤◌, ◌⊎◌}
 use Rattle.std.proofs.lemmas.Bool.{and_parts, or_right}
 use Rattle.std.proofs.lemmas.List.Folds.{list_any-append}
-use Rattle.std.proofs.lemmas.List.{map-append}
 use Rattle.std.specs.List.{last_or, list_any}
 use Rattle.std.specs.Prelude.{is_some}
 use Rattle.tab_releases.specs.PassedOn.{IsOfTurn, HasEnded, HasPassed, HasQueue, MayHaveEnded, is_through, show_why}
@@ -155,9 +154,9 @@ module _ (p : InPass) (out : List RowKind) (t : Tables) (queue : Queue) (blame :
   traversed_m : has_traversed e mid ≡ true
   traversed_m =
       ap (λ (l : List RowKind). has_traversed e l) ended.out
-      ∙ ap (λ (l : List LogRow). list_any is_traverse l) (map-append (row_of e) out (kind ∷ []))
-      ∙ list_any-append is_traverse (map (row_of e) out) (row_of e kind ∷ [])
-      ∙ or_right (list_any is_traverse (map (row_of e) out)) (list_any is_traverse (row_of e kind ∷ [])) refl
+      ∙ ap (λ (l : List LogRow). list_any is_traverse l) (later_more e out (kind ∷ []))
+      ∙ list_any-append is_traverse (later_of e out) (row_of e kind ∷ [])
+      ∙ or_right (list_any is_traverse (later_of e out)) (list_any is_traverse (row_of e kind ∷ [])) refl
 
   releasing_m : (y.parked ≡ [] → ⊥) → IsReleasing e mid
   releasing_m some =

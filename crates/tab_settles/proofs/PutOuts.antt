@@ -22,12 +22,11 @@ use Rattle.log_model.specs.declared.row_kind.Actor.{Actor}
 use Rattle.log_model.specs.declared.row_kind.LogRow.{LogRow}
 use Rattle.log_model.specs.declared.row_kind.RowKind.{RowKind}
 use Rattle.seen_facts.proofs.Request.Readers.{on_read, reads_then, sent_reads}
-use Rattle.seen_laws.proofs.InEvents.{now_step}
-use Rattle.seen_laws.specs.InEvent.{InEvent, now_of, row_of, GoesThere}
+use Rattle.seen_laws.proofs.InEvents.{later_more, now_step}
+use Rattle.seen_laws.specs.InEvent.{InEvent, later_of, now_of, row_of, GoesThere}
 use Rattle.seen_laws.specs.Unasked.{is_question}
 use Rattle.std.proofs.Common.{Bool, List, None, Option, Some, [], ap, append-nil, append_assoc, cond, false, inl, inr, length, map, not, refl, subst, sym, true, ℕ, ◌++◌, ◌==◌, ◌||◌, ◌∙◌, ◌∷◌, ◌≡◌}
 use Rattle.std.proofs.lemmas.List.Folds.{list_any-append}
-use Rattle.std.proofs.lemmas.List.{map-append}
 use Rattle.std.specs.List.{list_any}
 use Rattle.std.specs.Prelude.{option_map}
 use Rattle.seen_laws.proofs.Keyed.{find_map}
@@ -190,9 +189,9 @@ none_applied e (row ∷ more) each = by_row row (each row (inl refl)) (none_appl
 
 applied_none : (e : InEvent) (was more : List RowKind) → ((row : RowKind) → Has more row → IsOrderOrDrop row) → has_traversed e (was ++ more) ≡ has_traversed e was
 applied_none e was more each =
-    ap (λ (l : List LogRow). list_any is_traverse l) (map-append (row_of e) was more)
-    ∙ list_any-append is_traverse (map (row_of e) was) (map (row_of e) more)
-    ∙ or_false (list_any is_traverse (map (row_of e) was)) (list_any is_traverse (map (row_of e) more)) (none_applied e more each)
+    ap (λ (l : List LogRow). list_any is_traverse l) (later_more e was more)
+    ∙ list_any-append is_traverse (later_of e was) (map (row_of e) more)
+    ∙ or_false (list_any is_traverse (later_of e was)) (list_any is_traverse (map (row_of e) more)) (none_applied e more each)
   where
     or_false : (a b : Bool) → b ≡ false → (a || b) ≡ a
     or_false true b none = refl

@@ -1,4 +1,5 @@
 -- A request is accepted with the next number: what goes on from event to event goes on, and nothing else has changed.
+use Rattle.tab_doors.proofs.Uncut.{uncut_now}
 use Rattle.seen_facts.specs.Asked.Asking.{IsThere}
 use Rattle.seen_facts.proofs.Coord.Unread.{accepted_held, next}
 use Rattle.tab_facts.specs.Frame.Lasting.{IsOfItsNav, wish}
@@ -83,7 +84,7 @@ module _ (e : InEvent) (req : ReqId) (doc : Option DocId) (what : Request) (by_u
 
   pub now : now_of e [] ≡ went
   now =
-      sym aside.plain
+      sym (uncut_now e aside.uncut aside.plain)
       ∙ (ap (λ (a : Actor). next e.start e.event a e.own) by_user
       ∙ ap (λ (k : RowKind). next e.start e.event actors.Ui k) own)
 

@@ -1,6 +1,6 @@
 -- An event of the coordinator begins: all goes on once its own row was logged, whatever it leaves of a tab as one is between two events.
 use Rattle.tab_stands.proofs.DulyEvents.{own_duly}
-use Rattle.tab_doors.proofs.PassedOn.{AreNumbered, read_own, sole_own}
+use Rattle.tab_doors.proofs.PassedOn.{AreNumbered, debts_own, read_own, sole_own}
 use Rattle.seen_laws.proofs.InEvents.{none_goes, now_is}
 use Rattle.seen_laws.specs.Blocks.{Here}
 use Rattle.seen_facts.specs.Asked.Asking.{ArePlain}
@@ -66,7 +66,8 @@ work_first e t aside checks numbered own worker legal tied =
       goes = none_goes e [];
       numbered = numbered;
       read = read_own e (record { numbered = checks.numbered; others = checks.others });
-      sole = sole_own e (log_of e []);
+      sole = sole_own e (log_of e []) aside.uncut;
+      debts = debts_own e aside.uncut;
       checks = checks;
       unheld = none_steps e.checking aside.unchecked (log_of e []);
       holds = tied.holds;
@@ -86,10 +87,10 @@ module _ (p : InPass) (t : Tables) (queue : Queue) (blame : List (StateId × Req
       record {
         work = work_first p.event t aside (checks_first p.event aside t.running going.tab.asked) (λ req q at. (between.tab.asked.each req q at).nr) own worker legal tied;
         going = going;
-        owed = loose_owed p.event [] (loose_first p.event);
-        loose = λ all. loose_first p.event;
+        owed = loose_owed p.event [] (loose_first p.event aside.undue);
+        loose = λ all. loose_first p.event aside.undue;
         rests = rests;
-        duly = own_duly p.event own (checks_first p.event aside t.running going.tab.asked).numbered lasts.duly;
+        duly = own_duly p.event aside.uncut own (checks_first p.event aside t.running going.tab.asked).numbered lasts.duly;
         few = subst (λ (k : ℕ). k ≤ t.kept.keep) (sym (ap (λ (l : List DocId). length l) comes.kept)) between.few;
       }
 
@@ -106,13 +107,13 @@ module _ (p : InPass) (t : Tables) (queue : Queue) (blame : List (StateId × Req
       record {
         passing = passing;
         header = header;
-        taking = taking_then p.event t.running t.kept.keep t.goal blame (now_of p.event []) between lasts goal p.loads p.hand going.tab tied.goal comes (unheld_first p t passing);
-        loose = loose_first p.event;
+        taking = taking_then p.event t.running t.kept.keep t.goal blame (now_of p.event []) between lasts goal p.loads p.hand going.tab tied.goal comes (unheld_first p t aside.uncut passing);
+        loose = loose_first p.event aside.undue;
         stand = stand_then p.event t.running t.kept.keep t.goal blame (now_of p.event []) between lasts goal p.loads p.hand going.tab tied.goal comes;
         moved = moved_coming blame p.event.start (now_of p.event []) comes t.running between.tab.asked lasts.moved;
         theirs = comes.theirs;
         late = late_first blame p.event.start (now_of p.event []) comes t.running going.tab.standing lasts.off;
-        shows = own_under p.event own alive lasts.shows;
+        shows = own_under p.event aside.uncut own alive lasts.shows;
         makes = makes_first p.event aside own comes.serves lasts.makes;
         sound = sound_first p.event aside own (keeps_coming blame p.event.start (now_of p.event []) comes) lasts.sound;
         queueing = queueing;

@@ -1,4 +1,5 @@
 -- A report tells that an order was done of which nothing was made: what the event's own row leaves; and all goes on where the order neither makes nor shows a document.
+use Rattle.tab_doors.proofs.Uncut.{uncut_held}
 use Rattle.seen_facts.specs.Coord.Leading.{held_back}
 use Rattle.row_facts.specs.FrameRows.Lawful.{held_at_first}
 use Rattle.seen_facts.specs.Kept.Keeping.{state_in}
@@ -66,9 +67,8 @@ AsksNone (tasks.Ask slot cause) = ⊥
 AsksNone _ = Unit {0}
 
 -- what is held back as the event's own row has come
-pub held_first : (e : InEvent) → (now_of e []).parked ≡ held_at_first e
-unfolding now_of
-held_first e = refl
+pub held_first : (e : InEvent) → e.before ≡ [] → (now_of e []).parked ≡ held_at_first e
+held_first e uncut = uncut_held e uncut
 
 module _ (e : InEvent) (proc : ProcId) (job : Job) (outcome : Outcome) (del : IsDelivery e proc (reports.Done job outcome None)) (t : Tables) (queue : Queue) (blame : List (StateId × ReqId)) {check : InCheck} (stands : StandsFor check e.start t queue blame) (aside : StartsUnasked e) where
   abbrev report : Report
@@ -130,7 +130,7 @@ module _ (e : InEvent) (proc : ProcId) (job : Job) (outcome : Outcome) (del : Is
           takes = ap takes_report del.own;
           many = ap (λ (x : Seen). length x.requests) did_now ∙ ap (λ (l : List Asked). length l) same;
           old = λ req has. (
-            ap (λ (l : List ReqId). has_req l req) (sym (held_first e)) ∙ has,
+            ap (λ (l : List ReqId). has_req l req) (sym (held_first e aside.uncut)) ∙ has,
             ap (λ (l : List ReqId). has_req l req) (sym did_parked) ∙ (ap (λ (x : Seen). has_req x.parked req) (sym did_now) ∙ has),
           );
         }

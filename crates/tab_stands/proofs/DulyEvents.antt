@@ -1,4 +1,5 @@
 -- As an event's own row is logged, whom requests leave was asked still.
+use Rattle.seen_laws.proofs.InEvents.{uncut_log}
 use Rattle.tab_ids.specs.declared.ProcId.{ProcId}
 use Rattle.log_model.specs.declared.row_kind.Actor.{Actor}
 use Rattle.log_model.specs.declared.outcome.Outcome.{Outcome}
@@ -37,15 +38,15 @@ added_there asked q =
 number_is : (asked : List Asked) (q : Asked) → ((req : ReqId) (x : Asked) → request_in (asked ++ q ∷ []) req ≡ Some x → x.nr ≡ req) → q.nr.0 ≡ length asked + 1
 number_is asked q numbered = ap (λ (r : ReqId). r.0) (numbered (record { 0 = length asked + 1 }) q (added_there asked q))
 
-pub own_duly : (e : InEvent) → leads e.own ≡ true → AreNumbered (log_of e []) → AreLeftDuly e.start → AreLeftDuly (log_of e [])
-own_duly e own numbered duly = by_own e.own refl own
+pub own_duly : (e : InEvent) → e.before ≡ [] → leads e.own ≡ true → AreNumbered (log_of e []) → AreLeftDuly e.start → AreLeftDuly (log_of e [])
+own_duly e uncut own numbered duly = by_own e.own refl own
   where
     then_ : (kind : RowKind) → e.own ≡ kind → AreLeftDuly (after e.start (row_of e kind)) → AreLeftDuly (log_of e [])
-    then_ kind is = subst AreLeftDuly (sym (ap (λ (k : RowKind). after e.start (row_of e k)) is))
+    then_ kind is = subst AreLeftDuly (sym (uncut_log e uncut ∙ ap (λ (k : RowKind). after e.start (row_of e k)) is))
 
     next : (req : ReqId) (doc : Option DocId) (what : Request) → e.own ≡ rows.Accepted req doc what → req.0 ≡ length e.start.requests + 1
     next req doc what is =
-        number_is e.start.requests (new_request req doc what) (λ r x at. numbered r x (ap (λ (k : RowKind). request_in (after e.start (row_of e k)).requests r) is ∙ at))
+        number_is e.start.requests (new_request req doc what) (λ r x at. numbered r x (ap (λ (x : Seen). request_in x.requests r) (uncut_log e uncut ∙ ap (λ (k : RowKind). after e.start (row_of e k)) is) ∙ at))
 
     by_own : (kind : RowKind) → e.own ≡ kind → leads kind ≡ true → AreLeftDuly (log_of e [])
     by_own (rows.Accepted req doc what) is led =

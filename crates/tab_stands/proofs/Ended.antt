@@ -25,8 +25,8 @@ use Rattle.tab_facts.specs.Order.Orders.{IsOfCoord}
 use Rattle.row_facts.proofs.Owed.Ends.{owed_paid}
 use Rattle.seen_facts.proofs.Rest.Seated.{all_has}
 use Rattle.seen_laws.specs.Blocks.{EachPass, Here}
-use Rattle.seen_laws.specs.InEvent.{InEvent, IsPaid, IsTakenIn, first_of, log_of, now_of, row_of, start_of}
-use Rattle.std.proofs.Common.{Bool, List, None, Option, Some, [], false, map, refl, subst, sym, true, ℕ, ◌==◌, ◌∙◌, ◌∷◌, ◌≡◌}
+use Rattle.seen_laws.specs.InEvent.{InEvent, IsPaid, IsTakenIn, later_of, log_of, now_of, own_of, rows_of, start_of}
+use Rattle.std.proofs.Common.{Bool, List, None, Option, Some, [], false, refl, subst, sym, true, ℕ, ◌==◌, ◌∙◌, ◌≡◌}
 use Rattle.std.specs.List.{list_all}
 use Rattle.std.specs.Prelude.{is_some, option_and_then}
 use Rattle.tab_doors.proofs.PassedOn.{none_before, pass_end, plain_nobody}
@@ -75,9 +75,9 @@ own_owes h event actor _ end led = absurd (let never : false ≡ true = led in c
 pub paid_log : (e : InEvent) (out : List RowKind) {t : Tables} → IsAtWork e out t → owes_seen e out (now_of e out) ≡ true → IsPaid e out
 paid_log e out work paid = rw (own_owes (start_of e) e.event e.actor e.own (log_of e out) work.own) rest
   where
-    rest : owes (first_of e) (map (row_of e) out) (log_of e out) ≡ true
+    rest : owes (own_of e) (later_of e out) (log_of e out) ≡ true
     rest =
-        paid_read e out (log_of e out) (aimed_log e out _ work) work.checks.others work.numbered work.read work.sole
+        paid_read e out (log_of e out) (aimed_log e out _ work) work.checks.others work.numbered work.read work.sole work.debts
         (subst (λ (s : Seen). owes_seen e out s ≡ true) (now_is e out) paid)
 
 -- what a coordinator at work has of its tables
@@ -124,7 +124,7 @@ module _ (p : InPass) (out : List RowKind) (t : Tables) (queue : Queue) (blame :
   paid = paid_log p.event out at.passing.work (owed_paid p.event out at.passing.owed)
 
   -- each row passes
-  passes : IsTakenIn p.event (map (row_of p.event) out) → EachPass (start_of p.event) (row_of p.event p.event.own ∷ map (row_of p.event) out) []
+  passes : IsTakenIn p.event (later_of p.event out) → EachPass (start_of p.event) (rows_of p.event out) []
   passes taken =
       pass_end (IsAhead None) p.event (noted_by t.checks out) out at.passing.work.lawful tt paid taken at.queueing.over (plain_nobody p.event.checking (log_of p.event out) (sym (plain ∙ now_is p.event out)))
 
@@ -148,7 +148,7 @@ module _ (p : InPass) (out : List RowKind) (t : Tables) (queue : Queue) (blame :
         off = off_of s shown at.passing.going.tab.standing t.running at.calm at.late;
       }
 
-  pub acted : (waits ≡ false → IsNoneDue s t.running queue.waiting) → IsTakenIn p.event (map (row_of p.event) out) → HasActed check p.event out t queue blame
+  pub acted : (waits ≡ false → IsNoneDue s t.running queue.waiting) → IsTakenIn p.event (later_of p.event out) → HasActed check p.event out t queue blame
   acted due taken =
       record {
         stands = subst (λ (x : Seen). StandsFor check x t queue blame) (sym plain) (record {

@@ -1,4 +1,5 @@
 -- Which navigables were shown a document, as their epochs and the orders on their way tell: over each row of an event, each of which passes.
+use Rattle.seen_laws.proofs.InEvents.{uncut_log}
 use Rattle.seen_facts.proofs.Coord.Unread.{next}
 use Rattle.seen_facts.proofs.Desk.Again.{AllStay, StaysIn, same_documents}
 use Rattle.seen_facts.proofs.Desk.Stays.{NoDeath, changed_stay, delivered_stay, finished_stay, made_stay, sent_stay}
@@ -28,7 +29,7 @@ use Rattle.log_model.specs.declared.row_kind.RowKind.{RowKind}
 use Rattle.seen_facts.proofs.Mover.Places.{WasThere, was_there}
 use Rattle.tab_facts.specs.Order.Orders.{IsOfCoord, TellsOf}
 use Rattle.seen_laws.specs.Blocks.{EachPass, Here, on_row, on_rows, point_at}
-use Rattle.seen_laws.specs.InEvent.{InEvent, first_of, log_of, row_of}
+use Rattle.seen_laws.specs.InEvent.{InEvent, first_of, later_of, log_of, own_of, row_of}
 use Rattle.seen_laws.specs.Sending.{leads}
 use Rattle.std.proofs.Common.{Bool, List, None, Option, Some, [], ap, arith, cond, false, inl, inr, map, not, refl, subst, suc, sym, true, zero, ℕ, ◌&&◌, ◌++◌, ◌<◌, ◌==◌, ◌||◌, ◌∙◌, ◌∷◌, ◌≡◌, ◌≤◌}
 use Rattle.std.proofs.lemmas.Bool.{and_parts}
@@ -470,17 +471,22 @@ rows_under e h [] passes of_coord are = are
 rows_under e h (kind ∷ out) passes of_coord are =
     rows_under e (on_row h (row_of e kind)) out passes.1 (λ k has. of_coord k (inr has)) (coord_under h.now e.event e.actor kind (of_coord kind (inl refl)) (point_at h (map (row_of e) out ++ [])) refl passes.0.ordered are)
 
--- so it is as the event ends, where it was once its own row was logged
-pub event_under : (e : InEvent) (out : List RowKind) → EachPass (first_of e) (map (row_of e) out) [] → ((kind : RowKind) → Has out kind → IsOfCoord kind) → AreShownUnder (log_of e []) → AreShownUnder (log_of e out)
-event_under e out passes of_coord are = rows_under e (first_of e) out passes of_coord are
+-- rows behind others pass where all of them do
+pass_behind : (h : Here) (rows_ more later : List LogRow) → EachPass h (rows_ ++ more) later → EachPass (on_rows h rows_) more later
+pass_behind h [] more later passes = passes
+pass_behind h (row ∷ rows_) more later passes = pass_behind (on_row h row) rows_ more later passes.1
+
+-- so it is as the event ends, where it was at the cut
+pub event_under : (e : InEvent) (out : List RowKind) → EachPass (own_of e) (later_of e out) [] → ((kind : RowKind) → Has out kind → IsOfCoord kind) → AreShownUnder (log_of e []) → AreShownUnder (log_of e out)
+event_under e out passes of_coord are = rows_under e (first_of e) out (pass_behind (own_of e) (map (row_of e) e.before) (map (row_of e) out) [] passes) of_coord are
 
 -- as the event's own row is logged, where it tells of no death
-pub own_under : (e : InEvent) → leads e.own ≡ true → ((proc : ProcId) → e.own ≡ rows.Delivered proc → NoDeath (slice_get (desk_of e.start proc).reports 0)) → AreShownUnder e.start → AreShownUnder (log_of e [])
-own_under e own alive are = by_own e.own refl own
+pub own_under : (e : InEvent) → e.before ≡ [] → leads e.own ≡ true → ((proc : ProcId) → e.own ≡ rows.Delivered proc → NoDeath (slice_get (desk_of e.start proc).reports 0)) → AreShownUnder e.start → AreShownUnder (log_of e [])
+own_under e uncut own alive are = by_own e.own refl own
   where
     then_ : (kind : RowKind) → e.own ≡ kind → AreShownUnder (next e.start e.event e.actor kind) → AreShownUnder (log_of e [])
     then_ kind is =
-        subst (λ (x : Seen). AreShownUnder x) (sym (ap (λ (k : RowKind). next e.start e.event e.actor k) is))
+        subst (λ (x : Seen). AreShownUnder x) (sym (uncut_log e uncut ∙ ap (λ (k : RowKind). next e.start e.event e.actor k) is))
 
     by_own : (kind : RowKind) → e.own ≡ kind → leads kind ≡ true → AreShownUnder (log_of e [])
     by_own (rows.Accepted req doc what) is led =

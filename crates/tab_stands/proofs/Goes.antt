@@ -1,4 +1,5 @@
 -- A traversal is accepted: it waits behind the others, and all goes on.
+use Rattle.tab_doors.proofs.Uncut.{uncut_pass}
 use Rattle.seen_facts.proofs.Hang.Members.{has_more, into_more}
 use Rattle.seen_facts.specs.Hang.Members.{Has}
 use Rattle.log_model.specs.Causes.{denial_at_acceptance}
@@ -72,7 +73,7 @@ module _ (e : InEvent) (t : Tables) (queue : Queue) (blame : List (StateId × Re
   legal : AreLegal e []
   unfolding AreLegal
   legal later rest =
-      subst (λ (row : LogRow). EachPass (start_of e) (row ∷ []) later) (sym (its_row e req None go by_user own nr aside)) (go_passes e.header e.start e.event req delta later nr, tt)
+      uncut_pass e [] later aside.uncut (subst (λ (row : LogRow). EachPass (start_of e) (row ∷ []) later) (sym (its_row e req None go by_user own nr aside)) (go_passes e.header e.start e.event req delta later nr, tt))
 
   -- what joined isn't refused as it is accepted
   early : (r : ReqId) (q : Asked) → request_in n.requests r ≡ Some q → denial_at_acceptance e.start q.what ≡ None ⊎ (nat_lt (length e.start.requests) r.0 ≡ false)
@@ -85,7 +86,7 @@ module _ (e : InEvent) (t : Tables) (queue : Queue) (blame : List (StateId × Re
 
   turning : IsTurning e []
   turning =
-      turning_first e (subst (λ (x : Seen). AreKnown x) (sym (now e req None go by_user own nr aside)) tab.known) (λ r q has at. early r q (ap (λ (x : Seen). request_of x r) (sym (now e req None go by_user own nr aside)) ∙ at)) aside.plain
+      turning_first e aside.uncut (subst (λ (x : Seen). AreKnown x) (sym (now e req None go by_user own nr aside)) tab.known) (λ r q has at. early r q (ap (λ (x : Seen). request_of x r) (sym (now e req None go by_user own nr aside)) ∙ at)) aside.plain
 
   -- ---- it joins
 

@@ -125,7 +125,7 @@ module _ (e : InEvent) (proc : ProcId) (report : Report) (made : Made) (del : Is
           takes = ap takes_report del.own;
           many = ap (λ (x : Seen). length x.requests) now ∙ ap (λ (l : List Asked). length l) same;
           old = λ req has. (
-            ap (λ (l : List ReqId). has_req l req) (sym (held_first e)) ∙ has,
+            ap (λ (l : List ReqId). has_req l req) (sym (held_first e aside.uncut)) ∙ has,
             ap (λ (l : List ReqId). has_req l req) (sym parked_same) ∙ (ap (λ (x : Seen). has_req x.parked req) (sym now) ∙ has),
           );
         }

@@ -1,4 +1,5 @@
 -- A load is accepted: it is at hand, and all goes on; and where a reason stands against it, too, the tables stand for what the log has come to.
+use Rattle.tab_doors.proofs.Uncut.{uncut_pass}
 use Rattle.load_doors.specs.Tied.{AreTied}
 use Rattle.row_facts.proofs.LoadRows.Accepts.{load_passes}
 use Rattle.log_model.specs.Causes.{denial_at_acceptance}
@@ -54,7 +55,7 @@ module _ (e : InEvent) (t : Tables) (queue : Queue) (blame : List (StateId × Re
     legal : AreLegal e []
     unfolding AreLegal
     legal later rest =
-        subst (λ (row : LogRow). EachPass (start_of e) (row ∷ []) later) (sym (its_row e req None load by_user own nr aside)) (load_passes e.header e.start e.event req nav mode address later nr admitted, tt)
+        uncut_pass e [] later aside.uncut (subst (λ (row : LogRow). EachPass (start_of e) (row ∷ []) later) (sym (its_row e req None load by_user own nr aside)) (load_passes e.header e.start e.event req nav mode address later nr admitted, tt))
 
     -- what joined isn't refused as it is accepted
     early : (r : ReqId) (q : Asked) → request_in n.requests r ≡ Some q → denial_at_acceptance e.start q.what ≡ None ⊎ (nat_lt (length e.start.requests) r.0 ≡ false)
@@ -67,7 +68,7 @@ module _ (e : InEvent) (t : Tables) (queue : Queue) (blame : List (StateId × Re
 
     turning : IsTurning e []
     turning =
-        turning_first e (subst (λ (x : Seen). AreKnown x) (sym (now e req None load by_user own nr aside)) tab.known) (λ r q has at. early r q (ap (λ (x : Seen). request_of x r) (sym (now e req None load by_user own nr aside)) ∙ at)) aside.plain
+        turning_first e aside.uncut (subst (λ (x : Seen). AreKnown x) (sym (now e req None load by_user own nr aside)) tab.known) (λ r q has at. early r q (ap (λ (x : Seen). request_of x r) (sym (now e req None load by_user own nr aside)) ∙ at)) aside.plain
 
     queued : HasQueue (now_of e []) t.running queue.waiting
     queued =

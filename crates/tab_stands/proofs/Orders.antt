@@ -1,4 +1,5 @@
 -- Orders on their way that make documents are for what orders may be for, over an event's own row and a refusal.
+use Rattle.tab_doors.proofs.Uncut.{uncut_now}
 use Rattle.tab_stands.specs.Standing.{StartsUnasked}
 use Rattle.seen_facts.proofs.Coord.Unread.{next}
 use Rattle.log_model.specs.Seen.{Asked, Seen}
@@ -41,7 +42,7 @@ own_within _ is = absurd (let never : false ≡ true = is in cc)
 
 pub makes_first : (e : InEvent) → StartsUnasked e → leads e.own ≡ true → ((req : ReqId) → MayServe e.start req → MayServe (now_of e []) req) → MakesServe e.start → MakesServe (now_of e [])
 makes_first e aside own serves makes =
-    makes_after e.start (now_of e []) e.event e.actor e.own (own_within e.own own) unsent serves (sym (sym aside.plain)) makes
+    makes_after e.start (now_of e []) e.event e.actor e.own (own_within e.own own) unsent serves (uncut_now e aside.uncut aside.plain) makes
   where
     unsent : (job : Job) → e.own ≡ rows.Sent job → ⊥
     unsent job is = let never : false ≡ true = sym (ap (λ (k : RowKind). leads k) is) ∙ own in absurd cc
@@ -57,7 +58,7 @@ sound_after s n event actor kind within unsent keeps is sound =
 
 pub sound_first : (e : InEvent) → StartsUnasked e → leads e.own ≡ true → KeepsWhat e.start (now_of e []) → OrdersAreSound e.start → OrdersAreSound (now_of e [])
 sound_first e aside own keeps sound =
-    sound_after e.start (now_of e []) e.event e.actor e.own (own_within e.own own) unsent keeps (sym (sym aside.plain)) sound
+    sound_after e.start (now_of e []) e.event e.actor e.own (own_within e.own own) unsent keeps (uncut_now e aside.uncut aside.plain) sound
   where
     unsent : (job : Job) → e.own ≡ rows.Sent job → ⊥
     unsent job is = let never : false ≡ true = sym (ap (λ (k : RowKind). leads k) is) ∙ own in absurd cc

@@ -1,4 +1,5 @@
 -- A poke is accepted by the document that it reaches: the event ends with that, and the coordinator stands for the log still.
+use Rattle.tab_doors.proofs.Uncut.{uncut_pass}
 use Rattle.leave_facts.proofs.Carried.{AreLeftDuly, row_duly}
 use Rattle.log_model.specs.declared.row_kind.RowKind.{RowKind}
 use Rattle.seen_laws.specs.Sending.{leads}
@@ -78,5 +79,5 @@ module _ (e : InEvent) (t : Tables) (queue : Queue) (blame : List (StateId × Re
   poke_acts =
       record {
         stands = subst (λ (x : Seen). StandsFor check x t queue blame) (sym aside.plain) stands_then;
-        passes = subst (λ (row : LogRow). EachPass (start_of e) (row ∷ []) []) (sym (its_row e req doc poke by_user own nr aside)) (poke_passes e.header e.start e.event req nav reached its.d its.first its.others action nr its.row its.run its.reaches its.nr, tt);
+        passes = uncut_pass e [] [] aside.uncut (subst (λ (row : LogRow). EachPass (start_of e) (row ∷ []) []) (sym (its_row e req doc poke by_user own nr aside)) (poke_passes e.header e.start e.event req nav reached its.d its.first its.others action nr its.row its.run its.reaches its.nr, tt));
       }

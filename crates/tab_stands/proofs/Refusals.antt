@@ -1,4 +1,5 @@
 -- A load that a reason stands against is accepted and refused, and so is a poke that reaches no document: the event ends with that, and the coordinator stands for the log still.
+use Rattle.tab_doors.proofs.Uncut.{uncut_pass}
 use Rattle.row_facts.proofs.LoadRows.Accepts.{denied_load_may}
 use Rattle.log_model.specs.After.{new_request}
 use Rattle.log_model.specs.Causes.{denial_at_acceptance, denial_of_poke}
@@ -49,7 +50,7 @@ module _ (e : InEvent) (t : Tables) (queue : Queue) (blame : List (StateId × Re
     load_refused_acts =
         record {
           stands = denied_stands e t queue blame stands aside room req load by_user own nr reason refl (load_accepted_tab t.running e.start e.event actors.Ui stands.between.tab stands.between.flows req nr nav mode address) (load_accepted_flows t.running e.start e.event actors.Ui stands.between.tab stands.between.flows req nr nav mode address);
-          passes = load_pass;
+          passes = uncut_pass e (rows.Refused req reason ∷ []) [] aside.uncut load_pass;
         }
 
   -- ---- a poke
@@ -81,5 +82,5 @@ module _ (e : InEvent) (t : Tables) (queue : Queue) (blame : List (StateId × Re
     poke_refused_acts =
         record {
           stands = denied_stands e t queue blame stands aside room req poke by_user own nr reason refl (strayed_tab t.running e.start e.event actors.Ui stands.between.tab stands.between.flows req nr nav action) (strayed_flows t.running e.start e.event actors.Ui stands.between.tab stands.between.flows req nr nav action);
-          passes = poke_pass;
+          passes = uncut_pass e (rows.Refused req reason ∷ []) [] aside.uncut poke_pass;
         }

@@ -1,4 +1,5 @@
 -- A report is delivered that answers no question: what is known of it, and what the event's own row leaves, whatever the report tells.
+use Rattle.tab_doors.proofs.Uncut.{uncut_now, uncut_pass}
 use Rattle.tab_doors.specs.PassedOn.{NoneChecked}
 use Rattle.unload_check.specs.Checks.{OpenCheck}
 use Rattle.seen_facts.proofs.Asked.Passed.{asked_all}
@@ -37,8 +38,8 @@ use Rattle.row_facts.proofs.RestRows.Rows.{delivered_rests}
 use Rattle.row_facts.specs.RestRows.Moving.{AllRest}
 use Rattle.seen_laws.proofs.Deliveries.{delivered_may, delivered_row}
 use Rattle.seen_laws.specs.Blocks.{EachPass, point_at}
-use Rattle.seen_laws.specs.InEvent.{AreLegal, InEvent, now_of, row_of, start_of}
-use Rattle.std.proofs.Common.{Bool, List, None, Option, Some, [], ap, arith, false, inl, inr, length, map, not, refl, subst, sym, true, ℕ, ◌&&◌, ◌+◌, ◌<◌, ◌∙◌, ◌∷◌, ◌≡◌, ◌≤◌, ◌⊎◌}
+use Rattle.seen_laws.specs.InEvent.{AreLegal, InEvent, IsTakenIn, now_of, row_of, start_of}
+use Rattle.std.proofs.Common.{Bool, List, None, Option, Some, [], ap, arith, false, inl, inr, length, map, not, refl, subst, sym, true, ℕ, ◌&&◌, ◌+◌, ◌<◌, ◌∙◌, ◌∷◌, ◌++◌, ◌≡◌, ◌≤◌, ◌⊎◌}
 use Rattle.std.proofs.lemmas.Bool.Decides.{nat_tests}
 use Rattle.std.specs.List.{list_all}
 use Rattle.std.specs.Prelude.{nat_lt, option_map, slice_get}
@@ -84,7 +85,7 @@ module _ (e : InEvent) (proc : ProcId) (by_coord : e.actor ≡ actors.Coord) (ow
 
   pub told_now : now_of e [] ≡ told
   told_now =
-      sym aside.plain
+      sym (uncut_now e aside.uncut aside.plain)
       ∙ (ap (λ (a : Actor). next e.start e.event a e.own) by_coord
       ∙ ap (λ (k : RowKind). next e.start e.event actors.Coord k) own)
 
@@ -108,8 +109,11 @@ module _ (e : InEvent) (proc : ProcId) (by_coord : e.actor ≡ actors.Coord) (ow
   pub told_legal : AreLegal e []
   unfolding AreLegal
   told_legal later rest =
-      subst (λ (r : LogRow). EachPass (start_of e) (r ∷ []) later) (sym told_row)
-      (delivered_may (start_of e) e.event proc report refl first none_settled later (subst (λ (r : LogRow). is_delivered_duly (point_at (start_of e) later) r ≡ true) told_row rest.taken))
+      uncut_pass e [] later aside.uncut (subst (λ (r : LogRow). EachPass (start_of e) (r ∷ []) later) (sym told_row)
+      (delivered_may (start_of e) e.event proc report refl first none_settled later (subst (λ (r : LogRow). is_delivered_duly (point_at (start_of e) later) r ≡ true) told_row taken)))
+    where
+      taken : IsTakenIn e later
+      taken = subst (λ (l : List RowKind). IsTakenIn e ((map (row_of e) l ++ []) ++ later)) aside.uncut rest.taken
 
   pub told_kept : told.kept ≡ e.start.kept
   told_kept = ap (λ (o : Option Report). kept_delivered s o) first ∙ by_report report (subst NoDeath first told_fine)
@@ -148,7 +152,7 @@ module _ (e : InEvent) (proc : ProcId) (by_coord : e.actor ≡ actors.Coord) (ow
         inr (grind (arith, nat_tests, low))
 
     pub told_turning : AreKnown told → IsTurning e []
-    told_turning known = turning_first e (subst (λ (x : Seen). AreKnown x) (sym told_now) known) (λ req q has at. early req q at) aside.plain
+    told_turning known = turning_first e aside.uncut (subst (λ (x : Seen). AreKnown x) (sym told_now) known) (λ req q has at. early req q at) aside.plain
 
     -- nothing is held back that wasn't before
     pub told_held : told.parked ≡ e.start.parked → AreHeldUp t.running told

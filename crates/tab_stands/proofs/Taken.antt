@@ -1,4 +1,5 @@
 -- What a document made was taken up, refused or dropped as its report was delivered: the tab may be brought to rest.
+use Rattle.log_model.specs.Queue.{is_traverse}
 use Rattle.seen_laws.proofs.InEvents.{now_at}
 use Rattle.seen_facts.specs.Asked.Asking.{IsTabRequest}
 use Rattle.tab_facts.specs.Calm.Calm.{IsCalm, IsHere}
@@ -127,7 +128,7 @@ module _ (e : InEvent) (proc : ProcId) (report : Report) (made : Made) (del : Is
     where
       never : has_traversed e out ≡ true → ⊥
       never ended =
-          let none : has_traversed e out ≡ false = ap (λ (l : List RowKind). has_traversed e l) taken.ended.out ∙ ap (λ (b : Bool). b || false) taken.ended.no_turn in
+          let none : has_traversed e out ≡ false = ap (λ (l : List RowKind). has_traversed e l) taken.ended.out ∙ ap (λ (l : List RowKind). list_any is_traverse (map (row_of e) l ++ row_of e taken.ended.kind ∷ [])) aside.uncut ∙ ap (λ (b : Bool). b || false) taken.ended.no_turn in
           let never_ : true ≡ false = sym ended ∙ none in cc
 
   passing : IsPassing (record { event = e; loads = check.loads; hand = [] }) out u
@@ -262,7 +263,7 @@ module _ (e : InEvent) (proc : ProcId) (report : Report) (made : Made) (del : Is
 
   pub taken_up : IsTakenUp e out
   taken_up later =
-      subst (λ (l : List RowKind). IsTakenIn e (map (row_of e) l ++ later)) (sym taken.ended.out) (subst (λ (r : LogRow). is_delivered_duly (point_at (start_of e) (row_of e taken.ended.kind ∷ later)) r ≡ true) (sym (told_row e proc del.by_coord del.own t queue blame stands aside report del.first)) (rw (del.first) (rw tells (by_up (is_taken_up_at_once s made) refl))))
+      subst (λ (l : List RowKind). IsTakenIn e ((map (row_of e) l ++ map (row_of e) out) ++ later)) (sym aside.uncut) (subst (λ (l : List RowKind). IsTakenIn e (map (row_of e) l ++ later)) (sym taken.ended.out) (subst (λ (r : LogRow). is_delivered_duly (point_at (start_of e) (row_of e taken.ended.kind ∷ later)) r ≡ true) (sym (told_row e proc del.by_coord del.own t queue blame stands aside report del.first)) (rw (del.first) (rw tells (by_up (is_taken_up_at_once s made) refl)))))
     where
       by_up : (b : Bool) → is_taken_up_at_once s made ≡ b → implies b (is_taken_up_in made.req (row_of e taken.ended.kind) || list_any (is_taken_up_in made.req) later) ≡ true
       by_up false is = refl

@@ -1,4 +1,6 @@
 -- What a document made that changes the history is at hand as its report is delivered: it may be taken up, refused or dropped.
+use Rattle.seen_laws.proofs.InEvents.{uncut_first}
+use Rattle.seen_laws.specs.Blocks.{Here}
 use Rattle.log_model.specs.Places.{has_passed}
 use Rattle.seen_facts.specs.Asked.Asking.{IsTabRequest, IsThere}
 use Rattle.row_facts.proofs.FrameRows.LawfulLaws.{ends_other}
@@ -188,11 +190,12 @@ module _ (e : InEvent) (proc : ProcId) (report : Report) (made : Made) (del : Is
       let within : asked.q.nr.0 ≤ length s.requests = omega (arith, low, nr) in grind (arith, nat_tests, within)
 
   taken_now : (change : Change) → IsTakenNow (here_of e []) (row_of e (rows.Applied made.req change)) made
-  taken_now change later =
+  taken_now change =
+      subst (λ (h : Here). IsTakenNow h (row_of e (rows.Applied made.req change)) made) (sym (uncut_first e aside.uncut)) (λ later.
       or_left _ _ (ap (λ (k : RowKind). holds (λ (taken : Made). taken.req.0 == made.req.0) (option_and_then made_of_report (report_taken e.start k))) del.own
       ∙ ap (λ (o : Option Report). holds (λ (taken : Made). taken.req.0 == made.req.0) (option_and_then made_of_report o)) del.first
       ∙ ap (λ (o : Option Made). holds (λ (taken : Made). taken.req.0 == made.req.0) o) tells
-      ∙ itself made.req)
+      ∙ itself made.req))
 
   for_taking : IsForTaking e [] (made ∷ []) made
   for_taking =
@@ -214,7 +217,7 @@ module _ (e : InEvent) (proc : ProcId) (report : Report) (made : Made) (del : Is
         before = before;
         free = ap (λ (b : Bool). implies b (list_any is_traverse (here_of e []).done)) (ap (λ (x : Seen). has_req x.parked made.req) (here_now e aside) ∙ unparked_now);
         taken = taken_now;
-        held = λ kind_ ends. ends_other e [] kind_ made.req (ends, ends_parked e kind_ made.req ends) (ap (λ (l : List ReqId). has_req l made.req) (sym (held_first e)) ∙ unparked_now) unparked_now;
+        held = λ kind_ ends. ends_other e [] kind_ made.req (ends, ends_parked e kind_ made.req ends) (ap (λ (l : List ReqId). has_req l made.req) (sym (held_first e aside.uncut)) ∙ unparked_now) unparked_now;
       }
 
   pub hand_to_take : IsToTake (record { event = e; loads = check.loads; hand = made ∷ [] }) [] t blame made

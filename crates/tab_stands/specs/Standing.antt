@@ -12,8 +12,8 @@ use Rattle.log_model.specs.declared.row_kind.RowKind.{RowKind}
 use Rattle.move_queue.specs.Queue.{Queue}
 use Rattle.row_facts.specs.Owed.Owed.{IsLoose}
 use Rattle.seen_laws.specs.Blocks.{EachPass}
-use Rattle.seen_laws.specs.InEvent.{InEvent, IsTakenIn, log_of, now_of, row_of, start_of, here_of, seen_here}
-use Rattle.std.specs.Prelude.{Bool, List, None, Option, [], length, map, ℕ, ◌++◌, ◌+◌, ◌<◌, ◌∷◌, ◌≡◌, false}
+use Rattle.seen_laws.specs.InEvent.{InEvent, IsTakenIn, later_of, log_of, now_of, rows_of, start_of, here_of, seen_here}
+use Rattle.std.specs.Prelude.{Bool, List, None, Option, [], length, ℕ, ◌++◌, ◌+◌, ◌<◌, ◌≡◌, false, true}
 use Rattle.tab_settles.specs.PassedOn.{AreCounted, AreHeldUp, AreLeftStrays, AreSteps, HasQueue, InPass, IsPassing, IsTaking, LoadsMadeOwn, ParentsShown, TakersServe}
 use Rattle.tab_doors.specs.declared.tables.Tables.{Tables}
 use Rattle.tab_facts.specs.TabEvents.Between.{IsBetweenChecks}
@@ -86,8 +86,10 @@ opened_at address proc =
 
 -- ---- an event begins
 
--- nobody is in a check as the event begins, and both then and once its own row was logged the log is as it would be had nobody been asked
+-- nothing was put out before, so nothing is owed; nobody is in a check as the event begins, and both then and once its own row was logged the log is as it would be had nobody been asked
 pub record StartsUnasked (e : InEvent) : Type 0 where
+  pub uncut : e.before ≡ []
+  pub undue : (end : Seen) → e.due end ≡ true
   pub unchecked : (req : ReqId) → e.checking req ≡ false
   pub begins : seen_here e [] ≡ here_of e []
   pub plain : log_of e [] ≡ now_of e []
@@ -115,9 +117,9 @@ pub record HasBegun (p : InPass) (t : Tables) (queue : Queue) (blame : List (Sta
 
 -- where the event delivers a report that is to be taken up at once, these rows take it up, whatever comes later
 abbrev pub IsTakenUp : InEvent → List RowKind → Type 0
-IsTakenUp e out = (later : List LogRow) → IsTakenIn e (map (row_of e) out ++ later)
+IsTakenUp e out = (later : List LogRow) → IsTakenIn e (later_of e out ++ later)
 
 -- the event ends with these rows, each of which passes, and the coordinator stands for what the log has come to, with this in its check
 pub record HasActed (check : InCheck) (e : InEvent) (out : List RowKind) (t : Tables) (queue : Queue) (blame : List (StateId × ReqId)) : Type 0 where
   pub stands : StandsFor check (log_of e out) t queue blame
-  pub passes : EachPass (start_of e) (row_of e e.own ∷ map (row_of e) out) []
+  pub passes : EachPass (start_of e) (rows_of e out) []

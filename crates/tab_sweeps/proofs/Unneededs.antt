@@ -28,8 +28,8 @@ use Rattle.row_facts.specs.Owed.Owed.{IsLoose}
 use Rattle.seen_facts.specs.Asked.Asking.{HavePassed}
 use Rattle.row_facts.specs.RestRows.Left.{left_below, shown_by}
 use Rattle.seen_laws.proofs.InEvents.{led_here}
-use Rattle.seen_laws.specs.InEvent.{here_of, now_of, row_of}
-use Rattle.std.proofs.Common.{Bool, List, None, Option, Some, [], ap, arith, false, inl, inr, length, filter, map, not, refl, subst, sym, true, ℕ, ◌&&◌, ◌++◌, ◌==◌, ◌||◌, ◌∙◌, ◌∷◌, ◌≡◌, ◌≤◌}
+use Rattle.seen_laws.specs.InEvent.{here_of, later_of, now_of, row_of}
+use Rattle.std.proofs.Common.{Bool, List, None, Option, Some, [], ap, arith, false, inl, inr, length, filter, not, refl, subst, sym, true, ℕ, ◌&&◌, ◌++◌, ◌==◌, ◌||◌, ◌∙◌, ◌∷◌, ◌≡◌, ◌≤◌}
 use Rattle.std.proofs.lemmas.Bool.Decides.{nat_tests}
 use Rattle.std.specs.List.{list_any}
 use Rattle.std.specs.Option.{option_map_or}
@@ -181,7 +181,7 @@ module _ (p : InPass) (out : List RowKind) (t : Tables) (passing : IsPassing p o
           for_one = for_one s why may;
         };
         own = row_of p.event p.event.own;
-        rest = map (row_of p.event) out;
+        rest = later_of p.event out;
         begins = done_here p.event out;
         proc = its.taken.proc;
         takes = its.taken.takes;

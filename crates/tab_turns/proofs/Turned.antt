@@ -24,6 +24,7 @@ use Rattle.log_model.specs.declared.made.What.{What}
 use Rattle.std.proofs.lemmas.Bool.{eqb-true}
 use Rattle.log_model.specs.declared.made.What.TheVariants as whats
 use Rattle.seen_laws.specs.InEvent.{InEvent, now_of}
+use Rattle.tab_doors.proofs.Uncut.{uncut_held}
 use Rattle.std.proofs.Common.{Bool, List, None, Option, Some, [], ap, cond, false, inl, inr, length, not, refl, subst, sym, true, ℕ, ◌==◌, ◌||◌, ◌∙◌, ◌∷◌, ◌≡◌, ◌⊎◌}
 use Rattle.std.specs.Prelude.{nat_lt}
 use Rattle.tab_ids.specs.declared.ReqId.{ReqId}
@@ -70,10 +71,6 @@ module _ (s t : Seen) (turned : IsTurned s t) where
 
 -- ---- what is known of the event
 
-first_held : (e : InEvent) → (now_of e []).parked ≡ held_at_first e
-unfolding now_of
-first_held e = refl
-
 -- what was made of one that is held back changes the history, so it is no traversal
 pub parked_rests : (q : Asked) (req : ReqId) → IsParked (core_of (Some q)) req → is_traversal q.what ≡ false
 parked_rests q req p =
@@ -104,11 +101,11 @@ all_rest s (r ∷ reqs) are req q has at = by_test (r.0 == req.0) refl has (λ h
     by_test false is h more = more h
 
 -- it is so as the event's own row has come, where what joined isn't refused as it is accepted
-pub turning_first : (e : InEvent) → AreKnown (now_of e []) → ((req : ReqId) (q : Asked) → has_req (now_of e []).joined req ≡ true → request_of (now_of e []) req ≡ Some q → denial_at_acceptance e.start q.what ≡ None ⊎ (nat_lt (length e.start.requests) req.0 ≡ false)) → StartsPlain e → IsTurning e []
-turning_first e known early plain =
+pub turning_first : (e : InEvent) → e.before ≡ [] → AreKnown (now_of e []) → ((req : ReqId) (q : Asked) → has_req (now_of e []).joined req ≡ true → request_of (now_of e []) req ≡ Some q → denial_at_acceptance e.start q.what ≡ None ⊎ (nat_lt (length e.start.requests) req.0 ≡ false)) → StartsPlain e → IsTurning e []
+turning_first e uncut known early plain =
     record {
-      parked = inl (first_held e);
-      apart = λ req q held at. all_rest (now_of e []) (now_of e []).parked known.parked req q (subst (λ (l : List ReqId). has_req l req ≡ true) (sym (first_held e)) held) at;
+      parked = inl (uncut_held e uncut);
+      apart = λ req q held at. all_rest (now_of e []) (now_of e []).parked known.parked req q (subst (λ (l : List ReqId). has_req l req ≡ true) (sym (uncut_held e uncut)) held) at;
       early = early;
       plain = plain;
     }

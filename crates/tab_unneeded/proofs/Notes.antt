@@ -1,4 +1,5 @@
 -- A document that was made is noted in the tables: the coordinator is at work, and passes may follow, whatever the document is needed for.
+use Rattle.seen_laws.proofs.InEvents.{uncut_log}
 use Rattle.log_model.specs.declared.row_kind.RowKind.TheVariants as rows
 use Rattle.log_model.specs.After.{after}
 use Rattle.tab_passes.proofs.PassedOn.{AreLeftDuly, row_duly}
@@ -112,9 +113,9 @@ module _ (e : InEvent) (proc : ProcId) (job : Job) (outcome : Outcome) (del : Is
         record {
           work = work_first e u aside checks (λ r q at. (stands.between.tab.asked.each r q at).nr) own_leads (subst (λ (a : Actor). IsWorker a) (sym del.by_coord) tt) (told_legal e proc del.by_coord del.own t queue blame stands aside report del.first) noted_tied;
           going = subst (λ (r : Option ReqId). IsGoing r check.loads [] (now_of e [])) (sym kept.running) (told_going e proc del.by_coord del.own t queue blame stands aside report del.first same room check.loads [] (did_tab e proc job outcome del t queue blame stands aside) (told_held e proc del.by_coord del.own t queue blame stands aside report del.first same (did_parked e proc job outcome del t queue blame stands aside)) (rw (places_now e proc job outcome del t queue blame stands aside nav state address initial task) stands.lasts.counted.epochs));
-          owed = loose_owed e [] (loose_first e);
-          loose = λ all. loose_first e;
+          owed = loose_owed e [] (loose_first e aside.undue);
+          loose = λ all. loose_first e aside.undue;
           rests = told_rests e proc del.by_coord del.own t queue blame stands aside report del.first;
-          duly = subst AreLeftDuly (sym (ap (λ (k : RowKind). after e.start (row_of e k)) del.own)) (row_duly e.start e.event e.actor stands.lasts.duly (rows.Delivered proc) tt);
+          duly = subst AreLeftDuly (sym (uncut_log e aside.uncut ∙ ap (λ (k : RowKind). after e.start (row_of e k)) del.own)) (row_duly e.start e.event e.actor stands.lasts.duly (rows.Delivered proc) tt);
           few = few;
         }

@@ -1,4 +1,5 @@
 -- A document was made and discarded at once: a pass may follow.
+use Rattle.log_model.specs.Queue.{is_traverse}
 use Rattle.seen_facts.specs.Asked.Asking.{ArePlain}
 use Rattle.seen_facts.specs.Coord.Leading.{held_back}
 use Rattle.tab_facts.specs.Frame.Lasting.{wish}
@@ -17,8 +18,8 @@ use Rattle.log_model.specs.declared.outcome.Outcome.{Outcome}
 use Rattle.log_model.specs.declared.row_kind.RowKind.{RowKind}
 use Rattle.move_queue.specs.Queue.{Queue}
 use Rattle.seen_laws.proofs.Sendings.{both}
-use Rattle.seen_laws.specs.InEvent.{InEvent, now_of}
-use Rattle.std.proofs.Common.{Bool, List, None, Option, Some, [], ap, false, inl, length, refl, subst, sym, true, ℕ, ◌∙◌, ◌∷◌, ◌≡◌}
+use Rattle.seen_laws.specs.InEvent.{InEvent, now_of, row_of}
+use Rattle.std.proofs.Common.{Bool, List, None, Option, Some, [], ap, false, inl, length, refl, subst, sym, true, ℕ, ◌∙◌, ◌∷◌, ◌≡◌, map, ◌++◌}
 use Rattle.std.proofs.lemmas.Bool.{and_parts}
 use Rattle.std.specs.List.{list_any}
 use Rattle.std.specs.Prelude.{option_map}
@@ -87,7 +88,7 @@ module _ (e : InEvent) (proc : ProcId) (job : Job) (outcome : Outcome) (del : Is
 
       unheld : AreUnheld e n
       unheld req x its =
-          unheld_first (record { event = e; loads = check.loads; hand = [] }) u first req x (record { look = its.look; at = ap (λ (l : List Asked). option_map look (request_in l req)) (before ∙ sym requests) ∙ its.at; ongoing = its.ongoing; loads_it = its.loads_it })
+          unheld_first (record { event = e; loads = check.loads; hand = [] }) u aside.uncut first req x (record { look = its.look; at = ap (λ (l : List Asked). option_map look (request_in l req)) (before ∙ sym requests) ∙ its.at; ongoing = its.ongoing; loads_it = its.loads_it })
 
   -- ---- what waits, and what is held back
 
@@ -146,7 +147,7 @@ module _ (e : InEvent) (proc : ProcId) (job : Job) (outcome : Outcome) (del : Is
         takes = ap takes_report del.own;
         many = ap length requests;
         old = λ req has. (
-          ap (λ (l : List ReqId). has_req l req) (sym (held_first e)) ∙ (ap (λ (l : List ReqId). has_req l req) (sym parked_first) ∙ has),
+          ap (λ (l : List ReqId). has_req l req) (sym (held_first e aside.uncut)) ∙ (ap (λ (l : List ReqId). has_req l req) (sym parked_first) ∙ has),
           ap (λ (l : List ReqId). has_req l req) (sym parked) ∙ has,
         );
       }
@@ -158,7 +159,7 @@ module _ (e : InEvent) (proc : ProcId) (job : Job) (outcome : Outcome) (del : Is
         queued = subst (λ (r : Option ReqId). HasQueue n r queue.waiting) (sym kept_run.running) (queue_over s n leaves t.running queue.waiting stands.queue);
         parked = stands.parked ∙ ap (λ (l : List Asked). held_back l s.parked) (sym requests) ∙ ap (λ (l : List ReqId). held_back n.requests l) (sym parked);
         held = λ idle. parked ∙ stands.between.held (sym kept_run.running ∙ idle);
-        over = λ has. absurd (let never : false ≡ true = sym (ap (λ (l : List RowKind). has_traversed e l) is) ∙ has in cc);
+        over = λ has. absurd (let never : false ≡ true = sym (ap (λ (l : List RowKind). has_traversed e l) is ∙ ap (λ (l : List RowKind). list_any is_traverse (map (row_of e) l ++ row_of e (rows.Sent (order_to (now_of e []) job.doc why tasks.Discard)) ∷ [])) aside.uncut) ∙ has in cc);
         releasing = λ some all. release;
       }
 

@@ -9,3 +9,4 @@ pub mod Leaves
 pub mod Paid
 pub mod Read
 pub mod Sole
+pub mod Cut

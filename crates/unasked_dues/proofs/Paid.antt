@@ -6,10 +6,10 @@ use Rattle.log_model.specs.declared.outcome.Cause.TheVariants as drops
 use Rattle.log_model.specs.declared.row_kind.LogRow.{LogRow}
 use Rattle.log_model.specs.declared.row_kind.RowKind.TheVariants as rows
 use Rattle.log_model.specs.declared.row_kind.RowKind.{RowKind}
-use Rattle.unasked_dues.specs.Reading.{BeginSole, IsReadAt, WereRead}
+use Rattle.unasked_dues.specs.Reading.{AreDebts, BeginSole, IsReadAt, WereRead}
 use Rattle.seen_laws.proofs.InEvents.{here_more}
 use Rattle.seen_laws.specs.Blocks.{Here, on_row, on_rows, point_at}
-use Rattle.seen_laws.specs.InEvent.{InEvent, first_of, here_of, now_of, row_of, seen_here}
+use Rattle.seen_laws.specs.InEvent.{InEvent, first_of, here_of, later_of, now_of, own_of, row_of, seen_here}
 use Rattle.seen_laws.specs.Owing.{owes, owes_row}
 use Rattle.seen_laws.specs.Unasked.{unasked, unasked_request}
 use Rattle.std.proofs.Common.{Bool, List, None, Option, Some, [], ap, append_assoc, false, map, refl, subst, sym, true, ◌++◌, ◌||◌, ◌∙◌, ◌∷◌, ◌≡◌}
@@ -69,7 +69,7 @@ module _ (e : InEvent) (out : List RowKind) (end : Seen) (aimed : IsAimed e.chec
 
   -- where the event stands keeps what it began with
   start_here : (before : List RowKind) → (here_of e before).start ≡ e.start
-  start_here before = starts (first_of e) (map (row_of e) before)
+  start_here before = starts (first_of e) (map (row_of e) before) ∙ starts (own_of e) (map (row_of e) e.before)
     where
       starts : (h : Here) (rows_ : List LogRow) → (on_rows h rows_).start ≡ h.start
       starts h [] = refl
@@ -107,7 +107,7 @@ module _ (e : InEvent) (out : List RowKind) (end : Seen) (aimed : IsAimed e.chec
       rw (row_in before (read.each before (kind ∷ later) whole) kind parts.0 begun) (on (rest parts.1))
     where
       begun : (req : ReqId) (goal : Option Step) → kind ≡ rows.Started req goal → owes_row (here_of e before) (row_of e (rows.Started req goal)) end ≡ true
-      begun req goal same = sole.each before later req goal (ap (λ (k : RowKind). before ++ k ∷ later) (sym same) ∙ whole)
+      begun req goal same = sole.new.each before later req goal (ap (λ (k : RowKind). before ++ k ∷ later) (sym same) ∙ whole)
 
       on : Owes (here_of e (before ++ kind ∷ [])) later → Owes (on_row (here_of e before) (row_of e kind)) later
       on is = subst (λ (h : Here). Owes h later) (here_more e before kind) is
@@ -117,6 +117,14 @@ module _ (e : InEvent) (out : List RowKind) (end : Seen) (aimed : IsAimed e.chec
   read_rows before (kind ∷ later) whole paid =
       one_more before later kind whole paid (read_rows (before ++ kind ∷ []) later (append_assoc before (kind ∷ []) later ∙ whole))
 
-  -- what the rows owe is paid in the log
-  pub paid_read : owes_seen e out seen_end ≡ true → owes (first_of e) (map (row_of e) out) end ≡ true
-  paid_read paid = read_rows [] out refl paid
+  -- what the rows owe is paid in the log, that of those before the cut with it
+  pub paid_read : AreDebts e → owes_seen e out seen_end ≡ true → owes (own_of e) (later_of e out) end ≡ true
+  paid_read debts paid =
+      let parts = and_parts (e.due seen_end) (owes_from e [] out seen_end) paid in
+      owes_on (own_of e) (map (row_of e) e.before) (map (row_of e) out) (debts.paid end aimed end_others sole.old parts.0) (read_rows [] out refl parts.1)
+    where
+      owes_on : (h : Here) (rows_ more : List LogRow) → owes h rows_ end ≡ true → owes (on_rows h rows_) more end ≡ true → owes h (rows_ ++ more) end ≡ true
+      owes_on h [] more first second = second
+      owes_on h (row ∷ rows_) more first second =
+          let each = and_parts (owes_row h row end) (owes (on_row h row) rows_ end) first in
+          rw (each.0, owes_on (on_row h row) rows_ more each.1 second) refl

@@ -1,4 +1,5 @@
 -- The document that the user evicts was discarded: those below it may be, and none of them is awake.
+use Rattle.seen_laws.proofs.InEvents.{uncut_log}
 use Rattle.tab_passes.proofs.PassedOn.{AreLeftDuly, row_duly, sent_duly}
 use Rattle.unasked.proofs.Nows.{sent_goes, sent_now}
 use Rattle.tab_facts.proofs.Calm.Loads.{IsLoads, loads_sent}
@@ -129,7 +130,7 @@ module _ (e : InEvent) (state : StateId) (asks : IsEvictAsk e state) (t : Tables
 
   loose_then : IsLoose e (rows.Sent order ∷ [])
   loose_then =
-      loose_more e [] (rows.Sent order) (sent_goes e [] order refl).read (loose_first e) (sent_lasts n e.event e.actor order) (λ end lasts. refl)
+      loose_more e [] (rows.Sent order) (sent_goes e [] order refl).read (loose_first e aside.undue) (sent_lasts n e.event e.actor order) (λ end lasts. refl)
 
   -- ---- what is left
 
@@ -228,7 +229,7 @@ module _ (e : InEvent) (state : StateId) (asks : IsEvictAsk e state) (t : Tables
     -- whom requests leave was asked as the own row was logged
     own_duly : AreLeftDuly (log_of e [])
     own_duly =
-        subst AreLeftDuly (sym (ap (λ (k : RowKind). after e.start (row_of e k)) asks.own)) (row_duly e.start e.event e.actor stands.lasts.duly (rows.Evicted state) tt)
+        subst AreLeftDuly (sym (uncut_log e aside.uncut ∙ ap (λ (k : RowKind). after e.start (row_of e k)) asks.own)) (row_duly e.start e.event e.actor stands.lasts.duly (rows.Evicted state) tt)
 
     pub first_letting : KeepsStore t u → IsAtWork e new u → IsLetting (record { pass = record { event = e; loads = check.loads; hand = [] }; moved = None }) state whys.Evict new u
     first_letting keeps work =

@@ -1,4 +1,5 @@
 -- The document that is kept longest, as the user evicts it: nobody is awake on it, and the tables have it for its state alone.
+use Rattle.tab_doors.proofs.Uncut.{uncut_now}
 use Rattle.tab_stands.proofs.Begun.{checks_first}
 use Rattle.tab_stands.specs.Standing.{StartsUnasked}
 use Rattle.seen_facts.proofs.Asked.Passed.{asked_all}
@@ -210,7 +211,7 @@ module _ (e : InEvent) (state : StateId) (asks : IsEvictAsk e state) (t : Tables
   its_evicted aside =
       record {
         aside = aside;
-        numbered = λ r q at. (tab.asked.each r q (ap (λ (x : Seen). request_of x r) (sym aside.plain ∙ ap (λ (k : RowKind). after e.start (row_of e k)) asks.own) ∙ at)).nr;
+        numbered = λ r q at. (tab.asked.each r q (ap (λ (x : Seen). request_of x r) (sym (uncut_now e aside.uncut aside.plain) ∙ ap (λ (k : RowKind). after e.start (row_of e k)) asks.own) ∙ at)).nr;
         checks = checks_first e aside t.running tab.asked;
         by_user = asks.by_user;
         own = asks.own;

@@ -1,4 +1,5 @@
 -- The row with which the user evicts and the order that discards the document may be logged together, whatever comes later: what later rows leave first was shown last, which the kept document wasn't.
+use Rattle.tab_doors.proofs.Uncut.{uncut_pass}
 use Rattle.row_facts.specs.FrameRows.Lawful.{AreLawful, IsRestOf}
 use Rattle.seen_facts.specs.Hang.Members.{Has}
 use Rattle.seen_facts.specs.Kept.Keeping.{is_last}
@@ -21,9 +22,9 @@ use Rattle.log_model.specs.declared.job.Task.{Task}
 use Rattle.log_model.specs.declared.row_kind.Actor.{Actor}
 use Rattle.log_model.specs.declared.row_kind.LogRow.{LogRow}
 use Rattle.log_model.specs.declared.row_kind.RowKind.{RowKind}
-use Rattle.seen_laws.proofs.InEvents.{led_here, now_is}
+use Rattle.seen_laws.proofs.InEvents.{led_here, now_is, uncut_first}
 use Rattle.seen_laws.proofs.Keyed.{find_has as seen_number}
-use Rattle.seen_laws.specs.Blocks.{MayLog}
+use Rattle.seen_laws.specs.Blocks.{Here, MayLog}
 use Rattle.seen_laws.specs.InEvent.{InEvent, here_of, now_of, row_of, start_of}
 use Rattle.seen_laws.specs.Sending.{leads}
 use Rattle.std.proofs.Common.{Bool, List, None, Option, Some, [], ap, arith, cond, false, inl, inr, not, refl, subst, sym, true, ℕ, ◌==◌, ◌∙◌, ◌∷◌, ◌≡◌}
@@ -195,9 +196,11 @@ module _ (e : InEvent) (t : Tables) (doc : DocId) (state : StateId) (its : IsEvi
 
   second_may : MayLog (here_of e []) (row_of e (rows.Sent discard) ∷ []) (IsRestOf e (rows.Sent discard ∷ []))
   second_may later rest =
-      evict_left_may (here_of e []) e.event e.actor discard left_as.d (led_here e [] own_leads) (numbered_log e [] (now_is e []) discard (numbered n (proc_at n doc) doc whys.Evict tasks.Discard its.known)) (newly_left n later) (kept_last_log e [] (now_is e []) discard its.document left_as (newly_left n later) (due_for (newly_left n later) (λ x is. left_last n later x is))) evicting later (no_prompts later, sym (leaves_log e [] (now_is e []) later))
+      evict_left_may (here_of e []) e.event e.actor discard left_as.d (led_here e [] own_leads) (numbered_log e [] (now_is e []) discard (numbered n (proc_at n doc) doc whys.Evict tasks.Discard its.known)) (newly_left n later) (kept_last_log e [] (now_is e []) discard its.document left_as (newly_left n later) (due_for (newly_left n later) (λ x is. left_last n later x is))) (subst (λ (h : Here). is_evicting h.done ≡ true) (sym (uncut_first e its.aside.uncut)) evicting) later (no_prompts later, sym (leaves_log e [] (now_is e []) later))
 
   pub evicted_lawful : AreLawful e (rows.Sent discard ∷ [])
   unfolding AreLawful
-  evicted_lawful =
-      evicted_ahead (start_of e) (row_of e e.own) [] (row_of e (rows.Sent discard)) (IsRestOf e (rows.Sent discard ∷ [])) second_may doc first_may (discard_discards doc e.event e.actor discard refl refl)
+  evicted_lawful later rest =
+      uncut_pass e (rows.Sent discard ∷ []) later its.aside.uncut
+      (evicted_ahead (start_of e) (row_of e e.own) [] (row_of e (rows.Sent discard)) (IsRestOf e (rows.Sent discard ∷ []))
+      (subst (λ (h : Here). MayLog h (row_of e (rows.Sent discard) ∷ []) (IsRestOf e (rows.Sent discard ∷ []))) (uncut_first e its.aside.uncut) second_may) doc first_may (discard_discards doc e.event e.actor discard refl refl) later rest)

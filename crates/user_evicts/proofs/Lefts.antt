@@ -1,4 +1,5 @@
 -- What orders leave that discard documents for an eviction, one after the other.
+use Rattle.std.specs.List.{list_any}
 use Rattle.unasked.proofs.Nows.{sent_goes}
 use Rattle.seen_laws.specs.Unasked.{is_question}
 use Rattle.tab_facts.proofs.Calm.Sents.{found_on, usable_was}
@@ -24,7 +25,7 @@ use Rattle.row_facts.proofs.Owed.Rows.{sent_lasts}
 use Rattle.row_facts.specs.Owed.Owed.{IsLoose}
 use Rattle.row_facts.proofs.RestRows.Again.{part_without}
 use Rattle.seen_laws.specs.InEvent.{InEvent, now_of, row_of, GoesThere}
-use Rattle.std.proofs.Common.{Bool, List, None, Option, Some, [], ap, append-nil, append_assoc, arith, cond, false, inl, inr, length, refl, subst, sym, true, ◌++◌, ◌==◌, ◌||◌, ◌∙◌, ◌∷◌, ◌≡◌, ◌≤◌}
+use Rattle.std.proofs.Common.{Bool, List, None, Option, Some, [], ap, append-nil, append_assoc, arith, cond, false, inl, inr, length, refl, subst, sym, true, ◌++◌, ◌==◌, ◌||◌, ◌∙◌, ◌∷◌, ◌≡◌, ◌≤◌, map}
 use Rattle.std.specs.Prelude.{option_map}
 use Rattle.tab_evicts.specs.Evicting.{HasOnlyDiscarded, IsDiscardFor}
 use Rattle.tab_ids.specs.declared.DocId.{DocId}
@@ -142,14 +143,17 @@ pub loose_over : (e : InEvent) (was out : List RowKind) → HasOnlyDiscarded why
 loose_over e was out only loose = subst (λ (l : List RowKind). IsLoose e l) (sym only.is) (loose_rows e was only.more only.each loose)
 
 -- no traversal is applied
-none_traversed : (e : InEvent) (more : List RowKind) → ((row : RowKind) → Has more row → IsDiscardFor whys.Evict row) → has_traversed e more ≡ false
+none_traversed : (e : InEvent) (more : List RowKind) → ((row : RowKind) → Has more row → IsDiscardFor whys.Evict row) → list_any is_traverse (map (row_of e) more) ≡ false
 none_traversed e [] each = refl
 none_traversed e (row ∷ more) each =
-    ap (λ (k : RowKind). is_traverse (row_of e k) || has_traversed e more) it.is
+    ap (λ (k : RowKind). is_traverse (row_of e k) || list_any is_traverse (map (row_of e) more)) it.is
     ∙ none_traversed e more (λ other there. each other (inr there))
   where
     it : IsDiscardFor whys.Evict row
     it = each row (inl refl)
 
-pub untraversed : (e : InEvent) (out : List RowKind) → HasOnlyDiscarded whys.Evict [] out → has_traversed e out ≡ false
-untraversed e out only = ap (λ (l : List RowKind). has_traversed e l) only.is ∙ none_traversed e only.more only.each
+pub untraversed : (e : InEvent) (out : List RowKind) → e.before ≡ [] → HasOnlyDiscarded whys.Evict [] out → has_traversed e out ≡ false
+untraversed e out uncut only =
+    ap (λ (l : List RowKind). has_traversed e l) only.is
+    ∙ ap (λ (l : List RowKind). list_any is_traverse (map (row_of e) l ++ map (row_of e) only.more)) uncut
+    ∙ none_traversed e only.more only.each

@@ -1,4 +1,5 @@
 -- The own row of an eviction was logged: all goes on as it was, and what documents made may be taken.
+use Rattle.tab_doors.proofs.Uncut.{uncut_held, uncut_now}
 use Rattle.tab_facts.proofs.Calm.Loads.{loads_same}
 use Rattle.seen_facts.proofs.Coord.Unread.{next}
 use Rattle.tab_facts.specs.FrameTab.Asking.{NoneHeld}
@@ -60,7 +61,7 @@ module _ (e : InEvent) (state : StateId) (asks : IsEvictAsk e state) (t : Tables
 
   now : now_of e [] ≡ went
   now =
-      sym aside.plain
+      sym (uncut_now e aside.uncut aside.plain)
       ∙ (ap (λ (a : Actor). next e.start e.event a e.own) asks.by_user
       ∙ ap (λ (k : RowKind). next e.start e.event actors.Ui k) asks.own)
 
@@ -177,11 +178,10 @@ module _ (e : InEvent) (state : StateId) (asks : IsEvictAsk e state) (t : Tables
 
   -- an ongoing load is on its way, and so isn't held back
   unheld : AreUnheld e (now_of e [])
-  unfolding now_of
   unheld r n load_ =
       let its : IsAskedFor (now_of e []) r n = asked_for (now_of e []) r n load_ in
       let way : 0 < times_on_way (request_in (now_of e []).requests r) = subst (λ (o : Option Asked). 0 < times_on_way o) (sym its.at) (let one : 0 < ways_of its.q = rw its.ongoing (omega arith) in one) in
-      (way_unheld t.running check.loads [] (now_of e []) tab_own r way).parked
+      ap (λ (l : List ReqId). has_req l r) (sym (uncut_held e aside.uncut)) ∙ (way_unheld t.running check.loads [] (now_of e []) tab_own r way).parked
 
   pub taking_own : IsTaking e t.running blame (now_of e [])
   taking_own =
@@ -194,7 +194,7 @@ module _ (e : InEvent) (state : StateId) (asks : IsEvictAsk e state) (t : Tables
   -- ---- what waits, and what is held back
 
   pub turning_own : IsTurning e []
-  turning_own = turning_first e tab_own.known (λ req q has at. early req q at) aside.plain
+  turning_own = turning_first e aside.uncut tab_own.known (λ req q has at. early req q at) aside.plain
     where
       early : (req : ReqId) (q : Asked) → request_of (now_of e []) req ≡ Some q → denial_at_acceptance e.start q.what ≡ None ⊎ (nat_lt (length e.start.requests) req.0 ≡ false)
       early req q at =

@@ -62,7 +62,7 @@ module _ (e : InEvent) (state : StateId) (asks : IsEvictAsk e state) (t : Tables
   taking_u = subst (λ (r : Option ReqId). IsTaking e r blame n) (sym keeps.running) taking
 
   loose : IsLoose e out
-  loose = loose_over e [] out only (loose_first e)
+  loose = loose_over e [] out only (loose_first e aside.undue)
 
   few : length n.kept ≤ u.kept.keep
   few =
@@ -112,7 +112,7 @@ module _ (e : InEvent) (state : StateId) (asks : IsEvictAsk e state) (t : Tables
         queued = subst (λ (r : Option ReqId). HasQueue n r queue.waiting) (sym keeps.running) (queue_over s n leaves t.running queue.waiting (queued_own e state asks t queue blame stands aside));
         parked = parked_own e state asks t queue blame stands aside ∙ ap (λ (l : List Asked). held_back l s.parked) (sym left.requests) ∙ ap (λ (l : List ReqId). held_back n.requests l) (sym left.parked);
         held = λ idle. left.parked ∙ none_held e state asks t queue blame stands aside (sym keeps.running ∙ idle);
-        over = λ has. absurd (let never : false ≡ true = sym (untraversed e out only) ∙ has in cc);
+        over = λ has. absurd (let never : false ≡ true = sym (untraversed e out aside.uncut only) ∙ has in cc);
         releasing = λ some all. absurd (off_own e state asks t queue blame stands aside (λ none. some (left.parked ∙ none)) (sym stood ∙ all));
       }
 

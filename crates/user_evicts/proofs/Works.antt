@@ -1,5 +1,5 @@
 -- The document that the user evicts is discarded by the first row that is put out, and the coordinator is at work then.
-use Rattle.tab_doors.proofs.PassedOn.{read_more, read_own, sole_own}
+use Rattle.tab_doors.proofs.PassedOn.{debts_own, read_more, read_own, sole_own}
 use Rattle.unasked.proofs.Nows.{sent_now, sent_goes}
 use Rattle.checking_facts.proofs.Cases.{other_wakes}
 use Rattle.checking_facts.proofs.Rows.{row_checks}
@@ -81,7 +81,8 @@ module _ (e : InEvent) (t u : Tables) (doc : DocId) (state : StateId) (tied : Ar
         goes = goes_more e [] [] (rows.Sent order) (none_goes e []) (sent_goes e [] order refl);
         numbered = its.numbered;
         read = read_more e [] (rows.Sent order) (read_own e (record { numbered = its.checks.numbered; others = its.checks.others })) (record { numbered = checks_.numbered; others = checks_.others });
-        sole = soles_more e [] (rows.Sent order) tt (sole_own e (log_of e []));
+        sole = soles_more e [] (rows.Sent order) tt (sole_own e (log_of e []) its.aside.uncut);
+        debts = debts_own e its.aside.uncut;
         checks = checks_;
         unheld = none_steps e.checking its.aside.unchecked (log_of e (rows.Sent order ∷ []));
         holds = subst (λ (x : Seen). Holds (look_of x u.running) u) now_then (subst (λ (r : Option ReqId). Holds (look_of then_ r) u) (sym running) (discard_holds n t.running e.event e.actor (proc_at n doc) doc whys.Evict state [] t tied.holds tied.runs its.gone.are its.gone.its_state its.gone.its u tree one));

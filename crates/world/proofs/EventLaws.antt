@@ -90,7 +90,7 @@ module _ (header : Header) (log : List LogRow) (t : State) (is : IsOpen header l
   opens_on out new acted holds sites =
       let led : seen_of (log ++ row_with at actor own ∷ map (row_with at actor) out) ≡ log_of e out = seen_of_append log (row_with at actor own ∷ map (row_with at actor) out) ∙ sym (log_fold e out) in
       record {
-        keeps = event_keeps e log t.coordinator is.keeps (record { start = refl; event = refl }) out new.coordinator acted;
+        keeps = event_keeps e log t.coordinator is.keeps (record { start = refl; event = refl; uncut = refl }) out new.coordinator acted;
         limited = begins_below_more row_limit log (row_with at actor own) (map (row_with at actor) out) is.keeps.some (have_its at actor (own ∷ out)) is.limited short;
         holds = subst (λ (s : Seen). Holds s new) (sym led) holds;
         header_is = acted.header;

@@ -1,6 +1,6 @@
 -- The events in which a world asks its coordinator.
 -- This project's own.
-use Rattle.std.specs.Prelude.{List, None}
+use Rattle.std.specs.Prelude.{List, None, [], true}
 use Rattle.coord.specs.Evicting.{InEviction}
 use Rattle.coord.specs.Delivering.{InDelivery}
 use Rattle.coord.specs.Standing.{asked_for, nobody}
@@ -25,7 +25,7 @@ use Rattle.world.specs.Open.{bare}
 -- the next event of a log, with its own row
 abbrev pub event_of : Header → List LogRow → Actor → RowKind → InEvent
 event_of header log actor own =
-    record { header = bare header; start = seen_of log; event = (seen_of log).events; actor = actor; own = own; checking = nobody }
+    record { header = bare header; start = seen_of log; event = (seen_of log).events; actor = actor; own = own; before = []; checking = nobody; due = λ end. true }
 
 -- the event in which the user asks for this
 abbrev pub event_asking : Ask → Event

@@ -9,14 +9,11 @@ use Rattle.log_model.specs.Seen.{Seen}
 use Rattle.log_model.specs.declared.row_kind.LogRow.{LogRow}
 use Rattle.log_model.specs.declared.row_kind.RowKind.{RowKind}
 use Rattle.seen_facts.proofs.Request.Times.{itself}
-use Rattle.seen_laws.proofs.BlockLaws.{each_pass_append}
-use Rattle.seen_laws.proofs.InEvents.{AsksNoMore, IsQuiet, log_more}
-use Rattle.seen_laws.proofs.Owings.{pays_append}
+use Rattle.seen_laws.proofs.InEvents.{AsksNoMore, IsQuiet, begun_more, later_more, log_more, one_later, pass_more, pays_end, pays_more, taken_end}
 use Rattle.seen_laws.specs.Blocks.{EachPass, MayLog}
-use Rattle.seen_laws.specs.InEvent.{Anything, AreLegal, InEvent, IsPaid, IsTakenIn, begins, here_of, log_of, now_of, row_of, start_of}
+use Rattle.seen_laws.specs.InEvent.{Anything, AreLegal, InEvent, IsPaid, IsTakenIn, begins, here_of, later_of, log_of, now_of, row_of, rows_of, start_of}
 use Rattle.seen_laws.specs.Owing.{Pays}
-use Rattle.std.proofs.Common.{Bool, List, None, Some, [], ap, append-nil, append_assoc, false, map, subst, sym, true, ◌++◌, ◌||◌, ◌∙◌, ◌∷◌, ◌≡◌}
-use Rattle.std.proofs.lemmas.List.{map-append}
+use Rattle.std.proofs.Common.{Bool, List, None, Some, [], ap, append_assoc, false, subst, sym, true, ◌++◌, ◌||◌, ◌∙◌, ◌∷◌, ◌≡◌}
 use Rattle.std.specs.List.{list_any}
 use Rattle.std.specs.Prelude.{filter, filter_map}
 use Rattle.tab_ids.specs.declared.ReqId.{ReqId}
@@ -74,59 +71,55 @@ or_right : (a : Bool) {b : Bool} → b ≡ true → (a || b) ≡ true
 or_right true is = refl
 or_right false is = is
 
-traversed_more : (e : InEvent) (out : List RowKind) (kind : RowKind) → has_traversed e out ≡ true → has_traversed e (out ++ kind ∷ []) ≡ true
-traversed_more e [] kind is = cc
-traversed_more e (k ∷ out) kind is = by_test (is_traverse (row_of e k)) (traversed_more e out kind) is
+any_left : {A : Type 0} (test : A → Bool) (rows more : List A) → list_any test rows ≡ true → list_any test (rows ++ more) ≡ true
+any_left test [] more is = cc
+any_left test (row ∷ rows) more is = by_test (test row) (any_left test rows more) is
   where
-    by_test : (b : Bool) → (has_traversed e out ≡ true → has_traversed e (out ++ kind ∷ []) ≡ true) → (b || has_traversed e out) ≡ true → (b || has_traversed e (out ++ kind ∷ [])) ≡ true
-    by_test true more is = refl
-    by_test false more is = more is
+    by_test : (b : Bool) → (list_any test rows ≡ true → list_any test (rows ++ more) ≡ true) → (b || list_any test rows) ≡ true → (b || list_any test (rows ++ more)) ≡ true
+    by_test true on is = refl
+    by_test false on is = on is
+
+any_last : {A : Type 0} (test : A → Bool) (rows : List A) (last : A) → test last ≡ true → list_any test (rows ++ last ∷ []) ≡ true
+any_last test [] last is = or_left (test last) false is
+any_last test (row ∷ rows) last is = or_right (test row) (any_last test rows last is)
+
+traversed_more : (e : InEvent) (out : List RowKind) (kind : RowKind) → has_traversed e out ≡ true → has_traversed e (out ++ kind ∷ []) ≡ true
+traversed_more e out kind is =
+    subst (λ (l : List LogRow). list_any is_traverse l ≡ true) (sym (later_more e out (kind ∷ []))) (any_left is_traverse (later_of e out) (row_of e kind ∷ []) is)
 
 traversed_last : (e : InEvent) (out : List RowKind) (kind : RowKind) → is_traverse (row_of e kind) ≡ true → has_traversed e (out ++ kind ∷ []) ≡ true
-traversed_last e [] kind is = or_left (is_traverse (row_of e kind)) false is
-traversed_last e (k ∷ out) kind is = or_right (is_traverse (row_of e k)) (traversed_last e out kind is)
+traversed_last e out kind is =
+    subst (λ (l : List LogRow). list_any is_traverse l ≡ true) (sym (later_more e out (kind ∷ []))) (any_last is_traverse (later_of e out) (row_of e kind) is)
+
+begun_last : (e : InEvent) (out : List RowKind) (kind : RowKind) (req : ReqId) → begins req kind ≡ true → list_any (begins req) (e.before ++ (out ++ kind ∷ [])) ≡ true
+begun_last e out kind req is =
+    subst (λ (l : List RowKind). list_any (begins req) l ≡ true) (append_assoc e.before out (kind ∷ [])) (any_last (begins req) (e.before ++ out) kind is)
 
 -- what a row asks of those that come later, by itself
 abbrev pub AsksOf : InEvent → List RowKind → RowKind → List LogRow → Type 0
 AsksOf e out kind later = (AsksNoMore kind later) × (is_traverse (row_of e kind) ≡ true → ends_among (held_at_first e) later ≡ (now_of e (out ++ kind ∷ [])).parked)
 
-any_last : (test : RowKind → Bool) (out : List RowKind) (kind : RowKind) → test kind ≡ true → list_any test (out ++ kind ∷ []) ≡ true
-any_last test [] kind is = or_left (test kind) false is
-any_last test (k ∷ out) kind is = or_right (test k) (any_last test out kind is)
-
-any_more : (test : RowKind → Bool) (out : List RowKind) (kind : RowKind) → list_any test out ≡ true → list_any test (out ++ kind ∷ []) ≡ true
-any_more test [] kind is = cc
-any_more test (k ∷ out) kind is = by_test (test k) (any_more test out kind) is
-  where
-    by_test : (b : Bool) → (list_any test out ≡ true → list_any test (out ++ kind ∷ []) ≡ true) → (b || list_any test out) ≡ true → (b || list_any test (out ++ kind ∷ [])) ≡ true
-    by_test true more is = refl
-    by_test false more is = more is
-
-one_later : (e : InEvent) (out : List RowKind) (kind : RowKind) (later : List LogRow) → (map (row_of e) (out ++ kind ∷ []) ++ later) ≡ (map (row_of e) out ++ row_of e kind ∷ later)
-one_later e out kind later =
-    ap (λ (rows : List LogRow). rows ++ later) (map-append (row_of e) out (kind ∷ []))
-    ∙ append_assoc (map (row_of e) out) (row_of e kind ∷ []) later
-
 -- a row keeps what the rows before it ask of what comes later
-rest_more : (e : InEvent) (out : List RowKind) (kind : RowKind) → IsQuiet e kind → KeepsHeld e out kind → (later : List LogRow) → IsRestOf e (out ++ kind ∷ []) later → IsRestOf e out (row_of e kind ∷ later) × (AsksOf e out kind later × Pays (here_of e out) (row_of e kind ∷ []) later)
+pub rest_more : (e : InEvent) (out : List RowKind) (kind : RowKind) → IsQuiet e kind → KeepsHeld e out kind → (later : List LogRow) → IsRestOf e (out ++ kind ∷ []) later → IsRestOf e out (row_of e kind ∷ later) × (AsksOf e out kind later × Pays (here_of e out) (row_of e kind ∷ []) later)
 rest_more e out kind quiet keeps later rest =
-    let parts = pays_append (start_of e) (row_of e e.own ∷ map (row_of e) out) (row_of e kind ∷ []) later (subst (λ (rows : List LogRow). Pays (start_of e) (row_of e e.own ∷ rows) later) (map-append (row_of e) out (kind ∷ [])) rest.rest.owed) in (
+    let parts = pays_more e out (kind ∷ []) later rest.rest.owed in (
       record {
         rest = record {
-          asks = λ req began. rw (quiet req) (rest.rest.asks req (any_more (begins req) out kind began));
+          asks = λ req began. rw (quiet req) (rest.rest.asks req (begun_more e out kind req began));
           taken = subst (λ (rows : List LogRow). IsTakenIn e rows) (one_later e out kind later) rest.rest.taken;
           owed = parts.0;
         };
         held = λ was. keeps later (rest.held (traversed_more e out kind was));
       },
-      ((λ req began. rest.rest.asks req (any_last (begins req) out kind began), λ is. rest.held (traversed_last e out kind is)), parts.1),
+      ((λ req began. rest.rest.asks req (begun_last e out kind req began), λ is. rest.held (traversed_last e out kind is)), parts.1),
     )
 
 -- one that may be logged, if the event's end pays what it owes
 pub lawful_more_owing : (e : InEvent) (out : List RowKind) (kind : RowKind) → IsQuiet e kind → KeepsHeld e out kind → AreLawful e out → MayLog (here_of e out) (row_of e kind ∷ []) (λ later. AsksOf e out kind later × Pays (here_of e out) (row_of e kind ∷ []) later) → AreLawful e (out ++ kind ∷ [])
 unfolding AreLawful
-lawful_more_owing e out kind quiet keeps lawful may =
-    subst (λ (rows : List LogRow). MayLog (start_of e) (row_of e e.own ∷ rows) (IsRestOf e (out ++ kind ∷ []))) (sym (map-append (row_of e) out (kind ∷ []))) (λ later rest. let parts = rest_more e out kind quiet keeps later rest in each_pass_append (start_of e) (row_of e e.own ∷ map (row_of e) out) (row_of e kind ∷ []) later (lawful (row_of e kind ∷ later) parts.0) (may later parts.1))
+lawful_more_owing e out kind quiet keeps lawful may later rest =
+    let parts = rest_more e out kind quiet keeps later rest in
+    pass_more e out (kind ∷ []) later (lawful (row_of e kind ∷ later) parts.0) (may later parts.1)
 
 -- one that owes nothing
 pub lawful_more : (e : InEvent) (out : List RowKind) (kind : RowKind) → IsQuiet e kind → KeepsHeld e out kind → AreLawful e out → MayLog (here_of e out) (row_of e kind ∷ []) (AsksOf e out kind) → AreLawful e (out ++ kind ∷ [])
@@ -147,14 +140,14 @@ unfolding AreLegal AreLawful
 lawful_legal e out legal later rest = legal later rest.rest
 
 -- at the event's end nothing comes later
-pub lawful_end : (e : InEvent) (out : List RowKind) → AreLawful e out → IsPaid e out → IsTakenIn e (map (row_of e) out) → (has_traversed e out ≡ true → (now_of e out).parked ≡ []) → EachPass (start_of e) (row_of e e.own ∷ map (row_of e) out) []
+pub lawful_end : (e : InEvent) (out : List RowKind) → AreLawful e out → IsPaid e out → IsTakenIn e (later_of e out) → (has_traversed e out ≡ true → (now_of e out).parked ≡ []) → EachPass (start_of e) (rows_of e out) []
 unfolding AreLawful
 lawful_end e out lawful paid taken none =
     lawful [] (record {
       rest = record {
         asks = λ req began. refl;
-        taken = subst (λ (rows : List LogRow). IsTakenIn e rows) (sym (append-nil (map (row_of e) out))) taken;
-        owed = paid;
+        taken = taken_end e out taken;
+        owed = pays_end e out paid;
       };
       held = λ was. sym (none was);
     })

@@ -85,7 +85,9 @@ owes_last e was (k ∷ more) kind end before own =
 
 -- an end that pays the rows so far, and one more
 pub owes_more : (e : InEvent) (out : List RowKind) (kind : RowKind) (end : Seen) → owes_seen e out end ≡ true → owes_row (seen_here e out) (row_of e kind) end ≡ true → owes_seen e (out ++ kind ∷ []) end ≡ true
-owes_more e out kind end before own = owes_last e [] out kind end before own
+owes_more e out kind end before own =
+    let parts = and_parts (e.due end) (owes_from e [] out end) before in
+    rw (parts.0, owes_last e [] out kind end parts.1 own) refl
 
 -- a row more that undoes nothing of what stays, and is paid by the ends that undo nothing of it
 pub owed_more : (e : InEvent) (out : List RowKind) (kind : RowKind) → IsReadOff e out kind → IsOwed e out → Stays (now_of e out) (after (now_of e out) (row_of e kind)) → ((end : Seen) → Stays (after (now_of e out) (row_of e kind)) end → owes_row (seen_here e out) (row_of e kind) end ≡ true) → IsOwed e (out ++ kind ∷ [])
@@ -104,6 +106,6 @@ pub loose_more : (e : InEvent) (out : List RowKind) (kind : RowKind) → IsReadO
 loose_more e out kind read loose lasts own =
     loose_since e out kind read (λ end then_. loose end (lasts_trans (now_of e out) (after (now_of e out) (row_of e kind)) end lasts then_)) own
 
--- before any row is put out nothing is owed
-pub loose_first : (e : InEvent) → IsLoose e []
-loose_first e end on = refl
+-- where the rows before the cut owe nothing, nothing is owed before any row is put out
+pub loose_first : (e : InEvent) → ((end : Seen) → e.due end ≡ true) → IsLoose e []
+loose_first e undue end on = rw (undue end) refl

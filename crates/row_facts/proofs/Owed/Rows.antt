@@ -29,7 +29,7 @@ use Rattle.seen_facts.specs.Asked.Asking.{HavePassed}
 use Rattle.seen_facts.proofs.Request.LookUps.{on_itself}
 use Rattle.seen_facts.proofs.Request.Readers.{SameReads, on_read, reads_then, sent_reads}
 use Rattle.seen_laws.specs.Blocks.{Here, on_row, on_rows}
-use Rattle.seen_laws.specs.InEvent.{InEvent, first_of, log_of, now_of, row_of}
+use Rattle.seen_laws.specs.InEvent.{InEvent, first_of, log_of, now_of, own_of, row_of}
 use Rattle.seen_laws.specs.Unasked.{unasked}
 use Rattle.std.proofs.Common.{Bool, List, Option, Some, [], ap, false, map, refl, subst, sym, true, ℕ, ◌&&◌, ◌==◌, ◌∙◌, ◌∷◌, ◌≡◌}
 use Rattle.std.proofs.lemmas.Bool.{and_right}
@@ -80,7 +80,7 @@ reckoned_on h (row ∷ rows) reckoned = reckoned_on (on_row h row) rows (reckone
 pub reckoned_now : (e : InEvent) (out : List RowKind) → IsReckoned (now_of e out)
 unfolding now_of
 reckoned_now e out unsettled =
-    aside (reckoned_on (first_of e) (map (row_of e) out) (reckoned_after e.start (row_of e e.own)) unsettled)
+    aside (reckoned_on (first_of e) (map (row_of e) out) (reckoned_on (own_of e) (map (row_of e) e.before) (reckoned_after e.start (row_of e e.own))) unsettled)
   where
     -- whether all stand is read of the history and the places alone
     aside : all_stand (log_of e out) (log_of e out).history.current ≡ false → all_stand (unasked e.checking (log_of e out)) (log_of e out).history.current ≡ false

@@ -6,18 +6,18 @@ use Rattle.log_model.specs.Queue.{is_traverse}
 use Rattle.log_model.specs.declared.row_kind.LogRow.{LogRow}
 use Rattle.log_model.specs.declared.row_kind.RowKind.{RowKind}
 use Rattle.seen_laws.specs.Blocks.{MayLog}
-use Rattle.seen_laws.specs.InEvent.{InEvent, IsRest, first_of, now_of, row_of, start_of}
+use Rattle.seen_laws.specs.InEvent.{InEvent, IsRest, later_of, now_of, own_of, row_of, rows_of, start_of}
 use Rattle.std.specs.List.{list_any}
-use Rattle.std.specs.Prelude.{Bool, List, [], filter, filter_map, map, true, ◌++◌, ◌∷◌, ◌≡◌}
+use Rattle.std.specs.Prelude.{Bool, List, [], filter, filter_map, true, ◌++◌, ◌∷◌, ◌≡◌}
 use Rattle.tab_ids.specs.declared.ReqId.{ReqId}
 
 -- the rows apply a traversal
 abbrev pub has_traversed : InEvent → List RowKind → Bool
-has_traversed e out = list_any is_traverse (map (row_of e) out)
+has_traversed e out = list_any is_traverse (later_of e out)
 
 -- the reports that are held back as the event's own row has come
 abbrev pub held_at_first : InEvent → List ReqId
-held_at_first e = (first_of e).now.parked
+held_at_first e = (own_of e).now.parked
 
 -- the requests among these that rows end, in order
 abbrev pub ends_among : List ReqId → List LogRow → List ReqId
@@ -31,7 +31,7 @@ pub record IsRestOf (e : InEvent) (out : List RowKind) (later : List LogRow) : T
 
 -- the own row and those put out so far pass each test, whatever comes later
 unfoldable pub AreLawful : InEvent → List RowKind → Type 0
-AreLawful e out = MayLog (start_of e) (row_of e e.own ∷ map (row_of e) out) (IsRestOf e out)
+AreLawful e out = MayLog (start_of e) (rows_of e out) (IsRestOf e out)
 
 -- what the reports held back ask of the rows that come later, once a row has come, is what it leaves of what they asked before it
 abbrev pub KeepsHeld : InEvent → List RowKind → RowKind → Type 0

@@ -53,9 +53,9 @@ abbrev pub owes_from : InEvent → List RowKind → List RowKind → Seen → Bo
 owes_from e was [] end = true
 owes_from e was (kind ∷ more) end = owes_row (seen_here e was) (row_of e kind) end && owes_from e (was ++ kind ∷ []) more end
 
--- and what the event's rows so far owe; the own row owes nothing
+-- and what the event's rows so far owe: those before the cut, and those behind it; the own row owes nothing
 abbrev pub owes_seen : InEvent → List RowKind → Seen → Bool
-owes_seen e out end = owes_from e [] out end
+owes_seen e out end = e.due end && owes_from e [] out end
 
 -- each end pays what the event's rows so far owe that undoes nothing which orders leave
 abbrev pub IsOwed : InEvent → List RowKind → Type 0

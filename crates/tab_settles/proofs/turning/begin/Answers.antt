@@ -1,4 +1,5 @@
 use Rattle.std.proofs.Common.{ap}
+use Rattle.tab_settles.proofs.Puts.{turn_put}
 use Rattle.tab_settles.proofs.Begun.{refused_ready, refused_turned, rested_settled, rested_still, went_ready, went_turned}
 use Rattle.tab_settles.proofs.turning.begin.Goals as goal
 use Rattle.tab_settles.specs.declared.reasons.Reasons.{Reasons}
@@ -26,3 +27,6 @@ returns-after-is_none-clause-turned g c did =
 pub returns-in-Rests-clause-still : goal.returns-in-Rests-clause-still
 returns-in-Rests-clause-still g c none =
     rested_still g.p _ _ _ _ _ c.requires.0 c.requires.1 _ _ _ _ _ c.in-Rests.is c.in_ok-begin_next.ensures.came
+
+pub returns-after-is_none-clause-put : goal.returns-after-is_none-clause-put
+returns-after-is_none-clause-put g c = turn_put g.p.event _ _ c.in_ok-begin_next.ensures.grown
